@@ -1,0 +1,2 @@
+pub mod TemplateLemmas
+pub mod SearchLemmas

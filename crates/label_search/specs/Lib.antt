@@ -1,0 +1,3 @@
+pub mod Template
+pub mod Search
+pub use Rattle.instruction_set.specs.Letter

@@ -1,0 +1,47 @@
+-- Templates and the nops read last (docs/MACHINE.md, "Templates").
+use Rattle.std.specs.Prelude.{map, unwrap_or, ℕ, ◌+◌, ◌-◌, ◌%◌, Bool, true, false, List, [], ◌∷◌, ◌++◌, length, drop, take_while, slice_index_or, if◌then◌else◌, ◌==◌}
+use Rattle.std.specs.List.{range_with_len}
+use Rattle.std.specs.Cmp.Lexicographic.{pointwise}
+use Rattle.instruction_set.specs.declared.letter.Letter.{Letter}
+use Rattle.instruction_set.specs.declared.letter.Letter.TheVariants.{NopA, NopB, NopC}
+use Rattle.instruction_set.specs.Letter.{index_of, complement_of}
+use Rattle.label_search.specs.declared.template.TheConstants.{LONGEST_TEMPLATE}
+
+-- the letters that stand in a template
+abbrev pub is_nop : Letter → Bool
+is_nop NopA = true
+is_nop NopB = true
+is_nop NopC = true
+is_nop _ = false
+
+-- both are one letter
+abbrev pub same_letter : Letter → Letter → Bool
+same_letter a b = index_of a == index_of b
+
+-- both are one list of letters
+abbrev pub same_letters : List Letter → List Letter → Bool
+same_letters letters others = pointwise same_letter letters others
+
+-- the last ten of a list
+abbrev pub last_ten : List Letter → List Letter
+last_ten nops = drop (length nops - LONGEST_TEMPLATE) nops
+
+-- the nops read last, once a further letter was read: a letter that is no nop ends the list
+abbrev pub nops_read : List Letter → Letter → List Letter
+nops_read nops letter = if is_nop letter then last_ten (nops ++ letter ∷ []) else []
+
+-- the complement of each nop
+abbrev pub complements_of : List Letter → List Letter
+complements_of nops = map (λ letter. unwrap_or (complement_of letter) letter) nops
+
+-- the letter that stands so many places after a place, across the end to place 0
+abbrev pub letter_after : List Letter → ℕ → ℕ → Letter
+letter_after memory place steps = slice_index_or memory ((place + steps) % length memory) NopA
+
+-- the ten letters after a place
+abbrev pub letters_after : List Letter → ℕ → List Letter
+letters_after memory place = map (letter_after memory place) (range_with_len 1 LONGEST_TEMPLATE)
+
+-- the nops after a place up to the first other letter, at most ten
+unfoldable pub template_after : List Letter → ℕ → List Letter
+template_after memory place = take_while is_nop (letters_after memory place)

@@ -1,0 +1,8 @@
+//! Templates of nops, and where they stand in memory.
+#![tactic(auto)]
+
+mod search;
+mod template;
+
+pub use search::find;
+pub use template::{LONGEST_TEMPLATE, Template, template_after};
