@@ -1,0 +1,130 @@
+ghost use Rattle.std.specs.Prelude.{◌≡◌, ℕ, ◌+◌, ◌*◌, ◌<◌, ◌≤◌};
+ghost use Rattle.random_streams.specs.RandomStream.{key_bytes, first_of, next_word, after, scaled, hits};
+
+use crate::Purpose;
+use rand_chacha::ChaCha8Rng;
+use rand_core::SeedableRng;
+use rand_core::utils::NextWord;
+use std::marker::Model;
+
+/// Cells are numbered below this.
+pub const CELLS: u32 = 65_536;
+
+/// A stream gives the words whose numbers are below this.
+pub const WORDS: u64 = 1 << 48;
+
+/// The greatest rate, which counts in parts per million.
+pub const MILLION: u32 = 1_000_000;
+
+/// A numbered stream of words, read from its word 0 on.
+#[derive(Drop)]
+pub struct Draws {
+    generator: ChaCha8Rng,
+    seed: u64,
+    update: u32,
+    cell: u32,
+    purpose: Purpose,
+    taken: u64,
+}
+
+impl Model for Draws {
+    ghost use Rattle.std.specs.Prelude.{◌≡◌};
+    ghost use Rattle.random_streams.specs.RandomStream.{Stream, generator_at};
+
+    ghost Value = { Stream };
+
+    ghost view = { λ a. record {
+      seed = a.seed;
+      update = a.update;
+      cell = a.cell;
+      purpose = a.purpose;
+      taken = a.taken;
+    } };
+
+    ghost invariant = { λ a. a.generator ≡ generator_at a.seed a.update a.cell a.purpose a.taken };
+}
+
+impl Draws {
+    /// The stream before its word 0. No word is computed yet.
+    #[tactic(auto, unfolding(crate::specs::RandomStream::generator_at))]
+    pub fn start(seed: u64, update: u32, cell: u32, purpose: Purpose) -> Draws
+        requires { cell < CELLS }
+        ensures { result ≡ first_of seed update cell purpose }
+    {
+        let mut generator = ChaCha8Rng::from_seed(key(seed));
+        generator.set_stream(u64::from(update) * 131_072 + u64::from(cell) * 2 + purpose.number());
+        Draws {
+            generator,
+            seed,
+            update,
+            cell,
+            purpose,
+            taken: 0,
+        }
+    }
+
+    /// How many words were taken.
+    #[inline]
+    pub fn taken(&self) -> u64
+        ensures { result ≡ self.now.taken }
+    {
+        self.taken
+    }
+
+    /// The word whose number is the count of words taken.
+    #[inline]
+    #[tactic(auto, unfolding(crate::specs::RandomStream::draw, crate::specs::RandomStream::generator_at))]
+    pub fn word(&mut self) -> u32
+        requires { self.old.taken < WORDS }
+        ensures word { result ≡ next_word self.old }
+        ensures takes_one { self.new ≡ after 1 self.old }
+    {
+        let word = self.generator.next_word();
+        self.taken += 1;
+        word
+    }
+
+    /// The next word, scaled to the numbers below `n`.
+    #[inline]
+    pub fn below(&mut self, n: u32) -> u32
+        requires some { 1 ≤ n }
+        requires room { self.old.taken < WORDS }
+        ensures value { result ≡ scaled (next_word self.old) n }
+        ensures in_range { result < n }
+        ensures takes_one { self.new ≡ after 1 self.old }
+    {
+        let word = self.word();
+        scaled(word, n)
+    }
+
+    /// Whether the next word hits at this rate in parts per million.
+    #[inline]
+    pub fn hits(&mut self, ppm: u32) -> bool
+        requires rate { ppm ≤ MILLION }
+        requires room { self.old.taken < WORDS }
+        ensures hit { result ≡ hits (next_word self.old) ppm }
+        ensures takes_one { self.new ≡ after 1 self.old }
+    {
+        let word = self.word();
+        scaled(word, MILLION) < ppm
+    }
+}
+
+/// The word, scaled to the numbers below `n`: `floor(word * n / 2^32)`.
+#[inline]
+pub fn scaled(word: u32, n: u32) -> u32
+    ensures value { result ≡ scaled word n }
+    ensures in_range { 1 ≤ n → result < n }
+{
+    (u64::from(word) * u64::from(n) >> 32) as u32
+}
+
+fn key(seed: u64) -> [u8; 32]
+    ensures { result ≡ key_bytes seed }
+{
+    let [a, b, c, d, e, f, g, h] = seed.to_le_bytes();
+    [
+        a, b, c, d, e, f, g, h, 0, 0, 0, 0, 0, 0, 0, 0, 0, 0, 0, 0, 0, 0, 0, 0, 0, 0, 0, 0, 0, 0,
+        0, 0,
+    ]
+}

@@ -1,0 +1,20 @@
+ghost use Rattle.std.specs.Prelude.{◌≡◌};
+ghost use Rattle.random_streams.specs.RandomStream.{purpose_number};
+
+/// What the words of a stream are for.
+#[derive(Clone, Copy, Debug, PartialEq, Eq)]
+pub enum Purpose {
+    Run,
+    Place,
+}
+
+impl Purpose {
+    pub(crate) fn number(self) -> u64
+        ensures { result ≡ purpose_number self }
+    {
+        match self {
+            Purpose::Run => 0,
+            Purpose::Place => 1,
+        }
+    }
+}
