@@ -1,0 +1,2 @@
+pub mod Genome
+pub mod GenomeText
