@@ -1,0 +1,2 @@
+pub mod RuleName
+pub mod Viability

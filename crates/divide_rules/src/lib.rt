@@ -1,0 +1,12 @@
+//! The rules that a divide must keep.
+#![tactic(auto)]
+
+mod ask;
+mod limits;
+mod rule;
+mod verdict;
+
+pub use ask::DivideAsk;
+pub use limits::{DivideRules, GREATEST_LENGTH, GREATEST_PERCENT, LEAST_LENGTH, LEAST_PERCENT};
+pub use rule::Rule;
+pub use verdict::{Verdict, judge};

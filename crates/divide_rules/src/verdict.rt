@@ -1,0 +1,57 @@
+// The answer to the question of a divide.
+ghost use Rattle.std.specs.Prelude.{◌≡◌, ◌≤◌, ◌↔◌};
+ghost use Rattle.divide_rules.specs.Viability.{verdict_of, IsViable};
+
+use crate::{DivideAsk, DivideRules, GREATEST_LENGTH, LEAST_LENGTH, Rule};
+
+/// Whether a divide keeps every rule, or which one it breaks first: what was found, and the bound that it missed.
+#[derive(Clone, Copy, Debug, PartialEq, Eq)]
+pub enum Verdict {
+    Viable,
+    Broken { rule: Rule, found: u32, bound: u32 },
+}
+
+#[tactic(auto, unfolding(crate::specs::Viability::verdict_of))]
+pub fn judge(ask: &DivideAsk, genome_len: u32, rules: &DivideRules) -> Verdict
+    requires long_enough { LEAST_LENGTH ≤ genome_len }
+    requires short_enough { genome_len ≤ GREATEST_LENGTH }
+    ensures verdict { result ≡ verdict_of ask.now genome_len rules.now }
+    ensures viable { (result ≡ Verdict.Viable) ↔ IsViable ask.now genome_len rules.now }
+{
+    if rules.need_alloc && !ask.allocated {
+        return broken(Rule::V1, 0, 1);
+    }
+    let least = rules.least.max(genome_len.div_ceil(2));
+    let greatest = rules.greatest.min(2 * genome_len);
+    if ask.read < least {
+        return broken(Rule::V2, ask.read, least);
+    }
+    if ask.read > greatest {
+        return broken(Rule::V2, ask.read, greatest);
+    }
+    if ask.end <= ask.read {
+        return broken(Rule::V3, ask.end, ask.read + 1);
+    }
+    let child = ask.end - ask.read;
+    if child < least {
+        return broken(Rule::V4, child, least);
+    }
+    if child > greatest {
+        return broken(Rule::V4, child, greatest);
+    }
+    let executed = rules.executed_percent * ask.read;
+    if 100 * ask.executed < executed {
+        return broken(Rule::V5, ask.executed, executed.div_ceil(100));
+    }
+    let copied = rules.copied_percent * child;
+    if 100 * ask.copied < copied {
+        return broken(Rule::V6, ask.copied, copied.div_ceil(100));
+    }
+    Verdict::Viable
+}
+
+fn broken(rule: Rule, found: u32, bound: u32) -> Verdict
+    ensures { result ≡ Verdict.Broken rule found bound }
+{
+    Verdict::Broken { rule, found, bound }
+}
