@@ -1,0 +1,9 @@
+use crate::Origin;
+use genome::Genome;
+
+/// A child's genome and the record of its birth.
+#[derive(Debug, Drop)]
+pub struct Born {
+    pub genome: Genome,
+    pub origin: Origin,
+}

@@ -1,0 +1,46 @@
+ghost use Rattle.std.specs.Prelude.{◌≡◌, length, slice_get};
+ghost use Rattle.std.specs.Option.{option_copied};
+
+use crate::Change;
+use std::marker::Model;
+
+/// A list of changes, in order.
+#[derive(Debug, Drop)]
+pub struct Changes {
+    items: Vec<Change>,
+}
+
+impl Model for Changes {
+    ghost use Rattle.std.specs.Prelude.{List};
+    ghost use Rattle.mutations.specs.declared.change.Change.{Change};
+
+    ghost Value = { List Change };
+
+    ghost view = { λ a. a.items.items };
+}
+
+impl Changes {
+    pub fn from_vec(items: Vec<Change>) -> Changes
+        ensures { result ≡ items.items }
+    {
+        Changes { items }
+    }
+
+    pub fn into_vec(self) -> Vec<Change>
+        ensures { result.items ≡ self }
+    {
+        self.items
+    }
+
+    pub fn len(&self) -> usize
+        ensures { result ≡ length self.now }
+    {
+        self.items.len()
+    }
+
+    pub fn get(&self, at: usize) -> Option<&Change>
+        ensures { option_copied result ≡ slice_get self.now at }
+    {
+        self.items.get(at)
+    }
+}

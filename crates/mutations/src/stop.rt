@@ -1,0 +1,10 @@
+/// Why a record does not apply.
+#[derive(Clone, Copy, Debug, PartialEq, Eq)]
+pub enum ApplyStop {
+    /// Memory was wanting.
+    Memory,
+    /// The change of this number, from 1, has no place in the text.
+    Place { nth: u64 },
+    /// The change of this number, from 1, would leave a length that no genome has.
+    Length { nth: u64 },
+}
