@@ -1,0 +1,63 @@
+// Standard input, part of the trusted edge.
+ghost use Rattle.std.specs.Prelude.{◌≡◌};
+
+use crate::{Source, SourceFail};
+use std::io::{Read, Stdin};
+use std::marker::Model;
+
+/// Standard input. It tells no bytes.
+#[derive(Drop)]
+pub struct StdSource {
+    from: Stdin,
+    faults: u64,
+}
+
+// What contracts see is the number of faults.
+impl Model for StdSource {
+    ghost use Rattle.std.specs.Prelude.{ℕ};
+
+    ghost Value = { ℕ };
+
+    ghost view = { λ s. s.faults };
+}
+
+impl StdSource {
+    pub fn new(rt: &HostRuntime) -> StdSource
+        ensures { result ≡ 0 }
+    {
+        StdSource {
+            from: rt.stdin(),
+            faults: 0,
+        }
+    }
+}
+
+impl Source for StdSource {
+    ghost use Rattle.avida_port.specs.Streams.{std_source_seen};
+
+    ghost seen = { std_source_seen };
+
+    fn fill(&mut self, room: &mut [u8]) -> Result<usize, SourceFail> {
+        match self.from.read(room) {
+            Ok(n) => Ok(n),
+            Err(_) => {
+                self.faults = self.faults.saturating_add(1);
+                Err(SourceFail)
+            }
+        }
+    }
+}
+
+#[cfg(test)]
+mod tests {
+    use super::*;
+    use std::test::Fail;
+
+    #[test]
+    fn standard_input_at_its_end_gives_nothing(rt: HostRuntime) -> Result<(), Fail> {
+        let mut source = StdSource::new(&rt);
+        let mut room = [0u8; 4];
+        assert_eq!(rt; source.fill(&mut room), Ok(0));
+        Ok(())
+    }
+}
