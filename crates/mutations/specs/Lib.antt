@@ -1,0 +1,5 @@
+pub mod BirthRecord
+pub mod Change
+pub mod CopyError
+pub mod DivideErrors
+pub mod Rates
