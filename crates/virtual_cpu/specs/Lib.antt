@@ -1,0 +1,17 @@
+pub mod Registers
+pub mod Heads
+pub mod Stack
+pub mod Machine
+pub mod Operands
+pub mod RegisterEffects
+pub mod HeadEffects
+pub mod TemplateEffects
+pub mod Allocation
+pub mod Copying
+pub mod Divide
+pub mod Effects
+pub mod Step
+pub mod View
+pub use Rattle.genome.specs.Genome
+pub use Rattle.label_search.specs.Template
+pub use Rattle.label_search.specs.Search

@@ -1,0 +1,73 @@
+-- Modifiers and templates (docs/MACHINE.md, "Modifiers", "Templates").
+use Rattle.std.specs.Prelude.{ℕ, ◌+◌, ◌%◌, Option, Some, None, List, [], ◌∷◌, length}
+use Rattle.instruction_set.specs.declared.letter.Letter.{Letter}
+use Rattle.instruction_set.specs.declared.letter.Letter.TheVariants.{NopA, NopB, NopC}
+use Rattle.virtual_cpu.specs.declared.registers.Register.{Register}
+use Rattle.virtual_cpu.specs.declared.registers.Register.TheVariants.{Ax, Bx, Cx}
+use Rattle.virtual_cpu.specs.declared.heads.Head.{Head}
+use Rattle.virtual_cpu.specs.declared.heads.Head.TheVariants.{Ip, Read, Write}
+use Rattle.label_search.specs.Template.{template_after}
+use Rattle.virtual_cpu.specs.Machine.{Machine, letter_at, place_after, with_ip_marked, with_ip_advanced, with_head_at}
+
+-- the letter where it is a nop
+abbrev pub nop_of : Letter → Option Letter
+nop_of NopA = Some NopA
+nop_of NopB = Some NopB
+nop_of NopC = Some NopC
+nop_of _ = None
+
+-- the nop at the place after IP, across the end
+abbrev pub modifier_of : Machine → Option Letter
+modifier_of m = nop_of (letter_at m (place_after m m.heads.ip))
+
+-- the register that a modifier picks, or the default
+abbrev pub register_by : Option Letter → Register → Register
+register_by (Some NopA) default = Ax
+register_by (Some NopB) default = Bx
+register_by (Some NopC) default = Cx
+register_by _ default = default
+
+-- the head that a modifier picks, or the default
+abbrev pub head_by : Option Letter → Head → Head
+head_by (Some NopA) default = Ip
+head_by (Some NopB) default = Read
+head_by (Some NopC) default = Write
+head_by _ default = default
+
+-- the register that the modifier after IP picks, or the default
+abbrev pub register_picked : Machine → Register → Register
+register_picked m default = register_by (modifier_of m) default
+
+-- the head that the modifier after IP picks, or the default
+abbrev pub head_picked : Machine → Head → Head
+head_picked m default = head_by (modifier_of m) default
+
+-- IP at the next place, which is marked
+abbrev pub on_next_place : Machine → Machine
+on_next_place m = with_ip_marked (with_ip_advanced m)
+
+-- IP on the modifier, where there is one
+abbrev pub on_modifier_of : Option Letter → Machine → Machine
+on_modifier_of (Some nop) m = on_next_place m
+on_modifier_of None m = m
+
+-- IP on the modifier after it, where there is one
+unfoldable pub on_modifier : Machine → Machine
+on_modifier m = on_modifier_of (modifier_of m) m
+
+-- the nops after IP, across the end, at most ten
+unfoldable pub template_of : Machine → List Letter
+template_of m = template_after m.memory m.heads.ip
+
+-- IP this many places further, across the end
+abbrev pub with_ip_moved : Machine → ℕ → Machine
+with_ip_moved m count = with_head_at m Ip ((m.heads.ip + count) % length m.memory)
+
+-- IP on the last of these nops; only the first of them is marked
+abbrev pub on_last_of : List Letter → Machine → Machine
+on_last_of [] m = m
+on_last_of (nop ∷ nops) m = with_ip_moved (on_next_place m) (length nops)
+
+-- IP on the last nop of the template after it
+unfoldable pub on_template : Machine → Machine
+on_template m = on_last_of (template_of m) m

@@ -1,0 +1,33 @@
+-- What contracts see of a `Cpu` (docs/MACHINE.md, "The machine").
+use Rattle.std.specs.Prelude.{ℕ, ◌*◌, ◌≤◌, min, vec_capacity}
+use Rattle.virtual_cpu.specs.Machine.{Machine, IsMachine}
+use Rattle.virtual_cpu.specs.declared.cpu.Cpu.TheInside.{Inside}
+
+-- the machine that a `Cpu` is
+abbrev pub machine_of : Inside → Machine
+machine_of cpu = record {
+  memory = cpu.memory.items;
+  clean = cpu.clean.items;
+  executed = cpu.executed.items;
+  copied = cpu.copied.items;
+  registers = cpu.registers;
+  stacks = cpu.stacks;
+  active = cpu.active;
+  heads = cpu.heads;
+  nops = cpu.nops;
+  pending = cpu.pending;
+  made = cpu.made;
+  limit = cpu.limit;
+}
+
+-- the places that there is room for
+abbrev pub room_of : Inside → ℕ
+room_of cpu = min cpu.limit (6 * cpu.made)
+
+-- a machine, and room for all that it may grow to
+pub record IsMachineWithRoom (cpu : Inside) : Type 0 where
+  pub machine : IsMachine (machine_of cpu)
+  pub memory : room_of cpu ≤ vec_capacity cpu.memory
+  pub clean : room_of cpu ≤ vec_capacity cpu.clean
+  pub executed : room_of cpu ≤ vec_capacity cpu.executed
+  pub copied : room_of cpu ≤ vec_capacity cpu.copied

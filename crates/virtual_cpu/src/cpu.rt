@@ -1,0 +1,349 @@
+// The machine: its parts, and the few ways in which an instruction changes them.
+ghost use Rattle.std.specs.Prelude.{◌≡◌, ℕ, ℤ, pos, ◌-◌, ◌*◌, ◌<◌, ◌≤◌, IfOk, List, [], ◌∷◌, length, ◌+◌, ◌++◌, replicate, true, false, vec_capacity, IfSome, IsTrue};
+ghost use Rattle.instruction_set.specs.declared.letter.Letter.{Letter};
+ghost use Rattle.genome.specs.Genome.{letters};
+ghost use Rattle.label_search.specs.Template.{same_letters};
+ghost use Rattle.label_search.specs.Search.{first_match};
+ghost use Rattle.virtual_cpu.specs.Registers.{value_of};
+ghost use Rattle.virtual_cpu.specs.Heads.{place_of};
+ghost use Rattle.virtual_cpu.specs.Stack.{pushed, popped, top_of};
+ghost use Rattle.virtual_cpu.specs.Machine.{IsMachine, fresh_machine, letter_under_ip, letter_at, place_after, place_of_number, with_ip_marked, with_ip_advanced, with_head_at, with_flow_at, with_value};
+ghost use Rattle.virtual_cpu.specs.Operands.{on_modifier, register_picked, head_picked, template_of, on_template};
+ghost use Rattle.virtual_cpu.specs.RegisterEffects.{active_stack, with_active_stack};
+ghost use Rattle.virtual_cpu.specs.Copying.{after_h_copy};
+ghost use Rattle.virtual_cpu.specs.Allocation.{can_allocate, with_allocation};
+ghost use Rattle.virtual_cpu.specs.Divide.{divide_question, parent_part};
+
+use crate::heads::{Head, Heads};
+use crate::marks::{count_marks, place_after};
+use crate::registers::{Register, Registers};
+use crate::reserved::{append_copies, append_letters, letters_with_room, unmarked_with_room};
+use crate::stack::Stack;
+use avida_port::Memory;
+use divide_rules::DivideAsk;
+use genome::{GREATEST_LENGTH, Genome, LEAST_LENGTH};
+use instruction_set::Letter;
+use label_search::{LONGEST_TEMPLATE, Template};
+use std::alloc::Global;
+use std::marker::Model;
+
+/// A machine that steps through its own memory.
+#[derive(Drop)]
+pub struct Cpu {
+    memory: Vec<Letter>,
+    clean: Vec<Letter>,
+    executed: Vec<bool>,
+    copied: Vec<bool>,
+    registers: Registers,
+    stacks: [Stack; 2],
+    active: usize,
+    heads: Heads,
+    nops: Template,
+    pending: bool,
+    made: usize,
+    limit: usize,
+}
+
+impl Model for Cpu {
+    ghost use Rattle.virtual_cpu.specs.Machine.{Machine};
+
+    ghost Value = { Machine };
+
+    ghost use Rattle.virtual_cpu.specs.View.{machine_of, IsMachineWithRoom};
+
+    ghost view = { machine_of };
+
+    ghost invariant = { IsMachineWithRoom };
+}
+
+impl Cpu {
+    /// The machine at its start, with room for all that it may grow to.
+    pub fn new(alloc: Global, genome: &Genome, memory_limit: u32) -> Result<Cpu, Memory>
+        requires genome_within { length (letters genome.now) ≤ memory_limit }
+        requires greatest { memory_limit ≤ GREATEST_LENGTH }
+        ensures { IfOk result (λ cpu. let text = letters genome.now in
+            cpu ≡ fresh_machine text (length text) memory_limit) }
+    {
+        let made = genome.len() as usize;
+        let limit = memory_limit as usize;
+        let room = (6 * made).min(limit);
+        let memory = letters_with_room(alloc, genome.letters(), room)?;
+        let clean = letters_with_room(alloc, genome.letters(), room)?;
+        let executed = unmarked_with_room(alloc, made, room)?;
+        let copied = unmarked_with_room(alloc, made, room)?;
+        Ok(Cpu {
+            memory,
+            clean,
+            executed,
+            copied,
+            registers: Registers::default(),
+            stacks: [Stack::new(), Stack::new()],
+            active: 0,
+            heads: Heads::default(),
+            nops: Template::none(),
+            pending: false,
+            made,
+            limit,
+        })
+    }
+
+    /// The letter under IP.
+    pub fn next(&self) -> Letter
+        ensures { result ≡ letter_under_ip self.now }
+    {
+        self.memory[self.heads.ip]
+    }
+
+    /// The place of IP.
+    pub fn place(&self) -> u32
+        ensures { result ≡ self.now.heads.ip }
+    {
+        self.heads.ip as u32
+    }
+
+    /// AX, BX and CX.
+    pub fn registers(&self) -> [i32; 3]
+        ensures { result ≡ self.now.registers.ax ∷ self.now.registers.bx ∷ self.now.registers.cx ∷ [] }
+    {
+        [self.registers.ax, self.registers.bx, self.registers.cx]
+    }
+
+    /// The length of memory.
+    pub fn length(&self) -> u32
+        ensures value { result ≡ length self.now.memory }
+        ensures machine { IsMachine self.now }
+    {
+        self.memory.len() as u32
+    }
+
+    pub(crate) fn mark_executed(&mut self)
+        ensures { self.new ≡ with_ip_marked self.old }
+    {
+        self.executed[self.heads.ip] = true;
+    }
+
+    pub(crate) fn advance(&mut self)
+        ensures { self.new ≡ with_ip_advanced self.old }
+    {
+        self.heads.ip = place_after(self.heads.ip, self.memory.len());
+    }
+
+    /// The letter after IP, across the end.
+    pub(crate) fn letter_after_ip(&self) -> Letter
+        ensures { result ≡ letter_at self.now (place_after self.now self.now.heads.ip) }
+    {
+        self.memory[place_after(self.heads.ip, self.memory.len())]
+    }
+
+    /// Moves IP onto a modifier, and gives the register that it picks.
+    #[tactic(auto, unfolding(crate::specs::Operands::on_modifier))]
+    pub(crate) fn pick_register(&mut self, default: Register) -> Register
+        ensures picked { result ≡ register_picked self.old default }
+        ensures moved { self.new ≡ on_modifier self.old }
+    {
+        let picked = match self.letter_after_ip() {
+            Letter::NopA => Register::Ax,
+            Letter::NopB => Register::Bx,
+            Letter::NopC => Register::Cx,
+            _ => return default,
+        };
+        self.advance();
+        self.mark_executed();
+        picked
+    }
+
+    /// Moves IP onto a modifier, and gives the head that it picks.
+    #[tactic(auto, unfolding(crate::specs::Operands::on_modifier))]
+    pub(crate) fn pick_head(&mut self, default: Head) -> Head
+        ensures picked { result ≡ head_picked self.old default }
+        ensures moved { self.new ≡ on_modifier self.old }
+    {
+        let picked = match self.letter_after_ip() {
+            Letter::NopA => Head::Ip,
+            Letter::NopB => Head::Read,
+            Letter::NopC => Head::Write,
+            _ => return default,
+        };
+        self.advance();
+        self.mark_executed();
+        picked
+    }
+
+    /// Moves IP onto the last nop of the template after it, and marks the first.
+    #[tactic(auto, unfolding(crate::specs::Operands::template_of, crate::specs::Operands::on_template))]
+    pub(crate) fn read_template(&mut self) -> Template
+        ensures read { result ≡ template_of self.old }
+        ensures moved { self.new ≡ on_template self.old }
+        ensures few { length result ≤ LONGEST_TEMPLATE }
+    {
+        let template = label_search::template_after(self.memory.as_slice(), self.heads.ip);
+        let count = template.len();
+        if count > 0 {
+            self.advance();
+            self.mark_executed();
+            self.heads.ip = (self.heads.ip + (count - 1)) % self.memory.len();
+        }
+        template
+    }
+
+    pub(crate) fn head(&self, head: Head) -> usize
+        ensures place { result ≡ place_of self.now.heads head }
+        ensures within { result < GREATEST_LENGTH }
+    {
+        self.heads.get(head)
+    }
+
+    /// Moves a head to the place of a number, by floor modulo.
+    pub(crate) fn move_head(&mut self, head: Head, number: i64)
+        ensures { self.new ≡ with_head_at self.old head (place_of_number self.old number) }
+    {
+        let place = number.rem_euclid(self.memory.len() as i64) as usize;
+        self.heads.set(head, place);
+    }
+
+    pub(crate) fn move_head_to_flow(&mut self, head: Head)
+        ensures { self.new ≡ with_head_at self.old head self.old.heads.flow }
+    {
+        let flow = self.heads.flow;
+        self.heads.set(head, flow);
+    }
+
+    /// Moves FLOW to the place of a number, by floor modulo.
+    pub(crate) fn move_flow(&mut self, number: i64)
+        ensures { self.new ≡ with_flow_at self.old (place_of_number self.old number) }
+    {
+        self.heads.flow = number.rem_euclid(self.memory.len() as i64) as usize;
+    }
+
+    /// Moves FLOW to a place.
+    pub(crate) fn move_flow_to(&mut self, place: usize)
+        requires { place < length self.old.memory }
+        ensures { self.new ≡ with_flow_at self.old place }
+    {
+        self.heads.flow = place;
+    }
+
+    pub(crate) fn place_after_ip(&self) -> usize
+        ensures place { result ≡ place_after self.now self.now.heads.ip }
+        ensures within { result < length self.now.memory }
+    {
+        place_after(self.heads.ip, self.memory.len())
+    }
+
+    pub(crate) fn memory_length(&self) -> usize
+        ensures value { result ≡ length self.now.memory }
+        ensures machine { IsMachine self.now }
+    {
+        self.memory.len()
+    }
+
+    pub(crate) fn register(&self, register: Register) -> i32
+        ensures { result ≡ value_of self.now.registers register }
+    {
+        self.registers.get(register)
+    }
+
+    pub(crate) fn set_register(&mut self, register: Register, value: i32)
+        ensures { self.new ≡ with_value self.old register value }
+    {
+        self.registers.set(register, value);
+    }
+
+    pub(crate) fn push_number(&mut self, number: i32)
+        ensures { self.new ≡ with_active_stack self.old (pushed number (active_stack self.old)) }
+    {
+        let active = &mut self.stacks[self.active];
+        active.push(number);
+    }
+
+    pub(crate) fn pop_number(&mut self) -> i32
+        ensures top { result ≡ top_of (active_stack self.old) }
+        ensures rest { self.new ≡ with_active_stack self.old (popped (active_stack self.old)) }
+    {
+        let active = &mut self.stacks[self.active];
+        active.pop()
+    }
+
+    pub(crate) fn swap_stacks(&mut self)
+        ensures { self.new ≡ record self.old { active = 1 - self.old.active } }
+    {
+        self.active = 1 - self.active;
+    }
+
+    /// Whether the nops read last are these.
+    pub(crate) fn nops_are(&self, template: &Template) -> bool
+        ensures { result ≡ same_letters self.now.nops template.now }
+    {
+        self.nops.equals(template)
+    }
+
+    pub(crate) fn find(&self, what: &Template) -> Option<usize>
+        requires { 0 < length what.now }
+        ensures first { result ≡ first_match self.now.memory what.now }
+        ensures within { IfSome result (λ place. place + length what.now ≤ length self.now.memory) }
+    {
+        label_search::find(self.memory.as_slice(), what)
+    }
+
+    /// Copies the letter at READ, or the letter of a copy error, to WRITE.
+    #[tactic(auto, unfolding(crate::specs::Copying::after_h_copy))]
+    pub(crate) fn copy_letter(&mut self, copy: Option<Letter>)
+        ensures { self.new ≡ after_h_copy self.old copy }
+    {
+        let read = self.memory[self.heads.read];
+        self.nops.note(read);
+        self.memory[self.heads.write] = copy.unwrap_or(read);
+        self.clean[self.heads.write] = read;
+        self.copied[self.heads.write] = true;
+        self.heads.read = place_after(self.heads.read, self.memory.len());
+        self.heads.write = place_after(self.heads.write, self.memory.len());
+    }
+
+    /// Whether no allocation is pending and memory is below its limit.
+    pub(crate) fn can_allocate(&self) -> bool
+        ensures { result ≡ can_allocate self.now }
+    {
+        !self.pending && self.memory.len() < self.limit
+    }
+
+    #[tactic(auto, unfolding(crate::specs::Allocation::with_allocation))]
+    pub(crate) fn allocate(&mut self)
+        requires { can_allocate self.old ≡ true }
+        ensures { self.new ≡ with_allocation self.old }
+    {
+        let length = self.memory.len();
+        let extra = (2 * length).min(self.limit - length);
+        append_copies(&mut self.memory, Letter::NopA, extra);
+        append_copies(&mut self.clean, Letter::NopA, extra);
+        append_copies(&mut self.executed, false, extra);
+        append_copies(&mut self.copied, false, extra);
+        self.registers.ax = length as i32;
+        self.pending = true;
+    }
+
+    /// What a divide asks of the rules.
+    #[tactic(auto, unfolding(crate::specs::Divide::divide_question))]
+    pub(crate) fn question(&self) -> DivideAsk
+        ensures { result ≡ divide_question self.now }
+    {
+        let read = self.heads.read;
+        let end = if self.heads.write == 0 {
+            self.memory.len()
+        } else {
+            self.heads.write
+        };
+        let executed = count_marks(&self.executed[..read]);
+        let copied = if read < end {
+            count_marks(&self.copied[read..end])
+        } else {
+            0
+        };
+        DivideAsk {
+            allocated: self.pending,
+            read: read as u32,
+            end: end as u32,
+            executed: executed as u32,
+            copied: copied as u32,
+        }
+    }
+}
