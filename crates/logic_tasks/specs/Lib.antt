@@ -1,0 +1,3 @@
+pub mod LogicTasks
+pub mod TaskSet
+pub mod Inputs

@@ -1,0 +1,81 @@
+-- The nine tasks and when an output does one (docs/MACHINE.md, "The tasks").
+use Rattle.std.specs.Prelude.{ℕ, ℤ, Bool, true, false, not, ◌&&◌, ◌||◌, ◌==◌, List, codes, [], ◌∷◌, length, Option, find, slice_index_or}
+use Rattle.std.specs.Bool.{xor, beq}
+use Rattle.std.specs.Int.{bit_at, cast_unsigned, w32}
+use Rattle.std.specs.List.{list_all, list_any, range_with_len}
+use Rattle.logic_tasks.specs.declared.task.Task.{Task}
+use Rattle.logic_tasks.specs.declared.task.Task.TheVariants.{Not, Nand, And, Orn, Or, Andn, Nor, Xor, Equ}
+use Rattle.logic_tasks.specs.Inputs.{known_inputs}
+
+-- every task, in the order of the table
+abbrev pub all_tasks : List Task
+all_tasks = Not ∷ Nand ∷ And ∷ Orn ∷ Or ∷ Andn ∷ Nor ∷ Xor ∷ Equ ∷ []
+
+-- the place of a task in the table, from 0
+abbrev pub place_of : Task → ℕ
+place_of Not = 0
+place_of Nand = 1
+place_of And = 2
+place_of Orn = 3
+place_of Or = 4
+place_of Andn = 5
+place_of Nor = 6
+place_of Xor = 7
+place_of Equ = 8
+
+-- the printed name of a task
+abbrev pub name_of : Task → List ℕ
+name_of Not = codes "NOT"
+name_of Nand = codes "NAND"
+name_of And = codes "AND"
+name_of Orn = codes "ORN"
+name_of Or = codes "OR"
+name_of Andn = codes "ANDN"
+name_of Nor = codes "NOR"
+name_of Xor = codes "XOR"
+name_of Equ = codes "EQU"
+
+-- the equation of a task at one bit: what the output has where the inputs have x and y
+abbrev pub bit_of : Task → Bool → Bool → Bool
+bit_of Not x y = not x
+bit_of Nand x y = not (x && y)
+bit_of And x y = x && y
+bit_of Orn x y = x || not y
+bit_of Or x y = x || y
+bit_of Andn x y = x && not y
+bit_of Nor x y = not (x || y)
+bit_of Xor x y = xor x y
+bit_of Equ x y = not (xor x y)
+
+-- whether a task needs one input alone
+abbrev pub needs_one : Task → Bool
+needs_one Not = true
+needs_one _ = false
+
+-- whether a bit of a number is set
+abbrev pub has_bit : ℕ → ℕ → Bool
+has_bit n k = bit_at n k == 1
+
+-- the equation of the task holds at each of the 32 bits
+unfoldable pub computes : Task → ℕ → ℕ → ℕ → Bool
+computes task output x y = list_all (λ k. beq (has_bit output k) (bit_of task (has_bit x k) (has_bit y k))) (range_with_len 0 32)
+
+-- the task is done with the inputs at two places, which differ unless it needs one input alone
+abbrev pub does_pair : Task → ℕ → List ℕ → ℕ → ℕ → Bool
+does_pair task output known first second = (not (first == second) || needs_one task) && computes task output (slice_index_or known first 0) (slice_index_or known second 0)
+
+-- the places of a list
+abbrev pub places_of : List ℕ → List ℕ
+places_of known = range_with_len 0 (length known)
+
+-- the task is done with the input at this place and that at some place
+abbrev pub does_with : Task → ℕ → List ℕ → ℕ → Bool
+does_with task output known first = list_any (does_pair task output known first) (places_of known)
+
+-- the task is done with the inputs at some two places
+abbrev pub does : Task → ℕ → List ℕ → Bool
+does task output known = list_any (does_with task output known) (places_of known)
+
+-- the first task of the table that is done by an output after so many inputs were read
+unfoldable pub task_done : ℤ → List ℕ → ℕ → Option Task
+task_done output inputs read = find (λ task. does task (cast_unsigned w32 output) (known_inputs inputs read)) all_tasks

@@ -1,0 +1,74 @@
+// The inputs of an organism.
+ghost use Rattle.std.specs.Prelude.{◌≡◌, ◌≤◌, ◌%◌, min, take, slice_index_or, length};
+ghost use Rattle.std.specs.Int.{cast_signed, w32};
+ghost use Rattle.logic_tasks.specs.Inputs.{inputs_of, known_inputs};
+
+use std::marker::Model;
+
+/// How many inputs an organism has.
+pub const INPUT_COUNT: usize = 3;
+
+/// Three inputs, which differ in their top bytes: together these have each row of a truth table.
+#[derive(Clone, Copy, Debug, PartialEq, Eq)]
+pub struct Inputs {
+    words: [u32; INPUT_COUNT],
+}
+
+impl Model for Inputs {
+    ghost use Rattle.std.specs.Prelude.{List, ℕ};
+    ghost use Rattle.logic_tasks.specs.Inputs.{HasTopBytes};
+
+    ghost Value = { List ℕ };
+
+    ghost view = { λ inputs. inputs.words };
+
+    ghost invariant = { λ inputs. HasTopBytes inputs.words };
+
+    ghost inverse = { λ words. record { words = words } };
+}
+
+impl Inputs {
+    /// The low 24 bits of each word, under the top bytes.
+    pub fn of(words: [u32; 3]) -> Inputs
+        ensures { result ≡ inputs_of words }
+    {
+        let low = 0x0100_0000;
+        Inputs {
+            words: [
+                0x0F00_0000 + words[0] % low,
+                0x3300_0000 + words[1] % low,
+                0x5500_0000 + words[2] % low,
+            ],
+        }
+    }
+
+    /// The inputs are read in a cycle.
+    pub fn value(&self, k: u64) -> i32
+        ensures { result ≡ cast_signed w32 (slice_index_or self.now (k % 3) 0) }
+    {
+        self.words[(k % 3) as usize] as i32
+    }
+
+    /// The inputs that were read, each once.
+    pub(crate) fn known(&self, read: u64) -> &[u32]
+        ensures { result.now ≡ known_inputs self.now read }
+    {
+        &self.words[..read.min(3) as usize]
+    }
+}
+
+#[cfg(test)]
+mod tests {
+    use super::*;
+
+    #[test]
+    fn three_inputs_come_round(rt: HostRuntime) {
+        let inputs = Inputs::of([0x0F0F_0F0F, 0x3333_3333, 0x5555_5555]);
+        assert_eq!(rt; inputs.value(0), 252645135);
+        assert_eq!(rt; inputs.value(1), 858993459);
+        assert_eq!(rt; inputs.value(2), 1431655765);
+        assert_eq!(rt; inputs.value(3), 252645135);
+        assert_eq!(rt; inputs.value(u64::MAX), 252645135);
+        assert_eq!(rt; Inputs::of([u32::MAX; 3]).value(1), 0x33FF_FFFF);
+    }
+}

@@ -1,0 +1,91 @@
+// The nine tasks, and the word that each computes.
+ghost use Rattle.std.specs.Prelude.{◌≡◌, ◌<◌, ℕ};
+ghost use Rattle.logic_tasks.specs.LogicTasks.{has_bit, place_of, name_of, bit_of};
+
+/// How many tasks there are.
+pub const TASK_COUNT: usize = 9;
+
+/// A logic task, in the order of the table.
+#[derive(Clone, Copy, Debug, PartialEq, Eq)]
+pub enum Task {
+    Not,
+    Nand,
+    And,
+    Orn,
+    Or,
+    Andn,
+    Nor,
+    Xor,
+    Equ,
+}
+
+/// Every task, in the order of the table.
+pub const TASKS: [Task; TASK_COUNT] = [
+    Task::Not,
+    Task::Nand,
+    Task::And,
+    Task::Orn,
+    Task::Or,
+    Task::Andn,
+    Task::Nor,
+    Task::Xor,
+    Task::Equ,
+];
+
+impl Task {
+    /// The place in the table, from 0.
+    pub fn place(self) -> usize
+        ensures { result ≡ place_of self }
+    {
+        self as usize
+    }
+
+    pub fn name(self) -> &'static str
+        ensures { result.now ≡ name_of self }
+    {
+        match self {
+            Task::Not => "NOT",
+            Task::Nand => "NAND",
+            Task::And => "AND",
+            Task::Orn => "ORN",
+            Task::Or => "OR",
+            Task::Andn => "ANDN",
+            Task::Nor => "NOR",
+            Task::Xor => "XOR",
+            Task::Equ => "EQU",
+        }
+    }
+
+    /// What the task makes of two inputs; NOT looks at the first alone.
+    pub(crate) fn word(self, x: u32, y: u32) -> u32
+        ensures { (k : ℕ) → k < 32 → has_bit result k ≡ bit_of self (has_bit x k) (has_bit y k) }
+    {
+        match self {
+            Task::Not => !x,
+            Task::Nand => !(x & y),
+            Task::And => x & y,
+            Task::Orn => x | !y,
+            Task::Or => x | y,
+            Task::Andn => x & !y,
+            Task::Nor => !(x | y),
+            Task::Xor => x ^ y,
+            Task::Equ => !(x ^ y),
+        }
+    }
+}
+
+#[cfg(test)]
+mod tests {
+    use super::*;
+
+    #[test]
+    fn the_tasks_stand_in_the_order_of_the_table(rt: HostRuntime) {
+        let names = [
+            "NOT", "NAND", "AND", "ORN", "OR", "ANDN", "NOR", "XOR", "EQU",
+        ];
+        for (place, task) in TASKS.iter().enumerate() {
+            assert_eq!(rt; task.place(), place);
+            assert_eq!(rt; Some(&task.name()), names.get(place));
+        }
+    }
+}
