@@ -1,5 +1,6 @@
 -- Numbered calls that fail, counted one by one.
-use Rattle.std.proofs.Common.{◌≡◌, ◌≤◌, ◌<◌, ℕ, ◌+◌, List, [], ◌∷◌, Bool, true, false, if◌then◌else◌, map, refl, ap, ◌∙◌, arith}
+use Rattle.std.proofs.Common.{◌≡◌, ◌≤◌, ◌<◌, ℕ, ◌+◌, List, Bool, true, false, if◌then◌else◌, refl, ap, ◌∙◌, arith}
+use Rattle.std.proofs.lemmas.List.{map-id}
 use Rattle.std.proofs.lemmas.List.FromFn.{sum_by-map-range_with_len_more}
 use Rattle.std.specs.List.{count_by, range_with_len}
 use Rattle.std.specs.Option.{option_map}
@@ -8,16 +9,11 @@ use Rattle.avida_port.specs.Faults.{last_count}
 use Rattle.avida_port.specs.Memory.{call_fails, failed_calls, entry_for, failed_puts, first_failing}
 use Rattle.avida_port.specs.declared.mem_sink.Failing.{Failing}
 
--- a list under no change
-map-same : (xs : List ℕ) → map (λ x. x) xs ≡ xs
-map-same [] = refl
-map-same (x ∷ xs) = ap (λ l. x ∷ l) (map-same xs)
-
 -- the last number of a range is counted where it passes
 count_by-range_more : (p : ℕ → Bool) (n : ℕ) → count_by p (range_with_len 1 (n + 1)) ≡ count_by p (range_with_len 1 n) + (if p (n + 1) then 1 else 0)
 count_by-range_more p n =
     let e = sum_by-map-range_with_len_more (λ x. if p x then 1 else 0) (λ x. x) 1 n (n + 1) (omega arith) in
-    simp map-same at e
+    simp map-id at e
 
 -- a count up to the next number, or up to the same one
 count_by-range_climb : (p : ℕ → Bool) (n m : ℕ) → n ≤ m → m ≤ n + 1 → count_by p (range_with_len 1 n) ≤ count_by p (range_with_len 1 m)
