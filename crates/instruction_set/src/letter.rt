@@ -1,8 +1,9 @@
 // The letters of a program, and their table.
-ghost use Rattle.std.specs.Prelude.{◌≡◌};
+ghost use Rattle.std.specs.Prelude.{◌≡◌, ◌≢◌, ◌↔◌, ◌⊎◌, ◌+◌, ◌<◌, ◌≤◌, Some, IsNone, length, slice_get};
 ghost use Rattle.std.specs.Hash as fed;
 ghost use Rattle.std.specs.Cmp.Rules.{hashing};
 ghost use Rattle.std.proofs.Common.{rules};
+ghost use Rattle.instruction_set.specs.declared.letter.Letter.{Letter};
 ghost use Rattle.instruction_set.specs.Letter.{index_of, byte_of, class_of, complement_of, name_of, letter_at, letter_of_byte, letter_named};
 
 use std::hash::{Hash, Hasher};
@@ -51,7 +52,8 @@ pub enum Letter {
 
 impl Letter {
     pub fn index(self) -> u8
-        ensures { result ≡ index_of self }
+        ensures index { result ≡ index_of self }
+        ensures below { result < LETTER_COUNT }
     {
         self as u8
     }
@@ -59,7 +61,7 @@ impl Letter {
     pub fn byte(self) -> u8
         ensures { result ≡ byte_of self }
     {
-        b'a' + self.index()
+        FIRST_BYTE + self.index()
     }
 
     pub fn class(self) -> Class
@@ -75,7 +77,8 @@ impl Letter {
     }
 
     pub fn complement(self) -> Option<Letter>
-        ensures { result ≡ complement_of self }
+        ensures complement { result ≡ complement_of self }
+        ensures none { IsNone result ↔ (class_of self ≢ Class.Nop) }
     {
         match self {
             Letter::NopA => Some(Letter::NopB),
@@ -118,35 +121,47 @@ impl Letter {
         }
     }
 
-    #[tactic(auto, unfolding(crate::specs::Letter::letter_at))]
-    /// None exactly where the index is 26 or more.
+    /// The letter of this row of the table.
     pub fn from_index(index: u8) -> Option<Letter>
-        ensures { result ≡ letter_at index }
+        ensures letter { result ≡ letter_at index }
+        ensures none { IsNone result ↔ (LETTER_COUNT ≤ index) }
     {
-        LETTERS
-            .iter()
-            .copied()
-            .find(|letter| letter.index() == index)
+        row(&LETTERS, index)
     }
 
-    #[tactic(auto, unfolding(crate::specs::Letter::letter_of_byte))]
-    /// None exactly where the byte is not `a` to `z`.
     pub fn from_byte(byte: u8) -> Option<Letter>
-        ensures { result ≡ letter_of_byte byte }
+        ensures letter { result ≡ letter_of_byte byte }
+        ensures none { IsNone result ↔ (byte < FIRST_BYTE ⊎ FIRST_BYTE + LETTER_COUNT ≤ byte) }
     {
-        LETTERS.iter().copied().find(|letter| letter.byte() == byte)
+        if byte < FIRST_BYTE {
+            return None;
+        }
+        Letter::from_index(byte - FIRST_BYTE)
     }
 
-    #[tactic(auto, unfolding(crate::specs::Letter::letter_named))]
-    /// None exactly where no row has that name.
     pub fn from_name(name: &[u8]) -> Option<Letter>
-        ensures { result ≡ letter_named name.now }
+        ensures letter { result ≡ letter_named name.now }
+        ensures none { IsNone result ↔ ((letter : Letter) → name_of letter ≢ name.now) }
     {
-        LETTERS
-            .iter()
-            .copied()
-            .find(|letter| letter.name().as_bytes() == name)
+        find_named(name)
     }
+}
+
+fn row(letters: &[Letter], index: u8) -> Option<Letter>
+    ensures row { result ≡ slice_get letters.now index }
+    ensures none { IsNone result ↔ (length letters.now ≤ index) }
+{
+    letters.get(usize::from(index)).copied()
+}
+
+#[tactic(auto, unfolding(crate::specs::Letter::letter_named))]
+fn find_named(name: &[u8]) -> Option<Letter>
+    ensures { result ≡ letter_named name.now }
+{
+    LETTERS
+        .iter()
+        .copied()
+        .find(|letter| letter.name().as_bytes() == name)
 }
 
 impl Hash for Letter {
@@ -159,8 +174,14 @@ impl Hash for Letter {
     }
 }
 
+/// How many letters there are.
+pub const LETTER_COUNT: u8 = 26;
+
+/// The byte of the first letter.
+pub const FIRST_BYTE: u8 = b'a';
+
 /// Every letter, by its index.
-const LETTERS: [Letter; 26] = [
+static LETTERS: [Letter; LETTER_COUNT as usize] = [
     Letter::NopA,
     Letter::NopB,
     Letter::NopC,
@@ -188,3 +209,82 @@ const LETTERS: [Letter; 26] = [
     Letter::Io,
     Letter::HSearch,
 ];
+
+#[cfg(test)]
+mod tests {
+    use super::*;
+
+    /// The rows of the instruction table: byte, name and class.
+    const ROWS: [(u8, &str, Class); 26] = [
+        (b'a', "nop-A", Class::Nop),
+        (b'b', "nop-B", Class::Nop),
+        (b'c', "nop-C", Class::Nop),
+        (b'd', "if-n-equ", Class::Register),
+        (b'e', "if-less", Class::Register),
+        (b'f', "if-label", Class::Template),
+        (b'g', "mov-head", Class::Head),
+        (b'h', "jmp-head", Class::Head),
+        (b'i', "get-head", Class::Head),
+        (b'j', "set-flow", Class::Register),
+        (b'k', "shift-r", Class::Register),
+        (b'l', "shift-l", Class::Register),
+        (b'm', "inc", Class::Register),
+        (b'n', "dec", Class::Register),
+        (b'o', "push", Class::Register),
+        (b'p', "pop", Class::Register),
+        (b'q', "swap-stk", Class::Plain),
+        (b'r', "swap", Class::Register),
+        (b's', "add", Class::Register),
+        (b't', "sub", Class::Register),
+        (b'u', "nand", Class::Register),
+        (b'v', "h-copy", Class::Plain),
+        (b'w', "h-alloc", Class::Plain),
+        (b'x', "h-divide", Class::Plain),
+        (b'y', "IO", Class::Register),
+        (b'z', "h-search", Class::Template),
+    ];
+
+    #[test]
+    fn the_letters_are_the_rows_of_the_table(rt: HostRuntime) {
+        for index in 0..26u8 {
+            let (byte, name, class) = ROWS[usize::from(index)];
+            let letter = Letter::from_index(index);
+            assert_eq!(rt;
+                letter.map(|letter| letter.index()),
+                Some(index),
+                "at {index}"
+            );
+            assert_eq!(rt;
+                letter.map(|letter| letter.byte()),
+                Some(byte),
+                "at {index}"
+            );
+            assert_eq!(rt;
+                letter.map(|letter| letter.name()),
+                Some(name),
+                "at {index}"
+            );
+            assert_eq!(rt;
+                letter.map(|letter| letter.class()),
+                Some(class),
+                "at {index}"
+            );
+            assert_eq!(rt; Letter::from_byte(byte), letter, "at {index}");
+            assert_eq!(rt; Letter::from_name(name.as_bytes()), letter, "at {index}");
+        }
+        assert_eq!(rt; Letter::from_index(26), None);
+        assert_eq!(rt; Letter::from_byte(b'a' - 1), None);
+        assert_eq!(rt; Letter::from_byte(b'z' + 1), None);
+        for name in ["", "nop", "nop-a", "NOP-A", "inc ", "io"] {
+            assert_eq!(rt; Letter::from_name(name.as_bytes()), None, "at {name}");
+        }
+    }
+
+    #[test]
+    fn nops_alone_have_a_complement(rt: HostRuntime) {
+        assert_eq!(rt; Letter::NopA.complement(), Some(Letter::NopB));
+        assert_eq!(rt; Letter::NopB.complement(), Some(Letter::NopC));
+        assert_eq!(rt; Letter::NopC.complement(), Some(Letter::NopA));
+        assert_eq!(rt; Letter::IfNEqu.complement(), None);
+    }
+}

@@ -1,6 +1,7 @@
 //! The 26 instructions of the heads processor.
 #![tactic(auto)]
 
+pub mod laws;
 mod letter;
 
-pub use letter::{Class, Letter};
+pub use letter::{Class, FIRST_BYTE, LETTER_COUNT, Letter};

@@ -1,0 +1,14 @@
+// What the look-ups of a letter have to do with one another.
+ghost use Rattle.std.specs.Prelude.{◌≡◌, Some};
+ghost use Rattle.instruction_set.specs.Letter.{index_of, byte_of, name_of, letter_at, letter_of_byte, letter_named};
+
+use crate::letter::Letter;
+
+/// Each letter is found by its index, by its byte and by its name.
+pub fn found_again(letter: Letter)
+    ensures by_index { letter_at (index_of letter) ≡ Some letter }
+    ensures by_byte { letter_of_byte (byte_of letter) ≡ Some letter }
+    ensures by_name { letter_named (name_of letter) ≡ Some letter }
+{
+    let _letter = letter;
+}
