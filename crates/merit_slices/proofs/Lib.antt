@@ -1,0 +1,2 @@
+pub mod MeritLemmas
+pub mod SliceLemmas

@@ -1,0 +1,37 @@
+-- Quotients that rise, and their differences.
+use Rattle.std.proofs.Common.{◌≡◌, ◌∙◌, sym, ap, ℕ, ◌+◌, ◌-◌, ◌*◌, ◌/◌, ◌<◌, ◌≤◌, ◌^◌, ◌==◌, Bool, true, false, List, [], ◌∷◌, ◌++◌, length, take, sum, map, replicate, get_or, arith, refl, cond, inl, inr}
+use Rattle.std.proofs.Math.Nat.{div-mul-le_self, mul-le-mul_left, mul-le-mul, div-le_of_le-mul}
+use Rattle.std.proofs.lemmas.Bool.{cases_lt}
+use Rattle.std.proofs.Math.ListN.{get_or-eq_default}
+use Rattle.std.proofs.lemmas.Nat.{le-div}
+use Rattle.std.proofs.lemmas.List.{get_or-replicate, length-replicate}
+use Rattle.std.proofs.lemmas.List.FromFn.{get_or-map-range_with_len, length-map-range_with_len}
+use Rattle.std.proofs.lemmas.List.Sums.{sum_by-take-le, count_by-le-length}
+use Rattle.std.specs.List.{range_with_len}
+use Rattle.merit_slices.specs.Slices.{quota, steps_before, share_of, shares_of, steps_in, slices_of, living_in}
+
+-- a larger part of the merits gets no less
+pub quota-le-quota : (steps part more all : ℕ) → 0 < all → part ≤ more → quota steps part all ≤ quota steps more all
+quota-le-quota steps part more all some h = le-div (quota steps part all) (steps * more) all some (omega (arith, div-mul-le_self (steps * part) all, mul-le-mul_left steps h))
+
+-- and no part gets more than all
+pub quota-le : (steps part all : ℕ) → part ≤ all → quota steps part all ≤ steps
+quota-le steps part all h = div-le_of_le-mul all (omega (arith, mul-le-mul_left steps h))
+
+-- no share is above all steps
+pub share_of-le : (merits : List ℕ) (steps cell : ℕ) → share_of merits steps cell ≤ steps
+share_of-le merits steps cell = omega (arith, quota-le steps (sum (take (cell + 1) merits)) (sum merits) (sum_by-take-le (λ x. x) merits (cell + 1)))
+
+-- no place of the shares has more than all steps
+pub shares_of-few : (merits : List ℕ) (steps : ℕ) → (cell : ℕ) → get_or (shares_of merits steps) cell 0 ≤ steps
+shares_of-few merits steps cell =
+    elim (cases_lt cell (length merits)) [
+      | inl within ↦ omega (arith, get_or-map-range_with_len (share_of merits steps) 0 (length merits) cell cell 0 within (omega arith), share_of-le merits steps cell)
+      | inr past ↦
+          let beyond : length (shares_of merits steps) ≤ cell = omega (arith, length-map-range_with_len (share_of merits steps) 0 (length merits)) in
+          omega (arith, get_or-eq_default (shares_of merits steps) 0 beyond)
+    ]
+
+-- all steps are few
+pub steps-few : (average living : ℕ) → average ≤ 1000 → living ≤ 65536 → average * living < 2 ^ 27
+steps-few average living few cells = omega (arith, mul-le-mul few cells)

@@ -1,0 +1,8 @@
+//! The merit of an organism, and the time that it buys.
+#![tactic(auto)]
+
+mod merits;
+mod slices;
+
+pub use merits::{GREATEST_MERIT, merit};
+pub use slices::{GREATEST_AVERAGE, GREATEST_WORLD, share};

@@ -1,0 +1,98 @@
+// The merit of a divide.
+ghost use Rattle.std.specs.Prelude.{◌≡◌, ◌≤◌};
+ghost use Rattle.merit_slices.specs.Merit.{exponent_of, exponent_in, exponent_sum, merit_of};
+
+use logic_tasks::{TASKS, Task, Tasks};
+
+/// The length of the longest genome.
+pub const GREATEST_LENGTH: u32 = 8192;
+
+/// The merit of the longest genome with every task.
+pub const GREATEST_MERIT: u64 = 1 << 38;
+
+/// The least of the three numbers, doubled as often as the tasks say.
+pub fn merit(length: u32, executed: u32, copied: u32, tasks: Tasks) -> u64
+    requires length { length ≤ GREATEST_LENGTH }
+    requires executed { executed ≤ GREATEST_LENGTH }
+    requires copied { copied ≤ GREATEST_LENGTH }
+    ensures merit { result ≡ merit_of length executed copied tasks }
+    ensures bounded { result ≤ GREATEST_MERIT }
+    ensures positive { 1 ≤ length → 1 ≤ executed → 1 ≤ copied → 1 ≤ result }
+{
+    let least = length.min(executed).min(copied);
+    u64::from(least) * (1 << doublings(tasks))
+}
+
+/// How often the tasks of a set double a merit.
+fn doublings(tasks: Tasks) -> u32
+    ensures sum { result ≡ exponent_sum tasks }
+    ensures bounded { result ≤ 25 }
+{
+    let mut sum = 0;
+    for task in TASKS {
+        sum += exponent_in(tasks, task);
+    }
+    sum
+}
+
+fn exponent_in(tasks: Tasks, task: Task) -> u32
+    ensures value { result ≡ exponent_in tasks task }
+    ensures small { result ≤ 5 }
+{
+    if tasks.has(task) { exponent(task) } else { 0 }
+}
+
+fn exponent(task: Task) -> u32
+    ensures value { result ≡ exponent_of task }
+    ensures small { result ≤ 5 }
+{
+    match task {
+        Task::Not | Task::Nand => 1,
+        Task::And | Task::Orn => 2,
+        Task::Or | Task::Andn => 3,
+        Task::Nor | Task::Xor => 4,
+        Task::Equ => 5,
+    }
+}
+
+#[cfg(test)]
+mod tests {
+    use super::*;
+
+    #[test]
+    fn the_least_number_is_doubled_by_each_task(rt: HostRuntime) {
+        let none = Tasks::none();
+        let mut all = none;
+        for task in TASKS {
+            all = all.with(task);
+        }
+        let cases = [
+            (100, 97, 100, none, 97),
+            (97, 100, 100, none, 97),
+            (100, 100, 97, none, 97),
+            (100, 97, 100, none.with(Task::Not), 194),
+            (100, 97, 100, none.with(Task::Nand).with(Task::Not), 388),
+            (100, 97, 100, none.with(Task::And), 388),
+            (100, 97, 100, none.with(Task::Orn), 388),
+            (100, 97, 100, none.with(Task::Or), 776),
+            (100, 97, 100, none.with(Task::Andn), 776),
+            (100, 97, 100, none.with(Task::Nor), 1552),
+            (100, 97, 100, none.with(Task::Xor), 1552),
+            (100, 97, 100, none.with(Task::Equ), 3104),
+            (8, 8, 0, all, 0),
+            (8192, 8192, 8192, all, 274877906944),
+        ];
+        for (length, executed, copied, tasks, expected) in cases {
+            if length <= GREATEST_LENGTH
+                && executed <= GREATEST_LENGTH
+                && copied <= GREATEST_LENGTH
+            {
+                assert_eq!(rt;
+                    merit(length, executed, copied, tasks),
+                    expected,
+                    "at {tasks:?}"
+                );
+            }
+        }
+    }
+}

@@ -1,0 +1,85 @@
+// How the time of an update is shared.
+ghost use Rattle.std.specs.Prelude.{◌≡◌, ◌+◌, ◌<◌, ◌≤◌, ◌^◌, ℕ, sum, length, slice_index_or};
+ghost use Rattle.merit_slices.specs.Slices.{living_in, quota, shares_of, slices_of};
+
+/// The greatest average of slices.
+pub const GREATEST_AVERAGE: u32 = 1000;
+
+/// The number of cells of the greatest world.
+pub const GREATEST_WORLD: usize = 65536;
+
+#[tactic(auto, unfolding(crate::specs::Slices::slices_of))]
+/// Each cell gets the difference of two quotients, so that all cells together get all steps.
+pub fn share(merits: &[u64], average: u32, out: &mut [u64])
+    requires same_length { length out.old ≡ length merits.now }
+    requires cells { length merits.now ≤ GREATEST_WORLD }
+    requires sum { sum merits.now < 2 ^ 55 }
+    requires average { average ≤ GREATEST_AVERAGE }
+    ensures slices { out.new ≡ slices_of merits.now average }
+    ensures few { (cell : ℕ) → slice_index_or out.new cell 0 < 2 ^ 27 }
+{
+    let all: u64 = merits.iter().sum();
+    if all == 0 {
+        out.fill(0);
+        return;
+    }
+    let steps = u64::from(average) * living(merits) as u64;
+    deal(merits, steps, all, out);
+}
+
+/// How many organisms live: those with a merit.
+fn living(merits: &[u64]) -> usize
+    ensures value { result ≡ living_in merits.now }
+    ensures few { result ≤ length merits.now }
+{
+    merits.iter().filter(|merit| **merit > 0).count()
+}
+
+/// Deals the steps out where there are merits.
+fn deal(merits: &[u64], steps: u64, all: u64, out: &mut [u64])
+    requires same_length { length out.old ≡ length merits.now }
+    requires all { all ≡ sum merits.now }
+    requires some { 0 < all }
+    ensures { out.new ≡ shares_of merits.now steps }
+{
+    let mut before = 0;
+    let mut given = 0;
+    for (cell, merit) in merits.iter().enumerate() {
+        before += *merit;
+        let due = quotient(steps, before, all);
+        out[cell] = due - given;
+        given = due;
+    }
+}
+
+/// The part of the steps that falls to a part of the merits, rounded down.
+fn quotient(steps: u64, part: u64, all: u64) -> u64
+    requires some { 0 < all }
+    requires part { part ≤ all }
+    ensures value { result ≡ quota steps part all }
+    ensures bounded { result ≤ steps }
+{
+    (u128::from(steps) * u128::from(part) / u128::from(all)) as u64
+}
+
+#[cfg(test)]
+mod tests {
+    use super::*;
+
+    #[test]
+    fn slices_are_differences_of_quotients(rt: HostRuntime) {
+        let mut three = [0; 3];
+        share(&[97, 97, 194], 30, &mut three);
+        assert_eq!(rt; three, [22, 23, 45]);
+        let mut one = [0; 1];
+        share(&[97], 30, &mut one);
+        assert_eq!(rt; one, [30]);
+        let mut two = [7; 2];
+        share(&[0, 97], 30, &mut two);
+        assert_eq!(rt; two, [0, 30]);
+        share(&[0, 0], 30, &mut two);
+        assert_eq!(rt; two, [0, 0]);
+        share(&[1 << 54, 1 << 53], 1000, &mut two);
+        assert_eq!(rt; two, [1333, 667]);
+    }
+}
