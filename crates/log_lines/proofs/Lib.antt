@@ -1,0 +1,5 @@
+pub mod TextLemmas
+pub mod KeptLemmas
+pub mod LetterLemmas
+pub mod FieldLaws
+pub mod LineLaws

@@ -1,0 +1,72 @@
+-- Fields of a line: each is a text of a value, and the reading of that text (docs/FORMATS.md, "The log").
+use Rattle.std.specs.Prelude.{◌≡◌, ℕ, ◌≤◌, List, [], ◌∷◌, map, length, Option, Some, None, Bool, true, false, not, nat_le, ◌==◌, ◌&&◌, if◌then◌else◌, option_and_then, option_map, decimal}
+use Rattle.std.specs.Str.{bytes_eq, all_ascii_digits}
+use Rattle.std.specs.Str.Parse.{digits_value}
+use Rattle.std.specs.List.{slice_split, join_with_byte, AllByRecursion}
+use Rattle.instruction_set.specs.declared.letter.Letter.{Letter}
+use Rattle.instruction_set.specs.Letter.{byte_of, letter_of_byte}
+use Rattle.mutations.specs.Change.{is_genome_length}
+
+-- the text of a value, what is read from a text, and which values have a text
+pub record Field (A : Type 0) : Type 1 where
+  pub text : A → List ℕ
+  pub read : List ℕ → Option A
+  pub Fits : A → Type 0
+
+-- the value where the test holds
+abbrev pub given : {A : Type 0} → Bool → A → Option A
+given test value = if test then Some value else None
+
+-- digits without a leading zero, or the one digit 0
+abbrev pub is_numeral : List ℕ → Bool
+is_numeral [] = false
+is_numeral (d ∷ []) = all_ascii_digits (d ∷ [])
+is_numeral (d ∷ e ∷ ds) = not (d == 48) && all_ascii_digits (d ∷ e ∷ ds)
+
+-- the number that a numeral writes, where it is from least to most
+unfoldable pub number_of : ℕ → ℕ → List ℕ → Option ℕ
+number_of least most word = given (is_numeral word && nat_le (digits_value 10 word) most && nat_le least (digits_value 10 word)) (digits_value 10 word)
+
+-- a number from least to most, in decimal digits
+abbrev pub number : ℕ → ℕ → Field ℕ
+number least most = record { text = λ n. decimal n; read = λ word. number_of least most word; Fits = λ n. (least ≤ n) × (n ≤ most) }
+
+-- each value read, or none
+abbrev pub each : {X A : Type 0} → (X → Option A) → List X → Option (List A)
+each read [] = Some []
+each read (x ∷ xs) = option_and_then (λ a. option_map (λ others. a ∷ others) (each read xs)) (read x)
+
+-- the genome that a word spells, a byte a letter
+unfoldable pub genome_of : List ℕ → Option (List Letter)
+genome_of word = option_and_then (λ ls. given (is_genome_length (length ls)) ls) (each letter_of_byte word)
+
+-- the letters of a genome
+abbrev pub letters : Field (List Letter)
+letters = record { text = map byte_of; read = λ word. genome_of word; Fits = λ ls. is_genome_length (length ls) ≡ true }
+
+-- a sign for none, or the text of a value
+abbrev pub text_or : {A : Type 0} → ℕ → Field A → Option A → List ℕ
+text_or sign f None = sign ∷ []
+text_or sign f (Some a) = f.text a
+
+-- none, or a value that has a text
+abbrev pub FitsOr : {A : Type 0} → Field A → Option A → Type 0
+FitsOr f None = Unit {0}
+FitsOr f (Some a) = f.Fits a
+
+-- a sign for none, or a field
+abbrev pub or_sign : {A : Type 0} → ℕ → Field A → Field (Option A)
+or_sign sign f = record { text = text_or sign f; read = λ word. if bytes_eq word (sign ∷ []) then Some None else option_map Some (f.read word); Fits = FitsOr f }
+
+-- a dash for an empty list, or texts parted by commas
+abbrev pub list_text : {A : Type 0} → Field A → List A → List ℕ
+list_text f [] = 45 ∷ []
+list_text f (a ∷ items) = join_with_byte 44 (map f.text (a ∷ items))
+
+-- a dash for an empty list, or items parted by commas
+abbrev pub list_of : {A : Type 0} → Field A → Field (List A)
+list_of f = record { text = list_text f; read = λ word. if bytes_eq word (45 ∷ []) then Some [] else each f.read (slice_split (λ b. b == 44) word); Fits = AllByRecursion f.Fits }
+
+-- the values of a field that pass a test
+abbrev pub where_true : {A : Type 0} → (A → Bool) → Field A → Field A
+where_true test f = record { text = f.text; read = λ word. option_and_then (λ a. given (test a) a) (f.read word); Fits = λ a. f.Fits a × (test a ≡ true) }

@@ -1,0 +1,95 @@
+-- The kinds of fields in a log (docs/FORMATS.md, "The log").
+use Rattle.std.specs.Prelude.{ℕ, ◌-◌, List, [], ◌∷◌, ◌++◌, length, take, codes, find, Option, None, Bool, true, false, nat_lt, ◌==◌, ◌&&◌, if◌then◌else◌, option_and_then, option_map, decimal, slice_index}
+use Rattle.std.specs.Str.{bytes_eq}
+use Rattle.instruction_set.specs.declared.letter.Letter.{Letter}
+use Rattle.instruction_set.specs.Letter.{byte_of, letter_of_byte}
+use Rattle.mutations.specs.declared.change.Change.{Change}
+use Rattle.mutations.specs.declared.change.Change.TheVariants.{Point, Insert, Delete}
+use Rattle.mutations.specs.declared.rate_name.RateName.{RateName}
+use Rattle.mutations.specs.declared.rate_name.RateName.TheVariants as rate
+use Rattle.log_lines.specs.Fields.{Field, number, number_of, letters, or_sign, list_of, where_true}
+
+-- a number below 2 ^ 32
+abbrev pub small : Field ℕ
+small = number 0 4294967295
+
+-- a number below 2 ^ 64
+abbrev pub large : Field ℕ
+large = number 0 18446744073709551615
+
+-- the key of a rate
+abbrev pub rate_key : RateName → List ℕ
+rate_key rate.Copy = codes "copy_error"
+rate_key rate.Insert = codes "divide_insert"
+rate_key rate.Delete = codes "divide_delete"
+rate_key rate.SitePoint = codes "site_point"
+rate_key rate.SiteInsert = codes "site_insert"
+rate_key rate.SiteDelete = codes "site_delete"
+
+-- the six rates
+abbrev pub rate_names : List RateName
+rate_names = rate.Copy ∷ rate.Insert ∷ rate.Delete ∷ rate.SitePoint ∷ rate.SiteInsert ∷ rate.SiteDelete ∷ []
+
+-- the rate that has this key
+unfoldable pub rate_named : List ℕ → Option RateName
+rate_named word = find (λ name. bytes_eq (rate_key name) word) rate_names
+
+-- a rate by its key
+abbrev pub rate_name : Field RateName
+rate_name = record { text = rate_key; read = λ word. rate_named word; Fits = λ name. Unit {0} }
+
+-- one change: `p`, `i` or `d`, its place, and a letter but for `d`
+abbrev pub change_text : Change → List ℕ
+change_text (Point at letter) = 112 ∷ (decimal at ++ byte_of letter ∷ [])
+change_text (Insert at letter) = 105 ∷ (decimal at ++ byte_of letter ∷ [])
+change_text (Delete at) = 100 ∷ decimal at
+
+-- a place, and a letter at the end
+abbrev pub read_lettered : (ℕ → Letter → Change) → List ℕ → Option Change
+read_lettered make rest = option_and_then (λ at. option_map (λ letter. make at letter) (letter_of_byte (slice_index rest (length rest - 1)))) (number_of 0 4294967295 (take (length rest - 1) rest))
+
+-- the change that a word writes
+abbrev pub read_change : List ℕ → Option Change
+read_change [] = None
+read_change (mark ∷ rest) =
+    if mark == 112 then read_lettered Point rest
+    else if mark == 105 then read_lettered Insert rest
+    else if mark == 100 then option_map Delete (number_of 0 4294967295 rest)
+    else None
+
+-- the place of a change is below 2 ^ 32
+abbrev pub FitsChange : Change → Type 0
+FitsChange (Point at letter) = small.Fits at
+FitsChange (Insert at letter) = small.Fits at
+FitsChange (Delete at) = small.Fits at
+
+-- one change of a birth's record
+abbrev pub change : Field Change
+change = record { text = change_text; read = read_change; Fits = FitsChange }
+
+-- points with rising places come first, then insertions, then deletions
+abbrev pub may_follow : Change → Change → Bool
+may_follow (Point at letter) (Point next _) = nat_lt at next
+may_follow (Point at letter) _ = true
+may_follow (Insert at letter) (Point next _) = false
+may_follow (Insert at letter) _ = true
+may_follow (Delete at) (Delete next) = true
+may_follow (Delete at) _ = false
+
+-- each change may follow the one before it
+abbrev pub in_order : List Change → Bool
+in_order [] = true
+in_order (a ∷ []) = true
+in_order (a ∷ b ∷ changes) = may_follow a b && in_order (b ∷ changes)
+
+-- who stood in a cell
+abbrev pub over_field : Field (Option ℕ)
+over_field = or_sign 45 large
+
+-- `=` for the parent's letters, or written ones
+abbrev pub base_field : Field (Option (List Letter))
+base_field = or_sign 61 letters
+
+-- the changes of a birth, in their order
+abbrev pub changes_field : Field (List Change)
+changes_field = where_true in_order (list_of change)

@@ -1,0 +1,9 @@
+pub use Rattle.genome.specs.Genome
+pub use Rattle.mutations.specs.BirthRecord
+pub mod Fields
+pub mod Rows
+pub mod Line
+pub mod Kinds
+pub mod LineText
+pub mod LineReading
+pub mod Kept

@@ -1,0 +1,462 @@
+// Writes the lines of a log, each into the bytes that it is given.
+ghost use Rattle.std.specs.Prelude.{ℕ, ◌≡◌, ◌++◌, ◌∷◌, [], List, Option, map, decimal, OnOk, OnErr};
+ghost use Rattle.genome.specs.Genome as genome_spec;
+ghost use Rattle.mutations.specs.BirthRecord.{record_of, written_in};
+ghost use Rattle.log_lines.specs.Fields.{letters, list_text};
+ghost use Rattle.log_lines.specs.Kinds.{base_field, change, change_text, changes_field, over_field, rate_key};
+ghost use Rattle.log_lines.specs.LineText.{HasForm, words_text, born, birth_row, count_row, counted, death_row, end_row, form_text, injected_row, line_text, rate_row, row_text, start_row};
+ghost use Rattle.log_lines.specs.Line.{values_of};
+ghost use Rattle.log_lines.specs.Kept.{Keeps};
+
+use crate::log_line::LogLine;
+use crate::stats::Stats;
+use avida_port::Memory;
+use genome::{Genome, letters_text};
+use itoa::write_digits;
+use mutations::{Base, Change, Changes, Origin, RateName};
+
+/// Room for a byte and the digits of any number.
+const DIGITS: usize = 21;
+
+/// A byte.
+fn byte(out: &mut Vec<u8>, value: u8) -> Result<(), Memory>
+    ensures ok { OnOk result (out.new.items ≡ out.old.items ++ value ∷ []) }
+    ensures err { OnErr result (out.new.items ≡ out.old.items) }
+{
+    match out.push(value) {
+        Ok(()) => Ok(()),
+        Err(_) => Err(Memory),
+    }
+}
+
+/// Bytes.
+fn text(out: &mut Vec<u8>, bytes: &[u8]) -> Result<(), Memory>
+    ensures ok { OnOk result (out.new.items ≡ out.old.items ++ bytes.now) }
+    ensures err { OnErr result (out.new.items ≡ out.old.items) }
+{
+    match out.extend_from_slice(bytes) {
+        Ok(()) => Ok(()),
+        Err(_) => Err(Memory),
+    }
+}
+
+/// A byte, and a number behind it.
+fn number(out: &mut Vec<u8>, before: u8, value: u64) -> Result<(), Memory>
+    ensures ok { OnOk result (out.new.items ≡ out.old.items ++ before ∷ decimal value) }
+    ensures err { OnErr result (out.new.items ≡ out.old.items) }
+{
+    let mut room = [0u8; DIGITS];
+    let start = write_digits(value, &mut room, DIGITS) - 1;
+    room[start] = before;
+    text(out, &room[start..])
+}
+
+/// A space, and the letters of a genome.
+fn letters(out: &mut Vec<u8>, genome: &Genome) -> Result<(), Memory>
+    ensures ok { OnOk result (out.new.items ≡ out.old.items ++ 32 ∷ letters.text (genome_spec.letters genome.now)) }
+    ensures err { OnErr result (Keeps out.old.items out.new.items) }
+{
+    byte(out, b' ')?;
+    letters_text(genome, out)
+}
+
+fn over(out: &mut Vec<u8>, over: Option<u64>) -> Result<(), Memory>
+    ensures ok { OnOk result (out.new.items ≡ out.old.items ++ 32 ∷ over_field.text over) }
+    ensures err { OnErr result (out.new.items ≡ out.old.items) }
+{
+    match over {
+        Some(id) => number(out, b' ', id),
+        None => text(out, b" -"),
+    }
+}
+
+fn base(out: &mut Vec<u8>, base: &Base) -> Result<(), Memory>
+    ensures ok { OnOk result (out.new.items ≡ out.old.items ++ 32 ∷ base_field.text (written_in base.now)) }
+    ensures err { OnErr result (Keeps out.old.items out.new.items) }
+{
+    match base {
+        Base::Parent => text(out, b" ="),
+        Base::Written(genome) => letters(out, genome),
+    }
+}
+
+#[tactic(auto, using(crate::proofs::KeptLemmas::keeps_front))]
+fn change(out: &mut Vec<u8>, before: u8, change: Change) -> Result<(), Memory>
+    ensures ok { OnOk result (out.new.items ≡ out.old.items ++ before ∷ change_text change) }
+    ensures err { OnErr result (Keeps out.old.items out.new.items) }
+{
+    byte(out, before)?;
+    match change {
+        Change::Point { at, letter } => {
+            number(out, b'p', u64::from(at))?;
+            byte(out, letter.byte())
+        }
+        Change::Insert { at, letter } => {
+            number(out, b'i', u64::from(at))?;
+            byte(out, letter.byte())
+        }
+        Change::Delete { at } => number(out, b'd', u64::from(at)),
+    }
+}
+
+#[tactic(auto, using(crate::proofs::KeptLemmas::keeps_front))]
+/// The items, behind a space and then behind commas.
+fn changes(out: &mut Vec<u8>, changes: &Changes) -> Result<(), Memory>
+    ensures ok { OnOk result (out.new.items ≡ out.old.items ++ 32 ∷ list_text change changes.now) }
+    ensures err { OnErr result (Keeps out.old.items out.new.items) }
+{
+    if changes.len() == 0 {
+        return text(out, b" -");
+    }
+    for at in 0..changes.len() {
+        if let Some(next) = changes.get(at) {
+            let before = if at == 0 { b' ' } else { b',' };
+            change(out, before, *next)?;
+        }
+    }
+    Ok(())
+}
+
+/// The nine counts.
+#[tactic(auto, using(crate::proofs::KeptLemmas::keeps_front))]
+fn tasks(out: &mut Vec<u8>, tasks: &[u64; 9]) -> Result<(), Memory>
+    ensures ok { OnOk result (out.new.items ≡ out.old.items ++ words_text (map (λ n. decimal n) tasks.now)) }
+    ensures err { OnErr result (Keeps out.old.items out.new.items) }
+{
+    for count in tasks {
+        number(out, b' ', *count)?;
+    }
+    Ok(())
+}
+
+fn rate_key(name: RateName) -> &'static [u8]
+    ensures { result.now ≡ rate_key name }
+{
+    match name {
+        RateName::Copy => b"copy_error",
+        RateName::Insert => b"divide_insert",
+        RateName::Delete => b"divide_delete",
+        RateName::SitePoint => b"site_point",
+        RateName::SiteInsert => b"site_insert",
+        RateName::SiteDelete => b"site_delete",
+    }
+}
+
+/// The update and the cell.
+fn placed(out: &mut Vec<u8>, update: u32, cell: u32) -> Result<(), Memory>
+    ensures ok { OnOk result (out.new.items ≡ out.old.items ++ words_text (decimal update ∷ decimal cell ∷ [])) }
+    ensures err { OnErr result (Keeps out.old.items out.new.items) }
+{
+    number(out, b' ', u64::from(update))?;
+    number(out, b' ', u64::from(cell))
+}
+
+/// The base and the changes.
+#[tactic(auto, using(crate::proofs::KeptLemmas::keeps_front))]
+fn record(out: &mut Vec<u8>, origin: &Origin) -> Result<(), Memory>
+    ensures ok { OnOk result (out.new.items ≡ out.old.items
+        ++ words_text (base_field.text (written_in origin.now.base) ∷ changes_field.text origin.now.changes ∷ [])) }
+    ensures err { OnErr result (Keeps out.old.items out.new.items) }
+{
+    base(out, &origin.base)?;
+    changes(out, &origin.changes)
+}
+
+/// How many live, were born and died.
+fn turnover(out: &mut Vec<u8>, living: u64, births: u64, deaths: u64) -> Result<(), Memory>
+    ensures ok { OnOk result (out.new.items ≡ out.old.items ++ words_text (decimal living ∷ decimal births ∷ decimal deaths ∷ [])) }
+    ensures err { OnErr result (Keeps out.old.items out.new.items) }
+{
+    number(out, b' ', living)?;
+    number(out, b' ', births)?;
+    number(out, b' ', deaths)
+}
+
+#[tactic(auto, using(crate::proofs::KeptLemmas::keeps_front))]
+fn start(
+    out: &mut Vec<u8>,
+    version: u32,
+    width: u32,
+    height: u32,
+    cell: u32,
+    genome: &Genome,
+) -> Result<(), Memory>
+    ensures ok { OnOk result (out.new.items ≡ out.old.items
+        ++ form_text 76 start_row (version, (width, (height, (cell, genome_spec.letters genome.now))))) }
+    ensures err { OnErr result (Keeps out.old.items out.new.items) }
+{
+    byte(out, b'L')?;
+    number(out, b' ', u64::from(version))?;
+    number(out, b' ', u64::from(width))?;
+    number(out, b' ', u64::from(height))?;
+    number(out, b' ', u64::from(cell))?;
+    letters(out, genome)
+}
+
+/// The mark, and a death's row.
+#[tactic(auto, using(crate::proofs::KeptLemmas::keeps_front))]
+fn death(out: &mut Vec<u8>, mark: u8, id: u64, update: u32, cell: u32) -> Result<(), Memory>
+    ensures ok { OnOk result (out.new.items ≡ out.old.items ++ form_text mark death_row (id, (update, cell))) }
+    ensures err { OnErr result (Keeps out.old.items out.new.items) }
+{
+    byte(out, mark)?;
+    number(out, b' ', id)?;
+    placed(out, update, cell)
+}
+
+#[tactic(auto, using(crate::proofs::KeptLemmas::keeps_front))]
+fn birth(
+    out: &mut Vec<u8>,
+    id: u64,
+    parent: u64,
+    update: u32,
+    cell: u32,
+    who: Option<u64>,
+    origin: &Origin,
+) -> Result<(), Memory>
+    ensures ok { OnOk result (out.new.items ≡ out.old.items ++ form_text 66 birth_row
+        (born id parent update cell who (record_of origin.now))) }
+    ensures err { OnErr result (Keeps out.old.items out.new.items) }
+{
+    byte(out, b'B')?;
+    number(out, b' ', id)?;
+    number(out, b' ', parent)?;
+    placed(out, update, cell)?;
+    over(out, who)?;
+    record(out, origin)
+}
+
+#[tactic(auto, using(crate::proofs::KeptLemmas::keeps_front))]
+fn injected(
+    out: &mut Vec<u8>,
+    id: u64,
+    update: u32,
+    cell: u32,
+    who: Option<u64>,
+    genome: &Genome,
+) -> Result<(), Memory>
+    ensures ok { OnOk result (out.new.items ≡ out.old.items
+        ++ form_text 73 injected_row (id, (update, (cell, (who, genome_spec.letters genome.now))))) }
+    ensures err { OnErr result (Keeps out.old.items out.new.items) }
+{
+    byte(out, b'I')?;
+    number(out, b' ', id)?;
+    placed(out, update, cell)?;
+    over(out, who)?;
+    letters(out, genome)
+}
+
+fn rate(out: &mut Vec<u8>, update: u32, name: RateName, ppm: u32) -> Result<(), Memory>
+    ensures ok { OnOk result (out.new.items ≡ out.old.items ++ form_text 82 rate_row (update, (name, ppm))) }
+    ensures err { OnErr result (Keeps out.old.items out.new.items) }
+{
+    byte(out, b'R')?;
+    number(out, b' ', u64::from(update))?;
+    byte(out, b' ')?;
+    text(out, rate_key(name))?;
+    number(out, b' ', u64::from(ppm))
+}
+
+#[tactic(auto, using(crate::proofs::KeptLemmas::keeps_front))]
+fn count(out: &mut Vec<u8>, stats: &Stats) -> Result<(), Memory>
+    ensures ok { OnOk result (out.new.items ≡ out.old.items ++ form_text 85 count_row (counted stats.now)) }
+    ensures err { OnErr result (Keeps out.old.items out.new.items) }
+{
+    byte(out, b'U')?;
+    number(out, b' ', u64::from(stats.update))?;
+    turnover(out, stats.living, stats.births, stats.deaths)?;
+    number(out, b' ', stats.genotypes)?;
+    number(out, b' ', stats.merit)?;
+    tasks(out, &stats.tasks)
+}
+
+fn end(out: &mut Vec<u8>, updates: u32) -> Result<(), Memory>
+    ensures ok { OnOk result (out.new.items ≡ out.old.items ++ form_text 69 end_row updates) }
+    ensures err { OnErr result (Keeps out.old.items out.new.items) }
+{
+    byte(out, b'E')?;
+    number(out, b' ', u64::from(updates))
+}
+
+/// The line without its newline.
+fn row(line: &LogLine, out: &mut Vec<u8>) -> Result<(), Memory>
+    ensures ok { OnOk result (out.new.items ≡ out.old.items ++ row_text (values_of line.now)) }
+    ensures err { OnErr result (Keeps out.old.items out.new.items) }
+{
+    match line {
+        LogLine::Start {
+            version,
+            width,
+            height,
+            cell,
+            genome,
+        } => start(out, *version, *width, *height, *cell, genome),
+        LogLine::Death { id, update, cell } => death(out, b'D', *id, *update, *cell),
+        LogLine::Birth {
+            id,
+            parent,
+            update,
+            cell,
+            over,
+            origin,
+        } => birth(out, *id, *parent, *update, *cell, *over, origin),
+        LogLine::Injected {
+            id,
+            update,
+            cell,
+            over,
+            genome,
+        } => injected(out, *id, *update, *cell, *over, genome),
+        LogLine::Cleared { id, update, cell } => death(out, b'X', *id, *update, *cell),
+        LogLine::Rate { update, name, ppm } => rate(out, *update, *name, *ppm),
+        LogLine::Count(stats) => count(out, stats),
+        LogLine::End { updates } => end(out, *updates),
+    }
+}
+
+#[tactic(auto, using(crate::proofs::KeptLemmas::keeps_front))]
+fn row_and_newline(line: &LogLine, out: &mut Vec<u8>) -> Result<(), Memory>
+    ensures ok { OnOk result (out.new.items ≡ out.old.items ++ line_text (values_of line.now)) }
+    ensures err { OnErr result (Keeps out.old.items out.new.items) }
+{
+    row(line, out)?;
+    byte(out, b'\n')
+}
+
+/// Appends the text of a line, with its newline.
+pub fn write_line(line: &LogLine, out: &mut Vec<u8>) -> Result<(), Memory>
+    requires { HasForm (values_of line.now) }
+    ensures ok { OnOk result (out.new.items ≡ out.old.items ++ line_text (values_of line.now)) }
+    ensures err { OnErr result (out.new.items ≡ out.old.items) }
+{
+    let start = out.len();
+    match row_and_newline(line, out) {
+        Ok(()) => Ok(()),
+        Err(stop) => {
+            out.truncate(start);
+            Err(stop)
+        }
+    }
+}
+
+#[cfg(test)]
+mod tests {
+    use super::*;
+    use genome::read_letters;
+    use instruction_set::Letter;
+    use std::alloc::Global;
+    use std::process::Abort;
+    use std::test::Fail;
+
+    fn check(rt: &impl Abort, alloc: Global, line: &LogLine, text: &str) -> Result<(), Fail>
+        requires { HasForm (values_of line.now) }
+    {
+        let mut out = Vec::new(alloc);
+        write_line(line, &mut out)?;
+        assert_eq!(rt; out.as_slice(), text.as_bytes(), "{text}");
+        Ok(())
+    }
+
+    #[test]
+    fn each_form_without_a_genome_has_its_text(rt: HostRuntime) -> Result<(), Fail> {
+        let alloc = rt.alloc();
+        let death = LogLine::Death {
+            id: 0,
+            update: 4,
+            cell: 0,
+        };
+        check(&rt, alloc, &death, "D 0 4 0\n")?;
+        let cleared = LogLine::Cleared {
+            id: 18_446_744_073_709_551_615,
+            update: 1,
+            cell: 4_294_967_295,
+        };
+        check(
+            &rt,
+            alloc,
+            &cleared,
+            "X 18446744073709551615 1 4294967295\n",
+        )?;
+        let rate = LogLine::Rate {
+            update: 1,
+            name: RateName::Copy,
+            ppm: 5,
+        };
+        check(&rt, alloc, &rate, "R 1 copy_error 5\n")?;
+        let count = LogLine::Count(Stats {
+            update: 13,
+            living: 1,
+            births: 2,
+            deaths: 3,
+            genotypes: 4,
+            merit: 97,
+            tasks: [0, 1, 2, 3, 4, 5, 6, 7, 8],
+        });
+        check(&rt, alloc, &count, "U 13 1 2 3 4 97 0 1 2 3 4 5 6 7 8\n")?;
+        check(&rt, alloc, &LogLine::End { updates: 13 }, "E 13\n")
+    }
+
+    #[test]
+    fn each_form_with_a_genome_has_its_text(rt: HostRuntime) -> Result<(), Fail> {
+        let alloc = rt.alloc();
+        let start = LogLine::Start {
+            version: 2,
+            width: 2,
+            height: 1,
+            cell: 0,
+            genome: read_letters(alloc, b"aaaaaaaa")?,
+        };
+        check(&rt, alloc, &start, "L 2 2 1 0 aaaaaaaa\n")?;
+        let injected = LogLine::Injected {
+            id: 1,
+            update: 1,
+            cell: 0,
+            over: Some(0),
+            genome: read_letters(alloc, b"abcxyzzz")?,
+        };
+        check(&rt, alloc, &injected, "I 1 1 0 0 abcxyzzz\n")
+    }
+
+    #[test]
+    fn a_birth_has_its_text(rt: HostRuntime) -> Result<(), Fail> {
+        let alloc = rt.alloc();
+        let plain = LogLine::Birth {
+            id: 1,
+            parent: 0,
+            update: 13,
+            cell: 0,
+            over: Some(0),
+            origin: Origin {
+                base: Base::Parent,
+                changes: Changes::from_vec(Vec::new(alloc)),
+            },
+        };
+        check(&rt, alloc, &plain, "B 1 0 13 0 0 = -\n")?;
+        let changes = Vec::from_slice(
+            alloc,
+            &[
+                Change::Point {
+                    at: 3,
+                    letter: Letter::NopB,
+                },
+                Change::Insert {
+                    at: 0,
+                    letter: Letter::NopC,
+                },
+                Change::Delete { at: 8 },
+            ],
+        )?;
+        let written = LogLine::Birth {
+            id: 2,
+            parent: 0,
+            update: 1,
+            cell: 1,
+            over: None,
+            origin: Origin {
+                base: Base::Written(read_letters(alloc, b"aaaaaaaa")?),
+                changes: Changes::from_vec(changes),
+            },
+        };
+        check(&rt, alloc, &written, "B 2 0 1 1 - aaaaaaaa p3b,i0c,d8\n")
+    }
+}
