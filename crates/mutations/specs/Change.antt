@@ -29,6 +29,6 @@ text_after nth [] text = Ok text
 text_after nth (change ∷ changes) text =
     if has_place change (length text)
     then (if is_genome_length (length (with_change change text))
-        then text_after (nth + 1) changes (with_change change text)
-        else Err (Length nth))
+    then text_after (nth + 1) changes (with_change change text)
+    else Err (Length nth))
     else Err (Place nth)

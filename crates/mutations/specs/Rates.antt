@@ -1,4 +1,4 @@
--- The rates of errors and the limits of a child's length, as numbers alone.
+-- The rates of errors and the limits of length as numbers (docs/WORLD.md, "Records of birth").
 use Rattle.std.specs.Prelude.{ℕ}
 use Rattle.mutations.specs.declared.rates.Rates.{Rates}
 use Rattle.mutations.specs.declared.limits.Limits.{Limits}

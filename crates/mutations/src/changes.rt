@@ -38,6 +38,12 @@ impl Changes {
         self.items.len()
     }
 
+    pub(crate) fn as_slice(&self) -> &[Change]
+        ensures { result.now ≡ self.now }
+    {
+        self.items.as_slice()
+    }
+
     pub fn get(&self, at: usize) -> Option<&Change>
         ensures { option_copied result ≡ slice_get self.now at }
     {

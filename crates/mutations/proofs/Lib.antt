@@ -1,0 +1,5 @@
+pub mod BirthLemmas
+pub mod ChangeLemmas
+pub mod DeletionLemmas
+pub mod InsertionLemmas
+pub mod PointLemmas

@@ -1,0 +1,84 @@
+// What a record makes of a parent's genome.
+ghost use Rattle.std.specs.Prelude.{◌≡◌, ◌≢◌, ◌+◌, ◌∷◌, List, Ok, Err, IfOk, IfErr, OnOk};
+ghost use Rattle.genome.specs.Genome.{IsGenome, letters};
+ghost use Rattle.mutations.specs.declared.change.Change.{Change};
+ghost use Rattle.mutations.specs.Change.{text_after};
+ghost use Rattle.mutations.specs.BirthRecord.{child_of, record_of};
+
+use crate::{ApplyStop, Base, Change, Origin};
+use genome::{GREATEST_LENGTH, Genome, GenomeStop, LEAST_LENGTH};
+use instruction_set::Letter;
+use std::alloc::Global;
+
+/// The child: the changes in turn on the base.
+pub fn apply(alloc: Global, parent: &Genome, origin: &Origin) -> Result<Genome, ApplyStop>
+    ensures ok { IfOk result (λ child. child_of (letters parent.now) (record_of origin.now) ≡ Ok (letters child)) }
+    ensures refused { IfErr result (λ stop. stop ≢ ApplyStop.Memory
+        → child_of (letters parent.now) (record_of origin.now) ≡ Err stop) }
+{
+    let base = match &origin.base {
+        Base::Parent => parent.letters(),
+        Base::Written(written) => written.letters(),
+    };
+    changed(alloc, base, origin.changes.as_slice())
+}
+
+fn changed(alloc: Global, base: &[Letter], changes: &[Change]) -> Result<Genome, ApplyStop>
+    requires { IsGenome base.now }
+    ensures ok { IfOk result (λ child. text_after 1 changes.now base.now ≡ Ok (letters child)) }
+    ensures refused { IfErr result (λ stop. stop ≢ ApplyStop.Memory → text_after 1 changes.now base.now ≡ Err stop) }
+{
+    let Ok(mut text) = Vec::from_slice(alloc, base) else {
+        return Err(ApplyStop::Memory);
+    };
+    for (before, change) in changes.iter().enumerate() {
+        change_text(&mut text, *change, before as u64 + 1)?;
+    }
+    match Genome::from_letters(alloc, &text) {
+        Ok(child) => Ok(child),
+        Err(_) => Err(ApplyStop::Memory),
+    }
+}
+
+/// Makes one change. A refused change leaves the text.
+fn change_text(text: &mut Vec<Letter>, change: Change, nth: u64) -> Result<(), ApplyStop>
+    requires { IsGenome text.old.items }
+    ensures ok { OnOk result ((rest : List Change)
+        → text_after nth (change ∷ rest) text.old.items ≡ text_after (nth + 1) rest text.new.items) }
+    ensures genome { OnOk result (IsGenome text.new.items) }
+    ensures refused { IfErr result (λ stop. stop ≢ ApplyStop.Memory
+        → (rest : List Change) → text_after nth (change ∷ rest) text.old.items ≡ Err stop) }
+{
+    let len = text.len();
+    match change {
+        Change::Point { at, letter } => {
+            if len <= at as usize {
+                return Err(ApplyStop::Place { nth });
+            }
+            text[at as usize] = letter;
+            Ok(())
+        }
+        Change::Insert { at, letter } => {
+            if len < at as usize {
+                return Err(ApplyStop::Place { nth });
+            }
+            if len >= GREATEST_LENGTH as usize {
+                return Err(ApplyStop::Length { nth });
+            }
+            match text.insert(at as usize, letter) {
+                Ok(()) => Ok(()),
+                Err(_) => Err(ApplyStop::Memory),
+            }
+        }
+        Change::Delete { at } => {
+            if len <= at as usize {
+                return Err(ApplyStop::Place { nth });
+            }
+            if len <= LEAST_LENGTH as usize {
+                return Err(ApplyStop::Length { nth });
+            }
+            text.remove(at as usize);
+            Ok(())
+        }
+    }
+}

@@ -1,0 +1,120 @@
+// The record and the genome of a child.
+ghost use Rattle.std.specs.Prelude.{◌≡◌, ◌+◌, ◌-◌, ◌*◌, ◌≤◌, ◌<◌, Ok, [], length, IfOk, OnOk};
+ghost use Rattle.genome.specs.Genome.{letters};
+ghost use Rattle.random_streams.specs.RandomStream.{word_of};
+ghost use Rattle.mutations.specs.Rates.{numbers_of, range_of};
+ghost use Rattle.mutations.specs.BirthRecord.{record_of, child_of, origin_of, after_birth, written_in, written_of, drawn_by_divide, same_letters};
+ghost use Rattle.mutations.specs.Pass.{Passed};
+
+use crate::deletions::delete_errors;
+use crate::insertions::insert_errors;
+use crate::site_points::{pointed_text, points};
+use crate::{Base, Born, Change, Changes, Limits, Origin, Rates};
+use avida_port::Memory;
+use genome::{GREATEST_LENGTH, Genome, LEAST_LENGTH};
+use instruction_set::Letter;
+use random_streams::{Draws, WORDS};
+use std::alloc::{AllocError, Global};
+
+/// More words than any birth takes.
+pub const BIRTH_WORDS: u64 = 65_536;
+
+/// The record of a birth and the child that it makes. After `Memory` the words taken are not said.
+pub fn divide_errors(
+    alloc: Global,
+    clean: &Genome,
+    written: &Genome,
+    parent: &Genome,
+    rates: &Rates,
+    limits: &Limits,
+    draws: &mut Draws,
+) -> Result<Born, Memory>
+    requires one_length { length (letters clean.now) ≡ length (letters written.now) }
+    requires shortest { limits.now.least ≤ length (letters written.now) }
+    requires longest { length (letters written.now) ≤ limits.now.greatest }
+    requires room { draws.old.taken < WORDS - BIRTH_WORDS }
+    // The record is the one that the words give.
+    ensures origin { IfOk result (λ born. record_of born.origin
+        ≡ origin_of (word_of draws.old) draws.old.taken (numbers_of rates.now) (range_of limits.now)
+        (letters clean.now) (letters written.now) (letters parent.now)) }
+    // The genome is the one that the record makes.
+    ensures child { IfOk result (λ born.
+        child_of (letters parent.now) (record_of born.origin) ≡ Ok (letters born.genome)) }
+    ensures shortest { IfOk result (λ born. limits.now.least ≤ length (letters born.genome)) }
+    ensures longest { IfOk result (λ born. length (letters born.genome) ≤ limits.now.greatest) }
+    ensures taken { OnOk result (draws.new ≡ record draws.old {
+      taken = after_birth (word_of draws.old) draws.old.taken (numbers_of rates.now) (range_of limits.now)
+          (letters clean.now) (letters written.now);
+    }) }
+    ensures least { OnOk result (draws.old.taken + 2 ≤ draws.new.taken) }
+    ensures most { OnOk result (draws.new.taken ≤ draws.old.taken + 6 * length (letters written.now) + 6) }
+{
+    let drawn = drawn_child(
+        alloc,
+        clean.letters(),
+        written.letters(),
+        rates,
+        limits,
+        draws,
+    );
+    let Ok((text, changes)) = drawn else {
+        return Err(Memory);
+    };
+    let base = base_of(alloc, clean, parent)?;
+    let Ok(genome) = Genome::from_letters(alloc, &text) else {
+        return Err(Memory);
+    };
+    Ok(Born {
+        genome,
+        origin: Origin {
+            base,
+            changes: Changes::from_vec(changes),
+        },
+    })
+}
+
+/// The parent, exactly where the clean text is its genome.
+fn base_of(alloc: Global, clean: &Genome, parent: &Genome) -> Result<Base, Memory>
+    ensures { IfOk result (λ base. written_in base ≡ written_of (letters clean.now) (letters parent.now)) }
+{
+    if are_equal(clean.letters(), parent.letters()) {
+        Ok(Base::Parent)
+    } else {
+        Ok(Base::Written(clean.copy(alloc)?))
+    }
+}
+
+fn are_equal(letters: &[Letter], others: &[Letter]) -> bool
+    ensures { result ≡ same_letters letters.now others.now }
+{
+    letters == others
+}
+
+/// The child's letters, and the changes that make them of the clean text.
+fn drawn_child(
+    alloc: Global,
+    clean: &[Letter],
+    written: &[Letter],
+    rates: &Rates,
+    limits: &Limits,
+    draws: &mut Draws,
+) -> Result<(Vec<Letter>, Vec<Change>), AllocError>
+    requires one_length { length clean.now ≡ length written.now }
+    requires shortest { limits.now.least ≤ length written.now }
+    requires longest { length written.now ≤ limits.now.greatest }
+    requires room { draws.old.taken < WORDS - BIRTH_WORDS }
+    ensures passed { IfOk result (λ drawn. Passed
+        (drawn_by_divide (word_of draws.old) draws.old.taken (numbers_of rates.now) (range_of limits.now)
+        clean.now written.now)
+        clean.now drawn.0.items [] drawn.1.items draws.old draws.new) }
+    ensures shortest { IfOk result (λ drawn. limits.now.least ≤ length drawn.0.items) }
+    ensures longest { IfOk result (λ drawn. length drawn.0.items ≤ limits.now.greatest) }
+    ensures least { OnOk result (draws.old.taken + 2 ≤ draws.new.taken) }
+    ensures most { OnOk result (draws.new.taken ≤ draws.old.taken + 6 * length written.now + 6) }
+{
+    let text = pointed_text(alloc, written, rates.site_point, draws)?;
+    let mut changes = points(alloc, clean, &text)?;
+    let longer = insert_errors(alloc, text, rates, limits, draws, &mut changes)?;
+    let child = delete_errors(alloc, longer, rates, limits, draws, &mut changes)?;
+    Ok((child, changes))
+}

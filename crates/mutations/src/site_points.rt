@@ -1,0 +1,89 @@
+// The first part of a divide's errors: letters put in at places, and the points that tell them.
+ghost use Rattle.std.specs.Prelude.{◌≡◌, ◌+◌, ◌*◌, ◌≤◌, length, IfOk, OnOk};
+ghost use Rattle.genome.specs.Genome.{IsGenome};
+ghost use Rattle.random_streams.specs.RandomStream.{word_of};
+ghost use Rattle.mutations.specs.DivideErrors.{site_text, after_sites, pointed_text, after_points, points_from};
+ghost use Rattle.mutations.specs.Pass.{Makes};
+
+use crate::Change;
+use crate::copying::error_letter;
+use instruction_set::Letter;
+use random_streams::{Draws, MILLION, WORDS};
+use std::alloc::{AllocError, Global};
+
+/// The text with its site points.
+pub(crate) fn pointed_text(
+    alloc: Global,
+    written: &[Letter],
+    rate: u32,
+    draws: &mut Draws,
+) -> Result<Vec<Letter>, AllocError>
+    requires rate { rate ≤ MILLION }
+    requires room { draws.old.taken + 2 * length written.now ≤ WORDS }
+    ensures text { IfOk result (λ text. text.items
+        ≡ pointed_text (word_of draws.old) rate draws.old.taken written.now) }
+    ensures same_length { IfOk result (λ text. length text.items ≡ length written.now) }
+    ensures taken { OnOk result (draws.new ≡ record draws.old {
+      taken = after_points (word_of draws.old) rate draws.old.taken (length written.now);
+    }) }
+    ensures least { draws.old.taken ≤ draws.new.taken }
+    ensures most { draws.new.taken ≤ draws.old.taken + 2 * length written.now }
+{
+    let mut text = Vec::from_slice(alloc, written)?;
+    point_sites(&mut text, rate, draws);
+    Ok(text)
+}
+
+/// Tests each place where the rate is above 0.
+fn point_sites(text: &mut [Letter], rate: u32, draws: &mut Draws)
+    requires rate { rate ≤ MILLION }
+    requires room { draws.old.taken + 2 * length text.old ≤ WORDS }
+    ensures text { text.new ≡ pointed_text (word_of draws.old) rate draws.old.taken text.old }
+    ensures taken { draws.new ≡ record draws.old {
+      taken = after_points (word_of draws.old) rate draws.old.taken (length text.old);
+    } }
+    ensures least { draws.old.taken ≤ draws.new.taken }
+    ensures most { draws.new.taken ≤ draws.old.taken + 2 * length text.old }
+{
+    if rate > 0 {
+        test_sites(text, rate, draws);
+    }
+}
+
+fn test_sites(text: &mut [Letter], rate: u32, draws: &mut Draws)
+    requires rate { rate ≤ MILLION }
+    requires room { draws.old.taken + 2 * length text.old ≤ WORDS }
+    ensures text { text.new ≡ site_text (word_of draws.old) rate draws.old.taken text.old }
+    ensures taken { draws.new ≡ record draws.old {
+      taken = after_sites (word_of draws.old) rate draws.old.taken (length text.old);
+    } }
+    ensures least { draws.old.taken ≤ draws.new.taken }
+    ensures most { draws.new.taken ≤ draws.old.taken + 2 * length text.old }
+{
+    for letter in text.iter_mut() {
+        *letter = error_letter(rate, draws).unwrap_or(*letter);
+    }
+}
+
+/// The points at which the text differs from the clean text.
+pub(crate) fn points(
+    alloc: Global,
+    clean: &[Letter],
+    text: &[Letter],
+) -> Result<Vec<Change>, AllocError>
+    requires lengths { length clean.now ≡ length text.now }
+    requires genome { IsGenome text.now }
+    ensures points { IfOk result (λ points. points.items ≡ points_from 0 clean.now text.now) }
+    ensures made { IfOk result (λ points. Makes points.items clean.now text.now) }
+{
+    let mut points = Vec::new(alloc);
+    for (at, letter) in text.iter().enumerate() {
+        if clean[at] != *letter {
+            points.push(Change::Point {
+                at: at as u32,
+                letter: *letter,
+            })?;
+        }
+    }
+    Ok(points)
+}
