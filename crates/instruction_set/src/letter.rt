@@ -213,71 +213,58 @@ static LETTERS: [Letter; LETTER_COUNT as usize] = [
 #[cfg(test)]
 mod tests {
     use super::*;
+    use std::fmt::Write;
+    use std::test::Fail;
 
-    /// The rows of the instruction table: byte, name and class.
-    const ROWS: [(u8, &str, Class); 26] = [
-        (b'a', "nop-A", Class::Nop),
-        (b'b', "nop-B", Class::Nop),
-        (b'c', "nop-C", Class::Nop),
-        (b'd', "if-n-equ", Class::Register),
-        (b'e', "if-less", Class::Register),
-        (b'f', "if-label", Class::Template),
-        (b'g', "mov-head", Class::Head),
-        (b'h', "jmp-head", Class::Head),
-        (b'i', "get-head", Class::Head),
-        (b'j', "set-flow", Class::Register),
-        (b'k', "shift-r", Class::Register),
-        (b'l', "shift-l", Class::Register),
-        (b'm', "inc", Class::Register),
-        (b'n', "dec", Class::Register),
-        (b'o', "push", Class::Register),
-        (b'p', "pop", Class::Register),
-        (b'q', "swap-stk", Class::Plain),
-        (b'r', "swap", Class::Register),
-        (b's', "add", Class::Register),
-        (b't', "sub", Class::Register),
-        (b'u', "nand", Class::Register),
-        (b'v', "h-copy", Class::Plain),
-        (b'w', "h-alloc", Class::Plain),
-        (b'x', "h-divide", Class::Plain),
-        (b'y', "IO", Class::Register),
-        (b'z', "h-search", Class::Template),
-    ];
+    /// The index, byte, name and class of each letter.
+    const TABLE: &str = "\
+            0 a nop-A Nop\n\
+            1 b nop-B Nop\n\
+            2 c nop-C Nop\n\
+            3 d if-n-equ Register\n\
+            4 e if-less Register\n\
+            5 f if-label Template\n\
+            6 g mov-head Head\n\
+            7 h jmp-head Head\n\
+            8 i get-head Head\n\
+            9 j set-flow Register\n\
+            10 k shift-r Register\n\
+            11 l shift-l Register\n\
+            12 m inc Register\n\
+            13 n dec Register\n\
+            14 o push Register\n\
+            15 p pop Register\n\
+            16 q swap-stk Plain\n\
+            17 r swap Register\n\
+            18 s add Register\n\
+            19 t sub Register\n\
+            20 u nand Register\n\
+            21 v h-copy Plain\n\
+            22 w h-alloc Plain\n\
+            23 x h-divide Plain\n\
+            24 y IO Register\n\
+            25 z h-search Template\n";
 
     #[test]
-    fn the_letters_are_the_rows_of_the_table(rt: HostRuntime) {
-        for index in 0..26u8 {
-            let (byte, name, class) = ROWS[usize::from(index)];
-            let letter = Letter::from_index(index);
-            assert_eq!(rt;
-                letter.map(|letter| letter.index()),
-                Some(index),
-                "at {index}"
-            );
-            assert_eq!(rt;
-                letter.map(|letter| letter.byte()),
-                Some(byte),
-                "at {index}"
-            );
-            assert_eq!(rt;
-                letter.map(|letter| letter.name()),
-                Some(name),
-                "at {index}"
-            );
-            assert_eq!(rt;
-                letter.map(|letter| letter.class()),
-                Some(class),
-                "at {index}"
-            );
-            assert_eq!(rt; Letter::from_byte(byte), letter, "at {index}");
-            assert_eq!(rt; Letter::from_name(name.as_bytes()), letter, "at {index}");
+    fn the_letters_are_the_rows_of_the_table(rt: HostRuntime) -> Result<(), Fail> {
+        let mut table = String::new(rt.alloc());
+        for index in 0..=255u8 {
+            if let Some(letter) = Letter::from_index(index) {
+                let byte = char::from(letter.byte());
+                write!(
+                    table,
+                    "{} {byte} {} {:?}\n",
+                    letter.index(),
+                    letter.name(),
+                    letter.class()
+                )?;
+            }
         }
-        assert_eq!(rt; Letter::from_index(26), None);
-        assert_eq!(rt; Letter::from_byte(b'a' - 1), None);
-        assert_eq!(rt; Letter::from_byte(b'z' + 1), None);
+        assert_eq!(rt; table.as_str(), TABLE);
         for name in ["", "nop", "nop-a", "NOP-A", "inc ", "io"] {
             assert_eq!(rt; Letter::from_name(name.as_bytes()), None, "at {name}");
         }
+        Ok(())
     }
 
     #[test]
