@@ -13,7 +13,8 @@ use std::alloc::{AllocError, Global};
 /// A genome spelled by letters.
 pub fn read_letters(alloc: Global, bytes: &[u8]) -> Result<Genome, GenomeStop>
     ensures ok { IfOk result (λ genome. spelled_by_letters bytes.now ≡ Ok (letters genome)) }
-    ensures refused { IfErr result (λ s. s ≢ GenomeStop.Memory → spelled_by_letters bytes.now ≡ Err s) }
+    ensures refused { IfErr result (λ s. s ≢ GenomeStop.Memory →
+        spelled_by_letters bytes.now ≡ Err s) }
 {
     let text = before_line_end(bytes);
     if let Some(at) = first_bad_byte(text) {
@@ -58,7 +59,8 @@ fn before_line_end(bytes: &[u8]) -> &[u8]
 
 /// Appends the letters' bytes.
 pub fn letters_text(genome: &Genome, out: &mut Vec<u8>) -> Result<(), Memory>
-    ensures ok { OnOk result (out.new.items ≡ out.old.items ++ letters_text_of (letters genome.now)) }
+    ensures ok { OnOk result (out.new.items ≡
+        out.old.items ++ letters_text_of (letters genome.now)) }
     ensures err { OnErr result (out.new.items ≡ out.old.items) }
 {
     let letters = genome.letters();

@@ -1,0 +1,11 @@
+-- Only blanks are passed.
+use Rattle.std.proofs.Common.{◌≡◌, length}
+use Rattle.std.specs.Prelude.{reverse}
+use Rattle.genome.specs.GenomeText.{after_blanks}
+use Rattle.genome.proofs.names.before_blanks.Given as goal
+
+abbrev pub invariant-loop-rest : goal.invariant-loop-rest
+invariant-loop-rest l = after_blanks (reverse l.rest) ≡ after_blanks (reverse l.fn.bytes)
+
+abbrev pub decreases-loop-rest : goal.decreases-loop-rest
+decreases-loop-rest l = length l.rest
