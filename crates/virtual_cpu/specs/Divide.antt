@@ -1,5 +1,5 @@
 -- The two parts of a divide, and what the rules are asked (docs/MACHINE.md, "h-divide").
-use Rattle.std.specs.Prelude.{ℕ, ◌-◌, Bool, List, count_by, take, drop, min, if◌then◌else◌, length, ◌==◌}
+use Rattle.std.specs.Prelude.{◌≡◌, ℕ, ◌-◌, Bool, List, count_by, take, drop, min, if◌then◌else◌, length, ◌==◌}
 use Rattle.std.proofs.Math.Nat.{min-le_right}
 use Rattle.divide_rules.specs.declared.ask.DivideAsk.{DivideAsk}
 use Rattle.divide_rules.specs.declared.limits.TheConstants.{GREATEST_LENGTH}
@@ -38,3 +38,11 @@ divide_question m = record {
   executed_in_range = min-le_right _ _;
   copied_in_range = min-le_right _ _;
 }
+
+-- what a question says of the machine that asks it
+pub record IsQuestionOf (m : Machine) (ask : DivideAsk) : Type 0 where
+  pub allocated : ask.allocated ≡ m.pending
+  pub read : ask.read ≡ m.heads.read
+  pub end : ask.end ≡ end_of m
+  pub executed : ask.executed ≡ count_of (parent_part m.executed m.heads.read)
+  pub copied : ask.copied ≡ count_of (child_part m.copied m.heads.read (end_of m))

@@ -1,10 +1,22 @@
 -- One step of the machine (docs/MACHINE.md, "One step").
-use Rattle.std.specs.Prelude.{ℤ, Option}
+use Rattle.std.specs.Prelude.{◌≡◌, ℤ, Option}
 use Rattle.instruction_set.specs.declared.letter.Letter.{Letter}
 use Rattle.virtual_cpu.specs.declared.did.Did.{Did}
+use Rattle.virtual_cpu.specs.declared.did.Did.TheVariants.{Asks}
 use Rattle.virtual_cpu.specs.Machine.{Machine, letter_under_ip, with_ip_marked}
 use Rattle.virtual_cpu.specs.Effects.{effect_of}
+use Rattle.virtual_cpu.specs.Divide.{IsQuestionOf}
 
 -- the place of IP is marked, and the letter there has its effect
 abbrev pub step : Machine → ℤ → Option Letter → Machine × Did
 step m input copy = effect_of (letter_under_ip m) (with_ip_marked m) input copy
+
+-- a question that is told is the question of this machine
+abbrev pub AsksOf : Machine → Did → Type 0
+AsksOf m (Asks ask) = IsQuestionOf m ask
+AsksOf m _ = Unit {0}
+
+-- what no step changes
+pub record KeepsLimits (old new : Machine) : Type 0 where
+  pub made : new.made ≡ old.made
+  pub limit : new.limit ≡ old.limit

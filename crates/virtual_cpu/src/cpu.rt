@@ -12,8 +12,9 @@ ghost use Rattle.virtual_cpu.specs.Operands.{on_modifier, register_picked, head_
 ghost use Rattle.virtual_cpu.specs.RegisterEffects.{active_stack, with_active_stack};
 ghost use Rattle.virtual_cpu.specs.Copying.{after_h_copy};
 ghost use Rattle.virtual_cpu.specs.Allocation.{can_allocate, with_allocation};
-ghost use Rattle.virtual_cpu.specs.Divide.{divide_question, parent_part};
+ghost use Rattle.virtual_cpu.specs.Divide.{divide_question, parent_part, child_part, IsQuestionOf};
 
+use crate::cut::Cut;
 use crate::heads::{Head, Heads};
 use crate::marks::{count_marks, place_after};
 use crate::registers::{Register, Registers};
@@ -85,6 +86,47 @@ impl Cpu {
             made,
             limit,
         })
+    }
+
+    /// Keeps the first letters, and begins anew on them.
+    pub fn reset(&mut self, keep: u32)
+        requires least { LEAST_LENGTH ≤ keep }
+        requires within { keep ≤ length self.old.memory }
+        requires twice_made { keep ≤ 2 * self.old.made }
+        ensures { let kept = parent_part self.old.memory keep in
+            self.new ≡ fresh_machine kept self.old.made self.old.limit }
+    {
+        let keep = keep as usize;
+        self.memory.truncate(keep);
+        self.clean.clear();
+        append_letters(&mut self.clean, self.memory.as_slice());
+        self.executed.clear();
+        append_copies(&mut self.executed, false, keep);
+        self.copied.clear();
+        append_copies(&mut self.copied, false, keep);
+        self.registers = Registers::default();
+        let stacks = [Stack::new(), Stack::new()];
+        self.stacks = stacks;
+        self.active = 0;
+        self.heads = Heads::default();
+        self.nops = Template::none();
+        self.pending = false;
+    }
+
+    /// The child's part of the clean text and of memory.
+    pub fn cut(&self, alloc: Global, ask: &DivideAsk) -> Result<Cut, Memory>
+        requires least { LEAST_LENGTH ≤ ask.now.end - ask.now.read }
+        requires within { ask.now.end ≤ length self.now.memory }
+        ensures clean { IfOk result (λ cut. letters cut.clean ≡
+            child_part self.now.clean ask.now.read ask.now.end) }
+        ensures written { IfOk result (λ cut. letters cut.written ≡
+            child_part self.now.memory ask.now.read ask.now.end) }
+    {
+        let read = ask.read as usize;
+        let end = ask.end as usize;
+        let clean = Genome::from_letters(alloc, &self.clean[read..end]).map_err(|_| Memory)?;
+        let written = Genome::from_letters(alloc, &self.memory[read..end]).map_err(|_| Memory)?;
+        Ok(Cut { clean, written })
     }
 
     /// The letter under IP.
@@ -324,7 +366,8 @@ impl Cpu {
     /// What a divide asks of the rules.
     #[tactic(auto, unfolding(crate::specs::Divide::divide_question))]
     pub(crate) fn question(&self) -> DivideAsk
-        ensures { result ≡ divide_question self.now }
+        ensures question { result ≡ divide_question self.now }
+        ensures numbers { IsQuestionOf self.now result }
     {
         let read = self.heads.read;
         let end = if self.heads.write == 0 {

@@ -3,10 +3,10 @@ ghost use Rattle.std.specs.Prelude.{◌≡◌, ◌<◌, ◌≤◌, ℤ, length};
 ghost use Rattle.virtual_cpu.specs.Allocation.{can_allocate, with_allocation};
 ghost use Rattle.virtual_cpu.specs.Copying.{after_h_copy};
 ghost use Rattle.virtual_cpu.specs.Divide.{divide_question};
-ghost use Rattle.virtual_cpu.specs.Effects.{telling, going_on, moving, allocating_if};
+ghost use Rattle.virtual_cpu.specs.Effects.{telling, going_on, moving, allocating_if, effect_of};
 ghost use Rattle.virtual_cpu.specs.HeadEffects.{head, after_mov_head, after_jmp_head, after_get_head};
 ghost use Rattle.virtual_cpu.specs.RegisterEffects.{after_if_n_equ, after_if_less, after_set_flow, after_shift_r, after_shift_l, after_inc, after_dec, after_push, after_pop, after_swap_stk, after_swap, after_add, after_sub, after_nand, after_io, output_of};
-ghost use Rattle.virtual_cpu.specs.Step.{step};
+ghost use Rattle.virtual_cpu.specs.Step.{step, AsksOf, KeepsLimits};
 ghost use Rattle.virtual_cpu.specs.TemplateEffects.{after_if_label, after_h_search, with_search};
 ghost use Rattle.virtual_cpu.specs.declared.did.Did.TheVariants.{Copied, Output, Asks};
 
@@ -235,7 +235,8 @@ impl Cpu {
     }
 
     fn h_divide(&mut self) -> Did
-        ensures { (self.new, result) ≡ telling (Asks (divide_question self.old)) self.old }
+        ensures told { (self.new, result) ≡ telling (Asks (divide_question self.old)) self.old }
+        ensures question { AsksOf self.new result }
     {
         let ask = self.question();
         self.advance();
@@ -290,10 +291,19 @@ impl Cpu {
 
     /// One instruction. `input` is taken only by IO, `copy` only by h-copy.
     pub fn step(&mut self, input: i32, copy: Option<Letter>) -> Did
-        ensures { (self.new, result) ≡ step self.old input copy }
+        ensures step { (self.new, result) ≡ step self.old input copy }
+        ensures question { AsksOf self.new result }
+        ensures kept { KeepsLimits self.old self.new }
     {
         let letter = self.next();
         self.mark_executed();
+        self.perform(letter, input, copy)
+    }
+
+    fn perform(&mut self, letter: Letter, input: i32, copy: Option<Letter>) -> Did
+        ensures effect { (self.new, result) ≡ effect_of letter self.old input copy }
+        ensures question { AsksOf self.new result }
+    {
         match letter {
             Letter::NopA => self.go_on(),
             Letter::NopB => self.go_on(),

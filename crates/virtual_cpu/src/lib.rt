@@ -2,6 +2,7 @@
 #![tactic(auto)]
 
 mod cpu;
+mod cut;
 mod did;
 mod heads;
 mod instructions;
@@ -9,6 +10,9 @@ mod marks;
 mod registers;
 mod reserved;
 mod stack;
+#[cfg(test)]
+mod tests;
 
 pub use cpu::Cpu;
+pub use cut::Cut;
 pub use did::Did;
