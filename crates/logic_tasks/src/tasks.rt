@@ -1,51 +1,70 @@
 // Sets of tasks.
-ghost use Rattle.std.specs.Prelude.{◌≡◌, length};
+ghost use Rattle.std.specs.Prelude.{◌≡◌, ◌==◌};
+ghost use Rattle.std.specs.Cmp.Rules.{comparing};
+ghost use Rattle.std.proofs.Common.{rules};
+ghost use Rattle.logic_tasks.specs.TaskBits.{number_of};
 ghost use Rattle.logic_tasks.specs.TaskSet.{no_tasks, has_task, with_task};
 
-use crate::{TASK_COUNT, Task};
+use crate::Task;
 use std::marker::Model;
 
-/// A set of tasks.
-#[derive(Clone, Copy, Debug, PartialEq, Eq)]
+/// A set of tasks, which has a bit for each.
+#[derive(Clone, Copy, Debug)]
 pub struct Tasks {
-    done: [bool; TASK_COUNT],
+    bits: u16,
 }
 
 impl Model for Tasks {
-    ghost use Rattle.std.specs.Prelude.{◌≡◌, List, Bool, length};
-    ghost use Rattle.logic_tasks.specs.declared.task.TheConstants.{TASK_COUNT};
+    ghost use Rattle.std.specs.Prelude.{◌<◌, List, Bool};
+    ghost use Rattle.std.proofs.Common.{ap};
+    ghost use Rattle.logic_tasks.specs.TaskBits.{tasks_of, number_of};
+    ghost use Rattle.logic_tasks.specs.TaskBitsLaws.{number_of-tasks_of};
 
     ghost Value = { List Bool };
 
-    ghost view = { λ tasks. tasks.done };
+    ghost view = { λ tasks. tasks_of tasks.bits };
 
-    ghost invariant = { λ tasks. length tasks.done ≡ TASK_COUNT };
+    ghost invariant = { λ tasks. tasks.bits < 512 };
 
-    ghost inverse = { λ done. record { done = done } };
+    ghost inverse = { λ tasks. record { bits = number_of tasks } };
+
+    ghost inverse_ok = { λ tasks small. ap (λ bits. record { bits = bits }) (number_of-tasks_of tasks.bits small) };
 }
 
 impl Tasks {
     pub fn none() -> Tasks
         ensures { result ≡ no_tasks }
     {
-        Tasks {
-            done: [false; TASK_COUNT],
-        }
+        Tasks { bits: 0 }
     }
 
     pub fn has(self, task: Task) -> bool
         ensures { result ≡ has_task self task }
     {
-        self.done[task.place()]
+        self.bits >> task.place() & 1 == 1
     }
 
     pub fn with(self, task: Task) -> Tasks
         ensures { result ≡ with_task self task }
     {
-        let mut done = self.done;
-        done[task.place()] = true;
-        Tasks { done }
+        Tasks {
+            bits: self.bits | 1 << task.place(),
+        }
     }
+}
+
+impl PartialEq for Tasks {
+    ghost eq = { λ a b. number_of a == number_of b };
+
+    ghost laws = { Prim.search (comparing, rules) };
+
+    fn eq(&self, other: &Tasks) -> bool {
+        self.bits == other.bits
+    }
+}
+
+impl Eq for Tasks {
+    ghost laws = { Prim.search (comparing, rules) };
 }
 
 #[cfg(test)]
