@@ -1,0 +1,99 @@
+-- One step of a life, with a copy error or without, under any rules (docs/WORLD.md, "The life of one update").
+use Rattle.std.specs.Prelude.{ℕ, ℤ, ◌≡◌, ◌+◌, ◌*◌, ◌-◌, ◌≤◌, ◌%◌, Bool, true, false, List, Option, Some, None, length, slice_index_or, if◌then◌else◌}
+use Rattle.std.specs.Int.{cast_signed, w32}
+use Rattle.instruction_set.specs.declared.letter.Letter.{Letter}
+use Rattle.genome.specs.declared.genome.TheConstants.{LEAST_LENGTH}
+use Rattle.logic_tasks.specs.declared.task.Task.{Task}
+use Rattle.logic_tasks.specs.LogicTasks.{task_done}
+use Rattle.logic_tasks.specs.TaskSet.{no_tasks, has_task, with_task}
+use Rattle.merit_slices.specs.Merit.{merit_of}
+use Rattle.divide_rules.specs.declared.ask.DivideAsk.{DivideAsk}
+use Rattle.divide_rules.specs.declared.limits.DivideRules.{DivideRules}
+use Rattle.divide_rules.specs.declared.verdict.Verdict.{Verdict}
+use Rattle.divide_rules.specs.declared.verdict.Verdict.TheVariants as verdict
+use Rattle.divide_rules.specs.Viability.{verdict_of}
+use Rattle.virtual_cpu.specs.declared.did.Did.{Did}
+use Rattle.virtual_cpu.specs.declared.did.Did.TheVariants.{Output, Asks}
+use Rattle.virtual_cpu.specs.Machine.{Machine, fresh_machine}
+use Rattle.virtual_cpu.specs.Divide.{parent_part}
+use Rattle.virtual_cpu.specs.Step.{step}
+use Rattle.organism.specs.OrganismState.{OrganismState}
+use Rattle.organism.specs.declared.outcome.Outcome.{Outcome}
+use Rattle.organism.specs.declared.outcome.Outcome.TheVariants as outcome
+
+-- the input that IO takes next: the three come round
+abbrev pub next_input : OrganismState → ℤ
+next_input o = cast_signed w32 (slice_index_or o.inputs (o.read % 3) 0)
+
+-- the machine's step, with the letter of a copy error
+abbrev pub machine_step : OrganismState → Option Letter → Machine × Did
+machine_step o copy = step o.machine (next_input o) copy
+
+-- the machine is another, and the age is one more
+abbrev pub older : OrganismState → Machine → OrganismState
+older o machine = record o { machine = machine; age = o.age + 1 }
+
+-- a task that this set does not have
+abbrev pub new_to : List Bool → Option Task → Option Task
+new_to tasks None = None
+new_to tasks (Some task) = if has_task tasks task then None else Some task
+
+-- the task that an output does with the inputs read before, where this gestation has not done it yet
+abbrev pub newly_done : OrganismState → ℤ → Option Task
+newly_done o output = new_to o.gestation (task_done output o.inputs o.read)
+
+-- a task is newly done, or none is
+abbrev pub with_done : OrganismState → Option Task → OrganismState × Outcome
+with_done o None = (o, outcome.Nothing)
+with_done o (Some task) = (record o { gestation = with_task o.gestation task }, outcome.Task task)
+
+-- after IO the output counts, and one more input was read
+unfoldable pub after_output : OrganismState → ℤ → OrganismState × Outcome
+after_output o output = with_done (record o { read = o.read + 1 }) (newly_done o output)
+
+-- what a verdict on a divide comes to
+abbrev pub outcome_of : Verdict → DivideAsk → Outcome
+outcome_of verdict.Viable ask = outcome.Viable ask
+outcome_of (verdict.Broken rule found bound) ask = outcome.Refused rule found bound
+
+-- after h-divide the rules are tried
+abbrev pub after_question : OrganismState → DivideRules → DivideAsk → Outcome
+after_question o rules ask = outcome_of (verdict_of ask (length o.genome) rules) ask
+
+-- what follows from what the machine tells
+abbrev pub after_did : OrganismState → DivideRules → Did → OrganismState × Outcome
+after_did o rules (Output value) = after_output o value
+after_did o rules (Asks ask) = (o, after_question o rules ask)
+after_did o rules _ = (o, outcome.Nothing)
+
+-- one step, but for the renewal that a viable divide brings
+unfoldable pub life_step : OrganismState → Option Letter → DivideRules → OrganismState × Outcome
+life_step o copy rules = after_did (older o (machine_step o copy).0) rules (machine_step o copy).1
+
+-- the merit that a divide gives to parent and child
+abbrev pub divide_merit : OrganismState → DivideAsk → ℕ
+divide_merit o ask = merit_of (length o.genome) ask.executed ask.copied o.gestation
+
+-- the parent after a viable divide: its machine begins anew on the kept part
+unfoldable pub renewed : OrganismState → DivideAsk → OrganismState
+renewed o ask = record o {
+  merit = divide_merit o ask;
+  credited = o.gestation;
+  age = 0;
+  read = 0;
+  gestation = no_tasks;
+  machine = fresh_machine (parent_part o.machine.memory ask.read) o.machine.made o.machine.limit;
+}
+
+-- a divide whose two parts are genomes and lie in memory
+pub record IsDivide (o : OrganismState) (ask : DivideAsk) : Type 0 where
+  pub least_parent : LEAST_LENGTH ≤ ask.read
+  pub least_child : LEAST_LENGTH ≤ ask.end - ask.read
+  pub parent_within : ask.read ≤ length o.machine.memory
+  pub child_within : ask.end ≤ length o.machine.memory
+  pub twice_genome : ask.read ≤ 2 * length o.genome
+
+-- where an outcome is a viable divide, this holds of it
+abbrev pub OnViable : Outcome → (DivideAsk → Type 0) → Type 0
+OnViable (outcome.Viable ask) P = P ask
+OnViable _ P = Unit {0}

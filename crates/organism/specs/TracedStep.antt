@@ -1,0 +1,74 @@
+-- One step of a trace, and what it tells (docs/FORMATS.md, "Trace lines").
+use Rattle.std.specs.Prelude.{ℕ, ℤ, List, [], ◌∷◌, None, length}
+use Rattle.instruction_set.specs.declared.letter.Letter.{Letter}
+use Rattle.logic_tasks.specs.declared.task.Task.{Task}
+use Rattle.divide_rules.specs.declared.rule.Rule.{Rule}
+use Rattle.genome.specs.Genome.{letters}
+use Rattle.virtual_cpu.specs.Machine.{Machine, letter_under_ip}
+use Rattle.virtual_cpu.specs.Divide.{child_part}
+use Rattle.organism.specs.OrganismState.{OrganismState}
+pub use Rattle.organism.specs.OrganismState.{new_organism}
+use Rattle.organism.specs.Life.{life_step, divide_merit, renewed}
+use Rattle.organism.specs.TraceRules.{trace_rules}
+use Rattle.organism.specs.declared.outcome.Outcome.{Outcome}
+use Rattle.organism.specs.declared.outcome.Outcome.TheVariants as outcome
+use Rattle.organism.specs.declared.traced.Traced.{Traced}
+use Rattle.organism.specs.declared.traced.Remark.{Remark}
+use Rattle.organism.specs.declared.traced.Remark.TheVariants as remark
+
+-- what a trace remarks: nothing, a task newly done, a divide refused or a viable divide
+pub data TracedRemark : Type 0 where
+  nothing : TracedRemark
+  task : Task → TracedRemark
+  -- the rule, what was found, and the bound
+  refused : Rule → ℕ → ℕ → TracedRemark
+  -- the places executed and copied, the merit, and the child
+  divide : ℕ → ℕ → ℕ → List Letter → TracedRemark
+
+-- a step: the place and the letter before it, the registers after it
+pub record TracedStep : Type 0 where
+  pub place : ℕ
+  pub letter : Letter
+  pub registers : List ℤ
+  pub remark : TracedRemark
+
+-- a remark, with the child as its letters
+abbrev pub remark_value : Remark → TracedRemark
+remark_value remark.Nothing = nothing
+remark_value (remark.Task done) = task done
+remark_value (remark.Refused rule found bound) = refused rule found bound
+remark_value (remark.Divide executed copied merit child) = divide executed copied merit (letters child)
+
+-- a traced step, with its remark
+abbrev pub traced_value : Traced → TracedStep
+traced_value t = record { place = t.place; letter = t.letter; registers = t.registers; remark = remark_value t.remark }
+
+-- the organism and the remark after an outcome: a viable divide renews the parent, and the child is what was written
+abbrev pub remark_on : OrganismState → Outcome → OrganismState × TracedRemark
+remark_on o outcome.Nothing = (o, nothing)
+remark_on o (outcome.Task done) = (o, task done)
+remark_on o (outcome.Refused rule found bound) = (o, refused rule found bound)
+remark_on o (outcome.Viable ask) =
+    (renewed o ask, divide ask.executed ask.copied (divide_merit o ask) (child_part o.machine.memory ask.read ask.end))
+
+-- an organism after a step without errors and death, and its remark
+abbrev pub remarked : OrganismState → OrganismState × TracedRemark
+remarked o =
+    let stepped = life_step o None (trace_rules (length o.genome)) in
+    remark_on stepped.0 stepped.1
+
+-- the three registers
+abbrev pub registers_of : Machine → List ℤ
+registers_of m = m.registers.ax ∷ m.registers.bx ∷ m.registers.cx ∷ []
+
+-- a step of a trace
+unfoldable pub trace_step_of : OrganismState → OrganismState × TracedStep
+trace_step_of o = (
+  (remarked o).0,
+  record {
+    place = o.machine.heads.ip;
+    letter = letter_under_ip o.machine;
+    registers = registers_of (remarked o).0.machine;
+    remark = (remarked o).1;
+  },
+)

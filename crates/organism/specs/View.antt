@@ -1,0 +1,21 @@
+-- What contracts see of an `Organism` (docs/WORLD.md, "The life of one update").
+use Rattle.genome.specs.Genome.{letters}
+use Rattle.organism.specs.OrganismState.{OrganismState, IsOrganism}
+use Rattle.organism.specs.declared.organism.Organism.TheInside.{Inside}
+
+-- the organism that an `Organism` is
+abbrev pub organism_of : Inside → OrganismState
+organism_of o = record {
+  genome = letters o.genome.value;
+  inputs = o.inputs;
+  merit = o.merit;
+  credited = o.credited;
+  age = o.age;
+  read = o.read;
+  gestation = o.gestation;
+  machine = o.machine;
+}
+
+-- what holds of every `Organism`
+abbrev pub IsOrganismOf : Inside → Type 0
+IsOrganismOf o = IsOrganism (organism_of o)

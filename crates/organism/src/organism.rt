@@ -1,0 +1,245 @@
+// An organism: its genome, its machine, and what it has done since its birth and its last divide.
+ghost use Rattle.std.specs.Prelude.{◌≡◌, ◌+◌, ◌*◌, ◌-◌, ◌<◌, ◌≤◌, ◌^◌, IfOk, OnOk, length};
+ghost use Rattle.genome.specs.Genome.{letters};
+ghost use Rattle.genome.specs.declared.genome.TheConstants.{LEAST_LENGTH, GREATEST_LENGTH};
+ghost use Rattle.virtual_cpu.specs.Step.{AsksOf};
+ghost use Rattle.virtual_cpu.specs.Divide.{IsQuestionOf};
+ghost use Rattle.organism.specs.OrganismState.{new_organism, IsOrganism};
+ghost use Rattle.organism.specs.Life.{newly_done, after_output, after_question, after_did, life_step, renewed, IsDivide, OnViable};
+ghost use Rattle.organism.specs.TracedStep.{remark_value, traced_value, remark_on, trace_step_of};
+
+use crate::outcome::Outcome;
+use crate::trace_rules::trace_rules;
+use crate::{Remark, Traced};
+use avida_port::Memory;
+use divide_rules::{DivideAsk, DivideRules, Verdict, judge};
+use genome::{GREATEST_LENGTH, Genome};
+use instruction_set::Letter;
+use logic_tasks::{Inputs, Task, Tasks, done};
+use merit_slices::merit;
+use std::alloc::Global;
+use std::marker::Model;
+use std::sync::Arc;
+use virtual_cpu::{Cpu, Did};
+
+/// An organism, which lives by the steps of its machine.
+#[derive(Drop)]
+pub struct Organism {
+    genome: Arc<Genome, Global>,
+    inputs: Inputs,
+    merit: u64,
+    credited: Tasks,
+    age: u64,
+    read: u64,
+    gestation: Tasks,
+    machine: Cpu,
+}
+
+impl Model for Organism {
+    ghost use Rattle.organism.specs.OrganismState.{OrganismState};
+
+    ghost Value = { OrganismState };
+
+    ghost use Rattle.organism.specs.View.{organism_of, IsOrganismOf};
+
+    ghost view = { organism_of };
+
+    ghost invariant = { IsOrganismOf };
+}
+
+impl Organism {
+    /// An organism of age 0, whose machine is at its start.
+    #[tactic(auto, unfolding(crate::specs::OrganismState::new_organism))]
+    pub fn found(
+        alloc: Global,
+        genome: Arc<Genome, Global>,
+        inputs: Inputs,
+        merit: u64,
+        credited: Tasks,
+        memory_limit: u32,
+    ) -> Result<Organism, Memory>
+        requires genome_within { length (letters genome.value) ≤ memory_limit }
+        requires greatest { memory_limit ≤ GREATEST_LENGTH }
+        ensures { IfOk result (λ organism. organism ≡
+            new_organism (letters genome.value) inputs merit credited memory_limit) }
+    {
+        let machine = Cpu::new(alloc, &genome, memory_limit)?;
+        Ok(Organism {
+            genome,
+            inputs,
+            merit,
+            credited,
+            age: 0,
+            read: 0,
+            gestation: Tasks::none(),
+            machine,
+        })
+    }
+
+    pub fn genome(&self) -> &Arc<Genome, Global>
+        ensures { letters result.now.value ≡ self.now.genome }
+    {
+        &self.genome
+    }
+
+    pub fn merit(&self) -> u64
+        ensures { result ≡ self.now.merit }
+    {
+        self.merit
+    }
+
+    /// The tasks that its merit comes from.
+    pub fn credited(&self) -> Tasks
+        ensures { result ≡ self.now.credited }
+    {
+        self.credited
+    }
+
+    /// The steps since its birth or its last divide.
+    pub fn age(&self) -> u64
+        ensures age { result ≡ self.now.age }
+        ensures organism { IsOrganism self.now }
+    {
+        self.age
+    }
+
+    /// One step without copy errors and death, under the rules of a trace.
+    #[tactic(auto, unfolding(crate::specs::TracedStep::trace_step_of))]
+    pub fn trace_step(&mut self, alloc: Global) -> Result<Traced, Memory>
+        requires { self.old.age < 2 ^ 62 }
+        ensures steps { IfOk result (λ traced. self.new ≡ (trace_step_of self.old).0) }
+        ensures traced { IfOk result (λ traced. traced_value traced ≡ (trace_step_of self.old).1) }
+        ensures age { OnOk result (self.new.age ≤ self.old.age + 1) }
+    {
+        let place = self.machine.place();
+        let letter = self.machine.next();
+        let rules = trace_rules(self.genome.len());
+        let outcome = self.life_step(None, &rules);
+        let remark = self.remark_on(alloc, outcome)?;
+        Ok(Traced {
+            place,
+            letter,
+            registers: self.machine.registers(),
+            remark,
+        })
+    }
+
+    /// What a trace remarks on an outcome; after a viable divide the parent is renewed.
+    fn remark_on(&mut self, alloc: Global, outcome: Outcome) -> Result<Remark, Memory>
+        requires { OnViable outcome (IsDivide self.old) }
+        ensures now { IfOk result (λ remark. (self.new, remark_value remark) ≡ remark_on self.old outcome) }
+        ensures age { OnOk result (self.new.age ≤ self.old.age) }
+    {
+        match outcome {
+            Outcome::Nothing => Ok(Remark::Nothing),
+            Outcome::Task(task) => Ok(Remark::Task(task)),
+            Outcome::Refused { rule, found, bound } => Ok(Remark::Refused { rule, found, bound }),
+            Outcome::Viable(ask) => self.divide(alloc, &ask),
+        }
+    }
+
+    /// The child is what was written.
+    #[tactic(auto, unfolding(crate::specs::Life::renewed))]
+    fn divide(&mut self, alloc: Global, ask: &DivideAsk) -> Result<Remark, Memory>
+        requires { IsDivide self.old ask.now }
+        ensures now { IfOk result (λ remark. (self.new, remark_value remark) ≡ remark_on self.old (Outcome.Viable ask.now)) }
+        ensures age { OnOk result (self.new.age ≡ 0) }
+    {
+        let child = self.machine.cut(alloc, ask)?.written;
+        self.renew(ask);
+        Ok(Remark::Divide {
+            executed: ask.executed,
+            copied: ask.copied,
+            merit: self.merit,
+            child,
+        })
+    }
+
+    /// One step of the life, but for the renewal that a viable divide brings.
+    #[tactic(auto, unfolding(crate::specs::Life::life_step))]
+    pub(crate) fn life_step(&mut self, copy: Option<Letter>, rules: &DivideRules) -> Outcome
+        requires { self.old.age < 2 ^ 62 }
+        ensures step { (self.new, result) ≡ life_step self.old copy rules.now }
+        ensures divide { OnViable result (IsDivide self.new) }
+        ensures age { self.new.age ≡ self.old.age + 1 }
+    {
+        let input = self.inputs.value(self.read);
+        let did = self.machine.step(input, copy);
+        self.age += 1;
+        self.after_did(did, rules)
+    }
+
+    /// What follows from what the machine tells.
+    fn after_did(&mut self, did: Did, rules: &DivideRules) -> Outcome
+        requires read { self.old.read < self.old.age }
+        requires question { AsksOf self.old.machine did }
+        ensures step { (self.new, result) ≡ after_did self.old rules.now did }
+        ensures divide { OnViable result (IsDivide self.new) }
+        ensures age { self.new.age ≡ self.old.age }
+    {
+        match did {
+            Did::Plain => Outcome::Nothing,
+            Did::Copied => Outcome::Nothing,
+            Did::Output { value } => self.after_output(value),
+            Did::Asks(ask) => self.after_question(&ask, rules),
+            Did::Allocated => Outcome::Nothing,
+        }
+    }
+
+    /// A task counts once in a gestation.
+    #[tactic(auto, unfolding(crate::specs::Life::after_output))]
+    fn after_output(&mut self, value: i32) -> Outcome
+        requires { self.old.read < self.old.age }
+        ensures step { (self.new, result) ≡ after_output self.old value }
+        ensures divide { OnViable result (IsDivide self.new) }
+        ensures age { self.new.age ≡ self.old.age }
+    {
+        let task = self.newly_done(value);
+        self.read += 1;
+        match task {
+            Some(task) => {
+                self.gestation = self.gestation.with(task);
+                Outcome::Task(task)
+            }
+            None => Outcome::Nothing,
+        }
+    }
+
+    fn newly_done(&self, value: i32) -> Option<Task>
+        ensures { result ≡ newly_done self.now value }
+    {
+        let task = done(value, &self.inputs, self.read)?;
+        if self.gestation.has(task) {
+            None
+        } else {
+            Some(task)
+        }
+    }
+
+    /// The clause of `length` says that the heads are in memory.
+    fn after_question(&self, ask: &DivideAsk, rules: &DivideRules) -> Outcome
+        requires { IsQuestionOf self.now.machine ask.now }
+        ensures outcome { result ≡ after_question self.now rules.now ask.now }
+        ensures divide { OnViable result (IsDivide self.now) }
+    {
+        let _ = self.machine.length();
+        match judge(ask, self.genome.len(), rules) {
+            Verdict::Viable => Outcome::Viable(*ask),
+            Verdict::Broken { rule, found, bound } => Outcome::Refused { rule, found, bound },
+        }
+    }
+
+    /// The parent after a viable divide.
+    #[tactic(auto, unfolding(crate::specs::Life::renewed))]
+    pub(crate) fn renew(&mut self, ask: &DivideAsk)
+        requires { IsDivide self.old ask.now }
+        ensures { self.new ≡ renewed self.old ask.now }
+    {
+        self.merit = merit(self.genome.len(), ask.executed, ask.copied, self.gestation);
+        self.credited = self.gestation;
+        self.age = 0;
+        self.read = 0;
+        self.gestation = Tasks::none();
+        self.machine.reset(ask.read);
+    }
+}

@@ -1,0 +1,35 @@
+// The rules of a divide in a trace.
+ghost use Rattle.std.specs.Prelude.{◌≡◌};
+ghost use Rattle.organism.specs.TraceRules.{trace_rules};
+
+use divide_rules::{DivideRules, GREATEST_LENGTH, LEAST_LENGTH};
+
+/// The greatest length in the trace of a genome that is no longer.
+pub const TRACE_LENGTH: u32 = 2048;
+
+/// The part of a length that a divide asks for in a trace.
+pub const TRACE_PERCENT: u32 = 50;
+
+/// The rules in the trace of a genome of this length.
+#[tactic(auto, unfolding(crate::specs::TraceRules::trace_rules))]
+pub(crate) fn trace_rules(genome_length: u32) -> DivideRules
+    ensures { result ≡ trace_rules genome_length }
+{
+    if genome_length <= TRACE_LENGTH {
+        DivideRules {
+            least: LEAST_LENGTH,
+            greatest: TRACE_LENGTH,
+            executed_percent: TRACE_PERCENT,
+            copied_percent: TRACE_PERCENT,
+            need_alloc: true,
+        }
+    } else {
+        DivideRules {
+            least: LEAST_LENGTH,
+            greatest: GREATEST_LENGTH,
+            executed_percent: TRACE_PERCENT,
+            copied_percent: TRACE_PERCENT,
+            need_alloc: true,
+        }
+    }
+}
