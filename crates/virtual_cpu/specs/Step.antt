@@ -8,7 +8,7 @@ use Rattle.virtual_cpu.specs.Effects.{effect_of}
 use Rattle.virtual_cpu.specs.Divide.{IsQuestionOf}
 
 -- the place of IP is marked, and the letter there has its effect
-abbrev pub step : Machine → ℤ → Option Letter → Machine × Did
+unfoldable pub step : Machine → ℤ → Option Letter → Machine × Did
 step m input copy = effect_of (letter_under_ip m) (with_ip_marked m) input copy
 
 -- a question that is told is the question of this machine

@@ -289,6 +289,7 @@ impl Cpu {
         self.go_on()
     }
 
+    #[tactic(auto, unfolding(crate::specs::Step::step))]
     /// One instruction. `input` is taken only by IO, `copy` only by h-copy.
     pub fn step(&mut self, input: i32, copy: Option<Letter>) -> Did
         ensures step { (self.new, result) ≡ step self.old input copy }
