@@ -1,0 +1,5 @@
+pub mod Numerals
+pub mod PieceLemmas
+pub mod TraceLemmas
+pub mod Serves
+pub mod PutLemmas

@@ -1,0 +1,106 @@
+-- What `serve` promises of each command: a record a command, with a field for each sentence
+-- (docs/FORMATS.md, "The command line" and "Statuses and fault lines").
+use Rattle.std.specs.Prelude.{◌≡◌, ◌≢◌, ◌⊎◌, ℕ, List, Result, Ok, Err}
+use Rattle.avida_port.specs.Faults.{Rose}
+use Rattle.avida_port.specs.Ports.{SourceState, SinkState, Gained, GainedPrefix, AtEnd}
+use Rattle.instruction_set.specs.declared.letter.Letter.{Letter}
+use Rattle.avida_program.specs.declared.command.Spelling.{Spelling}
+use Rattle.avida_program.specs.declared.status.Status.{Status}
+use Rattle.avida_program.specs.declared.status.Status.TheVariants as status
+use Rattle.avida_program.specs.declared.outcome.Outcome.{Outcome}
+use Rattle.avida_program.specs.declared.outcome.Outcome.TheVariants as outcome
+use Rattle.avida_program.specs.declared.refusal.Refusal.{Refusal}
+use Rattle.avida_program.specs.Input.{IsGenomeWith, genome_of}
+use Rattle.avida_program.specs.Status.{fault_line}
+use Rattle.avida_program.specs.TraceText.{trace_text}
+
+-- what a call finds and what it leaves
+pub record Change (A : Type 0) : Type 0 where
+  pub before : A
+  pub after : A
+
+-- a value before and after a call
+abbrev pub change : {A : Type 0} → A → A → Change A
+change before after = record { before = before; after = after }
+
+-- nothing of it was changed
+abbrev pub Stays : {A : Type 0} → Change A → Type 0
+Stays c = c.after ≡ c.before
+
+-- the faults of a source rose
+abbrev pub SourceFailed : Change SourceState → Type 0
+SourceFailed source = Rose source.before.faults source.after.faults
+
+-- the faults of a sink rose
+abbrev pub SinkFailed : Change SinkState → Type 0
+SinkFailed sink = Rose sink.before.faults sink.after.faults
+
+-- the faults or the wants of a sink rose
+abbrev pub SinkStopped : Change SinkState → Type 0
+SinkStopped sink = SinkFailed sink ⊎ Rose sink.before.wants sink.after.wants
+
+-- exactly this text came behind what the sink held
+abbrev pub GainedText : Change SinkState → List ℕ → Type 0
+GainedText sink text = Gained sink.before sink.after text
+
+-- a front of this text came behind what the sink held
+abbrev pub GainedFront : Change SinkState → List ℕ → Type 0
+GainedFront sink text = GainedPrefix sink.before sink.after text
+
+-- the fault line of an outcome on `err`
+pub record TellsOf (err : Change SinkState) (told : Outcome) : Type 0 where
+  -- nothing where all is done
+  pub done : told ≡ outcome.Done → Stays err
+  -- else a front of the line
+  pub front : told ≢ outcome.Done → GainedFront err (fault_line told)
+  -- and the whole line where no put to `err` has failed or wanted memory
+  pub whole : told ≢ outcome.Done → ¬ SinkStopped err → GainedText err (fault_line told)
+
+-- the outcome that a status tells of, where the input reads so
+abbrev pub told_by : {A : Type 0} → Result A Refusal → Status → Outcome
+told_by read status.Done = outcome.Done
+told_by read status.BadWords = outcome.BadWords
+told_by (Ok input) status.BadInput = outcome.Done
+told_by (Err why) status.BadInput = outcome.BadInput why
+told_by read status.ReadFault = outcome.ReadFault
+told_by read status.WriteFault = outcome.WriteFault
+told_by read status.NoMemory = outcome.NoMemory
+
+-- the words give no command
+pub record ServesNothing (source : Change SourceState) (out watch err : Change SinkState)
+    (s : Status) : Type 0 where
+  pub bad_words : s ≡ status.BadWords
+  -- nothing was read or written but the line
+  pub source_stays : Stays source
+  pub out_stays : Stays out
+  pub watch_stays : Stays watch
+  pub tells : TellsOf err outcome.BadWords
+
+-- `trace` of so many steps, on a source that tells these bytes
+pub record ServesTrace (steps : ℕ) (spelling : Spelling) (bytes : List ℕ)
+    (source : Change SourceState) (out watch err : Change SinkState) (s : Status) : Type 0 where
+  -- Done: the source is read to its end, and `out` gained exactly the trace of the genome
+  pub read : s ≡ status.Done → AtEnd source.after
+  pub text : s ≡ status.Done
+      → IsGenomeWith spelling bytes (λ genome. GainedText out (trace_text genome steps))
+  -- the causes of every other status but NoMemory
+  pub bad_words : s ≢ status.BadWords
+  pub bad_input : s ≡ status.BadInput → (why : Refusal) × (genome_of spelling bytes ≡ Err why)
+  pub read_fault : s ≡ status.ReadFault → SourceFailed source
+  pub write_fault : s ≡ status.WriteFault → SinkFailed out
+  -- an input that is refused is answered so, unless a read fails or memory is wanting
+  pub refused : (why : Refusal) → genome_of spelling bytes ≡ Err why
+      → (s ≡ status.BadInput) ⊎ (s ≡ status.ReadFault) ⊎ (s ≡ status.NoMemory)
+  -- nothing is written of an input that was refused or not read
+  pub nothing : (s ≡ status.BadInput) ⊎ (s ≡ status.ReadFault) → Stays out
+  pub nothing_refused : (why : Refusal) → genome_of spelling bytes ≡ Err why → Stays out
+  -- a front of the trace is written where a put fails or memory is wanting
+  pub front : (s ≡ status.WriteFault) ⊎ (s ≡ status.NoMemory)
+      → (genome : List Letter) → genome_of spelling bytes ≡ Ok genome
+      → GainedFront out (trace_text genome steps)
+  pub watch_stays : Stays watch
+  pub tells : TellsOf err (told_by (genome_of spelling bytes) s)
+  -- an accepted input is served where nothing fails, unless memory is wanting
+  pub complete : (genome : List Letter) → genome_of spelling bytes ≡ Ok genome
+      → ¬ SourceFailed source → ¬ SinkFailed out
+      → (s ≡ status.Done) ⊎ (s ≡ status.NoMemory)

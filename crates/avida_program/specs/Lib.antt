@@ -1,0 +1,8 @@
+pub mod Number
+pub mod CommandLine
+pub mod Status
+pub mod Pieces
+pub mod TraceText
+pub mod Input
+pub mod Commands
+pub mod Outcomes

@@ -1,0 +1,22 @@
+//! All that the program does, over any source and sinks.
+#![tactic(auto)]
+
+mod command;
+mod fault_line;
+mod input;
+mod number;
+mod outcome;
+mod piece;
+mod refusal;
+mod serving;
+mod status;
+mod trace;
+mod trace_line;
+
+pub use command::{Command, MOST_STEPS, Spelling};
+pub use input::INPUT_LIMIT;
+pub use outcome::Outcome;
+pub use piece::PIECE_SIZE;
+pub use refusal::Refusal;
+pub use serving::serve;
+pub use status::Status;

@@ -1,0 +1,89 @@
+// Texts of at most 8 KiB on their way to a sink. No memory is taken for them.
+ghost use Rattle.std.specs.Prelude.{◌≡◌, ◌+◌, ◌<◌, ◌≤◌, ◌∷◌, [], ◌++◌, length, map, decimal, OnOk};
+ghost use Rattle.std.specs.Fmt.{signed_decimal};
+ghost use Rattle.arrayvec.specs.ArrayVec.{array_vec_len};
+ghost use Rattle.instruction_set.specs.Letter.{byte_of};
+ghost use Rattle.avida_program.specs.Pieces.{Writes};
+
+use arrayvec::ArrayVec;
+use avida_port::{Sink, SinkStop};
+use instruction_set::Letter;
+
+/// No put of a trace is longer.
+pub const PIECE_SIZE: usize = 8192;
+
+pub type Piece = ArrayVec<u8, PIECE_SIZE>;
+
+pub fn push_text(piece: &mut Piece, text: &str)
+    requires { array_vec_len piece.old + length text.now ≤ PIECE_SIZE }
+    ensures items { piece.new.items ≡ piece.old.items ++ text.now }
+    ensures len { array_vec_len piece.new ≡ array_vec_len piece.old + length text.now }
+{
+    let _ = piece.try_extend_from_slice(text.as_bytes());
+}
+
+pub fn push_natural(piece: &mut Piece, number: u64)
+    requires { array_vec_len piece.old + 20 ≤ PIECE_SIZE }
+    ensures items { piece.new.items ≡ piece.old.items ++ decimal number }
+    ensures len { array_vec_len piece.new ≤ array_vec_len piece.old + 20 }
+{
+    let mut digits = itoa::Buffer::new();
+    push_text(piece, digits.format(number));
+}
+
+pub fn push_integer(piece: &mut Piece, number: i32)
+    requires { array_vec_len piece.old + 11 ≤ PIECE_SIZE }
+    ensures items { piece.new.items ≡ piece.old.items ++ signed_decimal number }
+    ensures len { array_vec_len piece.new ≤ array_vec_len piece.old + 11 }
+{
+    let mut digits = itoa::Buffer::new();
+    push_text(piece, digits.format(number));
+}
+
+/// Puts the piece, and begins a new one.
+fn put_piece<O: Sink>(piece: &mut Piece, out: &mut O) -> Result<(), SinkStop>
+    ensures writes { Writes (O.seen out.old) (O.seen out.new)
+        piece.old.items piece.new.items [] result }
+    ensures empty { OnOk result (piece.new.items ≡ []) }
+{
+    out.put(piece.as_slice())?;
+    piece.clear();
+    Ok(())
+}
+
+/// Puts the piece where it has no room for so many bytes.
+pub fn make_room<O: Sink>(piece: &mut Piece, bytes: usize, out: &mut O) -> Result<(), SinkStop>
+    requires { bytes ≤ PIECE_SIZE }
+    ensures writes { Writes (O.seen out.old) (O.seen out.new)
+        piece.old.items piece.new.items [] result }
+    ensures room { OnOk result (array_vec_len piece.new + bytes ≤ PIECE_SIZE) }
+{
+    if piece.len() + bytes <= PIECE_SIZE {
+        return Ok(());
+    }
+    put_piece(piece, out)
+}
+
+pub fn write_byte<O: Sink>(piece: &mut Piece, byte: u8, out: &mut O) -> Result<(), SinkStop>
+    ensures { Writes (O.seen out.old) (O.seen out.new)
+        piece.old.items piece.new.items (byte ∷ []) result }
+{
+    make_room(piece, 1, out)?;
+    piece.push(byte);
+    Ok(())
+}
+
+/// Letters may be longer than a piece.
+pub fn write_letters<O: Sink>(
+    piece: &mut Piece,
+    letters: &[Letter],
+    out: &mut O,
+) -> Result<(), SinkStop>
+    ensures { Writes (O.seen out.old) (O.seen out.new)
+        piece.old.items piece.new.items (map byte_of letters.now) result }
+{
+    for letter in letters {
+        write_byte(piece, letter.byte(), out)?;
+    }
+    Ok(())
+}

@@ -1,0 +1,85 @@
+// The whole program.
+ghost use Rattle.std.specs.Prelude.{◌≡◌, ◌↔◌, ℕ, List, Some, None, map, string_bytes};
+ghost use Rattle.avida_program.specs.CommandLine.{command_of};
+ghost use Rattle.avida_program.specs.Commands.{change, Stays, TellsOf, SourceFailed, SinkFailed, ServesNothing, ServesTrace};
+ghost use Rattle.avida_program.specs.Outcomes.{HasCauses, Traces};
+ghost use Rattle.avida_program.specs.declared.command.Command.TheVariants.{Trace};
+ghost use Rattle.avida_program.specs.declared.command.Spelling.{Spelling};
+
+use crate::command::{Command, read_words};
+use crate::fault_line::line_of;
+use crate::trace::trace;
+use crate::{Outcome, Status};
+use avida_port::{Gate, Sink, Source};
+use std::alloc::Global;
+
+/// The line of an outcome goes to `err`, and a failure there changes nothing.
+fn tell<E: Sink>(err: &mut E, outcome: Outcome)
+    ensures { TellsOf (change (E.seen err.old) (E.seen err.new)) outcome }
+{
+    if outcome == Outcome::Done {
+        return;
+    }
+    let line = line_of(outcome);
+    let _ = err.put(line.as_bytes());
+}
+
+/// Carries out the command that the words give.
+fn carry_out<S: Source, O: Sink>(
+    alloc: Global,
+    words: &[String],
+    source: &mut S,
+    out: &mut O,
+) -> Outcome
+    ensures causes { HasCauses (change (S.seen source.old) (S.seen source.new))
+        (change (O.seen out.old) (O.seen out.new)) result }
+    ensures bad_words { result ≡ Outcome.BadWords ↔ command_of (map string_bytes words.now) ≡ None }
+    ensures no_command { command_of (map string_bytes words.now) ≡ None
+        → Stays (change (S.seen source.old) (S.seen source.new))
+        × Stays (change (O.seen out.old) (O.seen out.new)) }
+    ensures trace { (steps : ℕ) (spelling : Spelling)
+        → command_of (map string_bytes words.now) ≡ Some (Trace steps spelling)
+        → (bytes : List ℕ) → (S.seen source.old).left ≡ Some bytes
+        → Traces steps spelling bytes (change (S.seen source.old) (S.seen source.new))
+        (change (O.seen out.old) (O.seen out.new)) result }
+{
+    match read_words(words) {
+        None => Outcome::BadWords,
+        Some(Command::Trace { steps, spelling }) => trace(alloc, steps, spelling, source, out),
+    }
+}
+
+/// All that the program does: the words say what, and the status how it ended.
+pub fn serve<S: Source, O: Sink + Send, W: Sink + Send, E: Sink, G: Gate + Sync>(
+    alloc: Global,
+    words: &[String],
+    source: &mut S,
+    out: &mut O,
+    watch: &mut W,
+    err: &mut E,
+    _gate: &G,
+) -> Status
+    // The causes stand also where the source and the sinks tell no bytes.
+    ensures read_fault { result ≡ Status.ReadFault
+        → SourceFailed (change (S.seen source.old) (S.seen source.new)) }
+    ensures write_fault { result ≡ Status.WriteFault
+        → SinkFailed (change (O.seen out.old) (O.seen out.new)) }
+    ensures bad_words { result ≡ Status.BadWords ↔ command_of (map string_bytes words.now) ≡ None }
+    ensures watch_stays { Stays (change (W.seen watch.old) (W.seen watch.new)) }
+
+    // What each command does.
+    ensures no_command { command_of (map string_bytes words.now) ≡ None
+        → ServesNothing (change (S.seen source.old) (S.seen source.new))
+        (change (O.seen out.old) (O.seen out.new)) (change (W.seen watch.old) (W.seen watch.new))
+        (change (E.seen err.old) (E.seen err.new)) result }
+    ensures trace { (steps : ℕ) (spelling : Spelling)
+        → command_of (map string_bytes words.now) ≡ Some (Trace steps spelling)
+        → (bytes : List ℕ) → (S.seen source.old).left ≡ Some bytes
+        → ServesTrace steps spelling bytes (change (S.seen source.old) (S.seen source.new))
+        (change (O.seen out.old) (O.seen out.new)) (change (W.seen watch.old) (W.seen watch.new))
+        (change (E.seen err.old) (E.seen err.new)) result }
+{
+    let outcome = carry_out(alloc, words, source, out);
+    tell(err, outcome);
+    outcome.status()
+}

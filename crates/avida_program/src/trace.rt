@@ -1,0 +1,120 @@
+// The command `trace`.
+ghost use Rattle.std.specs.Prelude.{◌≡◌, ◌≢◌, ◌≤◌, ℕ, List, Ok, Some, length, IfOk};
+ghost use Rattle.genome.specs.Genome.{letters};
+ghost use Rattle.avida_program.specs.Commands.{change};
+ghost use Rattle.avida_program.specs.Input.{genome_of};
+ghost use Rattle.avida_program.specs.Outcomes.{HasCauses, Traces, WritesText, outcome_of};
+ghost use Rattle.avida_program.specs.TraceText.{lines_of, trace_limit, trace_text, traced_organism};
+
+use crate::input::read_genome;
+use crate::piece::Piece;
+use crate::trace_line::write_line;
+use crate::{INPUT_LIMIT, Outcome, Refusal, Spelling};
+use avida_port::{Memory, ReadStop, Sink, SinkStop, Source, read_all};
+use genome::Genome;
+use logic_tasks::{Inputs, Tasks};
+use organism::Organism;
+use std::alloc::Global;
+use std::sync::Arc;
+
+/// A trace has this limit of memory where the genome is no longer.
+const SHORT_LIMIT: u32 = 2048;
+
+/// The limit for a longer genome.
+const LONG_LIMIT: u32 = 8192;
+
+fn memory_limit(letters: u32) -> u32
+    ensures { result ≡ trace_limit letters }
+{
+    if letters <= SHORT_LIMIT {
+        SHORT_LIMIT
+    } else {
+        LONG_LIMIT
+    }
+}
+
+/// The organism that a trace begins with.
+#[tactic(auto, unfolding(organism::specs::OrganismState::new_organism))]
+fn found(alloc: Global, genome: Genome) -> Result<Organism, Memory>
+    ensures founded { IfOk result (λ organism. organism ≡ traced_organism (letters genome)) }
+    ensures age { IfOk result (λ organism. organism.age ≡ 0) }
+{
+    let len = genome.len();
+    let inputs = Inputs::of([0x0F0F_0F0F, 0x3333_3333, 0x5555_5555]);
+    let Ok(genome) = Arc::new(alloc, genome) else {
+        return Err(Memory);
+    };
+    Organism::found(
+        alloc,
+        genome,
+        inputs,
+        len as u64,
+        Tasks::none(),
+        memory_limit(len),
+    )
+}
+
+fn ended(puts: Result<(), SinkStop>) -> Outcome
+    ensures { result ≡ outcome_of puts }
+{
+    match puts {
+        Ok(()) => Outcome::Done,
+        Err(SinkStop::Fault) => Outcome::WriteFault,
+        Err(SinkStop::Memory) => Outcome::NoMemory,
+    }
+}
+
+/// Steps an organism of age 0, and writes a line a step.
+fn write_steps<O: Sink>(alloc: Global, mut organism: Organism, steps: u32, out: &mut O) -> Outcome
+    requires { organism.age ≡ 0 }
+    ensures { WritesText (lines_of organism steps)
+        (change (O.seen out.old) (O.seen out.new)) result }
+{
+    let mut piece = Piece::new();
+    for step in 0..steps {
+        let Ok(traced) = organism.trace_step(alloc) else {
+            return Outcome::NoMemory;
+        };
+        if let Err(stop) = write_line(&mut piece, step + 1, &traced, out) {
+            return ended(Err(stop));
+        }
+    }
+    ended(out.put(piece.as_slice()))
+}
+
+fn write_trace<O: Sink>(alloc: Global, genome: Genome, steps: u32, out: &mut O) -> Outcome
+    ensures { WritesText (trace_text (letters genome) steps)
+        (change (O.seen out.old) (O.seen out.new)) result }
+{
+    match found(alloc, genome) {
+        Ok(organism) => write_steps(alloc, organism, steps, out),
+        Err(Memory) => Outcome::NoMemory,
+    }
+}
+
+/// Reads a genome, and writes what its organism does in so many steps.
+pub fn trace<S: Source, O: Sink>(
+    alloc: Global,
+    steps: u32,
+    spelling: Spelling,
+    source: &mut S,
+    out: &mut O,
+) -> Outcome
+    ensures causes { HasCauses (change (S.seen source.old) (S.seen source.new))
+        (change (O.seen out.old) (O.seen out.new)) result }
+    ensures words { result ≢ Outcome.BadWords }
+    ensures told { (bytes : List ℕ) → (S.seen source.old).left ≡ Some bytes
+        → Traces steps spelling bytes (change (S.seen source.old) (S.seen source.new))
+        (change (O.seen out.old) (O.seen out.new)) result }
+{
+    let bytes = match read_all(alloc, source, INPUT_LIMIT) {
+        Ok(bytes) => bytes,
+        Err(ReadStop::Memory) => return Outcome::NoMemory,
+        Err(ReadStop::Fault) => return Outcome::ReadFault,
+        Err(ReadStop::TooLong) => return Outcome::BadInput(Refusal::TooLong),
+    };
+    match read_genome(alloc, spelling, bytes) {
+        Ok(genome) => write_trace(alloc, genome, steps, out),
+        Err(outcome) => outcome,
+    }
+}

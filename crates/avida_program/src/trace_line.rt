@@ -1,0 +1,154 @@
+// The lines of a trace.
+ghost use Rattle.std.specs.Prelude.{◌≡◌, ◌+◌, ◌≤◌, ◌++◌, codes, decimal, length};
+ghost use Rattle.std.specs.List.{flat_map};
+ghost use Rattle.std.specs.Fmt.{signed_decimal};
+ghost use Rattle.arrayvec.specs.ArrayVec.{array_vec_len};
+ghost use Rattle.instruction_set.specs.Letter.{name_of};
+ghost use Rattle.logic_tasks.specs.LogicTasks as tasks;
+ghost use Rattle.divide_rules.specs.RuleName.{rule_name_of};
+ghost use Rattle.organism.specs.TracedStep.{remark_value, traced_value};
+ghost use Rattle.avida_program.specs.Pieces.{Writes};
+ghost use Rattle.avida_program.specs.TraceText.{remark_text, spaced, spaced_value, step_text, trace_line};
+
+use crate::piece::{
+    PIECE_SIZE, Piece, make_room, push_integer, push_natural, push_text, write_byte, write_letters,
+};
+use avida_port::{Sink, SinkStop};
+use divide_rules::Rule;
+use genome::Genome;
+use instruction_set::Letter;
+use logic_tasks::Task;
+use organism::{Remark, Traced};
+
+/// No line is longer before its letters.
+const LINE_ROOM: usize = 192;
+
+fn task_name(task: Task) -> &'static str
+    ensures name { result.now ≡ tasks.name_of task }
+    ensures short { length result.now ≤ 4 }
+{
+    task.name()
+}
+
+fn rule_name(rule: Rule) -> &'static str
+    ensures name { result.now ≡ rule_name_of rule }
+    ensures short { length result.now ≤ 2 }
+{
+    rule.name()
+}
+
+fn letter_name(letter: Letter) -> &'static str
+    ensures name { result.now ≡ name_of letter }
+    ensures short { length result.now ≤ 8 }
+{
+    letter.name()
+}
+
+fn push_spaced(piece: &mut Piece, number: u64)
+    requires { array_vec_len piece.old + 21 ≤ PIECE_SIZE }
+    ensures items { piece.new.items ≡ piece.old.items ++ spaced number }
+    ensures len { array_vec_len piece.new ≤ array_vec_len piece.old + 21 }
+{
+    piece.push(b' ');
+    push_natural(piece, number);
+}
+
+fn push_values(piece: &mut Piece, values: &[i32; 3])
+    requires { array_vec_len piece.old + 36 ≤ PIECE_SIZE }
+    ensures items { piece.new.items ≡ piece.old.items ++ flat_map spaced_value values.now }
+    ensures len { array_vec_len piece.new ≤ array_vec_len piece.old + 36 }
+{
+    for value in values {
+        piece.push(b' ');
+        push_integer(piece, *value);
+    }
+}
+
+fn push_step(piece: &mut Piece, number: u32, traced: &Traced)
+    requires { array_vec_len piece.old + 90 ≤ PIECE_SIZE }
+    ensures items { piece.new.items
+        ≡ piece.old.items ++ step_text number (traced_value traced.now) }
+    ensures len { array_vec_len piece.new ≤ array_vec_len piece.old + 90 }
+{
+    push_natural(piece, number as u64);
+    push_spaced(piece, traced.place as u64);
+    piece.push(b' ');
+    push_text(piece, letter_name(traced.letter));
+    push_values(piece, &traced.registers);
+}
+
+fn push_task(piece: &mut Piece, task: Task)
+    requires { array_vec_len piece.old + 5 ≤ PIECE_SIZE }
+    ensures { piece.new.items ≡ piece.old.items ++ codes " " ++ tasks.name_of task }
+{
+    piece.push(b' ');
+    push_text(piece, task_name(task));
+}
+
+fn push_refused(piece: &mut Piece, rule: Rule, found: u32, bound: u32)
+    requires { array_vec_len piece.old + 60 ≤ PIECE_SIZE }
+    ensures { piece.new.items
+        ≡ piece.old.items ++ codes " refused " ++ rule_name_of rule
+        ++ spaced found ++ spaced bound }
+{
+    push_text(piece, " refused ");
+    push_text(piece, rule_name(rule));
+    push_spaced(piece, found as u64);
+    push_spaced(piece, bound as u64);
+}
+
+fn push_divide(piece: &mut Piece, executed: u32, copied: u32, merit: u64)
+    requires { array_vec_len piece.old + 71 ≤ PIECE_SIZE }
+    ensures { piece.new.items
+        ≡ piece.old.items ++ codes " divide" ++ spaced executed ++ spaced copied
+        ++ spaced merit ++ codes " " }
+{
+    push_text(piece, " divide");
+    push_spaced(piece, executed as u64);
+    push_spaced(piece, copied as u64);
+    push_spaced(piece, merit);
+    piece.push(b' ');
+}
+
+fn write_remark<O: Sink>(piece: &mut Piece, remark: &Remark, out: &mut O) -> Result<(), SinkStop>
+    requires { array_vec_len piece.old + 71 ≤ PIECE_SIZE }
+    ensures { Writes (O.seen out.old) (O.seen out.new) piece.old.items piece.new.items
+        (remark_text (remark_value remark.now)) result }
+{
+    match remark {
+        Remark::Nothing => Ok(()),
+        Remark::Task(task) => {
+            push_task(piece, *task);
+            Ok(())
+        }
+        Remark::Refused { rule, found, bound } => {
+            push_refused(piece, *rule, *found, *bound);
+            Ok(())
+        }
+        Remark::Divide {
+            executed,
+            copied,
+            merit,
+            child,
+        } => {
+            push_divide(piece, *executed, *copied, *merit);
+            write_letters(piece, child.letters(), out)
+        }
+    }
+}
+
+/// The line of a step, behind what the piece holds.
+pub fn write_line<O: Sink>(
+    piece: &mut Piece,
+    number: u32,
+    traced: &Traced,
+    out: &mut O,
+) -> Result<(), SinkStop>
+    ensures { Writes (O.seen out.old) (O.seen out.new) piece.old.items piece.new.items
+        (trace_line number (traced_value traced.now)) result }
+{
+    make_room(piece, LINE_ROOM, out)?;
+    push_step(piece, number, traced);
+    write_remark(piece, &traced.remark, out)?;
+    write_byte(piece, b'\n', out)
+}
