@@ -1,0 +1,20 @@
+ghost use Rattle.std.specs.Prelude.{◌≡◌, ℕ, ◌<◌, ◌^◌};
+ghost use Rattle.random_streams.specs.declared.purpose.Purpose.{Purpose};
+ghost use Rattle.random_streams.specs.RandomStream.{draw, stream_number};
+
+use crate::CELLS;
+
+/// A word has 32 bits.
+pub fn words_fit()
+    ensures { (seed update cell : ℕ) (purpose : Purpose) (k : ℕ)
+        → draw seed update cell purpose k < 2 ^ 32 }
+{}
+
+/// No two updates, cells or purposes share a stream.
+pub fn streams_differ()
+    ensures { (update other_update cell other_cell : ℕ) (purpose other_purpose : Purpose)
+        → cell < CELLS
+        → other_cell < CELLS
+        → stream_number update cell purpose ≡ stream_number other_update other_cell other_purpose
+        → (update ≡ other_update) × (cell ≡ other_cell) × (purpose ≡ other_purpose) }
+{}
