@@ -1,5 +1,5 @@
 -- The record of a birth and the child that it makes.
-use Rattle.std.proofs.Common.{◌≡◌, refl, sym, ◌∙◌, ap, subst, ℕ, ◌+◌, Bool, true, false, cond, ◌&&◌, List, [], ◌∷◌, ◌++◌, length, Ok, unwrap_or, Some, None, Option}
+use Rattle.std.proofs.Common.{◌≡◌, refl, sym, ◌∙◌, ap, subst, ℕ, ◌+◌, Bool, true, false, cond, ◌&&◌, List, [], ◌∷◌, ◌++◌, length, Ok, unwrap_or, Some, None, Option, IsNone, ◌↔◌}
 use Rattle.std.specs.Bool.{Decides}
 use Rattle.std.specs.Prelude.{◌==◌}
 use Rattle.std.specs.Cmp.Lexicographic.{pointwise}
@@ -12,7 +12,7 @@ use Rattle.mutations.specs.declared.change.Change.{Change}
 use Rattle.mutations.specs.Change.{text_after}
 use Rattle.mutations.specs.Rates.{RateNumbers, LengthRange}
 use Rattle.mutations.specs.DivideErrors.{Drawn, pointed_text, after_points, points_from, insertions, deletions}
-use Rattle.mutations.specs.BirthRecord.{BirthRecord, drawn_by_divide, same_letters, written_of, child_of}
+use Rattle.mutations.specs.BirthRecord.{drawn_by_divide, same_letters, written_of, child_of}
 use Rattle.mutations.specs.Pass.{Makes, Passed}
 use Rattle.mutations.proofs.ChangeLemmas.{Passed-append}
 use Rattle.mutations.proofs.PointLemmas.{index_of-injective}
@@ -37,6 +37,14 @@ written_of-clean clean parent =
     let P : Bool → Type 0 = λ same. (same ≡ true → clean ≡ parent) → unwrap_or (cond same None (Some clean)) parent ≡ clean in
     let cases : (same : Bool) → P same = λ same. elim same as P [ true ↦ λ equal. sym (equal refl) | false ↦ λ equal. refl ] in
     cases (same_letters clean parent) decides.0
+
+-- there is no written text just where the clean text is the parent's genome
+pub written_of-none : (clean parent : List Letter) → IsNone (written_of clean parent) ↔ (clean ≡ parent)
+written_of-none clean parent =
+    let decides : Decides (same_letters clean parent) (clean ≡ parent) = slice_eq-Decides same_index-Decides clean parent _ refl in
+    let P : Bool → Type 0 = λ same. Decides same (clean ≡ parent) → IsNone (cond same None (Some clean)) ↔ (clean ≡ parent) in
+    let cases : (same : Bool) → P same = λ same. elim same as P [ true ↦ λ d. (λ _. d.0 refl, λ _. refl) | false ↦ λ d. (λ h. absurd cc, λ e. sym (d.1 e)) ] in
+    cases (same_letters clean parent) decides
 
 -- the points, then the insertions, then the deletions
 pub drawn_by_divide-passed : (rates : RateNumbers) (range : LengthRange) (clean written text longer child : List Letter) (points middle changes : List Change) (before pointed between after : Stream) → text ≡ pointed_text (word_of before) rates.site_point before.taken written → pointed ≡ record before { taken = after_points (word_of before) rates.site_point before.taken (length written) } → length text ≡ length written → points ≡ points_from 0 clean text → Makes points clean text → Passed (insertions (word_of pointed) rates range (length text) pointed.taken) text longer points middle pointed between → length longer ≡ length text + length (insertions (word_of pointed) rates range (length text) pointed.taken).changes → Passed (deletions (word_of between) rates range (length longer) between.taken) longer child middle changes between after → Passed (drawn_by_divide (word_of before) before.taken rates range clean written) clean child [] changes before after

@@ -1,17 +1,16 @@
 -- Deletions among the letters of a text.
-use Rattle.std.proofs.Common.{◌≡◌, refl, sym, ◌∙◌, ap, subst, ℕ, zero, suc, ◌+◌, ◌-◌, ◌<◌, ◌≤◌, Bool, true, false, cond, ltb, List, [], ◌∷◌, ◌++◌, length, take, drop, arith, append_assoc, append-nil, length-append, length-drop, get_or}
-use Rattle.std.proofs.lemmas.Grind.{common_steps}
+use Rattle.std.proofs.Common.{◌≡◌, refl, sym, ◌∙◌, ap, subst, ℕ, suc, ◌+◌, ◌-◌, ◌<◌, ◌≤◌, true, ltb, List, [], ◌∷◌, ◌++◌, length, drop, arith, append-nil, length-append, length-drop, get_or}
 use Rattle.std.specs.List.{remove}
 use Rattle.instruction_set.specs.declared.letter.Letter.{Letter}
 use Rattle.instruction_set.specs.declared.letter.Letter.TheVariants.{NopA}
 use Rattle.random_streams.specs.RandomStream.{Stream, hits, word_of}
 use Rattle.mutations.specs.declared.change.Change.{Change}
 use Rattle.mutations.specs.declared.change.Change.TheVariants.{Delete}
-use Rattle.mutations.specs.Change.{text_after, with_change, has_place, is_genome_length}
+use Rattle.mutations.specs.Change.{with_change, has_place, is_genome_length}
 use Rattle.mutations.specs.DivideErrors.{Drawn, none_by, deletion_at, deletions_from, site_deletions, single_deletion, deletions}
 use Rattle.mutations.specs.Rates.{RateNumbers, LengthRange}
 use Rattle.mutations.specs.Pass.{Makes, Passed}
-use Rattle.mutations.proofs.ChangeLemmas.{Makes-append, Makes-one, Makes-none, Left, Left-next, Left-none, Passed-append, drop-here}
+use Rattle.mutations.proofs.ChangeLemmas.{Makes-one, Left, Left-next, Left-none, Passed-append, drop-here}
 
 -- a letter in the middle of a text goes
 pub remove-middle : {A : Type 0} (front rest : List A) (x : A) → remove (front ++ x ∷ rest) (length front) ≡ front ++ rest

@@ -2,4 +2,5 @@ pub mod BirthLemmas
 pub mod ChangeLemmas
 pub mod DeletionLemmas
 pub mod InsertionLemmas
+pub mod LawLemmas
 pub mod PointLemmas

@@ -1,6 +1,5 @@
 -- Points make a text of the clean one.
-use Rattle.std.proofs.Common.{◌≡◌, refl, sym, ◌∙◌, ap, subst, ℕ, ◌+◌, ◌<◌, ◌≤◌, Bool, true, false, cond, eqb, List, [], ◌∷◌, ◌++◌, length, set, Result, Ok, Err, arith, append_assoc, length-append, length-set, get_or}
-use Rattle.std.proofs.lemmas.List.{set-append_right}
+use Rattle.std.proofs.Common.{◌≡◌, refl, sym, ◌∙◌, ap, subst, ℕ, ◌+◌, ◌<◌, Bool, true, false, cond, eqb, List, [], ◌∷◌, ◌++◌, length, set, arith, append_assoc, length-append, length-set, get_or}
 use Rattle.std.proofs.lemmas.Grind.{common_steps}
 use Rattle.std.proofs.lemmas.Bool.Decides.{Decides-eqb}
 use Rattle.genome.specs.Genome.{IsGenome}
@@ -9,7 +8,7 @@ use Rattle.instruction_set.specs.declared.letter.Letter.TheVariants.{NopA, NopB,
 use Rattle.instruction_set.specs.Letter.{index_of, letters}
 use Rattle.mutations.specs.declared.change.Change.{Change}
 use Rattle.mutations.specs.declared.change.Change.TheVariants.{Point}
-use Rattle.mutations.specs.Change.{text_after, with_change, has_place, is_genome_length}
+use Rattle.mutations.specs.Change.{with_change, has_place, is_genome_length}
 use Rattle.mutations.specs.DivideErrors.{points_from}
 use Rattle.mutations.specs.Pass.{Makes}
 use Rattle.mutations.proofs.ChangeLemmas.{Makes-append, Makes-one, Makes-none}

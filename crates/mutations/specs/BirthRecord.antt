@@ -1,4 +1,4 @@
--- The record of a birth, and what it makes of the parent's genome (docs/WORLD.md, "Records of birth").
+-- The record of a birth and the child that it makes (docs/WORLD.md, "Records of birth").
 use Rattle.std.specs.Prelude.{ℕ, ◌+◌, Bool, ◌==◌, if◌then◌else◌, List, ◌++◌, length, Option, None, Some, unwrap_or, Result}
 use Rattle.std.specs.Cmp.Lexicographic.{pointwise}
 use Rattle.instruction_set.specs.declared.letter.Letter.{Letter}
@@ -41,17 +41,20 @@ written_of clean parent = if same_letters clean parent then None else Some clean
 
 -- the changes of a birth: points where the text that has its site points differs from the clean
 -- text, then insertions, then deletions
-unfoldable pub drawn_by_divide : (ℕ → ℕ) → ℕ → RateNumbers → LengthRange → List Letter → List Letter → Drawn
+unfoldable pub drawn_by_divide :
+    (ℕ → ℕ) → ℕ → RateNumbers → LengthRange → List Letter → List Letter → Drawn
 drawn_by_divide words k rates limits clean written =
     let text = pointed_text words rates.site_point k written in
     let points = points_from 0 clean text in
     let next = after_points words rates.site_point k (length written) in
     let longer = insertions words rates limits (length written) next in
-    let shorter = deletions words rates limits (length written + length longer.changes) longer.next in
+    let size = length written + length longer.changes in
+    let shorter = deletions words rates limits size longer.next in
     record { changes = points ++ longer.changes ++ shorter.changes; next = shorter.next }
 
 -- the record of a birth, word k being the first
-abbrev pub origin_of : (ℕ → ℕ) → ℕ → RateNumbers → LengthRange → List Letter → List Letter → List Letter → BirthRecord
+abbrev pub origin_of :
+    (ℕ → ℕ) → ℕ → RateNumbers → LengthRange → List Letter → List Letter → List Letter → BirthRecord
 origin_of words k rates limits clean written parent = record {
   written = written_of clean parent;
   changes = (drawn_by_divide words k rates limits clean written).changes;
@@ -59,4 +62,5 @@ origin_of words k rates limits clean written parent = record {
 
 -- the number of the word after those of a birth
 abbrev pub after_birth : (ℕ → ℕ) → ℕ → RateNumbers → LengthRange → List Letter → List Letter → ℕ
-after_birth words k rates limits clean written = (drawn_by_divide words k rates limits clean written).next
+after_birth words k rates limits clean written =
+    (drawn_by_divide words k rates limits clean written).next

@@ -11,7 +11,8 @@ letter_of_word word = unwrap_or (letter_at (scaled word 26)) NopA
 
 -- the letter that is put in where word k hits, drawn by the word after it
 abbrev pub error_letter : (ℕ → ℕ) → ℕ → ℕ → Option Letter
-error_letter words rate k = if hits (words k) rate then Some (letter_of_word (words (k + 1))) else None
+error_letter words rate k =
+    if hits (words k) rate then Some (letter_of_word (words (k + 1))) else None
 
 -- the number of the word after those of a test by word k
 abbrev pub after_error : (ℕ → ℕ) → ℕ → ℕ → ℕ

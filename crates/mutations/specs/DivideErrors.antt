@@ -1,6 +1,6 @@
 -- The errors of a divide, as words draw them (docs/WORLD.md, "Records of birth").
 -- Word k is the one that makes the first test.
-use Rattle.std.specs.Prelude.{ℕ, zero, suc, ◌+◌, ◌-◌, Bool, ◌&&◌, ◌==◌, nat_lt, if◌then◌else◌, List, [], ◌∷◌, ◌++◌, length, unwrap_or}
+use Rattle.std.specs.Prelude.{ℕ, zero, suc, ◌+◌, ◌-◌, ◌&&◌, ◌==◌, nat_lt, if◌then◌else◌, List, [], ◌∷◌, ◌++◌, length, unwrap_or}
 use Rattle.instruction_set.specs.declared.letter.Letter.{Letter}
 use Rattle.instruction_set.specs.Letter.{index_of}
 use Rattle.random_streams.specs.RandomStream.{scaled, hits}
@@ -22,7 +22,8 @@ none_by k = record { changes = []; next = k }
 abbrev pub site_text : (ℕ → ℕ) → ℕ → ℕ → List Letter → List Letter
 site_text words rate k [] = []
 site_text words rate k (letter ∷ text) =
-    unwrap_or (error_letter words rate k) letter ∷ site_text words rate (after_error words rate k) text
+    unwrap_or (error_letter words rate k) letter
+    ∷ site_text words rate (after_error words rate k) text
 
 -- the number of the word after the tests of so many places
 abbrev pub after_sites : (ℕ → ℕ) → ℕ → ℕ → ℕ → ℕ
@@ -58,7 +59,8 @@ abbrev pub insertions_from : (ℕ → ℕ) → ℕ → ℕ → ℕ → ℕ → �
 insertions_from words rate greatest at zero k = none_by k
 insertions_from words rate greatest at (suc left) k =
     let here = insertion_at words rate greatest (at + suc left) at k in
-    let others = insertions_from words rate greatest (at + length here.changes + 1) left here.next in
+    let place = at + length here.changes + 1 in
+    let others = insertions_from words rate greatest place left here.next in
     record { changes = here.changes ++ others.changes; next = others.next }
 
 -- the site insertions in a text of this length, where they are drawn at all
@@ -70,7 +72,10 @@ site_insertions words rate greatest len k =
 abbrev pub single_insertion : (ℕ → ℕ) → ℕ → ℕ → ℕ → ℕ → Drawn
 single_insertion words rate greatest len k =
     if hits (words k) rate && nat_lt len greatest
-    then record { changes = Insert (scaled (words (k + 1)) (len + 1)) (letter_of_word (words (k + 2))) ∷ []; next = k + 3 }
+    then record {
+      changes = Insert (scaled (words (k + 1)) (len + 1)) (letter_of_word (words (k + 2))) ∷ [];
+      next = k + 3;
+    }
     else none_by (k + 1)
 
 -- the deletion of the letter at a place of a text of this length
@@ -104,12 +109,14 @@ single_deletion words rate least len k =
 abbrev pub insertions : (ℕ → ℕ) → RateNumbers → LengthRange → ℕ → ℕ → Drawn
 insertions words rates limits len k =
     let sites = site_insertions words rates.site_insert limits.greatest len k in
-    let single = single_insertion words rates.insert limits.greatest (len + length sites.changes) sites.next in
+    let longer = len + length sites.changes in
+    let single = single_insertion words rates.insert limits.greatest longer sites.next in
     record { changes = sites.changes ++ single.changes; next = single.next }
 
 -- the shortening of a text of this length: site deletions, then the single one
 abbrev pub deletions : (ℕ → ℕ) → RateNumbers → LengthRange → ℕ → ℕ → Drawn
 deletions words rates limits len k =
     let sites = site_deletions words rates.site_delete limits.least len k in
-    let single = single_deletion words rates.delete limits.least (len - length sites.changes) sites.next in
+    let shorter = len - length sites.changes in
+    let single = single_deletion words rates.delete limits.least shorter sites.next in
     record { changes = sites.changes ++ single.changes; next = single.next }

@@ -11,7 +11,8 @@ pub record Makes (changes : List Change) (from to : List Letter) : Type 0 where
   pub made : (nth : ℕ) → text_after nth changes from ≡ Ok to
 
 -- it made the changes drawn, noted them, and left the stream before the word after theirs
-pub record Passed (drawn : Drawn) (from to : List Letter) (old new : List Change) (before after : Stream) : Type 0 where
+pub record Passed (drawn : Drawn) (from to : List Letter) (old new : List Change)
+    (before after : Stream) : Type 0 where
   pub made : Makes drawn.changes from to
   pub noted : new ≡ old ++ drawn.changes
   pub taken : after ≡ record before { taken = drawn.next }

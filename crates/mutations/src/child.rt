@@ -12,7 +12,8 @@ use std::alloc::Global;
 
 /// The child: the changes in turn on the base.
 pub fn apply(alloc: Global, parent: &Genome, origin: &Origin) -> Result<Genome, ApplyStop>
-    ensures ok { IfOk result (λ child. child_of (letters parent.now) (record_of origin.now) ≡ Ok (letters child)) }
+    ensures ok { IfOk result (λ child.
+        child_of (letters parent.now) (record_of origin.now) ≡ Ok (letters child)) }
     ensures refused { IfErr result (λ stop. stop ≢ ApplyStop.Memory
         → child_of (letters parent.now) (record_of origin.now) ≡ Err stop) }
 {
@@ -26,7 +27,8 @@ pub fn apply(alloc: Global, parent: &Genome, origin: &Origin) -> Result<Genome, 
 fn changed(alloc: Global, base: &[Letter], changes: &[Change]) -> Result<Genome, ApplyStop>
     requires { IsGenome base.now }
     ensures ok { IfOk result (λ child. text_after 1 changes.now base.now ≡ Ok (letters child)) }
-    ensures refused { IfErr result (λ stop. stop ≢ ApplyStop.Memory → text_after 1 changes.now base.now ≡ Err stop) }
+    ensures refused { IfErr result (λ stop. stop ≢ ApplyStop.Memory
+        → text_after 1 changes.now base.now ≡ Err stop) }
 {
     let Ok(mut text) = Vec::from_slice(alloc, base) else {
         return Err(ApplyStop::Memory);
@@ -43,8 +45,8 @@ fn changed(alloc: Global, base: &[Letter], changes: &[Change]) -> Result<Genome,
 /// Makes one change. A refused change leaves the text.
 fn change_text(text: &mut Vec<Letter>, change: Change, nth: u64) -> Result<(), ApplyStop>
     requires { IsGenome text.old.items }
-    ensures ok { OnOk result ((rest : List Change)
-        → text_after nth (change ∷ rest) text.old.items ≡ text_after (nth + 1) rest text.new.items) }
+    ensures ok { OnOk result ((rest : List Change) → text_after nth (change ∷ rest) text.old.items
+        ≡ text_after (nth + 1) rest text.new.items) }
     ensures genome { OnOk result (IsGenome text.new.items) }
     ensures refused { IfErr result (λ stop. stop ≢ ApplyStop.Memory
         → (rest : List Change) → text_after nth (change ∷ rest) text.old.items ≡ Err stop) }

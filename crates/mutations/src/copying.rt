@@ -12,8 +12,9 @@ pub fn copy_error(rates: &Rates, draws: &mut Draws) -> Option<Letter>
     requires { draws.old.taken < WORDS - 2 }
     ensures none { IsNone result ↔ IsFalse (hits (next_word draws.old) rates.now.copy) }
     ensures letter { result ≡ error_letter (word_of draws.old) rates.now.copy draws.old.taken }
-    ensures taken { draws.new
-        ≡ record draws.old { taken = after_error (word_of draws.old) rates.now.copy draws.old.taken } }
+    ensures taken { draws.new ≡ record draws.old {
+      taken = after_error (word_of draws.old) rates.now.copy draws.old.taken;
+    } }
 {
     error_letter(rates.copy, draws)
 }
@@ -22,8 +23,9 @@ pub(crate) fn error_letter(rate: u32, draws: &mut Draws) -> Option<Letter>
     requires rate { rate ≤ MILLION }
     requires room { draws.old.taken + 2 ≤ WORDS }
     ensures letter { result ≡ error_letter (word_of draws.old) rate draws.old.taken }
-    ensures taken { draws.new
-        ≡ record draws.old { taken = after_error (word_of draws.old) rate draws.old.taken } }
+    ensures taken { draws.new ≡ record draws.old {
+      taken = after_error (word_of draws.old) rate draws.old.taken;
+    } }
 {
     if draws.hits(rate) {
         Some(drawn_letter(draws))

@@ -117,7 +117,8 @@ fn test_sites(
         (deletions_from (word_of draws.old) rate least 0 (length text.now) draws.old.taken)
         text.now shorter.items changes.old.items changes.new.items draws.old draws.new) }
     ensures shorter { IfOk result (λ shorter. length text.now ≡ length shorter.items
-        + length (deletions_from (word_of draws.old) rate least 0 (length text.now) draws.old.taken).changes) }
+        + length (deletions_from (word_of draws.old) rate least 0 (length text.now)
+        draws.old.taken).changes) }
     ensures within { IfOk result (λ shorter. least ≤ length shorter.items) }
     ensures least { draws.old.taken ≤ draws.new.taken }
     ensures most { draws.new.taken ≤ draws.old.taken + length text.now }

@@ -1,5 +1,5 @@
 // The record and the genome of a child.
-ghost use Rattle.std.specs.Prelude.{◌≡◌, ◌+◌, ◌-◌, ◌*◌, ◌≤◌, ◌<◌, Ok, [], length, IfOk, OnOk};
+ghost use Rattle.std.specs.Prelude.{◌≡◌, ◌+◌, ◌-◌, ◌*◌, ◌≤◌, ◌<◌, Ok, [], ◌↔◌, length, IsNone, IfOk, OnOk};
 ghost use Rattle.genome.specs.Genome.{letters};
 ghost use Rattle.random_streams.specs.RandomStream.{word_of};
 ghost use Rattle.mutations.specs.Rates.{numbers_of, range_of};
@@ -37,17 +37,20 @@ pub fn divide_errors(
     ensures origin { IfOk result (λ born. record_of born.origin
         ≡ origin_of (word_of draws.old) draws.old.taken (numbers_of rates.now) (range_of limits.now)
         (letters clean.now) (letters written.now) (letters parent.now)) }
+    ensures base { IfOk result (λ born. IsNone (record_of born.origin).written
+        ↔ (letters clean.now ≡ letters parent.now)) }
     // The genome is the one that the record makes.
     ensures child { IfOk result (λ born.
         child_of (letters parent.now) (record_of born.origin) ≡ Ok (letters born.genome)) }
     ensures shortest { IfOk result (λ born. limits.now.least ≤ length (letters born.genome)) }
     ensures longest { IfOk result (λ born. length (letters born.genome) ≤ limits.now.greatest) }
     ensures taken { OnOk result (draws.new ≡ record draws.old {
-      taken = after_birth (word_of draws.old) draws.old.taken (numbers_of rates.now) (range_of limits.now)
-          (letters clean.now) (letters written.now);
+      taken = after_birth (word_of draws.old) draws.old.taken (numbers_of rates.now)
+          (range_of limits.now) (letters clean.now) (letters written.now);
     }) }
     ensures least { OnOk result (draws.old.taken + 2 ≤ draws.new.taken) }
-    ensures most { OnOk result (draws.new.taken ≤ draws.old.taken + 6 * length (letters written.now) + 6) }
+    ensures most { OnOk result (draws.new.taken
+        ≤ draws.old.taken + 6 * length (letters written.now) + 6) }
 {
     let drawn = drawn_child(
         alloc,
@@ -75,7 +78,8 @@ pub fn divide_errors(
 
 /// The parent, exactly where the clean text is its genome.
 fn base_of(alloc: Global, clean: &Genome, parent: &Genome) -> Result<Base, Memory>
-    ensures { IfOk result (λ base. written_in base ≡ written_of (letters clean.now) (letters parent.now)) }
+    ensures { IfOk result (λ base. written_in base
+        ≡ written_of (letters clean.now) (letters parent.now)) }
 {
     if are_equal(clean.letters(), parent.letters()) {
         Ok(Base::Parent)
@@ -104,8 +108,8 @@ fn drawn_child(
     requires longest { length written.now ≤ limits.now.greatest }
     requires room { draws.old.taken < WORDS - BIRTH_WORDS }
     ensures passed { IfOk result (λ drawn. Passed
-        (drawn_by_divide (word_of draws.old) draws.old.taken (numbers_of rates.now) (range_of limits.now)
-        clean.now written.now)
+        (drawn_by_divide (word_of draws.old) draws.old.taken (numbers_of rates.now)
+        (range_of limits.now) clean.now written.now)
         clean.now drawn.0.items [] drawn.1.items draws.old draws.new) }
     ensures shortest { IfOk result (λ drawn. limits.now.least ≤ length drawn.0.items) }
     ensures longest { IfOk result (λ drawn. length drawn.0.items ≤ limits.now.greatest) }

@@ -126,7 +126,8 @@ fn test_sites(
         (insertions_from (word_of draws.old) rate greatest 0 (length text.now) draws.old.taken)
         text.now longer.items changes.old.items changes.new.items draws.old draws.new) }
     ensures longer { IfOk result (λ longer. length longer.items ≡ length text.now
-        + length (insertions_from (word_of draws.old) rate greatest 0 (length text.now) draws.old.taken).changes) }
+        + length (insertions_from (word_of draws.old) rate greatest 0 (length text.now)
+        draws.old.taken).changes) }
     ensures within { IfOk result (λ longer. length longer.items ≤ greatest) }
     ensures doubled { IfOk result (λ longer. length longer.items ≤ 2 * length text.now) }
     ensures least { draws.old.taken ≤ draws.new.taken }

@@ -10,12 +10,15 @@ mod copying;
 mod deletions;
 mod dividing;
 mod insertions;
+pub mod laws;
 mod limits;
 mod origin;
 mod rate_name;
 mod rates;
 mod site_points;
 mod stop;
+#[cfg(test)]
+mod tests;
 
 pub use base::Base;
 pub use born::Born;

@@ -1,4 +1,4 @@
-use Rattle.std.proofs.Common.{arith, refl, sym, ◌∙◌}
+use Rattle.std.proofs.Common.{arith}
 use Rattle.std.proofs.lemmas.Grind.{common_steps}
 use Rattle.random_streams.specs.RandomStream.{word_of}
 use Rattle.mutations.proofs.DeletionLemmas.{Passed-delete}

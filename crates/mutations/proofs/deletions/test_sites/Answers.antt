@@ -1,7 +1,6 @@
-use Rattle.std.proofs.Common.{◌≡◌, ◌+◌, ap, arith, [], drop, length, length-drop}
+use Rattle.std.proofs.Common.{◌≡◌, ◌+◌, ap, arith, [], drop, length-drop}
 use Rattle.std.proofs.lemmas.Grind.{common_steps}
 use Rattle.random_streams.specs.RandomStream.{word_of}
-use Rattle.mutations.specs.Pass.{Passed}
 use Rattle.mutations.proofs.DeletionLemmas.{DeletionsLeft-step, DeletionsLeft-end}
 use Rattle.mutations.proofs.deletions.test_sites.Goals as goal
 

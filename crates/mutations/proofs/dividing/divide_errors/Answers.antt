@@ -1,11 +1,15 @@
-use Rattle.std.proofs.Common.{◌≡◌, ◌∙◌, sym, ap, arith, Ok, List}
+use Rattle.std.proofs.Common.{◌≡◌, ◌∙◌, sym, ap, subst, arith, Ok, List, Option, IsNone, ◌↔◌}
 use Rattle.std.proofs.lemmas.Grind.{common_steps}
 use Rattle.genome.specs.Genome.{letters}
 use Rattle.instruction_set.specs.declared.letter.Letter.{Letter}
 use Rattle.mutations.specs.declared.change.Change.{Change}
 use Rattle.mutations.specs.BirthRecord.{written_in, written_of, child_of}
-use Rattle.mutations.proofs.BirthLemmas.{child_of-made}
+use Rattle.mutations.proofs.BirthLemmas.{child_of-made, written_of-none}
 use Rattle.mutations.proofs.dividing.divide_errors.Goals as goal
+
+pub returns-clause-base : goal.returns-clause-base
+returns-clause-base c =
+    subst (λ (o : Option (List Letter)). IsNone o ↔ (letters c.args.clean.now ≡ letters c.args.parent.now)) (sym c.in_ok-base.ensures) (written_of-none (letters c.args.clean.now) (letters c.args.parent.now))
 
 pub returns-clause-child : goal.returns-clause-child
 returns-clause-child c =

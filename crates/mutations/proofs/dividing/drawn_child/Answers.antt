@@ -1,6 +1,5 @@
-use Rattle.std.proofs.Common.{◌≡◌, List, length, arith}
+use Rattle.std.proofs.Common.{arith}
 use Rattle.std.proofs.lemmas.Grind.{common_steps}
-use Rattle.instruction_set.specs.declared.letter.Letter.{Letter}
 use Rattle.mutations.specs.Rates.{numbers_of, range_of}
 use Rattle.mutations.proofs.BirthLemmas.{drawn_by_divide-passed}
 use Rattle.mutations.proofs.dividing.drawn_child.Goals as goal

@@ -1,7 +1,6 @@
-use Rattle.std.proofs.Common.{◌≡◌, ◌+◌, ap, arith, [], drop, length, length-drop}
+use Rattle.std.proofs.Common.{◌≡◌, ◌+◌, ap, arith, [], drop, length-drop}
 use Rattle.std.proofs.lemmas.Grind.{common_steps}
 use Rattle.random_streams.specs.RandomStream.{word_of}
-use Rattle.mutations.specs.Pass.{Passed}
 use Rattle.mutations.proofs.InsertionLemmas.{InsertionsLeft-step, InsertionsLeft-end}
 use Rattle.mutations.proofs.insertions.test_sites.Goals as goal
 

@@ -2,7 +2,6 @@ use Rattle.std.proofs.Common.{◌≡◌, refl, [], arith}
 use Rattle.std.proofs.lemmas.Grind.{common_steps}
 use Rattle.genome.specs.Genome.{IsGenome}
 use Rattle.mutations.specs.DivideErrors.{points_from}
-use Rattle.mutations.specs.Pass.{Makes}
 use Rattle.mutations.proofs.PointLemmas.{points-make}
 use Rattle.mutations.proofs.site_points.points.Goals as goal
 

@@ -1,4 +1,4 @@
-use Rattle.std.proofs.Common.{◌≡◌, ◌+◌, ◌*◌, ◌-◌, ◌≤◌, ◌++◌, take, drop, length}
+use Rattle.std.proofs.Common.{◌≡◌, ◌+◌, ◌*◌, ◌≤◌, ◌++◌, take, drop, length}
 use Rattle.random_streams.specs.RandomStream.{word_of}
 use Rattle.mutations.specs.DivideErrors.{site_text, after_sites}
 use Rattle.mutations.proofs.site_points.test_sites.Given as goal

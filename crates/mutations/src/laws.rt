@@ -1,0 +1,20 @@
+ghost use Rattle.std.specs.Prelude.{◌≡◌, ℕ, ◌<◌, ◌≤◌, ◌^◌, List, length, IsOkAnd};
+ghost use Rattle.instruction_set.specs.declared.letter.Letter.{Letter};
+ghost use Rattle.mutations.specs.Rates.{RateNumbers, LengthRange};
+ghost use Rattle.mutations.specs.BirthRecord.{child_of, origin_of};
+
+use genome::{GREATEST_LENGTH, LEAST_LENGTH};
+
+/// The record that words give applies, and the child's length is within the limits.
+pub fn drawn_records_apply()
+    ensures { (words : ℕ → ℕ) (k : ℕ) (rates : RateNumbers) (limits : LengthRange)
+        (clean written parent : List Letter)
+        → ((n : ℕ) → words n < 2 ^ 32)
+        → LEAST_LENGTH ≤ limits.least
+        → limits.greatest ≤ GREATEST_LENGTH
+        → length clean ≡ length written
+        → limits.least ≤ length written
+        → length written ≤ limits.greatest
+        → IsOkAnd (child_of parent (origin_of words k rates limits clean written parent))
+        (λ child. (limits.least ≤ length child) × (length child ≤ limits.greatest)) }
+{}
