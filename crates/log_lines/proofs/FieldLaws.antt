@@ -141,7 +141,7 @@ letters_again : (ls : List Letter) → each letter_of_byte (map byte_of ls) ≡ 
 letters_again [] = refl
 letters_again (l ∷ ls) = rw (letter_of_byte-byte_of l, letters_again ls) refl
 
-letters_taken : (word : List ℕ) (ls : List Letter) → each letter_of_byte word ≡ Some ls → map byte_of ls ≡ word
+pub letters_taken : (word : List ℕ) (ls : List Letter) → each letter_of_byte word ≡ Some ls → map byte_of ls ≡ word
 letters_taken [] ls is = let e : [] ≡ ls = cc in subst (λ (l : List Letter). map byte_of l ≡ []) e refl
 letters_taken (b ∷ bs) ls is =
     let first = some_then (λ a. option_map (λ others. a ∷ others) (each letter_of_byte bs)) (letter_of_byte b) ls is in

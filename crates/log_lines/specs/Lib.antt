@@ -6,4 +6,5 @@ pub mod Line
 pub mod Kinds
 pub mod LineText
 pub mod LineReading
+pub mod Words
 pub mod Kept

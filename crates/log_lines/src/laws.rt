@@ -9,5 +9,6 @@ pub fn one_spelling()
     ensures again { (line : Line) → HasForm line → line_of (row_text line) ≡ Some line }
     ensures takes { (bytes : List ℕ) (line : Line) → line_of bytes ≡ Some line
         → (row_text line ≡ bytes) × HasForm line }
-    ensures one_line { (line : Line) → HasForm line → AllByRecursion (λ b. 10 < b) (row_text line) }
+    ensures one_line { (line : Line) → HasForm line
+        → AllByRecursion (λ b. 10 < b) (row_text line) }
 {}

@@ -53,7 +53,8 @@ fn number(out: &mut Vec<u8>, before: u8, value: u64) -> Result<(), Memory>
 
 /// A space, and the letters of a genome.
 fn letters(out: &mut Vec<u8>, genome: &Genome) -> Result<(), Memory>
-    ensures ok { OnOk result (out.new.items ≡ out.old.items ++ 32 ∷ letters.text (genome_spec.letters genome.now)) }
+    ensures ok { OnOk result (out.new.items ≡ out.old.items
+        ++ 32 ∷ letters.text (genome_spec.letters genome.now)) }
     ensures err { OnErr result (Keeps out.old.items out.new.items) }
 {
     byte(out, b' ')?;
@@ -71,7 +72,8 @@ fn over(out: &mut Vec<u8>, over: Option<u64>) -> Result<(), Memory>
 }
 
 fn base(out: &mut Vec<u8>, base: &Base) -> Result<(), Memory>
-    ensures ok { OnOk result (out.new.items ≡ out.old.items ++ 32 ∷ base_field.text (written_in base.now)) }
+    ensures ok { OnOk result (out.new.items ≡ out.old.items
+        ++ 32 ∷ base_field.text (written_in base.now)) }
     ensures err { OnErr result (Keeps out.old.items out.new.items) }
 {
     match base {
@@ -102,7 +104,8 @@ fn change(out: &mut Vec<u8>, before: u8, change: Change) -> Result<(), Memory>
 #[tactic(auto, using(crate::proofs::KeptLemmas::keeps_front))]
 /// The items, behind a space and then behind commas.
 fn changes(out: &mut Vec<u8>, changes: &Changes) -> Result<(), Memory>
-    ensures ok { OnOk result (out.new.items ≡ out.old.items ++ 32 ∷ list_text change changes.now) }
+    ensures ok { OnOk result (out.new.items ≡ out.old.items
+        ++ 32 ∷ list_text change changes.now) }
     ensures err { OnErr result (Keeps out.old.items out.new.items) }
 {
     if changes.len() == 0 {
@@ -120,7 +123,8 @@ fn changes(out: &mut Vec<u8>, changes: &Changes) -> Result<(), Memory>
 /// The nine counts.
 #[tactic(auto, using(crate::proofs::KeptLemmas::keeps_front))]
 fn tasks(out: &mut Vec<u8>, tasks: &[u64; 9]) -> Result<(), Memory>
-    ensures ok { OnOk result (out.new.items ≡ out.old.items ++ words_text (map (λ n. decimal n) tasks.now)) }
+    ensures ok { OnOk result (out.new.items ≡ out.old.items
+        ++ words_text (map (λ n. decimal n) tasks.now)) }
     ensures err { OnErr result (Keeps out.old.items out.new.items) }
 {
     for count in tasks {
@@ -144,7 +148,8 @@ fn rate_key(name: RateName) -> &'static [u8]
 
 /// The update and the cell.
 fn placed(out: &mut Vec<u8>, update: u32, cell: u32) -> Result<(), Memory>
-    ensures ok { OnOk result (out.new.items ≡ out.old.items ++ words_text (decimal update ∷ decimal cell ∷ [])) }
+    ensures ok { OnOk result (out.new.items ≡ out.old.items
+        ++ words_text (decimal update ∷ decimal cell ∷ [])) }
     ensures err { OnErr result (Keeps out.old.items out.new.items) }
 {
     number(out, b' ', u64::from(update))?;
@@ -155,7 +160,8 @@ fn placed(out: &mut Vec<u8>, update: u32, cell: u32) -> Result<(), Memory>
 #[tactic(auto, using(crate::proofs::KeptLemmas::keeps_front))]
 fn record(out: &mut Vec<u8>, origin: &Origin) -> Result<(), Memory>
     ensures ok { OnOk result (out.new.items ≡ out.old.items
-        ++ words_text (base_field.text (written_in origin.now.base) ∷ changes_field.text origin.now.changes ∷ [])) }
+        ++ words_text (base_field.text (written_in origin.now.base)
+        ∷ changes_field.text origin.now.changes ∷ [])) }
     ensures err { OnErr result (Keeps out.old.items out.new.items) }
 {
     base(out, &origin.base)?;
@@ -164,7 +170,8 @@ fn record(out: &mut Vec<u8>, origin: &Origin) -> Result<(), Memory>
 
 /// How many live, were born and died.
 fn turnover(out: &mut Vec<u8>, living: u64, births: u64, deaths: u64) -> Result<(), Memory>
-    ensures ok { OnOk result (out.new.items ≡ out.old.items ++ words_text (decimal living ∷ decimal births ∷ decimal deaths ∷ [])) }
+    ensures ok { OnOk result (out.new.items ≡ out.old.items
+        ++ words_text (decimal living ∷ decimal births ∷ decimal deaths ∷ [])) }
     ensures err { OnErr result (Keeps out.old.items out.new.items) }
 {
     number(out, b' ', living)?;
@@ -182,7 +189,8 @@ fn start(
     genome: &Genome,
 ) -> Result<(), Memory>
     ensures ok { OnOk result (out.new.items ≡ out.old.items
-        ++ form_text 76 start_row (version, (width, (height, (cell, genome_spec.letters genome.now))))) }
+        ++ form_text 76 start_row
+        (version, (width, (height, (cell, genome_spec.letters genome.now))))) }
     ensures err { OnErr result (Keeps out.old.items out.new.items) }
 {
     byte(out, b'L')?;
@@ -196,7 +204,8 @@ fn start(
 /// The mark, and a death's row.
 #[tactic(auto, using(crate::proofs::KeptLemmas::keeps_front))]
 fn death(out: &mut Vec<u8>, mark: u8, id: u64, update: u32, cell: u32) -> Result<(), Memory>
-    ensures ok { OnOk result (out.new.items ≡ out.old.items ++ form_text mark death_row (id, (update, cell))) }
+    ensures ok { OnOk result (out.new.items ≡ out.old.items
+        ++ form_text mark death_row (id, (update, cell))) }
     ensures err { OnErr result (Keeps out.old.items out.new.items) }
 {
     byte(out, mark)?;
@@ -236,7 +245,8 @@ fn injected(
     genome: &Genome,
 ) -> Result<(), Memory>
     ensures ok { OnOk result (out.new.items ≡ out.old.items
-        ++ form_text 73 injected_row (id, (update, (cell, (who, genome_spec.letters genome.now))))) }
+        ++ form_text 73 injected_row
+        (id, (update, (cell, (who, genome_spec.letters genome.now))))) }
     ensures err { OnErr result (Keeps out.old.items out.new.items) }
 {
     byte(out, b'I')?;
@@ -247,7 +257,8 @@ fn injected(
 }
 
 fn rate(out: &mut Vec<u8>, update: u32, name: RateName, ppm: u32) -> Result<(), Memory>
-    ensures ok { OnOk result (out.new.items ≡ out.old.items ++ form_text 82 rate_row (update, (name, ppm))) }
+    ensures ok { OnOk result (out.new.items ≡ out.old.items
+        ++ form_text 82 rate_row (update, (name, ppm))) }
     ensures err { OnErr result (Keeps out.old.items out.new.items) }
 {
     byte(out, b'R')?;
@@ -259,7 +270,8 @@ fn rate(out: &mut Vec<u8>, update: u32, name: RateName, ppm: u32) -> Result<(), 
 
 #[tactic(auto, using(crate::proofs::KeptLemmas::keeps_front))]
 fn count(out: &mut Vec<u8>, stats: &Stats) -> Result<(), Memory>
-    ensures ok { OnOk result (out.new.items ≡ out.old.items ++ form_text 85 count_row (counted stats.now)) }
+    ensures ok { OnOk result (out.new.items ≡ out.old.items
+        ++ form_text 85 count_row (counted stats.now)) }
     ensures err { OnErr result (Keeps out.old.items out.new.items) }
 {
     byte(out, b'U')?;

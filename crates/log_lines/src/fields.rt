@@ -1,0 +1,219 @@
+// Reads the fields of a line that are more than a number.
+ghost use Rattle.std.specs.Prelude.{◌≡◌, ◌∷◌, ◌==◌, ◌&&◌, ℕ, Some, None, IfOk, option_copied, option_map, option_and_then, length, if◌then◌else◌};
+ghost use Rattle.instruction_set.specs.Letter.{letter_of_byte};
+ghost use Rattle.genome.specs.Genome as genome_spec;
+ghost use Rattle.mutations.specs.BirthRecord.{written_in};
+ghost use Rattle.mutations.specs.Change.{is_genome_length};
+ghost use Rattle.log_lines.specs.Fields.{each, genome_of, list_of, or_sign};
+ghost use Rattle.log_lines.specs.Kinds.{base_field, change, changes_field, in_order, large, may_follow, over_field, rate_named, read_change, read_lettered};
+ghost use Rattle.log_lines.specs.Words.{ToChange, pieces_of};
+
+use crate::digits::{number, small_number};
+use crate::words::split_at;
+use avida_port::Memory;
+use genome::{GREATEST_LENGTH, Genome, GenomeStop, LEAST_LENGTH};
+use instruction_set::Letter;
+use mutations::{Base, Change, Changes, RateName};
+use std::alloc::Global;
+
+/// The letters of a word, where each byte is one.
+fn letters(alloc: Global, word: &[u8]) -> Result<Option<Vec<Letter>>, Memory>
+    ensures { IfOk result (λ found. option_map (λ v. v.items) found
+        ≡ each letter_of_byte word.now) }
+{
+    let mut letters = match Vec::with_capacity(alloc, word.len()) {
+        Ok(letters) => letters,
+        Err(_) => return Err(Memory),
+    };
+    for byte in word {
+        match Letter::from_byte(*byte) {
+            Some(letter) => letters.push_reserved(letter),
+            None => return Ok(None),
+        }
+    }
+    Ok(Some(letters))
+}
+
+fn is_genome_length(len: usize) -> bool
+    ensures { result ≡ is_genome_length len }
+{
+    LEAST_LENGTH as usize <= len && len <= GREATEST_LENGTH as usize
+}
+
+/// The genome that a word spells.
+pub fn genome(alloc: Global, word: &[u8]) -> Result<Option<Genome>, Memory>
+    ensures { IfOk result (λ found. option_map genome_spec.letters found ≡ genome_of word.now) }
+{
+    if !is_genome_length(word.len()) {
+        return Ok(None);
+    }
+    match letters(alloc, word)? {
+        Some(letters) => genome_from(alloc, &letters),
+        None => Ok(None),
+    }
+}
+
+fn genome_from(alloc: Global, letters: &[Letter]) -> Result<Option<Genome>, Memory>
+    ensures { IfOk result (λ found. option_map genome_spec.letters found
+        ≡ (if is_genome_length (length letters.now) then Some letters.now else None)) }
+{
+    match Genome::from_letters(alloc, letters) {
+        Ok(genome) => Ok(Some(genome)),
+        Err(GenomeStop::Memory) => Err(Memory),
+        Err(_) => Ok(None),
+    }
+}
+
+/// An id, or a dash for none.
+pub fn over(word: &[u8]) -> Option<Option<u64>>
+    ensures { result ≡ over_field.read word.now }
+{
+    match word {
+        [b'-'] => Some(None),
+        _ => match number(word, 0, u64::MAX) {
+            Some(value) => Some(Some(value)),
+            None => None,
+        },
+    }
+}
+
+/// The base of a birth.
+pub fn base(alloc: Global, word: &[u8]) -> Result<Option<Base>, Memory>
+    ensures { IfOk result (λ found. option_map written_in found ≡ base_field.read word.now) }
+{
+    match word {
+        [b'='] => Ok(Some(Base::Parent)),
+        _ => match genome(alloc, word)? {
+            Some(genome) => Ok(Some(Base::Written(genome))),
+            None => Ok(None),
+        },
+    }
+}
+
+/// The rate that has this key.
+#[tactic(auto, unfolding(crate::specs::Kinds::rate_named))]
+pub fn rate(word: &[u8]) -> Option<RateName>
+    ensures { result ≡ rate_named word.now }
+{
+    match word {
+        b"copy_error" => Some(RateName::Copy),
+        b"divide_insert" => Some(RateName::Insert),
+        b"divide_delete" => Some(RateName::Delete),
+        b"site_point" => Some(RateName::SitePoint),
+        b"site_insert" => Some(RateName::SiteInsert),
+        b"site_delete" => Some(RateName::SiteDelete),
+        _ => None,
+    }
+}
+
+/// A place and a letter.
+fn lettered(rest: &[u8]) -> Option<(u32, Letter)>
+    ensures { (make : ToChange) → option_map (λ p. make p.0 p.1) result
+        ≡ read_lettered make rest.now }
+{
+    match rest {
+        [front @ .., last] => match small_number(front, 0, u32::MAX) {
+            Some(at) => match Letter::from_byte(*last) {
+                Some(letter) => Some((at, letter)),
+                None => None,
+            },
+            None => None,
+        },
+        [] => None,
+    }
+}
+
+/// One change.
+fn item(word: &[u8]) -> Option<Change>
+    ensures { result ≡ read_change word.now }
+{
+    match word {
+        [b'p', rest @ ..] => match lettered(rest) {
+            Some((at, letter)) => Some(Change::Point { at, letter }),
+            None => None,
+        },
+        [b'i', rest @ ..] => match lettered(rest) {
+            Some((at, letter)) => Some(Change::Insert { at, letter }),
+            None => None,
+        },
+        [b'd', rest @ ..] => match small_number(rest, 0, u32::MAX) {
+            Some(at) => Some(Change::Delete { at }),
+            None => None,
+        },
+        _ => None,
+    }
+}
+
+/// The changes in any order, or a dash for none.
+fn items(alloc: Global, word: &[u8]) -> Result<Option<Vec<Change>>, Memory>
+    ensures { IfOk result (λ found. option_map (λ v. v.items) found
+        ≡ (list_of change).read word.now) }
+{
+    let mut found: Vec<Change> = Vec::new(alloc);
+    match word {
+        [b'-'] => return Ok(Some(found)),
+        _ => {}
+    }
+    let mut rest = word;
+    for _ in 0..u64::MAX {
+        let (piece, others) = split_at(rest, b',');
+        match item(piece) {
+            Some(one) => {
+                if found.push(one).is_err() {
+                    return Err(Memory);
+                }
+            }
+            None => return Ok(None),
+        }
+        match others {
+            Some(behind) => rest = behind,
+            None => return Ok(Some(found)),
+        }
+    }
+    Err(Memory)
+}
+
+fn may_follow(first: &Change, next: &Change) -> bool
+    ensures { result ≡ may_follow first.now next.now }
+{
+    match (first, next) {
+        (Change::Point { at, .. }, Change::Point { at: behind, .. }) => at < behind,
+        (Change::Point { .. }, _) => true,
+        (Change::Insert { .. }, Change::Point { .. }) => false,
+        (Change::Insert { .. }, _) => true,
+        (Change::Delete { .. }, Change::Delete { .. }) => true,
+        (Change::Delete { .. }, _) => false,
+    }
+}
+
+/// Whether points with rising places come first, then insertions, then deletions.
+fn is_in_order(changes: &[Change]) -> bool
+    ensures { result ≡ in_order changes.now }
+{
+    let mut rest = changes;
+    while let [first, behind @ ..] = rest {
+        if let [next, ..] = behind {
+            if !may_follow(first, next) {
+                return false;
+            }
+        }
+        rest = behind;
+    }
+    true
+}
+
+/// The changes of a birth.
+pub fn changes(alloc: Global, word: &[u8]) -> Result<Option<Changes>, Memory>
+    ensures { IfOk result (λ found. found ≡ changes_field.read word.now) }
+{
+    match items(alloc, word)? {
+        Some(found) => {
+            if is_in_order(&found) {
+                Ok(Some(Changes::from_vec(found)))
+            } else {
+                Ok(None)
+            }
+        }
+        None => Ok(None),
+    }
+}

@@ -1,0 +1,382 @@
+// Reads the line that a text has.
+ghost use Rattle.std.specs.Prelude.{◌≡◌, Some, IfOk, length, option_copied, option_map};
+ghost use Rattle.genome.specs.Genome as genome_spec;
+ghost use Rattle.mutations.specs.BirthRecord.{written_in};
+ghost use Rattle.log_lines.specs.Fields as fields_spec;
+ghost use Rattle.log_lines.specs.Kinds.{base_field, changes_field, large, over_field, rate_named};
+ghost use Rattle.log_lines.specs.Rows.{read_last, times};
+ghost use Rattle.log_lines.specs.Words.{read_first, words_of};
+ghost use Rattle.log_lines.specs.Line.{values_of};
+ghost use Rattle.log_lines.specs.LineText.{birth_row, count_row, counted, death_row, injected_row, rate_row, record_row, start_row};
+ghost use Rattle.log_lines.specs.LineReading.{birth_of, injected_of, line_of, rate_of, read_form, start_of};
+
+use crate::fields::{base, changes, genome, over, rate};
+use crate::log_line::{GREATEST_SIDE, LAST_VERSION, LogLine};
+use crate::stats::Stats;
+use crate::words::{large_first, last_word, small_first, small_last, split_at};
+use avida_port::Memory;
+use genome::Genome;
+use mutations::{Base, Changes, Origin, RateName};
+use random_streams::MILLION;
+use std::alloc::Global;
+
+/// The genome that ends the line.
+fn genome_last(alloc: Global, rest: Option<&[u8]>) -> Result<Option<Genome>, Memory>
+    ensures { IfOk result (λ found. option_map genome_spec.letters found
+        ≡ read_last fields_spec.genome_of (words_of (option_copied rest.entry))) }
+{
+    match last_word(rest) {
+        Some(word) => genome(alloc, word),
+        None => Ok(None),
+    }
+}
+
+/// The changes that end the line.
+fn changes_last(alloc: Global, rest: Option<&[u8]>) -> Result<Option<Changes>, Memory>
+    ensures { IfOk result (λ found. found
+        ≡ read_last changes_field.read (words_of (option_copied rest.entry))) }
+{
+    match last_word(rest) {
+        Some(word) => changes(alloc, word),
+        None => Ok(None),
+    }
+}
+
+fn over_first<'a>(rest: Option<&'a [u8]>) -> Option<(Option<u64>, Option<&'a [u8]>)>
+    ensures { option_map (λ p. (p.0, words_of (option_copied p.1))) result
+        ≡ read_first over_field.read (words_of (option_copied rest.entry)) }
+{
+    match rest {
+        Some(bytes) => {
+            let (word, others) = split_at(bytes, b' ');
+            match over(word) {
+                Some(value) => Some((value, others)),
+                None => None,
+            }
+        }
+        None => None,
+    }
+}
+
+fn rate_first<'a>(rest: Option<&'a [u8]>) -> Option<(RateName, Option<&'a [u8]>)>
+    ensures { option_map (λ p. (p.0, words_of (option_copied p.1))) result
+        ≡ read_first rate_named (words_of (option_copied rest.entry)) }
+{
+    match rest {
+        Some(bytes) => {
+            let (word, others) = split_at(bytes, b' ');
+            match rate(word) {
+                Some(value) => Some((value, others)),
+                None => None,
+            }
+        }
+        None => None,
+    }
+}
+
+fn read_start(alloc: Global, rest: Option<&[u8]>) -> Result<Option<LogLine>, Memory>
+    ensures { IfOk result (λ found. option_map values_of found
+        ≡ option_map start_of (start_row.read (words_of (option_copied rest.entry)))) }
+{
+    let Some((version, rest)) = small_first(rest, 1, LAST_VERSION) else {
+        return Ok(None);
+    };
+    let Some((width, rest)) = small_first(rest, 1, GREATEST_SIDE) else {
+        return Ok(None);
+    };
+    let Some((height, rest)) = small_first(rest, 1, GREATEST_SIDE) else {
+        return Ok(None);
+    };
+    let Some((cell, rest)) = small_first(rest, 0, u32::MAX) else {
+        return Ok(None);
+    };
+    match genome_last(alloc, rest)? {
+        Some(genome) => Ok(Some(LogLine::Start {
+            version,
+            width,
+            height,
+            cell,
+            genome,
+        })),
+        None => Ok(None),
+    }
+}
+
+/// The fields of a death.
+#[derive(Clone, Copy)]
+struct Death {
+    id: u64,
+    update: u32,
+    cell: u32,
+}
+
+fn read_death(rest: Option<&[u8]>) -> Option<Death>
+    ensures { option_map (λ d. (d.id, (d.update, d.cell))) result
+        ≡ death_row.read (words_of (option_copied rest.entry)) }
+{
+    let (id, rest) = large_first(rest)?;
+    let (update, rest) = small_first(rest, 0, u32::MAX)?;
+    let cell = small_last(rest, 0, u32::MAX)?;
+    Some(Death { id, update, cell })
+}
+
+/// A base, and what is left of the line.
+fn base_first<'a>(
+    alloc: Global,
+    rest: Option<&'a [u8]>,
+) -> Result<Option<(Base, Option<&'a [u8]>)>, Memory>
+    ensures { IfOk result (λ found.
+        option_map (λ p. (written_in p.0, words_of (option_copied p.1))) found
+        ≡ read_first base_field.read (words_of (option_copied rest.entry))) }
+{
+    match rest {
+        Some(bytes) => {
+            let (word, others) = split_at(bytes, b' ');
+            match base(alloc, word)? {
+                Some(value) => Ok(Some((value, others))),
+                None => Ok(None),
+            }
+        }
+        None => Ok(None),
+    }
+}
+
+/// The record that ends a birth's line.
+fn origin_last(alloc: Global, rest: Option<&[u8]>) -> Result<Option<Origin>, Memory>
+    ensures { IfOk result (λ found. option_map (λ o. (written_in o.base, o.changes)) found
+        ≡ record_row.read (words_of (option_copied rest.entry))) }
+{
+    match base_first(alloc, rest)? {
+        Some((base, rest)) => match changes_last(alloc, rest)? {
+            Some(changes) => Ok(Some(Origin { base, changes })),
+            None => Ok(None),
+        },
+        None => Ok(None),
+    }
+}
+
+fn read_birth(alloc: Global, rest: Option<&[u8]>) -> Result<Option<LogLine>, Memory>
+    ensures { IfOk result (λ found. option_map values_of found
+        ≡ option_map birth_of (birth_row.read (words_of (option_copied rest.entry)))) }
+{
+    let Some((id, rest)) = large_first(rest) else {
+        return Ok(None);
+    };
+    let Some((parent, rest)) = large_first(rest) else {
+        return Ok(None);
+    };
+    let Some((update, rest)) = small_first(rest, 0, u32::MAX) else {
+        return Ok(None);
+    };
+    let Some((cell, rest)) = small_first(rest, 0, u32::MAX) else {
+        return Ok(None);
+    };
+    let Some((over, rest)) = over_first(rest) else {
+        return Ok(None);
+    };
+    match origin_last(alloc, rest)? {
+        Some(origin) => Ok(Some(LogLine::Birth {
+            id,
+            parent,
+            update,
+            cell,
+            over,
+            origin,
+        })),
+        None => Ok(None),
+    }
+}
+
+fn read_injected(alloc: Global, rest: Option<&[u8]>) -> Result<Option<LogLine>, Memory>
+    ensures { IfOk result (λ found. option_map values_of found
+        ≡ option_map injected_of (injected_row.read (words_of (option_copied rest.entry)))) }
+{
+    let Some((id, rest)) = large_first(rest) else {
+        return Ok(None);
+    };
+    let Some((update, rest)) = small_first(rest, 0, u32::MAX) else {
+        return Ok(None);
+    };
+    let Some((cell, rest)) = small_first(rest, 0, u32::MAX) else {
+        return Ok(None);
+    };
+    let Some((over, rest)) = over_first(rest) else {
+        return Ok(None);
+    };
+    match genome_last(alloc, rest)? {
+        Some(genome) => Ok(Some(LogLine::Injected {
+            id,
+            update,
+            cell,
+            over,
+            genome,
+        })),
+        None => Ok(None),
+    }
+}
+
+fn read_rate(rest: Option<&[u8]>) -> Option<LogLine>
+    ensures { option_map values_of result
+        ≡ option_map rate_of (rate_row.read (words_of (option_copied rest.entry))) }
+{
+    let (update, rest) = small_first(rest, 0, u32::MAX)?;
+    let (name, rest) = rate_first(rest)?;
+    let ppm = small_last(rest, 0, MILLION)?;
+    Some(LogLine::Rate { update, name, ppm })
+}
+
+/// The nine counts that end a line.
+fn tasks_last(rest: Option<&[u8]>) -> Option<[u64; 9]>
+    ensures { result ≡ (times 9 large).read (words_of (option_copied rest.entry)) }
+{
+    let mut tasks = [0; 9];
+    let mut left = rest;
+    for at in 0..9usize {
+        let (count, others) = large_first(left)?;
+        tasks[at] = count;
+        left = others;
+    }
+    match left {
+        None => Some(tasks),
+        Some(_) => None,
+    }
+}
+
+fn read_stats(rest: Option<&[u8]>) -> Option<Stats>
+    ensures { option_map counted result ≡ count_row.read (words_of (option_copied rest.entry)) }
+{
+    let (update, rest) = small_first(rest, 0, u32::MAX)?;
+    let (living, rest) = large_first(rest)?;
+    let (births, rest) = large_first(rest)?;
+    let (deaths, rest) = large_first(rest)?;
+    let (genotypes, rest) = large_first(rest)?;
+    let (merit, rest) = large_first(rest)?;
+    let tasks = tasks_last(rest)?;
+    Some(Stats {
+        update,
+        living,
+        births,
+        deaths,
+        genotypes,
+        merit,
+        tasks,
+    })
+}
+
+fn read_form(alloc: Global, mark: &[u8], rest: Option<&[u8]>) -> Result<Option<LogLine>, Memory>
+    ensures { IfOk result (λ found. option_map values_of found
+        ≡ read_form mark.now (words_of (option_copied rest.entry))) }
+{
+    if mark == b"L".as_slice() {
+        return read_start(alloc, rest);
+    }
+    if mark == b"D".as_slice() {
+        return match read_death(rest) {
+            Some(Death { id, update, cell }) => Ok(Some(LogLine::Death { id, update, cell })),
+            None => Ok(None),
+        };
+    }
+    if mark == b"B".as_slice() {
+        return read_birth(alloc, rest);
+    }
+    if mark == b"I".as_slice() {
+        return read_injected(alloc, rest);
+    }
+    if mark == b"X".as_slice() {
+        return match read_death(rest) {
+            Some(Death { id, update, cell }) => Ok(Some(LogLine::Cleared { id, update, cell })),
+            None => Ok(None),
+        };
+    }
+    if mark == b"R".as_slice() {
+        return Ok(read_rate(rest));
+    }
+    if mark == b"U".as_slice() {
+        return match read_stats(rest) {
+            Some(stats) => Ok(Some(LogLine::Count(stats))),
+            None => Ok(None),
+        };
+    }
+    if mark == b"E".as_slice() {
+        return match small_last(rest, 0, u32::MAX) {
+            Some(updates) => Ok(Some(LogLine::End { updates })),
+            None => Ok(None),
+        };
+    }
+    Ok(None)
+}
+
+/// The line that has this text before its newline.
+#[tactic(auto, unfolding(crate::specs::LineReading::line_of))]
+pub fn read_line(alloc: Global, text: &[u8]) -> Result<Option<LogLine>, Memory>
+    ensures { IfOk result (λ found. option_map values_of found ≡ line_of text.now) }
+{
+    let (mark, rest) = split_at(text, b' ');
+    read_form(alloc, mark, rest)
+}
+
+#[cfg(test)]
+mod tests {
+    use super::*;
+    use std::test::Fail;
+
+    #[test]
+    fn a_line_of_each_form_is_read(rt: HostRuntime) -> Result<(), Fail> {
+        let alloc = rt.alloc();
+        for text in [
+            "L 1 256 1 4294967295 aaaaaaaa",
+            "D 0 4 0",
+            "B 2 0 1 0 - aaaaaaaa p3b,p4c,i0c,i0a,d8,d0",
+            "B 1 0 13 0 0 = -",
+            "I 1 1 0 0 aaaaaaaa",
+            "X 18446744073709551615 1 0",
+            "R 1 site_insert 1000000",
+            "U 13 1 1 1 1 97 0 0 0 0 0 0 0 0 0",
+            "E 13",
+        ] {
+            let line = read_line(alloc, text.as_bytes())?;
+            assert!(rt; line.is_some(), "{text}");
+        }
+        Ok(())
+    }
+
+    #[test]
+    fn a_line_without_a_form_is_refused(rt: HostRuntime) -> Result<(), Fail> {
+        let alloc = rt.alloc();
+        for text in [
+            "",
+            "E",
+            "E ",
+            "E 1 ",
+            "E  1",
+            "E 01",
+            "E +1",
+            "E 4294967296",
+            "e 1",
+            "D 18446744073709551616 4 0",
+            "D 0 4",
+            "D 0 4 0 0",
+            "L 3 1 1 0 aaaaaaaa",
+            "L 1 257 1 0 aaaaaaaa",
+            "L 1 0 1 0 aaaaaaaa",
+            "L 1 1 1 0 aaaaaaa",
+            "L 1 1 1 0 aaaaaaaA",
+            "B 01 0 13 0 0 = -",
+            "B 1 0 13 0 0 = p3b,p3c",
+            "B 1 0 13 0 0 = i0c,p3b",
+            "B 1 0 13 0 0 = d8,i0c",
+            "B 1 0 13 0 0 = d08",
+            "B 1 0 13 0 0 = p3",
+            "B 1 0 13 0 0 = d8,",
+            "B 1 0 13 0 0 - -",
+            "R 1 site 5",
+            "R 1 copy_error 1000001",
+            "U 13 1 1 1 1 97 0 0 0 0 0 0 0 0",
+            "U 13 1 1 1 1 97 0 0 0 0 0 0 0 0 0 0",
+        ] {
+            let line = read_line(alloc, text.as_bytes())?;
+            assert!(rt; line.is_none(), "{text}");
+        }
+        Ok(())
+    }
+}
