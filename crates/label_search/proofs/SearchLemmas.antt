@@ -1,11 +1,10 @@
 -- The first place at which a template stands.
-use Rattle.std.proofs.Common.{◌-◌, zero, suc, true, false, arith, ◌≡◌, ◌∙◌, sym, ap, refl, ℕ, ◌+◌, ◌<◌, ◌≤◌, List, [], ◌∷◌, Bool, cond, length, take, drop, Option, Some, None, subst, inl, inr, length-drop, length-take}
+use Rattle.std.proofs.Common.{◌-◌, zero, suc, true, false, arith, ◌≡◌, sym, ap, refl, ℕ, ◌+◌, ◌<◌, ◌≤◌, List, Bool, cond, length, take, drop, Option, Some, None, subst, inl, inr, length-drop, length-take}
 use Rattle.std.proofs.Math.Nat.{eq-or-lt_of_le}
 use Rattle.std.specs.Bool.{Decides}
 use Rattle.std.specs.List.{find, range_with_len}
 use Rattle.std.specs.Option.{MatchOption, IfSome}
 use Rattle.std.proofs.lemmas.Bool.Decides.{not_from_Decides}
-use Rattle.std.proofs.lemmas.Grind.{common_steps}
 use Rattle.instruction_set.specs.declared.letter.Letter.{Letter}
 use Rattle.label_search.specs.Search.{OccursAt, occurs_at, first_match}
 use Rattle.label_search.proofs.TemplateLemmas.{same_letters-Decides}

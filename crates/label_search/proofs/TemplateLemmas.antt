@@ -1,5 +1,5 @@
 -- Lists of letters, compared and read after a place.
-use Rattle.std.proofs.Common.{◌-◌, zero, suc, true, false, arith, ◌≡◌, ◌∙◌, sym, ap, refl, ℕ, ◌+◌, ◌%◌, ◌<◌, List, [], ◌∷◌, ◌++◌, Bool, cond, length, get_or, append-nil, ◌&&◌, map}
+use Rattle.std.proofs.Common.{◌-◌, suc, true, false, arith, ◌≡◌, ◌∙◌, sym, ap, refl, ℕ, ◌+◌, ◌%◌, ◌<◌, List, [], ◌∷◌, ◌++◌, Bool, length, get_or, append-nil, ◌&&◌, map}
 use Rattle.std.specs.Bool.{Decides}
 use Rattle.std.specs.Cmp.Lexicographic.{pointwise}
 use Rattle.std.specs.List.{take_while, prefix_len, range_with_len}
