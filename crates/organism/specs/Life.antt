@@ -1,5 +1,5 @@
 -- One step of a life, with a copy error or without, under any rules (docs/WORLD.md, "The life of one update").
-use Rattle.std.specs.Prelude.{ℕ, ℤ, ◌≡◌, ◌+◌, ◌*◌, ◌-◌, ◌≤◌, ◌%◌, Bool, true, false, List, Option, Some, None, length, slice_index_or, if◌then◌else◌}
+use Rattle.std.specs.Prelude.{ℕ, ℤ, ◌+◌, ◌*◌, ◌-◌, ◌≤◌, ◌%◌, Bool, List, Option, Some, None, length, slice_index_or, if◌then◌else◌}
 use Rattle.std.specs.Int.{cast_signed, w32}
 use Rattle.instruction_set.specs.declared.letter.Letter.{Letter}
 use Rattle.genome.specs.declared.genome.TheConstants.{LEAST_LENGTH}

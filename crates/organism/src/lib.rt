@@ -3,6 +3,8 @@
 
 mod organism;
 mod outcome;
+#[cfg(test)]
+mod tests;
 mod trace_rules;
 mod traced;
 

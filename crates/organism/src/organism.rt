@@ -127,7 +127,8 @@ impl Organism {
     /// What a trace remarks on an outcome; after a viable divide the parent is renewed.
     fn remark_on(&mut self, alloc: Global, outcome: Outcome) -> Result<Remark, Memory>
         requires { OnViable outcome (IsDivide self.old) }
-        ensures now { IfOk result (λ remark. (self.new, remark_value remark) ≡ remark_on self.old outcome) }
+        ensures now { IfOk result (λ remark.
+            (self.new, remark_value remark) ≡ remark_on self.old outcome) }
         ensures age { OnOk result (self.new.age ≤ self.old.age) }
     {
         match outcome {
@@ -142,7 +143,8 @@ impl Organism {
     #[tactic(auto, unfolding(crate::specs::Life::renewed))]
     fn divide(&mut self, alloc: Global, ask: &DivideAsk) -> Result<Remark, Memory>
         requires { IsDivide self.old ask.now }
-        ensures now { IfOk result (λ remark. (self.new, remark_value remark) ≡ remark_on self.old (Outcome.Viable ask.now)) }
+        ensures now { IfOk result (λ remark.
+            (self.new, remark_value remark) ≡ remark_on self.old (Outcome.Viable ask.now)) }
         ensures age { OnOk result (self.new.age ≡ 0) }
     {
         let child = self.machine.cut(alloc, ask)?.written;

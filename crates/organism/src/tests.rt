@@ -1,0 +1,142 @@
+use crate::{Organism, Remark, Traced};
+use divide_rules::Rule;
+use genome::{GREATEST_LENGTH, Genome, read_letters};
+use logic_tasks::{Inputs, Task, Tasks};
+use std::alloc::Global;
+use std::process::Abort;
+use std::sync::Arc;
+use std::test::Fail;
+
+/// The default ancestor.
+const ANCESTOR: &str =
+    "wzcagcccccccccccccccccccccccccccccccccccccccccccccccccccccccccccccccccccccccccccccccccccccczvfcaxgab";
+
+/// The organism of a genome, with the inputs of a trace and this memory limit.
+fn organism(alloc: Global, genome: Genome, limit: u32) -> Result<Organism, Fail> {
+    let length = genome.len();
+    if length > limit || limit > GREATEST_LENGTH {
+        return Err("the genome is above the limit".into());
+    }
+    let genome = Arc::new(alloc, genome)?;
+    let inputs = Inputs::of([0x0F0F0F0F, 0x33333333, 0x55555555]);
+    let merit = u64::from(length);
+    Ok(Organism::found(alloc, genome, inputs, merit, Tasks::none(), limit)?)
+}
+
+/// The step of this number, from 1.
+fn traced(alloc: Global, organism: &mut Organism, number: usize) -> Result<Traced, Fail> {
+    for _ in 1..number {
+        let _ = next(alloc, organism)?;
+    }
+    next(alloc, organism)
+}
+
+fn next(alloc: Global, organism: &mut Organism) -> Result<Traced, Fail> {
+    if organism.age() >= 1 << 62 {
+        return Err("too old".into());
+    }
+    Ok(organism.trace_step(alloc)?)
+}
+
+#[test]
+fn traced_steps_are_those_of_the_rows(rt: HostRuntime) -> Result<(), Fail> {
+    for (program, number, place, name, registers, remark) in [
+        ("yopcuyyy", 1, 0, "IO", [0, 252645135, 0], Remark::Nothing),
+        ("yopcuyyy", 2, 1, "push", [0, 252645135, 0], Remark::Nothing),
+        (
+            "yopcuyyy",
+            3,
+            2,
+            "pop",
+            [0, 252645135, 252645135],
+            Remark::Nothing,
+        ),
+        (
+            "yopcuyyy",
+            4,
+            4,
+            "nand",
+            [0, -252645136, 252645135],
+            Remark::Nothing,
+        ),
+        (
+            "yopcuyyy",
+            5,
+            5,
+            "IO",
+            [0, 858993459, 252645135],
+            Remark::Task(Task::Not),
+        ),
+        (
+            "xmmmmmmm",
+            1,
+            0,
+            "h-divide",
+            [0, 0, 0],
+            refused(Rule::V1, 0, 1),
+        ),
+        ("wxmmmmmm", 1, 0, "h-alloc", [8, 0, 0], Remark::Nothing),
+        (
+            "wxmmmmmm",
+            2,
+            1,
+            "h-divide",
+            [8, 0, 0],
+            refused(Rule::V2, 0, 8),
+        ),
+    ] {
+        let genome = read_letters(rt.alloc(), program.as_bytes())?;
+        let mut organism = organism(rt.alloc(), genome, 2048)?;
+        let step = traced(rt.alloc(), &mut organism, number)?;
+        assert_eq!(rt; step.place, place, "step {number} of {program}");
+        assert_eq!(rt; step.letter.name(), name, "step {number} of {program}");
+        assert_eq!(rt; step.registers, registers, "step {number} of {program}");
+        assert!(rt; step.remark == remark, "step {number} of {program}");
+        assert_eq!(rt; organism.age(), number as u64);
+    }
+    Ok(())
+}
+
+fn refused(rule: Rule, found: u32, bound: u32) -> Remark {
+    Remark::Refused { rule, found, bound }
+}
+
+#[test]
+fn memory_grows_below_the_limit_alone(rt: HostRuntime) -> Result<(), Fail> {
+    for (nops, limit, ax) in [(2047, 2048, 0), (2048, 8192, 2049)] {
+        let mut program = Vec::new(rt.alloc());
+        program.push(b'w')?;
+        for _ in 0..nops {
+            program.push(b'a')?;
+        }
+        let genome = read_letters(rt.alloc(), program.as_slice())?;
+        let mut organism = organism(rt.alloc(), genome, limit)?;
+        let step = next(rt.alloc(), &mut organism)?;
+        assert_eq!(rt; step.registers, [ax, 0, 0], "below {limit}");
+    }
+    Ok(())
+}
+
+#[test]
+fn the_ancestor_divides_at_step_389(rt: HostRuntime) -> Result<(), Fail> {
+    let ancestor = read_letters(rt.alloc(), ANCESTOR.as_bytes())?;
+    let mut organism = organism(rt.alloc(), ancestor, 2048)?;
+    let step = traced(rt.alloc(), &mut organism, 389)?;
+    assert_eq!(rt; step.place, 96);
+    assert_eq!(rt; step.registers, [0, 0, 0]);
+    let Remark::Divide {
+        executed,
+        copied,
+        merit,
+        child,
+    } = step.remark
+    else {
+        return Err("no divide".into());
+    };
+    assert_eq!(rt; (executed, copied, merit), (97, 100, 97));
+    assert!(rt; child == **organism.genome());
+    assert_eq!(rt; organism.age(), 0);
+    assert_eq!(rt; organism.merit(), 97);
+    assert!(rt; organism.credited() == Tasks::none());
+    Ok(())
+}
