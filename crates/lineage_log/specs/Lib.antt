@@ -3,3 +3,8 @@ pub use Rattle.mutations.specs.BirthRecord
 pub use Rattle.log_lines.specs.Line
 pub use Rattle.log_lines.specs.LineText
 pub use Rattle.log_lines.specs.LineReading
+pub mod Slots
+pub mod Reader
+pub mod Order
+pub mod LogGrammar
+pub mod Replay

@@ -1,0 +1,62 @@
+-- What is known of a log between two of its lines (docs/FORMATS.md, "The log").
+use Rattle.std.specs.Prelude.{ℕ, List, [], ◌∷◌, ◌++◌, length, Option, Some, None, Bool, true, false, nat_lt, slice_set, option_and_then, slice_get, if◌then◌else◌}
+use Rattle.std.specs.Option.{option_to_list}
+use Rattle.instruction_set.specs.declared.letter.Letter.{Letter}
+use Rattle.lineage_log.specs.declared.stage.Stage.{Stage}
+use Rattle.lineage_log.specs.declared.stage.Stage.TheVariants.{Quiet, Dying, Placing, Happening}
+
+-- the version, the update that is due, who stands in each cell, and by id the genome of each who
+-- lives or died in this update; the next id as the update began, who died in it, and its births
+pub record Reader : Type 0 where
+  pub version : ℕ
+  pub due : ℕ
+  pub stage : Stage
+  pub standing : List (Option ℕ)
+  pub people : List (Option (List Letter))
+  pub newest : ℕ
+  pub leaving : List ℕ
+  pub births : ℕ
+
+-- a death in this cell may come at this stage
+abbrev pub may_die : Stage → ℕ → Bool
+may_die Quiet cell = true
+may_die (Dying last) cell = nat_lt last cell
+may_die Placing cell = false
+may_die Happening cell = false
+
+-- a birth may come at this stage
+abbrev pub may_be_born : Stage → Bool
+may_be_born Quiet = true
+may_be_born (Dying last) = true
+may_be_born Placing = true
+may_be_born Happening = false
+
+-- nothing of the update has come yet
+abbrev pub is_quiet : Stage → Bool
+is_quiet Quiet = true
+is_quiet (Dying last) = false
+is_quiet Placing = false
+is_quiet Happening = false
+
+-- the genome of somebody who lived when the update began
+abbrev pub parent_in : Reader → ℕ → Option (List Letter)
+parent_in r parent = if nat_lt parent r.newest then option_and_then (λ found. found) (slice_get r.people parent) else None
+
+-- the people without these ids
+abbrev pub without : List ℕ → List (Option (List Letter)) → List (Option (List Letter))
+without [] people = people
+without (id ∷ ids) people = without ids (slice_set people id None)
+
+-- somebody new with the next id stands in the cell, and who stood there dies
+abbrev pub with_newcomer : Reader → Stage → ℕ → Option ℕ → List Letter → ℕ → Reader
+with_newcomer r stage cell over genome births = record r {
+  stage = stage;
+  standing = slice_set r.standing cell (Some (length r.people));
+  people = r.people ++ Some genome ∷ [];
+  leaving = r.leaving ++ option_to_list over;
+  births = births;
+}
+
+-- who stands in the cell dies
+abbrev pub with_death : Reader → Stage → ℕ → ℕ → Reader
+with_death r stage cell id = record r { stage = stage; standing = slice_set r.standing cell None; leaving = r.leaving ++ id ∷ [] }

@@ -1,0 +1,54 @@
+-- Who lives at the end of a log (docs/FORMATS.md, "The log").
+use Rattle.std.specs.Prelude.{ℕ, suc, ◌*◌, List, [], ◌∷◌, ◌++◌, replicate, Option, Some, None, slice_get, slice_set, option_and_then, unwrap_or}
+use Rattle.std.specs.Result.{result_ok}
+use Rattle.instruction_set.specs.declared.letter.Letter.{Letter}
+use Rattle.mutations.specs.BirthRecord.{BirthRecord, child_of}
+use Rattle.log_lines.specs.Line.{Line, Start, Death, Birth, Injected, Cleared, Rate, Count, End}
+
+-- who stands in each cell, and the genome of every id so far
+pub record Seen : Type 0 where
+  pub standing : List (Option ℕ)
+  pub genomes : List (List Letter)
+
+-- the genome that a record makes of its parent's
+abbrev pub born_in : List (List Letter) → ℕ → BirthRecord → List Letter
+born_in genomes parent birth = unwrap_or (option_and_then (λ letters. result_ok (child_of letters birth)) (slice_get genomes parent)) []
+
+-- one line more
+abbrev pub seen_on : Seen → Line → Seen
+seen_on s (Start version width height cell genome) = record { standing = slice_set (replicate (width * height) None) cell (Some 0); genomes = genome ∷ [] }
+seen_on s (Death id update cell) = record s { standing = slice_set s.standing cell None }
+seen_on s (Birth id parent update cell over birth) = record { standing = slice_set s.standing cell (Some id); genomes = s.genomes ++ born_in s.genomes parent birth ∷ [] }
+seen_on s (Injected id update cell over genome) = record { standing = slice_set s.standing cell (Some id); genomes = s.genomes ++ genome ∷ [] }
+seen_on s (Cleared id update cell) = record s { standing = slice_set s.standing cell None }
+seen_on s (Rate update name ppm) = s
+seen_on s (Count stats) = s
+seen_on s (End updates) = s
+
+-- all lines
+abbrev pub seen_all : Seen → List Line → Seen
+seen_all s [] = s
+seen_all s (line ∷ lines) = seen_all (seen_on s line) lines
+
+-- cell, id and genome of one cell's organism
+pub record Resident : Type 0 where
+  pub cell : ℕ
+  pub id : ℕ
+  pub genome : List Letter
+
+-- the organism of a cell before others
+abbrev pub resident_at : ℕ → Option ℕ → List (List Letter) → List Resident → List Resident
+resident_at cell None genomes others = others
+resident_at cell (Some id) genomes others = record { cell = cell; id = id; genome = unwrap_or (slice_get genomes id) [] } ∷ others
+
+-- the living from a cell on
+abbrev pub residents_from : ℕ → List (Option ℕ) → List (List Letter) → List Resident
+residents_from cell [] genomes = []
+residents_from cell (slot ∷ slots) genomes = resident_at cell slot genomes (residents_from (suc cell) slots genomes)
+
+-- who lives at the end, each with the genome that the records of its line make
+unfoldable pub replay_of : List Line → List Resident
+replay_of lines =
+    let nobody : Seen = record { standing = []; genomes = [] } in
+    let seen = seen_all nobody lines in
+    residents_from 0 seen.standing seen.genomes
