@@ -1,0 +1,2 @@
+pub mod ParentsLemmas
+pub mod PlacementLemmas

@@ -1,0 +1,53 @@
+use Rattle.std.proofs.Common.{◌≡◌, ◌∙◌, sym, ap, ◌+◌, ◌*◌, ◌<◌, ◌≤◌, ◌==◌, length, take, count_by, get_or, arith, length-take, length-append, [], ◌∷◌}
+use Rattle.std.proofs.lemmas.List.{length-set, take_all}
+use Rattle.random_streams.specs.RandomStream.{after}
+use Rattle.std.proofs.lemmas.List.Sums.{count_by_more_yes, count_by_more_no}
+use Rattle.birth_board.specs.Placement.{place_stream, placements_of}
+use Rattle.birth_board.proofs.PlacementLemmas.{board_after, board-parents, board_after-more, words-taken, placing-next, next_board-occupants, next_board-placings, eqb-below, eqb-self}
+use Rattle.birth_board.proofs.turns.place_all.Goals as goal
+
+pub loop-parent-preserved : goal.loop-parent-preserved
+loop-parent-preserved c =
+    let torus = c.args.torus.now in
+    let season = c.args.season.now in
+    let parents = c.args.parents.now in
+    let i = c.loop-parent.parent-index in
+    let before = take i parents in
+    let parent = get_or parents i 0 in
+    let turn = c.loop-parent.turn in
+    let board = board_after torus season c.args.occupants.now before in
+    let within : i < length parents = c.loop-parent-test.true in
+    let many : length before ≡ i = omega (arith, length-take i parents) in
+    let order : turn.cell ≤ parent = c.loop-parent.invariant.order i (omega arith) within in
+    let taken = words-taken turn.cell parent turn.draws.taken before order (ap (λ s. s.taken) c.loop-parent.invariant.stream) c.loop-parent.invariant.later in
+    let stream = c.turn_to-turn.ensures.draws ∙ ap (place_stream season parent) taken in
+    let id : c.loop-parent.id ≡ season.next_id + length before = omega arith in
+    let placed = placing-next torus season board parent before c.loop-parent.occupants c.loop-parent.id c.turn_to-turn.result.draws c.place_one-placing.result (board-parents torus season _ before) c.loop-parent.invariant.occupants id stream c.place_one-placing.ensures.placing in
+    let more = board_after-more torus season c.args.occupants.now parents i within in
+    let counted : count_by (λ p. p == parent) (take (i + 1) parents) ≡ count_by (λ p. p == parent) before + 1 = count_by_more_yes (λ p. p == parent) parents i 0 within (eqb-self parent) in
+    let words : 4 * count_by (λ p. p == parent) before + 4 ≡ 4 * count_by (λ p. p == parent) (take (i + 1) parents) = omega arith in
+    record {
+      stream = c.place_one-placing.ensures.draws ∙ ap (after 4) stream ∙ ap (place_stream season parent) words ∙ ap (λ q. place_stream season q (4 * count_by (λ p. p == q) (take (i + 1) parents))) (sym c.turn_to-turn.ensures.cell);
+      later = λ q above.
+          let below : parent < q = omega arith in
+          count_by_more_no (λ p. p == q) parents i 0 within (eqb-below parent q below) ∙ c.loop-parent.invariant.later q (omega arith);
+      order = λ k low high. omega (arith, c.requires.rising i k 0 (omega arith) high);
+      id = omega arith;
+      occupants = next_board-occupants torus season board parent c.loop-parent.occupants c.place_one-placing.new.occupants c.place_one-placing.result c.loop-parent.invariant.occupants placed c.place_one-placing.ensures.occupants ∙ ap (λ b. b.occupants) (sym more);
+      placings = next_board-placings torus season board parent c.loop-parent.placings.items c.push_reserved.new.self.items c.place_one-placing.result c.loop-parent.invariant.placings placed c.push_reserved.ensures.items ∙ ap (λ b. b.placings) (sym more);
+      count = omega (arith, ap length c.push_reserved.ensures.items, length-append c.loop-parent.placings.items (c.place_one-placing.result ∷ []));
+      room = omega (arith, c.push_reserved.ensures.capacity);
+      cells = ap length c.place_one-placing.ensures.occupants ∙ length-set c.loop-parent.occupants _ _ ∙ c.loop-parent.invariant.cells;
+    }
+
+pub returns-clause-placings : goal.returns-clause-placings
+unfolding placements_of
+returns-clause-placings c =
+    let all : take c.loop-parent.parent-index c.args.parents.now ≡ c.args.parents.now = take_all c.loop-parent.parent-index c.args.parents.now (omega arith) in
+    c.loop-parent.invariant.placings ∙ ap (λ parents. (board_after c.args.torus.now c.args.season.now c.args.occupants.now parents).placings) all
+
+pub returns-clause-occupants : goal.returns-clause-occupants
+unfolding placements_of
+returns-clause-occupants c =
+    let all : take c.loop-parent.parent-index c.args.parents.now ≡ c.args.parents.now = take_all c.loop-parent.parent-index c.args.parents.now (omega arith) in
+    c.loop-parent.invariant.occupants ∙ ap (λ parents. (board_after c.args.torus.now c.args.season.now c.args.occupants.now parents).occupants) all

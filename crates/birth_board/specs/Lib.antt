@@ -1,0 +1,3 @@
+pub mod Torus
+pub mod Parents
+pub mod Placement

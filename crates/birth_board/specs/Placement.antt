@@ -1,0 +1,63 @@
+-- The placing of newborns, one after another (docs/WORLD.md, "Placing births").
+use Rattle.std.specs.Prelude.{ℕ, ◌+◌, ◌*◌, Bool, ◌==◌, ◌&&◌, nat_lt, if◌then◌else◌, List, [], ◌∷◌, ◌++◌, length, Option, None, Some, is_none, filter, count_by, fold, slice_index_or, slice_set}
+use Rattle.logic_tasks.specs.Inputs.{inputs_of}
+use Rattle.random_streams.specs.declared.purpose.Purpose.TheVariants.{Place}
+use Rattle.random_streams.specs.RandomStream.{Stream, draw, scaled}
+use Rattle.birth_board.specs.declared.torus.Torus.{Torus}
+use Rattle.birth_board.specs.declared.season.Season.{Season}
+use Rattle.birth_board.specs.declared.placing.Placing.{Placing}
+use Rattle.birth_board.specs.Torus.{neighbours_of}
+
+-- nothing stands in the cell
+abbrev pub is_free : List (Option ℕ) → ℕ → Bool
+is_free occupants cell = is_none (slice_index_or occupants cell None)
+
+-- the cells among which the word chooses: the empty neighbours where these are preferred and there are any, else all eight
+abbrev pub choices_of : Torus → Bool → List (Option ℕ) → ℕ → List ℕ
+choices_of torus prefer_empty occupants parent =
+    let free = filter (is_free occupants) (neighbours_of torus parent) in
+    if prefer_empty && nat_lt 0 (length free) then free else neighbours_of torus parent
+
+-- the entry of a list that a word chooses
+abbrev pub chosen_from : List ℕ → ℕ → ℕ
+chosen_from cells word = slice_index_or cells (scaled word (length cells)) 0
+
+-- the cell that a word chooses for a newborn
+unfoldable pub chosen_cell : Torus → Bool → List (Option ℕ) → ℕ → ℕ → ℕ
+chosen_cell torus prefer_empty occupants parent word = chosen_from (choices_of torus prefer_empty occupants parent) word
+
+-- the stream of a cell's newborns, of which so many words were taken
+abbrev pub place_stream : Season → ℕ → ℕ → Stream
+place_stream season cell taken = record { seed = season.seed; update = season.update; cell = cell; purpose = Place; taken = taken }
+
+-- the four words of newborn `nth` of a cell, from 0
+abbrev pub words_of : Season → ℕ → ℕ → List ℕ
+words_of season cell nth = draw season.seed season.update cell Place (4 * nth) ∷ draw season.seed season.update cell Place (4 * nth + 1) ∷ draw season.seed season.update cell Place (4 * nth + 2) ∷ draw season.seed season.update cell Place (4 * nth + 3) ∷ []
+
+-- the first word chooses the cell, the others make the inputs
+unfoldable pub placing_of : Torus → Bool → List (Option ℕ) → ℕ → ℕ → List ℕ → Placing
+placing_of torus prefer_empty occupants id parent words =
+    let cell = chosen_cell torus prefer_empty occupants parent (slice_index_or words 0 0) in
+    record { id = id; cell = cell; over = slice_index_or occupants cell None; inputs = inputs_of (slice_index_or words 1 0 ∷ slice_index_or words 2 0 ∷ slice_index_or words 3 0 ∷ []) }
+
+-- who stands where, the newborns that were placed, and the cells of their parents
+pub record Board : Type 0 where
+  pub occupants : List (Option ℕ)
+  pub placings : List Placing
+  pub parents : List ℕ
+
+-- the placing of the next newborn, of a parent in this cell
+abbrev pub next_placing : Torus → Season → Board → ℕ → Placing
+next_placing torus season board parent =
+    let nth = count_by (λ cell. cell == parent) board.parents in
+    placing_of torus season.prefer_empty board.occupants (season.next_id + length board.parents) parent (words_of season parent nth)
+
+-- the board once that newborn is placed
+unfoldable pub next_board : Torus → Season → Board → ℕ → Board
+next_board torus season board parent =
+    let placing = next_placing torus season board parent in
+    record { occupants = slice_set board.occupants placing.cell (Some placing.id); placings = board.placings ++ placing ∷ []; parents = board.parents ++ parent ∷ [] }
+
+-- the board once the newborns of these parents are placed, one after another
+unfoldable pub placements_of : Torus → List ℕ → List (Option ℕ) → Season → Board
+placements_of torus parents occupants season = fold (next_board torus season) (record { occupants = occupants; placings = []; parents = [] }) parents

@@ -1,0 +1,97 @@
+ghost use Rattle.std.specs.Prelude.{◌≡◌, ◌<◌, ◌≤◌, ◌++◌, All, IfOk, OnOk, length, replicate, slice_get};
+ghost use Rattle.std.specs.List.Sorted.{IsNonDecreasing};
+ghost use Rattle.std.specs.Option.{option_copied};
+ghost use Rattle.birth_board.specs.Parents.{parents_of};
+
+use avida_port::Memory;
+use std::alloc::Global;
+use std::marker::Model;
+
+/// The cells of parents, one for each newborn.
+#[derive(Debug, Drop)]
+pub struct Parents {
+    cells: Vec<u32>,
+}
+
+impl Model for Parents {
+    ghost use Rattle.std.specs.Prelude.{List, ℕ};
+
+    ghost Value = { List ℕ };
+
+    ghost view = { λ a. a.cells.items };
+}
+
+impl Parents {
+    pub fn from_vec(cells: Vec<u32>) -> Parents
+        ensures { result ≡ cells.items }
+    {
+        Parents { cells }
+    }
+
+    pub fn into_vec(self) -> Vec<u32>
+        ensures { result.items ≡ self }
+    {
+        self.cells
+    }
+
+    pub fn len(&self) -> usize
+        ensures { result ≡ length self.now }
+    {
+        self.cells.len()
+    }
+
+    pub fn get(&self, at: usize) -> Option<&u32>
+        ensures { option_copied result ≡ slice_get self.now at }
+    {
+        self.cells.get(at)
+    }
+
+    pub(crate) fn cells(&self) -> &[u32]
+        ensures { result.now ≡ self.now }
+    {
+        self.cells.as_slice()
+    }
+}
+
+/// Each cell stands as often as it is counted, in the order of the cells.
+pub fn gather(alloc: Global, counts: &[u32]) -> Result<Parents, Memory>
+    requires { length counts.now ≤ 65536 }
+    ensures parents { IfOk result (λ parents. parents ≡ parents_of counts.now) }
+    ensures rising { IfOk result (λ parents. IsNonDecreasing parents) }
+    ensures counted { IfOk result (λ parents. All (λ cell. cell < length counts.now) parents) }
+{
+    let mut cells = Vec::new(alloc);
+    for (cell, count) in counts.iter().enumerate() {
+        append(&mut cells, cell as u32, *count)?;
+    }
+    Ok(Parents { cells })
+}
+
+/// Appends a cell so many times.
+fn append(cells: &mut Vec<u32>, cell: u32, count: u32) -> Result<(), Memory>
+    ensures { OnOk result (cells.new.items ≡ cells.old.items ++ replicate count cell) }
+{
+    for _ in 0..count {
+        cells.push(cell)?;
+    }
+    Ok(())
+}
+
+#[cfg(test)]
+mod tests {
+    use super::*;
+    use std::test::Fail;
+
+    #[test]
+    fn each_cell_stands_as_often_as_it_is_counted(rt: HostRuntime) -> Result<(), Fail> {
+        let Ok(parents) = gather(rt.alloc(), &[2, 0, 1]) else {
+            assert!(rt; false, "there was no memory");
+            return Ok(());
+        };
+        assert_eq!(rt; parents.len(), 3);
+        assert_eq!(rt; parents.get(2), Some(&2));
+        assert_eq!(rt; parents.get(3), None);
+        assert_eq!(rt; parents.into_vec().as_slice(), [0, 0, 2].as_slice());
+        Ok(())
+    }
+}

@@ -1,0 +1,278 @@
+// The placing of newborns, one after another.
+ghost use Rattle.std.specs.Prelude.{◌≡◌, ◌+◌, ◌*◌, ◌<◌, ◌≤◌, ◌^◌, ◌∷◌, [], ◌==◌, if◌then◌else◌, All, IfOk, OnOk, OnErr, Some, None, filter, is_none, length, slice_index_or, slice_set, vec_capacity};
+ghost use Rattle.std.specs.List.Sorted.{IsNonDecreasing};
+ghost use Rattle.random_streams.specs.RandomStream.{word_of, after};
+ghost use Rattle.birth_board.specs.Torus.{cells_of, neighbours_of};
+ghost use Rattle.birth_board.specs.Placement.{is_free, chosen_from, chosen_cell, placing_of, place_stream, placements_of};
+
+use crate::{Occupants, Parents, Placing, Placings, Season, Torus, neighbours};
+use arrayvec::ArrayVec;
+use avida_port::Memory;
+use logic_tasks::Inputs;
+use random_streams::{Draws, Purpose, scaled};
+use std::alloc::Global;
+
+/// The stream of the cell whose newborns are placed.
+#[derive(Drop)]
+struct Turn {
+    cell: u32,
+    draws: Draws,
+}
+
+/// Places a newborn for each parent in turn. After `Memory` the occupants stay.
+pub fn place(
+    alloc: Global,
+    torus: &Torus,
+    parents: &Parents,
+    occupants: &mut Occupants,
+    season: &Season,
+) -> Result<Placings, Memory>
+    requires cells { length occupants.old ≡ cells_of torus.now }
+    requires in_torus { All (λ cell. cell < cells_of torus.now) parents.now }
+    requires rising { IsNonDecreasing parents.now }
+    requires few { length parents.now < 2 ^ 32 }
+    requires ids { season.now.next_id + length parents.now < 2 ^ 63 }
+    ensures placings { IfOk result (λ placings.
+        placings ≡ (placements_of torus.now parents.now occupants.old season.now).placings) }
+    ensures occupants { OnOk result (occupants.new
+        ≡ (placements_of torus.now parents.now occupants.old season.now).occupants) }
+    ensures err { OnErr result (occupants.new ≡ occupants.old) }
+    ensures count { IfOk result (λ placings. length placings ≡ length parents.now) }
+    ensures cells { length occupants.new ≡ cells_of torus.now }
+{
+    let mut placings = Vec::with_capacity(alloc, parents.len())?;
+    place_all(torus, parents.cells(), occupants, season, &mut placings);
+    Ok(Placings::from_vec(placings))
+}
+
+/// Places the newborns where there is room for their placings.
+fn place_all(
+    torus: &Torus,
+    parents: &[u32],
+    occupants: &mut Occupants,
+    season: &Season,
+    placings: &mut Vec<Placing>,
+)
+    requires cells { length occupants.old ≡ cells_of torus.now }
+    requires in_torus { All (λ cell. cell < cells_of torus.now) parents.now }
+    requires rising { IsNonDecreasing parents.now }
+    requires few { length parents.now < 2 ^ 32 }
+    requires ids { season.now.next_id + length parents.now < 2 ^ 63 }
+    requires none { placings.old.items ≡ [] }
+    requires room { length parents.now ≤ vec_capacity placings.old }
+    ensures placings { placings.new.items
+        ≡ (placements_of torus.now parents.now occupants.old season.now).placings }
+    ensures occupants { occupants.new
+        ≡ (placements_of torus.now parents.now occupants.old season.now).occupants }
+    ensures count { length placings.new.items ≡ length parents.now }
+    ensures cells { length occupants.new ≡ cells_of torus.now }
+{
+    let mut id = season.next_id;
+    let mut turn = Turn {
+        cell: 0,
+        draws: Draws::start(season.seed, season.update, 0, Purpose::Place),
+    };
+    for parent in parents {
+        turn = turn_to(turn, *parent, season);
+        let placing = place_one(
+            torus,
+            *parent,
+            occupants,
+            season.prefer_empty,
+            id,
+            &mut turn.draws,
+        );
+        placings.push_reserved(placing);
+        id += 1;
+    }
+}
+
+/// The stream of this cell: a cell that comes again goes on in its own.
+fn turn_to(turn: Turn, cell: u32, season: &Season) -> Turn
+    requires cell { cell < 65536 }
+    requires stream { turn.draws ≡ place_stream season.now turn.cell turn.draws.taken }
+    ensures cell { result.cell ≡ cell }
+    ensures draws { result.draws
+        ≡ place_stream season.now cell (if turn.cell == cell then turn.draws.taken else 0) }
+{
+    if turn.cell == cell {
+        return turn;
+    }
+    Turn {
+        cell,
+        draws: Draws::start(season.seed, season.update, cell, Purpose::Place),
+    }
+}
+
+#[tactic(auto, unfolding(crate::specs::Placement::placing_of))]
+/// Places one newborn by the next four words of its parent's stream.
+fn place_one(
+    torus: &Torus,
+    parent: u32,
+    occupants: &mut Occupants,
+    prefer_empty: bool,
+    id: u64,
+    draws: &mut Draws,
+) -> Placing
+    requires cells { length occupants.old ≡ cells_of torus.now }
+    requires parent { parent < cells_of torus.now }
+    requires room { draws.old.taken + 4 < 2 ^ 48 }
+    ensures placing { result ≡ placing_of torus.now prefer_empty occupants.old id parent
+        (word_of draws.old draws.old.taken ∷ word_of draws.old (draws.old.taken + 1)
+        ∷ word_of draws.old (draws.old.taken + 2) ∷ word_of draws.old (draws.old.taken + 3) ∷ []) }
+    ensures occupants { occupants.new ≡ slice_set occupants.old result.cell (Some result.id) }
+    ensures cells { length occupants.new ≡ cells_of torus.now }
+    ensures draws { draws.new ≡ after 4 draws.old }
+{
+    let cell = choose(torus, occupants, prefer_empty, parent, draws.word());
+    let over = occupants.at(cell);
+    let first = draws.word();
+    let second = draws.word();
+    let third = draws.word();
+    occupants.set(cell, Some(id));
+    Placing {
+        id,
+        cell,
+        over,
+        inputs: Inputs::of([first, second, third]),
+    }
+}
+
+#[tactic(auto, unfolding(crate::specs::Placement::chosen_cell))]
+/// The cell that a word chooses among the neighbours, or among the empty ones where these are preferred.
+fn choose(torus: &Torus, occupants: &Occupants, prefer_empty: bool, parent: u32, word: u32) -> u32
+    requires cells { length occupants.now ≡ cells_of torus.now }
+    requires parent { parent < cells_of torus.now }
+    ensures value { result ≡ chosen_cell torus.now prefer_empty occupants.now parent word }
+    ensures in_torus { result < cells_of torus.now }
+{
+    let around = neighbours(torus, parent);
+    let free = free_among(&around, occupants);
+    if prefer_empty && !free.is_empty() {
+        return pick(free.as_slice(), word);
+    }
+    pick(&around, word)
+}
+
+/// The cells in which nothing stands.
+fn free_among(cells: &[u32], occupants: &Occupants) -> ArrayVec<u32, 8>
+    requires few { length cells.now ≤ 8 }
+    requires in_torus { All (λ cell. cell < length occupants.now) cells.now }
+    ensures free { result.items ≡ filter (is_free occupants.now) cells.now }
+    ensures in_torus { All (λ cell. cell < length occupants.now) result.items }
+{
+    let mut free = ArrayVec::new();
+    for cell in cells {
+        if occupants.at(*cell).is_none() {
+            free.push(*cell);
+        }
+    }
+    free
+}
+
+/// The entry of a list that a word chooses.
+fn pick(cells: &[u32], word: u32) -> u32
+    requires some { 0 < length cells.now }
+    requires few { length cells.now ≤ 8 }
+    ensures { result ≡ chosen_from cells.now word }
+{
+    cells[scaled(word, cells.len() as u32) as usize]
+}
+
+#[cfg(test)]
+mod tests {
+    use super::*;
+    use std::test::Fail;
+
+    const SEASON: Season = Season {
+        seed: 1,
+        update: 7,
+        prefer_empty: true,
+        next_id: 1,
+    };
+
+    #[test]
+    fn newborns_replace_one_another_in_a_single_cell(rt: HostRuntime) -> Result<(), Fail> {
+        let alloc = rt.alloc();
+        let torus = Torus {
+            width: 1,
+            height: 1,
+        };
+        for (standing, first_over) in [(Some(0), Some(0)), (None, None)] {
+            let (Ok(parents), Ok(mut occupants)) = (
+                crate::gather(alloc, &[2]),
+                Occupants::empty(alloc, &torus),
+            ) else {
+                assert!(rt; false, "there was no memory");
+                return Ok(());
+            };
+            occupants.set(0, standing);
+            if parents.len() == 2 {
+                if let Ok(placings) = place(alloc, &torus, &parents, &mut occupants, &SEASON) {
+                    assert_eq!(rt; placings.len(), 2);
+                    let rows = placings.into_vec();
+                    for (nth, id, over) in [(0, 1, first_over), (1, 2, Some(1))] {
+                        if let Some(placing) = rows.get(nth) {
+                            assert_eq!(rt; placing.cell, 0);
+                            assert_eq!(rt; placing.id, id);
+                            assert_eq!(rt; placing.over, over);
+                        }
+                    }
+                    assert_eq!(rt; occupants.at(0), Some(2));
+                }
+            }
+        }
+        Ok(())
+    }
+
+    #[test]
+    fn an_empty_neighbour_is_preferred(rt: HostRuntime) -> Result<(), Fail> {
+        let alloc = rt.alloc();
+        let torus = Torus {
+            width: 2,
+            height: 1,
+        };
+        let (Ok(parents), Ok(mut occupants)) = (
+            crate::gather(alloc, &[1]),
+            Occupants::empty(alloc, &torus),
+        ) else {
+            assert!(rt; false, "there was no memory");
+            return Ok(());
+        };
+        occupants.set(0, Some(0));
+        if parents.len() == 1 {
+            if let Ok(placings) = place(alloc, &torus, &parents, &mut occupants, &SEASON) {
+                for placing in placings.into_vec().iter() {
+                    assert_eq!(rt; placing.id, 1);
+                    assert_eq!(rt; placing.cell, 1);
+                    assert_eq!(rt; placing.over, None);
+                }
+            }
+        }
+        Ok(())
+    }
+
+    // The words of this stream are 0x9b682df2, 0xd21186f8, 0x6d39f1d6 and 0x3062481c.
+    #[test]
+    fn the_stream_of_the_parents_cell_chooses_the_cell_and_the_inputs(
+        rt: HostRuntime,
+    ) -> Result<(), Fail> {
+        let alloc = rt.alloc();
+        let torus = Torus {
+            width: 60,
+            height: 60,
+        };
+        let Ok(mut occupants) = Occupants::empty(alloc, &torus) else {
+            assert!(rt; false, "there was no memory");
+            return Ok(());
+        };
+        let mut draws = Draws::start(1, 7, 1805, Purpose::Place);
+        let placing = place_one(&torus, 1805, &mut occupants, true, 9, &mut draws);
+        assert_eq!(rt; placing.cell, 1806);
+        assert_eq!(rt; placing.inputs.value(0), 0x0F11_86F8);
+        assert_eq!(rt; placing.inputs.value(1), 0x3339_F1D6);
+        assert_eq!(rt; placing.inputs.value(2), 0x5562_481C);
+        assert_eq!(rt; occupants.at(1806), Some(9));
+        Ok(())
+    }
+}
