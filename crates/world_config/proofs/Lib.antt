@@ -1,0 +1,7 @@
+pub mod UnknownLemmas
+pub mod MemberLemmas
+pub mod RefusalLemmas
+pub mod EventLemmas
+pub mod TableLemmas
+pub mod PrintLemmas
+pub mod ReadBackLemmas

@@ -1,0 +1,8 @@
+use Rattle.std.proofs.Common.{◌≡◌, map, take}
+use Rattle.toml.specs.View.{items_view}
+use Rattle.world_config.specs.Events.{event_value}
+use Rattle.world_config.specs.Printing.{items_for}
+use Rattle.world_config.proofs.printing.event_tables.Given as goal
+
+abbrev pub invariant-loop-event : goal.invariant-loop-event
+invariant-loop-event l = items_view l.tables.items ≡ items_for (map event_value (take l.event-index l.events))

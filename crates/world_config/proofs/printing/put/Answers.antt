@@ -1,0 +1,11 @@
+use Rattle.std.proofs.Common.{◌∙◌, ap}
+use Rattle.toml.specs.View.{table_view, view, members_view}
+use Rattle.world_config.specs.Printing.{insert_member}
+use Rattle.world_config.proofs.TableLemmas.{members_view-insert_entry}
+use Rattle.world_config.proofs.printing.put.Goals as goal
+
+pub returns : goal.returns
+returns c =
+    ap members_view c.in_ok-insert.ensures.entries
+    ∙ members_view-insert_entry c.args.table.now.entries c.in_ok-key.key c.args.value
+    ∙ ap (λ k. insert_member k (view c.args.value) (table_view c.args.table.now)) c.in_ok-key.ensures.ok

@@ -1,0 +1,125 @@
+-- The members of `event` (docs/FORMATS.md, "The configuration").
+use Rattle.std.specs.Prelude.{ℕ, ◌+◌, pos, Bool, true, ◌&&◌, nat_le, if◌then◌else◌, List, [], ◌∷◌, codes, length, find, Option, Some, None, option_map, option_and_then, Result, Ok, Err}
+use Rattle.std.specs.List.{list_any}
+use Rattle.std.specs.Str.{bytes_eq}
+use Rattle.toml.specs.Data.{Data, string, integer, table, Items, no_items, item, Members, no_members, member, get_member, as_str}
+use Rattle.instruction_set.specs.declared.letter.Letter.{Letter}
+use Rattle.genome.specs.declared.stop.GenomeStop.{GenomeStop}
+use Rattle.genome.specs.GenomeText.{spelled_by_letters}
+use Rattle.mutations.specs.declared.rate_name.RateName.{RateName}
+use Rattle.mutations.specs.declared.rate_name.RateName.TheVariants.{Copy, Insert, Delete, SitePoint, SiteInsert, SiteDelete}
+use Rattle.world_config.specs.declared.key.Key.{Key}
+use Rattle.world_config.specs.declared.key.Key.TheVariants as key
+use Rattle.random_streams.specs.declared.draws.TheConstants.{MILLION}
+use Rattle.world_config.specs.KeyTable.{Frame, key_name}
+use Rattle.world_config.specs.Events.{EventValue, WhatValue, inject, clear, rate}
+
+-- the key of a rate
+abbrev pub rate_key : RateName → Key
+rate_key Copy = key.CopyError
+rate_key Insert = key.DivideInsert
+rate_key Delete = key.DivideDelete
+rate_key SitePoint = key.SitePoint
+rate_key SiteInsert = key.SiteInsert
+rate_key SiteDelete = key.SiteDelete
+
+-- the six rates
+abbrev pub rate_names : List RateName
+rate_names = Copy ∷ Insert ∷ Delete ∷ SitePoint ∷ SiteInsert ∷ SiteDelete ∷ []
+
+-- the rate whose key has this name
+unfoldable pub rate_named : List ℕ → Option RateName
+rate_named text = find (λ name. bytes_eq (key_name (rate_key name)) text) rate_names
+
+-- each key of the table is one of these names
+abbrev pub has_only : List (List ℕ) → Members → Bool
+has_only names no_members = true
+has_only names (member k d ms) = list_any (λ name. bytes_eq name k) names && has_only names ms
+
+-- the value, where the table has no other key than these names
+abbrev pub if_only : {A : Type 0} → List (List ℕ) → Members → Option A → Option A
+if_only names ms value = if has_only names ms then value else None
+
+-- the number that a value is, where it lies within bounds
+abbrev pub number_from : ℕ → ℕ → Option Data → Option ℕ
+number_from least greatest (Some (integer (pos n))) = if nat_le least n && nat_le n greatest then Some n else None
+number_from least greatest _ = None
+
+-- the letters, where their number lies within bounds
+abbrev pub sized : ℕ → ℕ → Result (List Letter) GenomeStop → Option (List Letter)
+sized least greatest (Ok ls) = if nat_le least (length ls) && nat_le (length ls) greatest then Some ls else None
+sized least greatest (Err stop) = None
+
+-- the genome that a value spells by letters, where its length lies within bounds
+abbrev pub genome_from : ℕ → ℕ → Option Data → Option (List Letter)
+genome_from least greatest (Some (string text)) = sized least greatest (spelled_by_letters text)
+genome_from least greatest _ = None
+
+-- what two values make, where there are both
+abbrev pub both : {A B C : Type 0} → (A → B → C) → Option A → Option B → Option C
+both make (Some a) (Some b) = Some (make a b)
+both make _ _ = None
+
+-- the names of the keys of an injection
+abbrev pub inject_names : List (List ℕ)
+inject_names = codes "kind" ∷ codes "update" ∷ codes "cell" ∷ codes "letters" ∷ []
+
+-- the names of the keys of a clearing
+abbrev pub clear_names : List (List ℕ)
+clear_names = codes "kind" ∷ codes "update" ∷ codes "first" ∷ codes "last" ∷ []
+
+-- the names of the keys of a rate
+abbrev pub rate_form_names : List (List ℕ)
+rate_form_names = codes "kind" ∷ codes "update" ∷ codes "name" ∷ codes "ppm" ∷ []
+
+-- an organism in a cell of the world, with a genome of a length that the configuration allows
+abbrev pub inject_of : Frame → Members → Option WhatValue
+inject_of frame ms = if_only inject_names ms
+    (both inject (number_from 0 frame.last_cell (get_member (codes "cell") ms))
+    (genome_from frame.least_length frame.greatest_length (get_member (codes "letters") ms)))
+
+-- cells of the world from the first to the last
+abbrev pub clear_of : Frame → Members → Option WhatValue
+clear_of frame ms = if_only clear_names ms
+    (option_and_then (λ last. option_map (λ first. clear first last) (number_from 0 last (get_member (codes "first") ms)))
+    (number_from 0 frame.last_cell (get_member (codes "last") ms)))
+
+-- one of the six rates, in parts per million
+abbrev pub rate_of : Members → Option WhatValue
+rate_of ms = if_only rate_form_names ms
+    (both rate (option_and_then rate_named (option_and_then as_str (get_member (codes "name") ms)))
+    (number_from 0 MILLION (get_member (codes "ppm") ms)))
+
+-- what an event of this kind does
+abbrev pub what_of : Frame → Members → List ℕ → Option WhatValue
+what_of frame ms kind =
+    if bytes_eq kind (codes "inject") then inject_of frame ms
+    else if bytes_eq kind (codes "clear") then clear_of frame ms
+    else if bytes_eq kind (codes "rate") then rate_of ms
+    else None
+
+-- the event that a member is, in an update that is not below the least
+abbrev pub event_of : Frame → ℕ → Data → Option EventValue
+event_of frame least (table ms) =
+    both (λ update what. record { update = update; what = what }) (number_from least frame.updates (get_member (codes "update") ms))
+    (option_and_then (what_of frame ms) (option_and_then as_str (get_member (codes "kind") ms)))
+event_of frame least _ = None
+
+-- one more event before the others, or the place of the first member that is none
+abbrev pub more_events : EventValue → Result (List EventValue) ℕ → Result (List EventValue) ℕ
+more_events event (Ok events) = Ok (event ∷ events)
+more_events event (Err nth) = Err nth
+
+-- a member and what follows it, or the place of the member where it is none
+abbrev pub followed : ℕ → Option EventValue → (ℕ → Result (List EventValue) ℕ) → Result (List EventValue) ℕ
+followed nth None others = Err nth
+followed nth (Some event) others = more_events event (others event.update)
+
+-- the events that members are from this place and this update on, or the place of the first member that is none
+abbrev pub events_from : Frame → Items → ℕ → ℕ → Result (List EventValue) ℕ
+events_from frame no_items nth least = Ok []
+events_from frame (item d ds) nth least = followed nth (event_of frame least d) (events_from frame ds (nth + 1))
+
+-- the events of a configuration: the updates are from 1 on and never fall
+abbrev pub events_of : Frame → Items → Result (List EventValue) ℕ
+events_of frame items = events_from frame items 1 1

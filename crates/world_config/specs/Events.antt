@@ -1,0 +1,55 @@
+-- Events as values (docs/WORLD.md, "Events").
+use Rattle.std.specs.Prelude.{ℕ, ◌≤◌, Bool, ◌&&◌, nat_le, List, length, map}
+use Rattle.std.specs.List.{AllPass}
+use Rattle.std.specs.List.Sorted.{IsNonDecreasingBy}
+use Rattle.instruction_set.specs.declared.letter.Letter.{Letter}
+use Rattle.genome.specs.Genome.{letters}
+use Rattle.mutations.specs.declared.rate_name.RateName.{RateName}
+use Rattle.random_streams.specs.declared.draws.TheConstants.{MILLION}
+use Rattle.world_config.specs.declared.event.Event.{Event}
+use Rattle.world_config.specs.declared.event.What.{What}
+use Rattle.world_config.specs.declared.event.What.TheVariants as code
+use Rattle.world_config.specs.declared.limits.TheConstants.{MOST_EVENTS}
+use Rattle.world_config.specs.KeyTable.{Frame}
+
+-- what an event does: an organism in a cell, cells cleared from the first to the last, or a rate
+pub data WhatValue : Type 0 where
+  inject : ℕ → List Letter → WhatValue
+  clear : ℕ → ℕ → WhatValue
+  rate : RateName → ℕ → WhatValue
+
+-- an event at the end of an update
+pub record EventValue : Type 0 where
+  pub update : ℕ
+  pub what : WhatValue
+
+-- what the code's event does
+abbrev pub what_value : What → WhatValue
+what_value (code.Inject cell genome) = inject cell (letters genome)
+what_value (code.Clear first last) = clear first last
+what_value (code.Rate name ppm) = rate name ppm
+
+-- the value of an event
+abbrev pub event_value : Event → EventValue
+event_value event = record { update = event.update; what = what_value event.what }
+
+-- its cells are in the world, its genome is within the two lengths, and its rate is one
+abbrev pub what_fits : Frame → WhatValue → Bool
+what_fits frame (inject cell ls) =
+    nat_le cell frame.last_cell && (nat_le frame.least_length (length ls) && nat_le (length ls) frame.greatest_length)
+what_fits frame (clear first last) = nat_le first last && nat_le last frame.last_cell
+what_fits frame (rate name ppm) = nat_le ppm MILLION
+
+-- it happens in one of the updates, and what it does fits
+abbrev pub event_fits : Frame → EventValue → Bool
+event_fits frame event = (nat_le 1 event.update && nat_le event.update frame.updates) && what_fits frame event.what
+
+-- these events can stand in a configuration with these numbers
+pub record AreEvents (frame : Frame) (events : List EventValue) : Type 0 where
+  pub number : length events ≤ MOST_EVENTS
+  pub fit : AllPass (event_fits frame) events
+  pub rising : IsNonDecreasingBy (λ event. event.update) events
+
+-- the values of a list of events
+abbrev pub event_values : List Event → List EventValue
+event_values events = map event_value events

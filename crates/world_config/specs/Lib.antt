@@ -1,0 +1,15 @@
+pub use Rattle.toml.specs.Data
+pub use Rattle.genome.specs.Genome
+pub use Rattle.genome.specs.GenomeText
+pub mod KeyTable
+pub mod Bounds
+pub mod Events
+pub mod EventForms
+pub mod Values
+pub mod Lookup
+pub mod Refusal
+pub mod Config
+pub mod Groups
+pub mod Members
+pub mod Shown
+pub mod Printing

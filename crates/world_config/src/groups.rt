@@ -1,0 +1,204 @@
+// The numbers and truths of a configuration, in groups of keys that stand together.
+ghost use Rattle.std.specs.Prelude.{◌≡◌, None, Some, IfOk, IfErr, OnOk};
+ghost use Rattle.toml.specs.View.{table_view};
+ghost use Rattle.genome.specs.declared.genome.TheConstants.{LEAST_LENGTH, GREATEST_LENGTH};
+ghost use Rattle.random_streams.specs.declared.draws.TheConstants.{MILLION};
+ghost use Rattle.world_config.specs.declared.limits.TheConstants.{GREATEST_SIDE, GREATEST_UPDATES, GREATEST_SEED, GREATEST_AVERAGE, GREATEST_AGE, GREATEST_PERCENT};
+ghost use Rattle.world_config.specs.Bounds.{IsWithin, last_cell_of};
+
+use crate::key::Key;
+use crate::limits::{
+    GREATEST_AGE, GREATEST_AVERAGE, GREATEST_PERCENT, GREATEST_SEED, GREATEST_SIDE,
+    GREATEST_UPDATES,
+};
+use crate::lookup::{flag, long_number, number};
+use crate::stop::ConfigStop;
+use genome::{GREATEST_LENGTH, LEAST_LENGTH};
+use random_streams::MILLION;
+use toml::Table;
+
+/// Where and how long a run goes.
+#[derive(Clone, Copy)]
+pub(crate) struct Place {
+    pub width: u32,
+    pub height: u32,
+    pub updates: u32,
+    pub seed: u64,
+    pub founder_cell: u32,
+    ghost width_bounds: { IsWithin 1 GREATEST_SIDE width },
+    ghost height_bounds: { IsWithin 1 GREATEST_SIDE height },
+    ghost updates_bounds: { IsWithin 0 GREATEST_UPDATES updates },
+    ghost seed_bounds: { IsWithin 0 GREATEST_SEED seed },
+    ghost founder_cell_bounds: { IsWithin 0 (last_cell_of width height) founder_cell },
+}
+
+/// How long an organism runs and lives.
+#[derive(Clone, Copy)]
+pub(crate) struct Life {
+    pub average_slices: u32,
+    pub death: bool,
+    pub age_limit: u32,
+    ghost average_slices_bounds: { IsWithin 1 GREATEST_AVERAGE average_slices },
+    ghost age_limit_bounds: { IsWithin 1 GREATEST_AGE age_limit },
+}
+
+/// The six rates of errors.
+#[derive(Clone, Copy)]
+pub(crate) struct Errors {
+    pub copy_error: u32,
+    pub divide_insert: u32,
+    pub divide_delete: u32,
+    pub site_point: u32,
+    pub site_insert: u32,
+    pub site_delete: u32,
+    ghost copy_error_bounds: { IsWithin 0 MILLION copy_error },
+    ghost divide_insert_bounds: { IsWithin 0 MILLION divide_insert },
+    ghost divide_delete_bounds: { IsWithin 0 MILLION divide_delete },
+    ghost site_point_bounds: { IsWithin 0 MILLION site_point },
+    ghost site_insert_bounds: { IsWithin 0 MILLION site_insert },
+    ghost site_delete_bounds: { IsWithin 0 MILLION site_delete },
+}
+
+/// What a birth asks.
+#[derive(Clone, Copy)]
+pub(crate) struct Divide {
+    pub prefer_empty: bool,
+    pub need_alloc: bool,
+    pub executed_percent: u32,
+    pub copied_percent: u32,
+    ghost executed_percent_bounds: { IsWithin 1 GREATEST_PERCENT executed_percent },
+    ghost copied_percent_bounds: { IsWithin 1 GREATEST_PERCENT copied_percent },
+}
+
+/// The lengths of genomes and of memory.
+#[derive(Clone, Copy)]
+pub(crate) struct Lengths {
+    pub least_length: u32,
+    pub greatest_length: u32,
+    pub memory_limit: u32,
+    ghost least_length_bounds: { IsWithin LEAST_LENGTH GREATEST_LENGTH least_length },
+    ghost greatest_length_bounds: { IsWithin least_length GREATEST_LENGTH greatest_length },
+    ghost memory_limit_bounds: { IsWithin greatest_length GREATEST_LENGTH memory_limit },
+}
+
+impl Place {
+    ghost use Rattle.world_config.specs.Refusal.{first_refusal};
+    ghost use Rattle.world_config.specs.Groups.{ArePlace, place_keys};
+
+    #[tactic(auto, unfolding(crate::specs::Refusal::refusal_at, crate::specs::Lookup::number_at))]
+    pub(crate) fn read(table: &Table) -> Result<Place, ConfigStop>
+        ensures value { IfOk result (ArePlace (table_view table.now)) }
+        ensures accepted { OnOk result (first_refusal place_keys (table_view table.now) ≡ None) }
+        ensures refused { IfErr result (λ stop. first_refusal place_keys (table_view table.now)
+            ≡ Some stop) }
+    {
+        let width = number(table, Key::Width, 60, 1, GREATEST_SIDE)?;
+        let height = number(table, Key::Height, 60, 1, GREATEST_SIDE)?;
+        let updates = number(table, Key::Updates, 100, 0, GREATEST_UPDATES)?;
+        let seed = long_number(table, Key::Seed, 1, 0, GREATEST_SEED)?;
+        let founder_cell = number(table, Key::FounderCell, 0, 0, width * height - 1)?;
+        Ok(Place {
+            width,
+            height,
+            updates,
+            seed,
+            founder_cell,
+        })
+    }
+}
+
+impl Life {
+    ghost use Rattle.world_config.specs.Refusal.{first_refusal};
+    ghost use Rattle.world_config.specs.Groups.{AreLife, life_keys};
+
+    #[tactic(auto, unfolding(crate::specs::Refusal::refusal_at, crate::specs::Lookup::number_at, crate::specs::Lookup::flag_at))]
+    pub(crate) fn read(table: &Table) -> Result<Life, ConfigStop>
+        ensures value { IfOk result (AreLife (table_view table.now)) }
+        ensures accepted { OnOk result (first_refusal life_keys (table_view table.now) ≡ None) }
+        ensures refused { IfErr result (λ stop. first_refusal life_keys (table_view table.now)
+            ≡ Some stop) }
+    {
+        Ok(Life {
+            average_slices: number(table, Key::AverageSlices, 30, 1, GREATEST_AVERAGE)?,
+            death: flag(table, Key::Death, true)?,
+            age_limit: number(table, Key::AgeLimit, 20, 1, GREATEST_AGE)?,
+        })
+    }
+}
+
+impl Errors {
+    ghost use Rattle.world_config.specs.Refusal.{first_refusal};
+    ghost use Rattle.world_config.specs.Groups.{AreErrors, error_keys};
+
+    #[tactic(auto, unfolding(crate::specs::Refusal::refusal_at, crate::specs::Lookup::number_at))]
+    pub(crate) fn read(table: &Table) -> Result<Errors, ConfigStop>
+        ensures value { IfOk result (AreErrors (table_view table.now)) }
+        ensures accepted { OnOk result (first_refusal error_keys (table_view table.now) ≡ None) }
+        ensures refused { IfErr result (λ stop. first_refusal error_keys (table_view table.now)
+            ≡ Some stop) }
+    {
+        Ok(Errors {
+            copy_error: number(table, Key::CopyError, 7500, 0, MILLION)?,
+            divide_insert: number(table, Key::DivideInsert, 50000, 0, MILLION)?,
+            divide_delete: number(table, Key::DivideDelete, 50000, 0, MILLION)?,
+            site_point: number(table, Key::SitePoint, 0, 0, MILLION)?,
+            site_insert: number(table, Key::SiteInsert, 0, 0, MILLION)?,
+            site_delete: number(table, Key::SiteDelete, 0, 0, MILLION)?,
+        })
+    }
+}
+
+impl Divide {
+    ghost use Rattle.world_config.specs.Refusal.{first_refusal};
+    ghost use Rattle.world_config.specs.Groups.{AreDivide, divide_keys};
+
+    #[tactic(auto, unfolding(crate::specs::Refusal::refusal_at, crate::specs::Lookup::number_at, crate::specs::Lookup::flag_at))]
+    pub(crate) fn read(table: &Table) -> Result<Divide, ConfigStop>
+        ensures value { IfOk result (AreDivide (table_view table.now)) }
+        ensures accepted { OnOk result (first_refusal divide_keys (table_view table.now) ≡ None) }
+        ensures refused { IfErr result (λ stop. first_refusal divide_keys (table_view table.now)
+            ≡ Some stop) }
+    {
+        Ok(Divide {
+            prefer_empty: flag(table, Key::PreferEmpty, true)?,
+            need_alloc: flag(table, Key::NeedAlloc, true)?,
+            executed_percent: number(table, Key::ExecutedPercent, 50, 1, GREATEST_PERCENT)?,
+            copied_percent: number(table, Key::CopiedPercent, 50, 1, GREATEST_PERCENT)?,
+        })
+    }
+}
+
+impl Lengths {
+    ghost use Rattle.world_config.specs.Refusal.{first_refusal};
+    ghost use Rattle.world_config.specs.Groups.{AreLengths, length_keys};
+
+    #[tactic(auto, unfolding(crate::specs::Refusal::refusal_at, crate::specs::Lookup::number_at))]
+    pub(crate) fn read(table: &Table) -> Result<Lengths, ConfigStop>
+        ensures value { IfOk result (AreLengths (table_view table.now)) }
+        ensures accepted { OnOk result (first_refusal length_keys (table_view table.now) ≡ None) }
+        ensures refused { IfErr result (λ stop. first_refusal length_keys (table_view table.now)
+            ≡ Some stop) }
+    {
+        let least_length = number(table, Key::LeastLength, 8, LEAST_LENGTH, GREATEST_LENGTH)?;
+        let greatest_length = number(
+            table,
+            Key::GreatestLength,
+            2048,
+            least_length,
+            GREATEST_LENGTH,
+        )?;
+        let most = greatest_length.max(2048);
+        let memory_limit = number(
+            table,
+            Key::MemoryLimit,
+            most,
+            greatest_length,
+            GREATEST_LENGTH,
+        )?;
+        Ok(Lengths {
+            least_length,
+            greatest_length,
+            memory_limit,
+        })
+    }
+}

@@ -1,0 +1,148 @@
+// The values of a table at its keys.
+ghost use Rattle.std.specs.Prelude.{◌≡◌, ℕ, pos, None, Some, IfOk, IfErr, OnOk, option_map};
+ghost use Rattle.toml.specs.Data.{array, boolean, get_member, integer, no_items, string};
+ghost use Rattle.toml.specs.View.{items_view, table_view, view};
+ghost use Rattle.world_config.specs.KeyTable.{key_name, number, flag, genome, events};
+ghost use Rattle.world_config.specs.Bounds.{IsWithin};
+ghost use Rattle.world_config.specs.Groups.{value_or};
+ghost use Rattle.world_config.specs.Lookup.{flag_of, number_of};
+ghost use Rattle.world_config.specs.Refusal.{refusal_of, unless_within};
+
+use crate::key::Key;
+use crate::stop::ConfigStop;
+use toml::{Table, Value};
+
+/// The value at a name.
+pub(crate) fn found<'a>(table: &'a Table, name: &str) -> Option<&'a Value>
+    ensures { option_map (λ value. view value.now) result ≡ get_member name.now
+        (table_view table.now) }
+{
+    table.get(name)
+}
+
+/// The value at a key.
+fn at<'a>(table: &'a Table, key: Key) -> Option<&'a Value>
+    ensures { option_map (λ value. view value.now) result ≡ get_member (key_name key)
+        (table_view table.now) }
+{
+    found(table, key.name())
+}
+
+/// The number, where it is within the bounds.
+pub(crate) fn bounded(key: Key, value: i64, least: u32, greatest: u64) -> Result<u64, ConfigStop>
+    ensures value { IfOk result (λ n. value ≡ pos n) }
+    ensures within { IfOk result (IsWithin least greatest) }
+    ensures accepted { OnOk result (unless_within key least greatest value ≡ None) }
+    ensures refused { IfErr result (λ stop. unless_within key least greatest value ≡ Some stop) }
+{
+    if 0 <= value {
+        let n = value as u64;
+        if u64::from(least) <= n && n <= greatest {
+            return Ok(n);
+        }
+    }
+    Err(ConfigStop::OutOfRange { key, value })
+}
+
+fn integer_or(table: &Table, key: Key, default: u32) -> Result<i64, ConfigStop>
+    ensures value { IfOk result (λ z. value_or key (integer (pos default)) (table_view table.now)
+        ≡ integer z) }
+    ensures refused { IfErr result (λ stop. (least greatest : ℕ)
+        → refusal_of (number least greatest) key (value_or key (integer (pos default))
+        (table_view table.now)) ≡ Some stop) }
+{
+    match at(table, key) {
+        None => Ok(i64::from(default)),
+        Some(value) => match value.as_integer() {
+            Some(number) => Ok(number),
+            None => Err(ConfigStop::WrongKind { key }),
+        },
+    }
+}
+
+/// The number at a key, or the default, within the bounds.
+pub(crate) fn long_number(
+    table: &Table,
+    key: Key,
+    default: u32,
+    least: u32,
+    greatest: u64,
+) -> Result<u64, ConfigStop>
+    ensures value { IfOk result (λ n. value_or key (integer (pos default)) (table_view table.now)
+        ≡ integer (pos n)) }
+    ensures within { IfOk result (IsWithin least greatest) }
+    ensures refused { IfErr result (λ stop.
+        refusal_of (number least greatest) key (value_or key (integer (pos default))
+        (table_view table.now)) ≡ Some stop) }
+{
+    bounded(key, integer_or(table, key, default)?, least, greatest)
+}
+
+/// The number at a key, or the default, within the bounds.
+pub(crate) fn number(
+    table: &Table,
+    key: Key,
+    default: u32,
+    least: u32,
+    greatest: u32,
+) -> Result<u32, ConfigStop>
+    ensures value { IfOk result (λ n. value_or key (integer (pos default)) (table_view table.now)
+        ≡ integer (pos n)) }
+    ensures within { IfOk result (IsWithin least greatest) }
+    ensures refused { IfErr result (λ stop.
+        refusal_of (number least greatest) key (value_or key (integer (pos default))
+        (table_view table.now)) ≡ Some stop) }
+{
+    let number = long_number(table, key, default, least, u64::from(greatest))?;
+    Ok(number as u32)
+}
+
+/// The truth at a key, or the default.
+pub(crate) fn flag(table: &Table, key: Key, default: bool) -> Result<bool, ConfigStop>
+    ensures value { IfOk result (λ b. value_or key (boolean default) (table_view table.now)
+        ≡ boolean b) }
+    ensures refused { IfErr result (λ stop.
+        refusal_of flag key (value_or key (boolean default) (table_view table.now)) ≡ Some stop) }
+{
+    match at(table, key) {
+        None => Ok(default),
+        Some(value) => match value.as_bool() {
+            Some(flag) => Ok(flag),
+            None => Err(ConfigStop::WrongKind { key }),
+        },
+    }
+}
+
+/// The text at a key, or the default.
+pub(crate) fn text<'a>(table: &'a Table, key: Key, default: &'a str) -> Result<&'a str, ConfigStop>
+    ensures value { IfOk result (λ s. value_or key (string default.entry.now) (table_view table.now)
+        ≡ string s.now) }
+    ensures refused { IfErr result (λ stop. (least greatest : ℕ)
+        → refusal_of (genome least greatest) key (value_or key (string default.entry.now)
+        (table_view table.now)) ≡ Some stop) }
+{
+    match at(table, key) {
+        None => Ok(default),
+        Some(value) => match value.as_str() {
+            Some(text) => Ok(text),
+            None => Err(ConfigStop::WrongKind { key }),
+        },
+    }
+}
+
+/// The members of the array at a key, or none.
+pub(crate) fn members(table: &Table, key: Key) -> Result<&[Value], ConfigStop>
+    ensures value { IfOk result (λ s. value_or key (array no_items) (table_view table.now) ≡ array
+        (items_view s.now)) }
+    ensures refused { IfErr result (λ stop. (most : ℕ)
+        → refusal_of (events most) key (value_or key (array no_items) (table_view table.now))
+        ≡ Some stop) }
+{
+    match at(table, key) {
+        None => Ok(&[]),
+        Some(value) => match value.as_array() {
+            Some(array) => Ok(array.as_slice()),
+            None => Err(ConfigStop::WrongKind { key }),
+        },
+    }
+}

@@ -1,0 +1,37 @@
+// The numbers and truths of a configuration, all groups of them.
+ghost use Rattle.std.specs.Prelude.{◌≡◌, None, Some, IfOk, IfErr, OnOk};
+ghost use Rattle.toml.specs.View.{table_view};
+
+use crate::groups::{Divide, Errors, Lengths, Life, Place};
+use crate::stop::ConfigStop;
+use toml::Table;
+
+/// The values of the keys before the ancestor.
+#[derive(Clone, Copy)]
+pub(crate) struct Numbers {
+    pub place: Place,
+    pub life: Life,
+    pub errors: Errors,
+    pub divide: Divide,
+    pub lengths: Lengths,
+}
+
+impl Numbers {
+    ghost use Rattle.world_config.specs.Refusal.{first_refusal};
+    ghost use Rattle.world_config.specs.Groups.{AreNumbers, number_keys};
+
+    pub(crate) fn read(table: &Table) -> Result<Numbers, ConfigStop>
+        ensures value { IfOk result (AreNumbers (table_view table.now)) }
+        ensures accepted { OnOk result (first_refusal number_keys (table_view table.now) ≡ None) }
+        ensures refused { IfErr result (λ stop. first_refusal number_keys (table_view table.now)
+            ≡ Some stop) }
+    {
+        Ok(Numbers {
+            place: Place::read(table)?,
+            life: Life::read(table)?,
+            errors: Errors::read(table)?,
+            divide: Divide::read(table)?,
+            lengths: Lengths::read(table)?,
+        })
+    }
+}

@@ -1,0 +1,46 @@
+use crate::key::Key;
+use crate::key_text::KeyText;
+use avida_port::Memory;
+use genome::GenomeStop;
+use std::alloc::AllocError;
+
+/// Why a document is no configuration.
+#[derive(Drop)]
+pub enum ConfigStop {
+    /// Memory was wanting.
+    Memory,
+    /// The bytes are no TOML document.
+    BadToml,
+    /// No row has this key, the least such.
+    UnknownKey { key: KeyText },
+    /// The value is not of the key's kind.
+    WrongKind { key: Key },
+    /// The value is outside the key's bounds.
+    OutOfRange { key: Key, value: i64 },
+    /// The ancestor is no genome by letters.
+    BadAncestor { stop: GenomeStop },
+    /// This member of the events, from 1, has no form.
+    BadEvent { nth: u32 },
+}
+
+impl From<AllocError> for ConfigStop {
+    ghost use Rattle.std.specs.Prelude.{◌≡◌};
+    ghost use Rattle.world_config.specs.declared.stop.ConfigStop.TheVariants.{Memory};
+
+    ghost from_gives = { λ _ stop. stop ≡ Memory };
+
+    fn from(_e: AllocError) -> ConfigStop {
+        ConfigStop::Memory
+    }
+}
+
+impl From<Memory> for ConfigStop {
+    ghost use Rattle.std.specs.Prelude.{◌≡◌};
+    ghost use Rattle.world_config.specs.declared.stop.ConfigStop.TheVariants as stop;
+
+    ghost from_gives = { λ _ given. given ≡ stop.Memory };
+
+    fn from(_e: Memory) -> ConfigStop {
+        ConfigStop::Memory
+    }
+}
