@@ -1,0 +1,82 @@
+// A call of `serve` over sources and sinks in memory.
+use avida_port::{Failing, MemSink, MemSource, NoGate};
+use avida_program::{Status, serve};
+use std::alloc::{AllocError, Global};
+
+/// What a call answered and left.
+#[derive(Drop)]
+pub struct Served {
+    pub status: Status,
+    pub out: MemSink,
+    pub watch: MemSink,
+    pub err: MemSink,
+}
+
+/// The calls at which a source and the sinks fail.
+#[derive(Clone, Copy)]
+pub struct Faults<'a> {
+    pub reads: &'a [u64],
+    pub puts: &'a [Failing],
+    pub err_puts: &'a [Failing],
+}
+
+pub const NO_FAULTS: Faults<'static> = Faults {
+    reads: &[],
+    puts: &[],
+    err_puts: &[],
+};
+
+/// Serves the words, which spaces part, on these bytes in pieces of two.
+pub fn serve_with(
+    alloc: Global,
+    words: &str,
+    bytes: &[u8],
+    faults: Faults,
+) -> Result<Served, AllocError> {
+    let mut texts = Vec::new(alloc);
+    for word in words.split(' ') {
+        if !word.is_empty() {
+            texts.push(String::from_str(alloc, word)?)?;
+        }
+    }
+    let mut source = MemSource::new(bytes.to_vec(alloc)?, 2, faults.reads.to_vec(alloc)?);
+    let mut out = MemSink::new(alloc, faults.puts.to_vec(alloc)?);
+    let mut watch = MemSink::new(alloc, Vec::new(alloc));
+    let mut err = MemSink::new(alloc, faults.err_puts.to_vec(alloc)?);
+    let status = serve(
+        alloc,
+        &texts,
+        &mut source,
+        &mut out,
+        &mut watch,
+        &mut err,
+        &NoGate,
+    );
+    Ok(Served {
+        status,
+        out,
+        watch,
+        err,
+    })
+}
+
+/// The same where nothing fails.
+pub fn serve_on(alloc: Global, words: &str, bytes: &[u8]) -> Result<Served, AllocError> {
+    serve_with(alloc, words, bytes, NO_FAULTS)
+}
+
+/// The line of this number, from 1, without its end.
+pub fn line_at(text: &[u8], number: usize) -> Option<&[u8]> {
+    text.split(|byte| *byte == b'\n')
+        .nth(number.saturating_sub(1))
+}
+
+/// A genome that copies itself as the default ancestor does, with so many letters between its ends.
+pub fn copying_genome(alloc: Global, between: usize) -> Result<Vec<u8>, AllocError> {
+    let mut letters = Vec::from_slice(alloc, b"wzcag")?;
+    for _ in 0..between {
+        letters.push(b'c')?;
+    }
+    letters.extend_from_slice(b"zvfcaxgab")?;
+    Ok(letters)
+}
