@@ -3,6 +3,10 @@ pub mod View
 pub mod Life
 pub mod TraceRules
 pub mod TracedStep
+pub mod Newborns
+pub mod UpdateLife
 pub use Rattle.genome.specs.Genome
 pub use Rattle.virtual_cpu.specs.Machine
 pub use Rattle.virtual_cpu.specs.Step
+pub use Rattle.mutations.specs.BirthRecord
+pub use Rattle.random_streams.specs.RandomStream

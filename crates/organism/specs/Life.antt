@@ -91,7 +91,13 @@ pub record IsDivide (o : OrganismState) (ask : DivideAsk) : Type 0 where
   pub least_child : LEAST_LENGTH ≤ ask.end - ask.read
   pub parent_within : ask.read ≤ length o.machine.memory
   pub child_within : ask.end ≤ length o.machine.memory
+  pub clean_within : ask.end ≤ length o.machine.clean
   pub twice_genome : ask.read ≤ 2 * length o.genome
+
+-- the child of a divide has a length that the rules allow
+pub record IsChildOf (rules : DivideRules) (ask : DivideAsk) : Type 0 where
+  pub least : rules.least ≤ ask.end - ask.read
+  pub greatest : ask.end - ask.read ≤ rules.greatest
 
 -- where an outcome is a viable divide, this holds of it
 abbrev pub OnViable : Outcome → (DivideAsk → Type 0) → Type 0

@@ -1,12 +1,22 @@
 //! An organism, and the steps of its life.
 #![tactic(auto)]
 
+mod births;
+mod newborn;
 mod organism;
 mod outcome;
+mod ran;
+mod running;
+mod settings;
 #[cfg(test)]
 mod tests;
 mod trace_rules;
 mod traced;
 
+pub use births::Births;
+pub use newborn::Newborn;
 pub use organism::Organism;
+pub use ran::Ran;
+pub use running::{LIFE_STEPS, LIFE_WORDS};
+pub use settings::Settings;
 pub use traced::{Remark, Traced};

@@ -1,11 +1,12 @@
 // An organism: its genome, its machine, and what it has done since its birth and its last divide.
 ghost use Rattle.std.specs.Prelude.{◌≡◌, ◌+◌, ◌*◌, ◌-◌, ◌<◌, ◌≤◌, ◌^◌, IfOk, OnOk, length};
+ghost use Rattle.divide_rules.specs.declared.limits.DivideRules.{DivideRules};
 ghost use Rattle.genome.specs.Genome.{letters};
 ghost use Rattle.genome.specs.declared.genome.TheConstants.{LEAST_LENGTH, GREATEST_LENGTH};
 ghost use Rattle.virtual_cpu.specs.Step.{AsksOf};
 ghost use Rattle.virtual_cpu.specs.Divide.{IsQuestionOf};
 ghost use Rattle.organism.specs.OrganismState.{new_organism, IsOrganism};
-ghost use Rattle.organism.specs.Life.{newly_done, after_output, after_question, after_did, life_step, renewed, IsDivide, OnViable};
+ghost use Rattle.organism.specs.Life.{newly_done, after_output, after_question, after_did, life_step, renewed, IsDivide, IsChildOf, OnViable};
 ghost use Rattle.organism.specs.TracedStep.{remark_value, traced_value, remark_on, trace_step_of};
 
 use crate::outcome::Outcome;
@@ -25,14 +26,14 @@ use virtual_cpu::{Cpu, Did};
 /// An organism, which lives by the steps of its machine.
 #[derive(Drop)]
 pub struct Organism {
-    genome: Arc<Genome, Global>,
-    inputs: Inputs,
-    merit: u64,
-    credited: Tasks,
-    age: u64,
-    read: u64,
-    gestation: Tasks,
-    machine: Cpu,
+    pub(crate) genome: Arc<Genome, Global>,
+    pub(crate) inputs: Inputs,
+    pub(crate) merit: u64,
+    pub(crate) credited: Tasks,
+    pub(crate) age: u64,
+    pub(crate) read: u64,
+    pub(crate) gestation: Tasks,
+    pub(crate) machine: Cpu,
 }
 
 impl Model for Organism {
@@ -160,9 +161,10 @@ impl Organism {
     /// One step of the life, but for the renewal that a viable divide brings.
     #[tactic(auto, unfolding(crate::specs::Life::life_step))]
     pub(crate) fn life_step(&mut self, copy: Option<Letter>, rules: &DivideRules) -> Outcome
-        requires { self.old.age < 2 ^ 62 }
+        requires { self.old.age < 2 ^ 63 }
         ensures step { (self.new, result) ≡ life_step self.old copy rules.now }
         ensures divide { OnViable result (IsDivide self.new) }
+        ensures child { OnViable result (IsChildOf rules.now) }
         ensures age { self.new.age ≡ self.old.age + 1 }
     {
         let input = self.inputs.value(self.read);
@@ -177,6 +179,7 @@ impl Organism {
         requires question { AsksOf self.old.machine did }
         ensures step { (self.new, result) ≡ after_did self.old rules.now did }
         ensures divide { OnViable result (IsDivide self.new) }
+        ensures child { OnViable result (IsChildOf rules.now) }
         ensures age { self.new.age ≡ self.old.age }
     {
         match did {
@@ -194,6 +197,7 @@ impl Organism {
         requires { self.old.read < self.old.age }
         ensures step { (self.new, result) ≡ after_output self.old value }
         ensures divide { OnViable result (IsDivide self.new) }
+        ensures child { (rules : DivideRules) → OnViable result (IsChildOf rules) }
         ensures age { self.new.age ≡ self.old.age }
     {
         let task = self.newly_done(value);
@@ -223,6 +227,7 @@ impl Organism {
         requires { IsQuestionOf self.now.machine ask.now }
         ensures outcome { result ≡ after_question self.now rules.now ask.now }
         ensures divide { OnViable result (IsDivide self.now) }
+        ensures child { OnViable result (IsChildOf rules.now) }
     {
         let _ = self.machine.length();
         match judge(ask, self.genome.len(), rules) {

@@ -2,6 +2,7 @@ use divide_rules::{DivideAsk, Rule};
 use logic_tasks::Task;
 
 /// What a step of a life came to.
+#[derive(Clone, Copy)]
 pub enum Outcome {
     Nothing,
     /// A task was newly done.

@@ -1,7 +1,9 @@
-use crate::{Organism, Remark, Traced};
-use divide_rules::Rule;
+use crate::{Births, Organism, Ran, Remark, Settings, Traced};
+use divide_rules::{DivideRules, Rule};
 use genome::{GREATEST_LENGTH, Genome, read_letters};
 use logic_tasks::{Inputs, Task, Tasks};
+use mutations::{Base, Rates};
+use random_streams::{Draws, Purpose};
 use std::alloc::Global;
 use std::process::Abort;
 use std::sync::Arc;
@@ -138,5 +140,100 @@ fn the_ancestor_divides_at_step_389(rt: HostRuntime) -> Result<(), Fail> {
     assert_eq!(rt; organism.age(), 0);
     assert_eq!(rt; organism.merit(), 97);
     assert!(rt; organism.credited() == Tasks::none());
+    Ok(())
+}
+
+/// The default rules, no errors, and death at this multiple of the genome's length.
+fn settings(age_limit: u32) -> Settings {
+    Settings {
+        rates: Rates {
+            copy: 0,
+            insert: 0,
+            delete: 0,
+            site_point: 0,
+            site_insert: 0,
+            site_delete: 0,
+        },
+        rules: DivideRules {
+            least: 8,
+            greatest: 2048,
+            executed_percent: 50,
+            copied_percent: 50,
+            need_alloc: true,
+        },
+        death: true,
+        age_limit,
+        memory_limit: 2048,
+    }
+}
+
+/// The life of an update with 30 slices.
+fn run(
+    alloc: Global,
+    organism: &mut Organism,
+    settings: &Settings,
+    update: u32,
+) -> Result<(Ran, Births), Fail> {
+    if organism.age() >= 1 << 62 {
+        return Err("too old".into());
+    }
+    let mut draws = Draws::start(1, update, 0, Purpose::Run);
+    let mut births = Births::none(alloc);
+    let ran = organism.run(alloc, 30, settings, &mut draws, &mut births)?;
+    Ok((ran, births))
+}
+
+#[test]
+fn an_organism_dies_with_the_step_of_its_age_limit(rt: HostRuntime) -> Result<(), Fail> {
+    let mut program = Vec::new(rt.alloc());
+    for _ in 0..100usize {
+        program.push(b'a')?;
+    }
+    let genome = read_letters(rt.alloc(), program.as_slice())?;
+    let mut organism = organism(rt.alloc(), genome, 2048)?;
+    for (update, wanted) in [
+        (1, Ran::Lives),
+        (2, Ran::Lives),
+        (3, Ran::Lives),
+        (4, Ran::Died { after: 10 }),
+    ] {
+        let (ran, births) = run(rt.alloc(), &mut organism, &settings(1), update)?;
+        assert_eq!(rt; ran, wanted, "update {update}");
+        assert_eq!(rt; births.len(), 0);
+    }
+    Ok(())
+}
+
+#[test]
+fn the_ancestor_bears_its_like_in_update_13(rt: HostRuntime) -> Result<(), Fail> {
+    let ancestor = read_letters(rt.alloc(), ANCESTOR.as_bytes())?;
+    let mut organism = organism(rt.alloc(), ancestor, 2048)?;
+    for update in 1..13 {
+        let (ran, births) = run(rt.alloc(), &mut organism, &settings(20), update)?;
+        assert_eq!(rt; ran, Ran::Lives);
+        assert_eq!(rt; births.len(), 0, "update {update}");
+    }
+    let (ran, births) = run(rt.alloc(), &mut organism, &settings(20), 13)?;
+    assert_eq!(rt; ran, Ran::Lives);
+    assert_eq!(rt; births.len(), 1);
+    let newborn = births.get(0).ok_or("no newborn")?;
+    assert_eq!(rt; (newborn.nth, newborn.merit), (0, 97));
+    assert!(rt; newborn.genome == **organism.genome());
+    assert!(rt; matches!(newborn.origin.base, Base::Parent));
+    assert_eq!(rt; newborn.origin.changes.len(), 0);
+    assert_eq!(rt; organism.age(), 1);
+    Ok(())
+}
+
+#[test]
+fn no_slice_changes_nothing(rt: HostRuntime) -> Result<(), Fail> {
+    let ancestor = read_letters(rt.alloc(), ANCESTOR.as_bytes())?;
+    let mut organism = organism(rt.alloc(), ancestor, 2048)?;
+    let mut draws = Draws::start(1, 1, 0, Purpose::Run);
+    let mut births = Births::none(rt.alloc());
+    assert!(rt; organism.age() < 1 << 62);
+    let ran = organism.run(rt.alloc(), 0, &settings(20), &mut draws, &mut births)?;
+    assert_eq!(rt; ran, Ran::Lives);
+    assert_eq!(rt; (organism.age(), draws.taken(), births.len()), (0, 0, 0));
     Ok(())
 }

@@ -1,0 +1,7 @@
+/// How the life of one update ended.
+#[derive(Clone, Copy, Debug, PartialEq, Eq)]
+pub enum Ran {
+    Lives,
+    /// The organism came to its age limit with this step of the update, counted from 1.
+    Died { after: u64 },
+}
