@@ -28,3 +28,6 @@ pub use limits::{
 pub use printing::print;
 pub use reading::read;
 pub use stop::ConfigStop;
+
+#[cfg(test)]
+mod tests;
