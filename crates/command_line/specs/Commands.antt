@@ -1,0 +1,55 @@
+-- The forms of the commands, and their numbers (docs/FORMATS.md, "The command line").
+use Rattle.std.specs.Prelude.{ℕ, List, [], ◌∷◌, Option, Some, None, codes, option_and_then, option_map, slice_get}
+use Rattle.command_line.specs.Form.{Form, Told}
+use Rattle.command_line.specs.Words.{is_set, told_by}
+use Rattle.command_line.specs.Number.{number_in}
+use Rattle.command_line.specs.declared.run.Run.{Run}
+use Rattle.command_line.specs.declared.run.TheConstants.{LEAST_WORKERS, MOST_LOOKS, MOST_WORKERS}
+use Rattle.command_line.specs.declared.trace.Trace.{Trace}
+use Rattle.command_line.specs.declared.trace.TheConstants.{MOST_STEPS}
+
+-- `trace steps [--org]`
+abbrev pub trace_form : Form
+trace_form = record { options = []; flags = codes "org" ∷ []; positionals = 1 }
+
+-- `run [--workers k] [--watch looks]`
+abbrev pub run_form : Form
+run_form = record {
+  options =
+      record { name = codes "workers"; default = Some (codes "1") }
+      ∷ record { name = codes "watch"; default = None } ∷ [];
+  flags = [];
+  positionals = 0;
+}
+
+-- `trace` with the steps that the positional spells
+abbrev pub trace_of : Told → Option Trace
+trace_of told = option_map (λ steps. record { steps = steps; org = is_set told.flags 0 })
+    (option_and_then (number_in 0 MOST_STEPS) (slice_get told.positionals 0))
+
+-- the looks that the value spells, where there is a value
+abbrev pub looks_of : Option (List ℕ) → Option (Option ℕ)
+looks_of None = Some None
+looks_of (Some value) = option_map (λ looks. Some looks) (number_in 0 MOST_LOOKS value)
+
+-- the value of the option at this place
+abbrev pub value_at : ℕ → Told → Option (List ℕ)
+value_at place told = option_and_then (λ value. value) (slice_get told.values place)
+
+-- `run` with so many workers and this watch
+abbrev pub run_with : Option (List ℕ) → ℕ → Option Run
+run_with watch workers =
+    option_map (λ looks. record { workers = workers; watch = looks }) (looks_of watch)
+
+-- `run` with the workers and the looks that its values spell
+abbrev pub run_of : Told → Option Run
+run_of told = option_and_then (run_with (value_at 1 told))
+    (option_and_then (number_in LEAST_WORKERS MOST_WORKERS) (value_at 0 told))
+
+-- what the words after the name tell `trace`
+abbrev pub trace_told : List (List ℕ) → Option Trace
+trace_told words = option_and_then trace_of (told_by trace_form words)
+
+-- what the words after the name tell `run`
+abbrev pub run_told : List (List ℕ) → Option Run
+run_told words = option_and_then run_of (told_by run_form words)

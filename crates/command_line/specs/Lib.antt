@@ -1,0 +1,7 @@
+pub mod Form
+pub mod Words
+pub mod Number
+pub mod Commands
+pub mod Refusals
+pub mod Parsers
+pub use Rattle.clap.specs.Lexer.{long_of}

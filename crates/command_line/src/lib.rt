@@ -1,0 +1,13 @@
+//! The words of a command line, read by one simple command a name.
+#![tactic(auto)]
+
+mod numbers;
+mod parser;
+mod refused;
+mod run;
+mod trace;
+
+pub use numbers::{number, number_in};
+pub use refused::Refused;
+pub use run::{LEAST_WORKERS, MOST_LOOKS, MOST_WORKERS, Run, read_run};
+pub use trace::{MOST_STEPS, Trace, read_trace};

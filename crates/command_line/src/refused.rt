@@ -1,0 +1,23 @@
+// Why words give no command.
+ghost use Rattle.std.specs.Prelude.{◌≡◌};
+ghost use Rattle.command_line.specs.Refusals.{refused_by};
+
+use clap::error::ErrorKind;
+
+/// Why words give no command.
+#[derive(Clone, Copy, Debug, PartialEq, Eq)]
+pub enum Refused {
+    /// No memory was found.
+    Memory,
+    /// The words are no command's.
+    BadWords,
+}
+
+pub(crate) fn refused_by(kind: ErrorKind) -> Refused
+    ensures { result ≡ refused_by kind }
+{
+    match kind {
+        ErrorKind::OutOfMemory => Refused::Memory,
+        _ => Refused::BadWords,
+    }
+}

@@ -1,0 +1,172 @@
+// The words of `run`.
+ghost use Rattle.std.specs.Prelude.{◌≡◌, ◌<◌, length, Some, MatchResult, IfOk, drop, map, string_bytes, option_map};
+ghost use Rattle.clap.specs.Words.{app_of, found_of, rows_of};
+ghost use Rattle.command_line.specs.Commands.{looks_of, run_told, run_with};
+ghost use Rattle.command_line.specs.Parsers.{run_app, run_in};
+ghost use Rattle.command_line.specs.Refusals.{Refuses};
+
+use crate::numbers::number_in;
+use crate::parser::matches;
+use crate::refused::Refused;
+use clap::{Arg, ArgMatches, Command};
+use std::alloc::{AllocError, Global};
+
+/// The least number of workers.
+pub const LEAST_WORKERS: u32 = 1;
+
+/// The greatest number of workers.
+pub const MOST_WORKERS: u32 = 64;
+
+/// The greatest number of looks of a watcher.
+pub const MOST_LOOKS: u32 = 1_000_000;
+
+/// What `run` is told: its workers, and the looks of its watcher where it has one.
+#[derive(Clone, Copy, Debug, PartialEq, Eq)]
+pub struct Run {
+    pub workers: u32,
+    pub watch: Option<u32>,
+}
+
+fn command<'a>(alloc: Global) -> Result<Command<'a>, AllocError>
+    ensures { IfOk result (λ c. app_of c ≡ run_app) }
+{
+    let workers = Arg::new(alloc, "workers")
+        .long("workers")
+        .default_value("1");
+    let watch = Arg::new(alloc, "watch").long("watch");
+    Command::new(alloc, "run")
+        .disable_help_flag(true)
+        .arg(workers)?
+        .arg(watch)
+}
+
+fn with_watch(workers: u32, watch: Option<&str>) -> Option<Run>
+    ensures { result ≡ run_with (option_map (λ t. t.now) watch.entry) workers }
+{
+    match watch {
+        Some(text) => {
+            let looks = number_in(0, MOST_LOOKS, text)?;
+            Some(Run {
+                workers,
+                watch: Some(looks),
+            })
+        }
+        None => Some(Run {
+            workers,
+            watch: None,
+        }),
+    }
+}
+
+fn in_matches(matches: &ArgMatches<'_>) -> Option<Run>
+    ensures { result ≡ run_in (rows_of (found_of matches.now)) }
+{
+    let workers = number_in(LEAST_WORKERS, MOST_WORKERS, matches.get_str("workers")?)?;
+    with_watch(workers, matches.get_str("watch"))
+}
+
+/// What the words after the name tell `run`; the first word is the name.
+pub fn read_run(alloc: Global, words: &[String]) -> Result<Run, Refused>
+    requires { 0 < length words.now }
+    ensures { MatchResult result
+        (λ run. run_told (drop 1 (map string_bytes words.now)) ≡ Some run)
+        (Refuses (run_told (drop 1 (map string_bytes words.now)))) }
+{
+    let command = match command(alloc) {
+        Ok(command) => command,
+        Err(_) => return Err(Refused::Memory),
+    };
+    let matches = matches(command, words)?;
+    in_matches(&matches).ok_or(Refused::BadWords)
+}
+
+#[cfg(test)]
+mod tests {
+    use super::*;
+    use std::test::Fail;
+
+    /// What each row of words tells.
+    fn told(alloc: Global, rows: &[&[&str]]) -> Result<String, Fail> {
+        let mut text = String::new(alloc);
+        for row in rows {
+            let mut words = Vec::new(alloc);
+            for word in row.iter() {
+                words.push(String::from_str(alloc, word)?)?;
+            }
+            if words.is_empty() {
+                return Ok(text);
+            }
+            match read_run(alloc, words.as_slice()) {
+                Ok(run) => {
+                    let line = format!(in alloc; "{} {:?}; ", run.workers, run.watch)?;
+                    text.push_str(line.as_str())?;
+                }
+                Err(Refused::BadWords) => text.push_str("bad; ")?,
+                Err(Refused::Memory) => text.push_str("memory; ")?,
+            }
+        }
+        Ok(text)
+    }
+
+    #[test]
+    fn run_takes_its_options_in_any_order_and_spelling(rt: HostRuntime) -> Result<(), Fail> {
+        let given = told(
+            rt.alloc(),
+            &[
+                &["run"],
+                &["run", "--watch=0", "--workers=2"],
+                &["run", "--workers", "2", "--watch", "0"],
+                &["run", "--workers=64", "--"],
+                &["run", "--watch", "1000000"],
+            ],
+        )?;
+        assert_eq!(rt;
+            given.as_str(),
+            "1 None; 2 Some(0); 2 Some(0); 64 None; 1 Some(1000000); "
+        );
+        Ok(())
+    }
+
+    #[test]
+    fn other_words_of_run_are_bad(rt: HostRuntime) -> Result<(), Fail> {
+        let values = told(
+            rt.alloc(),
+            &[
+                &["run", "--workers", "0"],
+                &["run", "--workers", "65"],
+                &["run", "--workers"],
+                &["run", "--workers="],
+                &["run", "--workers", "-1"],
+                &["run", "--workers=-1"],
+                &["run", "--workers", "-"],
+                &["run", "--workers", "--", "4"],
+                &["run", "--workers", "--watch=2"],
+                &["run", "--watch", "1000001"],
+            ],
+        )?;
+        let names = told(
+            rt.alloc(),
+            &[
+                &["run", "extra"],
+                &["run", ""],
+                &["run", "--", "3"],
+                &["run", "--work", "2"],
+                &["run", "--workers", "2", "--workers", "2"],
+                &["run", "--watch=1", "--workers=2", "--watch=1"],
+                &["run", "-w", "2"],
+                &["run", "--help"],
+                &["run", "--workers=2", "-h"],
+                &["run", "--version"],
+            ],
+        )?;
+        assert_eq!(rt;
+            values.as_str(),
+            "bad; bad; bad; bad; bad; bad; bad; bad; bad; bad; "
+        );
+        assert_eq!(rt;
+            names.as_str(),
+            "bad; bad; bad; bad; bad; bad; bad; bad; bad; bad; "
+        );
+        Ok(())
+    }
+}
