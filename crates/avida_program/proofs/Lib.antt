@@ -1,4 +1,3 @@
-pub mod Numerals
 pub mod PieceLemmas
 pub mod TraceLemmas
 pub mod Serves

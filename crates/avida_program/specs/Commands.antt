@@ -66,15 +66,21 @@ told_by read status.ReadFault = outcome.ReadFault
 told_by read status.WriteFault = outcome.WriteFault
 told_by read status.NoMemory = outcome.NoMemory
 
+-- the outcome that a status tells of, where the words give no command
+abbrev pub told_by_words : Status → Outcome
+told_by_words status.NoMemory = outcome.NoMemory
+told_by_words _ = outcome.BadWords
+
 -- the words give no command
 pub record ServesNothing (source : Change SourceState) (out watch err : Change SinkState)
     (s : Status) : Type 0 where
-  pub bad_words : s ≡ status.BadWords
+  -- the words are refused, unless memory is wanting
+  pub refused : (s ≡ status.BadWords) ⊎ (s ≡ status.NoMemory)
   -- nothing was read or written but the line
   pub source_stays : Stays source
   pub out_stays : Stays out
   pub watch_stays : Stays watch
-  pub tells : TellsOf err outcome.BadWords
+  pub tells : TellsOf err (told_by_words s)
 
 -- `trace` of so many steps, on a source that tells these bytes
 pub record ServesTrace (steps : ℕ) (spelling : Spelling) (bytes : List ℕ)

@@ -1,4 +1,3 @@
-pub mod Number
 pub mod CommandLine
 pub mod Status
 pub mod Pieces

@@ -31,6 +31,11 @@ WritesText text out outcome.ReadFault = ⊥
 WritesText text out outcome.WriteFault = SinkFailed out × GainedFront out text
 WritesText text out outcome.NoMemory = GainedFront out text
 
+-- no command
+abbrev pub ReadsNothing : Change SourceState → Change SinkState → Outcome → Type 0
+ReadsNothing source out told =
+    ((told ≡ outcome.BadWords) ⊎ (told ≡ outcome.NoMemory)) × Stays source × Stays out
+
 -- `trace` on these bytes
 abbrev pub Traces : ℕ → Spelling → List ℕ → Change SourceState → Change SinkState → Outcome → Type 0
 Traces steps spelling bytes source out outcome.Done =

@@ -4,7 +4,6 @@
 mod command;
 mod fault_line;
 mod input;
-mod number;
 mod outcome;
 mod piece;
 mod refusal;
@@ -13,7 +12,7 @@ mod status;
 mod trace;
 mod trace_line;
 
-pub use command::{Command, MOST_STEPS, Spelling};
+pub use command::{Command, Spelling};
 pub use input::INPUT_LIMIT;
 pub use outcome::Outcome;
 pub use piece::PIECE_SIZE;

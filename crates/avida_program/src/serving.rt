@@ -1,8 +1,8 @@
 // The whole program.
-ghost use Rattle.std.specs.Prelude.{◌≡◌, ◌↔◌, ℕ, List, Some, None, map, string_bytes};
+ghost use Rattle.std.specs.Prelude.{◌≡◌, ℕ, List, Some, None, map, string_bytes};
 ghost use Rattle.avida_program.specs.CommandLine.{command_of};
 ghost use Rattle.avida_program.specs.Commands.{change, Stays, TellsOf, SourceFailed, SinkFailed, ServesNothing, ServesTrace};
-ghost use Rattle.avida_program.specs.Outcomes.{HasCauses, Traces};
+ghost use Rattle.avida_program.specs.Outcomes.{HasCauses, ReadsNothing, Traces};
 ghost use Rattle.avida_program.specs.declared.command.Command.TheVariants.{Trace};
 ghost use Rattle.avida_program.specs.declared.command.Spelling.{Spelling};
 
@@ -11,6 +11,7 @@ use crate::fault_line::line_of;
 use crate::trace::trace;
 use crate::{Outcome, Status};
 use avida_port::{Gate, Sink, Source};
+use command_line::Refused;
 use std::alloc::Global;
 
 /// The line of an outcome goes to `err`, and a failure there changes nothing.
@@ -33,19 +34,20 @@ fn carry_out<S: Source, O: Sink>(
 ) -> Outcome
     ensures causes { HasCauses (change (S.seen source.old) (S.seen source.new))
         (change (O.seen out.old) (O.seen out.new)) result }
-    ensures bad_words { result ≡ Outcome.BadWords ↔ command_of (map string_bytes words.now) ≡ None }
+    ensures bad_words { result ≡ Outcome.BadWords → command_of (map string_bytes words.now) ≡ None }
     ensures no_command { command_of (map string_bytes words.now) ≡ None
-        → Stays (change (S.seen source.old) (S.seen source.new))
-        × Stays (change (O.seen out.old) (O.seen out.new)) }
+        → ReadsNothing (change (S.seen source.old) (S.seen source.new))
+        (change (O.seen out.old) (O.seen out.new)) result }
     ensures trace { (steps : ℕ) (spelling : Spelling)
         → command_of (map string_bytes words.now) ≡ Some (Trace steps spelling)
         → (bytes : List ℕ) → (S.seen source.old).left ≡ Some bytes
         → Traces steps spelling bytes (change (S.seen source.old) (S.seen source.new))
         (change (O.seen out.old) (O.seen out.new)) result }
 {
-    match read_words(words) {
-        None => Outcome::BadWords,
-        Some(Command::Trace { steps, spelling }) => trace(alloc, steps, spelling, source, out),
+    match read_words(alloc, words) {
+        Ok(Command::Trace { steps, spelling }) => trace(alloc, steps, spelling, source, out),
+        Err(Refused::BadWords) => Outcome::BadWords,
+        Err(Refused::Memory) => Outcome::NoMemory,
     }
 }
 
@@ -64,7 +66,7 @@ pub fn serve<S: Source, O: Sink + Send, W: Sink + Send, E: Sink, G: Gate + Sync>
         → SourceFailed (change (S.seen source.old) (S.seen source.new)) }
     ensures write_fault { result ≡ Status.WriteFault
         → SinkFailed (change (O.seen out.old) (O.seen out.new)) }
-    ensures bad_words { result ≡ Status.BadWords ↔ command_of (map string_bytes words.now) ≡ None }
+    ensures bad_words { result ≡ Status.BadWords → command_of (map string_bytes words.now) ≡ None }
     ensures watch_stays { Stays (change (W.seen watch.old) (W.seen watch.new)) }
 
     // What each command does.

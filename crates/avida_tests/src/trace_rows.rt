@@ -224,6 +224,27 @@ fn too_many_letters_and_too_many_bytes_are_refused(rt: HostRuntime) -> Result<()
 }
 
 #[test]
+fn words_of_a_command_stand_in_any_order(rt: HostRuntime) -> Result<(), Fail> {
+    let cases: [(&str, &[u8]); 5] = [
+        ("trace -- 2", b"mammmmmm"),
+        ("trace 2 --", b"mammmmmm"),
+        ("trace --org 2", NAMES),
+        ("trace 2 --org", NAMES),
+        ("trace --org -- 2", NAMES),
+    ];
+    for (words, genome) in &cases {
+        let served = serve_on(rt.alloc(), words, genome)?;
+        assert_eq!(rt; served.status, Status::Done, "{words}");
+        assert_eq!(rt;
+            served.out.bytes(),
+            b"1 0 inc 1 0 0\n2 2 inc 1 1 0\n".as_slice(),
+            "{words}"
+        );
+    }
+    Ok(())
+}
+
+#[test]
 fn other_words_are_bad(rt: HostRuntime) -> Result<(), Fail> {
     for words in [
         "",
@@ -231,6 +252,7 @@ fn other_words_are_bad(rt: HostRuntime) -> Result<(), Fail> {
         "trace",
         "trace 03",
         "trace -3",
+        "trace -- -3",
         "trace +3",
         "trace 1000001",
         "trace 18446744073709551617",
@@ -238,6 +260,14 @@ fn other_words_are_bad(rt: HostRuntime) -> Result<(), Fail> {
         "trace 3 4",
         "fly 3",
         "trace 3 --org 4",
+        "trace 3 --org --org",
+        "trace 3 --org=yes",
+        "trace 3 --or",
+        "trace 3 -- --org",
+        "trace --help",
+        "trace -h",
+        "trace --version",
+        "--help",
     ] {
         let served = serve_on(rt.alloc(), words, b"mmmmmmmm")?;
         assert_eq!(rt; served.status, Status::BadWords, "{words}");
