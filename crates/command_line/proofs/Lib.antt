@@ -1,4 +1,6 @@
 pub mod Numerals
+pub mod WordViews
+pub mod NothingWords
 pub mod TraceSteps
 pub mod TraceWords
 pub mod RunSteps

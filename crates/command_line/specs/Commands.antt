@@ -22,6 +22,10 @@ run_form = record {
   positionals = 0;
 }
 
+-- a command's name alone
+abbrev pub bare_form : Form
+bare_form = record { options = []; flags = []; positionals = 0 }
+
 -- `trace` with the steps that the positional spells
 abbrev pub trace_of : Told → Option Trace
 trace_of told = option_map (λ steps. record { steps = steps; org = is_set told.flags 0 })
@@ -53,3 +57,7 @@ trace_told words = option_and_then trace_of (told_by trace_form words)
 -- what the words after the name tell `run`
 abbrev pub run_told : List (List ℕ) → Option Run
 run_told words = option_and_then run_of (told_by run_form words)
+
+-- what the words after the name tell a command that takes none
+abbrev pub nothing_told : List (List ℕ) → Option (Unit {0})
+nothing_told words = option_map (λ told. tt) (told_by bare_form words)

@@ -42,6 +42,10 @@ watch_rule = record (new_rule (codes "watch")) { long = Some (codes "watch") }
 abbrev pub run_app : App
 run_app = with_rule (with_rule (without_help (new_app (codes "run"))) workers_rule) watch_rule
 
+-- the command that reads the words of a name that stands alone
+abbrev pub bare_app : App
+bare_app = without_help (new_app (codes "bare"))
+
 -- a flag's text says that it stands
 abbrev pub is_given_true : Option (List ℕ) → Bool
 is_given_true (Some text) = bytes_eq text (codes "true")

@@ -1,12 +1,14 @@
 //! The words of a command line, read by one simple command a name.
 #![tactic(auto)]
 
+mod nothing;
 mod numbers;
 mod parser;
 mod refused;
 mod run;
 mod trace;
 
+pub use nothing::read_nothing;
 pub use numbers::{number, number_in};
 pub use refused::Refused;
 pub use run::{LEAST_WORKERS, MOST_LOOKS, MOST_WORKERS, Run, read_run};
