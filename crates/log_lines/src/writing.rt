@@ -4,7 +4,7 @@ ghost use Rattle.genome.specs.Genome as genome_spec;
 ghost use Rattle.mutations.specs.BirthRecord.{record_of, written_in};
 ghost use Rattle.log_lines.specs.Fields.{letters, list_text};
 ghost use Rattle.log_lines.specs.Kinds.{base_field, change, change_text, changes_field, over_field, rate_key};
-ghost use Rattle.log_lines.specs.LineText.{HasForm, words_text, born, birth_row, count_row, counted, death_row, end_row, form_text, injected_row, line_text, rate_row, row_text, start_row};
+ghost use Rattle.log_lines.specs.LineText.{words_text, born, birth_row, count_row, counted, death_row, end_row, form_text, injected_row, line_text, rate_row, row_text, start_row};
 ghost use Rattle.log_lines.specs.Line.{values_of};
 ghost use Rattle.log_lines.specs.Kept.{Keeps};
 
@@ -337,7 +337,6 @@ fn row_and_newline(line: &LogLine, out: &mut Vec<u8>) -> Result<(), Memory>
 
 /// Appends the text of a line, with its newline.
 pub fn write_line(line: &LogLine, out: &mut Vec<u8>) -> Result<(), Memory>
-    requires { HasForm (values_of line.now) }
     ensures ok { OnOk result (out.new.items ≡ out.old.items ++ line_text (values_of line.now)) }
     ensures err { OnErr result (out.new.items ≡ out.old.items) }
 {
@@ -360,9 +359,7 @@ mod tests {
     use std::process::Abort;
     use std::test::Fail;
 
-    fn check(rt: &impl Abort, alloc: Global, line: &LogLine, text: &str) -> Result<(), Fail>
-        requires { HasForm (values_of line.now) }
-    {
+    fn check(rt: &impl Abort, alloc: Global, line: &LogLine, text: &str) -> Result<(), Fail> {
         let mut out = Vec::new(alloc);
         write_line(line, &mut out)?;
         assert_eq!(rt; out.as_slice(), text.as_bytes(), "{text}");

@@ -1,0 +1,31 @@
+-- A world, as contracts see it (docs/WORLD.md, "The end of an update").
+use Rattle.std.specs.Prelude.{◌≡◌, ℕ, ◌+◌, ◌*◌, ◌≤◌, ◌^◌, Option, None, Some, List, length, option_map, slice_index_or}
+use Rattle.instruction_set.specs.declared.letter.Letter.{Letter}
+use Rattle.log_lines.specs.declared.stats.Stats.{Stats}
+use Rattle.world_config.specs.Values.{ConfigValues}
+use Rattle.world_rules.specs.World.{World}
+use Rattle.world_rules.specs.Scene.{Scene}
+use Rattle.world_rules.specs.Statistics.{stats_of}
+use Rattle.world_rules.specs.Update.{world_of}
+use Rattle.world_rules.specs.WorldRun.{world_after}
+
+-- the world of a configuration after so many updates
+pub record WorldValue : Type 0 where
+  pub config : ConfigValues
+  pub update : ℕ
+
+-- the world that it is
+abbrev pub world_in : WorldValue → World
+world_in v = world_after v.config v.update
+
+-- the genome of who stands in a cell
+abbrev pub genome_in : World → ℕ → Option (List Letter)
+genome_in w cell = option_map (λ o. o.organism.genome) (slice_index_or w.cells cell None)
+
+-- the scene and its statistics are those of the world of this configuration after the scene's updates
+pub record IsWorldOf (config : ConfigValues) (scene : Scene) (stats : Stats) : Type 0 where
+  pub world : world_of scene ≡ world_after config scene.update
+  pub counts : stats ≡ stats_of config scene.update
+  pub size : length scene.cells ≡ config.width * config.height
+  pub few : length scene.everyone ≤ 2 ^ 33 * (scene.update + 1)
+  pub updates : scene.update ≤ 1000000

@@ -1,0 +1,85 @@
+// A world within an update.
+ghost use Rattle.std.specs.Prelude.{◌≡◌, ◌+◌, ◌<◌, ◌≤◌, OnOk, IfOk, length};
+ghost use Rattle.merit_slices.specs.declared.merits.TheConstants.{GREATEST_MERIT};
+ghost use Rattle.organism.specs.OrganismState.{OrganismState};
+ghost use Rattle.world_rules.specs.Scene.{next_id, standing_at, with_death, with_newcomer};
+
+use crate::ancestor::Ancestor;
+use crate::occupant::Occupant;
+use avida_port::Memory;
+use organism::Organism;
+use std::marker::Model;
+
+/// Who stands in each cell, all organisms ever in the world by id, and who died in this update.
+#[derive(Drop)]
+pub(crate) struct Scene {
+    pub(crate) update: u32,
+    pub(crate) cells: Vec<Option<Occupant>>,
+    pub(crate) everyone: Vec<Ancestor>,
+    pub(crate) gone: Vec<u64>,
+}
+
+impl Model for Scene {
+    ghost use Rattle.world_rules.specs.Scene.{Scene};
+    ghost use Rattle.world_core.specs.Soundness.{AreSound};
+
+    ghost Value = { Scene };
+
+    ghost view = { λ s. record {
+      update = s.update;
+      cells = s.cells.items;
+      everyone = s.everyone.items;
+      gone = s.gone.items;
+    } };
+
+    ghost invariant = { λ s. AreSound s.update s.cells.items };
+}
+
+impl Scene {
+    pub(crate) fn next_id(&self) -> u64
+        ensures { result ≡ next_id self.now }
+    {
+        self.everyone.len() as u64
+    }
+
+    /// The id of who stands in the cell.
+    pub(crate) fn standing_at(&self, cell: u32) -> Option<u64>
+        requires { cell < length self.now.cells }
+        ensures { result ≡ standing_at self.now cell }
+    {
+        match &self.cells[cell as usize] {
+            Some(occupant) => Some(occupant.id),
+            None => None,
+        }
+    }
+
+    /// Who stands in the cell dies. After `Memory` drop the scene.
+    #[tactic(auto, unfolding(world_rules::specs::Scene::with_death))]
+    pub(crate) fn die(&mut self, cell: u32) -> Result<(), Memory>
+        requires { cell < length self.old.cells }
+        ensures { OnOk result (self.new ≡ with_death self.old cell) }
+    {
+        if let Some(id) = self.standing_at(cell) {
+            self.gone.push(id)?;
+        }
+        self.cells[cell as usize] = None;
+        Ok(())
+    }
+
+    /// Somebody new stands in the cell of the link, and who stood there dies. After `Memory` drop the scene.
+    #[tactic(auto, unfolding(world_rules::specs::Scene::with_newcomer))]
+    pub(crate) fn come(&mut self, ancestor: Ancestor, organism: Organism) -> Result<(), Memory>
+        requires cell { ancestor.cell < length self.old.cells }
+        requires age { organism.age ≡ 0 }
+        requires merit { organism.merit ≤ GREATEST_MERIT }
+        ensures { OnOk result (self.new ≡ with_newcomer self.old ancestor organism) }
+    {
+        let cell = ancestor.cell;
+        let id = ancestor.id;
+        if let Some(over) = self.standing_at(cell) {
+            self.gone.push(over)?;
+        }
+        self.cells[cell as usize] = Some(Occupant { id, organism });
+        self.everyone.push(ancestor).map_err(|_| Memory)
+    }
+}

@@ -1,0 +1,14 @@
+-- What holds of every run (docs/WORLD.md, "The log of a run").
+use Rattle.std.specs.Prelude.{◌≡◌, ℕ, List}
+use Rattle.lineage_log.specs.LogGrammar.{Reads}
+use Rattle.lineage_log.specs.Replay.{replay_of}
+use Rattle.log_lines.specs.Line.{Line}
+use Rattle.world_config.specs.Values.{ConfigValues}
+use Rattle.world_rules.specs.LogText.{log_text}
+use Rattle.world_rules.specs.WorldRun.{world_after, living_in}
+
+-- the log of a run is a good one, and replays to who lives at its end
+pub record ReplaysToLiving (config : ConfigValues) (updates : ℕ) : Type 0 where
+  pub lines : List Line
+  pub good : Reads (log_text config updates) lines
+  pub replays : replay_of lines ≡ living_in (world_after config updates)

@@ -1,0 +1,68 @@
+-- The lives of an update, all from one start (docs/WORLD.md, "Time slices" and "The life of one update").
+use Rattle.std.specs.Prelude.{ℕ, Bool, true, false, List, [], length, map, Option, None, Some, slice_index_or}
+use Rattle.std.specs.List.{range_with_len}
+use Rattle.random_streams.specs.declared.purpose.Purpose.TheVariants.{Run}
+use Rattle.random_streams.specs.RandomStream.{draw}
+use Rattle.merit_slices.specs.Slices.{slices_of}
+use Rattle.organism.specs.declared.ran.Ran.{Ran}
+use Rattle.organism.specs.declared.ran.Ran.TheVariants.{Lives, Died}
+use Rattle.organism.specs.Newborns.{NewbornValue}
+use Rattle.organism.specs.OrganismState.{OrganismState}
+use Rattle.organism.specs.UpdateLife.{LifeState, life}
+use Rattle.world_config.specs.Values.{ConfigValues}
+use Rattle.world_rules.specs.World.{Occupant}
+use Rattle.world_rules.specs.Settings.{settings_at}
+
+-- what the life of a cell comes to: its organism after the last step, whether it died of age, and its newborns
+pub record CellLife : Type 0 where
+  pub occupant : Option Occupant
+  pub died : Bool
+  pub newborns : List NewbornValue
+
+-- of an empty cell
+abbrev pub no_life : CellLife
+no_life = record { occupant = None; died = false; newborns = [] }
+
+-- the merit in a cell, 0 where it is empty
+abbrev pub merit_in : Option Occupant → ℕ
+merit_in None = 0
+merit_in (Some o) = o.organism.merit
+
+-- the steps of each cell, by the merits as the update begins
+unfoldable pub slices_at : ConfigValues → List (Option Occupant) → List ℕ
+slices_at config cells = slices_of (map merit_in cells) config.average_slices
+
+-- the steps of one cell
+abbrev pub slice_at : ConfigValues → List (Option Occupant) → ℕ → ℕ
+slice_at config cells cell = slice_index_or (slices_at config cells) cell 0
+
+-- an organism as its life in an update begins, before the first word of its stream
+abbrev pub life_start : OrganismState → LifeState
+life_start organism = record { organism = organism; newborns = []; next = 0 }
+
+-- whether a life ended by age
+abbrev pub is_death : Ran → Bool
+is_death Lives = false
+is_death (Died after) = true
+
+-- the life of the organism with this id
+abbrev pub cell_life : ℕ → LifeState × Ran → CellLife
+cell_life id ended = record {
+  occupant = Some (record { id = id; organism = ended.0.organism });
+  died = is_death ended.1;
+  newborns = ended.0.newborns;
+}
+
+-- the life of who stands in a cell, with the run stream of this cell and update, of at most so many steps
+unfoldable pub life_of : ConfigValues → ℕ → ℕ → ℕ → Option Occupant → CellLife
+life_of config update cell steps None = no_life
+life_of config update cell steps (Some o) =
+    cell_life o.id (life (settings_at config update) (draw config.seed update cell Run) (life_start o.organism) steps)
+
+-- the life of a cell of these cells, as the update begins
+abbrev pub life_at : ConfigValues → ℕ → List (Option Occupant) → ℕ → CellLife
+life_at config update cells cell = life_of config update cell (slice_at config cells cell) (slice_index_or cells cell None)
+
+-- the lives of all cells, in their order
+unfoldable pub lives_of : ConfigValues → ℕ → List (Option Occupant) → List CellLife
+lives_of config update cells = map (life_at config update cells) (range_with_len 0 (length cells))

@@ -1,0 +1,38 @@
+-- The picture of a world, and its line (docs/WORLD.md, "Statistics"; docs/FORMATS.md, "The log").
+use Rattle.std.specs.Prelude.{ℕ, List, [], ◌∷◌, ◌++◌, Option, None, Some, decimal}
+use Rattle.genome.specs.GenomeText.{letters_text_of}
+use Rattle.log_lines.specs.LineText.{words_text}
+use Rattle.world_config.specs.Values.{ConfigValues}
+use Rattle.world_rules.specs.Statistics.{DominantValue, stats_of, dominant_of}
+use Rattle.world_rules.specs.WorldRun.{world_after}
+
+-- the update, the living, their genotypes, the sum of their merits, and the dominant genome with its count
+pub record PictureValue : Type 0 where
+  pub update : ℕ
+  pub living : ℕ
+  pub genotypes : ℕ
+  pub merit : ℕ
+  pub dominant : Option DominantValue
+
+-- the picture of the world after so many updates
+unfoldable pub picture_of : ConfigValues → ℕ → PictureValue
+picture_of config update = record {
+  update = update;
+  living = (stats_of config update).living;
+  genotypes = (stats_of config update).genotypes;
+  merit = (stats_of config update).merit;
+  dominant = dominant_of (world_after config update).cells;
+}
+
+-- the count and the letters of a dominant genome; in an empty world 0 and a dash
+abbrev pub dominant_words : Option DominantValue → List (List ℕ)
+dominant_words None = decimal 0 ∷ (45 ∷ []) ∷ []
+dominant_words (Some d) = decimal d.count ∷ letters_text_of d.genome ∷ []
+
+-- the words of a picture's line
+abbrev pub picture_words : PictureValue → List (List ℕ)
+picture_words p = decimal p.update ∷ decimal p.living ∷ decimal p.genotypes ∷ decimal p.merit ∷ dominant_words p.dominant
+
+-- the line of a picture
+unfoldable pub picture_text : PictureValue → List ℕ
+picture_text p = 87 ∷ (words_text (picture_words p) ++ 10 ∷ [])

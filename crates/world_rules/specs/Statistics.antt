@@ -1,0 +1,98 @@
+-- What is counted after an update, anew from the cells (docs/WORLD.md, "Statistics").
+use Rattle.std.specs.Prelude.{ℕ, zero, suc, ◌+◌, Bool, not, ◌==◌, ◌&&◌, ◌||◌, nat_lt, List, [], ◌∷◌, length, map, filter, find, Option, option_map}
+use Rattle.std.specs.List.{filter_map, list_all, count_by, sum_by}
+use Rattle.std.specs.Ordering.{nat_cmp, is_lt}
+use Rattle.std.specs.Cmp.Lexicographic.{slice_cmp}
+use Rattle.instruction_set.specs.declared.letter.Letter.{Letter}
+use Rattle.instruction_set.specs.Letter.{index_of}
+use Rattle.logic_tasks.specs.declared.task.Task.{Task}
+use Rattle.logic_tasks.specs.LogicTasks.{all_tasks}
+use Rattle.logic_tasks.specs.TaskSet.{has_task}
+use Rattle.log_lines.specs.declared.stats.Stats.{Stats}
+use Rattle.lineage_log.specs.Slots.{taken}
+use Rattle.mutations.specs.BirthRecord.{same_letters}
+use Rattle.organism.specs.OrganismState.{OrganismState}
+use Rattle.world_config.specs.Values.{ConfigValues}
+use Rattle.world_rules.specs.World.{Occupant, World, ids_of}
+use Rattle.world_rules.specs.Scene.{Scene}
+use Rattle.world_rules.specs.Update.{births_of, lives_after, next_scene}
+use Rattle.world_rules.specs.WorldRun.{world_after}
+
+-- the organism in a place
+abbrev pub organism_in : Option Occupant → Option OrganismState
+organism_in slot = option_map (λ o. o.organism) slot
+
+-- the living organisms, in the order of their cells
+abbrev pub organisms_in : List (Option Occupant) → List OrganismState
+organisms_in cells = filter_map organism_in cells
+
+-- their genomes
+abbrev pub genomes_in : List (Option Occupant) → List (List Letter)
+genomes_in cells = map (λ o. o.genome) (organisms_in cells)
+
+-- the different ones of some genomes, in order of their first place
+abbrev pub different : List (List Letter) → List (List Letter)
+different [] = []
+different (genome ∷ genomes) = genome ∷ filter (λ other. not (same_letters genome other)) (different genomes)
+
+-- how many of some genomes are this one
+abbrev pub count_of : List (List Letter) → List Letter → ℕ
+count_of genomes genome = count_by (same_letters genome) genomes
+
+-- how many of the living have a task in their credited set
+abbrev pub credited_with : List (Option Occupant) → Task → ℕ
+credited_with cells task = count_by (λ o. has_task o.credited task) (organisms_in cells)
+
+-- what is counted in the cells after an update of so many births and deaths
+unfoldable pub stats_in : ℕ → List (Option Occupant) → ℕ → ℕ → Stats
+stats_in update cells births deaths = record {
+  update = update;
+  living = taken (ids_of cells);
+  births = births;
+  deaths = deaths;
+  genotypes = length (different (genomes_in cells));
+  merit = sum_by (λ o. o.merit) (organisms_in cells);
+  tasks = map (credited_with cells) all_tasks;
+}
+
+-- what is counted of the scene at the end of an update, in which so many were born
+abbrev pub scene_stats : Scene → ℕ → Stats
+scene_stats scene births = stats_in scene.update scene.cells births (length scene.gone)
+
+-- what is counted after the update that follows a world
+unfoldable pub next_stats : ConfigValues → World → Stats
+next_stats config w = scene_stats (next_scene config w) (length (births_of (lives_after config w)))
+
+-- what is counted after so many updates; before the first there was no birth and no death
+unfoldable pub stats_of : ConfigValues → ℕ → Stats
+stats_of config zero = stats_in 0 (world_after config 0).cells 0 0
+stats_of config (suc n) = next_stats config (world_after config n)
+
+-- how many living organisms have a genome, and the genome
+pub record DominantValue : Type 0 where
+  pub count : ℕ
+  pub genome : List Letter
+
+-- a genome comes before another in the order of their letters
+abbrev pub is_before : List Letter → List Letter → Bool
+is_before genome other = is_lt (slice_cmp nat_cmp (map index_of genome) (map index_of other))
+
+-- more of these genomes are the first than the second, or as many and the second is not before the first
+abbrev pub is_no_less : List (List Letter) → List Letter → List Letter → Bool
+is_no_less genomes genome other =
+    nat_lt (count_of genomes other) (count_of genomes genome)
+    || ((count_of genomes other == count_of genomes genome) && not (is_before other genome))
+
+-- the genome that most of these are, and of equals the least in order of letters
+abbrev pub most_frequent : List (List Letter) → Option (List Letter)
+most_frequent genomes = find (λ genome. list_all (is_no_less genomes genome) genomes) genomes
+
+-- a genome with its count among these
+abbrev pub counted_in : List (List Letter) → List Letter → DominantValue
+counted_in genomes genome = record { count = count_of genomes genome; genome = genome }
+
+-- the dominant genome of some cells, with its count
+unfoldable pub dominant_of : List (Option Occupant) → Option DominantValue
+dominant_of cells =
+    let genomes = genomes_in cells in
+    option_map (counted_in genomes) (most_frequent genomes)

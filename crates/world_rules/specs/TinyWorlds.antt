@@ -1,0 +1,72 @@
+-- Worlds of one cell, for theorems by computation. No public clause of the world cites this file.
+use Rattle.std.specs.Prelude.{ℕ, Bool, true, List, [], ◌∷◌, Some, replicate}
+use Rattle.instruction_set.specs.declared.letter.Letter.{Letter}
+use Rattle.instruction_set.specs.declared.letter.Letter.TheVariants.{NopA}
+use Rattle.log_lines.specs.Line.{Line, Count}
+use Rattle.organism.specs.OrganismState.{OrganismState}
+use Rattle.world_config.specs.Events.{EventValue, WhatValue}
+use Rattle.world_config.specs.Values.{ConfigValues}
+use Rattle.world_rules.specs.World.{Link, founder_link}
+use Rattle.world_rules.specs.Lives.{CellLife}
+use Rattle.world_rules.specs.Scene.{Scene}
+use Rattle.world_rules.specs.Update.{after_lives}
+
+-- a genome of eight letters
+abbrev pub eight : Letter → List Letter
+eight letter = replicate 8 letter
+
+-- one cell, eight steps an update and no errors, where an organism dies at the age of its length
+abbrev pub tiny : List EventValue → ConfigValues
+tiny happening = record {
+  width = 1;
+  height = 1;
+  updates = 2;
+  seed = 1;
+  founder_cell = 0;
+  average_slices = 8;
+  death = true;
+  age_limit = 1;
+  copy_error = 0;
+  divide_insert = 0;
+  divide_delete = 0;
+  site_point = 0;
+  site_insert = 0;
+  site_delete = 0;
+  prefer_empty = true;
+  need_alloc = true;
+  executed_percent = 50;
+  copied_percent = 50;
+  least_length = 8;
+  greatest_length = 2048;
+  memory_limit = 2048;
+  ancestor = eight NopA;
+  event = happening;
+}
+
+-- this event in update 1
+abbrev pub once : WhatValue → List EventValue
+once what = record { update = 1; what = what } ∷ []
+
+-- the founder in the list of all
+abbrev pub one_link : List Link
+one_link = founder_link 0 0 0 (eight NopA) ∷ []
+
+-- a life without newborns
+abbrev pub barren : OrganismState → Bool → List CellLife
+barren o died = record { occupant = Some (record { id = 0; organism = o }); died = died; newborns = [] } ∷ []
+
+-- the scene of an update as that life has ended
+abbrev pub ended : ℕ → OrganismState → Bool → Scene
+ended update o died = after_lives update one_link (barren o died)
+
+-- what is counted in one cell where no task is done
+abbrev pub counts : ℕ → ℕ → ℕ → ℕ → ℕ → ℕ → Line
+counts update living births deaths genotypes merit = Count (record {
+  update = update;
+  living = living;
+  births = births;
+  deaths = deaths;
+  genotypes = genotypes;
+  merit = merit;
+  tasks = replicate 9 0;
+})

@@ -1,0 +1,72 @@
+-- A world between two updates, and the world of a founder alone (docs/WORLD.md, "The founder").
+use Rattle.std.specs.Prelude.{ℕ, ◌+◌, ◌*◌, List, [], ◌∷◌, length, map, replicate, Option, None, Some, option_map, slice_index_or, slice_set}
+use Rattle.instruction_set.specs.declared.letter.Letter.{Letter}
+use Rattle.logic_tasks.specs.Inputs.{inputs_of}
+use Rattle.logic_tasks.specs.TaskSet.{no_tasks}
+use Rattle.random_streams.specs.declared.purpose.Purpose.TheVariants.{Place}
+use Rattle.random_streams.specs.RandomStream.{draw}
+use Rattle.mutations.specs.BirthRecord.{BirthRecord}
+use Rattle.organism.specs.OrganismState.{OrganismState, new_organism}
+use Rattle.world_config.specs.Values.{ConfigValues}
+
+-- an organism in a cell, with its id
+pub record Occupant : Type 0 where
+  pub id : ℕ
+  pub organism : OrganismState
+
+-- one of all organisms ever in the world: where it came from, and its genome at birth
+pub record Link : Type 0 where
+  pub id : ℕ
+  -- a founder has no parent and no origin
+  pub parent : Option ℕ
+  pub update : ℕ
+  pub cell : ℕ
+  pub origin : Option BirthRecord
+  pub genome : List Letter
+
+-- a world after an update: who stands in each cell, and all organisms ever in it, by id
+pub record World : Type 0 where
+  pub update : ℕ
+  pub cells : List (Option Occupant)
+  pub everyone : List Link
+
+-- the id of who stands in a place
+abbrev pub id_of : Option Occupant → Option ℕ
+id_of slot = option_map (λ o. o.id) slot
+
+-- the id of who stands in each cell
+abbrev pub ids_of : List (Option Occupant) → List (Option ℕ)
+ids_of cells = map id_of cells
+
+-- the id of who stands in a cell
+abbrev pub id_at : List (Option Occupant) → ℕ → Option ℕ
+id_at cells cell = id_of (slice_index_or cells cell None)
+
+-- the three words of update 0 that make a founder's inputs
+abbrev pub founder_words : ℕ → ℕ → ℕ → List ℕ
+founder_words seed cell nth = draw seed 0 cell Place (3 * nth) ∷ draw seed 0 cell Place (3 * nth + 1) ∷ draw seed 0 cell Place (3 * nth + 2) ∷ []
+
+-- a founder in a cell: the configuration's own is number 0, an injected one has its event's place in the list, from 1
+unfoldable pub founder_of : ConfigValues → ℕ → ℕ → List Letter → OrganismState
+founder_of config cell nth letters =
+    new_organism letters (inputs_of (founder_words config.seed cell nth)) (length letters) no_tasks config.memory_limit
+
+-- how a founder stands in the list of all
+abbrev pub founder_link : ℕ → ℕ → ℕ → List Letter → Link
+founder_link id update cell letters = record { id = id; parent = None; update = update; cell = cell; origin = None; genome = letters }
+
+-- the cells of a world in which nobody stands
+abbrev pub empty_cells : ConfigValues → List (Option Occupant)
+empty_cells config = replicate (config.width * config.height) None
+
+-- the organism of the ancestor, with id 0
+abbrev pub first_occupant : ConfigValues → Occupant
+first_occupant config = record { id = 0; organism = founder_of config config.founder_cell 0 config.ancestor }
+
+-- the world of update 0: the configuration's founder alone
+unfoldable pub founded : ConfigValues → World
+founded config = record {
+  update = 0;
+  cells = slice_set (empty_cells config) config.founder_cell (Some (first_occupant config));
+  everyone = founder_link 0 0 config.founder_cell config.ancestor ∷ [];
+}

@@ -1,0 +1,24 @@
+-- The world after so many updates, and who lives in it (docs/WORLD.md, "The log of a run").
+use Rattle.std.specs.Prelude.{ℕ, zero, suc, List, Option, option_map}
+use Rattle.std.specs.List.{filter_map, enumerate_from}
+use Rattle.lineage_log.specs.Replay.{Resident}
+use Rattle.world_config.specs.Values.{ConfigValues}
+use Rattle.world_rules.specs.World.{Occupant, World, founded}
+use Rattle.world_rules.specs.Update.{next_world}
+
+-- the world after so many updates
+unfoldable pub world_after : ConfigValues → ℕ → World
+world_after config zero = founded config
+world_after config (suc n) = next_world config (world_after config n)
+
+-- cell, id and genome of an organism
+abbrev pub resident_of : ℕ → Occupant → Resident
+resident_of cell o = record { cell = cell; id = o.id; genome = o.organism.genome }
+
+-- who stands in some cells, in their order
+abbrev pub residents_in : List (Option Occupant) → List Resident
+residents_in cells = filter_map (λ place. option_map (resident_of place.0) place.1) (enumerate_from 0 cells)
+
+-- cell, id and genome of each occupied cell, in the order of the cells
+abbrev pub living_in : World → List Resident
+living_in w = residents_in w.cells
