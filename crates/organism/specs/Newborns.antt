@@ -1,7 +1,9 @@
 -- The newborns of an update (docs/WORLD.md, "The life of one update").
-use Rattle.std.specs.Prelude.{ℕ, Bool, List}
+use Rattle.std.specs.Prelude.{ℕ, ◌≤◌, Bool, List}
+use Rattle.std.specs.List.{All}
 use Rattle.instruction_set.specs.declared.letter.Letter.{Letter}
 use Rattle.genome.specs.Genome.{letters}
+use Rattle.merit_slices.specs.declared.merits.TheConstants.{GREATEST_MERIT}
 use Rattle.mutations.specs.BirthRecord.{BirthRecord, record_of}
 use Rattle.organism.specs.declared.births.Births.{Births}
 use Rattle.organism.specs.declared.newborn.Newborn.{Newborn}
@@ -9,6 +11,10 @@ use Rattle.organism.specs.declared.newborn.Newborn.{Newborn}
 -- the list of newborns
 abbrev pub newborns_in : Births → List Newborn
 newborns_in births = births.items.items
+
+-- no newborn has more than the greatest merit
+abbrev pub MeritsFit : List Newborn → Type 0
+MeritsFit newborns = All (λ newborn. newborn.merit ≤ GREATEST_MERIT) newborns
 
 -- a newborn as lists and numbers
 pub record NewbornValue : Type 0 where

@@ -3,6 +3,7 @@ ghost use Rattle.std.specs.Prelude.{◌≡◌, ◌+◌, ◌*◌, ◌-◌, ◌<�
 ghost use Rattle.divide_rules.specs.declared.limits.DivideRules.{DivideRules};
 ghost use Rattle.genome.specs.Genome.{letters};
 ghost use Rattle.genome.specs.declared.genome.TheConstants.{LEAST_LENGTH, GREATEST_LENGTH};
+ghost use Rattle.merit_slices.specs.declared.merits.TheConstants.{GREATEST_MERIT};
 ghost use Rattle.virtual_cpu.specs.Step.{AsksOf};
 ghost use Rattle.virtual_cpu.specs.Divide.{IsQuestionOf};
 ghost use Rattle.organism.specs.OrganismState.{new_organism, IsOrganism};
@@ -166,6 +167,7 @@ impl Organism {
         ensures divide { OnViable result (IsDivide self.new) }
         ensures child { OnViable result (IsChildOf rules.now) }
         ensures age { self.new.age ≡ self.old.age + 1 }
+        ensures merit { self.new.merit ≡ self.old.merit }
     {
         let input = self.inputs.value(self.read);
         let did = self.machine.step(input, copy);
@@ -181,6 +183,7 @@ impl Organism {
         ensures divide { OnViable result (IsDivide self.new) }
         ensures child { OnViable result (IsChildOf rules.now) }
         ensures age { self.new.age ≡ self.old.age }
+        ensures merit { self.new.merit ≡ self.old.merit }
     {
         match did {
             Did::Plain => Outcome::Nothing,
@@ -199,6 +202,7 @@ impl Organism {
         ensures divide { OnViable result (IsDivide self.new) }
         ensures child { (rules : DivideRules) → OnViable result (IsChildOf rules) }
         ensures age { self.new.age ≡ self.old.age }
+        ensures merit { self.new.merit ≡ self.old.merit }
     {
         let task = self.newly_done(value);
         self.read += 1;
@@ -240,7 +244,8 @@ impl Organism {
     #[tactic(auto, unfolding(crate::specs::Life::renewed))]
     pub(crate) fn renew(&mut self, ask: &DivideAsk)
         requires { IsDivide self.old ask.now }
-        ensures { self.new ≡ renewed self.old ask.now }
+        ensures state { self.new ≡ renewed self.old ask.now }
+        ensures merit { self.new.merit ≤ GREATEST_MERIT }
     {
         self.merit = merit(self.genome.len(), ask.executed, ask.copied, self.gestation);
         self.credited = self.gestation;

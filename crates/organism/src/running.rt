@@ -1,10 +1,11 @@
 // The life of one update.
 ghost use Rattle.std.specs.Prelude.{◌≡◌, ◌+◌, ◌*◌, ◌<◌, ◌≤◌, ◌^◌, [], IfOk, OnOk, length};
 ghost use Rattle.genome.specs.Genome.{letters};
+ghost use Rattle.merit_slices.specs.declared.merits.TheConstants.{GREATEST_MERIT};
 ghost use Rattle.mutations.specs.BirthRecord.{record_of};
 ghost use Rattle.random_streams.specs.RandomStream.{word_of};
 ghost use Rattle.organism.specs.Life.{IsDivide, IsChildOf, OnViable};
-ghost use Rattle.organism.specs.Newborns.{newborns_in};
+ghost use Rattle.organism.specs.Newborns.{newborns_in, MeritsFit};
 ghost use Rattle.organism.specs.UpdateLife.{life_state, copy_drawn, after_copy, birth_record, child_letters, after_child, after_outcome, after_step, is_old, life};
 
 use crate::outcome::Outcome;
@@ -46,6 +47,8 @@ impl Organism {
         ensures taken { OnOk result (draws.new.taken < LIFE_WORDS) }
         ensures births { OnOk result (length (newborns_in births.new) ≤ slices) }
         ensures age { OnOk result (self.new.age ≤ self.old.age + slices) }
+        ensures merit { OnOk result (self.old.merit ≤ GREATEST_MERIT → self.new.merit ≤ GREATEST_MERIT) }
+        ensures merits { OnOk result (MeritsFit (newborns_in births.new)) }
     {
         for step in 0..slices {
             self.live(alloc, settings, draws, births)?;
@@ -80,6 +83,8 @@ impl Organism {
         ensures taken { OnOk result (draws.new.taken ≤ draws.old.taken + STEP_WORDS) }
         ensures births { OnOk result (length (newborns_in births.new) ≤ length (newborns_in births.old) + 1) }
         ensures age { OnOk result (self.new.age ≤ self.old.age + 1) }
+        ensures merit { OnOk result (self.old.merit ≤ GREATEST_MERIT → self.new.merit ≤ GREATEST_MERIT) }
+        ensures merits { OnOk result (MeritsFit (newborns_in births.old) → MeritsFit (newborns_in births.new)) }
     {
         let copy = self.draw_copy(&settings.rates, draws);
         let outcome = self.life_step(copy, &settings.rules);
@@ -120,6 +125,8 @@ impl Organism {
         ensures taken { OnOk result (draws.new.taken + 2 ≤ draws.old.taken + STEP_WORDS) }
         ensures births { OnOk result (length (newborns_in births.new) ≤ length (newborns_in births.old) + 1) }
         ensures age { OnOk result (self.new.age ≤ self.old.age) }
+        ensures merit { OnOk result (self.old.merit ≤ GREATEST_MERIT → self.new.merit ≤ GREATEST_MERIT) }
+        ensures merits { OnOk result (MeritsFit (newborns_in births.old) → MeritsFit (newborns_in births.new)) }
     {
         match outcome {
             Outcome::Nothing => Ok(()),
@@ -149,6 +156,8 @@ impl Organism {
         ensures taken { OnOk result (draws.new.taken + 2 ≤ draws.old.taken + STEP_WORDS) }
         ensures births { OnOk result (length (newborns_in births.new) ≤ length (newborns_in births.old) + 1) }
         ensures age { OnOk result (self.new.age ≤ self.old.age) }
+        ensures merit { OnOk result (self.new.merit ≤ GREATEST_MERIT) }
+        ensures merits { OnOk result (MeritsFit (newborns_in births.old) → MeritsFit (newborns_in births.new)) }
     {
         let nth = births.len() as u32;
         let Born { genome, origin } = self.child(alloc, ask, settings, draws)?;

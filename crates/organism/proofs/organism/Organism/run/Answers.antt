@@ -1,4 +1,6 @@
-use Rattle.std.proofs.Common.{arith, ◌+◌, ◌≡◌, ap, refl, sym, ◌∙◌, true, false, length}
+use Rattle.std.proofs.Common.{arith, ◌+◌, ◌≡◌, ◌≤◌, ap, refl, sym, ◌∙◌, true, false, length}
+use Rattle.std.proofs.lemmas.List.Elements.{All-nil, All-same}
+use Rattle.merit_slices.specs.declared.merits.TheConstants.{GREATEST_MERIT}
 use Rattle.random_streams.specs.RandomStream.{Stream, word_of}
 use Rattle.organism.specs.declared.ran.Ran.TheVariants.{Died}
 use Rattle.organism.specs.UpdateLife.{LifeState, life_state, state_after, dies_at}
@@ -16,6 +18,8 @@ loop-step-init c =
       taken = omega arith;
       births = omega (arith, ap length c.requires.no_births);
       age = omega arith;
+      merit = λ h. h;
+      merits = All-same (λ newborn. newborn.merit ≤ GREATEST_MERIT) _ _ c.requires.no_births (All-nil (λ newborn. newborn.merit ≤ GREATEST_MERIT));
     }
 
 -- the state after the step, by the words of the stream at its start
@@ -43,4 +47,6 @@ loop-step-preserved c =
       taken = omega (arith, c.in_ok-live.ensures.taken);
       births = omega (arith, c.in_ok-live.ensures.births);
       age = omega (arith, c.in_ok-live.ensures.age);
+      merit = λ h. c.in_ok-live.ensures.merit (c.loop-step.invariant.merit h);
+      merits = c.in_ok-live.ensures.merits c.loop-step.invariant.merits;
     }
