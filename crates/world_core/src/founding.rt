@@ -1,5 +1,5 @@
 // Founders: the configuration's own, and those that events inject.
-ghost use Rattle.std.specs.Prelude.{◌≡◌, ◌*◌, ◌<◌, ◌≤◌, IfOk, length};
+ghost use Rattle.std.specs.Prelude.{◌≡◌, ◌*◌, ◌<◌, ◌≤◌, [], IfOk, length};
 ghost use Rattle.genome.specs.Genome.{letters};
 ghost use Rattle.world_config.specs.Shown.{values_of};
 ghost use Rattle.world_rules.specs.World.{founder_of, founded};
@@ -36,6 +36,7 @@ pub(crate) fn founder(
 pub(crate) fn first_scene(alloc: Global, config: &Config) -> Result<Scene, Memory>
     ensures world { IfOk result (λ scene. world_of scene ≡ founded (values_of config.now)) }
     ensures size { IfOk result (λ scene. length scene.cells ≡ config.now.width * config.now.height) }
+    ensures nobody { IfOk result (λ scene. scene.gone ≡ []) }
     ensures one { IfOk result (λ scene. length scene.everyone ≡ 1) }
 {
     let _ = (alloc, config);

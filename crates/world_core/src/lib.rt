@@ -11,8 +11,8 @@ mod founding;
 mod lives;
 mod occupant;
 mod scene;
+mod updating;
 mod world;
 
-pub use lineage_log::{Link, Path};
 pub use log_lines::Stats;
-pub use world::World;
+pub use world::{MOST_UPDATES, MOST_WORKERS, World};

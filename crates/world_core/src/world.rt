@@ -1,21 +1,29 @@
 // A world.
 ghost use Rattle.std.specs.Prelude.{◌≡◌, ◌+◌, ◌*◌, ◌<◌, ◌≤◌, IfOk, option_map};
 ghost use Rattle.genome.specs.Genome.{letters};
+ghost use Rattle.log_lines.specs.Line as line_spec;
+ghost use Rattle.log_lines.specs.LineText.{line_text};
 ghost use Rattle.world_config.specs.Shown.{values_of};
 ghost use Rattle.world_rules.specs.LogText.{head_text, update_text, end_text};
 ghost use Rattle.world_rules.specs.Statistics.{stats_of};
 ghost use Rattle.world_core.specs.WorldValue.{WorldValue, world_in, genome_in};
 
+use crate::counting::count;
+use crate::founding::first_scene;
 use crate::scene::Scene;
+use crate::updating::next;
 use avida_port::{Gate, Memory};
 use genome::Genome;
-use log_lines::Stats;
+use log_lines::{LAST_VERSION, LogLine, Stats, write_line};
 use std::alloc::Global;
 use std::marker::Model;
 use world_config::Config;
 
 /// The updates of the longest run.
 pub const MOST_UPDATES: u32 = 1_000_000;
+
+/// The greatest number of workers.
+pub const MOST_WORKERS: u32 = 64;
 
 /// The world of a configuration after so many updates. Only `found` and `advance` make one.
 #[derive(Drop)]
@@ -38,12 +46,19 @@ impl Model for World {
 
 impl World {
     /// The world of update 0: the configuration's founder alone.
+    #[tactic(auto, unfolding(world_rules::specs::WorldRun::world_after, world_rules::specs::World::founded, world_rules::specs::Statistics::stats_of))]
     pub fn found(alloc: Global, config: Config, workers: u32) -> Result<World, Memory>
-        requires workers { (1 ≤ workers) × (workers ≤ 64) }
+        requires workers { (1 ≤ workers) × (workers ≤ MOST_WORKERS) }
         ensures { IfOk result (λ world. world ≡ record { config = values_of config; update = 0 }) }
     {
-        let _ = (alloc, config, workers);
-        Err(Memory)
+        let _ = workers;
+        let scene = first_scene(alloc, &config)?;
+        let stats = count(alloc, &scene, 0)?;
+        Ok(World {
+            config,
+            scene,
+            stats,
+        })
     }
 
     /// One update, and its lines. After `Memory` no world is left.
@@ -52,24 +67,41 @@ impl World {
         ensures world { IfOk result (λ next. next.0 ≡ record self { update = self.update + 1 }) }
         ensures text { IfOk result (λ next. next.1.items ≡ update_text self.config (self.update + 1)) }
     {
-        let _ = (alloc, gate);
-        Err(Memory)
+        let _ = gate;
+        let World { config, scene, .. } = self;
+        let (scene, stats, text) = next(alloc, &config, scene)?;
+        let world = World {
+            config,
+            scene,
+            stats,
+        };
+        Ok((world, text))
     }
 
     /// The first line of the log.
+    #[tactic(auto, unfolding(world_rules::specs::LogText::head_text))]
     pub fn first_line(&self, alloc: Global) -> Result<Vec<u8>, Memory>
         ensures { IfOk result (λ text. text.items ≡ head_text self.now.config) }
     {
-        let _ = alloc;
-        Err(Memory)
+        let line = LogLine::Start {
+            version: LAST_VERSION,
+            width: self.config.width,
+            height: self.config.height,
+            cell: self.config.founder_cell,
+            genome: self.config.ancestor.copy(alloc)?,
+        };
+        line_alone(alloc, &line)
     }
 
     /// The last line of a log that ends with this update.
+    #[tactic(auto, unfolding(world_rules::specs::LogText::end_text))]
     pub fn last_line(&self, alloc: Global) -> Result<Vec<u8>, Memory>
         ensures { IfOk result (λ text. text.items ≡ end_text self.now.update) }
     {
-        let _ = alloc;
-        Err(Memory)
+        let line = LogLine::End {
+            updates: self.scene.update,
+        };
+        line_alone(alloc, &line)
     }
 
     /// The number of updates so far.
@@ -103,4 +135,13 @@ impl World {
             None => None,
         }
     }
+}
+
+/// The text of one line.
+fn line_alone(alloc: Global, line: &LogLine) -> Result<Vec<u8>, Memory>
+    ensures { IfOk result (λ text. text.items ≡ line_text (line_spec.values_of line.now)) }
+{
+    let mut text = Vec::new(alloc);
+    write_line(line, &mut text)?;
+    Ok(text)
 }
