@@ -4,5 +4,6 @@ pub mod CopyError
 pub mod DivideErrors
 pub mod Pass
 pub mod Rates
+pub mod RecordForm
 pub use Rattle.genome.specs.Genome
 pub use Rattle.random_streams.specs.RandomStream

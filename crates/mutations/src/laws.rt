@@ -2,6 +2,7 @@ ghost use Rattle.std.specs.Prelude.{◌≡◌, ℕ, ◌<◌, ◌≤◌, ◌^◌,
 ghost use Rattle.instruction_set.specs.declared.letter.Letter.{Letter};
 ghost use Rattle.mutations.specs.Rates.{RateNumbers, LengthRange};
 ghost use Rattle.mutations.specs.BirthRecord.{child_of, origin_of};
+ghost use Rattle.mutations.specs.RecordForm.{HasRecordForm};
 
 use genome::{GREATEST_LENGTH, LEAST_LENGTH};
 
@@ -17,4 +18,17 @@ pub fn drawn_records_apply()
         → length written ≤ limits.greatest
         → IsOkAnd (child_of parent (origin_of words k rates limits clean written parent))
         (λ child. (limits.least ≤ length child) × (length child ≤ limits.greatest)) }
+{}
+
+/// The record that words give has the form that a log asks for.
+pub fn drawn_records_have_form()
+    ensures { (words : ℕ → ℕ) (k : ℕ) (rates : RateNumbers) (limits : LengthRange)
+        (clean written parent : List Letter)
+        → ((n : ℕ) → words n < 2 ^ 32)
+        → LEAST_LENGTH ≤ limits.least
+        → limits.greatest ≤ GREATEST_LENGTH
+        → length clean ≡ length written
+        → limits.least ≤ length written
+        → length written ≤ limits.greatest
+        → HasRecordForm (origin_of words k rates limits clean written parent) }
 {}
