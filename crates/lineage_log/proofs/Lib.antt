@@ -1,1 +1,3 @@
 pub mod LogLaws
+pub mod ReadLemmas
+pub mod UpgradeLemmas

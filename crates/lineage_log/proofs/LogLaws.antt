@@ -39,14 +39,14 @@ cut_some (b ∷ bs) = elim (cases_Bool (b == 10)) [
   | inr not ↦ let r = onto_some b (cut bs) in (r.0, r.1, rw not r.2)
 ]
 
-went_on : (r : Result Place Reason) (next : Place → Result Place Reason) (q : Place) → and_on r next ≡ Ok q → (p : Place) × (r ≡ Ok p) × (next p ≡ Ok q)
+pub went_on : (r : Result Place Reason) (next : Place → Result Place Reason) (q : Place) → and_on r next ≡ Ok q → (p : Place) × (r ≡ Ok p) × (next p ≡ Ok q)
 went_on (Ok p) next q e = (p, refl, e)
 went_on (Err reason) next q e = absurd cc
 
 at_end : (number : ℕ) (place : Place) (r : Reader) → place ≡ After r → log_end number place ≡ Ok []
 at_end number place r is = rw is refl
 
-place_is : (p q : Place) → ◌≡◌ {A = Result Place Reason} (Ok p) (Ok q) → p ≡ q
+pub place_is : (p q : Place) → ◌≡◌ {A = Result Place Reason} (Ok p) (Ok q) → p ≡ q
 place_is p q e = cc
 
 pub pieces_again : (spell : OneSpelling) (number : ℕ) (place : Place) (lines : List Line) (r : Reader) → told_all place lines ≡ Ok (After r) → AllByRecursion HasForm lines → pieces_log number place (cut (lines_text lines)) ≡ Ok lines
@@ -116,7 +116,7 @@ log_takes spell bytes lines is =
     let r = pieces_read spell 1 Before (cut bytes) lines is in
     (r.text ∙ join_with_byte-slice_split 10 bytes, record { forms = r.fits; order = r.whole })
 
-whole_is : (t : Result Place Reason) → IsWhole t → (r : Reader) × (t ≡ Ok (After r))
+pub whole_is : (t : Result Place Reason) → IsWhole t → (r : Reader) × (t ≡ Ok (After r))
 whole_is (Ok Before) w = absurd w
 whole_is (Ok (Within r)) w = absurd w
 whole_is (Ok (After r)) w = (r, refl)

@@ -8,8 +8,9 @@ use Rattle.log_lines.specs.Line.{Line, Start, Death, Birth, Injected, Cleared, R
 use Rattle.lineage_log.specs.declared.reason.Reason.{Reason}
 use Rattle.lineage_log.specs.declared.reason.Reason.TheVariants.{BadOrder, UnknownParent, BadChange}
 use Rattle.lineage_log.specs.declared.stage.Stage.TheVariants.{Quiet, Dying, Placing, Happening}
+use Rattle.lineage_log.specs.People.{without}
 use Rattle.lineage_log.specs.Slots.{holds, taken}
-use Rattle.lineage_log.specs.Reader.{Reader, may_die, may_be_born, is_quiet, parent_in, without, with_newcomer, with_death}
+use Rattle.lineage_log.specs.Reader.{Reader, may_die, may_be_born, is_quiet, parent_in, with_newcomer, with_death}
 
 -- before the first line, within the log, or after the last line
 pub data Place : Type 0 where

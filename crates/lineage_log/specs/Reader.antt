@@ -42,11 +42,6 @@ is_quiet Happening = false
 abbrev pub parent_in : Reader → ℕ → Option (List Letter)
 parent_in r parent = if nat_lt parent r.newest then option_and_then (λ found. found) (slice_get r.people parent) else None
 
--- the people without these ids
-abbrev pub without : List ℕ → List (Option (List Letter)) → List (Option (List Letter))
-without [] people = people
-without (id ∷ ids) people = without ids (slice_set people id None)
-
 -- somebody new with the next id stands in the cell, and who stood there dies
 abbrev pub with_newcomer : Reader → Stage → ℕ → Option ℕ → List Letter → ℕ → Reader
 with_newcomer r stage cell over genome births = record r {

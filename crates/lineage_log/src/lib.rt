@@ -1,10 +1,20 @@
-//! The log of a run, its lines and its laws.
+//! The log of a run: its lines, its laws and its reader.
 #![tactic(auto)]
 
 pub mod laws;
+mod log;
+mod log_stop;
+mod people;
+mod place;
+mod read;
+mod reader;
 mod reason;
+mod slots;
 mod stage;
 
+pub use log::Log;
 pub use log_lines::{GREATEST_SIDE, LAST_VERSION, LogLine, Stats, read_line, write_line};
+pub use log_stop::LogStop;
+pub use read::read_log;
 pub use reason::Reason;
 pub use stage::Stage;

@@ -1,0 +1,51 @@
+-- The loop over the pieces of a log.
+use Rattle.std.proofs.Common.{◌≡◌, ℕ, ◌+◌, List, [], ◌∷◌, ◌++◌, Option, Some, None, Result, Ok, Err, refl, sym, ap, ◌∙◌, append_assoc, inl, inr}
+use Rattle.std.specs.Prelude.{◌==◌, ◌↔◌}
+use Rattle.std.specs.List.{slice_split, onto_first}
+use Rattle.std.proofs.lemmas.Bool.{cases_Bool}
+use Rattle.log_lines.specs.Line.{Line}
+use Rattle.log_lines.specs.LineReading.{line_of}
+use Rattle.lineage_log.specs.declared.reason.Reason.{Reason}
+use Rattle.lineage_log.specs.Order.{Place, told}
+use Rattle.lineage_log.specs.LogGrammar.{Fault, BadLine, OutOfOrder, with_line, one_piece, after_told, pieces_log, log_of, lines_text, Reads, IsGoodLog}
+use Rattle.lineage_log.specs.LogValues.{with_front}
+
+pub front_none : (r : Result (List Line) Fault) → with_front [] r ≡ r
+front_none (Ok lines) = refl
+front_none (Err fault) = refl
+
+front_more : (front : List Line) (one : Line) (r : Result (List Line) Fault) → with_front front (with_line one r) ≡ with_front (front ++ one ∷ []) r
+front_more front one (Ok lines) = ap (λ (l : List Line). Ok l) (sym (append_assoc front (one ∷ []) lines))
+front_more front one (Err fault) = refl
+
+abbrev cut : List ℕ → List (List ℕ)
+cut bytes = slice_split (λ b. b == 10) bytes
+
+more_onto : (number : ℕ) (place : Place) (piece : List ℕ) (b : ℕ) (parts : List (List ℕ)) → pieces_log number place (piece ∷ onto_first b parts) ≡ one_piece number place (line_of piece) (λ p. pieces_log (number + 1) p (onto_first b parts))
+more_onto number place piece b [] = refl
+more_onto number place piece b (part ∷ parts) = refl
+
+more_pieces : (number : ℕ) (place : Place) (piece rest : List ℕ) → pieces_log number place (piece ∷ cut rest) ≡ one_piece number place (line_of piece) (λ p. pieces_log (number + 1) p (cut rest))
+more_pieces number place piece [] = refl
+more_pieces number place piece (b ∷ bs) = elim (cases_Bool (b == 10)) [
+  | inl is ↦ rw is refl
+  | inr not ↦ rw not (more_onto number place piece b (cut bs))
+]
+
+module _ (front : List Line) (number : ℕ) (place : Place) (piece rest : List ℕ) where
+  pub bad_line : line_of piece ≡ None → with_front front (pieces_log number place (piece ∷ cut rest)) ≡ Err (record { line = number; cause = BadLine })
+  bad_line none = ap (with_front front) (more_pieces number place piece rest ∙ ap (λ (o : Option Line). one_piece number place o (λ p. pieces_log (number + 1) p (cut rest))) none)
+
+  pub bad_order : (one : Line) (reason : Reason) → line_of piece ≡ Some one → told place one ≡ Err reason → with_front front (pieces_log number place (piece ∷ cut rest)) ≡ Err (record { line = number; cause = OutOfOrder reason })
+  bad_order one reason is bad =
+      let others = λ (p : Place). pieces_log (number + 1) p (cut rest) in
+      ap (with_front front) (more_pieces number place piece rest ∙ ap (λ (o : Option Line). one_piece number place o others) is ∙ ap (λ (t : Result Place Reason). after_told number one t others) bad)
+
+  pub good_line : (one : Line) (next : Place) → line_of piece ≡ Some one → told place one ≡ Ok next → with_front front (pieces_log number place (piece ∷ cut rest)) ≡ with_front (front ++ one ∷ []) (pieces_log (number + 1) next (cut rest))
+  good_line one next is good =
+      let others = λ (p : Place). pieces_log (number + 1) p (cut rest) in
+      ap (with_front front) (more_pieces number place piece rest ∙ ap (λ (o : Option Line). one_piece number place o others) is ∙ ap (λ (t : Result Place Reason). after_told number one t others) good)
+      ∙ front_more front one (others next)
+
+pub good_read : ((bytes : List ℕ) (lines : List Line) → Reads bytes lines ↔ ((lines_text lines ≡ bytes) × IsGoodLog lines)) → (bytes : List ℕ) (lines : List Line) → log_of bytes ≡ Ok lines → IsGoodLog lines
+good_read law bytes lines is = ((law bytes lines).0 is).1

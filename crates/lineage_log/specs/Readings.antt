@@ -1,0 +1,40 @@
+-- What the reader of a log holds, as the definitions see it.
+use Rattle.std.specs.Prelude.{◌≡◌, List, Option, Some, None, Result, Ok, Err, IsErr, IsErrOf}
+use Rattle.instruction_set.specs.declared.letter.Letter.{Letter}
+use Rattle.genome.specs.declared.genome.Genome.{Genome}
+use Rattle.genome.specs.Genome.{letters}
+use Rattle.mutations.specs.BirthRecord.{BirthRecord, child_of}
+use Rattle.lineage_log.specs.declared.reason.Reason.{Reason}
+use Rattle.lineage_log.specs.declared.reason.Reason.TheVariants.{UnknownParent, BadChange}
+use Rattle.lineage_log.specs.declared.reader.Reader as code
+use Rattle.lineage_log.specs.Reader.{Reader}
+use Rattle.lineage_log.specs.Order.{Place, Within}
+
+-- the state of a reader
+abbrev pub reader_of : code.Reader → Reader
+reader_of r = record {
+  version = r.version;
+  due = r.due;
+  stage = r.stage;
+  standing = r.standing;
+  people = r.people;
+  newest = r.newest;
+  leaving = r.leaving.items;
+  births = r.births;
+}
+
+-- what a line did: this reader is left, or why the line is faulty
+abbrev pub Tells : Result (Unit {0}) Reason → Reader → Result Place Reason → Type 0
+Tells (Ok done) r told = told ≡ Ok (Within r)
+Tells (Err reason) r told = told ≡ Err reason
+
+-- what the first line did
+abbrev pub TellsReader : Result code.Reader Reason → Result Place Reason → Type 0
+TellsReader (Ok r) told = told ≡ Ok (Within (reader_of r))
+TellsReader (Err reason) told = told ≡ Err reason
+
+-- the child of a parent's letters, or why there is none
+abbrev pub MakesChild : Result Genome Reason → Option (List Letter) → BirthRecord → Type 0
+MakesChild made None birth = IsErrOf made UnknownParent
+MakesChild (Ok child) (Some parent) birth = child_of parent birth ≡ Ok (letters child)
+MakesChild (Err reason) (Some parent) birth = (reason ≡ BadChange) × IsErr (child_of parent birth)

@@ -1,0 +1,79 @@
+// A good log.
+ghost use Rattle.std.specs.Prelude.{◌≡◌, length, option_map, slice_get};
+ghost use Rattle.log_lines.specs.Line.{values_of};
+ghost use Rattle.lineage_log.specs.LogGrammar.{IsGoodLog};
+ghost use Rattle.lineage_log.specs.LogValues.{lines_of};
+ghost use Rattle.lineage_log.specs.Upgrade.{newer, upgraded};
+
+use log_lines::{LAST_VERSION, LogLine};
+use std::marker::Model;
+
+/// The lines of a good log, in order.
+#[derive(Drop)]
+pub struct Log {
+    lines: Vec<LogLine>,
+}
+
+impl Model for Log {
+    ghost use Rattle.std.specs.Prelude.{List};
+    ghost use Rattle.log_lines.specs.Line.{Line};
+    ghost use Rattle.lineage_log.specs.LogGrammar.{IsGoodLog};
+    ghost use Rattle.lineage_log.specs.LogValues.{lines_of};
+
+    ghost Value = { List Line };
+
+    ghost view = { λ log. lines_of log.lines.items };
+
+    ghost invariant = { λ log. IsGoodLog (lines_of log.lines.items) };
+}
+
+impl Log {
+    pub(crate) fn from_lines(lines: Vec<LogLine>) -> Log
+        requires { IsGoodLog (lines_of lines.items) }
+        ensures { result ≡ lines_of lines.items }
+    {
+        Log { lines }
+    }
+
+    pub fn into_vec(self) -> Vec<LogLine>
+        ensures { lines_of result.items ≡ self }
+    {
+        self.lines
+    }
+
+    pub fn len(&self) -> usize
+        ensures { result ≡ length self.now }
+    {
+        self.lines.len()
+    }
+
+    pub fn get(&self, at: usize) -> Option<&LogLine>
+        ensures { option_map (λ line. values_of line.now) result ≡ slice_get self.now at }
+    {
+        self.lines.get(at)
+    }
+
+    /// Puts the last version in the first line, and changes nothing else.
+    #[tactic(auto, using(crate::proofs::UpgradeLemmas::upgraded_good))]
+    pub fn upgrade(&mut self)
+        ensures { self.new ≡ upgraded self.old }
+    {
+        renew_first(&mut self.lines);
+    }
+}
+
+fn renew_first(lines: &mut Vec<LogLine>)
+    ensures { lines_of lines.new.items ≡ upgraded (lines_of lines.old.items) }
+{
+    if !lines.is_empty() {
+        renew(&mut lines[0]);
+    }
+}
+
+fn renew(line: &mut LogLine)
+    ensures { values_of line.new ≡ newer (values_of line.old) }
+{
+    if let LogLine::Start { version, .. } = line {
+        *version = LAST_VERSION;
+    }
+}

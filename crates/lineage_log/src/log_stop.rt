@@ -1,0 +1,15 @@
+/// Why bytes are no log: memory was wanting, or a line is faulty, numbered from 1.
+#[derive(Clone, Copy, Debug, PartialEq, Eq)]
+pub enum LogStop {
+    Memory,
+    /// The line has none of the forms, or has no newline.
+    BadLine { line: u64 },
+    /// The line does not fit what stands before it.
+    BadOrder { line: u64 },
+    /// The parent did not live when its update began.
+    UnknownParent { line: u64 },
+    /// The record of a birth does not apply.
+    BadChange { line: u64 },
+    /// All lines are good and none is the last line of a log; the line is the one that would follow.
+    Unended { line: u64 },
+}

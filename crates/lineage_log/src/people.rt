@@ -1,0 +1,79 @@
+// The genomes of those who live, and of those who died in this update.
+ghost use Rattle.std.specs.Prelude.{◌≡◌, ◌<◌, ◌^◌, ◌++◌, ◌∷◌, [], None, Some, OnErr, OnOk, length, slice_get, slice_set, option_and_then, option_map};
+ghost use Rattle.genome.specs.Genome.{letters};
+ghost use Rattle.lineage_log.specs.People.{without};
+
+use avida_port::Memory;
+use genome::Genome;
+use std::alloc::Global;
+use std::marker::Model;
+
+/// By id the genome of each who is kept.
+#[derive(Drop)]
+pub struct People {
+    genomes: Vec<Option<Genome>>,
+}
+
+impl Model for People {
+    ghost use Rattle.std.specs.Prelude.{List, Option, map, option_map};
+    ghost use Rattle.instruction_set.specs.declared.letter.Letter.{Letter};
+    ghost use Rattle.genome.specs.Genome.{letters};
+
+    ghost Value = { List (Option (List Letter)) };
+
+    ghost view = { λ p. map (λ found. option_map letters found) p.genomes.items };
+}
+
+impl People {
+    pub fn none(alloc: Global) -> People
+        ensures { result ≡ [] }
+    {
+        People {
+            genomes: Vec::new(alloc),
+        }
+    }
+
+    pub fn len(&self) -> usize
+        ensures len { result ≡ length self.now }
+        ensures small { result < 2 ^ 63 }
+    {
+        self.genomes.len()
+    }
+
+    pub fn push(&mut self, genome: Genome) -> Result<(), Memory>
+        ensures ok { OnOk result (self.new ≡ self.old ++ Some (letters genome) ∷ []) }
+        ensures err { OnErr result (self.new ≡ self.old) }
+    {
+        match self.genomes.push(Some(genome)) {
+            Ok(()) => Ok(()),
+            Err(_) => Err(Memory),
+        }
+    }
+
+    pub fn get(&self, id: u64) -> Option<&Genome>
+        ensures { option_map (λ found. letters found.now) result
+            ≡ option_and_then (λ found. found) (slice_get self.now id) }
+    {
+        match self.genomes.get(id as usize) {
+            Some(Some(genome)) => Some(genome),
+            _ => None,
+        }
+    }
+
+    pub fn forget(&mut self, id: u64)
+        ensures { self.new ≡ slice_set self.old id None }
+    {
+        let place = id as usize;
+        if place < self.genomes.len() {
+            self.genomes[place] = None;
+        }
+    }
+
+    pub fn forget_all(&mut self, ids: &[u64])
+        ensures { self.new ≡ without ids.now self.old }
+    {
+        for id in ids {
+            self.forget(*id);
+        }
+    }
+}

@@ -1,0 +1,317 @@
+// What is known of a log between two of its lines.
+ghost use Rattle.std.specs.Prelude.{◌≡◌, ◌+◌, ◌<◌, ◌≤◌, ◌&&◌, ◌==◌, IfOk, OnOk, IsTrue, ◌*◌, ◌^◌, ◌-◌, [], option_map, Ok, Err, if◌then◌else◌, length, slice_get, Some};
+ghost use Rattle.genome.specs.Genome.{letters};
+ghost use Rattle.mutations.specs.BirthRecord.{record_of};
+ghost use Rattle.lineage_log.specs.Slots.{holds, taken};
+ghost use Rattle.lineage_log.specs.Reader.{is_quiet, may_be_born, may_die, parent_in, with_death, with_newcomer};
+ghost use Rattle.lineage_log.specs.Order.{after_birth, after_cleared, after_count, after_death, after_end, after_injected, after_rate, after_start, may_happen, renewed, After};
+
+use crate::people::People;
+use crate::reason::Reason;
+use crate::slots::Slots;
+use crate::stage::Stage;
+use avida_port::Memory;
+use genome::Genome;
+use log_lines::Stats;
+use mutations::{ApplyStop, Origin, apply};
+use std::alloc::Global;
+
+#[derive(Drop)]
+pub struct Reader {
+    pub version: u32,
+    pub due: u64,
+    pub stage: Stage,
+    pub standing: Slots,
+    pub people: People,
+    /// The next id when the update began.
+    pub newest: u64,
+    /// Who died in the update.
+    pub leaving: Vec<u64>,
+    pub births: u64,
+    ghost few: { births ≤ length people },
+}
+
+fn may_die(stage: Stage, cell: u32) -> bool
+    ensures { result ≡ may_die stage cell }
+{
+    match stage {
+        Stage::Quiet => true,
+        Stage::Dying(last) => last < cell,
+        Stage::Placing | Stage::Happening => false,
+    }
+}
+
+fn may_be_born(stage: Stage) -> bool
+    ensures { result ≡ may_be_born stage }
+{
+    match stage {
+        Stage::Happening => false,
+        _ => true,
+    }
+}
+
+fn is_quiet(stage: Stage) -> bool
+    ensures { result ≡ is_quiet stage }
+{
+    match stage {
+        Stage::Quiet => true,
+        _ => false,
+    }
+}
+
+impl Reader {
+    ghost use Rattle.lineage_log.specs.Readings.{MakesChild, Tells, TellsReader, reader_of};
+
+    #[tactic(auto, unfolding(crate::specs::Order::after_start))]
+    /// The reader after the first line.
+    pub fn open(
+        alloc: Global,
+        version: u32,
+        width: u32,
+        height: u32,
+        cell: u32,
+        genome: Genome,
+    ) -> Result<Result<Reader, Reason>, Memory>
+        ensures { IfOk result (λ told.
+            TellsReader told (after_start version width height cell (letters genome))) }
+    {
+        let cells = u64::from(width) * u64::from(height);
+        if u64::from(cell) >= cells {
+            return Ok(Err(Reason::BadOrder));
+        }
+        let standing = Slots::with_one(alloc, cells as usize, cell as usize, 0)?;
+        let mut people = People::none(alloc);
+        people.push(genome)?;
+        Ok(Ok(Reader {
+            version,
+            due: 1,
+            stage: Stage::Quiet,
+            standing,
+            people,
+            newest: 1,
+            leaving: Vec::new(alloc),
+            births: 0,
+        }))
+    }
+
+    fn may_happen(&self, update: u32) -> bool
+        ensures { result ≡ may_happen (reader_of self.now) update }
+    {
+        self.version == 2 && u64::from(update) == self.due
+    }
+
+    /// The id is the next one, and `over` stands in the cell.
+    fn may_come(&self, id: u64, cell: u32, over: Option<u64>) -> bool
+        ensures test { result ≡ ((id == length self.now.people) && holds (slice_get self.now.standing cell) over) }
+        ensures within { IsTrue result → cell < length self.now.standing }
+        ensures few { IsTrue result → length self.now.people < 2 ^ 63 }
+    {
+        id == self.people.len() as u64 && self.standing.holds(cell, over)
+    }
+
+    /// Who stands in the cell dies.
+    fn remove(&mut self, stage: Stage, cell: u32, id: u64) -> Result<(), Memory>
+        requires { cell < length self.old.standing }
+        ensures { OnOk result (reader_of self.new ≡ with_death (reader_of self.old) stage cell id) }
+    {
+        if self.leaving.push(id).is_err() {
+            return Err(Memory);
+        }
+        self.standing.set(cell, None);
+        self.stage = stage;
+        Ok(())
+    }
+
+    /// Somebody new stands in the cell.
+    fn add(
+        &mut self,
+        stage: Stage,
+        cell: u32,
+        over: Option<u64>,
+        genome: Genome,
+        births: u64,
+    ) -> Result<(), Memory>
+        requires within { cell < length self.old.standing }
+        requires few { births ≤ length self.old.people + 1 }
+        ensures { OnOk result (reader_of self.new
+            ≡ with_newcomer (reader_of self.old) stage cell over (letters genome) births) }
+    {
+        if let Some(id) = over {
+            if self.leaving.push(id).is_err() {
+                return Err(Memory);
+            }
+        }
+        let id = self.people.len() as u64;
+        self.people.push(genome)?;
+        self.standing.set(cell, Some(id));
+        self.stage = stage;
+        self.births = births;
+        Ok(())
+    }
+
+    #[tactic(auto, unfolding(crate::specs::Order::after_death))]
+    pub fn death(&mut self, id: u64, update: u32, cell: u32) -> Result<Result<(), Reason>, Memory>
+        ensures { IfOk result (λ told.
+            Tells told (reader_of self.new) (after_death (reader_of self.old) id update cell)) }
+    {
+        if u64::from(update) == self.due
+            && may_die(self.stage, cell)
+            && self.standing.holds(cell, Some(id))
+        {
+            self.remove(Stage::Dying(cell), cell, id)?;
+            Ok(Ok(()))
+        } else {
+            Ok(Err(Reason::BadOrder))
+        }
+    }
+
+    #[tactic(auto, unfolding(crate::specs::Order::after_cleared))]
+    pub fn cleared(&mut self, id: u64, update: u32, cell: u32) -> Result<Result<(), Reason>, Memory>
+        ensures { IfOk result (λ told.
+            Tells told (reader_of self.new) (after_cleared (reader_of self.old) id update cell)) }
+    {
+        if self.may_happen(update) && self.standing.holds(cell, Some(id)) {
+            self.remove(Stage::Happening, cell, id)?;
+            Ok(Ok(()))
+        } else {
+            Ok(Err(Reason::BadOrder))
+        }
+    }
+
+    #[tactic(auto, unfolding(crate::specs::Order::after_rate))]
+    pub fn rate(&mut self, update: u32) -> Result<(), Reason>
+        ensures { Tells result (reader_of self.new) (after_rate (reader_of self.old) update) }
+    {
+        if self.may_happen(update) {
+            self.stage = Stage::Happening;
+            Ok(())
+        } else {
+            Err(Reason::BadOrder)
+        }
+    }
+
+    /// The genome of somebody who lived when the update began.
+    fn parent(&self, id: u64) -> Option<&Genome>
+        ensures { option_map (λ found. letters found.now) result ≡ parent_in (reader_of self.now) id }
+    {
+        if id < self.newest {
+            self.people.get(id)
+        } else {
+            None
+        }
+    }
+
+    fn child(
+        &self,
+        alloc: Global,
+        parent: u64,
+        origin: &Origin,
+    ) -> Result<Result<Genome, Reason>, Memory>
+        ensures { IfOk result (λ made. MakesChild made (parent_in (reader_of self.now) parent) (record_of origin.now)) }
+    {
+        match self.parent(parent) {
+            None => Ok(Err(Reason::UnknownParent)),
+            Some(genome) => match apply(alloc, genome, origin) {
+                Ok(child) => Ok(Ok(child)),
+                Err(ApplyStop::Memory) => Err(Memory),
+                Err(_) => Ok(Err(Reason::BadChange)),
+            },
+        }
+    }
+
+    #[tactic(auto, unfolding(crate::specs::Order::after_birth))]
+    pub fn birth(
+        &mut self,
+        alloc: Global,
+        id: u64,
+        parent: u64,
+        update: u32,
+        cell: u32,
+        over: Option<u64>,
+        origin: &Origin,
+    ) -> Result<Result<(), Reason>, Memory>
+        ensures { IfOk result (λ told. Tells told (reader_of self.new)
+            (after_birth (reader_of self.old) id parent update cell over (record_of origin.now))) }
+    {
+        if u64::from(update) == self.due
+            && may_be_born(self.stage)
+            && self.may_come(id, cell, over)
+        {
+            match self.child(alloc, parent, origin)? {
+                Ok(genome) => {
+                    let births = self.births + 1;
+                    self.add(Stage::Placing, cell, over, genome, births)?;
+                    Ok(Ok(()))
+                }
+                Err(reason) => Ok(Err(reason)),
+            }
+        } else {
+            Ok(Err(Reason::BadOrder))
+        }
+    }
+
+    #[tactic(auto, unfolding(crate::specs::Order::after_injected))]
+    pub fn injected(
+        &mut self,
+        id: u64,
+        update: u32,
+        cell: u32,
+        over: Option<u64>,
+        genome: Genome,
+    ) -> Result<Result<(), Reason>, Memory>
+        ensures { IfOk result (λ told. Tells told (reader_of self.new)
+            (after_injected (reader_of self.old) id update cell over (letters genome))) }
+    {
+        if self.may_happen(update) && self.may_come(id, cell, over) {
+            let births = self.births;
+            self.add(Stage::Happening, cell, over, genome, births)?;
+            Ok(Ok(()))
+        } else {
+            Ok(Err(Reason::BadOrder))
+        }
+    }
+
+    fn counts_fit(&self, stats: &Stats) -> bool
+        ensures small { IsTrue result → self.now.due < 2 ^ 32 }
+        ensures test { result ≡ ((stats.now.update == self.now.due) && (stats.now.living == taken self.now.standing)
+            && (stats.now.births == self.now.births) && (stats.now.deaths == length self.now.leaving.items)) }
+    {
+        u64::from(stats.update) == self.due
+            && stats.living == self.standing.taken()
+            && stats.births == self.births
+            && stats.deaths == self.leaving.len() as u64
+    }
+
+    /// The next update is due.
+    fn renew(&mut self)
+        requires { self.old.due < 2 ^ 64 - 1 }
+        ensures { reader_of self.new ≡ renewed (reader_of self.old) }
+    {
+        self.newest = self.people.len() as u64;
+        self.people.forget_all(&self.leaving);
+        self.leaving.clear();
+        self.due += 1;
+        self.stage = Stage::Quiet;
+        self.births = 0;
+    }
+
+    #[tactic(auto, unfolding(crate::specs::Order::after_count))]
+    pub fn count(&mut self, stats: &Stats) -> Result<(), Reason>
+        ensures { Tells result (reader_of self.new) (after_count (reader_of self.old) stats.now) }
+    {
+        if self.counts_fit(stats) {
+            self.renew();
+            Ok(())
+        } else {
+            Err(Reason::BadOrder)
+        }
+    }
+
+    #[tactic(auto, unfolding(crate::specs::Order::after_end))]
+    pub fn ends(&self, updates: u32) -> bool
+        ensures { after_end (reader_of self.now) updates
+            ≡ (if result then Ok (After (reader_of self.now)) else Err Reason.BadOrder) }
+    {
+        is_quiet(self.stage) && u64::from(updates) + 1 == self.due
+    }
+}
