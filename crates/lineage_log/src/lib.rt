@@ -2,8 +2,12 @@
 #![tactic(auto)]
 
 pub mod laws;
+mod link;
+mod living;
+mod livings;
 mod log;
 mod log_stop;
+mod path;
 mod people;
 mod place;
 mod read;
@@ -12,9 +16,13 @@ mod reason;
 mod slots;
 mod stage;
 
+pub use link::Link;
+pub use living::Living;
+pub use livings::Livings;
 pub use log::Log;
 pub use log_lines::{GREATEST_SIDE, LAST_VERSION, LogLine, Stats, read_line, write_line};
 pub use log_stop::LogStop;
+pub use path::Path;
 pub use read::read_log;
 pub use reason::Reason;
 pub use stage::Stage;
