@@ -38,7 +38,7 @@ impl Events {
         self.items.as_slice().get(at)
     }
 
-    pub(crate) fn as_slice(&self) -> &[Event]
+    pub fn as_slice(&self) -> &[Event]
         ensures { result.now ≡ self.now }
     {
         self.items.as_slice()
