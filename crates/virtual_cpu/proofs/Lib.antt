@@ -1,1 +1,3 @@
+pub mod MachineLemmas
+pub mod QuestionLemmas
 pub mod StepLemmas

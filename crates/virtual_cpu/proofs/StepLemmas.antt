@@ -146,7 +146,7 @@ allocating_if-keeps : (test : Bool) (m : Machine) → KeepsLimits m (allocating_
 allocating_if-keeps true m = let k = with_allocation-keeps m in record { made = k.made; limit = k.limit }
 allocating_if-keeps false m = record { made = refl; limit = refl }
 
-effect_of-keeps : (letter : Letter) (m : Machine) (input : ℤ) (copy : Option Letter) → KeepsLimits m (effect_of letter m input copy).0
+pub effect_of-keeps : (letter : Letter) (m : Machine) (input : ℤ) (copy : Option Letter) → KeepsLimits m (effect_of letter m input copy).0
 effect_of-keeps NopA m input copy = record { made = refl; limit = refl }
 effect_of-keeps NopB m input copy = record { made = refl; limit = refl }
 effect_of-keeps NopC m input copy = record { made = refl; limit = refl }

@@ -6,6 +6,7 @@ mod cut;
 mod did;
 mod heads;
 mod instructions;
+pub mod laws;
 mod marks;
 mod registers;
 mod reserved;
