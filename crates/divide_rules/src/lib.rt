@@ -2,6 +2,7 @@
 #![tactic(auto)]
 
 mod ask;
+pub mod laws;
 mod limits;
 mod rule;
 mod verdict;
