@@ -1,14 +1,12 @@
 -- Quotients that rise, and their differences.
-use Rattle.std.proofs.Common.{◌≡◌, ◌∙◌, sym, ap, ℕ, ◌+◌, ◌-◌, ◌*◌, ◌/◌, ◌<◌, ◌≤◌, ◌^◌, ◌==◌, Bool, true, false, List, [], ◌∷◌, ◌++◌, length, take, sum, map, replicate, get_or, arith, refl, cond, inl, inr}
+use Rattle.std.proofs.Common.{ℕ, ◌+◌, ◌*◌, ◌<◌, ◌≤◌, ◌^◌, List, length, take, sum, get_or, arith, inl, inr}
 use Rattle.std.proofs.Math.Nat.{div-mul-le_self, mul-le-mul_left, mul-le-mul, div-le_of_le-mul}
 use Rattle.std.proofs.lemmas.Bool.{cases_lt}
 use Rattle.std.proofs.Math.ListN.{get_or-eq_default}
 use Rattle.std.proofs.lemmas.Nat.{le-div}
-use Rattle.std.proofs.lemmas.List.{get_or-replicate, length-replicate}
 use Rattle.std.proofs.lemmas.List.FromFn.{get_or-map-range_with_len, length-map-range_with_len}
-use Rattle.std.proofs.lemmas.List.Sums.{sum_by-take-le, count_by-le-length}
-use Rattle.std.specs.List.{range_with_len}
-use Rattle.merit_slices.specs.Slices.{quota, steps_before, share_of, shares_of, steps_in, slices_of, living_in}
+use Rattle.std.proofs.lemmas.List.Sums.{sum_by-take-le}
+use Rattle.merit_slices.specs.Slices.{quota, share_of, shares_of}
 
 -- a larger part of the merits gets no less
 pub quota-le-quota : (steps part more all : ℕ) → 0 < all → part ≤ more → quota steps part all ≤ quota steps more all

@@ -1,6 +1,7 @@
 //! The merit of an organism, and the time that it buys.
 #![tactic(auto)]
 
+pub mod laws;
 mod merits;
 mod slices;
 

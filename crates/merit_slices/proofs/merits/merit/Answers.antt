@@ -1,5 +1,5 @@
 use Rattle.std.proofs.Common.{◌≡◌, ◌∙◌, ◌*◌, ◌^◌, ap, arith, min}
-use Rattle.merit_slices.specs.Merit.{exponent_sum, merit_of}
+use Rattle.merit_slices.specs.Merit.{merit_of}
 use Rattle.merit_slices.proofs.MeritLemmas.{shifted, merit_of-le, merit_of-positive}
 use Rattle.merit_slices.proofs.merits.merit.Goals as goal
 

@@ -1,0 +1,16 @@
+ghost use Rattle.std.specs.Prelude.{ℕ, ◌≤◌, Bool, List};
+ghost use Rattle.merit_slices.specs.Merit.{merit_of};
+
+use crate::merits::{GREATEST_LENGTH, GREATEST_MERIT};
+
+/// The merit of a genome's length is within the greatest, and at least 1 where no number is 0.
+pub fn merits_are_bounded()
+    ensures bounded { (genome_length executed copied : ℕ) (tasks : List Bool)
+        → genome_length ≤ GREATEST_LENGTH
+        → merit_of genome_length executed copied tasks ≤ GREATEST_MERIT }
+    ensures positive { (genome_length executed copied : ℕ) (tasks : List Bool)
+        → 1 ≤ genome_length
+        → 1 ≤ executed
+        → 1 ≤ copied
+        → 1 ≤ merit_of genome_length executed copied tasks }
+{}
