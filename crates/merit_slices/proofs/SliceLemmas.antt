@@ -1,12 +1,13 @@
 -- Quotients that rise, and their differences.
-use Rattle.std.proofs.Common.{ℕ, ◌+◌, ◌*◌, ◌<◌, ◌≤◌, ◌^◌, List, length, take, sum, get_or, arith, inl, inr}
+use Rattle.std.proofs.Common.{ℕ, zero, suc, ◌+◌, ◌*◌, ◌<◌, ◌≤◌, ◌^◌, List, length, take, map, sum, get_or, subst, add-one, arith, inl, inr}
 use Rattle.std.proofs.Math.Nat.{div-mul-le_self, mul-le-mul_left, mul-le-mul, div-le_of_le-mul}
 use Rattle.std.proofs.lemmas.Bool.{cases_lt}
 use Rattle.std.proofs.Math.ListN.{get_or-eq_default}
 use Rattle.std.proofs.lemmas.Nat.{le-div}
-use Rattle.std.proofs.lemmas.List.FromFn.{get_or-map-range_with_len, length-map-range_with_len}
-use Rattle.std.proofs.lemmas.List.Sums.{sum_by-take-le}
-use Rattle.merit_slices.specs.Slices.{quota, share_of, shares_of}
+use Rattle.std.proofs.lemmas.List.FromFn.{get_or-map-range_with_len, length-map-range_with_len, sum_by-map-range_with_len_more}
+use Rattle.std.proofs.lemmas.List.Sums.{sum_by-take-le, sum_by_more}
+use Rattle.std.specs.List.{range_with_len}
+use Rattle.merit_slices.specs.Slices.{quota, steps_before, share_of, shares_of}
 
 -- a larger part of the merits gets no less
 pub quota-le-quota : (steps part more all : ℕ) → 0 < all → part ≤ more → quota steps part all ≤ quota steps more all
@@ -33,3 +34,17 @@ shares_of-few merits steps cell =
 -- all steps are few
 pub steps-few : (average living : ℕ) → average ≤ 1000 → living ≤ 65536 → average * living < 2 ^ 27
 steps-few average living few cells = omega (arith, mul-le-mul few cells)
+
+-- the shares of the first cells are together no more than the steps before the next one
+sum-shares-le : (merits : List ℕ) (steps n : ℕ) → 0 < sum merits → n ≤ length merits → sum (map (share_of merits steps) (range_with_len 0 n)) ≤ steps_before merits steps n
+sum-shares-le merits steps zero some within = omega arith
+sum-shares-le merits steps (suc n) some within =
+    let more = sum_by_more (λ x. x) merits n 0 (omega arith) in
+    let rises : steps_before merits steps n ≤ steps_before merits steps (n + 1) = quota-le-quota steps (sum (take n merits)) (sum (take (n + 1) merits)) (sum merits) some (omega (arith, more)) in
+    let one = sum_by-map-range_with_len_more (λ x. x) (share_of merits steps) 0 n n (omega arith) in
+    let all : sum (map (share_of merits steps) (range_with_len 0 (n + 1))) ≤ steps_before merits steps (n + 1) = omega (arith, one, sum-shares-le merits steps n some (omega arith), rises) in
+    subst (λ (k : ℕ). sum (map (share_of merits steps) (range_with_len 0 k)) ≤ steps_before merits steps k) (add-one n) all
+
+-- all shares are together no more than all steps
+pub sum-shares_of-le : (merits : List ℕ) (steps : ℕ) → 0 < sum merits → sum (shares_of merits steps) ≤ steps
+sum-shares_of-le merits steps some = omega (arith, sum-shares-le merits steps (length merits) some (omega arith), quota-le steps (sum (take (length merits) merits)) (sum merits) (sum_by-take-le (λ x. x) merits (length merits)))

@@ -1,5 +1,5 @@
 // How the time of an update is shared.
-ghost use Rattle.std.specs.Prelude.{◌≡◌, ◌+◌, ◌<◌, ◌≤◌, ◌^◌, ℕ, sum, length, slice_index_or};
+ghost use Rattle.std.specs.Prelude.{◌≡◌, ◌+◌, ◌*◌, ◌<◌, ◌≤◌, ◌^◌, ℕ, sum, length, slice_index_or};
 ghost use Rattle.merit_slices.specs.Slices.{living_in, quota, shares_of, slices_of};
 
 /// The greatest average of slices.
@@ -17,6 +17,7 @@ pub fn share(merits: &[u64], average: u32, out: &mut [u64])
     requires average { average ≤ GREATEST_AVERAGE }
     ensures slices { out.new ≡ slices_of merits.now average }
     ensures few { (cell : ℕ) → slice_index_or out.new cell 0 < 2 ^ 27 }
+    ensures total { sum out.new ≤ average * length merits.now }
 {
     let all: u64 = merits.iter().sum();
     if all == 0 {
