@@ -5,7 +5,7 @@ ghost use Rattle.merit_slices.specs.declared.merits.TheConstants.{GREATEST_MERIT
 ghost use Rattle.mutations.specs.BirthRecord.{record_of};
 ghost use Rattle.random_streams.specs.RandomStream.{word_of};
 ghost use Rattle.organism.specs.Life.{IsDivide, IsChildOf, OnViable};
-ghost use Rattle.organism.specs.Newborns.{newborns_in, MeritsFit};
+ghost use Rattle.organism.specs.Newborns.{newborns_in, MeritsFit, LengthsFit};
 ghost use Rattle.organism.specs.UpdateLife.{life_state, copy_drawn, after_copy, birth_record, child_letters, after_child, after_outcome, after_step, is_old, life};
 
 use crate::outcome::Outcome;
@@ -49,6 +49,7 @@ impl Organism {
         ensures age { OnOk result (self.new.age ≤ self.old.age + slices) }
         ensures merit { OnOk result (self.old.merit ≤ GREATEST_MERIT → self.new.merit ≤ GREATEST_MERIT) }
         ensures merits { OnOk result (MeritsFit (newborns_in births.new)) }
+        ensures lengths { OnOk result (LengthsFit settings.now.rules.greatest (newborns_in births.new)) }
     {
         for step in 0..slices {
             self.live(alloc, settings, draws, births)?;
@@ -85,6 +86,8 @@ impl Organism {
         ensures age { OnOk result (self.new.age ≤ self.old.age + 1) }
         ensures merit { OnOk result (self.old.merit ≤ GREATEST_MERIT → self.new.merit ≤ GREATEST_MERIT) }
         ensures merits { OnOk result (MeritsFit (newborns_in births.old) → MeritsFit (newborns_in births.new)) }
+        ensures lengths { OnOk result (LengthsFit settings.now.rules.greatest (newborns_in births.old)
+            → LengthsFit settings.now.rules.greatest (newborns_in births.new)) }
     {
         let copy = self.draw_copy(&settings.rates, draws);
         let outcome = self.life_step(copy, &settings.rules);
@@ -127,6 +130,8 @@ impl Organism {
         ensures age { OnOk result (self.new.age ≤ self.old.age) }
         ensures merit { OnOk result (self.old.merit ≤ GREATEST_MERIT → self.new.merit ≤ GREATEST_MERIT) }
         ensures merits { OnOk result (MeritsFit (newborns_in births.old) → MeritsFit (newborns_in births.new)) }
+        ensures lengths { OnOk result (LengthsFit settings.now.rules.greatest (newborns_in births.old)
+            → LengthsFit settings.now.rules.greatest (newborns_in births.new)) }
     {
         match outcome {
             Outcome::Nothing => Ok(()),
@@ -158,6 +163,8 @@ impl Organism {
         ensures age { OnOk result (self.new.age ≤ self.old.age) }
         ensures merit { OnOk result (self.new.merit ≤ GREATEST_MERIT) }
         ensures merits { OnOk result (MeritsFit (newborns_in births.old) → MeritsFit (newborns_in births.new)) }
+        ensures lengths { OnOk result (LengthsFit settings.now.rules.greatest (newborns_in births.old)
+            → LengthsFit settings.now.rules.greatest (newborns_in births.new)) }
     {
         let nth = births.len() as u32;
         let Born { genome, origin } = self.child(alloc, ask, settings, draws)?;
@@ -187,6 +194,7 @@ impl Organism {
             ≡ birth_record settings.now (word_of draws.old) draws.old.taken self.now ask.now) }
         ensures genome { IfOk result (λ born. letters born.genome
             ≡ child_letters settings.now (word_of draws.old) draws.old.taken self.now ask.now) }
+        ensures longest { IfOk result (λ born. length (letters born.genome) ≤ settings.now.rules.greatest) }
         ensures stream { OnOk result (draws.new ≡ record draws.old {
           taken = after_child settings.now (word_of draws.old) draws.old.taken self.now ask.now;
         }) }

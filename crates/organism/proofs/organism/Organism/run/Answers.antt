@@ -1,6 +1,7 @@
 use Rattle.std.proofs.Common.{arith, ◌+◌, ◌≡◌, ◌≤◌, ap, refl, sym, ◌∙◌, true, false, length}
 use Rattle.std.proofs.lemmas.List.Elements.{All-nil, All-same}
 use Rattle.merit_slices.specs.declared.merits.TheConstants.{GREATEST_MERIT}
+use Rattle.genome.specs.Genome.{letters}
 use Rattle.random_streams.specs.RandomStream.{Stream, word_of}
 use Rattle.organism.specs.declared.ran.Ran.TheVariants.{Died}
 use Rattle.organism.specs.UpdateLife.{LifeState, life_state, state_after, dies_at}
@@ -20,6 +21,7 @@ loop-step-init c =
       age = omega arith;
       merit = λ h. h;
       merits = All-same (λ newborn. newborn.merit ≤ GREATEST_MERIT) _ _ c.requires.no_births (All-nil (λ newborn. newborn.merit ≤ GREATEST_MERIT));
+      lengths = All-same (λ newborn. length (letters newborn.genome) ≤ c.args.settings.now.rules.greatest) _ _ c.requires.no_births (All-nil (λ newborn. length (letters newborn.genome) ≤ c.args.settings.now.rules.greatest));
     }
 
 -- the state after the step, by the words of the stream at its start
@@ -49,4 +51,5 @@ loop-step-preserved c =
       age = omega (arith, c.in_ok-live.ensures.age);
       merit = λ h. c.in_ok-live.ensures.merit (c.loop-step.invariant.merit h);
       merits = c.in_ok-live.ensures.merits c.loop-step.invariant.merits;
+      lengths = c.in_ok-live.ensures.lengths c.loop-step.invariant.lengths;
     }

@@ -3,7 +3,7 @@ use Rattle.std.specs.List.{find, range_with_len}
 use Rattle.merit_slices.specs.declared.merits.TheConstants.{GREATEST_MERIT}
 use Rattle.random_streams.specs.RandomStream.{word_of}
 use Rattle.organism.specs.declared.running.TheConstants.{STEP_WORDS}
-use Rattle.organism.specs.Newborns.{newborns_in, MeritsFit}
+use Rattle.organism.specs.Newborns.{newborns_in, MeritsFit, LengthsFit}
 use Rattle.organism.specs.UpdateLife.{life_state, state_after, dies_at, death_in}
 use Rattle.organism.proofs.organism.Organism.run.Given as goal
 
@@ -20,4 +20,5 @@ invariant-loop-step l =
       age : l.self.age ≤ l.initial.self.age + l.step;
       merit : l.initial.self.merit ≤ GREATEST_MERIT → l.self.merit ≤ GREATEST_MERIT;
       merits : MeritsFit (newborns_in l.births);
+      lengths : LengthsFit l.settings.rules.greatest (newborns_in l.births);
     }
