@@ -13,6 +13,7 @@ pub mod Scene
 pub mod Update
 pub mod WorldRun
 pub mod Statistics
+pub mod Descent
 pub mod Picture
 pub mod LogText
 pub mod Laws
