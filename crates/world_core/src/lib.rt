@@ -11,6 +11,7 @@ mod founding;
 mod lives;
 mod occupant;
 mod scene;
+mod settings;
 mod updating;
 mod world;
 
