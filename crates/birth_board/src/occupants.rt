@@ -30,6 +30,12 @@ impl Occupants {
         })
     }
 
+    pub fn from_vec(ids: Vec<Option<u64>>) -> Occupants
+        ensures { result ≡ ids.items }
+    {
+        Occupants { ids }
+    }
+
     /// None exactly where nothing stands in the cell.
     pub fn at(&self, cell: u32) -> Option<u64>
         requires { cell < length self.now }

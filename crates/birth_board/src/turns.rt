@@ -38,6 +38,7 @@ pub fn place(
         ≡ (placements_of torus.now parents.now occupants.old season.now).occupants) }
     ensures err { OnErr result (occupants.new ≡ occupants.old) }
     ensures count { IfOk result (λ placings. length placings ≡ length parents.now) }
+    ensures in_torus { IfOk result (λ placings. All (λ placing. placing.cell < cells_of torus.now) placings) }
     ensures cells { length occupants.new ≡ cells_of torus.now }
 {
     let mut placings = Vec::with_capacity(alloc, parents.len())?;
@@ -65,6 +66,7 @@ fn place_all(
     ensures occupants { occupants.new
         ≡ (placements_of torus.now parents.now occupants.old season.now).occupants }
     ensures count { length placings.new.items ≡ length parents.now }
+    ensures in_torus { All (λ placing. placing.cell < cells_of torus.now) placings.new.items }
     ensures cells { length occupants.new ≡ cells_of torus.now }
 {
     let mut id = season.next_id;
@@ -120,6 +122,7 @@ fn place_one(
     ensures placing { result ≡ placing_of torus.now prefer_empty occupants.old id parent
         (word_of draws.old draws.old.taken ∷ word_of draws.old (draws.old.taken + 1)
         ∷ word_of draws.old (draws.old.taken + 2) ∷ word_of draws.old (draws.old.taken + 3) ∷ []) }
+    ensures in_torus { result.cell < cells_of torus.now }
     ensures occupants { occupants.new ≡ slice_set occupants.old result.cell (Some result.id) }
     ensures cells { length occupants.new ≡ cells_of torus.now }
     ensures draws { draws.new ≡ after 4 draws.old }

@@ -1,7 +1,10 @@
 use Rattle.std.proofs.Common.{◌≡◌, ◌∙◌, sym, ap, ◌+◌, ◌*◌, ◌<◌, ◌≤◌, ◌==◌, length, take, count_by, get_or, arith, length-take, length-append, [], ◌∷◌}
 use Rattle.std.proofs.lemmas.List.{length-set, take_all}
+use Rattle.std.proofs.lemmas.List.Elements.{All-push, All-same}
 use Rattle.random_streams.specs.RandomStream.{after}
 use Rattle.std.proofs.lemmas.List.Sums.{count_by_more_yes, count_by_more_no}
+use Rattle.birth_board.specs.declared.placing.Placing.{Placing}
+use Rattle.birth_board.specs.Torus.{cells_of}
 use Rattle.birth_board.specs.Placement.{place_stream, placements_of}
 use Rattle.birth_board.proofs.PlacementLemmas.{board_after, board-parents, board_after-more, words-taken, placing-next, next_board-occupants, next_board-placings, eqb-below, eqb-self}
 use Rattle.birth_board.proofs.turns.place_all.Goals as goal
@@ -26,6 +29,7 @@ loop-parent-preserved c =
     let more = board_after-more torus season c.args.occupants.now parents i within in
     let counted : count_by (λ p. p == parent) (take (i + 1) parents) ≡ count_by (λ p. p == parent) before + 1 = count_by_more_yes (λ p. p == parent) parents i 0 within (eqb-self parent) in
     let words : 4 * count_by (λ p. p == parent) before + 4 ≡ 4 * count_by (λ p. p == parent) (take (i + 1) parents) = omega arith in
+    let in_torus : Placing → Type 0 = λ placing. placing.cell < cells_of torus in
     record {
       stream = c.place_one-placing.ensures.draws ∙ ap (after 4) stream ∙ ap (place_stream season parent) words ∙ ap (λ q. place_stream season q (4 * count_by (λ p. p == q) (take (i + 1) parents))) (sym c.turn_to-turn.ensures.cell);
       later = λ q above.
@@ -38,6 +42,7 @@ loop-parent-preserved c =
       count = omega (arith, ap length c.push_reserved.ensures.items, length-append c.loop-parent.placings.items (c.place_one-placing.result ∷ []));
       room = omega (arith, c.push_reserved.ensures.capacity);
       cells = ap length c.place_one-placing.ensures.occupants ∙ length-set c.loop-parent.occupants _ _ ∙ c.loop-parent.invariant.cells;
+      in_torus = All-same in_torus _ _ c.push_reserved.ensures.items (All-push in_torus c.loop-parent.placings.items c.place_one-placing.result c.loop-parent.invariant.in_torus c.place_one-placing.ensures.in_torus);
     }
 
 pub returns-clause-placings : goal.returns-clause-placings

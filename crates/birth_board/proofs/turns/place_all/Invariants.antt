@@ -1,4 +1,4 @@
-use Rattle.std.proofs.Common.{◌≡◌, ℕ, ◌+◌, ◌*◌, ◌<◌, ◌≤◌, ◌==◌, length, take, count_by, slice_index_or, vec_capacity}
+use Rattle.std.proofs.Common.{◌≡◌, ℕ, ◌+◌, ◌*◌, ◌<◌, ◌≤◌, ◌==◌, length, take, count_by, slice_index_or, vec_capacity, All}
 use Rattle.birth_board.specs.Torus.{cells_of}
 use Rattle.birth_board.specs.Placement.{place_stream}
 use Rattle.birth_board.proofs.PlacementLemmas.{board_after}
@@ -16,4 +16,5 @@ invariant-loop-parent l = record {
   count : length l.placings.items ≡ l.parent-index;
   room : length l.parents ≤ vec_capacity l.placings;
   cells : length l.occupants ≡ cells_of l.torus;
+  in_torus : All (λ placing. placing.cell < cells_of l.torus) l.placings.items;
 }
