@@ -11,7 +11,7 @@ use Rattle.lineage_log.specs.declared.reason.Reason.TheVariants.{BadOrder}
 use Rattle.lineage_log.specs.declared.stage.Stage.TheVariants.{Dying, Placing, Happening}
 use Rattle.lineage_log.specs.Slots.{holds, taken}
 use Rattle.lineage_log.specs.Reader.{Reader, may_die, may_be_born, is_quiet, parent_in, with_newcomer, with_death}
-use Rattle.lineage_log.specs.Order.{Place, Before, Within, After, within_if, opened, renewed, with_child, with_parent, after_start, after_death, after_birth, after_injected, after_cleared, after_rate, after_count, after_end, told, told_within, and_on, told_all, IsWhole}
+use Rattle.lineage_log.specs.Order.{Place, Before, Within, After, within_if, opened, renewed, with_child, with_parent, after_start, after_death, after_birth, after_injected, after_cleared, after_rate, after_count, after_end, told_within, and_on, told_all, IsWhole}
 use Rattle.lineage_log.specs.LogGrammar.{IsGoodLog}
 use Rattle.lineage_log.specs.Upgrade.{newer, upgraded}
 use Rattle.lineage_log.proofs.LogLaws.{went_on, whole_is, place_is}

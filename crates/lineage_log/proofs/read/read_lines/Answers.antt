@@ -1,8 +1,8 @@
-use Rattle.std.proofs.Common.{◌≡◌, ◌∙◌, ◌∷◌, ◌++◌, [], ℕ, List, Option, Some, None, Result, Ok, Err, Bor, sym, ap, subst}
+use Rattle.std.proofs.Common.{◌≡◌, ◌∙◌, ◌∷◌, ◌++◌, [], ℕ, List, Option, Some, Result, Err, Bor, sym, ap, subst}
 use Rattle.std.specs.Prelude.{◌==◌, option_copied, option_map}
 use Rattle.std.specs.List.{slice_split}
 use Rattle.std.proofs.lemmas.List.{map-append}
-use Rattle.log_lines.specs.Line.{Line, values_of}
+use Rattle.log_lines.specs.Line.{values_of}
 use Rattle.log_lines.specs.LineReading.{line_of}
 use Rattle.log_lines.specs.Words.{pieces_of}
 use Rattle.lineage_log.specs.Order.{told}

@@ -1,4 +1,4 @@
-use Rattle.std.proofs.Common.{◌≡◌, ◌∙◌, List, Option, None, ap, set, option_map}
+use Rattle.std.proofs.Common.{◌∙◌, List, Option, None, ap, set, option_map}
 use Rattle.std.proofs.lemmas.List.{map-set}
 use Rattle.instruction_set.specs.declared.letter.Letter.{Letter}
 use Rattle.genome.specs.declared.genome.Genome.{Genome}
