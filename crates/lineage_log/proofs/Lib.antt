@@ -1,3 +1,4 @@
 pub mod LogLaws
 pub mod ReadLemmas
 pub mod UpgradeLemmas
+pub mod ReplayLemmas

@@ -13,3 +13,4 @@ pub mod LogGrammar
 pub mod LogValues
 pub mod Upgrade
 pub mod Replay
+pub mod Residents

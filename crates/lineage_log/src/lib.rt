@@ -13,6 +13,7 @@ mod place;
 mod read;
 mod reader;
 mod reason;
+mod residents;
 mod slots;
 mod stage;
 
@@ -25,4 +26,5 @@ pub use log_stop::LogStop;
 pub use path::Path;
 pub use read::read_log;
 pub use reason::Reason;
+pub use residents::replay;
 pub use stage::Stage;

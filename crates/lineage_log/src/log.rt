@@ -35,6 +35,13 @@ impl Log {
         Log { lines }
     }
 
+    pub(crate) fn lines(&self) -> &[LogLine]
+        ensures values { lines_of result.now ≡ self.now }
+        ensures good { IsGoodLog (lines_of result.now) }
+    {
+        self.lines.as_slice()
+    }
+
     pub fn into_vec(self) -> Vec<LogLine>
         ensures { lines_of result.items ≡ self }
     {

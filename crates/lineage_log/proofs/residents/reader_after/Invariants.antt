@@ -1,0 +1,8 @@
+use Rattle.std.proofs.Common.{◌≡◌, drop}
+use Rattle.lineage_log.specs.LogValues.{lines_of}
+use Rattle.lineage_log.specs.Order.{Before, told_all}
+use Rattle.lineage_log.specs.Places.{place_of}
+use Rattle.lineage_log.proofs.residents.reader_after.Given as goal
+
+abbrev pub invariant-loop-line : goal.invariant-loop-line
+invariant-loop-line l = told_all (place_of l.place) (lines_of (drop l.line-index l.lines)) ≡ told_all Before (lines_of l.lines)

@@ -1,0 +1,115 @@
+// Who lives at the end of a log.
+ghost use Rattle.std.specs.Prelude.{◌≡◌, ◌≤◌, ◌∷◌, [], Some, Ok, IfOk, IsSome, length, map, option_and_then, slice_get};
+ghost use Rattle.lineage_log.specs.LogGrammar.{IsGoodLog};
+ghost use Rattle.lineage_log.specs.LogValues.{lines_of};
+ghost use Rattle.lineage_log.specs.Order.{After, Before, told_all};
+ghost use Rattle.lineage_log.specs.Readings.{reader_of};
+ghost use Rattle.lineage_log.specs.Replay.{replay_of, resident_at, residents_from};
+ghost use Rattle.lineage_log.specs.Residents.{EachIsKept, kept_genomes, resident_of};
+
+use crate::living::Living;
+use crate::livings::Livings;
+use crate::log::Log;
+use crate::place::{Place, tell};
+use crate::reader::Reader;
+use avida_port::Memory;
+use log_lines::LogLine;
+use std::alloc::Global;
+
+/// The organisms that live at the end of a log, in order of cells.
+pub fn replay(alloc: Global, log: &Log) -> Result<Livings, Memory>
+    ensures { IfOk result (λ livings. map resident_of livings ≡ replay_of log.now) }
+{
+    let reader = reader_after(alloc, log.lines())?;
+    living_in(alloc, &reader)
+}
+
+fn reader_after(alloc: Global, lines: &[LogLine]) -> Result<Reader, Memory>
+    requires { IsGoodLog (lines_of lines.now) }
+    ensures { IfOk result (λ reader. told_all Before (lines_of lines.now) ≡ Ok (After (reader_of reader))) }
+{
+    let mut place = Place::Before;
+    for line in lines {
+        match tell(alloc, place, line)? {
+            Ok(next) => place = next,
+            Err(_) => unreachable!(),
+        }
+    }
+    match place {
+        Place::After(reader) => Ok(reader),
+        _ => unreachable!(),
+    }
+}
+
+fn living_in(alloc: Global, reader: &Reader) -> Result<Livings, Memory>
+    requires kept { EachIsKept reader.now.standing reader.now.people }
+    requires few { length reader.now.standing ≤ 65536 }
+    ensures { IfOk result (λ livings. map resident_of livings
+        ≡ residents_from 0 reader.now.standing (kept_genomes reader.now.people)) }
+{
+    let mut livings = Vec::new(alloc);
+    for cell in 0..reader.standing.cells() {
+        if let Some(id) = reader.standing.get(cell) {
+            livings.push(living_at(alloc, reader, cell as u32, id)?)?;
+        }
+    }
+    Ok(Livings::from_vec(livings))
+}
+
+/// Who stands in a cell, with a genome of its own.
+fn living_at(alloc: Global, reader: &Reader, cell: u32, id: u64) -> Result<Living, Memory>
+    requires { IsSome (option_and_then (λ found. found) (slice_get reader.now.people id)) }
+    ensures { IfOk result (λ living. resident_of living ∷ []
+        ≡ resident_at cell (Some id) (kept_genomes reader.now.people) []) }
+{
+    let genome = reader.people.get(id).unwrap().copy(alloc)?;
+    Ok(Living { cell, id, genome })
+}
+
+#[cfg(test)]
+mod tests {
+    use super::*;
+    use crate::read::read_log;
+    use genome::letters_text;
+    use std::test::Fail;
+
+    fn text_of(alloc: Global, livings: Livings) -> Result<Vec<u8>, Fail> {
+        let mut out = Vec::new(alloc);
+        for living in &livings.into_vec() {
+            let place = format!(in alloc; "{} {} ", living.cell, living.id)?;
+            out.extend_from_slice(place.as_bytes())?;
+            letters_text(&living.genome, &mut out)?;
+            out.push(b'\n')?;
+        }
+        Ok(out)
+    }
+
+    #[test]
+    fn who_lives_at_the_end_has_the_genome_of_its_line(rt: HostRuntime) -> Result<(), Fail> {
+        let alloc = rt.alloc();
+        for (log, living) in [
+            ("L 2 3 1 1 aaaaaaaa\nE 0\n", "1 0 aaaaaaaa\n"),
+            (
+                "L 1 1 1 0 aaaaaaaa\nB 1 0 1 0 0 = -\nB 2 0 1 0 1 = p0b\nU 1 1 2 2 1 8 0 0 0 0 0 0 0 0 0\nE 1\n",
+                "0 2 baaaaaaa\n",
+            ),
+            (
+                "L 1 2 1 0 aaaaaaaa\nB 1 0 1 1 - = p0b\nU 1 2 1 0 2 8 0 0 0 0 0 0 0 0 0\nB 2 1 2 0 0 = p7c\nU 2 2 1 1 2 8 0 0 0 0 0 0 0 0 0\nE 2\n",
+                "0 2 baaaaaac\n1 1 baaaaaaa\n",
+            ),
+            (
+                "L 2 1 1 0 aaaaaaaa\nI 1 1 0 0 bbbbbbbb\nU 1 1 0 1 1 8 0 0 0 0 0 0 0 0 0\nU 2 1 0 0 1 8 0 0 0 0 0 0 0 0 0\nE 2\n",
+                "0 1 bbbbbbbb\n",
+            ),
+            (
+                "L 2 1 1 0 aaaaaaaa\nX 0 1 0\nU 1 0 0 1 0 0 0 0 0 0 0 0 0 0 0\nE 1\n",
+                "",
+            ),
+        ] {
+            let log = read_log(alloc, log.as_bytes())?;
+            let bytes = text_of(alloc, replay(alloc, &log)?)?;
+            assert_eq!(rt; bytes.as_slice(), living.as_bytes());
+        }
+        Ok(())
+    }
+}
