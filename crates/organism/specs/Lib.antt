@@ -5,6 +5,7 @@ pub mod TraceRules
 pub mod TracedStep
 pub mod Newborns
 pub mod UpdateLife
+pub mod Lived
 pub use Rattle.genome.specs.Genome
 pub use Rattle.virtual_cpu.specs.Machine
 pub use Rattle.virtual_cpu.specs.Step

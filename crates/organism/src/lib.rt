@@ -2,6 +2,7 @@
 #![tactic(auto)]
 
 mod births;
+pub mod laws;
 mod newborn;
 mod organism;
 mod outcome;

@@ -1,0 +1,43 @@
+-- What holds of an organism through its life, and of its newborns (docs/WORLD.md, "The life of one update").
+use Rattle.std.specs.Prelude.{◌≡◌, ℕ, ◌+◌, ◌≤◌, List, [], length, Ok}
+use Rattle.std.specs.List.{All}
+use Rattle.instruction_set.specs.declared.letter.Letter.{Letter}
+use Rattle.genome.specs.Genome.{IsGenome}
+use Rattle.divide_rules.specs.declared.limits.DivideRules.{DivideRules}
+use Rattle.merit_slices.specs.declared.merits.TheConstants.{GREATEST_MERIT}
+use Rattle.mutations.specs.BirthRecord.{child_of}
+use Rattle.mutations.specs.RecordForm.{HasRecordForm}
+use Rattle.virtual_cpu.specs.Machine.{IsMachine}
+use Rattle.organism.specs.declared.settings.Settings.{Settings}
+use Rattle.organism.specs.OrganismState.{OrganismState, IsOrganism}
+use Rattle.organism.specs.Newborns.{NewbornValue}
+use Rattle.organism.specs.UpdateLife.{LifeState}
+
+-- an organism with a genome and a machine, all of whose numbers are in range
+pub record IsSoundOrganism (o : OrganismState) : Type 0 where
+  pub organism : IsOrganism o
+  pub machine : IsMachine o.machine
+  pub genome : IsGenome o.genome
+  pub merit : o.merit ≤ GREATEST_MERIT
+
+-- a newborn with merit, which its record makes of this genome, and whose record a log can write
+pub record IsBornOf (parent : List Letter) (rules : DivideRules) (newborn : NewbornValue) : Type 0 where
+  pub child : child_of parent newborn.origin ≡ Ok newborn.genome
+  pub form : HasRecordForm newborn.origin
+  pub least : rules.least ≤ length newborn.genome
+  pub greatest : length newborn.genome ≤ rules.greatest
+  pub some_merit : 1 ≤ newborn.merit
+  pub merit : newborn.merit ≤ GREATEST_MERIT
+
+-- a life before its first step and its first word
+abbrev pub beginning : OrganismState → LifeState
+beginning o = record { organism = o; newborns = []; next = 0 }
+
+-- what a life of at most so many steps made of an organism
+pub record HasLived (settings : Settings) (start : OrganismState) (steps : ℕ) (now : LifeState) : Type 0 where
+  pub sound : IsSoundOrganism now.organism
+  pub genome : now.organism.genome ≡ start.genome
+  pub inputs : now.organism.inputs ≡ start.inputs
+  pub age : now.organism.age ≤ start.age + steps
+  pub few : length now.newborns ≤ steps
+  pub newborns : All (IsBornOf start.genome settings.rules) now.newborns

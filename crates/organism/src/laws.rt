@@ -1,0 +1,37 @@
+ghost use Rattle.std.specs.Prelude.{ℕ, ◌<◌, ◌≤◌, ◌^◌, Bool, List, length};
+ghost use Rattle.instruction_set.specs.declared.letter.Letter.{Letter};
+ghost use Rattle.genome.specs.Genome.{IsGenome};
+ghost use Rattle.organism.specs.OrganismState.{OrganismState, new_organism};
+ghost use Rattle.organism.specs.UpdateLife.{life};
+ghost use Rattle.organism.specs.Lived.{IsSoundOrganism, beginning, HasLived};
+
+use crate::Settings;
+use genome::GREATEST_LENGTH;
+use merit_slices::GREATEST_MERIT;
+
+/// A life leaves a sound organism sound, whatever the words are, and its newborns are made by their records.
+pub fn lives_are_sound()
+    ensures { (settings : Settings) (words : ℕ → ℕ) (start : OrganismState) (steps : ℕ)
+        → ((k : ℕ) → words k < 2 ^ 32)
+        → IsSoundOrganism start
+        → HasLived settings start steps (life settings words (beginning start) steps).0 }
+{
+    divide_rules::laws::viable_divides_keep_the_rules();
+    merit_slices::laws::merits_are_bounded();
+    mutations::laws::drawn_records_apply();
+    mutations::laws::drawn_records_have_form();
+    virtual_cpu::laws::steps_leave_machines();
+    virtual_cpu::laws::texts_start_machines();
+}
+
+/// A new organism is sound.
+pub fn new_organisms_are_sound()
+    ensures { (letters : List Letter) (inputs : List ℕ) (merit : ℕ) (credited : List Bool) (limit : ℕ)
+        → IsGenome letters
+        → length letters ≤ limit
+        → limit ≤ GREATEST_LENGTH
+        → merit ≤ GREATEST_MERIT
+        → IsSoundOrganism (new_organism letters inputs merit credited limit) }
+{
+    virtual_cpu::laws::texts_start_machines();
+}
