@@ -1,20 +1,26 @@
 // Founders: the configuration's own, and those that events inject.
-ghost use Rattle.std.specs.Prelude.{◌≡◌, ◌*◌, ◌<◌, ◌≤◌, [], IfOk, length};
+ghost use Rattle.std.specs.Prelude.{◌≡◌, ◌+◌, ◌*◌, ◌^◌, ◌<◌, ◌≤◌, [], None, IfOk, length, replicate};
 ghost use Rattle.genome.specs.Genome.{letters};
+ghost use Rattle.logic_tasks.specs.Inputs.{inputs_of};
+ghost use Rattle.random_streams.specs.RandomStream.{after};
 ghost use Rattle.world_config.specs.Shown.{values_of};
-ghost use Rattle.world_rules.specs.World.{founder_of, founded};
+ghost use Rattle.world_rules.specs.World.{founder_of, founder_words, founded};
 ghost use Rattle.world_rules.specs.Update.{world_of};
 
+use crate::ancestor::Ancestor;
+use crate::occupant::Occupant;
 use crate::scene::Scene;
 use avida_port::Memory;
 use genome::Genome;
+use logic_tasks::{Inputs, Tasks};
 use organism::Organism;
-use random_streams::CELLS;
+use random_streams::{CELLS, Draws, Purpose};
 use std::alloc::Global;
 use std::sync::Arc;
 use world_config::Config;
 
 /// Founder number `nth` of a run, in this cell.
+#[tactic(auto, unfolding(world_rules::specs::World::founder_of))]
 pub(crate) fn founder(
     alloc: Global,
     config: &Config,
@@ -28,17 +34,78 @@ pub(crate) fn founder(
     ensures { IfOk result (λ organism.
         organism ≡ founder_of (values_of config.now) cell nth (letters genome.value)) }
 {
-    let _ = (alloc, config, cell, nth, genome);
-    Err(Memory)
+    let inputs = founder_inputs(config.seed, cell, nth);
+    let merit = u64::from(genome.len());
+    Organism::found(
+        alloc,
+        genome,
+        inputs,
+        merit,
+        Tasks::none(),
+        config.memory_limit,
+    )
+}
+
+/// The inputs of founder number `nth`, by three words of update 0.
+fn founder_inputs(seed: u64, cell: u32, nth: u32) -> Inputs
+    requires cell { cell < CELLS }
+    requires nth { nth ≤ 1000 }
+    ensures { result ≡ inputs_of (founder_words seed cell nth) }
+{
+    let mut draws = Draws::start(seed, 0, cell, Purpose::Place);
+    pass_over(&mut draws, 3 * nth);
+    let first = draws.word();
+    let second = draws.word();
+    let third = draws.word();
+    Inputs::of([first, second, third])
+}
+
+/// Takes so many words, for others.
+fn pass_over(draws: &mut Draws, words: u32)
+    requires { draws.old.taken + words < 2 ^ 48 }
+    ensures { draws.new ≡ after words draws.old }
+{
+    for _ in 0..words {
+        draws.word();
+    }
 }
 
 /// The scene of update 0: the configuration's founder alone.
+#[tactic(auto, unfolding(world_rules::specs::World::founded, world_rules::specs::World::founder_of, world_rules::specs::Scene::with_newcomer, organism::specs::OrganismState::new_organism))]
 pub(crate) fn first_scene(alloc: Global, config: &Config) -> Result<Scene, Memory>
     ensures world { IfOk result (λ scene. world_of scene ≡ founded (values_of config.now)) }
     ensures size { IfOk result (λ scene. length scene.cells ≡ config.now.width * config.now.height) }
     ensures nobody { IfOk result (λ scene. scene.gone ≡ []) }
     ensures one { IfOk result (λ scene. length scene.everyone ≡ 1) }
 {
-    let _ = (alloc, config);
-    Err(Memory)
+    let genome = Arc::new(alloc, config.ancestor.copy(alloc)?)?;
+    let cell = config.founder_cell;
+    let organism = founder(alloc, config, cell, 0, genome.clone()?)?;
+    let mut scene = Scene {
+        update: 0,
+        cells: empty_cells(alloc, config.width * config.height)?,
+        everyone: Vec::new(alloc),
+        gone: Vec::new(alloc),
+    };
+    let ancestor = Ancestor {
+        id: 0,
+        parent: None,
+        update: 0,
+        cell,
+        origin: None,
+        genome,
+    };
+    scene.come(ancestor, organism)?;
+    Ok(scene)
+}
+
+/// So many cells in which nobody stands.
+fn empty_cells(alloc: Global, count: u32) -> Result<Vec<Option<Occupant>>, Memory>
+    ensures { IfOk result (λ cells. cells.items ≡ replicate count None) }
+{
+    let mut cells = Vec::with_capacity(alloc, count as usize)?;
+    for _ in 0..count {
+        cells.push(None)?;
+    }
+    Ok(cells)
 }
