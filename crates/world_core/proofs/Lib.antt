@@ -1,1 +1,2 @@
 pub mod SoundLemmas
+mod SettingsLemmas

@@ -1,10 +1,85 @@
 // What a configuration sets for an update.
-ghost use Rattle.std.specs.Prelude.{◌≡◌};
+ghost use Rattle.std.specs.Prelude.{◌≡◌, ◌≤◌};
+ghost use Rattle.mutations.specs.Rates.{numbers_of};
+ghost use Rattle.random_streams.specs.declared.draws.TheConstants.{MILLION};
 ghost use Rattle.world_config.specs.Shown.{values_of};
-ghost use Rattle.world_rules.specs.Settings.{season_at, torus_of};
+ghost use Rattle.world_rules.specs.Settings.{first_rates, with_rate, rates_at, rules_of, settings_at, season_at, torus_of};
 
 use birth_board::{Season, Torus};
-use world_config::Config;
+use divide_rules::DivideRules;
+use mutations::{RateName, Rates};
+use organism::Settings;
+use world_config::{Config, What};
+
+/// What a life in an update needs to know of its world.
+#[tactic(auto, unfolding(world_rules::specs::Settings::settings_at))]
+pub(crate) fn settings_at(config: &Config, update: u32) -> Settings
+    ensures { result ≡ settings_at (values_of config.now) update }
+{
+    Settings {
+        rates: rates_at(config, update),
+        rules: rules_of(config),
+        death: config.death,
+        age_limit: config.age_limit,
+        memory_limit: config.memory_limit,
+    }
+}
+
+/// The rates at the keys, changed by the rate events of earlier updates in order.
+#[tactic(auto, unfolding(world_rules::specs::Settings::rates_at))]
+fn rates_at(config: &Config, update: u32) -> Rates
+    ensures { numbers_of result ≡ rates_at (values_of config.now) update }
+{
+    let mut rates = first_rates(config);
+    for event in config.event.as_slice() {
+        if event.update < update {
+            if let What::Rate { name, ppm } = event.what {
+                rates = with_rate(rates, name, ppm);
+            }
+        }
+    }
+    rates
+}
+
+fn first_rates(config: &Config) -> Rates
+    ensures { numbers_of result ≡ first_rates (values_of config.now) }
+{
+    Rates {
+        copy: config.copy_error,
+        insert: config.divide_insert,
+        delete: config.divide_delete,
+        site_point: config.site_point,
+        site_insert: config.site_insert,
+        site_delete: config.site_delete,
+    }
+}
+
+fn with_rate(mut rates: Rates, name: RateName, ppm: u32) -> Rates
+    requires { ppm ≤ MILLION }
+    ensures { numbers_of result ≡ with_rate (numbers_of rates) name ppm }
+{
+    match name {
+        RateName::Copy => rates.copy = ppm,
+        RateName::Insert => rates.insert = ppm,
+        RateName::Delete => rates.delete = ppm,
+        RateName::SitePoint => rates.site_point = ppm,
+        RateName::SiteInsert => rates.site_insert = ppm,
+        RateName::SiteDelete => rates.site_delete = ppm,
+    }
+    rates
+}
+
+fn rules_of(config: &Config) -> DivideRules
+    ensures { result ≡ rules_of (values_of config.now) }
+{
+    DivideRules {
+        least: config.least_length,
+        greatest: config.greatest_length,
+        executed_percent: config.executed_percent,
+        copied_percent: config.copied_percent,
+        need_alloc: config.need_alloc,
+    }
+}
 
 /// The torus of the cells.
 pub(crate) fn torus_of(config: &Config) -> Torus
