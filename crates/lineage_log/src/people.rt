@@ -44,10 +44,8 @@ impl People {
         ensures ok { OnOk result (self.new ≡ self.old ++ Some (letters genome) ∷ []) }
         ensures err { OnErr result (self.new ≡ self.old) }
     {
-        match self.genomes.push(Some(genome)) {
-            Ok(()) => Ok(()),
-            Err(_) => Err(Memory),
-        }
+        self.genomes.push(Some(genome))?;
+        Ok(())
     }
 
     pub fn get(&self, id: u64) -> Option<&Genome>

@@ -1,5 +1,5 @@
 // Reads a log line by line.
-ghost use Rattle.std.specs.Prelude.{◌≡◌, ◌≢◌, ◌++◌, ◌∷◌, [], Err, IfOk, OnOk};
+ghost use Rattle.std.specs.Prelude.{◌≡◌, ◌≢◌, Err, IfOk};
 ghost use Rattle.lineage_log.specs.LogGrammar.{OutOfOrder, last_piece, log_of};
 ghost use Rattle.lineage_log.specs.Places.{place_of};
 ghost use Rattle.lineage_log.specs.LogValues.{Gives, answer_of, lines_of, stop_at, with_front};
@@ -35,19 +35,10 @@ fn stop_for(reason: Reason, line: u64) -> LogStop
     }
 }
 
-fn keep(lines: &mut Vec<LogLine>, line: LogLine) -> Result<(), Memory>
-    ensures { OnOk result (lines.new.items ≡ lines.old.items ++ line ∷ []) }
-{
-    match lines.push(line) {
-        Ok(()) => Ok(()),
-        Err(_) => Err(Memory),
-    }
-}
-
 fn read_lines(alloc: Global, bytes: &[u8]) -> Result<Result<Vec<LogLine>, LogStop>, Memory>
     ensures { IfOk result (λ found. Gives found (log_of bytes.now)) }
 {
-    let mut lines: Vec<LogLine> = Vec::new(alloc);
+    let mut lines = Vec::new(alloc);
     let mut place = Place::Before;
     let mut rest = bytes;
     for number in 1..u64::MAX {
@@ -61,7 +52,7 @@ fn read_lines(alloc: Global, bytes: &[u8]) -> Result<Result<Vec<LogLine>, LogSto
                 Some(line) => match tell(alloc, place, &line)? {
                     Err(reason) => return Ok(Err(stop_for(reason, number))),
                     Ok(next) => {
-                        keep(&mut lines, line)?;
+                        lines.push(line)?;
                         place = next;
                         rest = behind;
                     }

@@ -114,9 +114,7 @@ impl Reader {
         requires { cell < length self.old.standing }
         ensures { OnOk result (reader_of self.new ≡ with_death (reader_of self.old) stage cell id) }
     {
-        if self.leaving.push(id).is_err() {
-            return Err(Memory);
-        }
+        self.leaving.push(id)?;
         self.standing.set(cell, None);
         self.stage = stage;
         Ok(())
@@ -137,9 +135,7 @@ impl Reader {
             ≡ with_newcomer (reader_of self.old) stage cell over (letters genome) births) }
     {
         if let Some(id) = over {
-            if self.leaving.push(id).is_err() {
-                return Err(Memory);
-            }
+            self.leaving.push(id)?;
         }
         let id = self.people.len() as u64;
         self.people.push(genome)?;

@@ -30,9 +30,7 @@ impl Slots {
         requires { cell < cells }
         ensures { IfOk result (λ slots. slots ≡ slice_set (replicate cells None) cell (Some id)) }
     {
-        let Ok(mut ids) = vec![in alloc; None; cells] else {
-            return Err(Memory);
-        };
+        let mut ids = vec![in alloc; None; cells]?;
         ids[cell] = Some(id);
         Ok(Slots { ids, count: 1 })
     }

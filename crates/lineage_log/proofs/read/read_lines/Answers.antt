@@ -61,5 +61,5 @@ loop-number-preserved c =
     let one = values_of c.in-Some-2.line in
     let is : line_of piece ≡ Some one = sym c.in_ok-read_line-in-Some.ensures ∙ ap (option_map values_of) c.in-Some-2.is in
     let good = subst (λ (t : Result Place Reason). TellsPlace t (told at one)) c.in-Ok.is c.in_ok-reason-in-Some-2.ensures in
-    let lines : lines_of c.keep.new.lines.items ≡ front ++ one ∷ [] = ap lines_of c.in_ok-keep-in-Ok.ensures ∙ map-append values_of c.loop-number.lines.items (c.in-Some-2.line ∷ []) in
+    let lines : lines_of c.push.new.self.items ≡ front ++ one ∷ [] = ap lines_of c.in_ok-push-in-Ok.ensures.items ∙ map-append values_of c.loop-number.lines.items (c.in-Some-2.line ∷ []) in
     rw lines (sym (start ∙ good_line front n at piece rest one (place_of c.in-Ok.next) is good))
