@@ -1,3 +1,5 @@
 pub mod ScanLemmas
 pub mod SoundLemmas
 mod SettingsLemmas
+mod UpdateLemmas
+mod WorldLemmas

@@ -20,7 +20,7 @@ use std::alloc::Global;
 use world_config::Config;
 
 /// The scene at the end of the next update, what is counted of it, and its lines.
-#[tactic(auto, unfolding(world_rules::specs::Update::next_scene, world_rules::specs::Update::scene_of_lives, world_rules::specs::Update::last_scene, world_rules::specs::Update::after_burials, world_rules::specs::LogText::update_lines, world_rules::specs::LogText::lines_of_lives, world_rules::specs::Statistics::next_stats))]
+#[tactic(auto, unfolding(world_rules::specs::Update::next_scene, world_rules::specs::Update::scene_of_lives, world_rules::specs::Update::last_scene, world_rules::specs::Update::after_burials, world_rules::specs::LogText::update_lines, world_rules::specs::LogText::lines_of_lives, world_rules::specs::Statistics::next_stats), using(crate::proofs::UpdateLemmas::joined))]
 pub(crate) fn next(
     alloc: Global,
     config: &Config,
@@ -33,6 +33,7 @@ pub(crate) fn next(
     ensures stats { IfOk result (λ next. next.1 ≡ next_stats (values_of config.now) (world_of scene)) }
     ensures text { IfOk result (λ next.
         next.2.items ≡ lines_text (update_lines (values_of config.now) (world_of scene))) }
+    ensures update { IfOk result (λ next. next.0.update ≡ scene.update + 1) }
     ensures size { IfOk result (λ next. length next.0.cells ≡ length scene.cells) }
     ensures few { IfOk result (λ next. length next.0.everyone ≤ length scene.everyone + 2 ^ 33) }
 {
@@ -48,6 +49,7 @@ pub(crate) fn next(
 }
 
 /// The scene as all lives of the next update have ended.
+#[tactic(auto, using(crate::proofs::UpdateLemmas::length_lived))]
 fn scene_of_lives(
     alloc: Global,
     config: &Config,

@@ -1,0 +1,88 @@
+-- What every phase of an update keeps, and how their texts join.
+use Rattle.std.proofs.Common.{◌≡◌, ◌∙◌, refl, ℕ, ◌+◌, List, [], ◌∷◌, ◌++◌, Option, ap, length, map, append_assoc, append-nil, arith}
+use Rattle.std.specs.List.{fold}
+use Rattle.std.proofs.lemmas.Grind.{flat_map-append}
+use Rattle.std.proofs.lemmas.List.{length-map}
+use Rattle.std.proofs.lemmas.List.FromFn.{length-map-range_with_len}
+use Rattle.lineage_log.specs.LogGrammar.{lines_text}
+use Rattle.log_lines.specs.Line.{Line, Count}
+use Rattle.log_lines.specs.declared.stats.Stats.{Stats}
+use Rattle.log_lines.specs.LineText.{line_text}
+use Rattle.organism.specs.OrganismState.{OrganismState}
+use Rattle.birth_board.specs.declared.placing.Placing.{Placing}
+use Rattle.world_config.specs.Events.{EventValue, WhatValue, inject, clear, rate}
+use Rattle.world_config.specs.Values.{ConfigValues}
+use Rattle.world_rules.specs.World.{Link, Occupant, World}
+use Rattle.world_rules.specs.Lives.{life_at, lives_of}
+use Rattle.world_rules.specs.Scene.{Scene, cells_from, with_death, with_deaths, with_newcomer}
+use Rattle.world_rules.specs.Statistics.{scene_stats}
+use Rattle.world_rules.specs.LogText.{death_lines, birth_lines, event_lines, lines_of_lives, update_lines}
+use Rattle.world_rules.specs.Update.{Delivery, after_lives, lives_after, deaths_of, births_of, turns_of, events_at, after_birth, after_births, after_burials, after_what, after_event, after_events, last_scene, scene_of_lives, next_scene}
+
+pub with_death-update : (scene : Scene) (cell : ℕ) → (with_death scene cell).update ≡ scene.update
+unfolding with_death
+with_death-update scene cell = refl
+
+pub with_newcomer-update : (scene : Scene) (link : Link) (organism : OrganismState) → (with_newcomer scene link organism).update ≡ scene.update
+unfolding with_newcomer
+with_newcomer-update scene link organism = refl
+
+pub fold-update : {A : Type 0} (f : Scene → A → Scene) → ((scene : Scene) (x : A) → (f scene x).update ≡ scene.update) → (scene : Scene) (xs : List A) → (fold f scene xs).update ≡ scene.update
+fold-update f keeps scene [] = refl
+fold-update f keeps scene (x ∷ xs) = fold-update f keeps (f scene x) xs ∙ keeps scene x
+
+pub with_deaths-update : (scene : Scene) (cells : List ℕ) → (with_deaths scene cells).update ≡ scene.update
+with_deaths-update scene cells = fold-update with_death with_death-update scene cells
+
+pub after_birth-update : (config : ConfigValues) (scene : Scene) (turn : Delivery × Placing) → (after_birth config scene turn).update ≡ scene.update
+unfolding after_birth
+after_birth-update config scene turn = with_newcomer-update scene _ _
+
+pub after_births-update : (config : ConfigValues) (scene : Scene) (births : List Delivery) → (after_births config scene births).update ≡ scene.update
+unfolding after_births
+after_births-update config scene births = fold-update (after_birth config) (after_birth-update config) scene (turns_of config scene births)
+
+pub after_what-update : (config : ConfigValues) (scene : Scene) (nth : ℕ) (what : WhatValue) → (after_what config scene nth what).update ≡ scene.update
+after_what-update config scene nth (inject cell letters) = with_newcomer-update scene _ _
+after_what-update config scene nth (clear first last) = with_deaths-update scene (cells_from first last)
+after_what-update config scene nth (rate name ppm) = refl
+
+pub after_event-update : (config : ConfigValues) (scene : Scene) (event : ℕ × EventValue) → (after_event config scene event).update ≡ scene.update
+unfolding after_event
+after_event-update config scene event = after_what-update config scene event.0 event.1.what
+
+pub after_events-update : (config : ConfigValues) (scene : Scene) → (after_events config scene).update ≡ scene.update
+unfolding after_events
+after_events-update config scene = fold-update (after_event config) (after_event-update config) scene (events_at config scene.update)
+
+-- the texts of an update's phases are the text of its lines
+pub joined : (a b c : List Line) (d : Line) → ((([] ++ lines_text a) ++ lines_text b) ++ lines_text c) ++ line_text d ≡ lines_text (a ++ b ++ c ++ d ∷ [])
+joined a b c d = grind (arith, flat_map-append, append_assoc, append-nil)
+
+-- each cell has its life
+pub length_lived : (config : ConfigValues) (update : ℕ) (cells : List (Option Occupant)) → length (map (λ l. l.occupant) (lives_of config update cells)) ≡ length cells
+unfolding lives_of
+length_lived config update cells = length-map _ _ ∙ length-map-range_with_len (life_at config update cells) 0 (length cells)
+
+-- the scenes of an update's phases, from the lives on
+pub record Phases (config : ConfigValues) (w : World) (dead : List ℕ) (births : List Delivery) (s0 s1 s2 s3 : Scene) (stats : Stats) : Type 0 where
+  pub lived : s0 ≡ after_lives (w.update + 1) w.everyone (lives_after config w)
+  pub dead_are : dead ≡ deaths_of (lives_after config w)
+  pub births_are : births ≡ births_of (lives_after config w)
+  pub buried : s1 ≡ with_deaths s0 dead
+  pub placed : s2 ≡ after_births config s1 births
+  pub happened : s3 ≡ after_events config s2
+  pub counted : stats ≡ scene_stats s3 (length births)
+
+-- their lines are those of the update
+pub lines_of_phases : (config : ConfigValues) (w : World) (dead : List ℕ) (births : List Delivery) (s0 s1 s2 s3 : Scene) (stats : Stats) → Phases config w dead births s0 s1 s2 s3 stats → death_lines s0 dead ++ birth_lines config s1 births ++ event_lines config s2 ++ Count stats ∷ [] ≡ update_lines config w
+unfolding update_lines lines_of_lives last_scene after_burials
+lines_of_phases config w dead births s0 s1 s2 s3 stats p = rw (p.counted, p.happened, p.placed, p.buried, p.births_are, p.dead_are, p.lived) refl
+
+-- an update is one more
+pub update_of_phases : (config : ConfigValues) (w : World) (dead : List ℕ) (births : List Delivery) (s0 s1 s2 s3 : Scene) (stats : Stats) → Phases config w dead births s0 s1 s2 s3 stats → s3.update ≡ w.update + 1
+update_of_phases config w dead births s0 s1 s2 s3 stats p =
+    let first : s0.update ≡ w.update + 1 = ap (λ (s : Scene). s.update) p.lived in
+    let second : s1.update ≡ s0.update = ap (λ (s : Scene). s.update) p.buried ∙ with_deaths-update s0 dead in
+    let third : s2.update ≡ s1.update = ap (λ (s : Scene). s.update) p.placed ∙ after_births-update config s1 births in
+    ap (λ (s : Scene). s.update) p.happened ∙ after_events-update config s2 ∙ third ∙ second ∙ first

@@ -1,0 +1,53 @@
+-- The world after an update is again the world of its configuration.
+use Rattle.std.proofs.Common.{◌≡◌, ◌∙◌, refl, sym, ap, ℕ, suc, ◌+◌, ◌*◌, ◌<◌, ◌≤◌, ◌^◌, List, length, arith}
+use Rattle.lineage_log.specs.LogGrammar.{lines_text}
+use Rattle.log_lines.specs.declared.stats.Stats.{Stats}
+use Rattle.world_config.specs.Values.{ConfigValues}
+use Rattle.world_rules.specs.World.{World}
+use Rattle.world_rules.specs.Scene.{Scene}
+use Rattle.world_rules.specs.Update.{next_scene, next_world, world_of}
+use Rattle.world_rules.specs.WorldRun.{world_after}
+use Rattle.world_rules.specs.Statistics.{next_stats, stats_of}
+use Rattle.world_rules.specs.LogText.{update_lines, update_text}
+use Rattle.world_core.specs.WorldValue.{IsWorldOf}
+
+one_more : (n : ℕ) → n + 1 ≡ suc n
+one_more n = omega arith
+
+world_after-more : (config : ConfigValues) (n : ℕ) → world_after config (n + 1) ≡ next_world config (world_after config n)
+unfolding world_after
+world_after-more config n = rw one_more refl
+
+stats_of-more : (config : ConfigValues) (n : ℕ) → stats_of config (n + 1) ≡ next_stats config (world_after config n)
+unfolding stats_of
+stats_of-more config n = rw one_more refl
+
+update_text-more : (config : ConfigValues) (n : ℕ) → update_text config (n + 1) ≡ lines_text (update_lines config (world_after config n))
+unfolding update_text
+update_text-more config n = rw one_more refl
+
+-- an update after a scene
+pub record IsNext (config : ConfigValues) (before after : Scene) (stats : Stats) : Type 0 where
+  pub scene : after ≡ next_scene config (world_of before)
+  pub counts : stats ≡ next_stats config (world_of before)
+  pub update : after.update ≡ before.update + 1
+  pub size : length after.cells ≡ length before.cells
+  pub few : length after.everyone ≤ length before.everyone + 2 ^ 33
+
+world_of-next : (config : ConfigValues) (before : Scene) → world_of (next_scene config (world_of before)) ≡ next_world config (world_of before)
+unfolding next_world
+world_of-next config before = refl
+
+-- where the scene before was that of its configuration's world, so is the one after
+pub next_world_is : (config : ConfigValues) (before after : Scene) (old stats : Stats) → IsWorldOf config before old → IsNext config before after stats → before.update < 1000000 → IsWorldOf config after stats
+next_world_is config before after old stats was is early = record {
+  world = ap world_of is.scene ∙ world_of-next config before ∙ ap (next_world config) was.world ∙ sym (world_after-more config before.update) ∙ ap (world_after config) (sym is.update);
+  counts = is.counts ∙ ap (next_stats config) was.world ∙ sym (stats_of-more config before.update) ∙ ap (stats_of config) (sym is.update);
+  size = is.size ∙ was.size;
+  few = omega (arith, is.few, was.few, is.update);
+  updates = omega (arith, is.update, early);
+}
+
+-- the text of the update after it
+pub next_text_is : (config : ConfigValues) (before : Scene) (old : Stats) (text : List ℕ) → IsWorldOf config before old → text ≡ lines_text (update_lines config (world_of before)) → text ≡ update_text config (before.update + 1)
+next_text_is config before old text was is = is ∙ ap (λ (w : World). lines_text (update_lines config w)) was.world ∙ sym (update_text-more config before.update)
