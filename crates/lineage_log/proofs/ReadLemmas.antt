@@ -1,14 +1,19 @@
 -- The loop over the pieces of a log.
 use Rattle.std.proofs.Common.{◌≡◌, ℕ, ◌+◌, List, [], ◌∷◌, ◌++◌, Option, Some, None, Result, Ok, Err, refl, sym, ap, ◌∙◌, append_assoc, inl, inr}
-use Rattle.std.specs.Prelude.{◌==◌, ◌↔◌}
+use Rattle.std.specs.Prelude.{◌==◌, ◌≢◌, ◌↔◌}
 use Rattle.std.specs.List.{slice_split, onto_first}
 use Rattle.std.proofs.lemmas.Bool.{cases_Bool}
 use Rattle.log_lines.specs.Line.{Line}
 use Rattle.log_lines.specs.LineReading.{line_of}
 use Rattle.lineage_log.specs.declared.reason.Reason.{Reason}
+use Rattle.lineage_log.specs.declared.refusal.Refusal.{Refusal}
+use Rattle.lineage_log.specs.declared.refusal.Refusal.TheVariants.{Memory, Faulty}
+use Rattle.lineage_log.specs.declared.log_stop.LogStop.{LogStop}
+use Rattle.lineage_log.specs.declared.log_stop.LogStop.TheVariants as wanting
 use Rattle.lineage_log.specs.Order.{Place, told}
+use Rattle.lineage_log.specs.Places.{TellsPlace}
 use Rattle.lineage_log.specs.LogGrammar.{Fault, BadLine, OutOfOrder, with_line, one_piece, after_told, pieces_log, log_of, lines_text, Reads, IsGoodLog}
-use Rattle.lineage_log.specs.LogValues.{with_front}
+use Rattle.lineage_log.specs.LogValues.{stop_of, answer_of, with_front}
 
 pub front_none : (r : Result (List Line) Fault) → with_front [] r ≡ r
 front_none (Ok lines) = refl
@@ -49,3 +54,8 @@ module _ (front : List Line) (number : ℕ) (place : Place) (piece rest : List �
 
 pub good_read : ((bytes : List ℕ) (lines : List Line) → Reads bytes lines ↔ ((lines_text lines ≡ bytes) × IsGoodLog lines)) → (bytes : List ℕ) (lines : List Line) → log_of bytes ≡ Ok lines → IsGoodLog lines
 good_read law bytes lines is = ((law bytes lines).0 is).1
+
+-- the answer for a line that was not taken
+pub refused : (refusal : Refusal) (number : ℕ) (stop : LogStop) (t : Result Place Reason) (read : Result (List Line) Fault) → stop ≡ stop_of number refusal → (stop ≢ wanting.Memory) → TellsPlace (Err refusal) t → ((reason : Reason) → t ≡ Err reason → read ≡ Err (record { line = number; cause = OutOfOrder reason })) → answer_of read ≡ Err stop
+refused Memory number stop t read is other told faulty = absurd (other is)
+refused (Faulty reason) number stop t read is other told faulty = ap answer_of (faulty reason told) ∙ ap (λ (s : LogStop). Err s) (sym is)

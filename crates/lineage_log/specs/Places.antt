@@ -1,6 +1,8 @@
 -- Where the reader of a log stands, as the definitions see it.
-use Rattle.std.specs.Prelude.{◌≡◌, Result, Ok, Err}
+use Rattle.std.specs.Prelude.{◌≡◌, ⊤, Result, Ok, Err}
 use Rattle.lineage_log.specs.declared.reason.Reason.{Reason}
+use Rattle.lineage_log.specs.declared.refusal.Refusal.{Refusal}
+use Rattle.lineage_log.specs.declared.refusal.Refusal.TheVariants.{Memory, Faulty}
 use Rattle.lineage_log.specs.declared.place.Place as code
 use Rattle.lineage_log.specs.declared.place.Place.TheVariants as place
 use Rattle.lineage_log.specs.Readings.{reader_of}
@@ -12,7 +14,8 @@ place_of place.Before = Before
 place_of (place.Within r) = Within (reader_of r)
 place_of (place.After r) = After (reader_of r)
 
--- what a line did: this place is reached, or why the line is faulty
-abbrev pub TellsPlace : Result code.Place Reason → Result Place Reason → Type 0
+-- what a line did: this place is reached, or why the line is faulty; want of memory says nothing of it
+abbrev pub TellsPlace : Result code.Place Refusal → Result Place Reason → Type 0
 TellsPlace (Ok next) told = told ≡ Ok (place_of next)
-TellsPlace (Err reason) told = told ≡ Err reason
+TellsPlace (Err Memory) told = ⊤
+TellsPlace (Err (Faulty reason)) told = told ≡ Err reason

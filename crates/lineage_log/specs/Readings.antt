@@ -1,11 +1,13 @@
 -- What the reader of a log holds, as the definitions see it.
-use Rattle.std.specs.Prelude.{◌≡◌, List, Option, Some, None, Result, Ok, Err, IsErr, IsErrOf}
+use Rattle.std.specs.Prelude.{◌≡◌, List, Option, Some, None, Result, Ok, Err, IsErr, ⊤}
 use Rattle.instruction_set.specs.declared.letter.Letter.{Letter}
 use Rattle.genome.specs.declared.genome.Genome.{Genome}
 use Rattle.genome.specs.Genome.{letters}
 use Rattle.mutations.specs.BirthRecord.{BirthRecord, child_of}
 use Rattle.lineage_log.specs.declared.reason.Reason.{Reason}
 use Rattle.lineage_log.specs.declared.reason.Reason.TheVariants.{UnknownParent, BadChange}
+use Rattle.lineage_log.specs.declared.refusal.Refusal.{Refusal}
+use Rattle.lineage_log.specs.declared.refusal.Refusal.TheVariants.{Memory, Faulty}
 use Rattle.lineage_log.specs.declared.reader.Reader as code
 use Rattle.lineage_log.specs.Reader.{Reader}
 use Rattle.lineage_log.specs.Order.{Place, Within}
@@ -23,18 +25,22 @@ reader_of r = record {
   births = r.births;
 }
 
--- what a line did: this reader is left, or why the line is faulty
-abbrev pub Tells : Result (Unit {0}) Reason → Reader → Result Place Reason → Type 0
+-- what a line did: this reader is left, or why the line is faulty; want of memory says nothing of it
+abbrev pub Tells : Result (Unit {0}) Refusal → Reader → Result Place Reason → Type 0
 Tells (Ok done) r told = told ≡ Ok (Within r)
-Tells (Err reason) r told = told ≡ Err reason
+Tells (Err Memory) r told = ⊤
+Tells (Err (Faulty reason)) r told = told ≡ Err reason
 
 -- what the first line did
-abbrev pub TellsReader : Result code.Reader Reason → Result Place Reason → Type 0
+abbrev pub TellsReader : Result code.Reader Refusal → Result Place Reason → Type 0
 TellsReader (Ok r) told = told ≡ Ok (Within (reader_of r))
-TellsReader (Err reason) told = told ≡ Err reason
+TellsReader (Err Memory) told = ⊤
+TellsReader (Err (Faulty reason)) told = told ≡ Err reason
 
 -- the child of a parent's letters, or why there is none
-abbrev pub MakesChild : Result Genome Reason → Option (List Letter) → BirthRecord → Type 0
-MakesChild made None birth = IsErrOf made UnknownParent
+abbrev pub MakesChild : Result Genome Refusal → Option (List Letter) → BirthRecord → Type 0
+MakesChild (Ok child) None birth = ⊥
 MakesChild (Ok child) (Some parent) birth = child_of parent birth ≡ Ok (letters child)
-MakesChild (Err reason) (Some parent) birth = (reason ≡ BadChange) × IsErr (child_of parent birth)
+MakesChild (Err Memory) parent birth = ⊤
+MakesChild (Err (Faulty reason)) None birth = reason ≡ UnknownParent
+MakesChild (Err (Faulty reason)) (Some parent) birth = (reason ≡ BadChange) × IsErr (child_of parent birth)

@@ -13,6 +13,7 @@ mod place;
 mod read;
 mod reader;
 mod reason;
+mod refusal;
 mod residents;
 mod slots;
 mod stage;

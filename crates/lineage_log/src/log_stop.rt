@@ -1,3 +1,9 @@
+ghost use Rattle.std.specs.Prelude.{◌≡◌};
+ghost use Rattle.lineage_log.specs.declared.log_stop.LogStop.TheVariants as stop;
+
+use avida_port::Memory;
+use std::alloc::AllocFailed;
+
 /// Why bytes are no log: memory was wanting, or a line is faulty, numbered from 1.
 #[derive(Clone, Copy, Debug, PartialEq, Eq)]
 pub enum LogStop {
@@ -12,4 +18,20 @@ pub enum LogStop {
     BadChange { line: u64 },
     /// All lines are good and none is the last line of a log; the line is the one that would follow.
     Unended { line: u64 },
+}
+
+impl From<Memory> for LogStop {
+    ghost from_gives = { λ _ made. made ≡ stop.Memory };
+
+    fn from(_memory: Memory) -> LogStop {
+        LogStop::Memory
+    }
+}
+
+impl<T: Drop> From<AllocFailed<T>> for LogStop {
+    ghost from_gives = { λ _ made. made ≡ stop.Memory };
+
+    fn from(_e: AllocFailed<T>) -> LogStop {
+        LogStop::Memory
+    }
 }

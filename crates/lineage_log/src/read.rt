@@ -1,15 +1,15 @@
 // Reads a log line by line.
-ghost use Rattle.std.specs.Prelude.{◌≡◌, ◌≢◌, Err, IfOk};
-ghost use Rattle.lineage_log.specs.LogGrammar.{OutOfOrder, last_piece, log_of};
+ghost use Rattle.std.specs.Prelude.{◌≡◌, ◌≢◌, Err};
+ghost use Rattle.lineage_log.specs.LogGrammar.{last_piece, log_of};
 ghost use Rattle.lineage_log.specs.Places.{place_of};
-ghost use Rattle.lineage_log.specs.LogValues.{Gives, answer_of, lines_of, stop_at, with_front};
+ghost use Rattle.lineage_log.specs.LogValues.{Gives, answer_of, lines_of, stop_of, with_front};
 
 use crate::laws::read_exactly;
 use crate::log::Log;
 use crate::log_stop::LogStop;
 use crate::place::{Place, tell};
 use crate::reason::Reason;
-use avida_port::Memory;
+use crate::refusal::Refusal;
 use log_lines::{LogLine, read_line, split_at};
 use std::alloc::Global;
 
@@ -18,49 +18,44 @@ pub fn read_log(alloc: Global, bytes: &[u8]) -> Result<Log, LogStop>
     ensures { result ≢ Err LogStop.Memory → result ≡ answer_of (log_of bytes.now) }
 {
     read_exactly();
-    match read_lines(alloc, bytes) {
-        Ok(Ok(lines)) => Ok(Log::from_lines(lines)),
-        Ok(Err(stop)) => Err(stop),
-        Err(_) => Err(LogStop::Memory),
-    }
+    Ok(Log::from_lines(read_lines(alloc, bytes)?))
 }
 
-fn stop_for(reason: Reason, line: u64) -> LogStop
-    ensures { result ≡ stop_at line (OutOfOrder reason) }
+fn stop_for(refusal: Refusal, line: u64) -> LogStop
+    ensures { result ≡ stop_of line refusal }
 {
-    match reason {
-        Reason::BadOrder => LogStop::BadOrder { line },
-        Reason::UnknownParent => LogStop::UnknownParent { line },
-        Reason::BadChange => LogStop::BadChange { line },
+    match refusal {
+        Refusal::Memory => LogStop::Memory,
+        Refusal::Faulty(Reason::BadOrder) => LogStop::BadOrder { line },
+        Refusal::Faulty(Reason::UnknownParent) => LogStop::UnknownParent { line },
+        Refusal::Faulty(Reason::BadChange) => LogStop::BadChange { line },
     }
 }
 
-fn read_lines(alloc: Global, bytes: &[u8]) -> Result<Result<Vec<LogLine>, LogStop>, Memory>
-    ensures { IfOk result (λ found. Gives found (log_of bytes.now)) }
+fn read_lines(alloc: Global, bytes: &[u8]) -> Result<Vec<LogLine>, LogStop>
+    ensures { Gives result (log_of bytes.now) }
 {
     let mut lines = Vec::new(alloc);
     let mut place = Place::Before;
     let mut rest = bytes;
     for number in 1..u64::MAX {
         let (piece, others) = split_at(rest, b'\n');
-        match others {
-            None => {
-                return Ok(finish(lines, place, piece, number));
+        let Some(behind) = others else {
+            return finish(lines, place, piece, number);
+        };
+        let Some(line) = read_line(alloc, piece)? else {
+            return Err(LogStop::BadLine { line: number });
+        };
+        match tell(alloc, place, &line) {
+            Err(refusal) => return Err(stop_for(refusal, number)),
+            Ok(next) => {
+                lines.push(line)?;
+                place = next;
+                rest = behind;
             }
-            Some(behind) => match read_line(alloc, piece)? {
-                None => return Ok(Err(LogStop::BadLine { line: number })),
-                Some(line) => match tell(alloc, place, &line)? {
-                    Err(reason) => return Ok(Err(stop_for(reason, number))),
-                    Ok(next) => {
-                        lines.push(line)?;
-                        place = next;
-                        rest = behind;
-                    }
-                },
-            },
         }
     }
-    Err(Memory)
+    Err(LogStop::Memory)
 }
 
 /// The answer at the end of the bytes, behind the last newline.

@@ -1,18 +1,20 @@
 // What is known of a log between two of its lines.
-ghost use Rattle.std.specs.Prelude.{◌≡◌, ◌+◌, ◌<◌, ◌≤◌, ◌&&◌, ◌==◌, IfOk, OnOk, IsTrue, ◌*◌, ◌^◌, ◌-◌, [], option_map, Ok, Err, if◌then◌else◌, length, slice_get, Some};
+ghost use Rattle.std.specs.Prelude.{◌≡◌, ◌≢◌, ℕ, ◌+◌, ◌<◌, ◌≤◌, ◌&&◌, ◌==◌, OnOk, IsTrue, ◌*◌, ◌^◌, ◌-◌, [], option_map, Ok, Err, if◌then◌else◌, length, slice_get, Some};
 ghost use Rattle.genome.specs.Genome.{letters};
 ghost use Rattle.mutations.specs.BirthRecord.{record_of};
+ghost use Rattle.log_lines.specs.Line.{End, values_of};
 ghost use Rattle.lineage_log.specs.Slots.{holds, taken};
 ghost use Rattle.lineage_log.specs.Reader.{is_quiet, may_be_born, may_die, parent_in, with_death, with_newcomer};
-ghost use Rattle.lineage_log.specs.Order.{after_birth, after_cleared, after_count, after_death, after_end, after_injected, after_rate, after_start, may_happen, renewed, After};
+ghost use Rattle.lineage_log.specs.Order.{after_birth, after_cleared, after_count, after_death, after_end, after_injected, after_rate, after_start, may_happen, renewed, told_within, After};
 
 use crate::people::People;
 use crate::reason::Reason;
+use crate::refusal::{OUT_OF_ORDER, Refusal};
 use crate::slots::Slots;
 use crate::stage::Stage;
 use avida_port::Memory;
 use genome::Genome;
-use log_lines::Stats;
+use log_lines::{LogLine, Stats};
 use mutations::{ApplyStop, Origin, apply};
 use std::alloc::Global;
 
@@ -71,18 +73,17 @@ impl Reader {
         height: u32,
         cell: u32,
         genome: Genome,
-    ) -> Result<Result<Reader, Reason>, Memory>
-        ensures { IfOk result (λ told.
-            TellsReader told (after_start version width height cell (letters genome))) }
+    ) -> Result<Reader, Refusal>
+        ensures { TellsReader result (after_start version width height cell (letters genome)) }
     {
         let cells = u64::from(width) * u64::from(height);
         if u64::from(cell) >= cells {
-            return Ok(Err(Reason::BadOrder));
+            return Err(OUT_OF_ORDER);
         }
         let standing = Slots::with_one(alloc, cells as usize, cell as usize, 0)?;
         let mut people = People::none(alloc);
         people.push(genome)?;
-        Ok(Ok(Reader {
+        Ok(Reader {
             version,
             due: 1,
             stage: Stage::Quiet,
@@ -91,7 +92,7 @@ impl Reader {
             newest: 1,
             leaving: Vec::new(alloc),
             births: 0,
-        }))
+        })
     }
 
     fn may_happen(&self, update: u32) -> bool
@@ -146,43 +147,41 @@ impl Reader {
     }
 
     #[tactic(auto, unfolding(crate::specs::Order::after_death))]
-    pub fn death(&mut self, id: u64, update: u32, cell: u32) -> Result<Result<(), Reason>, Memory>
-        ensures { IfOk result (λ told.
-            Tells told (reader_of self.new) (after_death (reader_of self.old) id update cell)) }
+    pub fn death(&mut self, id: u64, update: u32, cell: u32) -> Result<(), Refusal>
+        ensures { Tells result (reader_of self.new) (after_death (reader_of self.old) id update cell) }
     {
         if u64::from(update) == self.due
             && may_die(self.stage, cell)
             && self.standing.holds(cell, Some(id))
         {
             self.remove(Stage::Dying(cell), cell, id)?;
-            Ok(Ok(()))
+            Ok(())
         } else {
-            Ok(Err(Reason::BadOrder))
+            Err(OUT_OF_ORDER)
         }
     }
 
     #[tactic(auto, unfolding(crate::specs::Order::after_cleared))]
-    pub fn cleared(&mut self, id: u64, update: u32, cell: u32) -> Result<Result<(), Reason>, Memory>
-        ensures { IfOk result (λ told.
-            Tells told (reader_of self.new) (after_cleared (reader_of self.old) id update cell)) }
+    pub fn cleared(&mut self, id: u64, update: u32, cell: u32) -> Result<(), Refusal>
+        ensures { Tells result (reader_of self.new) (after_cleared (reader_of self.old) id update cell) }
     {
         if self.may_happen(update) && self.standing.holds(cell, Some(id)) {
             self.remove(Stage::Happening, cell, id)?;
-            Ok(Ok(()))
+            Ok(())
         } else {
-            Ok(Err(Reason::BadOrder))
+            Err(OUT_OF_ORDER)
         }
     }
 
     #[tactic(auto, unfolding(crate::specs::Order::after_rate))]
-    pub fn rate(&mut self, update: u32) -> Result<(), Reason>
+    pub fn rate(&mut self, update: u32) -> Result<(), Refusal>
         ensures { Tells result (reader_of self.new) (after_rate (reader_of self.old) update) }
     {
         if self.may_happen(update) {
             self.stage = Stage::Happening;
             Ok(())
         } else {
-            Err(Reason::BadOrder)
+            Err(OUT_OF_ORDER)
         }
     }
 
@@ -197,20 +196,15 @@ impl Reader {
         }
     }
 
-    fn child(
-        &self,
-        alloc: Global,
-        parent: u64,
-        origin: &Origin,
-    ) -> Result<Result<Genome, Reason>, Memory>
-        ensures { IfOk result (λ made. MakesChild made (parent_in (reader_of self.now) parent) (record_of origin.now)) }
+    fn child(&self, alloc: Global, parent: u64, origin: &Origin) -> Result<Genome, Refusal>
+        ensures { MakesChild result (parent_in (reader_of self.now) parent) (record_of origin.now) }
     {
         match self.parent(parent) {
-            None => Ok(Err(Reason::UnknownParent)),
+            None => Err(Refusal::Faulty(Reason::UnknownParent)),
             Some(genome) => match apply(alloc, genome, origin) {
-                Ok(child) => Ok(Ok(child)),
-                Err(ApplyStop::Memory) => Err(Memory),
-                Err(_) => Ok(Err(Reason::BadChange)),
+                Ok(child) => Ok(child),
+                Err(ApplyStop::Memory) => Err(Refusal::Memory),
+                Err(_) => Err(Refusal::Faulty(Reason::BadChange)),
             },
         }
     }
@@ -225,24 +219,20 @@ impl Reader {
         cell: u32,
         over: Option<u64>,
         origin: &Origin,
-    ) -> Result<Result<(), Reason>, Memory>
-        ensures { IfOk result (λ told. Tells told (reader_of self.new)
-            (after_birth (reader_of self.old) id parent update cell over (record_of origin.now))) }
+    ) -> Result<(), Refusal>
+        ensures { Tells result (reader_of self.new)
+            (after_birth (reader_of self.old) id parent update cell over (record_of origin.now)) }
     {
         if u64::from(update) == self.due
             && may_be_born(self.stage)
             && self.may_come(id, cell, over)
         {
-            match self.child(alloc, parent, origin)? {
-                Ok(genome) => {
-                    let births = self.births + 1;
-                    self.add(Stage::Placing, cell, over, genome, births)?;
-                    Ok(Ok(()))
-                }
-                Err(reason) => Ok(Err(reason)),
-            }
+            let genome = self.child(alloc, parent, origin)?;
+            let births = self.births + 1;
+            self.add(Stage::Placing, cell, over, genome, births)?;
+            Ok(())
         } else {
-            Ok(Err(Reason::BadOrder))
+            Err(OUT_OF_ORDER)
         }
     }
 
@@ -254,16 +244,16 @@ impl Reader {
         cell: u32,
         over: Option<u64>,
         genome: Genome,
-    ) -> Result<Result<(), Reason>, Memory>
-        ensures { IfOk result (λ told. Tells told (reader_of self.new)
-            (after_injected (reader_of self.old) id update cell over (letters genome))) }
+    ) -> Result<(), Refusal>
+        ensures { Tells result (reader_of self.new)
+            (after_injected (reader_of self.old) id update cell over (letters genome)) }
     {
         if self.may_happen(update) && self.may_come(id, cell, over) {
             let births = self.births;
             self.add(Stage::Happening, cell, over, genome, births)?;
-            Ok(Ok(()))
+            Ok(())
         } else {
-            Ok(Err(Reason::BadOrder))
+            Err(OUT_OF_ORDER)
         }
     }
 
@@ -292,14 +282,14 @@ impl Reader {
     }
 
     #[tactic(auto, unfolding(crate::specs::Order::after_count))]
-    pub fn count(&mut self, stats: &Stats) -> Result<(), Reason>
+    pub fn count(&mut self, stats: &Stats) -> Result<(), Refusal>
         ensures { Tells result (reader_of self.new) (after_count (reader_of self.old) stats.now) }
     {
         if self.counts_fit(stats) {
             self.renew();
             Ok(())
         } else {
-            Err(Reason::BadOrder)
+            Err(OUT_OF_ORDER)
         }
     }
 
@@ -309,5 +299,35 @@ impl Reader {
             ≡ (if result then Ok (After (reader_of self.now)) else Err Reason.BadOrder) }
     {
         is_quiet(self.stage) && u64::from(updates) + 1 == self.due
+    }
+
+    /// One line more that is not the last line.
+    pub fn tell(&mut self, alloc: Global, line: &LogLine) -> Result<(), Refusal>
+        requires { (updates : ℕ) → values_of line.now ≢ End updates }
+        ensures { Tells result (reader_of self.new) (told_within (reader_of self.old) (values_of line.now)) }
+    {
+        match line {
+            LogLine::Start { .. } => Err(OUT_OF_ORDER),
+            LogLine::Death { id, update, cell } => self.death(*id, *update, *cell),
+            LogLine::Birth {
+                id,
+                parent,
+                update,
+                cell,
+                over,
+                origin,
+            } => self.birth(alloc, *id, *parent, *update, *cell, *over, origin),
+            LogLine::Injected {
+                id,
+                update,
+                cell,
+                over,
+                genome,
+            } => self.injected(*id, *update, *cell, *over, genome.copy(alloc)?),
+            LogLine::Cleared { id, update, cell } => self.cleared(*id, *update, *cell),
+            LogLine::Rate { update, .. } => self.rate(*update),
+            LogLine::Count(stats) => self.count(stats),
+            LogLine::End { .. } => unreachable!(),
+        }
     }
 }

@@ -12,6 +12,7 @@ use crate::livings::Livings;
 use crate::log::Log;
 use crate::place::{Place, tell};
 use crate::reader::Reader;
+use crate::refusal::Refusal;
 use avida_port::Memory;
 use log_lines::LogLine;
 use std::alloc::Global;
@@ -30,10 +31,11 @@ fn reader_after(alloc: Global, lines: &[LogLine]) -> Result<Reader, Memory>
 {
     let mut place = Place::Before;
     for line in lines {
-        match tell(alloc, place, line)? {
-            Ok(next) => place = next,
-            Err(_) => unreachable!(),
-        }
+        place = match tell(alloc, place, line) {
+            Ok(next) => next,
+            Err(Refusal::Memory) => return Err(Memory),
+            Err(Refusal::Faulty(_)) => unreachable!(),
+        };
     }
     match place {
         Place::After(reader) => Ok(reader),

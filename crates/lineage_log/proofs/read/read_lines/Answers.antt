@@ -1,4 +1,4 @@
-use Rattle.std.proofs.Common.{◌≡◌, ◌∙◌, ◌∷◌, ◌++◌, [], ℕ, List, Option, Some, Result, Err, Bor, sym, ap, subst}
+use Rattle.std.proofs.Common.{◌≡◌, ◌∙◌, ◌∷◌, ◌++◌, [], ℕ, List, Option, Some, Result, Bor, sym, ap, subst}
 use Rattle.std.specs.Prelude.{◌==◌, option_copied, option_map}
 use Rattle.std.specs.List.{slice_split}
 use Rattle.std.proofs.lemmas.List.{map-append}
@@ -10,16 +10,16 @@ use Rattle.lineage_log.specs.LogGrammar.{log_of, pieces_log}
 use Rattle.lineage_log.specs.Places.{TellsPlace, place_of}
 use Rattle.lineage_log.specs.LogValues.{answer_of, lines_of, with_front}
 use Rattle.lineage_log.specs.declared.place.Place.{Place}
-use Rattle.lineage_log.specs.declared.reason.Reason.{Reason}
-use Rattle.lineage_log.proofs.ReadLemmas.{front_none, bad_line, bad_order, good_line}
+use Rattle.lineage_log.specs.declared.refusal.Refusal.{Refusal}
+use Rattle.lineage_log.proofs.ReadLemmas.{front_none, bad_line, bad_order, good_line, refused}
 use Rattle.lineage_log.proofs.read.read_lines.Goals as goal
 
 pub loop-number-init : goal.loop-number-init
 unfolding log_of
 loop-number-init c = rw c.new-lines.ensures.items (front_none (log_of c.args.bytes.now))
 
-pub returns-in-None-2 : goal.returns-in-None-2
-returns-in-None-2 c =
+pub returns-in_default-2 : goal.returns-in_default-2
+returns-in_default-2 c =
     let n = c.loop-number.number in
     let at = place_of c.loop-number.place in
     let front = lines_of c.loop-number.lines.items in
@@ -29,7 +29,7 @@ returns-in-None-2 c =
     c.split_at.ensures ∙ ap (λ (o : Option (Bor (List ℕ))). piece ∷ pieces_of 10 (option_copied o)) c.in-Some.is in
     let start : log_of c.args.bytes.now ≡ with_front front (pieces_log n at (piece ∷ slice_split (λ b. b == 10) rest)) =
     sym c.loop-number.invariant ∙ ap (λ (ps : List (List ℕ)). with_front front (pieces_log n at ps)) split in
-    ap answer_of (start ∙ bad_line front n at piece rest (sym c.in_ok-read_line-in-Some.ensures ∙ ap (option_map values_of) c.in-None-2.is))
+    λ other. ap answer_of (start ∙ bad_line front n at piece rest (sym c.in_ok-line.ensures ∙ ap (option_map values_of) c.in_default-2.is))
 
 pub returns-in-Err : goal.returns-in-Err
 returns-in-Err c =
@@ -43,9 +43,10 @@ returns-in-Err c =
     let start : log_of c.args.bytes.now ≡ with_front front (pieces_log n at (piece ∷ slice_split (λ b. b == 10) rest)) =
     sym c.loop-number.invariant ∙ ap (λ (ps : List (List ℕ)). with_front front (pieces_log n at ps)) split in
     let one = values_of c.in-Some-2.line in
-    let is : line_of piece ≡ Some one = sym c.in_ok-read_line-in-Some.ensures ∙ ap (option_map values_of) c.in-Some-2.is in
-    let bad = subst (λ (t : Result Place Reason). TellsPlace t (told at one)) c.in-Err.is c.in_ok-reason-in-Some-2.ensures in
-    ap answer_of (start ∙ bad_order front n at piece rest one c.in-Err.reason is bad) ∙ ap (λ s. Err s) (sym c.stop_for.ensures)
+    let is : line_of piece ≡ Some one = sym c.in_ok-line.ensures ∙ ap (option_map values_of) c.in-Some-2.is in
+    let bad = subst (λ (t : Result Place Refusal). TellsPlace t (told at one)) c.in-Err.is c.tell.ensures in
+    λ other. refused c.in-Err.refusal n c.stop_for.result (told at one) (log_of c.args.bytes.now) c.stop_for.ensures other bad
+    (λ reason faulty. start ∙ bad_order front n at piece rest one reason is faulty)
 
 pub loop-number-preserved : goal.loop-number-preserved
 loop-number-preserved c =
@@ -59,7 +60,7 @@ loop-number-preserved c =
     let start : log_of c.args.bytes.now ≡ with_front front (pieces_log n at (piece ∷ slice_split (λ b. b == 10) rest)) =
     sym c.loop-number.invariant ∙ ap (λ (ps : List (List ℕ)). with_front front (pieces_log n at ps)) split in
     let one = values_of c.in-Some-2.line in
-    let is : line_of piece ≡ Some one = sym c.in_ok-read_line-in-Some.ensures ∙ ap (option_map values_of) c.in-Some-2.is in
-    let good = subst (λ (t : Result Place Reason). TellsPlace t (told at one)) c.in-Ok.is c.in_ok-reason-in-Some-2.ensures in
+    let is : line_of piece ≡ Some one = sym c.in_ok-line.ensures ∙ ap (option_map values_of) c.in-Some-2.is in
+    let good = subst (λ (t : Result Place Refusal). TellsPlace t (told at one)) c.in-Ok.is c.tell.ensures in
     let lines : lines_of c.push.new.self.items ≡ front ++ one ∷ [] = ap lines_of c.in_ok-push-in-Ok.ensures.items ∙ map-append values_of c.loop-number.lines.items (c.in-Some-2.line ∷ []) in
     rw lines (sym (start ∙ good_line front n at piece rest one (place_of c.in-Ok.next) is good))
