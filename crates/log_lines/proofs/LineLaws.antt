@@ -17,7 +17,8 @@ use Rattle.log_lines.specs.declared.log_line.TheConstants.{LAST_VERSION, GREATES
 use Rattle.log_lines.specs.Fields.{Field, number, number_of, genome_of, letters, list_of}
 use Rattle.log_lines.specs.Rows.{Row, last, times, ◌◂◌}
 use Rattle.log_lines.specs.Line.{Line, Start, Death, Birth, Injected, Cleared, Rate, Count, End}
-use Rattle.log_lines.specs.Kinds.{small, large, rate_key, rate_names, rate_named, rate_name, change_text, read_lettered, read_change, FitsChange, change, in_order, over_field, base_field, changes_field}
+use Rattle.mutations.specs.RecordForm.{FitsChange, in_order}
+use Rattle.log_lines.specs.Kinds.{small, large, rate_key, rate_names, rate_named, rate_name, change_text, read_lettered, read_change, change, over_field, base_field, changes_field}
 use Rattle.log_lines.specs.LineText.{start_row, death_row, birth_row, injected_row, rate_row, count_row, end_row, counted, born, words_text, form_text, row_text, HasForm}
 use Rattle.log_lines.specs.LineReading.{start_of, death_of, birth_of, injected_of, cleared_of, rate_of, count_of, read_words, line_of}
 use Rattle.log_lines.proofs.LetterLemmas.{byte_of_letter, letter_of_byte-byte_of, letter_above, found_passes}

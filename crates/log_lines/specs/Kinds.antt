@@ -1,5 +1,5 @@
 -- The kinds of fields in a log (docs/FORMATS.md, "The log").
-use Rattle.std.specs.Prelude.{ℕ, ◌-◌, List, [], ◌∷◌, ◌++◌, length, take, codes, find, Option, None, Bool, true, false, nat_lt, ◌==◌, ◌&&◌, if◌then◌else◌, option_and_then, option_map, decimal, slice_index}
+use Rattle.std.specs.Prelude.{ℕ, ◌-◌, List, [], ◌∷◌, ◌++◌, length, take, codes, find, Option, None, ◌==◌, if◌then◌else◌, option_and_then, option_map, decimal, slice_index}
 use Rattle.std.specs.Str.{bytes_eq}
 use Rattle.instruction_set.specs.declared.letter.Letter.{Letter}
 use Rattle.instruction_set.specs.Letter.{byte_of, letter_of_byte}
@@ -7,6 +7,7 @@ use Rattle.mutations.specs.declared.change.Change.{Change}
 use Rattle.mutations.specs.declared.change.Change.TheVariants.{Point, Insert, Delete}
 use Rattle.mutations.specs.declared.rate_name.RateName.{RateName}
 use Rattle.mutations.specs.declared.rate_name.RateName.TheVariants as rate
+use Rattle.mutations.specs.RecordForm.{FitsChange, in_order}
 use Rattle.log_lines.specs.Fields.{Field, number, number_of, letters, or_sign, list_of, where_true}
 
 -- a number below 2 ^ 32
@@ -57,30 +58,9 @@ read_change (mark ∷ rest) =
     else if mark == 100 then option_map Delete (number_of 0 4294967295 rest)
     else None
 
--- the place of a change is below 2 ^ 32
-abbrev pub FitsChange : Change → Type 0
-FitsChange (Point at letter) = small.Fits at
-FitsChange (Insert at letter) = small.Fits at
-FitsChange (Delete at) = small.Fits at
-
 -- one change of a birth's record
 abbrev pub change : Field Change
 change = record { text = change_text; read = read_change; Fits = FitsChange }
-
--- points with rising places come first, then insertions, then deletions
-abbrev pub may_follow : Change → Change → Bool
-may_follow (Point at letter) (Point next _) = nat_lt at next
-may_follow (Point at letter) _ = true
-may_follow (Insert at letter) (Point next _) = false
-may_follow (Insert at letter) _ = true
-may_follow (Delete at) (Delete next) = true
-may_follow (Delete at) _ = false
-
--- each change may follow the one before it
-abbrev pub in_order : List Change → Bool
-in_order [] = true
-in_order (a ∷ []) = true
-in_order (a ∷ b ∷ changes) = may_follow a b && in_order (b ∷ changes)
 
 -- who stood in a cell
 abbrev pub over_field : Field (Option ℕ)

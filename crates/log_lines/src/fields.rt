@@ -5,7 +5,8 @@ ghost use Rattle.genome.specs.Genome as genome_spec;
 ghost use Rattle.mutations.specs.BirthRecord.{written_in};
 ghost use Rattle.mutations.specs.Change.{is_genome_length};
 ghost use Rattle.log_lines.specs.Fields.{each, genome_of, list_of, or_sign};
-ghost use Rattle.log_lines.specs.Kinds.{base_field, change, changes_field, in_order, large, may_follow, over_field, rate_named, read_change, read_lettered};
+ghost use Rattle.mutations.specs.RecordForm.{in_order, may_follow};
+ghost use Rattle.log_lines.specs.Kinds.{base_field, change, changes_field, large, over_field, rate_named, read_change, read_lettered};
 ghost use Rattle.log_lines.specs.Words.{ToChange, pieces_of};
 
 use crate::digits::{number, small_number};
