@@ -1,15 +1,28 @@
 // The newborns of an update are placed, one after another.
-ghost use Rattle.std.specs.Prelude.{◌≡◌, ◌+◌, ◌*◌, ◌++◌, ◌≤◌, ◌^◌, OnOk, length};
+ghost use Rattle.std.specs.Prelude.{◌≡◌, ◌+◌, ◌*◌, ◌++◌, ◌<◌, ◌≤◌, ◌^◌, All, OnOk, IfOk, length, map};
 ghost use Rattle.lineage_log.specs.LogGrammar.{lines_text};
+ghost use Rattle.log_lines.specs.Line.{Birth, values_of as line_values};
+ghost use Rattle.log_lines.specs.LineText.{line_text};
+ghost use Rattle.mutations.specs.BirthRecord.{record_of};
 ghost use Rattle.world_config.specs.Shown.{values_of};
-ghost use Rattle.world_rules.specs.LogText.{birth_lines};
-ghost use Rattle.world_rules.specs.Update.{after_births};
-ghost use Rattle.world_core.specs.Soundness.{AreDeliveries};
+ghost use Rattle.world_rules.specs.LogText.{birth_line, birth_lines};
+ghost use Rattle.world_rules.specs.Scene.{next_id, standing_at};
+ghost use Rattle.world_rules.specs.Update.{placings_of, after_birth, after_births};
+ghost use Rattle.world_rules.specs.World.{id_of, ids_of};
+ghost use Rattle.world_core.specs.Soundness.{IsDelivery, AreDeliveries};
 
+use crate::ancestor::Ancestor;
 use crate::delivery::Delivery;
+use crate::occupant::Occupant;
 use crate::scene::Scene;
+use crate::settings::{season_at, torus_of};
 use avida_port::Memory;
+use birth_board::{Occupants, Parents, Placing, Placings, place};
+use log_lines::{LogLine, write_line};
+use mutations::Origin;
+use organism::{Newborn, Organism};
 use std::alloc::Global;
+use std::sync::Arc;
 use world_config::Config;
 
 /// Places the newborns, with a line for each. After `Memory` drop the scene.
@@ -29,6 +42,148 @@ pub(crate) fn place_births(
     ensures size { OnOk result (length scene.new.cells ≡ length scene.old.cells) }
     ensures everyone { OnOk result (length scene.new.everyone ≡ length scene.old.everyone + length births.items) }
 {
-    let _ = (alloc, config, scene, births, text);
-    Err(Memory)
+    let placings = placings_of(alloc, config, scene, &births)?;
+    for (birth, placing) in births.into_iter().zip(placings.into_vec()) {
+        settle(alloc, config, scene, birth, &placing, text)?;
+    }
+    Ok(())
+}
+
+/// Where the newborns are placed.
+#[tactic(auto, unfolding(world_rules::specs::Update::placings_of))]
+fn placings_of(
+    alloc: Global,
+    config: &Config,
+    scene: &Scene,
+    births: &[Delivery],
+) -> Result<Placings, Memory>
+    requires size { length scene.now.cells ≡ config.now.width * config.now.height }
+    requires births { AreDeliveries (values_of config.now) (length scene.now.cells) births.now }
+    requires few { length scene.now.everyone ≤ 2 ^ 60 }
+    ensures placings { IfOk result (λ placings.
+        placings ≡ placings_of (values_of config.now) scene.now births.now) }
+    ensures count { IfOk result (λ placings. length placings ≡ length births.now) }
+    ensures in_world { IfOk result (λ placings.
+        All (λ placing. placing.cell < length scene.now.cells) placings) }
+{
+    let torus = torus_of(config);
+    let parents = parents_of(alloc, births)?;
+    let mut board = board_of(alloc, &scene.cells)?;
+    let season = season_at(config, scene.update, scene.next_id());
+    place(alloc, &torus, &parents, &mut board, &season)
+}
+
+/// The cells of the newborns' parents.
+fn parents_of(alloc: Global, births: &[Delivery]) -> Result<Parents, Memory>
+    ensures { IfOk result (λ parents. parents ≡ map (λ b. b.cell) births.now) }
+{
+    let cells = births.iter().map(|birth| birth.cell).collect(alloc)?;
+    Ok(Parents::from_vec(cells))
+}
+
+/// The id of who stands in each cell.
+fn board_of(alloc: Global, cells: &[Option<Occupant>]) -> Result<Occupants, Memory>
+    ensures { IfOk result (λ board. board ≡ ids_of cells.now) }
+{
+    let ids = cells.iter().map(id_of).collect(alloc)?;
+    Ok(Occupants::from_vec(ids))
+}
+
+/// The id of who stands in a cell.
+fn id_of(slot: &Option<Occupant>) -> Option<u64>
+    ensures { result ≡ id_of slot.now }
+{
+    match slot {
+        Some(occupant) => Some(occupant.id),
+        None => None,
+    }
+}
+
+/// A newborn stands in the cell of its placing, with the next id, and has its line.
+#[tactic(auto, unfolding(world_rules::specs::Update::after_birth, world_rules::specs::Scene::with_newcomer, organism::specs::OrganismState::new_organism))]
+fn settle(
+    alloc: Global,
+    config: &Config,
+    scene: &mut Scene,
+    birth: Delivery,
+    placing: &Placing,
+    text: &mut Vec<u8>,
+) -> Result<(), Memory>
+    requires cell { placing.now.cell < length scene.old.cells }
+    requires birth { IsDelivery (values_of config.now) (length scene.old.cells) birth }
+    ensures scene { OnOk result (scene.new ≡ after_birth (values_of config.now) scene.old (birth, placing.now)) }
+    ensures text { OnOk result (text.new.items
+        ≡ text.old.items ++ line_text (birth_line scene.old (birth, placing.now))) }
+    ensures size { OnOk result (length scene.new.cells ≡ length scene.old.cells) }
+    ensures everyone { OnOk result (length scene.new.everyone ≡ length scene.old.everyone + 1) }
+{
+    let id = scene.next_id();
+    let Delivery {
+        parent,
+        newborn,
+        ..
+    } = birth;
+    let Newborn {
+        genome,
+        origin,
+        merit,
+        credited,
+        ..
+    } = newborn;
+    let cell = placing.cell;
+    let origin = tell_birth(scene, parent, cell, origin, text)?;
+    let genome = Arc::new(alloc, genome)?;
+    let organism = Organism::found(
+        alloc,
+        genome.clone()?,
+        placing.inputs,
+        merit,
+        credited,
+        config.memory_limit,
+    )?;
+    let ancestor = Ancestor {
+        id,
+        parent: Some(parent),
+        update: scene.update,
+        cell,
+        origin: Some(origin),
+        genome,
+    };
+    scene.come(ancestor, organism)
+}
+
+/// Writes the line of a birth, and gives its record back.
+fn tell_birth(
+    scene: &Scene,
+    parent: u64,
+    cell: u32,
+    origin: Origin,
+    text: &mut Vec<u8>,
+) -> Result<Origin, Memory>
+    requires { cell < length scene.now.cells }
+    ensures text { OnOk result (text.new.items ≡ text.old.items ++ line_text (Birth (next_id scene.now)
+        parent scene.now.update cell (standing_at scene.now cell) (record_of origin))) }
+    ensures origin { IfOk result (λ kept. record_of kept ≡ record_of origin) }
+{
+    let line = LogLine::Birth {
+        id: scene.next_id(),
+        parent,
+        update: scene.update,
+        cell,
+        over: scene.standing_at(cell),
+        origin,
+    };
+    match told(line, text)? {
+        LogLine::Birth { origin, .. } => Ok(origin),
+        _ => unreachable!(),
+    }
+}
+
+/// The line, once it is written.
+fn told(line: LogLine, text: &mut Vec<u8>) -> Result<LogLine, Memory>
+    ensures text { OnOk result (text.new.items ≡ text.old.items ++ line_text (line_values line)) }
+    ensures line { IfOk result (λ told. told ≡ line) }
+{
+    write_line(&line, text)?;
+    Ok(line)
 }
