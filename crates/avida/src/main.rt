@@ -29,6 +29,7 @@ fn main(rt: HostRuntime) -> ExitCode {
     let mut out = StdSink::out(&rt);
     let mut watch = StdSink::err(&rt);
     let mut err = StdSink::err(&rt);
+    let mut last = None;
     let status = serve(
         rt.alloc(),
         &words,
@@ -36,6 +37,7 @@ fn main(rt: HostRuntime) -> ExitCode {
         &mut out,
         &mut watch,
         &mut err,
+        &mut last,
         &NoGate,
     );
     ExitCode::from(status.number())

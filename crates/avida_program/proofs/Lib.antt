@@ -2,3 +2,4 @@ pub mod PieceLemmas
 pub mod TraceLemmas
 pub mod Serves
 pub mod PutLemmas
+pub mod RunLemmas

@@ -1,9 +1,11 @@
 -- What words give a command (docs/FORMATS.md, "The command line").
-use Rattle.std.specs.Prelude.{Bool, true, false, ℕ, List, [], ◌∷◌, Option, Some, None, codes, if◌then◌else◌, option_map}
+use Rattle.std.specs.Prelude.{Bool, ℕ, List, [], ◌∷◌, Option, Some, None, ◌≤◌, ⊤, codes, if◌then◌else◌, is_none, option_map, option_and_then}
 use Rattle.std.specs.Str.{bytes_eq}
 use Rattle.command_line.specs.Commands as told
+use Rattle.command_line.specs.declared.run.Run.{Run as RunWords}
+use Rattle.command_line.specs.declared.run.TheConstants.{LEAST_WORKERS, MOST_WORKERS}
 use Rattle.avida_program.specs.declared.command.Command.{Command}
-use Rattle.avida_program.specs.declared.command.Command.TheVariants.{Trace}
+use Rattle.avida_program.specs.declared.command.Command.TheVariants.{Trace, Run}
 use Rattle.avida_program.specs.declared.command.Spelling.{Spelling}
 use Rattle.avida_program.specs.declared.command.Spelling.TheVariants.{Letters, Names}
 
@@ -16,7 +18,27 @@ abbrev pub trace_command : List (List ℕ) → Option Command
 trace_command words =
     option_map (λ trace. Trace trace.steps (spelling_of trace.org)) (told.trace_told words)
 
+-- the workers of a run that nobody watches
+abbrev pub unwatched : RunWords → Option Command
+unwatched run = if is_none run.watch then Some (Run run.workers) else None
+
+-- `run` by the words after the name; there is no `--watch` yet
+abbrev pub run_command : List (List ℕ) → Option Command
+run_command words = option_and_then unwatched (told.run_told words)
+
+-- the command of a name, by the words after it
+abbrev pub command_named : List ℕ → List (List ℕ) → Option Command
+command_named name words =
+    if bytes_eq name (codes "trace") then trace_command words
+    else if bytes_eq name (codes "run") then run_command words
+    else None
+
 -- the first word is the name, and the words after it are read by its form
 abbrev pub command_of : List (List ℕ) → Option Command
 command_of [] = None
-command_of (name ∷ words) = if bytes_eq name (codes "trace") then trace_command words else None
+command_of (name ∷ words) = command_named name words
+
+-- a run has from 1 to 64 workers
+abbrev pub HasWorkers : Command → Type 0
+HasWorkers (Trace steps spelling) = ⊤
+HasWorkers (Run workers) = (LEAST_WORKERS ≤ workers) × (workers ≤ MOST_WORKERS)

@@ -1,42 +1,39 @@
--- Which input `trace` takes (docs/FORMATS.md, "Genomes by letters" and "Genomes by names").
-use Rattle.std.specs.Prelude.{◌≡◌, ℕ, List, Result, Ok, Err, length, nat_lt, if◌then◌else◌, ⊤}
+-- Which input a command takes (docs/FORMATS.md, "Genomes by letters", "Genomes by names" and "The configuration").
+use Rattle.std.specs.Prelude.{◌≡◌, ℕ, List, Result, Ok, Err, length, nat_lt, if◌then◌else◌}
 use Rattle.instruction_set.specs.declared.letter.Letter.{Letter}
 use Rattle.genome.specs.declared.stop.GenomeStop.{GenomeStop}
 use Rattle.genome.specs.GenomeText.{spelled_by_letters, spelled_by_names}
+use Rattle.world_config.specs.Config.{config_of}
+use Rattle.world_config.specs.Values.{ConfigValues}
 use Rattle.avida_program.specs.declared.input.TheConstants.{INPUT_LIMIT}
 use Rattle.avida_program.specs.declared.command.Spelling.{Spelling}
 use Rattle.avida_program.specs.declared.command.Spelling.TheVariants.{Letters, Names}
 use Rattle.avida_program.specs.declared.refusal.Refusal.{Refusal}
-use Rattle.avida_program.specs.declared.refusal.Refusal.TheVariants.{TooLong, Genome}
-use Rattle.avida_program.specs.declared.outcome.Outcome.{Outcome}
-use Rattle.avida_program.specs.declared.outcome.Outcome.TheVariants as outcome
+use Rattle.avida_program.specs.declared.refusal.Refusal.TheVariants.{TooLong, Genome, Config}
+
+-- an input, or what refuses it as the reason of a refusal
+abbrev pub refused_as : {A E : Type 0} → (E → Refusal) → Result A E → Result A Refusal
+refused_as reason (Ok input) = Ok input
+refused_as reason (Err why) = Err (reason why)
+
+-- an input, unless its bytes are more than this; too many bytes come first
+abbrev pub within : {A : Type 0} → ℕ → List ℕ → Result A Refusal → Result A Refusal
+within limit bytes read = if nat_lt limit (length bytes) then Err TooLong else read
+
+-- the input is accepted, and this holds of it
+abbrev pub IsInputWith : {A : Type 0} → Result A Refusal → (A → Type 0) → Type 0
+IsInputWith {A} read P = (input : A) × (read ≡ Ok input) × P input
 
 -- the genome that is spelled so, or what refuses the bytes
 abbrev pub genome_spelled : Spelling → List ℕ → Result (List Letter) GenomeStop
 genome_spelled Letters bytes = spelled_by_letters bytes
 genome_spelled Names bytes = spelled_by_names bytes
 
--- what refuses bytes as a genome, as the reason of a refused input
-abbrev pub as_refusal : Result (List Letter) GenomeStop → Result (List Letter) Refusal
-as_refusal (Ok letters) = Ok letters
-as_refusal (Err why) = Err (Genome why)
-
--- the genome of an input, or why it is refused; too many bytes come first
+-- the genome of an input, or why it is refused
 abbrev pub genome_of : Spelling → List ℕ → Result (List Letter) Refusal
 genome_of spelling bytes =
-    if nat_lt INPUT_LIMIT (length bytes) then Err TooLong
-    else as_refusal (genome_spelled spelling bytes)
+    within INPUT_LIMIT bytes (refused_as Genome (genome_spelled spelling bytes))
 
--- the input is a genome, and this holds of it
-abbrev pub IsGenomeWith : Spelling → List ℕ → (List Letter → Type 0) → Type 0
-IsGenomeWith spelling bytes P =
-    (genome : List Letter) × (genome_of spelling bytes ≡ Ok genome) × P genome
-
--- how a reading ends without a genome: the input is refused, or memory is wanting
-abbrev pub ReadsGenome : Spelling → List ℕ → Outcome → Type 0
-ReadsGenome spelling bytes outcome.Done = ⊥
-ReadsGenome spelling bytes outcome.BadWords = ⊥
-ReadsGenome spelling bytes (outcome.BadInput why) = genome_of spelling bytes ≡ Err why
-ReadsGenome spelling bytes outcome.ReadFault = ⊥
-ReadsGenome spelling bytes outcome.WriteFault = ⊥
-ReadsGenome spelling bytes outcome.NoMemory = ⊤
+-- the configuration of an input, or why it is refused
+abbrev pub configuration_of : List ℕ → Result ConfigValues Refusal
+configuration_of bytes = within INPUT_LIMIT bytes (refused_as Config (config_of bytes))

@@ -1,13 +1,18 @@
 -- Statuses, and the lines that tell of them (docs/FORMATS.md, "Statuses and fault lines").
-use Rattle.std.specs.Prelude.{ℕ, List, [], ◌++◌, codes, decimal}
+use Rattle.std.specs.Prelude.{ℕ, ◌&&◌, nat_le, if◌then◌else◌, List, [], ◌++◌, map, take, codes, decimal}
+use Rattle.std.specs.Fmt.{signed_decimal}
 use Rattle.avida_program.specs.declared.status.Status.{Status}
 use Rattle.avida_program.specs.declared.status.Status.TheVariants as status
 use Rattle.avida_program.specs.declared.outcome.Outcome.{Outcome}
 use Rattle.avida_program.specs.declared.outcome.Outcome.TheVariants as outcome
 use Rattle.avida_program.specs.declared.refusal.Refusal.{Refusal}
-use Rattle.avida_program.specs.declared.refusal.Refusal.TheVariants.{TooLong, Genome}
+use Rattle.avida_program.specs.declared.refusal.Refusal.TheVariants.{TooLong, Genome, Config}
+use Rattle.avida_program.specs.declared.fault_line.TheConstants.{SHOWN_BYTES}
 use Rattle.genome.specs.declared.stop.GenomeStop.{GenomeStop}
 use Rattle.genome.specs.declared.stop.GenomeStop.TheVariants as stop
+use Rattle.world_config.specs.KeyTable.{key_name}
+use Rattle.world_config.specs.declared.stop.ConfigStop.{ConfigStop}
+use Rattle.world_config.specs.declared.stop.ConfigStop.TheVariants as config
 
 -- the exit status
 abbrev pub number_of_status : Status → ℕ
@@ -35,10 +40,30 @@ genome_reason (stop.BadName line) = codes "name in line " ++ decimal line
 genome_reason (stop.TooShort letters) = codes "short " ++ decimal letters
 genome_reason (stop.TooLong letters) = codes "long " ++ decimal letters
 
+-- a byte of a key as a line shows it: one outside the printed ones, and a space, is shown as ?
+abbrev pub shown_byte : ℕ → ℕ
+shown_byte byte = if nat_le 0x21 byte && nat_le byte 0x7E then byte else 63
+
+-- the front of a key as a line shows it
+abbrev pub shown_key : List ℕ → List ℕ
+shown_key key = map shown_byte (take SHOWN_BYTES key)
+
+-- why a document is no configuration; want of memory refuses no input
+abbrev pub config_reason : ConfigStop → List ℕ
+config_reason config.Memory = []
+config_reason config.BadToml = codes "toml"
+config_reason (config.UnknownKey key) = codes "key " ++ shown_key key
+config_reason (config.WrongKind key) = codes "kind " ++ key_name key
+config_reason (config.OutOfRange key value) =
+    codes "range " ++ key_name key ++ codes " " ++ signed_decimal value
+config_reason (config.BadAncestor why) = codes "ancestor " ++ genome_reason why
+config_reason (config.BadEvent nth) = codes "event " ++ decimal nth
+
 -- the reason of a refusal, as its line tells it
 abbrev pub reason_of : Refusal → List ℕ
 reason_of TooLong = codes "too long"
 reason_of (Genome why) = genome_reason why
+reason_of (Config why) = config_reason why
 
 -- the line that tells of an outcome
 abbrev pub fault_line : Outcome → List ℕ

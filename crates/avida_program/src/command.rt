@@ -1,9 +1,9 @@
 // The words of a command line.
-ghost use Rattle.std.specs.Prelude.{◌≡◌, Some, MatchResult, map, string_bytes};
+ghost use Rattle.std.specs.Prelude.{◌≡◌, ◌<◌, Some, MatchResult, IfOk, drop, length, map, string_bytes};
 ghost use Rattle.command_line.specs.Refusals.{Refuses};
-ghost use Rattle.avida_program.specs.CommandLine.{command_of, spelling_of};
+ghost use Rattle.avida_program.specs.CommandLine.{HasWorkers, command_named, command_of, run_command, spelling_of, trace_command};
 
-use command_line::{Refused, read_trace};
+use command_line::{Refused, read_run, read_trace};
 use std::alloc::Global;
 
 /// How a genome is written.
@@ -16,6 +16,7 @@ pub enum Spelling {
 #[derive(Clone, Copy, Debug, PartialEq, Eq)]
 pub enum Command {
     Trace { steps: u32, spelling: Spelling },
+    Run { workers: u32 },
 }
 
 fn genome_spelling(org: bool) -> Spelling
@@ -28,20 +29,59 @@ fn genome_spelling(org: bool) -> Spelling
     }
 }
 
-/// The command that the words give.
-pub fn read_words(alloc: Global, words: &[String]) -> Result<Command, Refused>
-    ensures { MatchResult result (λ command. command_of (map string_bytes words.now) ≡ Some command)
-        (Refuses (command_of (map string_bytes words.now))) }
+fn read_trace_words(alloc: Global, words: &[String]) -> Result<Command, Refused>
+    requires { 0 < length words.now }
+    ensures { MatchResult result
+        (λ command. trace_command (drop 1 (map string_bytes words.now)) ≡ Some command)
+        (Refuses (trace_command (drop 1 (map string_bytes words.now)))) }
 {
-    let Some(name) = words.first() else {
-        return Err(Refused::BadWords);
-    };
-    if name.as_str() != "trace" {
-        return Err(Refused::BadWords);
-    }
     let trace = read_trace(alloc, words)?;
     Ok(Command::Trace {
         steps: trace.steps,
         spelling: genome_spelling(trace.org),
     })
+}
+
+/// Nobody can watch a run yet, so the words that ask for it give no command.
+fn read_run_words(alloc: Global, words: &[String]) -> Result<Command, Refused>
+    requires { 0 < length words.now }
+    ensures { MatchResult result
+        (λ command. run_command (drop 1 (map string_bytes words.now)) ≡ Some command)
+        (Refuses (run_command (drop 1 (map string_bytes words.now)))) }
+{
+    let run = read_run(alloc, words)?;
+    match run.watch {
+        None => Ok(Command::Run {
+            workers: run.workers,
+        }),
+        Some(_) => Err(Refused::BadWords),
+    }
+}
+
+/// The command of this name, which is the first word.
+fn read_named(alloc: Global, name: &str, words: &[String]) -> Result<Command, Refused>
+    requires { 0 < length words.now }
+    ensures command { MatchResult result
+        (λ command. command_named name.now (drop 1 (map string_bytes words.now)) ≡ Some command)
+        (Refuses (command_named name.now (drop 1 (map string_bytes words.now)))) }
+    ensures workers { IfOk result HasWorkers }
+{
+    match name {
+        "trace" => read_trace_words(alloc, words),
+        "run" => read_run_words(alloc, words),
+        _ => Err(Refused::BadWords),
+    }
+}
+
+/// The command that the words give.
+pub fn read_words(alloc: Global, words: &[String]) -> Result<Command, Refused>
+    ensures command { MatchResult result
+        (λ command. command_of (map string_bytes words.now) ≡ Some command)
+        (Refuses (command_of (map string_bytes words.now))) }
+    ensures workers { IfOk result HasWorkers }
+{
+    let Some(name) = words.first() else {
+        return Err(Refused::BadWords);
+    };
+    read_named(alloc, name.as_str(), words)
 }

@@ -1,31 +1,99 @@
 // The line that tells of an outcome, made in a fixed text.
-ghost use Rattle.std.specs.Prelude.{◌≡◌, ◌≤◌, ◌+◌, ◌++◌, length, codes, decimal};
-ghost use Rattle.arrayvec.specs.ArrayString.{array_string_len};
-ghost use Rattle.avida_program.specs.Status.{fault_line, genome_reason, reason_of};
+ghost use Rattle.std.specs.Prelude.{◌≡◌, ◌≤◌, ◌+◌, ◌++◌, length, codes, decimal, map};
+ghost use Rattle.std.specs.Fmt.{signed_decimal};
+ghost use Rattle.arrayvec.specs.ArrayVec.{array_vec_len};
+ghost use Rattle.world_config.specs.KeyTable.{key_name};
+ghost use Rattle.avida_program.specs.Status.{config_reason, fault_line, genome_reason, reason_of, shown_byte, shown_key};
 
 use crate::{Outcome, Refusal};
-use arrayvec::ArrayString;
+use arrayvec::ArrayVec;
 use genome::GenomeStop;
+use world_config::{ConfigStop, Key};
 
 /// No fault line is longer.
 pub const LONGEST_LINE: usize = 96;
 
-type Line = ArrayString<LONGEST_LINE>;
+/// How many bytes of a key a line shows at most.
+pub const SHOWN_BYTES: usize = 64;
+
+type Line = ArrayVec<u8, LONGEST_LINE>;
+
+fn push_text(line: &mut Line, text: &str)
+    requires { array_vec_len line.old + length text.now ≤ LONGEST_LINE }
+    ensures items { line.new.items ≡ line.old.items ++ text.now }
+    ensures len { array_vec_len line.new ≡ array_vec_len line.old + length text.now }
+{
+    let _ = line.try_extend_from_slice(text.as_bytes());
+}
 
 fn push_number(line: &mut Line, before: &str, number: u64)
-    requires { array_string_len line.old + length before.now ≤ 64 }
-    ensures bytes { line.new.bytes ≡ line.old.bytes ++ before.now ++ decimal number }
-    ensures len { array_string_len line.new ≤ array_string_len line.old + length before.now + 20 }
+    requires { array_vec_len line.old + length before.now ≤ 64 }
+    ensures items { line.new.items ≡ line.old.items ++ before.now ++ decimal number }
+    ensures len { array_vec_len line.new ≤ array_vec_len line.old + length before.now + 20 }
 {
     let mut digits = itoa::Buffer::new();
-    line.push_str(before);
-    line.push_str(digits.format(number));
+    push_text(line, before);
+    push_text(line, digits.format(number));
+}
+
+fn push_value(line: &mut Line, value: i64)
+    requires { array_vec_len line.old ≤ 64 }
+    ensures items { line.new.items ≡ line.old.items ++ signed_decimal value }
+    ensures len { array_vec_len line.new ≤ array_vec_len line.old + 20 }
+{
+    let mut digits = itoa::Buffer::new();
+    push_text(line, digits.format(value));
+}
+
+fn shown(byte: u8) -> u8
+    ensures { result ≡ shown_byte byte }
+{
+    if 0x21 <= byte && byte <= 0x7E {
+        byte
+    } else {
+        b'?'
+    }
+}
+
+fn push_shown(line: &mut Line, bytes: &[u8])
+    requires { array_vec_len line.old + length bytes.now ≤ LONGEST_LINE }
+    ensures items { line.new.items ≡ line.old.items ++ map shown_byte bytes.now }
+    ensures len { array_vec_len line.new ≡ array_vec_len line.old + length bytes.now }
+{
+    for byte in bytes {
+        line.push(shown(*byte));
+    }
+}
+
+#[tactic(auto, using(std::proofs::lemmas::List::take_min))]
+fn push_unknown(line: &mut Line, key: &[u8])
+    requires { array_vec_len line.old ≤ 28 }
+    ensures items { line.new.items ≡ line.old.items ++ shown_key key.now }
+    ensures len { array_vec_len line.new ≤ array_vec_len line.old + SHOWN_BYTES }
+{
+    push_shown(line, &key[..SHOWN_BYTES.min(key.len())]);
+}
+
+fn name_of_key(key: Key) -> &'static str
+    ensures name { result.now ≡ key_name key }
+    ensures short { length result.now ≤ 16 }
+{
+    key.name()
+}
+
+fn push_key(line: &mut Line, before: &str, key: Key)
+    requires { array_vec_len line.old + length before.now ≤ 40 }
+    ensures items { line.new.items ≡ line.old.items ++ before.now ++ key_name key }
+    ensures len { array_vec_len line.new ≤ array_vec_len line.old + length before.now + 16 }
+{
+    push_text(line, before);
+    push_text(line, name_of_key(key));
 }
 
 fn push_genome_reason(line: &mut Line, stop: GenomeStop)
-    requires { array_string_len line.old ≤ 32 }
-    ensures bytes { line.new.bytes ≡ line.old.bytes ++ genome_reason stop }
-    ensures len { array_string_len line.new ≤ array_string_len line.old + 40 }
+    requires { array_vec_len line.old ≤ 32 }
+    ensures items { line.new.items ≡ line.old.items ++ genome_reason stop }
+    ensures len { array_vec_len line.new ≤ array_vec_len line.old + 40 }
 {
     match stop {
         GenomeStop::Memory => {}
@@ -36,32 +104,78 @@ fn push_genome_reason(line: &mut Line, stop: GenomeStop)
     }
 }
 
-fn push_reason(line: &mut Line, refusal: Refusal)
-    requires { array_string_len line.old ≤ 32 }
-    ensures bytes { line.new.bytes ≡ line.old.bytes ++ reason_of refusal }
-    ensures len { array_string_len line.new ≤ array_string_len line.old + 40 }
+fn push_range(line: &mut Line, key: Key, value: i64)
+    requires { array_vec_len line.old ≤ 20 }
+    ensures items { line.new.items
+        ≡ line.old.items ++ codes "range " ++ key_name key ++ codes " " ++ signed_decimal value }
+    ensures len { array_vec_len line.new ≤ array_vec_len line.old + 43 }
 {
-    match refusal {
-        Refusal::TooLong => line.push_str("too long"),
-        Refusal::Genome(stop) => push_genome_reason(line, stop),
+    push_key(line, "range ", key);
+    line.push(b' ');
+    push_value(line, value);
+}
+
+fn push_ancestor(line: &mut Line, stop: GenomeStop)
+    requires { array_vec_len line.old ≤ 20 }
+    ensures items { line.new.items ≡ line.old.items ++ codes "ancestor " ++ genome_reason stop }
+    ensures len { array_vec_len line.new ≤ array_vec_len line.old + 49 }
+{
+    push_text(line, "ancestor ");
+    push_genome_reason(line, stop);
+}
+
+fn push_key_unknown(line: &mut Line, key: &[u8])
+    requires { array_vec_len line.old ≤ 20 }
+    ensures items { line.new.items ≡ line.old.items ++ codes "key " ++ shown_key key.now }
+    ensures len { array_vec_len line.new ≤ array_vec_len line.old + 68 }
+{
+    push_text(line, "key ");
+    push_unknown(line, key);
+}
+
+fn push_config_reason(line: &mut Line, stop: &ConfigStop)
+    requires { array_vec_len line.old ≤ 20 }
+    ensures items { line.new.items ≡ line.old.items ++ config_reason stop.now }
+    ensures len { array_vec_len line.new ≤ array_vec_len line.old + 68 }
+{
+    match stop {
+        ConfigStop::Memory => {}
+        ConfigStop::BadToml => push_text(line, "toml"),
+        ConfigStop::UnknownKey { key } => push_key_unknown(line, key.bytes()),
+        ConfigStop::WrongKind { key } => push_key(line, "kind ", *key),
+        ConfigStop::OutOfRange { key, value } => push_range(line, *key, *value),
+        ConfigStop::BadAncestor { stop } => push_ancestor(line, *stop),
+        ConfigStop::BadEvent { nth } => push_number(line, "event ", u64::from(*nth)),
     }
 }
 
-pub fn line_of(outcome: Outcome) -> Line
-    ensures { result.bytes ≡ fault_line outcome }
+fn push_reason(line: &mut Line, refusal: &Refusal)
+    requires { array_vec_len line.old ≤ 20 }
+    ensures items { line.new.items ≡ line.old.items ++ reason_of refusal.now }
+    ensures len { array_vec_len line.new ≤ array_vec_len line.old + 68 }
+{
+    match refusal {
+        Refusal::TooLong => push_text(line, "too long"),
+        Refusal::Genome(stop) => push_genome_reason(line, *stop),
+        Refusal::Config(stop) => push_config_reason(line, stop),
+    }
+}
+
+pub fn line_of(outcome: &Outcome) -> Line
+    ensures { result.items ≡ fault_line outcome.now }
 {
     let mut line = Line::new();
     match outcome {
         Outcome::Done => {}
-        Outcome::BadWords => line.push_str("avida: bad words\n"),
+        Outcome::BadWords => push_text(&mut line, "avida: bad words\n"),
         Outcome::BadInput(refusal) => {
-            line.push_str("avida: bad input: ");
+            push_text(&mut line, "avida: bad input: ");
             push_reason(&mut line, refusal);
-            line.push_str("\n");
+            push_text(&mut line, "\n");
         }
-        Outcome::ReadFault => line.push_str("avida: read fault\n"),
-        Outcome::WriteFault => line.push_str("avida: write fault\n"),
-        Outcome::NoMemory => line.push_str("avida: no memory\n"),
+        Outcome::ReadFault => push_text(&mut line, "avida: read fault\n"),
+        Outcome::WriteFault => push_text(&mut line, "avida: write fault\n"),
+        Outcome::NoMemory => push_text(&mut line, "avida: no memory\n"),
     }
     line
 }

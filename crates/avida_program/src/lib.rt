@@ -7,6 +7,7 @@ mod input;
 mod outcome;
 mod piece;
 mod refusal;
+mod run;
 mod serving;
 mod status;
 mod trace;

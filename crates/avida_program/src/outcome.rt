@@ -3,8 +3,9 @@ ghost use Rattle.std.specs.Prelude.{◌≡◌};
 ghost use Rattle.avida_program.specs.Status.{status_of};
 
 use crate::{Refusal, Status};
+use avida_port::{Memory, SinkStop};
 
-#[derive(Clone, Copy, Debug, PartialEq, Eq)]
+#[derive(Drop)]
 pub enum Outcome {
     Done,
     BadWords,
@@ -15,8 +16,8 @@ pub enum Outcome {
 }
 
 impl Outcome {
-    pub fn status(self) -> Status
-        ensures { result ≡ status_of self }
+    pub fn status(&self) -> Status
+        ensures { result ≡ status_of self.now }
     {
         match self {
             Outcome::Done => Status::Done,
@@ -25,6 +26,31 @@ impl Outcome {
             Outcome::ReadFault => Status::ReadFault,
             Outcome::WriteFault => Status::WriteFault,
             Outcome::NoMemory => Status::NoMemory,
+        }
+    }
+}
+
+impl From<Memory> for Outcome {
+    ghost use Rattle.std.specs.Prelude.{◌≡◌};
+    ghost use Rattle.avida_program.specs.declared.outcome.Outcome.TheVariants as outcome;
+
+    ghost from_gives = { λ _ told. told ≡ outcome.NoMemory };
+
+    fn from(_e: Memory) -> Outcome {
+        Outcome::NoMemory
+    }
+}
+
+impl From<SinkStop> for Outcome {
+    ghost use Rattle.std.specs.Prelude.{◌≡◌};
+    ghost use Rattle.avida_program.specs.Outcomes.{stopped_by};
+
+    ghost from_gives = { λ stop told. told ≡ stopped_by stop };
+
+    fn from(stop: SinkStop) -> Outcome {
+        match stop {
+            SinkStop::Fault => Outcome::WriteFault,
+            SinkStop::Memory => Outcome::NoMemory,
         }
     }
 }

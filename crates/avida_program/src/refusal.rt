@@ -1,9 +1,11 @@
 // Why an input is refused.
 
 use genome::GenomeStop;
+use world_config::ConfigStop;
 
-#[derive(Clone, Copy, Debug, PartialEq, Eq)]
+#[derive(Drop)]
 pub enum Refusal {
     TooLong,
     Genome(GenomeStop),
+    Config(ConfigStop),
 }

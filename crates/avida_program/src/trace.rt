@@ -1,16 +1,15 @@
 // The command `trace`.
-ghost use Rattle.std.specs.Prelude.{◌≡◌, ◌≢◌, ◌≤◌, ℕ, List, Ok, Some, length, IfOk};
+ghost use Rattle.std.specs.Prelude.{◌≡◌, ◌≢◌, ℕ, List, Some, length, IfOk};
 ghost use Rattle.genome.specs.Genome.{letters};
 ghost use Rattle.avida_program.specs.Commands.{change};
-ghost use Rattle.avida_program.specs.Input.{genome_of};
 ghost use Rattle.avida_program.specs.Outcomes.{HasCauses, Traces, WritesText, outcome_of};
 ghost use Rattle.avida_program.specs.TraceText.{lines_of, trace_limit, trace_text, traced_organism};
 
-use crate::input::read_genome;
+use crate::input::{read_bytes, read_genome};
 use crate::piece::Piece;
 use crate::trace_line::write_line;
-use crate::{INPUT_LIMIT, Outcome, Refusal, Spelling};
-use avida_port::{Memory, ReadStop, Sink, SinkStop, Source, read_all};
+use crate::{INPUT_LIMIT, Outcome, Spelling};
+use avida_port::{Memory, Sink, SinkStop, Source};
 use genome::Genome;
 use logic_tasks::{Inputs, Tasks};
 use organism::Organism;
@@ -59,8 +58,7 @@ fn ended(puts: Result<(), SinkStop>) -> Outcome
 {
     match puts {
         Ok(()) => Outcome::Done,
-        Err(SinkStop::Fault) => Outcome::WriteFault,
-        Err(SinkStop::Memory) => Outcome::NoMemory,
+        Err(stop) => Outcome::from(stop),
     }
 }
 
@@ -107,11 +105,9 @@ pub fn trace<S: Source, O: Sink>(
         → Traces steps spelling bytes (change (S.seen source.old) (S.seen source.new))
         (change (O.seen out.old) (O.seen out.new)) result }
 {
-    let bytes = match read_all(alloc, source, INPUT_LIMIT) {
+    let bytes = match read_bytes(alloc, source, INPUT_LIMIT) {
         Ok(bytes) => bytes,
-        Err(ReadStop::Memory) => return Outcome::NoMemory,
-        Err(ReadStop::Fault) => return Outcome::ReadFault,
-        Err(ReadStop::TooLong) => return Outcome::BadInput(Refusal::TooLong),
+        Err(outcome) => return outcome,
     };
     match read_genome(alloc, spelling, bytes) {
         Ok(genome) => write_trace(alloc, genome, steps, out),

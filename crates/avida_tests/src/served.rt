@@ -2,6 +2,7 @@
 use avida_port::{Failing, MemSink, MemSource, NoGate};
 use avida_program::{Status, serve};
 use std::alloc::{AllocError, Global};
+use world_core::World;
 
 /// What a call answered and left.
 #[derive(Drop)]
@@ -10,6 +11,7 @@ pub struct Served {
     pub out: MemSink,
     pub watch: MemSink,
     pub err: MemSink,
+    pub last: Option<World>,
 }
 
 /// The calls at which a source and the sinks fail.
@@ -43,6 +45,7 @@ pub fn serve_with(
     let mut out = MemSink::new(alloc, faults.puts.to_vec(alloc)?);
     let mut watch = MemSink::new(alloc, Vec::new(alloc));
     let mut err = MemSink::new(alloc, faults.err_puts.to_vec(alloc)?);
+    let mut last = None;
     let status = serve(
         alloc,
         &texts,
@@ -50,6 +53,7 @@ pub fn serve_with(
         &mut out,
         &mut watch,
         &mut err,
+        &mut last,
         &NoGate,
     );
     Ok(Served {
@@ -57,6 +61,7 @@ pub fn serve_with(
         out,
         watch,
         err,
+        last,
     })
 }
 

@@ -1,8 +1,14 @@
 use Rattle.std.proofs.Common.{refl}
-use Rattle.avida_program.proofs.Serves.{serves_trace}
+use Rattle.avida_program.proofs.Serves.{serves_input, serves_run}
 use Rattle.avida_program.proofs.serving.serve.Goals as goal
 
 pub returns-clause-trace : goal.returns-clause-trace
 returns-clause-trace g c steps spelling is bytes told =
+    let did = c.carry_out-outcome.ensures.trace steps spelling is bytes told in
     rw c.status.ensures
-    (serves_trace steps spelling bytes _ _ _ _ c.carry_out-outcome.result refl (c.carry_out-outcome.ensures.trace steps spelling is bytes told) c.tell.ensures)
+    (record { serves = serves_input _ _ _ _ _ _ c.carry_out-outcome.result refl did.0 c.tell.ensures; last_stays = did.1 })
+
+pub returns-clause-run : goal.returns-clause-run
+returns-clause-run g c workers is bytes told =
+    rw c.status.ensures
+    (serves_run bytes _ _ _ _ _ c.carry_out-outcome.result refl (c.carry_out-outcome.ensures.run workers is bytes told) c.tell.ensures)

@@ -1,0 +1,35 @@
+use Rattle.std.proofs.Common.{ap}
+use Rattle.std.proofs.lemmas.Result.{err_from_is_err_and}
+use Rattle.world_config.specs.Shown.{values_of}
+use Rattle.avida_program.proofs.RunLemmas.{first_stopped, last_written, stopped_same, updates_stopped, writes_same}
+use Rattle.avida_program.proofs.run.write_log.Goals as goal
+
+pub returns-in_err-write_first-clause-text : goal.returns-in_err-write_first-clause-text
+returns-in_err-write_first-clause-text g c =
+    let p = err_from_is_err_and c.from_residual-in_err-write_first.result c.from_residual-in_err-write_first.ensures.1 in
+    rw (p.1, p.2)
+    (first_stopped (values_of c.args.config) c.in_ok-world.world.config c.args.config.updates c.in_err-write_first.ensures (ap (λ w. w.config) c.in_ok-world.ensures))
+
+pub returns-in_err-world-2-clause-text : goal.returns-in_err-world-2-clause-text
+returns-in_err-world-2-clause-text g c =
+    let p = err_from_is_err_and c.from_residual-in_err-world-2.result c.from_residual-in_err-world-2.ensures.1 in
+    let founded = ap (λ w. w.config) c.in_ok-world.ensures in
+    rw (p.1, p.2)
+    (updates_stopped (values_of c.args.config) c.in_ok-world.world.config c.in_ok-world.world.config c.args.config.updates
+    c.in_ok-write_first.ensures founded c.in_err-world-2.ensures.text founded)
+
+pub returns-in_err-write_last-clause-text : goal.returns-in_err-write_last-clause-text
+returns-in_err-write_last-clause-text g c =
+    let p = err_from_is_err_and c.from_residual-in_err-write_last.result c.from_residual-in_err-write_last.ensures.1 in
+    let founded = ap (λ w. w.config) c.in_ok-world.ensures in
+    rw (p.1, p.2)
+    (stopped_same (last_written (values_of c.args.config) c.in_ok-world.world.config c.in_ok-world.world.config c.args.config.updates c.in_ok-world-2.world.update
+    c.in_ok-write_first.ensures founded c.in_ok-world-2.ensures.text founded
+    c.in_err-write_last.ensures (ap (λ w. w.update) c.in_ok-world-2.ensures.world)))
+
+pub returns-clause-text : goal.returns-clause-text
+returns-clause-text g c =
+    let founded = ap (λ w. w.config) c.in_ok-world.ensures in
+    writes_same (last_written (values_of c.args.config) c.in_ok-world.world.config c.in_ok-world.world.config c.args.config.updates c.in_ok-world-2.world.update
+    c.in_ok-write_first.ensures founded c.in_ok-world-2.ensures.text founded
+    c.in_ok-write_last.ensures (ap (λ w. w.update) c.in_ok-world-2.ensures.world))

@@ -1,0 +1,12 @@
+-- The texts so far are written, and the world has come so far.
+use Rattle.std.proofs.Common.{◌≡◌, Ok}
+use Rattle.world_rules.specs.LogText.{updates_text}
+use Rattle.avida_program.specs.Outcomes.{WritesAll}
+use Rattle.avida_program.proofs.run.write_updates.Given as goal
+
+abbrev pub invariant-loop : goal.invariant-loop
+invariant-loop g l = record {
+  config : l.world.config ≡ l.fn.world.config;
+  update : l.world.update ≡ l.counter;
+  written : WritesAll {T = Unit {0}} (g.O.Sink.seen l.fn.out) (g.O.Sink.seen l.out) (updates_text l.fn.world.config l.counter) (Ok tt);
+}

@@ -1,0 +1,130 @@
+// The command `run`.
+ghost use Rattle.std.specs.Prelude.{◌≡◌, ◌≢◌, ◌≤◌, ◌<◌, ◌+◌, ℕ, List, Ok, Some, IfOk, OnOk, MatchResult};
+ghost use Rattle.world_config.specs.Shown.{values_of};
+ghost use Rattle.world_core.specs.declared.world.TheConstants.{MOST_UPDATES, MOST_WORKERS};
+ghost use Rattle.world_core.specs.WorldValue.{WorldValue};
+ghost use Rattle.world_rules.specs.LogText.{head_text, update_text, updates_text, end_text, log_text};
+ghost use Rattle.avida_program.specs.Commands.{Stays, change, final_world, run_text};
+ghost use Rattle.avida_program.specs.Outcomes.{HasCauses, Runs, WritesAll};
+
+use crate::input::{read_bytes, read_config};
+use crate::{INPUT_LIMIT, Outcome};
+use avida_port::{Gate, Sink, Source};
+use std::alloc::Global;
+use world_config::Config;
+use world_core::World;
+
+fn write_first<O: Sink>(alloc: Global, world: &World, out: &mut O) -> Result<(), Outcome>
+    ensures { WritesAll (O.seen out.old) (O.seen out.new) (head_text world.now.config) result }
+{
+    let line = world.first_line(alloc)?;
+    out.put(&line)?;
+    Ok(())
+}
+
+fn write_last<O: Sink>(alloc: Global, world: &World, out: &mut O) -> Result<(), Outcome>
+    ensures { WritesAll (O.seen out.old) (O.seen out.new) (end_text world.now.update) result }
+{
+    let line = world.last_line(alloc)?;
+    out.put(&line)?;
+    Ok(())
+}
+
+/// One update, whose text is put whole.
+fn write_update<O: Sink, G: Gate + Sync>(
+    alloc: Global,
+    world: World,
+    out: &mut O,
+    gate: &G,
+) -> Result<World, Outcome>
+    requires { world.update < MOST_UPDATES }
+    ensures world { IfOk result (λ next. next ≡ record world { update = world.update + 1 }) }
+    ensures text { WritesAll (O.seen out.old) (O.seen out.new)
+        (update_text world.config (world.update + 1)) result }
+{
+    let (next, text) = world.advance(alloc, gate)?;
+    out.put(&text)?;
+    Ok(next)
+}
+
+/// The updates of a new world, with their texts.
+fn write_updates<O: Sink, G: Gate + Sync>(
+    alloc: Global,
+    mut world: World,
+    updates: u32,
+    out: &mut O,
+    gate: &G,
+) -> Result<World, Outcome>
+    requires new { world.update ≡ 0 }
+    requires updates { updates ≤ MOST_UPDATES }
+    ensures world { IfOk result (λ after. after ≡ record world { update = updates }) }
+    ensures text { WritesAll (O.seen out.old) (O.seen out.new)
+        (updates_text world.config updates) result }
+{
+    for _ in 0..updates {
+        world = write_update(alloc, world, out, gate)?;
+    }
+    Ok(world)
+}
+
+/// Runs a configuration to its end, and writes the log.
+fn write_log<O: Sink, G: Gate + Sync>(
+    alloc: Global,
+    config: Config,
+    workers: u32,
+    out: &mut O,
+    gate: &G,
+) -> Result<World, Outcome>
+    requires workers { (1 ≤ workers) × (workers ≤ MOST_WORKERS) }
+    ensures world { IfOk result (λ world. world ≡ final_world (values_of config)) }
+    ensures text { WritesAll (O.seen out.old) (O.seen out.new) (run_text (values_of config)) result }
+{
+    let updates = config.updates;
+    let world = World::found(alloc, config, workers)?;
+    write_first(alloc, &world, out)?;
+    let world = write_updates(alloc, world, updates, out, gate)?;
+    write_last(alloc, &world, out)?;
+    Ok(world)
+}
+
+/// Leaves the world of a run that came to its end.
+fn leave(run: Result<World, Outcome>, last: &mut Option<World>) -> Outcome
+    ensures { MatchResult run (λ world. (result ≡ Outcome.Done) × (last.new ≡ Some world))
+        (λ told. (result ≡ told) × (last.new ≡ last.old)) }
+{
+    match run {
+        Ok(world) => {
+            *last = Some(world);
+            Outcome::Done
+        }
+        Err(outcome) => outcome,
+    }
+}
+
+/// Reads a configuration, and writes the log of its run; the last world is left only where all is done.
+pub fn run<S: Source, O: Sink, G: Gate + Sync>(
+    alloc: Global,
+    workers: u32,
+    source: &mut S,
+    out: &mut O,
+    last: &mut Option<World>,
+    gate: &G,
+) -> Outcome
+    requires { (1 ≤ workers) × (workers ≤ MOST_WORKERS) }
+    ensures causes { HasCauses (change (S.seen source.old) (S.seen source.new))
+        (change (O.seen out.old) (O.seen out.new)) result }
+    ensures words { result ≢ Outcome.BadWords }
+    ensures last_stays { result ≢ Outcome.Done → Stays (change last.old last.new) }
+    ensures told { (bytes : List ℕ) → (S.seen source.old).left ≡ Some bytes
+        → Runs bytes (change (S.seen source.old) (S.seen source.new))
+        (change (O.seen out.old) (O.seen out.new)) (change last.old last.new) result }
+{
+    let bytes = match read_bytes(alloc, source, INPUT_LIMIT) {
+        Ok(bytes) => bytes,
+        Err(outcome) => return outcome,
+    };
+    match read_config(alloc, bytes) {
+        Ok(config) => leave(write_log(alloc, config, workers, out, gate), last),
+        Err(outcome) => outcome,
+    }
+}
