@@ -1,10 +1,11 @@
 -- The forms of the commands, and their numbers (docs/FORMATS.md, "The command line").
 use Rattle.std.specs.Prelude.{ℕ, List, [], ◌∷◌, Option, Some, None, codes, option_and_then, option_map, slice_get}
-use Rattle.command_line.specs.Form.{Form, Told}
+use Rattle.command_line.specs.Form.{Form, Told, Valued}
 use Rattle.command_line.specs.Words.{is_set, told_by}
 use Rattle.command_line.specs.Number.{number_in}
 use Rattle.command_line.specs.declared.run.Run.{Run}
-use Rattle.command_line.specs.declared.run.TheConstants.{LEAST_WORKERS, MOST_LOOKS, MOST_WORKERS}
+use Rattle.command_line.specs.declared.run.TheConstants.{MOST_LOOKS}
+use Rattle.command_line.specs.declared.workers.TheConstants.{LEAST_WORKERS, MOST_WORKERS}
 use Rattle.command_line.specs.declared.trace.Trace.{Trace}
 use Rattle.command_line.specs.declared.trace.TheConstants.{MOST_STEPS}
 
@@ -12,12 +13,14 @@ use Rattle.command_line.specs.declared.trace.TheConstants.{MOST_STEPS}
 abbrev pub trace_form : Form
 trace_form = record { options = []; flags = codes "org" ∷ []; positionals = 1 }
 
+-- `--workers k`
+abbrev pub workers_option : Valued
+workers_option = record { name = codes "workers"; default = Some (codes "1") }
+
 -- `run [--workers k] [--watch looks]`
 abbrev pub run_form : Form
 run_form = record {
-  options =
-      record { name = codes "workers"; default = Some (codes "1") }
-      ∷ record { name = codes "watch"; default = None } ∷ [];
+  options = workers_option ∷ record { name = codes "watch"; default = None } ∷ [];
   flags = [];
   positionals = 0;
 }
@@ -26,10 +29,15 @@ run_form = record {
 abbrev pub bare_form : Form
 bare_form = record { options = []; flags = []; positionals = 0 }
 
+-- the number in this range that the positional at this place spells
+abbrev pub number_at : ℕ → ℕ → ℕ → Told → Option ℕ
+number_at least greatest place told =
+    option_and_then (number_in least greatest) (slice_get told.positionals place)
+
 -- `trace` with the steps that the positional spells
 abbrev pub trace_of : Told → Option Trace
 trace_of told = option_map (λ steps. record { steps = steps; org = is_set told.flags 0 })
-    (option_and_then (number_in 0 MOST_STEPS) (slice_get told.positionals 0))
+    (number_at 0 MOST_STEPS 0 told)
 
 -- the looks that the value spells, where there is a value
 abbrev pub looks_of : Option (List ℕ) → Option (Option ℕ)
@@ -40,6 +48,11 @@ looks_of (Some value) = option_map (λ looks. Some looks) (number_in 0 MOST_LOOK
 abbrev pub value_at : ℕ → Told → Option (List ℕ)
 value_at place told = option_and_then (λ value. value) (slice_get told.values place)
 
+-- the workers that the value at this place spells
+abbrev pub workers_at : ℕ → Told → Option ℕ
+workers_at place told =
+    option_and_then (number_in LEAST_WORKERS MOST_WORKERS) (value_at place told)
+
 -- `run` with so many workers and this watch
 abbrev pub run_with : Option (List ℕ) → ℕ → Option Run
 run_with watch workers =
@@ -47,8 +60,7 @@ run_with watch workers =
 
 -- `run` with the workers and the looks that its values spell
 abbrev pub run_of : Told → Option Run
-run_of told = option_and_then (run_with (value_at 1 told))
-    (option_and_then (number_in LEAST_WORKERS MOST_WORKERS) (value_at 0 told))
+run_of told = option_and_then (run_with (value_at 1 told)) (workers_at 0 told)
 
 -- what the words after the name tell `trace`
 abbrev pub trace_told : List (List ℕ) → Option Trace

@@ -1,63 +1,71 @@
 -- The commands as the parser knows them (docs/FORMATS.md, "The command line").
-use Rattle.std.specs.Prelude.{Bool, true, false, [], ◌∷◌, List, ℕ, codes, Option, Some, None, option_and_then, option_map}
+use Rattle.std.specs.Prelude.{Bool, true, false, [], ◌∷◌, ◌++◌, List, map, ℕ, codes}
+use Rattle.std.specs.Prelude.{Option, Some, None, option_map}
+use Rattle.std.specs.Option.{option_to_list}
 use Rattle.std.specs.Str.{bytes_eq}
 use Rattle.clap.specs.Walk.{Rule, Row, first_of}
-use Rattle.clap.specs.Simple.{App, new_app, new_rule, with_rule}
+use Rattle.clap.specs.Simple.{App, new_rule, new_shape}
 use Rattle.clap.specs.declared.builder.action.ArgAction.TheVariants.{SetTrue}
-use Rattle.command_line.specs.Commands.{run_with}
-use Rattle.command_line.specs.Number.{number_in}
-use Rattle.command_line.specs.declared.run.Run.{Run}
-use Rattle.command_line.specs.declared.run.TheConstants.{LEAST_WORKERS, MOST_WORKERS}
-use Rattle.command_line.specs.declared.trace.Trace.{Trace}
-use Rattle.command_line.specs.declared.trace.TheConstants.{MOST_STEPS}
+use Rattle.command_line.specs.Form.{Form, Told, Valued}
+use Rattle.command_line.specs.Commands.{bare_form, run_form, trace_form}
 
--- a command of this name with no `--help` of its own
-abbrev pub without_help : App → App
-without_help app = record app { top = record app.top { disable_help_flag = true } }
+-- the rule of an option of a form
+abbrev pub option_rule : Valued → Rule
+option_rule option = record (new_rule option.name) {
+  long = Some option.name;
+  defaults = option_to_list option.default;
+}
 
--- the positional of `trace`
-abbrev pub steps_rule : Rule
-steps_rule = record (new_rule (codes "steps")) { required = true }
+-- the rule of a flag of this name
+abbrev pub flag_rule : List ℕ → Rule
+flag_rule name = record (new_rule name) { long = Some name; action = Some SetTrue }
 
--- the flag of `trace`
-abbrev pub org_rule : Rule
-org_rule = record (new_rule (codes "org")) { long = Some (codes "org"); action = Some SetTrue }
+-- the rule of a positional, which the parser knows by this name
+abbrev pub positional_rule : List ℕ → Rule
+positional_rule name = record (new_rule name) { required = true }
+
+-- the command that reads words by the form, with these names for its positionals
+abbrev pub app_by : List ℕ → Form → List (List ℕ) → App
+app_by name form positionals = record {
+  top = record (new_shape name) {
+    rules = map option_rule form.options
+        ++ (map flag_rule form.flags ++ map positional_rule positionals);
+    disable_help_flag = true;
+  };
+  subs = [];
+}
+
+-- the name of the positional of `trace`
+abbrev pub trace_texts : List (List ℕ)
+trace_texts = codes "steps" ∷ []
 
 -- the command that reads the words of `trace`
 abbrev pub trace_app : App
-trace_app = with_rule (with_rule (without_help (new_app (codes "trace"))) steps_rule) org_rule
-
--- the option of `run` for the workers
-abbrev pub workers_rule : Rule
-workers_rule = record (new_rule (codes "workers")) {
-  long = Some (codes "workers");
-  defaults = codes "1" ∷ [];
-}
-
--- the option of `run` for the looks
-abbrev pub watch_rule : Rule
-watch_rule = record (new_rule (codes "watch")) { long = Some (codes "watch") }
+trace_app = app_by (codes "trace") trace_form trace_texts
 
 -- the command that reads the words of `run`
 abbrev pub run_app : App
-run_app = with_rule (with_rule (without_help (new_app (codes "run"))) workers_rule) watch_rule
+run_app = app_by (codes "run") run_form []
 
 -- the command that reads the words of a name that stands alone
 abbrev pub bare_app : App
-bare_app = without_help (new_app (codes "bare"))
+bare_app = app_by (codes "bare") bare_form []
 
 -- a flag's text says that it stands
 abbrev pub is_given_true : Option (List ℕ) → Bool
 is_given_true (Some text) = bytes_eq text (codes "true")
 is_given_true None = false
 
--- `trace` from the matches
-abbrev pub trace_in : List Row → Option Trace
-trace_in rows = option_map
-    (λ steps. record { steps = steps; org = is_given_true (first_of (codes "org") rows) })
-    (option_and_then (number_in 0 MOST_STEPS) (first_of (codes "steps") rows))
+-- the values, where there are all of them
+abbrev pub all_of : List (Option (List ℕ)) → Option (List (List ℕ))
+all_of [] = Some []
+all_of (None ∷ values) = None
+all_of (Some value ∷ values) = option_map (λ more. value ∷ more) (all_of values)
 
--- `run` from the matches
-abbrev pub run_in : List Row → Option Run
-run_in rows = option_and_then (run_with (first_of (codes "watch") rows)) (option_and_then
-    (number_in LEAST_WORKERS MOST_WORKERS) (first_of (codes "workers") rows))
+-- what the matches tell of the form
+abbrev pub told_in : Form → List (List ℕ) → List Row → Option Told
+told_in form positionals rows = option_map (λ texts. record {
+  positionals = texts;
+  values = map (λ option. first_of option.name rows) form.options;
+  flags = map (λ flag. is_given_true (first_of flag rows)) form.flags;
+}) (all_of (map (λ name. first_of name rows) positionals))

@@ -7,9 +7,11 @@ mod parser;
 mod refused;
 mod run;
 mod trace;
+mod workers;
 
 pub use nothing::read_nothing;
 pub use numbers::{number, number_in};
 pub use refused::Refused;
-pub use run::{LEAST_WORKERS, MOST_LOOKS, MOST_WORKERS, Run, read_run};
+pub use run::{MOST_LOOKS, Run, read_run};
 pub use trace::{MOST_STEPS, Trace, read_trace};
+pub use workers::{LEAST_WORKERS, MOST_WORKERS};

@@ -1,21 +1,16 @@
 // The words of `run`.
-ghost use Rattle.std.specs.Prelude.{◌≡◌, ◌<◌, length, Some, MatchResult, IfOk, drop, map, string_bytes, option_map};
+ghost use Rattle.std.specs.Prelude.{◌≡◌, ◌<◌, [], length, Some, MatchResult, IfOk, drop, map, string_bytes, option_and_then, option_map};
 ghost use Rattle.clap.specs.Words.{app_of, found_of, rows_of};
-ghost use Rattle.command_line.specs.Commands.{looks_of, run_told, run_with};
-ghost use Rattle.command_line.specs.Parsers.{run_app, run_in};
+ghost use Rattle.command_line.specs.Commands.{looks_of, run_form, run_of, run_told, run_with};
+ghost use Rattle.command_line.specs.Parsers.{run_app, told_in};
 ghost use Rattle.command_line.specs.Refusals.{Refuses};
 
 use crate::numbers::number_in;
 use crate::parser::matches;
 use crate::refused::Refused;
+use crate::workers::workers_in;
 use clap::{Arg, ArgMatches, Command};
 use std::alloc::{AllocError, Global};
-
-/// The least number of workers.
-pub const LEAST_WORKERS: u32 = 1;
-
-/// The greatest number of workers.
-pub const MOST_WORKERS: u32 = 64;
 
 /// The greatest number of looks of a watcher.
 pub const MOST_LOOKS: u32 = 1_000_000;
@@ -59,9 +54,10 @@ fn with_watch(workers: u32, watch: Option<&str>) -> Option<Run>
 }
 
 fn in_matches(matches: &ArgMatches<'_>) -> Option<Run>
-    ensures { result ≡ run_in (rows_of (found_of matches.now)) }
+    ensures { result ≡ option_and_then run_of
+        (told_in run_form [] (rows_of (found_of matches.now))) }
 {
-    let workers = number_in(LEAST_WORKERS, MOST_WORKERS, matches.get_str("workers")?)?;
+    let workers = workers_in(matches)?;
     with_watch(workers, matches.get_str("watch"))
 }
 

@@ -1,8 +1,8 @@
 // The words of `trace`.
-ghost use Rattle.std.specs.Prelude.{◌≡◌, ◌<◌, length, Some, MatchResult, IfOk, drop, map, string_bytes, option_map};
+ghost use Rattle.std.specs.Prelude.{◌≡◌, ◌<◌, length, Some, MatchResult, IfOk, drop, map, string_bytes, option_and_then, option_map};
 ghost use Rattle.clap.specs.Words.{app_of, found_of, rows_of};
-ghost use Rattle.command_line.specs.Commands.{trace_told};
-ghost use Rattle.command_line.specs.Parsers.{is_given_true, trace_app, trace_in};
+ghost use Rattle.command_line.specs.Commands.{trace_form, trace_of, trace_told};
+ghost use Rattle.command_line.specs.Parsers.{is_given_true, told_in, trace_app, trace_texts};
 ghost use Rattle.command_line.specs.Refusals.{Refuses};
 
 use crate::numbers::number_in;
@@ -24,14 +24,14 @@ pub struct Trace {
 fn command<'a>(alloc: Global) -> Result<Command<'a>, AllocError>
     ensures { IfOk result (λ c. app_of c ≡ trace_app) }
 {
-    let steps = Arg::new(alloc, "steps").required(true);
     let org = Arg::new(alloc, "org")
         .long("org")
         .action(ArgAction::SetTrue);
+    let steps = Arg::new(alloc, "steps").required(true);
     Command::new(alloc, "trace")
         .disable_help_flag(true)
-        .arg(steps)?
-        .arg(org)
+        .arg(org)?
+        .arg(steps)
 }
 
 fn is_true(text: Option<&str>) -> bool
@@ -44,7 +44,8 @@ fn is_true(text: Option<&str>) -> bool
 }
 
 fn in_matches(matches: &ArgMatches<'_>) -> Option<Trace>
-    ensures { result ≡ trace_in (rows_of (found_of matches.now)) }
+    ensures { result ≡ option_and_then trace_of
+        (told_in trace_form trace_texts (rows_of (found_of matches.now))) }
 {
     let steps = number_in(0, MOST_STEPS, matches.get_str("steps")?)?;
     let org = is_true(matches.get_str("org"));

@@ -1,0 +1,123 @@
+-- The forms of the commands are simple, and a text that begins with `-` is none of their numbers.
+use Rattle.std.proofs.Common.{◌≡◌, ◌∙◌, ◌<◌, ◌||◌, arith, refl, sym, subst, ap, inl, inr, Bool, true, ℕ, List, [], ◌∷◌, length, codes, drop, Option, Some, None, Result, MatchResult, option_map, option_and_then, ok_or}
+use Rattle.std.specs.List.{list_any}
+use Rattle.std.proofs.lemmas.Bool.{cases_Bool, false≢true}
+use Rattle.clap.specs.Walk.{Row, Text}
+use Rattle.clap.specs.Simple.{App, built, matches_of}
+use Rattle.clap.specs.Faults.{fault_of}
+use Rattle.command_line.specs.Form.{Form, Told}
+use Rattle.command_line.specs.Words.{begins_dashed, told_by}
+use Rattle.command_line.specs.Number.{number_in, in_range}
+use Rattle.command_line.specs.Commands.{bare_form, run_form, run_of, run_with, trace_form, trace_of}
+use Rattle.command_line.specs.Parsers.{app_by, told_in, trace_texts}
+use Rattle.command_line.specs.Refusals.{IsRefusedBy, Refuses}
+use Rattle.command_line.specs.declared.run.Run.{Run}
+use Rattle.command_line.specs.declared.run.TheConstants.{MOST_LOOKS}
+use Rattle.command_line.specs.declared.trace.Trace.{Trace}
+use Rattle.command_line.specs.declared.trace.TheConstants.{MOST_STEPS}
+use Rattle.command_line.specs.declared.workers.TheConstants.{LEAST_WORKERS, MOST_WORKERS}
+use Rattle.command_line.specs.declared.refused.Refused.{Refused}
+use Rattle.command_line.specs.declared.refused.Refused.TheVariants.{BadWords}
+use Rattle.command_line.proofs.FormLaw.{IsOf, form_fits, form_stops, has_dashed, is_dashed}
+use Rattle.command_line.proofs.FormRules.{IsSimple, rules_by}
+use Rattle.command_line.proofs.Numerals.{no_dash}
+use Rattle.command_line.proofs.RefusalLemmas.{ends_told, refuses}
+use Rattle.command_line.proofs.RuleReading.{shape_by}
+
+-- a command of which the law holds, and what is taken of what it is told
+pub record Reads (T : Type 0) (name : Text) (form : Form) (texts : List Text) (take : Told → Option T) : Type 0 where
+  pub simple : IsSimple form texts
+  pub as_built : built (app_by name form texts) ≡ record { top = shape_by name (rules_by form texts); subs = [] }
+  pub refuses : (told : Told) → IsOf form told → has_dashed told ≡ true → take told ≡ None
+
+module _ {T : Type 0} {name : Text} {form : Form} {texts : List Text} {take : Told → Option T} (reads : Reads T name form texts take) where
+  -- words that the parser refuses
+  pub stops : (words : List Text) (a : App) (r : Refused) → 0 < length words → a ≡ app_by name form texts → IsRefusedBy (fault_of a words) r
+      → Refuses (option_and_then take (told_by form (drop 1 words))) r
+  stops words a r some is refused =
+      let here : IsRefusedBy (fault_of (app_by name form texts) words) r = subst (λ (b : App). IsRefusedBy (fault_of b words) r) is refused in
+      refuses (option_and_then take (told_by form (drop 1 words))) (fault_of (app_by name form texts) words) r here
+      (form_stops name form texts reads.simple T take reads.refuses reads.as_built words some)
+
+  pub fits : (words : List Text) (a : App) (rows : List Row) → 0 < length words → a ≡ app_by name form texts → fault_of a words ≡ [] → rows ≡ matches_of a words
+      → option_and_then take (told_in form texts rows) ≡ option_and_then take (told_by form (drop 1 words))
+  fits words a rows some is free same =
+      ap (λ found. option_and_then take (told_in form texts found)) (same ∙ ap (λ b. matches_of b words) is)
+      ∙ form_fits name form texts reads.simple T take reads.refuses reads.as_built words some (ap (λ b. fault_of b words) (sym is) ∙ free)
+
+  -- words that the parser takes
+  pub ends : (words : List Text) (a : App) (rows : List Row) (taken : Option T) (result : Result T Refused) → 0 < length words → a ≡ app_by name form texts
+      → fault_of a words ≡ [] → rows ≡ matches_of a words → taken ≡ option_and_then take (told_in form texts rows) → result ≡ ok_or taken BadWords
+      → MatchResult result (λ t. option_and_then take (told_by form (drop 1 words)) ≡ Some t) (Refuses (option_and_then take (told_by form (drop 1 words))))
+  ends words a rows taken result some is free same from gives =
+      ends_told (option_and_then take (told_by form (drop 1 words))) taken result (from ∙ fits words a rows some is free same) gives
+
+-- ---- numbers
+
+pub dashed_number : (least greatest : ℕ) (text : Text) → begins_dashed text ≡ true → number_in least greatest text ≡ None
+dashed_number least greatest text d = ap (option_and_then (in_range least greatest)) (no_dash text d)
+
+none_after : {X Y : Type 0} (f : X → Option Y) (o : Option X) → ((x : X) → f x ≡ None) → option_and_then f o ≡ None
+none_after f None none = refl
+none_after f (Some x) none = none x
+
+dashed_text : (least greatest : ℕ) (text : Option Text) → is_dashed text ≡ true → option_and_then (number_in least greatest) text ≡ None
+dashed_text least greatest None d = absurd (false≢true d)
+dashed_text least greatest (Some text) d = dashed_number least greatest text d
+
+-- ---- the commands
+
+pub bare_reads : Reads (Unit {0}) (codes "bare") bare_form [] (λ told. Some tt)
+bare_reads = record {
+  simple = record { names = refl; count = refl; few = omega arith };
+  as_built = refl;
+  refuses = λ told is d. go told.positionals told.values is.positionals is.values d;
+}
+  where
+    go : (ps : List Text) (vs : List (Option Text)) → length ps ≡ 0 → length vs ≡ 0 → (list_any begins_dashed ps || list_any is_dashed vs) ≡ true
+        → (let none : Option (Unit {0}) = None in Some tt ≡ none)
+    go [] [] n m d = absurd (false≢true d)
+    go (p ∷ ps) vs n m d = absurd (omega arith)
+    go [] (v ∷ vs) n m d = absurd (omega arith)
+
+pub trace_reads : Reads Trace (codes "trace") trace_form trace_texts trace_of
+trace_reads = record {
+  simple = record { names = refl; count = refl; few = omega arith };
+  as_built = refl;
+  refuses = λ told is d. go told.positionals told.values told.flags is.positionals is.values d;
+}
+  where
+    go : (ps : List Text) (vs : List (Option Text)) (fs : List Bool) → length ps ≡ 1 → length vs ≡ 0 → (list_any begins_dashed ps || list_any is_dashed vs) ≡ true
+        → trace_of (record { positionals = ps; values = vs; flags = fs }) ≡ None
+    go (p ∷ []) [] fs n m d = elim (cases_Bool (begins_dashed p)) [
+      | inl a ↦ rw (dashed_number 0 MOST_STEPS p a) refl
+      | inr a ↦ absurd (false≢true (rw a at d))
+    ]
+    go [] vs fs n m d = absurd (omega arith)
+    go (p ∷ q ∷ ps) vs fs n m d = absurd (omega arith)
+    go (p ∷ []) (v ∷ vs) fs n m d = absurd (omega arith)
+
+pub run_reads : Reads Run (codes "run") run_form [] run_of
+run_reads = record {
+  simple = record { names = refl; count = refl; few = omega arith };
+  as_built = refl;
+  refuses = λ told is d. go told.positionals told.values told.flags is.positionals is.values d;
+}
+  where
+    no_looks : (watch : Option Text) (workers : ℕ) → is_dashed watch ≡ true → run_with watch workers ≡ None
+    no_looks None workers d = absurd (false≢true d)
+    no_looks (Some text) workers d = rw (dashed_number 0 MOST_LOOKS text d) refl
+
+    go : (ps : List Text) (vs : List (Option Text)) (fs : List Bool) → length ps ≡ 0 → length vs ≡ 2 → (list_any begins_dashed ps || list_any is_dashed vs) ≡ true
+        → run_of (record { positionals = ps; values = vs; flags = fs }) ≡ None
+    go [] (w ∷ t ∷ []) fs n m d = elim (cases_Bool (is_dashed w)) [
+      | inl a ↦ ap (option_and_then (run_with t)) (dashed_text LEAST_WORKERS MOST_WORKERS w a)
+      | inr a ↦ elim (cases_Bool (is_dashed t)) [
+        | inl b ↦ none_after (run_with t) (option_and_then (number_in LEAST_WORKERS MOST_WORKERS) w) (λ workers. no_looks t workers b)
+        | inr b ↦ absurd (false≢true (rw (a, b) at d))
+      ]
+    ]
+    go (p ∷ ps) vs fs n m d = absurd (omega arith)
+    go [] [] fs n m d = absurd (omega arith)
+    go [] (w ∷ []) fs n m d = absurd (omega arith)
+    go [] (w ∷ t ∷ v ∷ vs) fs n m d = absurd (omega arith)

@@ -1,0 +1,139 @@
+-- Names in a list: where one stands first, and lists with no name twice.
+use Rattle.std.proofs.Common.{◌≡◌, ◌∙◌, ◌+◌, ◌&&◌, ◌||◌, arith, refl, sym, inl, inr, ℕ, suc, Bool, true, false, not, List, [], ◌∷◌, ◌++◌, map, length, position, Option, Some, None, option_map, nat_lt}
+use Rattle.std.specs.Prelude.{if◌then◌else◌}
+use Rattle.std.specs.List.{list_any, position_or_len}
+use Rattle.std.specs.Str.{bytes_eq}
+use Rattle.std.proofs.lemmas.Bool.{cases_Bool, and_parts, false≢true}
+use Rattle.std.proofs.lemmas.Bool.Decides.{nat_tests}
+use Rattle.std.proofs.lemmas.List.Folds.{list_any-append}
+use Rattle.std.proofs.lemmas.Slice.Eq.{bytes_eq-Decides}
+use Rattle.clap.specs.Walk.{Text}
+
+pub same_text : (x y : Text) → bytes_eq x y ≡ true → x ≡ y
+same_text x y is = grind (arith, bytes_eq-Decides x y)
+
+pub bytes_same : (x : Text) → bytes_eq x x ≡ true
+bytes_same x = grind (arith, bytes_eq-Decides x x)
+
+pub bytes_turned : (x y : Text) → bytes_eq x y ≡ bytes_eq y x
+bytes_turned x y = elim (cases_Bool (bytes_eq x y)) [
+  | inl a ↦ let e : x ≡ y = same_text x y a in rw e refl
+  | inr a ↦ elim (cases_Bool (bytes_eq y x)) [
+    | inl b ↦ let e : y ≡ x = same_text y x b in rw e refl
+    | inr b ↦ a ∙ sym b
+  ]
+]
+
+-- the first place that passes
+abbrev pub place_by : {X : Type 0} → (X → Bool) → List X → Option ℕ
+place_by p [] = None
+place_by p (x ∷ xs) = if p x then Some 0 else option_map (λ i. suc i) (place_by p xs)
+
+abbrev pub place_of : Text → List Text → Option ℕ
+place_of name names = place_by (λ m. bytes_eq m name) names
+
+abbrev pub has_name : Text → List Text → Bool
+has_name name names = list_any (λ m. bytes_eq m name) names
+
+abbrev pub distinct : List Text → Bool
+distinct [] = true
+distinct (x ∷ xs) = not (has_name x xs) && distinct xs
+
+less_suc : (k n : ℕ) (b : Bool) → nat_lt k n ≡ b → nat_lt (suc k) (suc n) ≡ b
+less_suc k n true is = grind (arith, nat_tests)
+less_suc k n false is = grind (arith, nat_tests)
+
+one_more : (n : ℕ) → 1 + n ≡ suc n
+one_more n = omega arith
+
+less_one : (n : ℕ) → nat_lt 0 (suc n) ≡ true
+less_one n = grind (arith, nat_tests)
+
+pub position_is : {X : Type 0} (p : X → Bool) (xs : List X) → position p xs ≡ place_by p xs
+position_is p [] = refl
+position_is {X} p (x ∷ xs) = elim (cases_Bool (p x)) [
+  | inl a ↦ rw (a, less_one (length xs)) refl
+  | inr a ↦ rw (a, one_more (position_or_len p xs), ← position_is p xs) (later (nat_lt (position_or_len p xs) (length xs)) refl)
+]
+  where
+    later : (b : Bool) → nat_lt (position_or_len p xs) (length xs) ≡ b
+        → (if nat_lt (suc (position_or_len p xs)) (suc (length xs)) then Some (suc (position_or_len p xs)) else None)
+        ≡ option_map (λ i. suc i) (if nat_lt (position_or_len p xs) (length xs) then Some (position_or_len p xs) else None)
+    later true is = rw (is, less_suc (position_or_len p xs) (length xs) true is) refl
+    later false is = rw (is, less_suc (position_or_len p xs) (length xs) false is) refl
+
+pub place_by_map : {X : Type 0} (f : X → Text) (name : Text) (xs : List X) → place_by (λ x. bytes_eq (f x) name) xs ≡ place_of name (map f xs)
+place_by_map f name [] = refl
+place_by_map f name (x ∷ xs) = elim (cases_Bool (bytes_eq (f x) name)) [
+  | inl a ↦ rw a refl
+  | inr a ↦ rw (a, place_by_map f name xs) refl
+]
+
+-- the name is there or not
+pub data Stands (name : Text) (names : List Text) : Type 0 where
+  there : (i : ℕ) → place_of name names ≡ Some i → has_name name names ≡ true → Stands name names
+  apart : place_of name names ≡ None → has_name name names ≡ false → Stands name names
+
+later : (name x : Text) (xs : List Text) → bytes_eq x name ≡ false → Stands name xs → Stands name (x ∷ xs)
+later name x xs a (there i p h) = there (suc i) (rw (a, p) refl) (rw (a, h) refl)
+later name x xs a (apart p h) = apart (rw (a, p) refl) (rw (a, h) refl)
+
+pub stands : (name : Text) (names : List Text) → Stands name names
+stands name [] = apart refl refl
+stands name (x ∷ xs) = elim (cases_Bool (bytes_eq x name)) [
+  | inl a ↦ there 0 (rw a refl) (rw a refl)
+  | inr a ↦ later name x xs a (stands name xs)
+]
+
+pub placed_has : (name : Text) (names : List Text) (i : ℕ) → place_of name names ≡ Some i → has_name name names ≡ true
+placed_has name names i is = elim (stands name names) [
+  | there j p h ↦ h
+  | apart p h ↦ cc
+]
+
+pub not_placed : (name : Text) (names : List Text) → place_of name names ≡ None → has_name name names ≡ false
+not_placed name names is = elim (stands name names) [
+  | there j p h ↦ cc
+  | apart p h ↦ h
+]
+
+-- a list and what follows it
+pub record Parted (xs ys : List Text) : Type 0 where
+  pub first : distinct xs ≡ true
+  pub second : distinct ys ≡ true
+  pub apart : (name : Text) → has_name name xs ≡ true → has_name name ys ≡ false
+
+pub or_split : (a b : Bool) → (a || b) ≡ false → (a ≡ false) × (b ≡ false)
+or_split true b is = absurd (false≢true (sym is))
+or_split false b is = (refl, is)
+
+not_true : (b : Bool) → not b ≡ true → b ≡ false
+not_true true is = absurd (false≢true is)
+not_true false is = refl
+
+pub head_apart : (x : Text) (xs : List Text) → distinct (x ∷ xs) ≡ true → (has_name x xs ≡ false) × (distinct xs ≡ true)
+head_apart x xs is = let p = and_parts (not (has_name x xs)) (distinct xs) is in (not_true (has_name x xs) p.0, p.1)
+
+pub parted : (xs ys : List Text) → distinct (xs ++ ys) ≡ true → Parted xs ys
+parted [] ys is = record { first = refl; second = is; apart = λ name h. absurd (false≢true h) }
+parted (x ∷ xs) ys is = step (parted xs ys (head_apart x (xs ++ ys) is).1)
+  where
+    split : (has_name x xs ≡ false) × (has_name x ys ≡ false)
+    split = or_split (has_name x xs) (has_name x ys) (sym (list_any-append (λ m. bytes_eq m x) xs ys) ∙ (head_apart x (xs ++ ys) is).0)
+
+    step : Parted xs ys → Parted (x ∷ xs) ys
+    step rest = record {
+      first = rw (split.0, rest.first) refl;
+      second = rest.second;
+      apart = λ name h. elim (cases_Bool (bytes_eq x name)) [
+        | inl a ↦ let e : x ≡ name = same_text x name a in rw (← e) split.1
+        | inr a ↦ rest.apart name (rw a at h)
+      ];
+    }
+
+-- a name of the second list is none of the first
+pub apart_back : (xs ys : List Text) → Parted xs ys → (name : Text) → has_name name ys ≡ true → has_name name xs ≡ false
+apart_back xs ys p name h = elim (cases_Bool (has_name name xs)) [
+  | inl a ↦ absurd (false≢true (sym (p.apart name a) ∙ h))
+  | inr a ↦ a
+]

@@ -1,0 +1,120 @@
+-- What stands for an argument, and the parser's rows of it.
+use Rattle.std.proofs.Common.{◌≡◌, refl, ap, inl, inr, Bool, true, false, is_some, List, [], ◌∷◌, ◌++◌, map, Option, Some, None, codes}
+use Rattle.std.specs.Prelude.{ℕ, if◌then◌else◌}
+use Rattle.std.specs.Str.{bytes_eq}
+use Rattle.std.proofs.lemmas.Bool.{cases_Bool}
+use Rattle.clap.specs.Walk.{Row, Rule, Text, first_of, has_row, reading_by, used, with_values, without}
+use Rattle.clap.specs.declared.builder.action.ArgAction.TheVariants.{Set, SetTrue}
+use Rattle.clap.specs.declared.builder.value_parser.ValueParser.TheVariants as vp
+use Rattle.clap.specs.declared.builder.value_parser.Reading.{Reading}
+use Rattle.clap.specs.declared.parser.matches.ValueSource.{ValueSource}
+use Rattle.clap.specs.declared.parser.matches.ValueSource.TheVariants.{CommandLine}
+
+-- an argument with one value
+abbrev pub value_rule : Text → Option Text → Option ℕ → List Text → Bool → Rule
+value_rule id long index defaults required = record {
+  id = id;
+  long = long;
+  aliases = [];
+  short = None;
+  short_aliases = [];
+  index = index;
+  action = Some Set;
+  range = Some (record { start_inclusive = 1; end_inclusive = 1 });
+  value_names = 0;
+  defaults = defaults;
+  missing = [];
+  trailing_var_arg = false;
+  parser = Some vp.String;
+  ignore_case = false;
+  required = required;
+  is_simple = true;
+  is_free = true;
+}
+
+-- a flag
+abbrev pub flag_rule : Text → Rule
+flag_rule id = record {
+  id = id;
+  long = Some id;
+  aliases = [];
+  short = None;
+  short_aliases = [];
+  index = None;
+  action = Some SetTrue;
+  range = Some (record { start_inclusive = 0; end_inclusive = 0 });
+  value_names = 0;
+  defaults = codes "false" ∷ [];
+  missing = codes "true" ∷ [];
+  trailing_var_arg = false;
+  parser = Some vp.Bool;
+  ignore_case = false;
+  required = false;
+  is_simple = true;
+  is_free = true;
+}
+
+-- one use of an argument, or its default
+pub record Use : Type 0 where
+  pub id : Text
+  pub value : Text
+  pub source : ValueSource
+  pub how : Reading
+
+abbrev pub use_of : Rule → Text → Use
+use_of a v = record { id = a.id; value = v; source = CommandLine; how = reading_by a }
+
+abbrev pub row_by : Use → Row
+row_by u = record { id = u.id; values = u.value ∷ []; count = None; source = Some u.source; reading = u.how }
+
+abbrev pub rows_by : List Use → List Row
+rows_by uses = map row_by uses
+
+-- the first value of this id
+abbrev pub value_in : Text → List Use → Option Text
+value_in id [] = None
+value_in id (u ∷ us) = if bytes_eq u.id id then Some u.value else value_in id us
+
+pub row_is : (id : Text) (uses : List Use) → has_row id (rows_by uses) ≡ is_some (value_in id uses)
+row_is id [] = refl
+row_is id (u ∷ us) = elim (cases_Bool (bytes_eq u.id id)) [
+  | inl b ↦ rw b refl
+  | inr b ↦ rw b (row_is id us)
+]
+
+pub first_is : (id : Text) (uses : List Use) → first_of id (rows_by uses) ≡ value_in id uses
+first_is id [] = refl
+first_is id (u ∷ us) = elim (cases_Bool (bytes_eq u.id id)) [
+  | inl b ↦ rw b refl
+  | inr b ↦ rw b (first_is id us)
+]
+
+new_id : (id : Text) (u : Use) (us : List Use) → is_some (value_in id (u ∷ us)) ≡ false → (bytes_eq u.id id ≡ false) × (is_some (value_in id us) ≡ false)
+new_id id u us none = elim (cases_Bool (bytes_eq u.id id)) [
+  | inl b ↦ let bad : true ≡ false = rw b at none in cc
+  | inr b ↦ (b, rw b at none)
+]
+
+without_none : (id : Text) (uses : List Use) → is_some (value_in id uses) ≡ false → without id (rows_by uses) ≡ rows_by uses
+without_none id [] none = refl
+without_none id (u ∷ us) none =
+    let p = new_id id u us none in
+    rw p.0 (ap (λ rows. row_by u ∷ rows) (without_none id us p.1))
+
+pub appended : (u : Use) (uses : List Use) → is_some (value_in u.id uses) ≡ false
+    → with_values u.id u.how u.source (u.value ∷ []) (rows_by uses) ≡ rows_by (uses ++ u ∷ [])
+appended u [] none = refl
+appended u (x ∷ xs) none =
+    let p = new_id u.id x xs none in
+    rw p.0 (ap (λ rows. row_by x ∷ rows) (appended u xs p.1))
+
+-- a use of an argument with no use
+pub used_value : (id : Text) (long : Option Text) (index : Option ℕ) (defaults : List Text) (required : Bool) (v : Text) (uses : List Use)
+    → is_some (value_in id uses) ≡ false
+    → used (value_rule id long index defaults required) (v ∷ []) (rows_by uses) ≡ rows_by (uses ++ use_of (value_rule id long index defaults required) v ∷ [])
+used_value id long index defaults required v uses none =
+    rw (without_none id uses none) (appended (use_of (value_rule id long index defaults required) v) uses none)
+
+pub used_flag : (id : Text) (uses : List Use) → is_some (value_in id uses) ≡ false
+    → used (flag_rule id) [] (rows_by uses) ≡ rows_by (uses ++ use_of (flag_rule id) (codes "true") ∷ [])
+used_flag id uses none = rw (without_none id uses none) (appended (use_of (flag_rule id) (codes "true")) uses none)
