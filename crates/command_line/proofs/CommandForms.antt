@@ -8,9 +8,11 @@ use Rattle.clap.specs.Faults.{fault_of}
 use Rattle.command_line.specs.Form.{Form, Told}
 use Rattle.command_line.specs.Words.{begins_dashed, told_by}
 use Rattle.command_line.specs.Number.{number_in, in_range}
-use Rattle.command_line.specs.Commands.{bare_form, run_form, run_of, run_with, trace_form, trace_of}
-use Rattle.command_line.specs.Parsers.{app_by, told_in, trace_texts}
+use Rattle.command_line.specs.Commands.{bare_form, lineage_form, lineage_of, run_form, run_of, run_with, trace_form, trace_of}
+use Rattle.command_line.specs.Parsers.{app_by, lineage_texts, told_in, trace_texts}
 use Rattle.command_line.specs.Refusals.{IsRefusedBy, Refuses}
+use Rattle.command_line.specs.declared.lineage.Lineage.{Lineage}
+use Rattle.command_line.specs.declared.lineage.TheConstants.{MOST_CELL}
 use Rattle.command_line.specs.declared.run.Run.{Run}
 use Rattle.command_line.specs.declared.run.TheConstants.{MOST_LOOKS}
 use Rattle.command_line.specs.declared.trace.Trace.{Trace}
@@ -121,3 +123,25 @@ run_reads = record {
     go [] [] fs n m d = absurd (omega arith)
     go [] (w ∷ []) fs n m d = absurd (omega arith)
     go [] (w ∷ t ∷ v ∷ vs) fs n m d = absurd (omega arith)
+
+pub lineage_reads : Reads Lineage (codes "lineage") lineage_form lineage_texts lineage_of
+lineage_reads = record {
+  simple = record { names = refl; count = refl; few = omega arith };
+  as_built = refl;
+  refuses = λ told is d. go told.positionals told.values told.flags is.positionals is.values d;
+}
+  where
+    go : (ps : List Text) (vs : List (Option Text)) (fs : List Bool) → length ps ≡ 1 → length vs ≡ 1 → (list_any begins_dashed ps || list_any is_dashed vs) ≡ true
+        → lineage_of (record { positionals = ps; values = vs; flags = fs }) ≡ None
+    go (p ∷ []) (w ∷ []) fs n m d = elim (cases_Bool (begins_dashed p)) [
+      | inl a ↦ rw (dashed_number 0 MOST_CELL p a) refl
+      | inr a ↦ elim (cases_Bool (is_dashed w)) [
+        | inl b ↦ none_after (λ cell. option_map (λ workers. record { cell = cell; workers = workers }) (option_and_then (number_in LEAST_WORKERS MOST_WORKERS) w))
+            (number_in 0 MOST_CELL p) (λ cell. ap (option_map (λ workers. record { cell = cell; workers = workers })) (dashed_text LEAST_WORKERS MOST_WORKERS w b))
+        | inr b ↦ absurd (false≢true (rw (a, b) at d))
+      ]
+    ]
+    go [] vs fs n m d = absurd (omega arith)
+    go (p ∷ q ∷ ps) vs fs n m d = absurd (omega arith)
+    go (p ∷ []) [] fs n m d = absurd (omega arith)
+    go (p ∷ []) (w ∷ v ∷ vs) fs n m d = absurd (omega arith)

@@ -5,6 +5,8 @@ use Rattle.command_line.specs.Words.{is_set, told_by}
 use Rattle.command_line.specs.Number.{number_in}
 use Rattle.command_line.specs.declared.run.Run.{Run}
 use Rattle.command_line.specs.declared.run.TheConstants.{MOST_LOOKS}
+use Rattle.command_line.specs.declared.lineage.Lineage.{Lineage}
+use Rattle.command_line.specs.declared.lineage.TheConstants.{MOST_CELL}
 use Rattle.command_line.specs.declared.workers.TheConstants.{LEAST_WORKERS, MOST_WORKERS}
 use Rattle.command_line.specs.declared.trace.Trace.{Trace}
 use Rattle.command_line.specs.declared.trace.TheConstants.{MOST_STEPS}
@@ -24,6 +26,10 @@ run_form = record {
   flags = [];
   positionals = 0;
 }
+
+-- `lineage cell [--workers k]`
+abbrev pub lineage_form : Form
+lineage_form = record { options = workers_option ∷ []; flags = []; positionals = 1 }
 
 -- a command's name alone
 abbrev pub bare_form : Form
@@ -62,6 +68,12 @@ run_with watch workers =
 abbrev pub run_of : Told → Option Run
 run_of told = option_and_then (run_with (value_at 1 told)) (workers_at 0 told)
 
+-- `lineage` of the cell, with the workers, that its texts spell
+abbrev pub lineage_of : Told → Option Lineage
+lineage_of told = option_and_then (λ cell.
+    option_map (λ workers. record { cell = cell; workers = workers }) (workers_at 0 told))
+    (number_at 0 MOST_CELL 0 told)
+
 -- what the words after the name tell `trace`
 abbrev pub trace_told : List (List ℕ) → Option Trace
 trace_told words = option_and_then trace_of (told_by trace_form words)
@@ -69,6 +81,10 @@ trace_told words = option_and_then trace_of (told_by trace_form words)
 -- what the words after the name tell `run`
 abbrev pub run_told : List (List ℕ) → Option Run
 run_told words = option_and_then run_of (told_by run_form words)
+
+-- what the words after the name tell `lineage`
+abbrev pub lineage_told : List (List ℕ) → Option Lineage
+lineage_told words = option_and_then lineage_of (told_by lineage_form words)
 
 -- what the words after the name tell a command that takes none
 abbrev pub nothing_told : List (List ℕ) → Option (Unit {0})

@@ -7,7 +7,7 @@ use Rattle.clap.specs.Walk.{Rule, Row, first_of}
 use Rattle.clap.specs.Simple.{App, new_rule, new_shape}
 use Rattle.clap.specs.declared.builder.action.ArgAction.TheVariants.{SetTrue}
 use Rattle.command_line.specs.Form.{Form, Told, Valued}
-use Rattle.command_line.specs.Commands.{bare_form, run_form, trace_form}
+use Rattle.command_line.specs.Commands.{bare_form, lineage_form, run_form, trace_form}
 
 -- the rule of an option of a form
 abbrev pub option_rule : Valued → Rule
@@ -39,6 +39,10 @@ app_by name form positionals = record {
 abbrev pub trace_texts : List (List ℕ)
 trace_texts = codes "steps" ∷ []
 
+-- the name of the positional of `lineage`
+abbrev pub lineage_texts : List (List ℕ)
+lineage_texts = codes "cell" ∷ []
+
 -- the command that reads the words of `trace`
 abbrev pub trace_app : App
 trace_app = app_by (codes "trace") trace_form trace_texts
@@ -46,6 +50,10 @@ trace_app = app_by (codes "trace") trace_form trace_texts
 -- the command that reads the words of `run`
 abbrev pub run_app : App
 run_app = app_by (codes "run") run_form []
+
+-- the command that reads the words of `lineage`
+abbrev pub lineage_app : App
+lineage_app = app_by (codes "lineage") lineage_form lineage_texts
 
 -- the command that reads the words of a name that stands alone
 abbrev pub bare_app : App

@@ -1,6 +1,7 @@
 //! The words of a command line, read by one simple command a name.
 #![tactic(auto)]
 
+mod lineage;
 mod nothing;
 mod numbers;
 mod parser;
@@ -9,6 +10,7 @@ mod run;
 mod trace;
 mod workers;
 
+pub use lineage::{Lineage, MOST_CELL, read_lineage};
 pub use nothing::read_nothing;
 pub use numbers::{number, number_in};
 pub use refused::Refused;

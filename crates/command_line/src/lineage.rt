@@ -1,0 +1,114 @@
+// The words of `lineage`.
+ghost use Rattle.std.specs.Prelude.{◌≡◌, ◌<◌, length, Some, MatchResult, IfOk, drop, map, string_bytes, option_and_then};
+ghost use Rattle.clap.specs.Words.{app_of, found_of, rows_of};
+ghost use Rattle.command_line.specs.Commands.{lineage_form, lineage_of, lineage_told};
+ghost use Rattle.command_line.specs.Parsers.{lineage_app, lineage_texts, told_in};
+ghost use Rattle.command_line.specs.Refusals.{Refuses};
+
+use crate::numbers::number_in;
+use crate::parser::matches;
+use crate::refused::Refused;
+use crate::workers::workers_in;
+use clap::{Arg, ArgMatches, Command};
+use std::alloc::{AllocError, Global};
+
+/// The greatest number of a cell.
+pub const MOST_CELL: u32 = 65_535;
+
+/// What `lineage` is told: the cell whose line of descent is wanted, and the workers.
+#[derive(Clone, Copy, Debug, PartialEq, Eq)]
+pub struct Lineage {
+    pub cell: u32,
+    pub workers: u32,
+}
+
+fn command<'a>(alloc: Global) -> Result<Command<'a>, AllocError>
+    ensures { IfOk result (λ c. app_of c ≡ lineage_app) }
+{
+    let workers = Arg::new(alloc, "workers")
+        .long("workers")
+        .default_value("1");
+    let cell = Arg::new(alloc, "cell").required(true);
+    Command::new(alloc, "lineage")
+        .disable_help_flag(true)
+        .arg(workers)?
+        .arg(cell)
+}
+
+fn in_matches(matches: &ArgMatches<'_>) -> Option<Lineage>
+    ensures { result ≡ option_and_then lineage_of
+        (told_in lineage_form lineage_texts (rows_of (found_of matches.now))) }
+{
+    let cell = number_in(0, MOST_CELL, matches.get_str("cell")?)?;
+    let workers = workers_in(matches)?;
+    Some(Lineage { cell, workers })
+}
+
+/// What the words after the name tell `lineage`; the first word is the name.
+pub fn read_lineage(alloc: Global, words: &[String]) -> Result<Lineage, Refused>
+    requires { 0 < length words.now }
+    ensures { MatchResult result
+        (λ lineage. lineage_told (drop 1 (map string_bytes words.now)) ≡ Some lineage)
+        (Refuses (lineage_told (drop 1 (map string_bytes words.now)))) }
+{
+    let command = match command(alloc) {
+        Ok(command) => command,
+        Err(_) => return Err(Refused::Memory),
+    };
+    let matches = matches(command, words)?;
+    in_matches(&matches).ok_or(Refused::BadWords)
+}
+
+#[cfg(test)]
+mod tests {
+    use super::*;
+    use std::test::Fail;
+
+    /// What each row of words tells.
+    fn told(alloc: Global, rows: &[&[&str]]) -> Result<String, Fail> {
+        let mut text = String::new(alloc);
+        for row in rows {
+            let mut words = Vec::new(alloc);
+            for word in row.iter() {
+                words.push(String::from_str(alloc, word)?)?;
+            }
+            if words.is_empty() {
+                return Ok(text);
+            }
+            match read_lineage(alloc, words.as_slice()) {
+                Ok(lineage) => {
+                    let line = format!(in alloc; "{} {}; ", lineage.cell, lineage.workers)?;
+                    text.push_str(line.as_str())?;
+                }
+                Err(Refused::BadWords) => text.push_str("bad; ")?,
+                Err(Refused::Memory) => text.push_str("memory; ")?,
+            }
+        }
+        Ok(text)
+    }
+
+    #[test]
+    fn lineage_takes_a_cell_before_or_after_its_workers(rt: HostRuntime) -> Result<(), Fail> {
+        let given = told(
+            rt.alloc(),
+            &[
+                &["lineage", "0"],
+                &["lineage", "--workers", "2", "65535"],
+                &["lineage", "7", "--workers=64"],
+                &["lineage", "--workers=1", "--", "7"],
+                &["lineage"],
+                &["lineage", "65536"],
+                &["lineage", "7", "8"],
+                &["lineage", "7", "--workers", "0"],
+                &["lineage", "7", "--workers"],
+                &["lineage", "7", "--", "--workers=2"],
+                &["lineage", "--cell", "7"],
+            ],
+        )?;
+        assert_eq!(rt;
+            given.as_str(),
+            "0 1; 65535 2; 7 64; 7 1; bad; bad; bad; bad; bad; bad; bad; "
+        );
+        Ok(())
+    }
+}
