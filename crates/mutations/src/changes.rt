@@ -1,7 +1,9 @@
-ghost use Rattle.std.specs.Prelude.{◌≡◌, length, slice_get};
+ghost use Rattle.std.specs.Prelude.{◌≡◌, IfOk, length, slice_get};
 ghost use Rattle.std.specs.Option.{option_copied};
 
 use crate::Change;
+use avida_port::Memory;
+use std::alloc::Global;
 use std::marker::Model;
 
 /// A list of changes, in order.
@@ -36,6 +38,14 @@ impl Changes {
         ensures { result ≡ length self.now }
     {
         self.items.len()
+    }
+
+    pub fn copy(&self, alloc: Global) -> Result<Changes, Memory>
+        ensures { IfOk result (λ changes. changes ≡ self.now) }
+    {
+        Ok(Changes {
+            items: Vec::from_slice(alloc, self.as_slice())?,
+        })
     }
 
     pub(crate) fn as_slice(&self) -> &[Change]
