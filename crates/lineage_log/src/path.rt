@@ -20,7 +20,7 @@ impl Model for Path {
 }
 
 impl Path {
-    pub(crate) fn from_vec(items: Vec<Link>) -> Path
+    pub fn from_vec(items: Vec<Link>) -> Path
         ensures { result ≡ items.items }
     {
         Path { items }
