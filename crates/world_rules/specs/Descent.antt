@@ -1,6 +1,9 @@
 -- Lines of descent (docs/WORLD.md, "Lines of descent").
-use Rattle.std.specs.Prelude.{ℕ, List, [], ◌∷◌, ◌++◌, Option, None, Some, fold, option_map, slice_index_or}
-use Rattle.world_rules.specs.World.{Link, World, id_at}
+use Rattle.std.specs.Prelude.{◌≡◌, ℕ, ◌<◌, All, List, [], ◌∷◌, ◌++◌, length, Option, None, Some, fold, option_map, slice_get, slice_index_or}
+use Rattle.genome.specs.Genome.{letters}
+use Rattle.mutations.specs.BirthRecord.{record_of}
+use Rattle.lineage_log.specs.declared.link.Link as code
+use Rattle.world_rules.specs.World.{Occupant, Link, World, id_of, id_at}
 
 -- the line of a parent, by id; a founder has none
 abbrev pub line_of_parent : List (List Link) → Option ℕ → List Link
@@ -15,6 +18,44 @@ with_line lines link = lines ++ (line_of_parent lines link.parent ++ link ∷ []
 unfoldable pub lines_of : List Link → List (List Link)
 lines_of everyone = fold with_line [] everyone
 
+-- the line of the organism with this id
+abbrev pub line_of : List Link → ℕ → List Link
+line_of everyone id = slice_index_or (lines_of everyone) id []
+
 -- the line of who stands in a cell
 unfoldable pub line_in : World → ℕ → Option (List Link)
-line_in w cell = option_map (λ id. slice_index_or (lines_of w.everyone) id []) (id_at w.cells cell)
+line_in w cell = option_map (line_of w.everyone) (id_at w.cells cell)
+
+-- a link of a path, as the definitions see it
+abbrev pub link_value : code.Link → Link
+link_value link = record {
+  id = link.id;
+  parent = link.parent;
+  update = link.update;
+  cell = link.cell;
+  origin = option_map record_of link.origin;
+  genome = letters link.genome;
+}
+
+-- this id, if there is one, is below a number
+abbrev pub IsBelow : ℕ → Option ℕ → Type 0
+IsBelow bound None = Unit {0}
+IsBelow bound (Some id) = id < bound
+
+-- an organism has its place as its id, and its parent came before it
+pub record IsNumbered (place : ℕ) (link : Link) : Type 0 where
+  pub id : link.id ≡ place
+  pub parent : IsBelow place link.parent
+
+-- so has each of these
+abbrev pub AreNumbered : List Link → Type 0
+AreNumbered everyone = (place : ℕ) (link : Link) → slice_get everyone place ≡ Some link → IsNumbered place link
+
+-- who stands in the cells is one of so many
+abbrev pub AreAmong : ℕ → List (Option Occupant) → Type 0
+AreAmong count cells = All (λ slot. IsBelow count (id_of slot)) cells
+
+-- each organism ever in a world has its place as its id, its parent came before it, and who stands in a cell is one of them
+pub record IsNumberedWorld (w : World) : Type 0 where
+  pub everyone : AreNumbered w.everyone
+  pub standing : AreAmong (length w.everyone) w.cells

@@ -1,0 +1,2 @@
+mod IdLemmas
+mod LineLemmas
