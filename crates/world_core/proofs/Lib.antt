@@ -3,3 +3,6 @@ pub mod SoundLemmas
 mod SettingsLemmas
 mod UpdateLemmas
 mod WorldLemmas
+pub mod CountLemmas
+pub mod DifferentLemmas
+pub mod GenomeLemmas

@@ -17,3 +17,4 @@ pub use Rattle.world_rules.specs.Statistics
 pub use Rattle.world_rules.specs.LogText
 pub mod Soundness
 pub mod WorldValue
+pub mod Tally
