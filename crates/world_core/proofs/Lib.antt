@@ -3,6 +3,7 @@ pub mod SoundLemmas
 mod SettingsLemmas
 mod UpdateLemmas
 mod WorldLemmas
-pub mod CountLemmas
-pub mod DifferentLemmas
-pub mod GenomeLemmas
+mod CountLemmas
+mod DifferentLemmas
+mod EventLemmas
+mod GenomeLemmas

@@ -18,3 +18,4 @@ pub use Rattle.world_rules.specs.LogText
 pub mod Soundness
 pub mod WorldValue
 pub mod Tally
+pub mod Happening

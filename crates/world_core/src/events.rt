@@ -1,14 +1,27 @@
 // The events of an update.
-ghost use Rattle.std.specs.Prelude.{◌≡◌, ◌+◌, ◌*◌, ◌++◌, ◌≤◌, ◌^◌, OnOk, length};
+ghost use Rattle.std.specs.Prelude.{◌≡◌, ◌+◌, ◌*◌, ◌++◌, ◌<◌, ◌≤◌, ◌^◌, [], ◌∷◌, Some, IsSome, IfOk, OnOk, length};
+ghost use Rattle.std.specs.Option.{option_to_list};
+ghost use Rattle.genome.specs.Genome.{letters};
 ghost use Rattle.lineage_log.specs.LogGrammar.{lines_text};
+ghost use Rattle.log_lines.specs.Line.{Rate};
+ghost use Rattle.world_config.specs.Events.{what_value, inject, clear};
 ghost use Rattle.world_config.specs.Shown.{values_of};
-ghost use Rattle.world_rules.specs.LogText.{event_lines};
-ghost use Rattle.world_rules.specs.Update.{after_events};
+ghost use Rattle.world_rules.specs.LogText.{event_lines, what_lines, cleared_line};
+ghost use Rattle.world_rules.specs.Scene.{cells_from, with_death, with_deaths};
+ghost use Rattle.world_rules.specs.Update.{after_events, after_what};
+ghost use Rattle.world_core.specs.Happening.{CanHappen, genome_told};
 
+use crate::ancestor::Ancestor;
+use crate::founding::founder;
 use crate::scene::Scene;
 use avida_port::Memory;
+use genome::Genome;
+use log_lines::{LogLine, write_line};
+use mutations::RateName;
+use random_streams::CELLS;
 use std::alloc::Global;
-use world_config::Config;
+use std::sync::Arc;
+use world_config::{Config, What};
 
 /// The events of the scene's update in order, with their lines. After `Memory` drop the scene.
 pub(crate) fn happen(
@@ -24,6 +37,165 @@ pub(crate) fn happen(
     ensures size { OnOk result (length scene.new.cells ≡ length scene.old.cells) }
     ensures everyone { OnOk result (length scene.new.everyone ≤ length scene.old.everyone + 1000) }
 {
-    let _ = (alloc, config, scene, text);
-    Err(Memory)
+    let update = scene.update;
+    for (at, event) in config.event.as_slice().iter().enumerate() {
+        if event.update == update {
+            occur(alloc, config, scene, at as u32 + 1, &event.what, text)?;
+        }
+    }
+    Ok(())
+}
+
+/// What an event does, given its place in the list from 1, with its lines.
+fn occur(
+    alloc: Global,
+    config: &Config,
+    scene: &mut Scene,
+    nth: u32,
+    what: &What,
+    text: &mut Vec<u8>,
+) -> Result<(), Memory>
+    requires cells { length scene.old.cells ≤ CELLS }
+    requires nth { nth ≤ 1000 }
+    requires fits { CanHappen (length scene.old.cells) config.now.greatest_length (what_value what.now) }
+    ensures scene { OnOk result (scene.new
+        ≡ after_what (values_of config.now) scene.old nth (what_value what.now)) }
+    ensures text { OnOk result (text.new.items
+        ≡ text.old.items ++ lines_text (what_lines scene.old (what_value what.now))) }
+    ensures size { OnOk result (length scene.new.cells ≡ length scene.old.cells) }
+    ensures everyone { OnOk result (length scene.new.everyone ≤ length scene.old.everyone + 1) }
+{
+    match what {
+        What::Inject { cell, genome } => inject(alloc, config, scene, nth, *cell, genome, text),
+        What::Clear { first, last } => clear(scene, *first, *last, text),
+        What::Rate { name, ppm } => tell_rate(scene, *name, *ppm, text),
+    }
+}
+
+/// An organism of this genome stands in the cell, and who stood there dies.
+#[tactic(auto, unfolding(world_rules::specs::Scene::with_newcomer, world_rules::specs::World::founder_of, organism::specs::OrganismState::new_organism))]
+fn inject(
+    alloc: Global,
+    config: &Config,
+    scene: &mut Scene,
+    nth: u32,
+    cell: u32,
+    genome: &Genome,
+    text: &mut Vec<u8>,
+) -> Result<(), Memory>
+    requires cells { length scene.old.cells ≤ CELLS }
+    requires cell { cell < length scene.old.cells }
+    requires nth { nth ≤ 1000 }
+    requires genome { length (letters genome.now) ≤ config.now.greatest_length }
+    ensures scene { OnOk result (scene.new
+        ≡ after_what (values_of config.now) scene.old nth (inject cell (letters genome.now))) }
+    ensures text { OnOk result (text.new.items
+        ≡ text.old.items ++ lines_text (what_lines scene.old (inject cell (letters genome.now)))) }
+    ensures size { OnOk result (length scene.new.cells ≡ length scene.old.cells) }
+    ensures everyone { OnOk result (length scene.new.everyone ≡ length scene.old.everyone + 1) }
+{
+    let genome = tell_injection(scene, cell, genome.copy(alloc)?, text)?;
+    let genome = Arc::new(alloc, genome)?;
+    let organism = founder(alloc, config, cell, nth, genome.clone()?)?;
+    let ancestor = Ancestor {
+        id: scene.next_id(),
+        parent: None,
+        update: scene.update,
+        cell,
+        origin: None,
+        genome,
+    };
+    scene.come(ancestor, organism)
+}
+
+/// The line of an injection; the genome comes back from it.
+fn tell_injection(
+    scene: &Scene,
+    cell: u32,
+    genome: Genome,
+    text: &mut Vec<u8>,
+) -> Result<Genome, Memory>
+    requires { cell < length scene.now.cells }
+    ensures genome { IfOk result (λ same. letters same ≡ letters genome) }
+    ensures text { OnOk result (text.new.items
+        ≡ text.old.items ++ lines_text (what_lines scene.now (inject cell (letters genome)))) }
+{
+    let id = scene.next_id();
+    let over = scene.standing_at(cell);
+    let update = scene.update;
+    let line = LogLine::Injected {
+        id,
+        update,
+        cell,
+        over,
+        genome,
+    };
+    write_line(&line, text)?;
+    Ok(injected_genome(line))
+}
+
+/// The genome that comes back from the line of an injection.
+fn injected_genome(line: LogLine) -> Genome
+    requires { IsSome (genome_told line) }
+    ensures { genome_told line ≡ Some (letters result) }
+{
+    match line {
+        LogLine::Injected { genome, .. } => genome,
+        _ => unreachable!(),
+    }
+}
+
+/// Who stands in these cells dies, with a line for each.
+fn clear(scene: &mut Scene, first: u32, last: u32, text: &mut Vec<u8>) -> Result<(), Memory>
+    requires cells { length scene.old.cells ≤ CELLS }
+    requires last { last < length scene.old.cells }
+    ensures scene { OnOk result (scene.new ≡ with_deaths scene.old (cells_from first last)) }
+    ensures text { OnOk result (text.new.items
+        ≡ text.old.items ++ lines_text (what_lines scene.old (clear first last))) }
+    ensures size { OnOk result (length scene.new.cells ≡ length scene.old.cells) }
+    ensures everyone { OnOk result (scene.new.everyone ≡ scene.old.everyone) }
+{
+    for cell in first..last + 1 {
+        clear_one(scene, cell, text)?;
+    }
+    Ok(())
+}
+
+/// Who stands in the cell dies, with a line.
+#[tactic(auto, unfolding(world_rules::specs::Scene::with_death))]
+fn clear_one(scene: &mut Scene, cell: u32, text: &mut Vec<u8>) -> Result<(), Memory>
+    requires { cell < length scene.old.cells }
+    ensures scene { OnOk result (scene.new ≡ with_death scene.old cell) }
+    ensures text { OnOk result (text.new.items
+        ≡ text.old.items ++ lines_text (option_to_list (cleared_line scene.old cell))) }
+    ensures size { OnOk result (length scene.new.cells ≡ length scene.old.cells) }
+    ensures everyone { OnOk result (scene.new.everyone ≡ scene.old.everyone) }
+{
+    tell_clearing(scene, cell, text)?;
+    scene.die(cell)?;
+    Ok(())
+}
+
+/// The line of who is cleared, where somebody stands in the cell.
+fn tell_clearing(scene: &Scene, cell: u32, text: &mut Vec<u8>) -> Result<(), Memory>
+    requires { cell < length scene.now.cells }
+    ensures { OnOk result (text.new.items
+        ≡ text.old.items ++ lines_text (option_to_list (cleared_line scene.now cell))) }
+{
+    match scene.standing_at(cell) {
+        Some(id) => {
+            let update = scene.update;
+            write_line(&LogLine::Cleared { id, update, cell }, text)
+        }
+        None => Ok(()),
+    }
+}
+
+/// The line of a rate.
+fn tell_rate(scene: &Scene, name: RateName, ppm: u32, text: &mut Vec<u8>) -> Result<(), Memory>
+    ensures { OnOk result (text.new.items
+        ≡ text.old.items ++ lines_text (Rate scene.now.update name ppm ∷ [])) }
+{
+    let update = scene.update;
+    write_line(&LogLine::Rate { update, name, ppm }, text)
 }

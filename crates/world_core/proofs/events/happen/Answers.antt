@@ -1,0 +1,54 @@
+use Rattle.std.proofs.Common.{◌∙◌, refl, sym, ap, subst, ◌<◌, length, get_or, eq-eqb, arith}
+use Rattle.std.proofs.lemmas.Bool.{ne_eqb}
+use Rattle.world_config.specs.Events.{what_value}
+use Rattle.world_core.specs.Happening.{CanHappen}
+use Rattle.world_core.proofs.EventLemmas.{IsOnTheWay, way-start, way-past, way-on, event-can_happen}
+use Rattle.world_core.proofs.events.happen.Goals.{then-event-update+in_ok-occur, else-event-update}
+use Rattle.world_core.proofs.events.happen.Goals as goal
+
+pub loop-at-init : goal.loop-at-init
+loop-at-init c =
+    let first = c.args.scene.now in
+    let start = c.args.text.now.items in
+    record {
+      way = subst (λ update. IsOnTheWay c.args.config.now update 0 first first start start) (sym (ap (λ s. s.update) c.scene.view_is)) (way-start c.args.config.now first start);
+      size = refl;
+      everyone = omega arith;
+    }
+
+pub occur-requires-clause-fits : goal.occur-requires-clause-fits
+occur-requires-clause-fits c =
+    let config = c.args.config.now in
+    let at = c.loop-at.at in
+    let event = c.event-item.result in
+    let events = c.as_slice-event-items.ensures in
+    let within : at < length config.event = omega (arith, ap length events, c.loop-at-test.true) in
+    subst (λ cells. CanHappen cells config.greatest_length (what_value event.what)) (sym (c.loop-at.invariant.size ∙ c.requires.size)) (event-can_happen config at event within (c.event-item.is ∙ ap (λ events. get_or events at event) events))
+
+pub loop-at-preserved : goal.loop-at-preserved
+loop-at-preserved c =
+    let config = c.args.config.now in
+    let at = c.loop-at.at in
+    let event = c.event-item.result in
+    let events = c.as_slice-event-items.ensures in
+    let within : at < length config.event = omega (arith, ap length events, c.loop-at-test.true) in
+    let here = c.event-item.is ∙ ap (λ events. get_or events at event) events in
+    let before = c.loop-at.invariant in
+    let first = c.args.scene.now in
+    let start = c.args.text.now.items in
+    elim c.if-event-update.branch [
+      | then-event-update+in_ok-occur w ↦
+          let turn = w.in_ok-occur.ensures in
+          record {
+            way = way-on config c.scene.inside.update at event first c.loop-at.scene c.if-event-update.scene start c.loop-at.text.items c.if-event-update.text.items within here (eq-eqb event.update c.scene.inside.update w.if-event-update.true) (w.scene-is ∙ turn.scene) (ap (λ text. text.items) w.text-is ∙ turn.text) before.way;
+            size = ap (λ s. length s.cells) w.scene-is ∙ turn.size ∙ before.size;
+            everyone = omega (arith, ap (λ s. length s.everyone) w.scene-is, turn.everyone, before.everyone);
+          }
+      | else-event-update w ↦
+          let same = way-past config c.scene.inside.update at event first c.loop-at.scene start c.loop-at.text.items within here (ne_eqb event.update c.scene.inside.update w.if-event-update.false) before.way in
+          record {
+            way = rw (w.scene-is, w.text-is) same;
+            size = ap (λ s. length s.cells) w.scene-is ∙ before.size;
+            everyone = omega (arith, ap (λ s. length s.everyone) w.scene-is, before.everyone);
+          }
+    ]
