@@ -1,5 +1,6 @@
-ghost use Rattle.std.specs.Prelude.{ℕ, ◌≤◌, Bool, List};
+ghost use Rattle.std.specs.Prelude.{ℕ, ◌*◌, ◌≤◌, Bool, List, sum, length};
 ghost use Rattle.merit_slices.specs.Merit.{merit_of};
+ghost use Rattle.merit_slices.specs.Slices.{slices_of};
 
 use crate::merits::{GREATEST_LENGTH, GREATEST_MERIT};
 
@@ -13,4 +14,10 @@ pub fn merits_are_bounded()
         → 1 ≤ executed
         → 1 ≤ copied
         → 1 ≤ merit_of genome_length executed copied tasks }
+{}
+
+/// All cells together get no more steps than the average for each.
+pub fn slices_are_few()
+    ensures { (merits : List ℕ) (average : ℕ)
+        → sum (slices_of merits average) ≤ average * length merits }
 {}
