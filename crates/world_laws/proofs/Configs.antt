@@ -1,0 +1,107 @@
+-- What the bounds of a configuration say of its values.
+use Rattle.std.proofs.Common.{◌≡◌, ℕ, suc, ◌+◌, ◌*◌, ◌<◌, ◌≤◌, Bool, true, false, cond, List, [], ◌∷◌, length, refl, ap, ◌∙◌, arith}
+use Rattle.std.specs.Prelude.{filter, ◌==◌}
+use Rattle.std.specs.List.{AllByRecursion, enumerate_from}
+use Rattle.std.proofs.Math.Nat.{mul-le-mul}
+use Rattle.instruction_set.specs.declared.letter.Letter.{Letter}
+use Rattle.genome.specs.Genome.{IsGenome}
+use Rattle.birth_board.specs.Torus.{cells_of}
+use Rattle.world_config.specs.Events.{EventValue, WhatValue, inject, clear, rate}
+use Rattle.world_config.specs.Values.{ConfigValues}
+use Rattle.world_rules.specs.Bounds.{within_bounds}
+use Rattle.world_rules.specs.Settings.{torus_of, rules_of}
+use Rattle.world_rules.specs.Update.{events_at}
+use Rattle.world_laws.proofs.Placements.{all_filtered}
+
+-- the number of cells
+abbrev pub size_of : ConfigValues → ℕ
+size_of config = config.width * config.height
+
+-- an event's cell and genome fit, and its rate is one
+abbrev pub FitsWhat : ConfigValues → WhatValue → Type 0
+FitsWhat config (inject cell letters) = (cell < size_of config) × (config.least_length ≤ length letters) × (length letters ≤ config.greatest_length)
+FitsWhat config (clear first last) = last < size_of config
+FitsWhat config (rate name ppm) = ppm ≤ 1000000
+
+abbrev pub FitsEvent : ConfigValues → EventValue → Type 0
+FitsEvent config event = FitsWhat config event.what
+
+-- the same of an event with its place in the list
+abbrev pub FitsPlaced : ConfigValues → ℕ × EventValue → Type 0
+FitsPlaced config event = FitsWhat config event.1.what
+
+-- values within the bounds of their keys
+pub record IsConfig (config : ConfigValues) : Type 0 where
+  pub columns : 1 ≤ config.width
+  pub few_columns : config.width ≤ 256
+  pub rows : 1 ≤ config.height
+  pub few_rows : config.height ≤ 256
+  pub founder : config.founder_cell < size_of config
+  pub average : config.average_slices ≤ 1000
+  pub least : 8 ≤ config.least_length
+  pub ordered : config.least_length ≤ config.greatest_length
+  pub room : config.greatest_length ≤ config.memory_limit
+  pub greatest : config.memory_limit ≤ 8192
+  pub long_enough : config.least_length ≤ length config.ancestor
+  pub short_enough : length config.ancestor ≤ config.greatest_length
+  pub few_events : length config.event ≤ 1000
+  pub events : AllByRecursion (FitsEvent config) config.event
+
+all_placed : (config : ConfigValues) (from : ℕ) (events : List EventValue) → AllByRecursion (FitsEvent config) events → AllByRecursion (FitsPlaced config) (enumerate_from from events)
+all_placed config from [] fit = tt
+all_placed config from (event ∷ events) fit = (fit.0, all_placed config (from + 1) events fit.1)
+
+pub length-enumerate : {X : Type 0} (from : ℕ) (xs : List X) → length (enumerate_from from xs) ≡ length xs
+length-enumerate from [] = refl
+length-enumerate from (x ∷ xs) = ap suc (length-enumerate (from + 1) xs)
+
+filter_few_step : {X : Type 0} (b : Bool) (x : X) (xs : List X) (n : ℕ) → length xs ≤ n → length (cond b (x ∷ xs) xs) ≤ suc n
+filter_few_step true x xs n h = omega (arith, h)
+filter_few_step false x xs n h = omega (arith, h)
+
+pub filter_few : {X : Type 0} (test : X → Bool) (xs : List X) → length (filter test xs) ≤ length xs
+filter_few test [] = omega arith
+filter_few test (x ∷ xs) = filter_few_step (test x) x (filter test xs) (length xs) (filter_few test xs)
+
+module _ (config : ConfigValues) (fit : IsConfig config) where
+  -- the events of an update fit
+  pub events_fit : (update : ℕ) → AllByRecursion (FitsPlaced config) (events_at config update)
+  unfolding events_at
+  events_fit update = all_filtered (FitsPlaced config) _ (enumerate_from 1 config.event) (all_placed config 1 config.event fit.events)
+
+  pub events_few : (update : ℕ) → length (events_at config update) ≤ 1000
+  unfolding events_at
+  events_few update =
+      let test = λ (event : ℕ × EventValue). event.1.update == update in
+      omega (arith, filter_few test (enumerate_from 1 config.event), length-enumerate 1 config.event, fit.few_events)
+
+  -- a world has few cells
+  pub few_cells : size_of config ≤ 65536
+  few_cells = mul-le-mul fit.few_columns fit.few_rows
+
+  -- the torus has them
+  pub torus_size : cells_of (torus_of config) ≡ size_of config
+  torus_size =
+      let a = fit.columns in
+      let b = fit.few_columns in
+      let c = fit.rows in
+      let d = fit.few_rows in
+      let w : within_bounds 1 256 config.width ≡ config.width = omega arith in
+      let h : within_bounds 1 256 config.height ≡ config.height = omega arith in
+      ap (λ n. n * within_bounds 1 256 config.height) w ∙ ap (λ n. config.width * n) h
+
+  -- the greatest length is within the limit of memory
+  pub greatest_fits : (rules_of config).greatest ≤ config.memory_limit
+  greatest_fits =
+      let a = fit.least in
+      let b = fit.ordered in
+      let c = fit.room in
+      let d = fit.greatest in
+      omega arith
+
+  pub genome_fits : (letters : List Letter) → config.least_length ≤ length letters → length letters ≤ config.greatest_length → IsGenome letters
+  genome_fits letters h k =
+      let a = fit.least in
+      let c = fit.room in
+      let d = fit.greatest in
+      record { least = omega arith; greatest = omega arith }

@@ -1,0 +1,121 @@
+-- The parts of a line have the forms that a log asks for.
+use Rattle.std.proofs.Common.{◌≡◌, ℕ, suc, ◌*◌, ◌<◌, ◌≤◌, Bool, true, false, cond, List, [], ◌∷◌, map, length, Option, Some, None, refl, ap, arith, sum_by}
+use Rattle.std.specs.Prelude.{filter, not, is_some, count_by}
+use Rattle.std.specs.List.{AllByRecursion, cons_option}
+use Rattle.std.proofs.lemmas.Bool.Decides.{nat_tests}
+use Rattle.std.proofs.lemmas.List.{length-map}
+use Rattle.std.proofs.lemmas.List.Sums.{sum_by-le}
+use Rattle.std.proofs.lemmas.List.Elements.{All-from_recursion}
+use Rattle.instruction_set.specs.declared.letter.Letter.{Letter}
+use Rattle.genome.specs.Genome.{IsGenome}
+use Rattle.logic_tasks.specs.declared.task.Task.{Task}
+use Rattle.logic_tasks.specs.LogicTasks.{all_tasks}
+use Rattle.logic_tasks.specs.TaskSet.{has_task}
+use Rattle.merit_slices.specs.declared.merits.TheConstants.{GREATEST_MERIT}
+use Rattle.mutations.specs.Change.{is_genome_length}
+use Rattle.mutations.specs.BirthRecord.{BirthRecord, same_letters}
+use Rattle.mutations.specs.RecordForm.{HasRecordForm, FitsBase}
+use Rattle.log_lines.specs.Line.{Count}
+use Rattle.log_lines.specs.Kinds.{large, over_field, base_field}
+use Rattle.log_lines.specs.LineText.{HasForm, record_row}
+use Rattle.lineage_log.specs.Slots.{taken}
+use Rattle.organism.specs.OrganismState.{OrganismState}
+use Rattle.organism.specs.Lived.{IsSoundOrganism}
+use Rattle.world_rules.specs.World.{Occupant, id_of, ids_of}
+use Rattle.world_rules.specs.Scene.{Scene}
+use Rattle.world_rules.specs.Statistics.{organism_in, organisms_in, genomes_in, different, credited_with, stats_in, scene_stats}
+use Rattle.world_laws.proofs.Scenes.{Each}
+
+base_form : (written : Option (List Letter)) → FitsBase written → base_field.Fits written
+base_form None h = tt
+base_form (Some letters) h = h
+
+-- a record that a log can write has a row
+pub record_form : (birth : BirthRecord) → HasRecordForm birth → record_row.Fits (birth.written, birth.changes)
+record_form birth h = (base_form birth.written h.base, (h.changes, h.order))
+
+-- a genome has letters enough and not too many
+pub letters_form : (letters : List Letter) → IsGenome letters → is_genome_length (length letters) ≡ true
+letters_form letters h =
+    let least = h.least in
+    let greatest = h.greatest in
+    grind (arith, nat_tests)
+
+-- an id, or none
+pub over_form : (slot : Option ℕ) (end : ℕ) → ((id : ℕ) → slot ≡ Some id → id < end) → end ≤ 18446744073709551615 → over_field.Fits slot
+over_form None end low few = tt
+over_form (Some id) end low few = (omega arith, omega (arith, low id refl, few))
+
+if_few : (b : Bool) → cond b 1 0 ≤ 1
+if_few true = omega arith
+if_few false = omega arith
+
+-- a count is within the number of items
+count_few : {X : Type 0} (test : X → Bool) (xs : List X) → count_by test xs ≤ length xs
+count_few test xs = omega (arith, sum_by-le (λ x. cond (test x) 1 0) 1 xs (λ k d h. if_few _))
+
+found_few : {Y : Type 0} (o : Option Y) (ys : List Y) (n : ℕ) → length ys ≤ n → length (cons_option o ys) ≤ suc n
+found_few None ys n h = omega (arith, h)
+found_few (Some y) ys n h = omega (arith, h)
+
+organisms_few : (cells : List (Option Occupant)) → length (organisms_in cells) ≤ length cells
+organisms_few [] = omega arith
+organisms_few (slot ∷ cells) = found_few (organism_in slot) (organisms_in cells) (length cells) (organisms_few cells)
+
+kept_few : {X : Type 0} (b : Bool) (x : X) (xs : List X) (n : ℕ) → length xs ≤ n → length (cond b (x ∷ xs) xs) ≤ suc n
+kept_few true x xs n h = omega (arith, h)
+kept_few false x xs n h = omega (arith, h)
+
+filtered_few : {X : Type 0} (test : X → Bool) (xs : List X) → length (filter test xs) ≤ length xs
+filtered_few test [] = omega arith
+filtered_few test (x ∷ xs) = kept_few (test x) x (filter test xs) (length xs) (filtered_few test xs)
+
+different_few : (genomes : List (List Letter)) → length (different genomes) ≤ length genomes
+different_few [] = omega arith
+different_few (genome ∷ genomes) = omega (arith, filtered_few (λ other. not (same_letters genome other)) (different genomes), different_few genomes)
+
+merits_first : (slot : Option Occupant) (os : List OrganismState) → ((o : Occupant) → slot ≡ Some o → o.organism.merit ≤ GREATEST_MERIT) → AllByRecursion (λ (o : OrganismState). o.merit ≤ GREATEST_MERIT) os → AllByRecursion (λ (o : OrganismState). o.merit ≤ GREATEST_MERIT) (cons_option (organism_in slot) os)
+merits_first None os first rest = rest
+merits_first (Some o) os first rest = (first o refl, rest)
+
+merits_fit : (cells : List (Option Occupant)) → Each IsSoundOrganism cells → AllByRecursion (λ (o : OrganismState). o.merit ≤ GREATEST_MERIT) (organisms_in cells)
+merits_fit [] sound = tt
+merits_fit (slot ∷ cells) sound =
+    merits_first slot (organisms_in cells) (λ o e. (sound 0 o (ap Some e)).merit) (merits_fit cells (λ cell o h. sound (suc cell) o h))
+
+-- the merits together
+merits_sum : (cells : List (Option Occupant)) → Each IsSoundOrganism cells → sum_by (λ (o : OrganismState). o.merit) (organisms_in cells) ≤ length (organisms_in cells) * GREATEST_MERIT
+merits_sum cells sound = sum_by-le (λ (o : OrganismState). o.merit) GREATEST_MERIT (organisms_in cells) (All-from_recursion (λ (o : OrganismState). o.merit ≤ GREATEST_MERIT) (organisms_in cells) (merits_fit cells sound))
+
+tasks_form : (cells : List (Option Occupant)) (tasks : List Task) → length (organisms_in cells) ≤ 65536 → AllByRecursion large.Fits (map (credited_with cells) tasks)
+tasks_form cells [] few = tt
+tasks_form cells (t ∷ tasks) few = ((omega arith, omega (arith, count_few (λ (o : OrganismState). has_task o.credited t) (organisms_in cells), few)), tasks_form cells tasks few)
+
+-- what is counted fits its fields
+pub count_form : (scene : Scene) (births : ℕ) → Each IsSoundOrganism scene.cells → length scene.cells ≤ 65536 → scene.update ≤ 4294967295 → births ≤ 18446744073709551615 → length scene.gone ≤ 18446744073709551615 → HasForm (Count (scene_stats scene births))
+unfolding stats_in
+count_form scene births sound small early few gone =
+    let cells = scene.cells in
+    let organisms = organisms_few cells in
+    let living : taken (ids_of cells) ≤ 65536 = omega (arith, count_few is_some (ids_of cells), length-map cells id_of, small) in
+    let genomes : length (genomes_in cells) ≤ 65536 = omega (arith, length-map (organisms_in cells) (λ (o : OrganismState). o.genome), organisms, small) in
+    let genotypes : length (different (genomes_in cells)) ≤ 65536 = omega (arith, different_few (genomes_in cells), genomes) in
+    let merit : sum_by (λ (o : OrganismState). o.merit) (organisms_in cells) ≤ 18446744073709551615 = omega (arith, merits_sum cells sound, organisms, small) in (
+      (omega arith, omega (arith, early)),
+      (
+        (omega arith, omega (arith, living)),
+        (
+          (omega arith, few),
+          (
+            (omega arith, gone),
+            (
+              (omega arith, omega (arith, genotypes)),
+              (
+                (omega arith, merit),
+                (refl, tasks_form cells all_tasks (omega (arith, organisms, small))),
+              ),
+            ),
+          ),
+        ),
+      ),
+    )

@@ -1,0 +1,94 @@
+-- What the lives of an update leave in the cells, and their newborns, by what one life does.
+use Rattle.std.proofs.Common.{◌≡◌, ℕ, suc, ◌+◌, ◌*◌, ◌^◌, ◌<◌, ◌≤◌, Bool, List, [], ◌∷◌, map, length, Option, Some, None, refl, sym, subst, arith}
+use Rattle.std.specs.Prelude.{slice_index_or, sum}
+use Rattle.std.specs.List.{AllByRecursion, range_with_len}
+use Rattle.std.proofs.lemmas.List.Elements.{recursion_from_All}
+use Rattle.instruction_set.specs.declared.letter.Letter.{Letter}
+use Rattle.genome.specs.declared.genome.TheConstants.{GREATEST_LENGTH}
+use Rattle.genome.specs.Genome.{IsGenome}
+use Rattle.merit_slices.specs.declared.merits.TheConstants.{GREATEST_MERIT}
+use Rattle.merit_slices.specs.Slices.{slices_of}
+use Rattle.random_streams.specs.declared.purpose.Purpose.{Purpose}
+use Rattle.random_streams.specs.declared.purpose.Purpose.TheVariants.{Run}
+use Rattle.random_streams.specs.RandomStream.{draw}
+use Rattle.organism.specs.declared.settings.Settings.{Settings}
+use Rattle.organism.specs.Newborns.{NewbornValue}
+use Rattle.organism.specs.OrganismState.{OrganismState, new_organism}
+use Rattle.organism.specs.UpdateLife.{life}
+use Rattle.organism.specs.Lived.{IsSoundOrganism, IsBornOf, beginning, HasLived}
+use Rattle.world_config.specs.Values.{ConfigValues}
+use Rattle.world_rules.specs.World.{Occupant}
+use Rattle.world_rules.specs.Settings.{rules_of, settings_at}
+use Rattle.world_rules.specs.Lives.{CellLife, life_of, life_at, lives_of, slice_at}
+use Rattle.world_laws.proofs.ListLemmas.{got_some}
+use Rattle.world_laws.proofs.Scenes.{Each}
+
+-- what the crates below prove of one life, of words, of new organisms and of slices
+pub record LifeLaws : Type 0 where
+  pub lives : (settings : Settings) (words : ℕ → ℕ) (start : OrganismState) (steps : ℕ) → ((k : ℕ) → words k < 2 ^ 32) → IsSoundOrganism start → HasLived settings start steps (life settings words (beginning start) steps).0
+  pub words : (seed update cell : ℕ) (purpose : Purpose) (k : ℕ) → draw seed update cell purpose k < 2 ^ 32
+  pub new : (letters : List Letter) (inputs : List ℕ) (merit : ℕ) (credited : List Bool) (limit : ℕ) → IsGenome letters → length letters ≤ limit → limit ≤ GREATEST_LENGTH → merit ≤ GREATEST_MERIT → IsSoundOrganism (new_organism letters inputs merit credited limit)
+  pub slices : (merits : List ℕ) (average : ℕ) → sum (slices_of merits average) ≤ average * length merits
+
+-- a newborn as its parent's genome and the configuration's rules want it
+abbrev pub IsNewborn : ConfigValues → List Letter → NewbornValue → Type 0
+IsNewborn config parent newborn = IsBornOf parent (rules_of config) newborn
+
+-- a cell's life keeps who stands there, and bears few lawful newborns
+pub record IsLifeOf (config : ConfigValues) (steps : ℕ) (o : Occupant) (l : CellLife) : Type 0 where
+  pub who : Occupant
+  pub stays : l.occupant ≡ Some who
+  pub id : who.id ≡ o.id
+  pub genome : who.organism.genome ≡ o.organism.genome
+  pub sound : IsSoundOrganism who.organism
+  pub few : length l.newborns ≤ steps
+  pub newborns : AllByRecursion (IsNewborn config o.organism.genome) l.newborns
+
+-- the same for a cell that may be empty
+abbrev pub IsLife : ConfigValues → ℕ → Option Occupant → CellLife → Type 0
+IsLife config steps None l = (l.occupant ≡ None) × (length l.newborns ≤ steps)
+IsLife config steps (Some o) l = IsLifeOf config steps o l
+
+-- one life, by the laws
+life_is : (laws : LifeLaws) (config : ConfigValues) (update cell steps : ℕ) (slot : Option Occupant) → ((o : Occupant) → slot ≡ Some o → IsSoundOrganism o.organism) → IsLife config steps slot (life_of config update cell steps slot)
+unfolding life_of settings_at
+life_is laws config update cell steps None sound = (refl, omega arith)
+life_is laws config update cell steps (Some o) sound =
+    let settings = settings_at config update in
+    let lived = laws.lives settings (draw config.seed update cell Run) o.organism steps (laws.words config.seed update cell Run) (sound o refl) in
+    let ended = life settings (draw config.seed update cell Run) (beginning o.organism) steps in
+    record {
+      who = record { id = o.id; organism = ended.0.organism };
+      stays = refl;
+      id = refl;
+      genome = lived.genome;
+      sound = lived.sound;
+      few = lived.few;
+      newborns = recursion_from_All (IsNewborn config o.organism.genome) ended.0.newborns lived.newborns;
+    }
+
+-- lives stand beside their cells, each with its steps
+abbrev pub AreLives : ConfigValues → (ℕ → ℕ) → ℕ → List (Option Occupant) → List CellLife → Type 0
+AreLives config steps from [] [] = Unit {0}
+AreLives config steps from [] (l ∷ lives) = ⊥
+AreLives config steps from (slot ∷ cells) [] = ⊥
+AreLives config steps from (slot ∷ cells) (l ∷ lives) = IsLife config (steps from) slot l × AreLives config steps (from + 1) cells lives
+
+lives_beside : (config : ConfigValues) (steps : ℕ → ℕ) (run : ℕ → CellLife) (from : ℕ) (cells : List (Option Occupant)) → ((i : ℕ) → i < length cells → IsLife config (steps (from + i)) (slice_index_or cells i None) (run (from + i))) → AreLives config steps from cells (map run (range_with_len from (length cells)))
+lives_beside config steps run from [] each = tt
+lives_beside config steps run from (slot ∷ cells) each =
+    let here : from + 0 ≡ from = omega arith in (
+      subst (λ n. IsLife config (steps n) slot (run n)) here (each 0 (omega arith)),
+      lives_beside config steps run (from + 1) cells (λ i h.
+          let next : from + suc i ≡ from + 1 + i = omega arith in
+          subst (λ n. IsLife config (steps n) (slice_index_or cells i None) (run n)) next (each (suc i) (omega (arith, h)))),
+    )
+
+-- the lives of an update
+pub lives_are : (laws : LifeLaws) (config : ConfigValues) (update : ℕ) (cells : List (Option Occupant)) → Each IsSoundOrganism cells → AreLives config (slice_at config cells) 0 cells (lives_of config update cells)
+unfolding lives_of
+lives_are laws config update cells sound =
+    lives_beside config (slice_at config cells) (life_at config update cells) 0 cells (λ i h.
+    let at : 0 + i ≡ i = omega arith in
+    subst (λ n. IsLife config (slice_at config cells n) (slice_index_or cells i None) (life_at config update cells n)) (sym at)
+    (life_is laws config update i (slice_at config cells i) (slice_index_or cells i None) (λ o e. sound i o (got_some cells i o e))))

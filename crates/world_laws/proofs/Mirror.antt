@@ -1,0 +1,103 @@
+-- What the order's reader knows of a world within an update, and what a replay has seen of it.
+use Rattle.std.proofs.Common.{◌≡◌, ℕ, List, [], ◌∷◌, ◌++◌, map, length, drop, Option, Some, Result, Ok, Err, refl, ap, ◌∙◌}
+use Rattle.instruction_set.specs.declared.letter.Letter.{Letter}
+use Rattle.log_lines.specs.Line.{Line}
+use Rattle.lineage_log.specs.declared.reason.Reason.{Reason}
+use Rattle.lineage_log.specs.declared.stage.Stage.{Stage}
+use Rattle.lineage_log.specs.declared.stage.Stage.TheVariants.{Quiet}
+use Rattle.lineage_log.specs.Order.{Place, Within, told, told_all, and_on}
+use Rattle.lineage_log.specs.Reader.{Reader}
+use Rattle.lineage_log.specs.Replay.{Seen, seen_on, seen_all}
+use Rattle.world_rules.specs.World.{Occupant, Link, ids_of}
+use Rattle.world_rules.specs.Scene.{Scene}
+
+-- the genomes of those who lived when the update began, by id
+abbrev pub People : Type 0
+People = List (Option (List Letter))
+
+-- the genome in a link
+abbrev pub written : Link → Option (List Letter)
+written link = Some link.genome
+
+-- the genomes that a reader keeps: those of the start, and those of all who came since
+abbrev pub people_in : People → List Link → People
+people_in start everyone = start ++ map written (drop (length start) everyone)
+
+-- the reader within an update
+abbrev pub mirror : People → Stage → ℕ → Scene → Reader
+mirror start stage births scene = record {
+  version = 2;
+  due = scene.update;
+  stage = stage;
+  standing = ids_of scene.cells;
+  people = people_in start scene.everyone;
+  newest = length start;
+  leaving = scene.gone;
+  births = births;
+}
+
+-- the reader between two updates
+abbrev pub between : People → ℕ → List (Option Occupant) → Reader
+between start due cells = record {
+  version = 2;
+  due = due;
+  stage = Quiet;
+  standing = ids_of cells;
+  people = start;
+  newest = length start;
+  leaving = [];
+  births = 0;
+}
+
+-- the genome of each link
+abbrev pub genomes_of : List Link → List (List Letter)
+genomes_of everyone = map (λ link. link.genome) everyone
+
+-- what a replay has seen of a world
+abbrev pub seen_in : List (Option Occupant) → List Link → Seen
+seen_in cells everyone = record { standing = ids_of cells; genomes = genomes_of everyone }
+
+-- these lines take the reader and the replay on
+pub record Tells (before : Place) (early : Seen) (lines : List Line) (after : Place) (later : Seen) : Type 0 where
+  pub told : told_all before lines ≡ Ok after
+  pub seen : seen_all early lines ≡ later
+
+-- the same, within an update
+abbrev pub Passes : People → Stage → ℕ → Scene → List Line → Stage → ℕ → Scene → Type 0
+Passes start stage births scene lines later more next =
+    Tells (Within (mirror start stage births scene)) (seen_in scene.cells scene.everyone) lines
+    (Within (mirror start later more next)) (seen_in next.cells next.everyone)
+
+abbrev taken : Place → Result Place Reason
+taken p = Ok p
+
+pub place_is : (p q : Place) → taken p ≡ taken q → p ≡ q
+place_is p q e = cc
+
+told_one : (r : Result Place Reason) (q : Place) → r ≡ Ok q → and_on r (λ next. told_all next []) ≡ Ok q
+told_one (Ok p) q e = e
+told_one (Err reason) q e = e
+
+and_then : (r : Result Place Reason) (f g : Place → Result Place Reason) (q : Place) (k : Result Place Reason) → ((p : Place) → f p ≡ Ok q → g p ≡ k) → and_on r f ≡ Ok q → and_on r g ≡ k
+and_then (Ok p) f g q k h e = h p e
+and_then (Err reason) f g q k h e = absurd cc
+
+told_more : (p : Place) (xs ys : List Line) (q : Place) → told_all p xs ≡ Ok q → told_all p (xs ++ ys) ≡ told_all q ys
+told_more p [] ys q e = ap (λ x. told_all x ys) (place_is p q e)
+told_more p (x ∷ xs) ys q e = and_then (told p x) (λ next. told_all next xs) (λ next. told_all next (xs ++ ys)) q (told_all q ys) (λ next h. told_more next xs ys q h) e
+
+seen_more : (s : Seen) (xs ys : List Line) → seen_all s (xs ++ ys) ≡ seen_all (seen_all s xs) ys
+seen_more s [] ys = refl
+seen_more s (x ∷ xs) ys = seen_more (seen_on s x) xs ys
+
+pub no_lines : (p : Place) (s : Seen) → Tells p s [] p s
+no_lines p s = record { told = refl; seen = refl }
+
+pub one_line : (p : Place) (s : Seen) (line : Line) (q : Place) (t : Seen) → told p line ≡ Ok q → seen_on s line ≡ t → Tells p s (line ∷ []) q t
+one_line p s line q t e f = record { told = told_one (told p line) q e; seen = f }
+
+pub more_lines : {p q o : Place} {s t v : Seen} (xs ys : List Line) → Tells p s xs q t → Tells q t ys o v → Tells p s (xs ++ ys) o v
+more_lines {p} {q} {o} {s} {t} {v} xs ys first second = record {
+  told = told_more p xs ys q first.told ∙ second.told;
+  seen = seen_more s xs ys ∙ ap (λ x. seen_all x ys) first.seen ∙ second.seen;
+}

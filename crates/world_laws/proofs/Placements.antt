@@ -1,0 +1,112 @@
+-- Newborns are placed in cells of the torus, one placing each.
+use Rattle.std.proofs.Common.{◌≡◌, ℕ, zero, suc, ◌+◌, ◌*◌, ◌/◌, ◌<◌, ◌≤◌, Bool, true, false, cond, List, [], ◌∷◌, ◌++◌, length, Option, arith, length-append}
+use Rattle.std.specs.Prelude.{slice_index_or, filter, fold}
+use Rattle.std.specs.List.{AllByRecursion}
+use Rattle.std.proofs.Math.Nat.{mul-le-mul_left, div-lt_iff_lt-mul}
+use Rattle.birth_board.specs.declared.placing.Placing.{Placing}
+use Rattle.birth_board.specs.declared.season.Season.{Season}
+use Rattle.birth_board.specs.declared.torus.Torus.{Torus}
+use Rattle.birth_board.specs.Torus.{cells_of, column_of, row_of, west_of, east_of, north_of, south_of, around, neighbours_of}
+use Rattle.birth_board.specs.Placement.{Board, is_free, choices_of, chosen_cell, placing_of, next_placing, next_board, placements_of}
+
+-- in the torus
+abbrev pub IsCell : Torus → ℕ → Type 0
+IsCell torus cell = cell < cells_of torus
+
+-- a column and a row make a cell
+in_row : (width height column row : ℕ) → column < width → row < height → row * width + column < width * height
+in_row width height column row c r =
+    let next : row + 1 ≤ height = omega (arith, r) in
+    omega (arith, mul-le-mul_left width next, c)
+
+-- a cell's row
+row_in : (width height cell : ℕ) → 1 ≤ width → cell < width * height → cell / width < height
+row_in width height cell some h =
+    let wide : 0 < width = omega (arith, some) in
+    let turned : cell < height * width = omega (arith, h) in
+    (div-lt_iff_lt-mul {k = width} {x = cell} {y = height} wide).1 turned
+
+around_in : (torus : Torus) (column row : ℕ) → column < torus.width → row < torus.height → AllByRecursion (IsCell torus) (around torus column row)
+around_in torus column row c r =
+    let some : 1 ≤ torus.width = torus.has_columns in
+    let rows : 1 ≤ torus.height = torus.has_rows in
+    let west : west_of torus column < torus.width = omega (arith, some) in
+    let east : east_of torus column < torus.width = omega (arith, some) in
+    let north : north_of torus row < torus.height = omega (arith, rows) in
+    let south : south_of torus row < torus.height = omega (arith, rows) in
+    let at = in_row torus.width torus.height in
+    (at _ _ west north, (at _ _ c north, (at _ _ east north, (at _ _ west r, (at _ _ east r, (at _ _ west south, (at _ _ c south, (at _ _ east south, tt))))))))
+
+neighbours_in : (torus : Torus) (cell : ℕ) → IsCell torus cell → AllByRecursion (IsCell torus) (neighbours_of torus cell)
+unfolding neighbours_of
+neighbours_in torus cell h =
+    let some : 1 ≤ torus.width = torus.has_columns in
+    let column : column_of torus cell < torus.width = omega (arith, some) in
+    around_in torus (column_of torus cell) (row_of torus cell) column (row_in torus.width torus.height cell some h)
+
+filter_step : {X : Type 0} (P : X → Type 0) (b : Bool) (x : X) (xs : List X) → P x → AllByRecursion P xs → AllByRecursion P (cond b (x ∷ xs) xs)
+filter_step P true x xs h all = (h, all)
+filter_step P false x xs h all = all
+
+-- a part of a list has what all of it has
+pub all_filtered : {X : Type 0} (P : X → Type 0) (test : X → Bool) (xs : List X) → AllByRecursion P xs → AllByRecursion P (filter test xs)
+all_filtered P test [] all = tt
+all_filtered P test (x ∷ xs) all = filter_step P (test x) x (filter test xs) all.0 (all_filtered P test xs all.1)
+
+all_or : {X : Type 0} (P : X → Type 0) (b : Bool) (xs ys : List X) → AllByRecursion P xs → AllByRecursion P ys → AllByRecursion P (cond b xs ys)
+all_or P true xs ys h k = h
+all_or P false xs ys h k = k
+
+-- an entry of a list, or the default
+all_at : (P : ℕ → Type 0) (xs : List ℕ) (i d : ℕ) → P d → AllByRecursion P xs → P (slice_index_or xs i d)
+all_at P [] i d h all = h
+all_at P (x ∷ xs) zero d h all = all.0
+all_at P (x ∷ xs) (suc i) d h all = all_at P xs i d h all.1
+
+-- two lists, one after another
+pub all_append : {X : Type 0} (P : X → Type 0) (xs ys : List X) → AllByRecursion P xs → AllByRecursion P ys → AllByRecursion P (xs ++ ys)
+all_append P [] ys h k = k
+all_append P (x ∷ xs) ys h k = (h.0, all_append P xs ys h.1 k)
+
+-- a chosen cell lies in the torus
+chosen_in : (torus : Torus) (prefer : Bool) (occupants : List (Option ℕ)) (parent word : ℕ) → IsCell torus parent → IsCell torus (chosen_cell torus prefer occupants parent word)
+unfolding chosen_cell
+chosen_in torus prefer occupants parent word h =
+    let near = neighbours_in torus parent h in
+    let free = all_filtered (IsCell torus) (is_free occupants) (neighbours_of torus parent) near in
+    let first : IsCell torus 0 = omega (arith, h) in
+    all_at (IsCell torus) (choices_of torus prefer occupants parent) _ 0 first
+    (all_or (IsCell torus) _ (filter (is_free occupants) (neighbours_of torus parent)) (neighbours_of torus parent) free near)
+
+-- in the torus, as a placing
+abbrev pub PlacedIn : Torus → Placing → Type 0
+PlacedIn torus placing = IsCell torus placing.cell
+
+placing_in : (torus : Torus) (season : Season) (board : Board) (parent : ℕ) → IsCell torus parent → PlacedIn torus (next_placing torus season board parent)
+unfolding placing_of
+placing_in torus season board parent h = chosen_in torus season.prefer_empty board.occupants parent _ h
+
+-- the placings of a board once the newborns of these parents are placed
+placed_in : (torus : Torus) (season : Season) (board : Board) (parents : List ℕ) → AllByRecursion (IsCell torus) parents → AllByRecursion (PlacedIn torus) board.placings
+    → AllByRecursion (PlacedIn torus) (fold (next_board torus season) board parents).placings
+unfolding next_board
+placed_in torus season board [] cells before = before
+placed_in torus season board (parent ∷ parents) cells before =
+    placed_in torus season (next_board torus season board parent) parents cells.1
+    (all_append (PlacedIn torus) board.placings (next_placing torus season board parent ∷ []) before (placing_in torus season board parent cells.0, tt))
+
+placed_number : (torus : Torus) (season : Season) (board : Board) (parents : List ℕ) → length (fold (next_board torus season) board parents).placings ≡ length board.placings + length parents
+unfolding next_board
+placed_number torus season board [] = omega arith
+placed_number torus season board (parent ∷ parents) =
+    omega (arith, placed_number torus season (next_board torus season board parent) parents, length-append board.placings (next_placing torus season board parent ∷ []))
+
+pub placements_in : (torus : Torus) (parents : List ℕ) (occupants : List (Option ℕ)) (season : Season) → AllByRecursion (IsCell torus) parents → AllByRecursion (PlacedIn torus) (placements_of torus parents occupants season).placings
+unfolding placements_of
+placements_in torus parents occupants season cells = placed_in torus season (record { occupants = occupants; placings = []; parents = [] }) parents cells tt
+
+pub placements_number : (torus : Torus) (parents : List ℕ) (occupants : List (Option ℕ)) (season : Season) → length (placements_of torus parents occupants season).placings ≡ length parents
+unfolding placements_of
+placements_number torus parents occupants season =
+    let empty : Board = record { occupants = occupants; placings = []; parents = [] } in
+    omega (arith, placed_number torus season empty parents)

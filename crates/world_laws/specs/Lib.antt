@@ -1,0 +1,1 @@
+pub use Rattle.world_rules.specs.Laws
