@@ -1,5 +1,7 @@
 pub mod ScanLemmas
 pub mod SoundLemmas
+mod LifeLemmas
+mod LivesLemmas
 mod SettingsLemmas
 mod UpdateLemmas
 mod WorldLemmas

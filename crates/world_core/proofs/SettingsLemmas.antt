@@ -1,5 +1,5 @@
 -- Settings whose numbers are those of a configuration.
-use Rattle.std.proofs.Common.{◌≡◌, ◌∙◌, ℕ, ◌<◌, ◌≤◌, ◌&&◌, nat_le, nat_lt, true, List, length, get_or, map, filter, fold, sym, ap, subst}
+use Rattle.std.proofs.Common.{◌≡◌, ◌∙◌, ℕ, ◌<◌, ◌≤◌, ◌&&◌, nat_le, nat_lt, true, List, length, get_or, map, filter, fold, sym, ap, subst, arith}
 use Rattle.std.specs.Coded.{le_prop}
 use Rattle.std.specs.List.{AllPass}
 use Rattle.std.proofs.Math.Nat.{min-eq_left}
@@ -11,12 +11,14 @@ use Rattle.mutations.specs.declared.rate_name.RateName.{RateName}
 use Rattle.mutations.specs.declared.rates.Rates.{Rates}
 use Rattle.mutations.specs.Rates.{RateNumbers, numbers_of}
 use Rattle.random_streams.specs.declared.draws.TheConstants.{MILLION}
+use Rattle.world_config.specs.declared.config.Config.{Config}
 use Rattle.world_config.specs.declared.event.Event.{Event}
 use Rattle.world_config.specs.declared.event.What.{What}
 use Rattle.world_config.specs.declared.event.What.TheVariants.{Rate}
 use Rattle.world_config.specs.Events.{event_value, event_values, event_fits, what_fits, what_value}
 use Rattle.world_config.specs.KeyTable.{Frame}
-use Rattle.world_rules.specs.Settings.{rates_of, rates_after}
+use Rattle.world_config.specs.Shown.{values_of}
+use Rattle.world_rules.specs.Settings.{rates_of, rates_after, settings_at}
 
 -- rates are equal where their numbers are
 pub rates-same : (a b : Rates) → numbers_of a ≡ numbers_of b → a ≡ b
@@ -60,3 +62,8 @@ rate-fits frame events items i e name ppm fit same within here is =
     let fits : event_fits frame (event_value e) ≡ true = ap (event_fits frame) (ap event_value here ∙ sym mapped) ∙ passes in
     let parts = and_parts (nat_le 1 e.update && nat_le e.update frame.updates) (what_fits frame (what_value e.what)) fits in
     leb-true ppm MILLION (sym (ap (λ (w : What). what_fits frame (what_value w)) is) ∙ parts.1)
+
+-- the greatest length of a genome is the configuration's own
+pub greatest-same : (config : Config) (update : ℕ) → (settings_at (values_of config) update).rules.greatest ≡ config.greatest_length
+unfolding settings_at
+greatest-same config update = omega (arith, config.greatest_length_bounds.0, config.greatest_length_bounds.1, config.least_length_bounds.0)

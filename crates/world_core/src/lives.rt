@@ -1,15 +1,21 @@
 // The lives of an update, all from one start.
-ghost use Rattle.std.specs.Prelude.{◌≡◌, ◌+◌, ◌<◌, ◌≤◌, All, OnOk, IfOk, length, map};
+ghost use Rattle.std.specs.Prelude.{◌≡◌, ◌+◌, ◌*◌, ◌<◌, ◌≤◌, ◌^◌, ◌∷◌, ◌++◌, [], ℕ, Some, None, Option, All, OnOk, IfOk, length, map, sum, slice_index_or, if◌then◌else◌};
+ghost use Rattle.merit_slices.specs.declared.merits.TheConstants.{GREATEST_MERIT};
+ghost use Rattle.organism.specs.Newborns.{newborns_in, newborn_value, MeritsFit, LengthsFit};
 ghost use Rattle.world_config.specs.Shown.{values_of};
-ghost use Rattle.world_rules.specs.Lives.{lives_of};
-ghost use Rattle.world_rules.specs.Update.{births_of, deaths_of};
-ghost use Rattle.world_core.specs.Soundness.{AreSound, AreDeliveries};
+ghost use Rattle.world_rules.specs.Lives.{is_death, life_of, lives_of, merit_in, slices_at};
+ghost use Rattle.world_rules.specs.Settings.{settings_at};
+ghost use Rattle.world_rules.specs.Update.{births_by, births_of, deaths_of, delivery_of};
+ghost use Rattle.world_core.specs.Soundness.{AreSound, AreDeliveries, IsSound, IsSoundIn, MOST_STEPS};
 
 use crate::delivery::Delivery;
 use crate::occupant::Occupant;
+use crate::settings::settings_at;
 use avida_port::Memory;
-use random_streams::CELLS;
-use std::alloc::Global;
+use merit_slices::{GREATEST_MERIT, share};
+use organism::{Births, LIFE_STEPS, Ran, Settings};
+use random_streams::{CELLS, Draws, Purpose};
+use std::alloc::{AllocError, Global};
 use world_config::Config;
 
 /// What the lives of an update bring: the newborns in order of cell and birth, and the cells whose organism died of age.
@@ -19,27 +25,200 @@ pub(crate) struct Lived {
     pub(crate) dead: Vec<u32>,
 }
 
+/// What the life of a cell brings.
+#[derive(Drop)]
+struct Life {
+    died: bool,
+    births: Births,
+}
+
 /// The lives of all cells in the update after this one; the dead stay in their cells. After `Memory` drop the cells.
 pub(crate) fn live(
     alloc: Global,
     config: &Config,
     update: u32,
-    cells: &mut Vec<Option<Occupant>>,
+    cells: &mut [Option<Occupant>],
 ) -> Result<Lived, Memory>
-    requires cells { length cells.old.items ≤ CELLS }
+    requires cells { length cells.old ≤ CELLS }
     requires update { update < 1000000 }
-    requires sound { AreSound update cells.old.items }
-    ensures cells { OnOk result (cells.new.items
-        ≡ map (λ l. l.occupant) (lives_of (values_of config.now) (update + 1) cells.old.items)) }
-    ensures sound { OnOk result (AreSound (update + 1) cells.new.items) }
+    requires sound { AreSound update cells.old }
+    ensures cells { OnOk result (cells.new
+        ≡ map (λ l. l.occupant) (lives_of (values_of config.now) (update + 1) cells.old)) }
+    ensures sound { OnOk result (AreSound (update + 1) cells.new) }
     ensures births { IfOk result (λ lived. lived.births.items
-        ≡ births_of (lives_of (values_of config.now) (update + 1) cells.old.items)) }
+        ≡ births_of (lives_of (values_of config.now) (update + 1) cells.old)) }
     ensures deliveries { IfOk result (λ lived.
-        AreDeliveries (values_of config.now) (length cells.old.items) lived.births.items) }
+        AreDeliveries (values_of config.now) (length cells.old) lived.births.items) }
     ensures dead { IfOk result (λ lived. lived.dead.items
-        ≡ deaths_of (lives_of (values_of config.now) (update + 1) cells.old.items)) }
-    ensures in_world { IfOk result (λ lived. All (λ cell. cell < length cells.old.items) lived.dead.items) }
+        ≡ deaths_of (lives_of (values_of config.now) (update + 1) cells.old)) }
+    ensures in_world { IfOk result (λ lived. All (λ cell. cell < length cells.old) lived.dead.items) }
 {
-    let _ = (alloc, config, update, cells);
-    Err(Memory)
+    let slices = slices_of(alloc, config, cells)?;
+    let settings = settings_at(config, update + 1);
+    let mut lived = Lived {
+        births: Vec::new(alloc),
+        dead: Vec::new(alloc),
+    };
+    for cell in 0..cells.len() {
+        let slot = &mut cells[cell];
+        let life = live_in(
+            alloc,
+            config,
+            &settings,
+            update,
+            cell as u32,
+            slices[cell],
+            slot,
+        )?;
+        lived.tell(cell as u32, slot, life)?;
+    }
+    Ok(lived)
+}
+
+/// The steps of each cell, by the merits as the update begins.
+#[tactic(auto, unfolding(world_rules::specs::Lives::slices_at))]
+fn slices_of(alloc: Global, config: &Config, cells: &[Option<Occupant>]) -> Result<Vec<u64>, Memory>
+    requires cells { length cells.now ≤ CELLS }
+    requires merits { All (λ slot. merit_in slot ≤ GREATEST_MERIT) cells.now }
+    ensures slices { IfOk result (λ slices. slices.items ≡ slices_at (values_of config.now) cells.now) }
+    ensures few { IfOk result (λ slices. (cell : ℕ) → slice_index_or slices.items cell 0 < MOST_STEPS) }
+    ensures total { IfOk result (λ slices. sum slices.items < MOST_STEPS) }
+    ensures length { IfOk result (λ slices. length slices.items ≡ length cells.now) }
+{
+    let merits = merits_of(alloc, cells)?;
+    let mut slices = vec![in alloc; 0; cells.len()]?;
+    share(&merits, config.average_slices, &mut slices);
+    Ok(slices)
+}
+
+fn merits_of(alloc: Global, cells: &[Option<Occupant>]) -> Result<Vec<u64>, AllocError>
+    ensures { IfOk result (λ merits. merits.items ≡ map merit_in cells.now) }
+{
+    let mut merits = Vec::with_capacity(alloc, cells.len())?;
+    for slot in cells {
+        merits.push(merit_in(slot))?;
+    }
+    Ok(merits)
+}
+
+fn merit_in(slot: &Option<Occupant>) -> u64
+    ensures { result ≡ merit_in slot.now }
+{
+    match slot {
+        Some(occupant) => occupant.organism.merit(),
+        None => 0,
+    }
+}
+
+/// The life of who stands in a cell in the update after this one.
+#[tactic(auto, unfolding(world_rules::specs::Lives::life_of))]
+fn live_in(
+    alloc: Global,
+    config: &Config,
+    settings: &Settings,
+    update: u32,
+    cell: u32,
+    steps: u64,
+    slot: &mut Option<Occupant>,
+) -> Result<Life, Memory>
+    requires cell { cell < CELLS }
+    requires steps { steps < LIFE_STEPS }
+    requires update { update < 1000000 }
+    requires settings { settings.now ≡ settings_at (values_of config.now) (update + 1) }
+    requires sound { IsSoundIn update slot.old }
+    ensures life { IfOk result (λ life. life_of (values_of config.now) (update + 1) cell steps slot.old
+        ≡ record { occupant = slot.new; died = life.died; newborns = map newborn_value (newborns_in life.births) }) }
+    ensures sound { OnOk result (IsSoundIn (update + 1) slot.new) }
+    ensures few { IfOk result (λ life. length (newborns_in life.births) ≤ steps) }
+    ensures merits { IfOk result (λ life. MeritsFit (newborns_in life.births)) }
+    ensures lengths { IfOk result (λ life. LengthsFit settings.now.rules.greatest (newborns_in life.births)) }
+{
+    match slot {
+        Some(occupant) => live_once(alloc, config, settings, update, cell, steps, occupant),
+        None => Ok(Life {
+            died: false,
+            births: Births::none(alloc),
+        }),
+    }
+}
+
+/// The life of an occupant, with the run stream of its cell.
+fn live_once(
+    alloc: Global,
+    config: &Config,
+    settings: &Settings,
+    update: u32,
+    cell: u32,
+    steps: u64,
+    occupant: &mut Occupant,
+) -> Result<Life, Memory>
+    requires cell { cell < CELLS }
+    requires steps { steps < LIFE_STEPS }
+    requires update { update < 1000000 }
+    requires settings { settings.now ≡ settings_at (values_of config.now) (update + 1) }
+    requires sound { IsSound update occupant.old.organism }
+    ensures life { IfOk result (λ life. life_of (values_of config.now) (update + 1) cell steps (Some occupant.old)
+        ≡ record { occupant = Some occupant.new; died = life.died; newborns = map newborn_value (newborns_in life.births) }) }
+    ensures sound { OnOk result (IsSound (update + 1) occupant.new.organism) }
+    ensures few { IfOk result (λ life. length (newborns_in life.births) ≤ steps) }
+    ensures merits { IfOk result (λ life. MeritsFit (newborns_in life.births)) }
+    ensures lengths { IfOk result (λ life. LengthsFit settings.now.rules.greatest (newborns_in life.births)) }
+{
+    let mut births = Births::none(alloc);
+    let mut draws = Draws::start(config.seed, update + 1, cell, Purpose::Run);
+    let ran = occupant
+        .organism
+        .run(alloc, steps, settings, &mut draws, &mut births)?;
+    Ok(Life {
+        died: is_death(ran),
+        births,
+    })
+}
+
+fn is_death(ran: Ran) -> bool
+    ensures { result ≡ is_death ran }
+{
+    match ran {
+        Ran::Lives => false,
+        Ran::Died { .. } => true,
+    }
+}
+
+impl Lived {
+    /// What the life of a cell brought.
+    fn tell(&mut self, cell: u32, slot: &Option<Occupant>, life: Life) -> Result<(), Memory>
+        ensures births { OnOk result (self.new.births.items ≡ self.old.births.items
+            ++ births_by cell (map newborn_value (newborns_in life.births)) slot.now) }
+        ensures dead { OnOk result (self.new.dead.items ≡ self.old.dead.items
+            ++ (if life.died then cell ∷ [] else [])) }
+    {
+        let Life { died, births } = life;
+        if died {
+            self.dead.push(cell)?;
+        }
+        match slot {
+            Some(occupant) => deliver(cell, occupant.id, births, &mut self.births),
+            None => Ok(()),
+        }
+    }
+}
+
+/// The newborns of a parent, in order of birth.
+fn deliver(
+    cell: u32,
+    parent: u64,
+    newborns: Births,
+    births: &mut Vec<Delivery>,
+) -> Result<(), Memory>
+    ensures { OnOk result (births.new.items ≡ births.old.items
+        ++ map (delivery_of cell parent) (map newborn_value (newborns_in newborns))) }
+{
+    for newborn in newborns.into_vec() {
+        births.push(Delivery {
+            cell,
+            parent,
+            newborn,
+        })?;
+    }
+    Ok(())
 }
