@@ -173,16 +173,16 @@ fn tell_birth(
         over: scene.standing_at(cell),
         origin,
     };
-    match told(line, text)? {
+    match tell(line, text)? {
         LogLine::Birth { origin, .. } => Ok(origin),
         _ => unreachable!(),
     }
 }
 
-/// The line, once it is written.
-fn told(line: LogLine, text: &mut Vec<u8>) -> Result<LogLine, Memory>
+/// Writes a line, and gives it back.
+fn tell(line: LogLine, text: &mut Vec<u8>) -> Result<LogLine, Memory>
     ensures text { OnOk result (text.new.items ≡ text.old.items ++ line_text (line_values line)) }
-    ensures line { IfOk result (λ told. told ≡ line) }
+    ensures line { IfOk result (λ same. same ≡ line) }
 {
     write_line(&line, text)?;
     Ok(line)

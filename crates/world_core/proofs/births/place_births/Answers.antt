@@ -1,10 +1,11 @@
-use Rattle.std.proofs.Common.{◌≡◌, ◌∙◌, ap, sym, refl, ◌+◌, ◌++◌, ◌<◌, [], ◌∷◌, List, length, take, get_or, fold, arith, rules}
+use Rattle.std.proofs.Common.{◌≡◌, ◌∙◌, ap, sym, ◌+◌, ◌++◌, [], ◌∷◌, List, length, take, fold, arith, rules}
 use Rattle.std.specs.Iterator.Adapters.{zip_first, zip_second}
 use Rattle.std.specs.List.{scan}
 use Rattle.std.specs.Vec.Iter.{into_iter_items, into_iter_len}
 use Rattle.std.proofs.lemmas.List.{length_push, take_all}
 use Rattle.std.proofs.lemmas.List.Sums.{fold_more}
-use Rattle.std.proofs.lemmas.Iterator.{YieldsList, YieldsList-from_zip}
+use Rattle.std.proofs.lemmas.Slice.Zip.{length-zip}
+use Rattle.std.proofs.lemmas.Iterator.{YieldsList-from_zip}
 use Rattle.std.proofs.lemmas.Iterator.Adapters.{YieldsList-from_vec}
 use Rattle.std.proofs.lemmas.Iterator.Consumers.{YieldsList-turn, YieldsList-end}
 use Rattle.birth_board.specs.declared.placing.Placing.{Placing}
@@ -36,17 +37,15 @@ loop-birth-preserved c =
     let here = YieldsList-turn road so_far c.loop-birth.birth-iterator c.loop-birth.yielded_by c.next.result c.next.new.self turn c.in-Some.is c.next.ensures.steps in
     let long : length (so_far ++ turn ∷ []) ≡ n + 1 = length_push so_far turn in
     record {
-      goes = (tt, tt);
-      ends = tt;
       scene = rw long (told.scene ∙ ap (λ s. after_birth config s turn) before.scene ∙ ap (after_birth config (fold (after_birth config) first (take n turns))) here.1 ∙ sym (fold_more (after_birth config) first turns n turn here.0));
       text = rw long (lines-step (after_birth config) birth_line line_text first c.loop-birth.scene turns n turn c.args.text.now.items c.loop-birth.text.items c.settle.new.text.items here.0 before.scene before.text (told.text ∙ ap (λ (t : Delivery × Placing). c.loop-birth.text.items ++ line_text (birth_line c.loop-birth.scene t)) here.1));
       size = told.size ∙ before.size;
       everyone = omega (arith, long);
     }
 
-pub returns-clause-scene : goal.returns-clause-scene
+pub returns : goal.returns
 unfolding after_births
-returns-clause-scene c =
+returns c =
     let config = values_of c.args.config.now in
     let first = c.args.scene.now in
     let births = c.args.births.items in
@@ -59,20 +58,11 @@ returns-clause-scene c =
     (YieldsList-from_vec births (ap (λ s. into_iter_items (zip_first s)) same ∙ ap into_iter_items c.zip-birth-items.ensures.first ∙ c.into_iter.ensures.rest) (search rules))
     (YieldsList-from_vec placings (ap (λ s. into_iter_items (zip_second s)) same ∙ c.zip-birth-items.ensures.second.0 ∙ found) (ap (λ s. into_iter_len (zip_second s)) same ∙ c.zip-birth-items.ensures.second.1 ∙ c.into_vec.result.ok.0 ∙ ap length found)) in
     let whole = YieldsList-end road so_far c.loop-birth.birth-iterator c.loop-birth.yielded_by c.next.result c.next.new.self c.in-None.is c.next.ensures.steps in
-    c.loop-birth.invariant.scene ∙ ap (fold (after_birth config) first) (take_all (length so_far) turns (omega (arith, whole.1)))
-
-pub returns-clause-text : goal.returns-clause-text
-returns-clause-text c =
-    let config = values_of c.args.config.now in
-    let first = c.args.scene.now in
-    let births = c.args.births.items in
-    let placings = placings_of config first births in
-    let turns = turns_of config first births in
-    let so_far = c.loop-birth.yielded in
-    let same = c.into_iter-birth-iterator.ensures.into_iter_gives in
-    let found : c.into_vec.result.items ≡ placings = c.into_vec.ensures ∙ c.in_ok-placings.ensures.placings ∙ ap (placings_of config first) c.deref.ensures.value in
-    let road = YieldsList-from_zip {s = c.into_iter-birth-iterator.result}
-    (YieldsList-from_vec births (ap (λ s. into_iter_items (zip_first s)) same ∙ ap into_iter_items c.zip-birth-items.ensures.first ∙ c.into_iter.ensures.rest) (search rules))
-    (YieldsList-from_vec placings (ap (λ s. into_iter_items (zip_second s)) same ∙ c.zip-birth-items.ensures.second.0 ∙ found) (ap (λ s. into_iter_len (zip_second s)) same ∙ c.zip-birth-items.ensures.second.1 ∙ c.into_vec.result.ok.0 ∙ ap length found)) in
-    let whole = YieldsList-end road so_far c.loop-birth.birth-iterator c.loop-birth.yielded_by c.next.result c.next.new.self c.in-None.is c.next.ensures.steps in
-    c.loop-birth.invariant.text ∙ ap (λ (done : List (Delivery × Placing)). c.args.text.now.items ++ lines_text (scan (after_birth config) birth_line first done)) (take_all (length so_far) turns (omega (arith, whole.1)))
+    let all : take (length so_far) turns ≡ turns = take_all (length so_far) turns (omega (arith, whole.1)) in
+    let many = length-zip births placings in
+    record {
+      scene = c.loop-birth.invariant.scene ∙ ap (fold (after_birth config) first) all;
+      text = c.loop-birth.invariant.text ∙ ap (λ (done : List (Delivery × Placing)). c.args.text.now.items ++ lines_text (scan (after_birth config) birth_line first done)) all;
+      size = c.loop-birth.invariant.size;
+      everyone = omega (arith, whole.1, many, c.in_ok-placings.ensures.count, ap length found, ap length c.into_vec.ensures, ap length c.deref.ensures.value);
+    }

@@ -12,8 +12,6 @@ invariant-loop-birth l =
     let config = values_of l.config in
     let turns = take (length l.yielded) (turns_of config l.fn.scene l.fn.births.items) in
     record {
-      goes : (goal.iterator-loop-birth).can_next l.birth-iterator;
-      ends : (goal.iterator-loop-birth).is_finite l.birth-iterator;
       scene : l.scene ≡ fold (after_birth config) l.fn.scene turns;
       text : l.text.items ≡ l.fn.text.items ++ lines_text (scan (after_birth config) birth_line l.fn.scene turns);
       size : length l.scene.cells ≡ length l.fn.scene.cells;

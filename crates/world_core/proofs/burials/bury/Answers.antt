@@ -1,4 +1,4 @@
-use Rattle.std.proofs.Common.{◌≡◌, ◌∙◌, ap, sym, ◌<◌, length, get_or}
+use Rattle.std.proofs.Common.{◌∙◌, ap, sym, ◌<◌, length, get_or}
 use Rattle.std.proofs.lemmas.List.Sums.{fold_more}
 use Rattle.log_lines.specs.LineText.{line_text}
 use Rattle.world_rules.specs.LogText.{death_line}

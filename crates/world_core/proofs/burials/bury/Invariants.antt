@@ -1,4 +1,4 @@
-use Rattle.std.proofs.Common.{◌≡◌, ◌++◌, fold, take, length}
+use Rattle.std.proofs.Common.{◌≡◌, ◌++◌, take, length}
 use Rattle.lineage_log.specs.LogGrammar.{lines_text}
 use Rattle.world_rules.specs.LogText.{death_lines}
 use Rattle.world_rules.specs.Scene.{with_deaths}

@@ -1,4 +1,3 @@
-use Rattle.std.proofs.Common.{Some}
 use Rattle.world_core.specs.Soundness.{AreSound}
 use Rattle.world_core.proofs.SoundLemmas.{AreSound-come}
 use Rattle.world_core.proofs.scene.Scene.come.Goals.{in-Some+in_ok-push, in_default}
