@@ -6,8 +6,7 @@ use Rattle.std.proofs.lemmas.Bool.{cases_lt}
 use Rattle.std.proofs.lemmas.Grind.{flat_map-append}
 use Rattle.std.proofs.lemmas.List.{map-append, map-id, length-map, length_push, length-append, get_or_push, get_or_append_left, get_or-append_right, get_or_at, set_at, drop_more, drop_all}
 use Rattle.std.proofs.lemmas.List.Elements.{All-nil, All-cons, All-append, All-push, All-map, All-weaker, All-filter, All-same, filter-append}
-use Rattle.std.proofs.lemmas.List.FromFn.{map-range_with_len_more}
-use Rattle.std.proofs.lemmas.List.FromFn.{length-map-range_with_len}
+use Rattle.std.proofs.lemmas.List.FromFn.{length-map-range_with_len, map-range_with_len_more}
 use Rattle.std.proofs.lemmas.List.Sums.{sum_by_more, sum_by-take-le}
 use Rattle.organism.specs.declared.newborn.Newborn.{Newborn}
 use Rattle.organism.specs.Newborns.{NewbornValue, newborn_value, MeritsFit, LengthsFit}
