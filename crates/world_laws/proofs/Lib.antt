@@ -16,3 +16,5 @@ mod Forms
 mod RunForms
 mod Replays
 mod ConfigBounds
+mod Descents
+mod LineDescents

@@ -75,7 +75,7 @@ module _ (laws : LifeLaws) (config : ConfigValues) (fit : IsConfig config) (n : 
       let births = births_of (lives_after config w) in
       placements_number (torus_of config) (map (λ b. b.cell) births) (ids_of scene.cells) (season_at config scene.update (next_id scene)) ∙ length-map births (λ b. b.cell)
 
-  turns_are : AreTurns (size_of config) start config ended (lives_after config w) scene_ended
+  pub turns_are : AreTurns (size_of config) start config ended (lives_after config w) scene_ended
   turns_are =
       let births = births_of (lives_after config w) in
       let buried = after_burials ended (lives_after config w) in

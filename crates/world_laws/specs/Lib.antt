@@ -1,1 +1,2 @@
 pub use Rattle.world_rules.specs.Laws
+pub mod Heredity

@@ -1,6 +1,10 @@
-// The law of the log (docs/WORLD.md, "The log of a run").
+// Laws of every run (docs/WORLD.md, "The log of a run" and "Lines of descent").
+ghost use Rattle.std.specs.Prelude.{ℕ, IfSome};
 ghost use Rattle.world_config.specs.Shown.{values_of};
+ghost use Rattle.world_rules.specs.Descent.{line_in};
 ghost use Rattle.world_rules.specs.Laws.{ReplaysToLiving};
+ghost use Rattle.world_rules.specs.WorldRun.{world_after};
+ghost use Rattle.world_laws.specs.Heredity.{AreDescended, IsDescent};
 
 use world_config::Config;
 
@@ -13,4 +17,19 @@ pub fn replay_gives_living(config: &Config, updates: u32)
     organism::laws::lives_are_sound();
     organism::laws::new_organisms_are_sound();
     random_streams::laws::words_fit();
+}
+
+/// Whoever was ever in a world, but for founders, has the genome that its record makes of its
+/// parent's; so has each of a line of descent, of the one before it.
+pub fn genomes_come_from_parents(config: &Config, updates: u32)
+    ensures everyone { AreDescended (world_after (values_of config.now) updates).everyone }
+    ensures line { (cell : ℕ)
+        → IfSome (line_in (world_after (values_of config.now) updates) cell) IsDescent }
+{
+    merit_slices::laws::slices_are_few();
+    organism::laws::lives_are_sound();
+    organism::laws::new_organisms_are_sound();
+    random_streams::laws::words_fit();
+    world_rules::laws::ids_are_places();
+    world_rules::laws::lines_come_from_parents();
 }

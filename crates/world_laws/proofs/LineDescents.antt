@@ -1,0 +1,69 @@
+-- Each of a line of descent but the first is made of the one before it.
+use Rattle.std.proofs.Common.{◌≡◌, ℕ, zero, suc, ◌<◌, List, [], ◌∷◌, ◌++◌, map, Option, Some, None, refl, sym, ap, subst, ◌∙◌, arith}
+use Rattle.std.specs.Prelude.{slice_get, option_map, IfSome}
+use Rattle.std.proofs.lemmas.Option.{slice_get-map}
+use Rattle.instruction_set.specs.declared.letter.Letter.{Letter}
+use Rattle.world_config.specs.Values.{ConfigValues}
+use Rattle.world_rules.specs.World.{Occupant, Link, World, id_at}
+use Rattle.world_rules.specs.WorldRun.{world_after}
+use Rattle.world_rules.specs.Descent.{line_of, line_of_parent, lines_of, line_in, IsBelow, AreNumbered, IsNumberedWorld}
+use Rattle.world_laws.specs.Heredity.{IsChildOf, ComesFrom, AreDescended, IsDescent}
+use Rattle.world_laws.proofs.Mirror.{written}
+use Rattle.world_laws.proofs.Scenes.{Known, who_stands}
+use Rattle.world_laws.proofs.LivesLemmas.{LifeLaws}
+use Rattle.world_laws.proofs.Configs.{IsConfig}
+use Rattle.world_laws.proofs.Wholes.{run_after}
+use Rattle.world_laws.proofs.Descents.{descended_after}
+
+-- what world_rules proves of ids and of lines
+pub record LineLaws : Type 0 where
+  pub numbered : (config : ConfigValues) (updates : ℕ) → IsNumberedWorld (world_after config updates)
+  pub line : (everyone : List Link) (id : ℕ) (link : Link) → AreNumbered everyone → slice_get everyone id ≡ Some link → line_of everyone id ≡ line_of_parent (lines_of everyone) link.parent ++ link ∷ []
+
+-- a line goes on with a child of its last
+descent_more : (front : List Link) (last link : Link) → IsDescent (front ++ last ∷ []) → IsChildOf last link → IsDescent ((front ++ last ∷ []) ++ link ∷ [])
+descent_more [] last link is child = (child, tt)
+descent_more (x ∷ []) last link is child = (is.0, (child, tt))
+descent_more (x ∷ y ∷ front) last link is child = (is.0, descent_more (y ∷ front) last link is.1 child)
+
+module _ (laws : LineLaws) (everyone : List Link) (are : AreNumbered everyone) (descended : AreDescended everyone) where
+  descent_from : (link : Link) (parent : Option ℕ) (bound : ℕ) → IsBelow bound parent → ComesFrom everyone parent link
+      → ((p : ℕ) (before : Link) → p < bound → slice_get everyone p ≡ Some before → IsDescent (line_of everyone p))
+      → IsDescent (line_of_parent (lines_of everyone) parent ++ link ∷ [])
+  descent_from link None bound below comes earlier = tt
+  descent_from link (Some p) bound below comes earlier =
+      let before = comes.0 in
+      let line = laws.line everyone p before are comes.1 in
+      let first = earlier p before below comes.1 in
+      let front = line_of_parent (lines_of everyone) before.parent in
+      subst (λ (l : List Link). IsDescent (l ++ link ∷ [])) (sym line) (descent_more front before link (subst IsDescent line first) comes.2)
+
+  descent_below : (bound id : ℕ) (link : Link) → id < bound → slice_get everyone id ≡ Some link → IsDescent (line_of everyone id)
+  descent_below zero id link h e = absurd (omega (arith, h))
+  descent_below (suc bound) id link h e =
+      let numbered = are id link e in
+      subst IsDescent (sym (laws.line everyone id link are e))
+      (descent_from link link.parent id numbered.parent (descended id link e) (λ p before low there. descent_below bound p before (omega (arith, low, h)) there))
+
+  descent_of : (id : ℕ) (link : Link) → slice_get everyone id ≡ Some link → IsDescent (line_of everyone id)
+  descent_of id link e = let low : id < suc id = omega arith in descent_below (suc id) id link low e
+
+written_there : (slot : Option Link) (letters : List Letter) → option_map written slot ≡ Some (Some letters) → (link : Link) × (slot ≡ Some link)
+written_there None letters e = absurd cc
+written_there (Some link) letters e = (link, refl)
+
+descent_in : (laws : LineLaws) (w : World) → AreNumbered w.everyone → AreDescended w.everyone → Known (map written w.everyone) w.cells → (cell : ℕ) (slot : Option ℕ) → id_at w.cells cell ≡ slot → IfSome (option_map (line_of w.everyone) slot) IsDescent
+descent_in laws w are descended known cell None e = tt
+descent_in laws w are descended known cell (Some id) e =
+    let who = who_stands w.cells cell id e in
+    let o : Occupant = who.0 in
+    let wrote = sym (slice_get-map written w.everyone o.id) ∙ known cell o who.1 in
+    let found = written_there (slice_get w.everyone o.id) o.organism.genome wrote in
+    descent_of laws w.everyone are descended id found.0 (ap (slice_get w.everyone) (sym who.2) ∙ found.1)
+
+-- the line of who stands in a cell of a run's world
+pub line_descends : (laws : LineLaws) (lives : LifeLaws) (config : ConfigValues) → IsConfig config → (n cell : ℕ) → IfSome (line_in (world_after config n) cell) IsDescent
+unfolding line_in
+line_descends laws lives config fit n cell =
+    let w = world_after config n in
+    descent_in laws w (laws.numbered config n).everyone (descended_after lives config fit n) (run_after lives config fit n).world.kept cell (id_at w.cells cell) refl
