@@ -70,16 +70,14 @@ pub fn read_trace(alloc: Global, words: &[String]) -> Result<Trace, Refused>
 #[cfg(test)]
 mod tests {
     use super::*;
+    use crate::rows::words_of;
     use std::test::Fail;
 
     /// What each row of words tells.
     fn told(alloc: Global, rows: &[&[&str]]) -> Result<String, Fail> {
         let mut text = String::new(alloc);
         for row in rows {
-            let mut words = Vec::new(alloc);
-            for word in row.iter() {
-                words.push(String::from_str(alloc, word)?)?;
-            }
+            let words = words_of(alloc, row)?;
             if words.is_empty() {
                 return Ok(text);
             }
