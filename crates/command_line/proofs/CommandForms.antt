@@ -3,10 +3,10 @@ use Rattle.std.proofs.Common.{◌≡◌, ◌∙◌, ◌<◌, ◌||◌, arith, re
 use Rattle.std.specs.List.{list_any}
 use Rattle.std.proofs.lemmas.Bool.{cases_Bool, false≢true}
 use Rattle.clap.specs.Walk.{Row, Text}
-use Rattle.clap.specs.Simple.{App, built, matches_of}
+use Rattle.clap.specs.Simple.{App, matches_of}
 use Rattle.clap.specs.Faults.{fault_of}
-use Rattle.command_line.specs.Form.{Form, Told}
-use Rattle.command_line.specs.Words.{begins_dashed, told_by}
+use Rattle.command_line.specs.Form.{Form, IsSimple, Told}
+use Rattle.command_line.specs.Words.{begins_dashed, has_dashed, is_dashed, told_by}
 use Rattle.command_line.specs.Number.{number_in, in_range}
 use Rattle.command_line.specs.Commands.{bare_form, lineage_form, lineage_of, run_form, run_of, run_with, trace_form, trace_of}
 use Rattle.command_line.specs.Parsers.{app_by, lineage_texts, told_in, trace_texts}
@@ -20,16 +20,14 @@ use Rattle.command_line.specs.declared.trace.TheConstants.{MOST_STEPS}
 use Rattle.command_line.specs.declared.workers.TheConstants.{LEAST_WORKERS, MOST_WORKERS}
 use Rattle.command_line.specs.declared.refused.Refused.{Refused}
 use Rattle.command_line.specs.declared.refused.Refused.TheVariants.{BadWords}
-use Rattle.command_line.proofs.FormLaw.{IsOf, form_fits, form_stops, has_dashed, is_dashed}
-use Rattle.command_line.proofs.FormRules.{IsSimple, rules_by}
+use Rattle.command_line.proofs.DashedValues.{IsOf}
+use Rattle.command_line.proofs.FormLaw.{form_fits, form_stops}
 use Rattle.command_line.proofs.Numerals.{no_dash}
 use Rattle.command_line.proofs.RefusalLemmas.{ends_told, refuses}
-use Rattle.command_line.proofs.RuleReading.{shape_by}
 
 -- a command of which the law holds, and what is taken of what it is told
 pub record Reads (T : Type 0) (name : Text) (form : Form) (texts : List Text) (take : Told → Option T) : Type 0 where
   pub simple : IsSimple form texts
-  pub as_built : built (app_by name form texts) ≡ record { top = shape_by name (rules_by form texts); subs = [] }
   pub refuses : (told : Told) → IsOf form told → has_dashed told ≡ true → take told ≡ None
 
 module _ {T : Type 0} {name : Text} {form : Form} {texts : List Text} {take : Told → Option T} (reads : Reads T name form texts take) where
@@ -39,13 +37,13 @@ module _ {T : Type 0} {name : Text} {form : Form} {texts : List Text} {take : To
   stops words a r some is refused =
       let here : IsRefusedBy (fault_of (app_by name form texts) words) r = subst (λ (b : App). IsRefusedBy (fault_of b words) r) is refused in
       refuses (option_and_then take (told_by form (drop 1 words))) (fault_of (app_by name form texts) words) r here
-      (form_stops name form texts reads.simple T take reads.refuses reads.as_built words some)
+      (form_stops name form texts reads.simple T take reads.refuses words some)
 
   pub fits : (words : List Text) (a : App) (rows : List Row) → 0 < length words → a ≡ app_by name form texts → fault_of a words ≡ [] → rows ≡ matches_of a words
       → option_and_then take (told_in form texts rows) ≡ option_and_then take (told_by form (drop 1 words))
   fits words a rows some is free same =
       ap (λ found. option_and_then take (told_in form texts found)) (same ∙ ap (λ b. matches_of b words) is)
-      ∙ form_fits name form texts reads.simple T take reads.refuses reads.as_built words some (ap (λ b. fault_of b words) (sym is) ∙ free)
+      ∙ form_fits name form texts reads.simple T take reads.refuses words some (ap (λ b. fault_of b words) (sym is) ∙ free)
 
   -- words that the parser takes
   pub ends : (words : List Text) (a : App) (rows : List Row) (taken : Option T) (result : Result T Refused) → 0 < length words → a ≡ app_by name form texts
@@ -72,7 +70,6 @@ dashed_text least greatest (Some text) d = dashed_number least greatest text d
 pub bare_reads : Reads (Unit {0}) (codes "bare") bare_form [] (λ told. Some tt)
 bare_reads = record {
   simple = record { names = refl; count = refl; few = omega arith };
-  as_built = refl;
   refuses = λ told is d. go told.positionals told.values is.positionals is.values d;
 }
   where
@@ -85,7 +82,6 @@ bare_reads = record {
 pub trace_reads : Reads Trace (codes "trace") trace_form trace_texts trace_of
 trace_reads = record {
   simple = record { names = refl; count = refl; few = omega arith };
-  as_built = refl;
   refuses = λ told is d. go told.positionals told.values told.flags is.positionals is.values d;
 }
   where
@@ -102,7 +98,6 @@ trace_reads = record {
 pub run_reads : Reads Run (codes "run") run_form [] run_of
 run_reads = record {
   simple = record { names = refl; count = refl; few = omega arith };
-  as_built = refl;
   refuses = λ told is d. go told.positionals told.values told.flags is.positionals is.values d;
 }
   where
@@ -127,7 +122,6 @@ run_reads = record {
 pub lineage_reads : Reads Lineage (codes "lineage") lineage_form lineage_texts lineage_of
 lineage_reads = record {
   simple = record { names = refl; count = refl; few = omega arith };
-  as_built = refl;
   refuses = λ told is d. go told.positionals told.values told.flags is.positionals is.values d;
 }
   where

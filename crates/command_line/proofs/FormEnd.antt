@@ -10,14 +10,14 @@ use Rattle.clap.specs.Walk.{Row, Rule, Text, first_of, with_default}
 use Rattle.clap.specs.Takes.{is_given}
 use Rattle.clap.specs.Faults.{defaults_fault}
 use Rattle.clap.specs.declared.error.kind.ErrorKind.TheVariants as kind
-use Rattle.command_line.specs.Form.{Form, Told, Valued}
+use Rattle.command_line.specs.Form.{Form, IsSimple, Told, Valued, are_distinct, has_name, option_names}
 use Rattle.command_line.specs.Words.{end_of}
 use Rattle.command_line.specs.Parsers.{all_of, is_given_true, told_in}
-use Rattle.command_line.proofs.Names.{bytes_same, bytes_turned, distinct, has_name, head_apart, or_split}
+use Rattle.command_line.proofs.Names.{bytes_same, bytes_turned, head_apart, or_split}
 use Rattle.command_line.proofs.Uses.{Use, first_is, rows_by, value_in}
 use Rattle.command_line.proofs.UseLists.{seen}
 use Rattle.command_line.proofs.Defaults.{add_default, default_in, finished_is, given_end, no_faults, value_at_end}
-use Rattle.command_line.proofs.FormRules.{IsSimple, all_plain, flag_is_no_option, flags_before, option_filled, option_is_no_other, option_names, options_before, options_parted, positional_is_no_flag, positional_is_no_option, positionals_from, rules_by}
+use Rattle.command_line.proofs.FormRules.{all_plain, flag_is_no_option, flags_before, option_filled, option_is_no_other, options_before, options_parted, positional_is_no_flag, positional_is_no_option, positionals_from, rules_by}
 use Rattle.command_line.proofs.FormReading.{Fits, filled, flag_text, given}
 use Rattle.command_line.proofs.RuleReading.{rows_at_end, unless_fault}
 
@@ -74,7 +74,7 @@ listed : (d : Option Text) → option_or (slice_get (option_to_list d) 0) None �
 listed None = refl
 listed (Some v) = refl
 
-option_defaults : (options : List Valued) (rest : List Rule) → distinct (map (λ o. o.name) options) ≡ true
+option_defaults : (options : List Valued) (rest : List Rule) → are_distinct (map (λ o. o.name) options) ≡ true
     → ((m : Text) → has_name m (map (λ o. o.name) options) ≡ true → default_in m rest ≡ None)
     → map (λ o. default_in o.name (options_before options rest)) options ≡ map (λ o. o.default) options
 option_defaults [] rest one none = refl

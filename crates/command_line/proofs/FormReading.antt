@@ -8,13 +8,13 @@ use Rattle.std.proofs.lemmas.List.{map-set}
 use Rattle.std.proofs.lemmas.Option.{slice_get_within}
 use Rattle.clap.specs.Facts.{explicit_source}
 use Rattle.clap.specs.Walk.{Rule, Text}
-use Rattle.command_line.specs.Form.{Form}
+use Rattle.command_line.specs.Form.{Form, IsSimple, are_distinct, has_name, option_names}
 use Rattle.command_line.specs.Words.{Given}
-use Rattle.command_line.proofs.Names.{bytes_same, distinct, has_name, head_apart, same_text, place_of, placed_has}
-use Rattle.command_line.proofs.Uses.{Use, flag_rule, use_of, value_in, value_rule}
+use Rattle.command_line.proofs.Names.{bytes_same, head_apart, same_text, place_of, placed_has}
+use Rattle.command_line.proofs.Uses.{Use, flag_filled, use_of, value_in, value_rule}
 use Rattle.command_line.proofs.UseLists.{seen, seen_kept, seen_set}
 use Rattle.command_line.proofs.Defaults.{are_typed}
-use Rattle.command_line.proofs.FormRules.{IsSimple, flag_is_no_option, flags_parted, option_is_no_other, options_parted, positional_is_no_flag, positional_is_no_option, get_has, option_names, positional_filled}
+use Rattle.command_line.proofs.FormRules.{flag_is_no_option, flags_parted, option_is_no_other, options_parted, positional_is_no_flag, positional_is_no_option, get_has, positional_filled}
 use Rattle.command_line.proofs.RuleReading.{Stand}
 
 -- the text of a flag
@@ -55,7 +55,7 @@ filled_set [] (t ∷ ts) word id at = cc
 filled_set (x ∷ xs) (t ∷ ts) word id at = ap (λ rest. Some t ∷ rest) (filled_set xs ts word id at)
 
 -- the place of a positional's name
-pub place_at : (ids : List Text) (k : ℕ) (id : Text) → distinct ids ≡ true → slice_get ids k ≡ Some id → place_of id ids ≡ Some k
+pub place_at : (ids : List Text) (k : ℕ) (id : Text) → are_distinct ids ≡ true → slice_get ids k ≡ Some id → place_of id ids ≡ Some k
 place_at [] k id one at = cc
 place_at (x ∷ xs) zero id one at = let same : x ≡ id = cc in rw (same, bytes_same id) refl
 place_at (x ∷ xs) (suc k) id one at = elim (cases_Bool (bytes_eq x id)) [
@@ -104,9 +104,9 @@ module _ (form : Form) (ids : List Text) (simple : IsSimple form ids) where
   -- a flag
   pub fits_flag : (uses : List Use) (texts : List Text) (values : List (Option Text)) (flags : List Bool) (name : Text) (j : ℕ)
       → Fits form ids uses texts values flags → place_of name (option_names form) ≡ None → place_of name form.flags ≡ Some j → is_some (value_in name uses) ≡ false
-      → Fits form ids (set_use uses (flag_rule name) (codes "true")) texts values (slice_set flags j true)
+      → Fits form ids (set_use uses (flag_filled name) (codes "true")) texts values (slice_set flags j true)
   fits_flag uses texts values flags name j f apart at none =
-      let own = flag_rule name in
+      let own = flag_filled name in
       let h : has_name name form.flags ≡ true = placed_has name form.flags j at in
       record {
         values_are = seen_kept (option_names form) uses (use_of own (codes "true")) (flag_is_no_option form ids simple name h) ∙ f.values_are;
@@ -126,7 +126,7 @@ module _ (form : Form) (ids : List Text) (simple : IsSimple form ids) where
       let h : has_name id ids ≡ true = get_has ids (length texts) id at in
       let none : is_some (value_in id uses) ≡ false = ap is_some (filled_next ids texts uses id f.texts_are at) in
       let less : length texts < length ids = slice_get_within ids (length texts) id at in
-      let one : distinct ids ≡ true = (flags_parted form ids simple).second in
+      let one : are_distinct ids ≡ true = (flags_parted form ids simple).second in
       record {
         values_are = seen_kept (option_names form) uses (use_of own word) (positional_is_no_option form ids simple id h) ∙ f.values_are;
         flags_are = seen_kept form.flags uses (use_of own word) (positional_is_no_flag form ids simple id h) ∙ f.flags_are;

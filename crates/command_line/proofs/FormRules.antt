@@ -1,5 +1,5 @@
 -- The rules of a form as the parser builds them, and what it finds by them.
-use Rattle.std.proofs.Common.{◌≡◌, ◌∙◌, ◌+◌, ◌||◌, ◌<◌, ◌==◌, arith, refl, sym, subst, ap, inl, inr, ℕ, zero, suc, Bool, true, false, List, [], ◌∷◌, ◌++◌, map, length, slice_get, Option, Some, None, option_map}
+use Rattle.std.proofs.Common.{◌≡◌, ◌∙◌, ◌+◌, ◌||◌, ◌<◌, ◌==◌, arith, refl, sym, subst, ap, inl, inr, ℕ, zero, suc, Bool, true, false, List, [], ◌∷◌, ◌++◌, map, slice_get, Option, Some, None, option_map}
 use Rattle.std.specs.Prelude.{if◌then◌else◌}
 use Rattle.std.specs.Option.{option_to_list}
 use Rattle.std.specs.Str.{bytes_eq}
@@ -8,11 +8,11 @@ use Rattle.std.proofs.lemmas.Bool.Decides.{nat_tests}
 use Rattle.std.proofs.lemmas.List.Folds.{list_any-append}
 use Rattle.clap.specs.Walk.{Rule, Text, arg_by_id, arg_by_index, arg_by_long, arg_by_short, has_row}
 use Rattle.clap.specs.Kinds.{Kinds}
-use Rattle.command_line.specs.Form.{Form, Valued}
-use Rattle.command_line.proofs.Names.{Parted, apart_back, bytes_same, distinct, has_name, head_apart, or_split, parted, place_of, placed_has, same_text}
-use Rattle.command_line.proofs.Uses.{flag_rule, value_rule}
+use Rattle.command_line.specs.Form.{Form, IsSimple, Valued, are_distinct, has_name, option_names}
+use Rattle.command_line.proofs.Names.{Parted, apart_back, bytes_same, head_apart, or_split, parted, place_of, placed_has, same_text}
+use Rattle.command_line.proofs.Uses.{flag_filled, value_rule}
 use Rattle.command_line.proofs.Defaults.{AllPlain, Plain, plain_append}
-use Rattle.command_line.proofs.RuleWords.{Known, Looks, Placed, flag, nowhere, placed, unknown, valued}
+use Rattle.command_line.proofs.RuleLooks.{Known, Looks, Placed, flag, nowhere, placed, unknown, valued}
 
 abbrev pub option_filled : Valued → Rule
 option_filled o = value_rule o.name (Some o.name) None (option_to_list o.default) false
@@ -28,18 +28,11 @@ abbrev pub options_before : List Valued → List Rule → List Rule
 options_before options rest = map option_filled options ++ rest
 
 abbrev pub flags_before : List Text → List Rule → List Rule
-flags_before flags rest = map flag_rule flags ++ rest
+flags_before flags rest = map flag_filled flags ++ rest
 
 -- the rules of the form, with these names for its positionals
 abbrev pub rules_by : Form → List Text → List Rule
 rules_by form ids = options_before form.options (flags_before form.flags (positionals_from 1 ids))
-
-abbrev pub option_names : Form → List Text
-option_names form = map (λ o. o.name) form.options
-
--- all the names of the form
-abbrev pub all_names : Form → List Text → List Text
-all_names form ids = option_names form ++ (form.flags ++ ids)
 
 -- ---- by its long name
 
@@ -72,7 +65,7 @@ sought name (o ∷ os) rest = elim (cases_Bool (bytes_eq o.name name)) [
 
 -- the flag of this name
 pub data SoughtFlag (name : Text) (flags : List Text) (rest : List Rule) : Type 0 where
-  found_flag : (j : ℕ) → place_of name flags ≡ Some j → arg_by_long (flags_before flags rest) name ≡ Some (flag_rule name) → SoughtFlag name flags rest
+  found_flag : (j : ℕ) → place_of name flags ≡ Some j → arg_by_long (flags_before flags rest) name ≡ Some (flag_filled name) → SoughtFlag name flags rest
   missing_flag : place_of name flags ≡ None
       → arg_by_long (flags_before flags rest) name ≡ arg_by_long rest name
       → arg_by_id (flags_before flags rest) name ≡ arg_by_id rest name → SoughtFlag name flags rest
@@ -84,7 +77,7 @@ flag_later name f fs rest a (missing_flag p l n) = missing_flag (rw (a, p) refl)
 pub sought_flag : (name : Text) (flags : List Text) (rest : List Rule) → SoughtFlag name flags rest
 sought_flag name [] rest = missing_flag refl refl refl
 sought_flag name (f ∷ fs) rest = elim (cases_Bool (bytes_eq f name)) [
-  | inl a ↦ found_flag 0 (rw a refl) (rw a (ap (λ n. Some (flag_rule n)) (same_text f name a)))
+  | inl a ↦ found_flag 0 (rw a refl) (rw a (ap (λ n. Some (flag_filled n)) (same_text f name a)))
   | inr a ↦ flag_later name f fs rest a (sought_flag name fs rest)
 ]
 
@@ -135,7 +128,7 @@ get_has (x ∷ xs) (suc k) id is = elim (cases_Bool (bytes_eq x id)) [
   | inr a ↦ rw a (get_has xs k id is)
 ]
 
-own_positional : (ids : List Text) (s k : ℕ) (id : Text) → distinct ids ≡ true → slice_get ids k ≡ Some id → (place : ℕ) → place ≡ s + k
+own_positional : (ids : List Text) (s k : ℕ) (id : Text) → are_distinct ids ≡ true → slice_get ids k ≡ Some id → (place : ℕ) → place ≡ s + k
     → arg_by_id (positionals_from s ids) id ≡ Some (positional_filled place id)
 own_positional [] s k id one is place at = cc
 own_positional (x ∷ xs) s zero id one is place at =
@@ -151,12 +144,6 @@ own_positional (x ∷ xs) s (suc k) id one is place at = elim (cases_Bool (bytes
 ]
 
 -- ---- the look-ups
-
--- the names of the form are distinct, and its positionals are counted by their names
-pub record IsSimple (form : Form) (ids : List Text) : Type 0 where
-  pub names : distinct (all_names form ids) ≡ true
-  pub count : length ids ≡ form.positionals
-  pub few : length ids < 18446744073709551615
 
 module _ (form : Form) (ids : List Text) (simple : IsSimple form ids) where
   pub options_parted : Parted (option_names form) (form.flags ++ ids)
@@ -206,7 +193,7 @@ module _ (form : Form) (ids : List Text) (simple : IsSimple form ids) where
         → arg_by_long (rules_by form ids) name ≡ Some (value_rule name (Some name) None (option_to_list d) false)
         → arg_by_id (rules_by form ids) name ≡ Some (value_rule name (Some name) None (option_to_list d) false) → Named name
     is_flag : (j : ℕ) → place_of name (option_names form) ≡ None → place_of name form.flags ≡ Some j
-        → arg_by_long (rules_by form ids) name ≡ Some (flag_rule name) → Named name
+        → arg_by_long (rules_by form ids) name ≡ Some (flag_filled name) → Named name
     is_none : place_of name (option_names form) ≡ None → place_of name form.flags ≡ None → arg_by_long (rules_by form ids) name ≡ None → Named name
 
   named_flag : (name : Text) → place_of name (option_names form) ≡ None
@@ -271,7 +258,7 @@ plain_options : (options : List Valued) → AllPlain (map option_filled options)
 plain_options [] = tt
 plain_options (o ∷ os) = (plain_option o.name o.default, plain_options os)
 
-plain_flags : (flags : List Text) → AllPlain (map flag_rule flags)
+plain_flags : (flags : List Text) → AllPlain (map flag_filled flags)
 plain_flags [] = tt
 plain_flags (f ∷ fs) = (record { one = refl; taken = λ rows. nothing_if (has_row f rows || false) }, plain_flags fs)
 
@@ -281,4 +268,4 @@ plain_positionals place (id ∷ ids) = (record { one = refl; taken = λ rows. no
 
 pub all_plain : (form : Form) (ids : List Text) → AllPlain (rules_by form ids)
 all_plain form ids = plain_append (map option_filled form.options) (flags_before form.flags (positionals_from 1 ids)) (plain_options form.options)
-    (plain_append (map flag_rule form.flags) (positionals_from 1 ids) (plain_flags form.flags) (plain_positionals 1 ids))
+    (plain_append (map flag_filled form.flags) (positionals_from 1 ids) (plain_flags form.flags) (plain_positionals 1 ids))

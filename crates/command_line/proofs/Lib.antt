@@ -5,10 +5,14 @@ pub mod Uses
 pub mod UseLists
 pub mod Defaults
 pub mod RuleReading
+pub mod RuleLooks
 pub mod RuleWords
 pub mod FormRules
+pub mod BuiltForms
 pub mod FormReading
 pub mod FormEnd
+pub mod DashedValues
+pub mod FormWords
 pub mod FormLaw
 pub mod RefusalLemmas
 pub mod CommandForms

@@ -1,13 +1,14 @@
 -- Names in a list: where one stands first, and lists with no name twice.
-use Rattle.std.proofs.Common.{◌≡◌, ◌∙◌, ◌+◌, ◌&&◌, ◌||◌, arith, refl, sym, inl, inr, ℕ, suc, Bool, true, false, not, List, [], ◌∷◌, ◌++◌, map, length, position, Option, Some, None, option_map, nat_lt}
+use Rattle.std.proofs.Common.{◌≡◌, ◌∙◌, ◌+◌, ◌||◌, arith, refl, sym, inl, inr, ℕ, suc, Bool, true, false, not, List, [], ◌∷◌, ◌++◌, map, length, position, Option, Some, None, option_map, nat_lt}
 use Rattle.std.specs.Prelude.{if◌then◌else◌}
-use Rattle.std.specs.List.{list_any, position_or_len}
+use Rattle.std.specs.List.{position_or_len}
 use Rattle.std.specs.Str.{bytes_eq}
 use Rattle.std.proofs.lemmas.Bool.{cases_Bool, and_parts, false≢true}
 use Rattle.std.proofs.lemmas.Bool.Decides.{nat_tests}
 use Rattle.std.proofs.lemmas.List.Folds.{list_any-append}
 use Rattle.std.proofs.lemmas.Slice.Eq.{bytes_eq-Decides}
 use Rattle.clap.specs.Walk.{Text}
+use Rattle.command_line.specs.Form.{are_distinct, has_name}
 
 pub same_text : (x y : Text) → bytes_eq x y ≡ true → x ≡ y
 same_text x y is = grind (arith, bytes_eq-Decides x y)
@@ -31,13 +32,6 @@ place_by p (x ∷ xs) = if p x then Some 0 else option_map (λ i. suc i) (place_
 
 abbrev pub place_of : Text → List Text → Option ℕ
 place_of name names = place_by (λ m. bytes_eq m name) names
-
-abbrev pub has_name : Text → List Text → Bool
-has_name name names = list_any (λ m. bytes_eq m name) names
-
-abbrev pub distinct : List Text → Bool
-distinct [] = true
-distinct (x ∷ xs) = not (has_name x xs) && distinct xs
 
 less_suc : (k n : ℕ) (b : Bool) → nat_lt k n ≡ b → nat_lt (suc k) (suc n) ≡ b
 less_suc k n true is = grind (arith, nat_tests)
@@ -99,8 +93,8 @@ not_placed name names is = elim (stands name names) [
 
 -- a list and what follows it
 pub record Parted (xs ys : List Text) : Type 0 where
-  pub first : distinct xs ≡ true
-  pub second : distinct ys ≡ true
+  pub first : are_distinct xs ≡ true
+  pub second : are_distinct ys ≡ true
   pub apart : (name : Text) → has_name name xs ≡ true → has_name name ys ≡ false
 
 pub or_split : (a b : Bool) → (a || b) ≡ false → (a ≡ false) × (b ≡ false)
@@ -111,10 +105,10 @@ not_true : (b : Bool) → not b ≡ true → b ≡ false
 not_true true is = absurd (false≢true is)
 not_true false is = refl
 
-pub head_apart : (x : Text) (xs : List Text) → distinct (x ∷ xs) ≡ true → (has_name x xs ≡ false) × (distinct xs ≡ true)
-head_apart x xs is = let p = and_parts (not (has_name x xs)) (distinct xs) is in (not_true (has_name x xs) p.0, p.1)
+pub head_apart : (x : Text) (xs : List Text) → are_distinct (x ∷ xs) ≡ true → (has_name x xs ≡ false) × (are_distinct xs ≡ true)
+head_apart x xs is = let p = and_parts (not (has_name x xs)) (are_distinct xs) is in (not_true (has_name x xs) p.0, p.1)
 
-pub parted : (xs ys : List Text) → distinct (xs ++ ys) ≡ true → Parted xs ys
+pub parted : (xs ys : List Text) → are_distinct (xs ++ ys) ≡ true → Parted xs ys
 parted [] ys is = record { first = refl; second = is; apart = λ name h. absurd (false≢true h) }
 parted (x ∷ xs) ys is = step (parted xs ys (head_apart x (xs ++ ys) is).1)
   where

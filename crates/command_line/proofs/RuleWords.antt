@@ -4,37 +4,17 @@ use Rattle.std.specs.Prelude.{option_and_then, if◌then◌else◌, fold}
 use Rattle.std.specs.Str.{bytes_eq}
 use Rattle.std.proofs.lemmas.Bool.{cases_Bool}
 use Rattle.clap.specs.Lexer.{long_of, usize_max}
-use Rattle.clap.specs.Walk.{Row, Rule, Text, Waiting, Walk, idle, option, walked, walk_from, nothing_held, finished, settled, settled_rows, Held, value, word_met, has_row, bundle_met, arg_by_id, arg_by_long, arg_by_short, arg_by_index}
+use Rattle.clap.specs.Walk.{Row, Rule, Text, Waiting, Walk, idle, option, walked, walk_from, nothing_held, finished, settled, settled_rows, Held, value, word_met, has_row, bundle_met, arg_by_id, arg_by_long, arg_by_index}
 use Rattle.clap.specs.Simple.{Shape}
 use Rattle.clap.specs.declared.error.kind.ErrorKind.{ErrorKind}
 use Rattle.clap.specs.declared.error.kind.ErrorKind.TheVariants as kind
 use Rattle.clap.specs.Kinds.{Kinds, or_else}
 use Rattle.clap.specs.Faults.{check_fault, defaults_fault, flags_fault, settle_fault, turn_fault, walk_fault, word_fault}
-use Rattle.command_line.proofs.Uses.{Use, flag_rule, row_is, rows_by, use_of, used_flag, used_value, value_in, value_rule}
+use Rattle.command_line.proofs.Uses.{Use, flag_filled, row_is, rows_by, use_of, used_flag, used_value, value_in, value_rule}
 use Rattle.std.proofs.lemmas.Slice.Eq.{bytes_eq-Decides}
+use Rattle.command_line.proofs.RuleLooks.{Known, Looks, Placed, flag, nowhere, placed, unknown, valued}
 use Rattle.command_line.proofs.RuleReading.{Stand, as_named, as_positional, as_seen, as_value, read_seen, shape_by, unless_fault, with_use}
 use Rattle.command_line.proofs.WordViews.{View, view, ending, long, short, torn, dash, clean}
-
--- an argument that was found
-pub data Known (rules : List Rule) (found : Option Rule) : Type 0 where
-  unknown : found ≡ None → Known rules found
-  valued : (id : Text) (long : Option Text) (index : Option ℕ) (defaults : List Text) (required : Bool)
-      → found ≡ Some (value_rule id long index defaults required)
-      → arg_by_id rules id ≡ Some (value_rule id long index defaults required) → Known rules found
-  flag : (id : Text) → found ≡ Some (flag_rule id) → Known rules found
-
--- a positional that was found
-pub data Placed (rules : List Rule) (found : Option Rule) : Type 0 where
-  nowhere : found ≡ None → Placed rules found
-  placed : (id : Text) (long : Option Text) (index : Option ℕ) (defaults : List Text) (required : Bool)
-      → found ≡ Some (value_rule id long index defaults required)
-      → arg_by_id rules id ≡ Some (value_rule id long index defaults required) → Placed rules found
-
--- the look-ups of a command with no short options
-pub record Looks (rules : List Rule) : Type 0 where
-  pub by_long : (name : Text) → Known rules (arg_by_long rules name)
-  pub by_index : (place : ℕ) → Placed rules (arg_by_index rules place)
-  pub by_short : (c : ℕ) → arg_by_short rules c ≡ None
 
 or_false : (b : Bool) → (b || false) ≡ b
 or_false true = refl
@@ -367,17 +347,17 @@ module _ (command : Text) (rules : List Rule) where
 
     takes_flag : (uses : List Use) (place : ℕ) (word : Text) (words : List Text) (n : Text) → Continues words
         → bytes_eq word (45 ∷ 45 ∷ []) ≡ false → long_of word ≡ Some (n, None)
-        → (i : Text) → arg_by_long rules n ≡ Some (flag_rule i) → (b : Bool) → is_some (value_in i uses) ≡ b
-        → parsed_from (idle_at uses place false) (word ∷ words) ≡ rest_of words (if b then None else Some (stand_at (uses ++ use_of (flag_rule i) (codes "true") ∷ []) place false))
+        → (i : Text) → arg_by_long rules n ≡ Some (flag_filled i) → (b : Bool) → is_some (value_in i uses) ≡ b
+        → parsed_from (idle_at uses place false) (word ∷ words) ≡ rest_of words (if b then None else Some (stand_at (uses ++ use_of (flag_filled i) (codes "true") ∷ []) place false))
     unfolding walked
     takes_flag uses place word words n ih e l i u true used =
         let row : has_row i (rows_by uses) ≡ true = row_is i uses ∙ used in
         stops (idle_at uses place false) word words kind.ArgumentConflict [] (rw (e, l, u, row) refl)
     takes_flag uses place word words n ih e l i u false fresh =
         let row : has_row i (rows_by uses) ≡ false = row_is i uses ∙ fresh in
-        more (idle_at uses place false) (idle_at (uses ++ use_of (flag_rule i) (codes "true") ∷ []) place false) word words
+        more (idle_at uses place false) (idle_at (uses ++ use_of (flag_filled i) (codes "true") ∷ []) place false) word words
         (rw (e, l, u, row) refl) (rw (e, l, u, used_flag i uses fresh) refl)
-        ∙ ih (uses ++ use_of (flag_rule i) (codes "true") ∷ []) place false
+        ∙ ih (uses ++ use_of (flag_filled i) (codes "true") ∷ []) place false
 
     takes_named : (uses : List Use) (place : ℕ) (word : Text) (words : List Text) (n : Text) (y : Option Text) → Continues words
         → Ahead words

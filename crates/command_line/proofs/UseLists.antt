@@ -3,7 +3,8 @@ use Rattle.std.proofs.Common.{◌≡◌, ◌∙◌, refl, sym, ap, inl, inr, ℕ
 use Rattle.std.specs.Str.{bytes_eq}
 use Rattle.std.proofs.lemmas.Bool.{cases_Bool, false≢true}
 use Rattle.clap.specs.Walk.{Text}
-use Rattle.command_line.proofs.Names.{bytes_same, bytes_turned, distinct, has_name, head_apart, or_split, place_of, same_text}
+use Rattle.command_line.specs.Form.{are_distinct, has_name}
+use Rattle.command_line.proofs.Names.{bytes_same, bytes_turned, head_apart, or_split, place_of, same_text}
 use Rattle.command_line.proofs.Uses.{Use, value_in}
 
 abbrev pub seen : List Use → List Text → List (Option Text)
@@ -38,7 +39,7 @@ seen_kept (m ∷ ms) uses u none =
     rw (value_other m uses u (bytes_turned u.id m ∙ p.0), seen_kept ms uses u p.1) refl
 
 -- names of which the use is one
-pub seen_set : (names : List Text) (uses : List Use) (u : Use) (i : ℕ) → place_of u.id names ≡ Some i → distinct names ≡ true → is_some (value_in u.id uses) ≡ false
+pub seen_set : (names : List Text) (uses : List Use) (u : Use) (i : ℕ) → place_of u.id names ≡ Some i → are_distinct names ≡ true → is_some (value_in u.id uses) ≡ false
     → seen (uses ++ u ∷ []) names ≡ slice_set (seen uses names) i (Some u.value)
 seen_set [] uses u i at one none = cc
 seen_set (m ∷ ms) uses u i at one none = elim (cases_Bool (bytes_eq m u.id)) [

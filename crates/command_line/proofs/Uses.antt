@@ -33,8 +33,8 @@ value_rule id long index defaults required = record {
 }
 
 -- a flag
-abbrev pub flag_rule : Text → Rule
-flag_rule id = record {
+abbrev pub flag_filled : Text → Rule
+flag_filled id = record {
   id = id;
   long = Some id;
   aliases = [];
@@ -116,5 +116,5 @@ used_value id long index defaults required v uses none =
     rw (without_none id uses none) (appended (use_of (value_rule id long index defaults required) v) uses none)
 
 pub used_flag : (id : Text) (uses : List Use) → is_some (value_in id uses) ≡ false
-    → used (flag_rule id) [] (rows_by uses) ≡ rows_by (uses ++ use_of (flag_rule id) (codes "true") ∷ [])
-used_flag id uses none = rw (without_none id uses none) (appended (use_of (flag_rule id) (codes "true")) uses none)
+    → used (flag_filled id) [] (rows_by uses) ≡ rows_by (uses ++ use_of (flag_filled id) (codes "true") ∷ [])
+used_flag id uses none = rw (without_none id uses none) (appended (use_of (flag_filled id) (codes "true")) uses none)

@@ -4,7 +4,9 @@ use Rattle.std.specs.Prelude.{Option, Some, None, option_map}
 use Rattle.std.specs.Option.{option_to_list}
 use Rattle.std.specs.Str.{bytes_eq}
 use Rattle.clap.specs.Walk.{Rule, Row, first_of}
-use Rattle.clap.specs.Simple.{App, new_rule, new_shape}
+use Rattle.clap.specs.Simple.{App, matches_of, new_rule, new_shape}
+use Rattle.clap.specs.Kinds.{Kinds}
+use Rattle.clap.specs.Faults.{fault_of}
 use Rattle.clap.specs.declared.builder.action.ArgAction.TheVariants.{SetTrue}
 use Rattle.command_line.specs.Form.{Form, Told, Valued}
 use Rattle.command_line.specs.Commands.{bare_form, lineage_form, run_form, trace_form}
@@ -77,3 +79,14 @@ told_in form positionals rows = option_map (λ texts. record {
   values = map (λ option. first_of option.name rows) form.options;
   flags = map (λ flag. is_given_true (first_of flag rows)) form.flags;
 }) (all_of (map (λ name. first_of name rows) positionals))
+
+-- what is told, where there is no fault
+abbrev pub unless_fault : Kinds → Option Told → Option Told
+unless_fault [] told = told
+unless_fault (kind ∷ kinds) told = None
+
+-- what the parser makes of the words, of which the first is the name
+abbrev pub parsed_by : List ℕ → Form → List (List ℕ) → List (List ℕ) → Option Told
+parsed_by name form positionals words =
+    unless_fault (fault_of (app_by name form positionals) words)
+    (told_in form positionals (matches_of (app_by name form positionals) words))

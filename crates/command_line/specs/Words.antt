@@ -1,7 +1,8 @@
 -- How words are read from left to right (docs/FORMATS.md, "The command line").
-use Rattle.std.specs.Prelude.{ℕ, ◌==◌, ◌&&◌, Bool, true, false, is_some, is_none, if◌then◌else◌, nat_lt}
+use Rattle.std.specs.Prelude.{ℕ, ◌==◌, ◌&&◌, ◌||◌, Bool, true, false, is_some, is_none, if◌then◌else◌, nat_lt}
 use Rattle.std.specs.Prelude.{List, [], ◌∷◌, ◌++◌, map, length, zip, position, codes}
 use Rattle.std.specs.Prelude.{Option, Some, None, option_and_then, slice_get, slice_set}
+use Rattle.std.specs.List.{list_any}
 use Rattle.std.specs.Option.{option_or, option_map_or}
 use Rattle.std.specs.Str.{bytes_eq}
 use Rattle.clap.specs.Lexer.{long_of}
@@ -125,3 +126,16 @@ read_from form given (word ∷ words) = option_and_then (λ next. read_from form
 -- what the words tell by the form, from left to right; none where they break a rule
 abbrev pub told_by : Form → List (List ℕ) → Option Told
 told_by form words = read_from form (nothing_given form) words
+
+-- the value begins with `-`
+abbrev pub is_dashed : Option (List ℕ) → Bool
+is_dashed None = false
+is_dashed (Some value) = begins_dashed value
+
+-- a positional or a value begins with `-`
+abbrev pub has_dashed : Told → Bool
+has_dashed told = list_any begins_dashed told.positionals || list_any is_dashed told.values
+
+-- what the words tell, where no positional and no value begins with `-`
+abbrev pub undashed : Told → Option Told
+undashed told = if has_dashed told then None else Some told

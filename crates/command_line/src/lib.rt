@@ -1,6 +1,7 @@
 //! The words of a command line, read by one simple command a name.
 #![tactic(auto)]
 
+pub mod laws;
 mod lineage;
 mod nothing;
 mod numbers;
