@@ -3,7 +3,7 @@ use Rattle.std.specs.Prelude.{Bool, ℕ, List, [], ◌∷◌, Option, Some, None
 use Rattle.std.specs.Str.{bytes_eq}
 use Rattle.command_line.specs.Commands as told
 use Rattle.command_line.specs.declared.run.Run.{Run as RunWords}
-use Rattle.command_line.specs.declared.run.TheConstants.{LEAST_WORKERS, MOST_WORKERS}
+use Rattle.command_line.specs.declared.workers.TheConstants.{LEAST_WORKERS, MOST_WORKERS}
 use Rattle.avida_program.specs.declared.command.Command.{Command}
 use Rattle.avida_program.specs.declared.command.Command.TheVariants.{Trace, Run}
 use Rattle.avida_program.specs.declared.command.Spelling.{Spelling}
