@@ -1,7 +1,9 @@
 -- What the bounds of a configuration say of its values.
-use Rattle.std.proofs.Common.{◌≡◌, ℕ, suc, ◌+◌, ◌*◌, ◌<◌, ◌≤◌, Bool, true, false, cond, List, [], ◌∷◌, length, refl, ap, ◌∙◌, arith}
+use Rattle.std.proofs.Common.{◌≡◌, ℕ, ◌+◌, ◌*◌, ◌<◌, ◌≤◌, Bool, List, [], ◌∷◌, length, ap, ◌∙◌, arith}
 use Rattle.std.specs.Prelude.{filter, ◌==◌}
 use Rattle.std.specs.List.{AllByRecursion, enumerate_from}
+use Rattle.std.proofs.lemmas.List.FromFn.{length-enumerate_from}
+use Rattle.std.proofs.lemmas.List.Sums.{length-filter, count_by-le-length}
 use Rattle.std.proofs.Math.Nat.{mul-le-mul}
 use Rattle.instruction_set.specs.declared.letter.Letter.{Letter}
 use Rattle.genome.specs.Genome.{IsGenome}
@@ -51,17 +53,9 @@ all_placed : (config : ConfigValues) (from : ℕ) (events : List EventValue) →
 all_placed config from [] fit = tt
 all_placed config from (event ∷ events) fit = (fit.0, all_placed config (from + 1) events fit.1)
 
-pub length-enumerate : {X : Type 0} (from : ℕ) (xs : List X) → length (enumerate_from from xs) ≡ length xs
-length-enumerate from [] = refl
-length-enumerate from (x ∷ xs) = ap suc (length-enumerate (from + 1) xs)
-
-filter_few_step : {X : Type 0} (b : Bool) (x : X) (xs : List X) (n : ℕ) → length xs ≤ n → length (cond b (x ∷ xs) xs) ≤ suc n
-filter_few_step true x xs n h = omega (arith, h)
-filter_few_step false x xs n h = omega (arith, h)
-
+-- a part of a list is no longer
 pub filter_few : {X : Type 0} (test : X → Bool) (xs : List X) → length (filter test xs) ≤ length xs
-filter_few test [] = omega arith
-filter_few test (x ∷ xs) = filter_few_step (test x) x (filter test xs) (length xs) (filter_few test xs)
+filter_few test xs = omega (arith, length-filter test xs, count_by-le-length test xs)
 
 module _ (config : ConfigValues) (fit : IsConfig config) where
   -- the events of an update fit
@@ -73,7 +67,7 @@ module _ (config : ConfigValues) (fit : IsConfig config) where
   unfolding events_at
   events_few update =
       let test = λ (event : ℕ × EventValue). event.1.update == update in
-      omega (arith, filter_few test (enumerate_from 1 config.event), length-enumerate 1 config.event, fit.few_events)
+      omega (arith, filter_few test (enumerate_from 1 config.event), length-enumerate_from 1 config.event, fit.few_events)
 
   -- a world has few cells
   pub few_cells : size_of config ≤ 65536

@@ -158,8 +158,3 @@ turns_lawful config size start [] placings lawful within = tt
 turns_lawful config size start (b ∷ births) [] lawful within = tt
 turns_lawful config size start (b ∷ births) (p ∷ placings) lawful within =
     (record { letters = lawful.0.letters; lived = lawful.0.lived; made = lawful.0.born.child; within = within.0 }, turns_lawful config size start births placings lawful.1 within.1)
-
-pub length-zip : {X Y : Type 0} (xs : List X) (ys : List Y) → length ys ≡ length xs → length (zip xs ys) ≡ length xs
-length-zip [] ys h = refl
-length-zip (x ∷ xs) [] h = absurd (omega (arith, h))
-length-zip (x ∷ xs) (y ∷ ys) h = ap suc (length-zip xs ys (omega (arith, h)))

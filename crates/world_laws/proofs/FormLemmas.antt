@@ -1,10 +1,10 @@
 -- The parts of a line have the forms that a log asks for.
-use Rattle.std.proofs.Common.{◌≡◌, ℕ, suc, ◌*◌, ◌<◌, ◌≤◌, Bool, true, false, cond, List, [], ◌∷◌, map, length, Option, Some, None, refl, ap, arith, sum_by}
-use Rattle.std.specs.Prelude.{filter, not, is_some, count_by}
+use Rattle.std.proofs.Common.{◌≡◌, ℕ, suc, ◌*◌, ◌<◌, ◌≤◌, true, List, [], ◌∷◌, map, length, Option, Some, None, refl, ap, arith, sum_by}
+use Rattle.std.specs.Prelude.{not, is_some}
 use Rattle.std.specs.List.{AllByRecursion, cons_option}
 use Rattle.std.proofs.lemmas.Bool.Decides.{nat_tests}
 use Rattle.std.proofs.lemmas.List.{length-map}
-use Rattle.std.proofs.lemmas.List.Sums.{sum_by-le}
+use Rattle.std.proofs.lemmas.List.Sums.{sum_by-le, count_by-le-length}
 use Rattle.std.proofs.lemmas.List.Elements.{All-from_recursion}
 use Rattle.instruction_set.specs.declared.letter.Letter.{Letter}
 use Rattle.genome.specs.Genome.{IsGenome}
@@ -25,6 +25,7 @@ use Rattle.world_rules.specs.World.{Occupant, id_of, ids_of}
 use Rattle.world_rules.specs.Scene.{Scene}
 use Rattle.world_rules.specs.Statistics.{organism_in, organisms_in, genomes_in, different, credited_with, stats_in, scene_stats}
 use Rattle.world_laws.proofs.Scenes.{Each}
+use Rattle.world_laws.proofs.Configs.{filter_few}
 
 base_form : (written : Option (List Letter)) → FitsBase written → base_field.Fits written
 base_form None h = tt
@@ -46,14 +47,6 @@ pub over_form : (slot : Option ℕ) (end : ℕ) → ((id : ℕ) → slot ≡ Som
 over_form None end low few = tt
 over_form (Some id) end low few = (omega arith, omega (arith, low id refl, few))
 
-if_few : (b : Bool) → cond b 1 0 ≤ 1
-if_few true = omega arith
-if_few false = omega arith
-
--- a count is within the number of items
-count_few : {X : Type 0} (test : X → Bool) (xs : List X) → count_by test xs ≤ length xs
-count_few test xs = omega (arith, sum_by-le (λ x. cond (test x) 1 0) 1 xs (λ k d h. if_few _))
-
 found_few : {Y : Type 0} (o : Option Y) (ys : List Y) (n : ℕ) → length ys ≤ n → length (cons_option o ys) ≤ suc n
 found_few None ys n h = omega (arith, h)
 found_few (Some y) ys n h = omega (arith, h)
@@ -62,17 +55,9 @@ organisms_few : (cells : List (Option Occupant)) → length (organisms_in cells)
 organisms_few [] = omega arith
 organisms_few (slot ∷ cells) = found_few (organism_in slot) (organisms_in cells) (length cells) (organisms_few cells)
 
-kept_few : {X : Type 0} (b : Bool) (x : X) (xs : List X) (n : ℕ) → length xs ≤ n → length (cond b (x ∷ xs) xs) ≤ suc n
-kept_few true x xs n h = omega (arith, h)
-kept_few false x xs n h = omega (arith, h)
-
-filtered_few : {X : Type 0} (test : X → Bool) (xs : List X) → length (filter test xs) ≤ length xs
-filtered_few test [] = omega arith
-filtered_few test (x ∷ xs) = kept_few (test x) x (filter test xs) (length xs) (filtered_few test xs)
-
 different_few : (genomes : List (List Letter)) → length (different genomes) ≤ length genomes
 different_few [] = omega arith
-different_few (genome ∷ genomes) = omega (arith, filtered_few (λ other. not (same_letters genome other)) (different genomes), different_few genomes)
+different_few (genome ∷ genomes) = omega (arith, filter_few (λ other. not (same_letters genome other)) (different genomes), different_few genomes)
 
 merits_first : (slot : Option Occupant) (os : List OrganismState) → ((o : Occupant) → slot ≡ Some o → o.organism.merit ≤ GREATEST_MERIT) → AllByRecursion (λ (o : OrganismState). o.merit ≤ GREATEST_MERIT) os → AllByRecursion (λ (o : OrganismState). o.merit ≤ GREATEST_MERIT) (cons_option (organism_in slot) os)
 merits_first None os first rest = rest
@@ -89,7 +74,7 @@ merits_sum cells sound = sum_by-le (λ (o : OrganismState). o.merit) GREATEST_ME
 
 tasks_form : (cells : List (Option Occupant)) (tasks : List Task) → length (organisms_in cells) ≤ 65536 → AllByRecursion large.Fits (map (credited_with cells) tasks)
 tasks_form cells [] few = tt
-tasks_form cells (t ∷ tasks) few = ((omega arith, omega (arith, count_few (λ (o : OrganismState). has_task o.credited t) (organisms_in cells), few)), tasks_form cells tasks few)
+tasks_form cells (t ∷ tasks) few = ((omega arith, omega (arith, count_by-le-length (λ (o : OrganismState). has_task o.credited t) (organisms_in cells), few)), tasks_form cells tasks few)
 
 -- what is counted fits its fields
 pub count_form : (scene : Scene) (births : ℕ) → Each IsSoundOrganism scene.cells → length scene.cells ≤ 65536 → scene.update ≤ 4294967295 → births ≤ 18446744073709551615 → length scene.gone ≤ 18446744073709551615 → HasForm (Count (scene_stats scene births))
@@ -97,7 +82,7 @@ unfolding stats_in
 count_form scene births sound small early few gone =
     let cells = scene.cells in
     let organisms = organisms_few cells in
-    let living : taken (ids_of cells) ≤ 65536 = omega (arith, count_few is_some (ids_of cells), length-map cells id_of, small) in
+    let living : taken (ids_of cells) ≤ 65536 = omega (arith, count_by-le-length is_some (ids_of cells), length-map cells id_of, small) in
     let genomes : length (genomes_in cells) ≤ 65536 = omega (arith, length-map (organisms_in cells) (λ (o : OrganismState). o.genome), organisms, small) in
     let genotypes : length (different (genomes_in cells)) ≤ 65536 = omega (arith, different_few (genomes_in cells), genomes) in
     let merit : sum_by (λ (o : OrganismState). o.merit) (organisms_in cells) ≤ 18446744073709551615 = omega (arith, merits_sum cells sound, organisms, small) in (

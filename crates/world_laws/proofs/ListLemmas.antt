@@ -1,5 +1,6 @@
 -- Lists that were written at a place, or grew at their end.
-use Rattle.std.proofs.Common.{◌≡◌, ◌≢◌, ℕ, zero, suc, ◌+◌, ◌<◌, ◌≤◌, true, List, [], ◌∷◌, ◌++◌, map, length, drop, Option, Some, None, refl, sym, ap, arith, eq-eqb, ◌⊎◌, inl, inr}
+use Rattle.std.proofs.Common.{◌≡◌, ◌≢◌, ℕ, zero, suc, ◌+◌, ◌<◌, true, List, [], ◌∷◌, ◌++◌, map, length, drop, Option, Some, None, refl, sym, ap, arith, eq-eqb, ◌⊎◌, inl, inr, ◌∙◌}
+use Rattle.std.proofs.lemmas.List.{set-get_or}
 use Rattle.std.specs.Prelude.{slice_get, slice_set, slice_index_or, ◌==◌, replicate}
 
 pub get_written : {X : Type 0} (xs : List X) (i : ℕ) (x : X) → i < length xs → slice_get (slice_set xs i x) i ≡ Some x
@@ -37,23 +38,9 @@ pub map-replicate : {X Y : Type 0} (f : X → Y) (n : ℕ) (x : X) → map f (re
 map-replicate f zero x = refl
 map-replicate f (suc n) x = ap (λ l. f x ∷ l) (map-replicate f n x)
 
--- what is left of a list that grew
-pub drop_grown : {X : Type 0} (n : ℕ) (xs ys : List X) → n ≤ length xs → drop n (xs ++ ys) ≡ drop n xs ++ ys
-drop_grown zero xs ys h = refl
-drop_grown (suc n) [] ys h = absurd (omega (arith, h))
-drop_grown (suc n) (x ∷ xs) ys h = drop_grown n xs ys (omega (arith, h))
-
 -- an empty place made empty
 pub set_nothing : {X : Type 0} (xs : List (Option X)) (i : ℕ) → slice_index_or xs i None ≡ None → slice_set xs i None ≡ xs
-set_nothing [] i h = refl
-set_nothing (x ∷ xs) zero h = ap (λ y. y ∷ xs) (sym h)
-set_nothing (x ∷ xs) (suc i) h = ap (λ ys. x ∷ ys) (set_nothing xs i h)
-
--- the item of a place, where it is within the list
-pub get_at : {X : Type 0} (xs : List (Option X)) (i : ℕ) → i < length xs → slice_get xs i ≡ Some (slice_index_or xs i None)
-get_at [] i h = absurd (omega (arith, h))
-get_at (x ∷ xs) zero h = refl
-get_at (x ∷ xs) (suc i) h = get_at xs i (omega (arith, h))
+set_nothing xs i h = ap (slice_set xs i) (sym h) ∙ set-get_or xs i None
 
 -- somebody stands in a place
 pub got_some : {X : Type 0} (xs : List (Option X)) (i : ℕ) (x : X) → slice_index_or xs i None ≡ Some x → slice_get xs i ≡ Some (Some x)

@@ -4,6 +4,8 @@ use Rattle.std.specs.Prelude.{slice_index_or}
 use Rattle.std.specs.List.{AllByRecursion, range_with_len}
 use Rattle.std.proofs.Math.Nat.{mul-le-mul}
 use Rattle.std.proofs.lemmas.List.{length-map}
+use Rattle.std.proofs.lemmas.List.FromFn.{length-range_with_len}
+use Rattle.std.proofs.lemmas.Slice.Zip.{length-zip}
 use Rattle.merit_slices.specs.Slices.{slices_of}
 use Rattle.birth_board.specs.declared.placing.Placing.{Placing}
 use Rattle.lineage_log.specs.Order.{Place, Within}
@@ -23,9 +25,9 @@ use Rattle.world_laws.proofs.Turns.{IsWhat, IsEvent}
 use Rattle.world_laws.proofs.Updates.{IsWorld, people_after, world_left, scene_begun, begun_is, seen_begun, AreTurns, scene_last, lives_tell}
 use Rattle.world_laws.proofs.Placements.{placements_in, placements_number}
 use Rattle.world_laws.proofs.LivesLemmas.{LifeLaws, AreLives, lives_are}
-use Rattle.world_laws.proofs.FolkLemmas.{IsDelivery, left_by, folk_kept, sound_kept, births_lawful, births_few, entries_few, turns_lawful, length-zip}
+use Rattle.world_laws.proofs.FolkLemmas.{IsDelivery, left_by, folk_kept, sound_kept, births_lawful, births_few, entries_few, turns_lawful}
 use Rattle.world_laws.proofs.Configs.{IsConfig, filter_few, size_of, FitsWhat, FitsPlaced, events_fit, events_few, few_cells, torus_size}
-use Rattle.world_laws.proofs.Sounds.{Goes, length-range, goes_on, goes_more, goes_deaths, goes_births, goes_events}
+use Rattle.world_laws.proofs.Sounds.{Goes, goes_on, goes_more, goes_deaths, goes_births, goes_events}
 
 cells_in : (config : ConfigValues) (size : ℕ) (start : People) (births : List Delivery) → AllByRecursion (IsDelivery config size start) births → AllByRecursion (λ cell. cell < size) (map (λ b. b.cell) births)
 cells_in config size start [] are = tt
@@ -80,7 +82,7 @@ module _ (laws : LifeLaws) (config : ConfigValues) (fit : IsConfig config) (n : 
       let births = births_of (lives_after config w) in
       let buried = after_burials ended (lives_after config w) in
       record {
-        number = length-zip births (placings_of config buried births) (placed_all buried);
+        number = omega (arith, length-zip births (placings_of config buried births), placed_all buried);
         lawful = turns_lawful config (size_of config) start births (placings_of config buried births) deliveries_lawful (placed_lawful buried);
       }
 
@@ -109,8 +111,8 @@ module _ (laws : LifeLaws) (config : ConfigValues) (fit : IsConfig config) (n : 
       let lives = lives_after config w in
       let test = λ (cell : ℕ). (slice_index_or lives cell no_life).died in
       let run = life_at config (w.update + 1) w.cells in
-      let number : length lives ≡ length w.cells = length-map (range_with_len 0 (length w.cells)) run ∙ length-range 0 (length w.cells) in
-      omega (arith, filter_few test (range_with_len 0 (length lives)), length-range 0 (length lives), number, is.world.sized)
+      let number : length lives ≡ length w.cells = length-map (range_with_len 0 (length w.cells)) run ∙ length-range_with_len 0 (length w.cells) in
+      omega (arith, filter_few test (range_with_len 0 (length lives)), length-range_with_len 0 (length lives), number, is.world.sized)
 
   -- how an update goes
   pub update_goes : Goes ended last (length (births_of (lives_after config w)) + 1000) (65536 + length (births_of (lives_after config w)) + 65536000)

@@ -2,14 +2,14 @@
 use Rattle.std.proofs.Common.{◌≡◌, ◌≢◌, ℕ, ◌+◌, ◌<◌, ◌≤◌, List, [], ◌∷◌, ◌++◌, map, length, drop, Option, Some, None, refl, sym, ap, subst, ◌∙◌, arith, length-append, ◌⊎◌, inl, inr}
 use Rattle.std.specs.Prelude.{slice_get, slice_set, slice_index_or}
 use Rattle.std.specs.Option.{option_to_list}
-use Rattle.std.proofs.lemmas.List.{length-set, length-map, length-drop, map-append, append_assoc, append-nil}
+use Rattle.std.proofs.lemmas.List.{drop-append-le, length-set, length-map, length-drop, map-append, append_assoc, append-nil}
 use Rattle.std.proofs.lemmas.Option.{slice_get_within}
 use Rattle.std.proofs.lemmas.Bool.{cases_eq}
 use Rattle.instruction_set.specs.declared.letter.Letter.{Letter}
 use Rattle.organism.specs.OrganismState.{OrganismState}
 use Rattle.world_rules.specs.World.{Occupant, Link, id_of, id_at}
 use Rattle.world_rules.specs.Scene.{Scene, standing_at, with_death, with_newcomer}
-use Rattle.world_laws.proofs.ListLemmas.{get_written, get_elsewhere, get_more, get_seam, get_last, drop_grown, set_nothing, got_some}
+use Rattle.world_laws.proofs.ListLemmas.{get_written, get_elsewhere, get_more, get_seam, get_last, set_nothing, got_some}
 use Rattle.world_laws.proofs.Mirror.{People, written, people_in, genomes_of}
 
 -- somebody stands in a cell
@@ -106,7 +106,7 @@ people_number start everyone h =
 pub people_grown : (start : People) (everyone : List Link) (link : Link) → length start ≤ length everyone → people_in start (everyone ++ link ∷ []) ≡ people_in start everyone ++ Some link.genome ∷ []
 people_grown start everyone link h =
     let tail = drop (length start) everyone in
-    ap (λ (l : List Link). start ++ map written l) (drop_grown (length start) everyone (link ∷ []) h)
+    ap (λ (l : List Link). start ++ map written l) (drop-append-le (length start) everyone (link ∷ []) h)
     ∙ ap (λ (l : People). start ++ l) (map-append written tail (link ∷ []))
     ∙ sym (append_assoc start (map written tail) (Some link.genome ∷ []))
 

@@ -1,8 +1,9 @@
 -- Organisms stay sound as a world's update ends, and ids stay few.
-use Rattle.std.proofs.Common.{◌≡◌, ℕ, zero, suc, ◌+◌, ◌-◌, ◌*◌, ◌≤◌, List, [], ◌∷◌, ◌++◌, length, Option, Some, None, refl, ap, subst, ◌∙◌, arith, length-append, inl, inr}
+use Rattle.std.proofs.Common.{◌≡◌, ℕ, ◌+◌, ◌-◌, ◌*◌, ◌≤◌, List, [], ◌∷◌, ◌++◌, length, Option, Some, None, refl, subst, ◌∙◌, arith, length-append, inl, inr}
 use Rattle.std.specs.Prelude.{fold}
-use Rattle.std.specs.List.{AllByRecursion, zip, range_with_len}
+use Rattle.std.specs.List.{AllByRecursion, zip}
 use Rattle.std.specs.Option.{option_to_list}
+use Rattle.std.proofs.lemmas.List.FromFn.{length-range_with_len}
 use Rattle.instruction_set.specs.declared.letter.Letter.{Letter}
 use Rattle.genome.specs.Genome.{IsGenome}
 use Rattle.birth_board.specs.declared.placing.Placing.{Placing}
@@ -74,10 +75,6 @@ goes_newcomer scene link organism sound =
       update = refl;
     }
 
-pub length-range : (from count : ℕ) → length (range_with_len from count) ≡ count
-length-range from zero = refl
-length-range from (suc count) = ap suc (length-range (from + 1) count)
-
 module _ (laws : LifeLaws) (config : ConfigValues) (fit : IsConfig config) where
   -- a newborn makes a sound organism
   sound_newborn : (size : ℕ) (start : People) (b : Delivery) (placing : Placing) → IsDelivery config size start b → IsSoundOrganism (child_of_birth config b placing)
@@ -111,7 +108,7 @@ module _ (laws : LifeLaws) (config : ConfigValues) (fit : IsConfig config) where
   goes_what scene nth (inject cell letters) fits = goes_more 1 1 1 65536 (goes_newcomer scene (founder_link (next_id scene) scene.update cell letters) (founder_of config cell nth letters) (sound_founder cell nth letters fits.1 fits.2)) (omega arith) (omega arith)
   goes_what scene nth (clear first last) fits =
       let few = few_cells config fit in
-      goes_more 0 1 (length (cells_from first last)) 65536 (goes_deaths scene (cells_from first last)) (omega arith) (omega (arith, length-range first (last + 1 - first), fits, few))
+      goes_more 0 1 (length (cells_from first last)) 65536 (goes_deaths scene (cells_from first last)) (omega arith) (omega (arith, length-range_with_len first (last + 1 - first), fits, few))
   goes_what scene nth (rate name ppm) fits = goes_more 0 1 0 65536 (goes_nowhere scene) (omega arith) (omega arith)
 
   goes_event : (scene : Scene) (event : ℕ × EventValue) → FitsPlaced config event → Goes scene (after_event config scene event) 1 65536

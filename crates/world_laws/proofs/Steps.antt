@@ -3,7 +3,7 @@ use Rattle.std.proofs.Common.{◌≡◌, ℕ, ◌+◌, ◌<◌, ◌≤◌, true,
 use Rattle.std.specs.Prelude.{slice_get, slice_set, option_map, ◌==◌, nat_lt}
 use Rattle.std.specs.Option.{option_to_list}
 use Rattle.std.proofs.lemmas.List.{map-set, map-append}
-use Rattle.std.proofs.lemmas.Option.{slice_get-map, slice_get_within}
+use Rattle.std.proofs.lemmas.Option.{slice_get-get_or, slice_get-map, slice_get_within}
 use Rattle.std.proofs.lemmas.Bool.Decides.{nat_tests}
 use Rattle.instruction_set.specs.declared.letter.Letter.{Letter}
 use Rattle.mutations.specs.BirthRecord.{BirthRecord, child_of}
@@ -19,7 +19,7 @@ use Rattle.lineage_log.specs.Reader as reader
 use Rattle.organism.specs.OrganismState.{OrganismState}
 use Rattle.world_rules.specs.World.{Occupant, Link, id_of, ids_of, id_at}
 use Rattle.world_rules.specs.Scene.{Scene, standing_at, with_death, with_newcomer}
-use Rattle.world_laws.proofs.ListLemmas.{get_at, get_more, eqb_same}
+use Rattle.world_laws.proofs.ListLemmas.{get_more, eqb_same}
 use Rattle.world_laws.proofs.Mirror.{People, written, people_in, mirror, seen_in, Passes, one_line}
 use Rattle.world_laws.proofs.Scenes.{who_stands, people_number, people_grown}
 
@@ -33,7 +33,7 @@ same_self (Some id) = eqb_same id
 -- a reader's cell holds who stands there
 holds_cell : (cells : List (Option Occupant)) (cell : ℕ) → cell < length cells → holds (slice_get (ids_of cells) cell) (id_at cells cell) ≡ true
 holds_cell cells cell h =
-    let slot : slice_get (ids_of cells) cell ≡ Some (id_at cells cell) = slice_get-map id_of cells cell ∙ ap (option_map id_of) (get_at cells cell h) in
+    let slot : slice_get (ids_of cells) cell ≡ Some (id_at cells cell) = slice_get-map id_of cells cell ∙ ap (option_map id_of) (slice_get-get_or cells cell None h) in
     rw slot (same_self (id_at cells cell))
 
 holds_who : (cells : List (Option Occupant)) (cell id : ℕ) → id_at cells cell ≡ Some id → holds (slice_get (ids_of cells) cell) (Some id) ≡ true
