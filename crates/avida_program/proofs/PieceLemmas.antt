@@ -40,3 +40,12 @@ pub map_cut : {X Y : Type 0} (f : X → Y) (xs : List X) (i : ℕ) (d : X) → i
 map_cut f xs i d h =
     ap (map f) (sym (take-append-drop (i + 1) xs)) ∙ map-append f (take (i + 1) xs) (drop (i + 1) xs)
     ∙ ap (λ l. l ++ map f (drop (i + 1) xs)) (map_next f xs i d h)
+
+-- one more byte
+pub take_next : (xs : List ℕ) (i : ℕ) → i < length xs → take (i + 1) xs ≡ take i xs ++ get_or xs i 0 ∷ []
+take_next xs i h = rw add-one (take-suc xs i 0 h)
+
+-- the bytes up to this one, and those behind it
+pub take_cut : (xs : List ℕ) (i : ℕ) → i < length xs → xs ≡ (take i xs ++ get_or xs i 0 ∷ []) ++ drop (i + 1) xs
+take_cut xs i h =
+    sym (take-append-drop (i + 1) xs) ∙ ap (λ l. l ++ drop (i + 1) xs) (take_next xs i h)

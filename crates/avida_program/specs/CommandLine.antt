@@ -5,7 +5,7 @@ use Rattle.command_line.specs.Commands as told
 use Rattle.command_line.specs.declared.run.Run.{Run as RunWords}
 use Rattle.command_line.specs.declared.workers.TheConstants.{LEAST_WORKERS, MOST_WORKERS}
 use Rattle.avida_program.specs.declared.command.Command.{Command}
-use Rattle.avida_program.specs.declared.command.Command.TheVariants.{Trace, Run}
+use Rattle.avida_program.specs.declared.command.Command.TheVariants.{Trace, Run, Replay, Upgrade}
 use Rattle.avida_program.specs.declared.command.Spelling.{Spelling}
 use Rattle.avida_program.specs.declared.command.Spelling.TheVariants.{Letters, Names}
 
@@ -26,11 +26,17 @@ unwatched run = if is_none run.watch then Some (Run run.workers) else None
 abbrev pub run_command : List (List ℕ) → Option Command
 run_command words = option_and_then unwatched (told.run_told words)
 
+-- a command that takes no words
+abbrev pub bare_command : Command → List (List ℕ) → Option Command
+bare_command command words = option_map (λ nothing. command) (told.nothing_told words)
+
 -- the command of a name, by the words after it
 abbrev pub command_named : List ℕ → List (List ℕ) → Option Command
 command_named name words =
     if bytes_eq name (codes "trace") then trace_command words
     else if bytes_eq name (codes "run") then run_command words
+    else if bytes_eq name (codes "replay") then bare_command Replay words
+    else if bytes_eq name (codes "upgrade") then bare_command Upgrade words
     else None
 
 -- the first word is the name, and the words after it are read by its form
@@ -42,3 +48,5 @@ command_of (name ∷ words) = command_named name words
 abbrev pub HasWorkers : Command → Type 0
 HasWorkers (Trace steps spelling) = ⊤
 HasWorkers (Run workers) = (LEAST_WORKERS ≤ workers) × (workers ≤ MOST_WORKERS)
+HasWorkers Replay = ⊤
+HasWorkers Upgrade = ⊤

@@ -1,8 +1,13 @@
 -- What `serve` promises of each command: a record a command, with a field for each sentence
 -- (docs/FORMATS.md, "The command line" and "Statuses and fault lines").
-use Rattle.std.specs.Prelude.{◌≡◌, ◌≢◌, ◌⊎◌, ℕ, List, Option, Some, Result, Ok, Err}
+use Rattle.std.specs.Prelude.{◌≡◌, ◌≢◌, ◌⊎◌, ◌++◌, ℕ, List, Option, Some, Result, Ok, Err, codes, decimal, flat_map, map}
 use Rattle.avida_port.specs.Faults.{Rose}
 use Rattle.avida_port.specs.Ports.{SourceState, SinkState, Gained, GainedPrefix, AtEnd}
+use Rattle.instruction_set.specs.Letter.{byte_of}
+use Rattle.log_lines.specs.Line.{Line}
+use Rattle.lineage_log.specs.LogGrammar.{lines_text}
+use Rattle.lineage_log.specs.Replay.{Resident, replay_of}
+use Rattle.lineage_log.specs.Upgrade.{upgraded}
 use Rattle.world_config.specs.Values.{ConfigValues}
 use Rattle.world_rules.specs.LogText.{log_text}
 use Rattle.world_core.specs.WorldValue.{WorldValue}
@@ -12,7 +17,7 @@ use Rattle.avida_program.specs.declared.status.Status.TheVariants as status
 use Rattle.avida_program.specs.declared.outcome.Outcome.{Outcome}
 use Rattle.avida_program.specs.declared.outcome.Outcome.TheVariants as outcome
 use Rattle.avida_program.specs.declared.refusal.Refusal.{Refusal}
-use Rattle.avida_program.specs.Input.{IsInputWith, configuration_of, genome_of}
+use Rattle.avida_program.specs.Input.{IsInputWith, configuration_of, genome_of, log_input_of}
 use Rattle.avida_program.specs.Status.{fault_line}
 use Rattle.avida_program.specs.TraceText.{trace_text}
 
@@ -136,3 +141,28 @@ pub record ServesRun (bytes : List ℕ) (source : Change SourceState)
       → IsInputWith (configuration_of bytes) (λ config. last.after ≡ Some (final_world config))
   -- else what was there stays
   pub last_stays : s ≢ status.Done → Stays last
+
+-- the line of one who lives: the cell, the id and the letters
+abbrev pub resident_line : Resident → List ℕ
+resident_line r =
+    decimal r.cell ++ codes " " ++ decimal r.id ++ codes " " ++ map byte_of r.genome ++ codes "\n"
+
+-- who lives at the end of a log, a line each
+abbrev pub replay_text : List Line → List ℕ
+replay_text lines = flat_map resident_line (replay_of lines)
+
+-- `replay`, on a source that tells these bytes
+pub record ServesReplay (bytes : List ℕ) (source : Change SourceState)
+    (out watch err : Change SinkState) (last : Change (Option WorldValue)) (s : Status) : Type 0 where
+  pub serves : ServesInput (log_input_of bytes) replay_text source out watch err s
+  pub last_stays : Stays last
+
+-- the lines of a log with the last version
+abbrev pub upgrade_text : List Line → List ℕ
+upgrade_text lines = lines_text (upgraded lines)
+
+-- `upgrade`, on a source that tells these bytes
+pub record ServesUpgrade (bytes : List ℕ) (source : Change SourceState)
+    (out watch err : Change SinkState) (last : Change (Option WorldValue)) (s : Status) : Type 0 where
+  pub serves : ServesInput (log_input_of bytes) upgrade_text source out watch err s
+  pub last_stays : Stays last

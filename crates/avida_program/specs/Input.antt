@@ -1,15 +1,19 @@
--- Which input a command takes (docs/FORMATS.md, "Genomes by letters", "Genomes by names" and "The configuration").
+-- Which input a command takes (docs/FORMATS.md, "Genomes by letters", "Genomes by names", "The configuration" and "The log").
 use Rattle.std.specs.Prelude.{◌≡◌, ℕ, List, Result, Ok, Err, length, nat_lt, if◌then◌else◌}
 use Rattle.instruction_set.specs.declared.letter.Letter.{Letter}
 use Rattle.genome.specs.declared.stop.GenomeStop.{GenomeStop}
 use Rattle.genome.specs.GenomeText.{spelled_by_letters, spelled_by_names}
+use Rattle.log_lines.specs.Line.{Line}
+use Rattle.lineage_log.specs.LogGrammar.{log_of}
+use Rattle.lineage_log.specs.LogValues.{answer_of}
 use Rattle.world_config.specs.Config.{config_of}
 use Rattle.world_config.specs.Values.{ConfigValues}
+use Rattle.avida_port.specs.declared.reading.TheConstants.{LONGEST_INPUT}
 use Rattle.avida_program.specs.declared.input.TheConstants.{INPUT_LIMIT}
 use Rattle.avida_program.specs.declared.command.Spelling.{Spelling}
 use Rattle.avida_program.specs.declared.command.Spelling.TheVariants.{Letters, Names}
 use Rattle.avida_program.specs.declared.refusal.Refusal.{Refusal}
-use Rattle.avida_program.specs.declared.refusal.Refusal.TheVariants.{TooLong, Genome, Config}
+use Rattle.avida_program.specs.declared.refusal.Refusal.TheVariants.{TooLong, Genome, Config, Log}
 
 -- an input, or what refuses it as the reason of a refusal
 abbrev pub refused_as : {A E : Type 0} → (E → Refusal) → Result A E → Result A Refusal
@@ -37,3 +41,7 @@ genome_of spelling bytes =
 -- the configuration of an input, or why it is refused
 abbrev pub configuration_of : List ℕ → Result ConfigValues Refusal
 configuration_of bytes = within INPUT_LIMIT bytes (refused_as Config (config_of bytes))
+
+-- the lines of an input that is a log, or why it is refused
+abbrev pub log_input_of : List ℕ → Result (List Line) Refusal
+log_input_of bytes = within LONGEST_INPUT bytes (refused_as Log (answer_of (log_of bytes)))

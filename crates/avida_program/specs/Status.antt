@@ -6,10 +6,12 @@ use Rattle.avida_program.specs.declared.status.Status.TheVariants as status
 use Rattle.avida_program.specs.declared.outcome.Outcome.{Outcome}
 use Rattle.avida_program.specs.declared.outcome.Outcome.TheVariants as outcome
 use Rattle.avida_program.specs.declared.refusal.Refusal.{Refusal}
-use Rattle.avida_program.specs.declared.refusal.Refusal.TheVariants.{TooLong, Genome, Config}
+use Rattle.avida_program.specs.declared.refusal.Refusal.TheVariants.{TooLong, Genome, Config, Log}
 use Rattle.avida_program.specs.declared.fault_line.TheConstants.{SHOWN_BYTES}
 use Rattle.genome.specs.declared.stop.GenomeStop.{GenomeStop}
 use Rattle.genome.specs.declared.stop.GenomeStop.TheVariants as stop
+use Rattle.lineage_log.specs.declared.log_stop.LogStop.{LogStop}
+use Rattle.lineage_log.specs.declared.log_stop.LogStop.TheVariants as log
 use Rattle.world_config.specs.KeyTable.{key_name}
 use Rattle.world_config.specs.declared.stop.ConfigStop.{ConfigStop}
 use Rattle.world_config.specs.declared.stop.ConfigStop.TheVariants as config
@@ -59,11 +61,21 @@ config_reason (config.OutOfRange key value) =
 config_reason (config.BadAncestor why) = codes "ancestor " ++ genome_reason why
 config_reason (config.BadEvent nth) = codes "event " ++ decimal nth
 
+-- which line is faulty, and how; want of memory refuses no input
+abbrev pub log_reason : LogStop → List ℕ
+log_reason log.Memory = []
+log_reason (log.BadLine line) = codes "line " ++ decimal line
+log_reason (log.BadOrder line) = codes "order " ++ decimal line
+log_reason (log.UnknownParent line) = codes "parent " ++ decimal line
+log_reason (log.BadChange line) = codes "change " ++ decimal line
+log_reason (log.Unended line) = codes "unended " ++ decimal line
+
 -- the reason of a refusal, as its line tells it
 abbrev pub reason_of : Refusal → List ℕ
 reason_of TooLong = codes "too long"
 reason_of (Genome why) = genome_reason why
 reason_of (Config why) = config_reason why
+reason_of (Log why) = log_reason why
 
 -- the line that tells of an outcome
 abbrev pub fault_line : Outcome → List ℕ

@@ -1,9 +1,9 @@
 // The words of a command line.
 ghost use Rattle.std.specs.Prelude.{◌≡◌, ◌<◌, Some, MatchResult, IfOk, drop, length, map, string_bytes};
 ghost use Rattle.command_line.specs.Refusals.{Refuses};
-ghost use Rattle.avida_program.specs.CommandLine.{HasWorkers, command_named, command_of, run_command, spelling_of, trace_command};
+ghost use Rattle.avida_program.specs.CommandLine.{HasWorkers, bare_command, command_named, command_of, run_command, spelling_of, trace_command};
 
-use command_line::{Refused, read_run, read_trace};
+use command_line::{Refused, read_nothing, read_run, read_trace};
 use std::alloc::Global;
 
 /// How a genome is written.
@@ -17,6 +17,8 @@ pub enum Spelling {
 pub enum Command {
     Trace { steps: u32, spelling: Spelling },
     Run { workers: u32 },
+    Replay,
+    Upgrade,
 }
 
 fn genome_spelling(org: bool) -> Spelling
@@ -58,6 +60,18 @@ fn read_run_words(alloc: Global, words: &[String]) -> Result<Command, Refused>
     }
 }
 
+/// A command that takes no words.
+fn read_bare_words(alloc: Global, words: &[String], command: Command) -> Result<Command, Refused>
+    requires { 0 < length words.now }
+    ensures command { MatchResult result
+        (λ told. bare_command command (drop 1 (map string_bytes words.now)) ≡ Some told)
+        (Refuses (bare_command command (drop 1 (map string_bytes words.now)))) }
+    ensures same { IfOk result (λ told. told ≡ command) }
+{
+    read_nothing(alloc, words)?;
+    Ok(command)
+}
+
 /// The command of this name, which is the first word.
 fn read_named(alloc: Global, name: &str, words: &[String]) -> Result<Command, Refused>
     requires { 0 < length words.now }
@@ -69,6 +83,8 @@ fn read_named(alloc: Global, name: &str, words: &[String]) -> Result<Command, Re
     match name {
         "trace" => read_trace_words(alloc, words),
         "run" => read_run_words(alloc, words),
+        "replay" => read_bare_words(alloc, words, Command::Replay),
+        "upgrade" => read_bare_words(alloc, words, Command::Upgrade),
         _ => Err(Refused::BadWords),
     }
 }

@@ -3,11 +3,12 @@ ghost use Rattle.std.specs.Prelude.{◌≡◌, ◌≤◌, ◌+◌, ◌++◌, len
 ghost use Rattle.std.specs.Fmt.{signed_decimal};
 ghost use Rattle.arrayvec.specs.ArrayVec.{array_vec_len};
 ghost use Rattle.world_config.specs.KeyTable.{key_name};
-ghost use Rattle.avida_program.specs.Status.{config_reason, fault_line, genome_reason, reason_of, shown_byte, shown_key};
+ghost use Rattle.avida_program.specs.Status.{config_reason, fault_line, genome_reason, log_reason, reason_of, shown_byte, shown_key};
 
 use crate::{Outcome, Refusal};
 use arrayvec::ArrayVec;
 use genome::GenomeStop;
+use lineage_log::LogStop;
 use world_config::{ConfigStop, Key};
 
 /// No fault line is longer.
@@ -149,6 +150,21 @@ fn push_config_reason(line: &mut Line, stop: &ConfigStop)
     }
 }
 
+fn push_log_reason(line: &mut Line, stop: LogStop)
+    requires { array_vec_len line.old ≤ 20 }
+    ensures items { line.new.items ≡ line.old.items ++ log_reason stop }
+    ensures len { array_vec_len line.new ≤ array_vec_len line.old + 40 }
+{
+    match stop {
+        LogStop::Memory => {}
+        LogStop::BadLine { line: number } => push_number(line, "line ", number),
+        LogStop::BadOrder { line: number } => push_number(line, "order ", number),
+        LogStop::UnknownParent { line: number } => push_number(line, "parent ", number),
+        LogStop::BadChange { line: number } => push_number(line, "change ", number),
+        LogStop::Unended { line: number } => push_number(line, "unended ", number),
+    }
+}
+
 fn push_reason(line: &mut Line, refusal: &Refusal)
     requires { array_vec_len line.old ≤ 20 }
     ensures items { line.new.items ≡ line.old.items ++ reason_of refusal.now }
@@ -158,6 +174,7 @@ fn push_reason(line: &mut Line, refusal: &Refusal)
         Refusal::TooLong => push_text(line, "too long"),
         Refusal::Genome(stop) => push_genome_reason(line, *stop),
         Refusal::Config(stop) => push_config_reason(line, stop),
+        Refusal::Log(stop) => push_log_reason(line, *stop),
     }
 }
 

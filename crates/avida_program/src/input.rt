@@ -4,12 +4,13 @@ ghost use Rattle.avida_port.specs.Ports.{IsAllOf, AtEnd};
 ghost use Rattle.genome.specs.Genome.{letters};
 ghost use Rattle.world_config.specs.Shown.{values_of};
 ghost use Rattle.avida_program.specs.Commands.{change};
-ghost use Rattle.avida_program.specs.Input.{configuration_of, genome_of, genome_spelled};
+ghost use Rattle.avida_program.specs.Input.{configuration_of, genome_of, genome_spelled, log_input_of};
 ghost use Rattle.avida_program.specs.Outcomes.{RefusesInput, StopsReading};
 
 use crate::{Outcome, Refusal, Spelling};
 use avida_port::{LONGEST_INPUT, ReadStop, Source, read_all};
 use genome::{Genome, GenomeStop, read_letters, read_names};
+use lineage_log::{Log, LogStop, read_log};
 use std::alloc::Global;
 use world_config::{Config, ConfigStop};
 
@@ -71,5 +72,18 @@ pub fn read_config(alloc: Global, bytes: Vec<u8>) -> Result<Config, Outcome>
         Ok(config) => Ok(config),
         Err(ConfigStop::Memory) => Err(Outcome::NoMemory),
         Err(stop) => Err(Outcome::BadInput(Refusal::Config(stop))),
+    }
+}
+
+/// The log of bytes within the limit, which are dropped.
+pub fn read_lines(alloc: Global, bytes: Vec<u8>) -> Result<Log, Outcome>
+    requires { length bytes.items ≤ LONGEST_INPUT }
+    ensures ok { IfOk result (λ log. log_input_of bytes.items ≡ Ok log) }
+    ensures refused { IfErr result (RefusesInput (log_input_of bytes.items)) }
+{
+    match read_log(alloc, bytes.as_slice()) {
+        Ok(log) => Ok(log),
+        Err(LogStop::Memory) => Err(Outcome::NoMemory),
+        Err(stop) => Err(Outcome::BadInput(Refusal::Log(stop))),
     }
 }

@@ -7,11 +7,13 @@ mod input;
 mod outcome;
 mod piece;
 mod refusal;
+mod replay;
 mod run;
 mod serving;
 mod status;
 mod trace;
 mod trace_line;
+mod upgrade;
 
 pub use command::{Command, Spelling};
 pub use input::INPUT_LIMIT;

@@ -1,5 +1,6 @@
 // A status, with the reason of a refusal.
 ghost use Rattle.std.specs.Prelude.{◌≡◌};
+ghost use Rattle.avida_program.specs.Outcomes.{outcome_of};
 ghost use Rattle.avida_program.specs.Status.{status_of};
 
 use crate::{Refusal, Status};
@@ -52,5 +53,15 @@ impl From<SinkStop> for Outcome {
             SinkStop::Fault => Outcome::WriteFault,
             SinkStop::Memory => Outcome::NoMemory,
         }
+    }
+}
+
+/// How a call ends whose puts ended so.
+pub fn ended(puts: Result<(), SinkStop>) -> Outcome
+    ensures { result ≡ outcome_of puts }
+{
+    match puts {
+        Ok(()) => Outcome::Done,
+        Err(stop) => Outcome::from(stop),
     }
 }

@@ -87,3 +87,33 @@ pub fn write_letters<O: Sink>(
     }
     Ok(())
 }
+
+fn write_bytes<O: Sink>(piece: &mut Piece, text: &[u8], out: &mut O) -> Result<(), SinkStop>
+    ensures { Writes (O.seen out.old) (O.seen out.new)
+        piece.old.items piece.new.items text.now result }
+{
+    for byte in text {
+        write_byte(piece, *byte, out)?;
+    }
+    Ok(())
+}
+
+fn push_bytes(piece: &mut Piece, text: &[u8])
+    requires { array_vec_len piece.old + length text.now ≤ PIECE_SIZE }
+    ensures { piece.new.items ≡ piece.old.items ++ text.now }
+{
+    let _ = piece.try_extend_from_slice(text);
+}
+
+/// A text that fits a piece is not cut.
+pub fn write_text<O: Sink>(piece: &mut Piece, text: &[u8], out: &mut O) -> Result<(), SinkStop>
+    ensures { Writes (O.seen out.old) (O.seen out.new)
+        piece.old.items piece.new.items text.now result }
+{
+    if text.len() > PIECE_SIZE {
+        return write_bytes(piece, text, out);
+    }
+    make_room(piece, text.len(), out)?;
+    push_bytes(piece, text);
+    Ok(())
+}

@@ -1,6 +1,7 @@
 // Why an input is refused.
 
 use genome::GenomeStop;
+use lineage_log::LogStop;
 use world_config::ConfigStop;
 
 #[derive(Drop)]
@@ -8,4 +9,5 @@ pub enum Refusal {
     TooLong,
     Genome(GenomeStop),
     Config(ConfigStop),
+    Log(LogStop),
 }

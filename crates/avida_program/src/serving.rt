@@ -1,15 +1,18 @@
 // The whole program.
 ghost use Rattle.std.specs.Prelude.{◌≡◌, ◌≢◌, ℕ, List, Some, None, map, string_bytes};
 ghost use Rattle.avida_program.specs.CommandLine.{command_of};
-ghost use Rattle.avida_program.specs.Commands.{change, Stays, TellsOf, SourceFailed, SinkFailed, ServesNothing, ServesRun, ServesTrace};
-ghost use Rattle.avida_program.specs.Outcomes.{HasCauses, ReadsNothing, Runs, Traces};
-ghost use Rattle.avida_program.specs.declared.command.Command.TheVariants.{Run, Trace};
+ghost use Rattle.avida_program.specs.Commands.{change, Stays, TellsOf, SourceFailed, SinkFailed, ServesNothing, ServesReplay, ServesRun, ServesTrace, ServesUpgrade, replay_text, upgrade_text};
+ghost use Rattle.avida_program.specs.Input.{log_input_of};
+ghost use Rattle.avida_program.specs.Outcomes.{HasCauses, ReadsInput, ReadsNothing, Runs, Traces};
+ghost use Rattle.avida_program.specs.declared.command.Command.TheVariants.{Replay, Run, Trace, Upgrade};
 ghost use Rattle.avida_program.specs.declared.command.Spelling.{Spelling};
 
 use crate::command::{Command, read_words};
 use crate::fault_line::line_of;
+use crate::replay::replay;
 use crate::run::run;
 use crate::trace::trace;
+use crate::upgrade::upgrade;
 use crate::{Outcome, Status};
 use avida_port::{Gate, Sink, Source};
 use command_line::Refused;
@@ -53,10 +56,22 @@ fn carry_out<S: Source, O: Sink, G: Gate + Sync>(
         → (bytes : List ℕ) → (S.seen source.old).left ≡ Some bytes
         → Runs bytes (change (S.seen source.old) (S.seen source.new))
         (change (O.seen out.old) (O.seen out.new)) (change last.old last.new) result }
+    ensures replay { command_of (map string_bytes words.now) ≡ Some Replay
+        → (bytes : List ℕ) → (S.seen source.old).left ≡ Some bytes
+        → ReadsInput (log_input_of bytes) replay_text
+        (change (S.seen source.old) (S.seen source.new))
+        (change (O.seen out.old) (O.seen out.new)) result × Stays (change last.old last.new) }
+    ensures upgrade { command_of (map string_bytes words.now) ≡ Some Upgrade
+        → (bytes : List ℕ) → (S.seen source.old).left ≡ Some bytes
+        → ReadsInput (log_input_of bytes) upgrade_text
+        (change (S.seen source.old) (S.seen source.new))
+        (change (O.seen out.old) (O.seen out.new)) result × Stays (change last.old last.new) }
 {
     match read_words(alloc, words) {
         Ok(Command::Trace { steps, spelling }) => trace(alloc, steps, spelling, source, out),
         Ok(Command::Run { workers }) => run(alloc, workers, source, out, last, gate),
+        Ok(Command::Replay) => replay(alloc, source, out),
+        Ok(Command::Upgrade) => upgrade(alloc, source, out),
         Err(Refused::BadWords) => Outcome::BadWords,
         Err(Refused::Memory) => Outcome::NoMemory,
     }
@@ -97,6 +112,16 @@ pub fn serve<S: Source, O: Sink + Send, W: Sink + Send, E: Sink, G: Gate + Sync>
         → command_of (map string_bytes words.now) ≡ Some (Run workers)
         → (bytes : List ℕ) → (S.seen source.old).left ≡ Some bytes
         → ServesRun bytes (change (S.seen source.old) (S.seen source.new))
+        (change (O.seen out.old) (O.seen out.new)) (change (W.seen watch.old) (W.seen watch.new))
+        (change (E.seen err.old) (E.seen err.new)) (change last.old last.new) result }
+    ensures replay { command_of (map string_bytes words.now) ≡ Some Replay
+        → (bytes : List ℕ) → (S.seen source.old).left ≡ Some bytes
+        → ServesReplay bytes (change (S.seen source.old) (S.seen source.new))
+        (change (O.seen out.old) (O.seen out.new)) (change (W.seen watch.old) (W.seen watch.new))
+        (change (E.seen err.old) (E.seen err.new)) (change last.old last.new) result }
+    ensures upgrade { command_of (map string_bytes words.now) ≡ Some Upgrade
+        → (bytes : List ℕ) → (S.seen source.old).left ≡ Some bytes
+        → ServesUpgrade bytes (change (S.seen source.old) (S.seen source.new))
         (change (O.seen out.old) (O.seen out.new)) (change (W.seen watch.old) (W.seen watch.new))
         (change (E.seen err.old) (E.seen err.new)) (change last.old last.new) result }
 {

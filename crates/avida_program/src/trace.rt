@@ -2,14 +2,15 @@
 ghost use Rattle.std.specs.Prelude.{◌≡◌, ◌≢◌, ℕ, List, Some, length, IfOk};
 ghost use Rattle.genome.specs.Genome.{letters};
 ghost use Rattle.avida_program.specs.Commands.{change};
-ghost use Rattle.avida_program.specs.Outcomes.{HasCauses, Traces, WritesText, outcome_of};
+ghost use Rattle.avida_program.specs.Outcomes.{HasCauses, Traces, WritesText};
 ghost use Rattle.avida_program.specs.TraceText.{lines_of, trace_limit, trace_text, traced_organism};
 
 use crate::input::{read_bytes, read_genome};
+use crate::outcome::ended;
 use crate::piece::Piece;
 use crate::trace_line::write_line;
 use crate::{INPUT_LIMIT, Outcome, Spelling};
-use avida_port::{Memory, Sink, SinkStop, Source};
+use avida_port::{Memory, Sink, Source};
 use genome::Genome;
 use logic_tasks::{Inputs, Tasks};
 use organism::Organism;
@@ -51,15 +52,6 @@ fn found(alloc: Global, genome: Genome) -> Result<Organism, Memory>
         Tasks::none(),
         memory_limit(len),
     )
-}
-
-fn ended(puts: Result<(), SinkStop>) -> Outcome
-    ensures { result ≡ outcome_of puts }
-{
-    match puts {
-        Ok(()) => Outcome::Done,
-        Err(stop) => Outcome::from(stop),
-    }
 }
 
 /// Steps an organism of age 0, and writes a line a step.

@@ -1,0 +1,85 @@
+// The command `replay`.
+ghost use Rattle.std.specs.Prelude.{◌≡◌, ◌≢◌, ◌+◌, ◌++◌, ◌≤◌, ℕ, List, Some, flat_map, map, codes, decimal};
+ghost use Rattle.arrayvec.specs.ArrayVec.{array_vec_len};
+ghost use Rattle.lineage_log.specs.Residents.{resident_of};
+ghost use Rattle.avida_program.specs.Commands.{change, replay_text, resident_line};
+ghost use Rattle.avida_program.specs.Input.{log_input_of};
+ghost use Rattle.avida_program.specs.Outcomes.{HasCauses, ReadsInput, WritesText};
+ghost use Rattle.avida_program.specs.Pieces.{Writes};
+
+use crate::Outcome;
+use crate::input::{read_bytes, read_lines};
+use crate::outcome::ended;
+use crate::piece::{PIECE_SIZE, Piece, make_room, push_natural, write_byte, write_letters};
+use avida_port::{LONGEST_INPUT, Memory, Sink, SinkStop, Source};
+use lineage_log::{Living, Log};
+use std::alloc::Global;
+
+/// No line is longer before its letters.
+const LINE_ROOM: usize = 64;
+
+fn push_place(piece: &mut Piece, living: &Living)
+    requires { array_vec_len piece.old + 42 ≤ PIECE_SIZE }
+    ensures { piece.new.items ≡ piece.old.items
+        ++ (decimal living.now.cell ++ codes " " ++ decimal living.now.id ++ codes " ") }
+{
+    push_natural(piece, u64::from(living.cell));
+    piece.push(b' ');
+    push_natural(piece, living.id);
+    piece.push(b' ');
+}
+
+fn write_living<O: Sink>(piece: &mut Piece, living: &Living, out: &mut O) -> Result<(), SinkStop>
+    ensures { Writes (O.seen out.old) (O.seen out.new) piece.old.items piece.new.items
+        (resident_line (resident_of living.now)) result }
+{
+    make_room(piece, LINE_ROOM, out)?;
+    push_place(piece, living);
+    write_letters(piece, living.genome.letters(), out)?;
+    write_byte(piece, b'\n', out)
+}
+
+fn write_livings<O: Sink>(livings: &[Living], out: &mut O) -> Outcome
+    ensures { WritesText (flat_map resident_line (map resident_of livings.now))
+        (change (O.seen out.old) (O.seen out.new)) result }
+{
+    let mut piece = Piece::new();
+    for living in livings {
+        if let Err(stop) = write_living(&mut piece, living, out) {
+            return ended(Err(stop));
+        }
+    }
+    ended(out.put(piece.as_slice()))
+}
+
+fn write_replayed<O: Sink>(alloc: Global, log: &Log, out: &mut O) -> Outcome
+    ensures { WritesText (replay_text log.now) (change (O.seen out.old) (O.seen out.new)) result }
+{
+    match lineage_log::replay(alloc, log) {
+        Ok(livings) => {
+            let livings = livings.into_vec();
+            write_livings(&livings, out)
+        }
+        Err(Memory) => Outcome::NoMemory,
+    }
+}
+
+/// Reads a log, and writes who lives at its end.
+pub fn replay<S: Source, O: Sink>(alloc: Global, source: &mut S, out: &mut O) -> Outcome
+    ensures causes { HasCauses (change (S.seen source.old) (S.seen source.new))
+        (change (O.seen out.old) (O.seen out.new)) result }
+    ensures words { result ≢ Outcome.BadWords }
+    ensures told { (bytes : List ℕ) → (S.seen source.old).left ≡ Some bytes
+        → ReadsInput (log_input_of bytes) replay_text
+        (change (S.seen source.old) (S.seen source.new))
+        (change (O.seen out.old) (O.seen out.new)) result }
+{
+    let bytes = match read_bytes(alloc, source, LONGEST_INPUT) {
+        Ok(bytes) => bytes,
+        Err(outcome) => return outcome,
+    };
+    match read_lines(alloc, bytes) {
+        Ok(log) => write_replayed(alloc, &log, out),
+        Err(outcome) => outcome,
+    }
+}

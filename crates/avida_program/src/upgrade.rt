@@ -1,0 +1,62 @@
+// The command `upgrade`.
+ghost use Rattle.std.specs.Prelude.{◌≡◌, ◌≢◌, ℕ, List, Some};
+ghost use Rattle.lineage_log.specs.LogGrammar.{lines_text};
+ghost use Rattle.lineage_log.specs.LogValues.{lines_of};
+ghost use Rattle.lineage_log.specs.Upgrade.{upgraded};
+ghost use Rattle.avida_program.specs.Commands.{change, upgrade_text};
+ghost use Rattle.avida_program.specs.Input.{log_input_of};
+ghost use Rattle.avida_program.specs.Outcomes.{HasCauses, ReadsInput, WritesText};
+
+use crate::Outcome;
+use crate::input::{read_bytes, read_lines};
+use crate::outcome::ended;
+use crate::piece::{Piece, write_text};
+use avida_port::{LONGEST_INPUT, Sink, Source};
+use lineage_log::{Log, LogLine, write_line};
+use std::alloc::Global;
+
+fn write_lines<O: Sink>(alloc: Global, lines: &[LogLine], out: &mut O) -> Outcome
+    ensures { WritesText (lines_text (lines_of lines.now))
+        (change (O.seen out.old) (O.seen out.new)) result }
+{
+    let mut piece = Piece::new();
+    let mut text = Vec::new(alloc);
+    for line in lines {
+        text.clear();
+        let Ok(()) = write_line(line, &mut text) else {
+            return Outcome::NoMemory;
+        };
+        if let Err(stop) = write_text(&mut piece, &text, out) {
+            return ended(Err(stop));
+        }
+    }
+    ended(out.put(piece.as_slice()))
+}
+
+fn write_upgraded<O: Sink>(alloc: Global, mut log: Log, out: &mut O) -> Outcome
+    ensures { WritesText (upgrade_text log) (change (O.seen out.old) (O.seen out.new)) result }
+{
+    log.upgrade();
+    let lines = log.into_vec();
+    write_lines(alloc, &lines, out)
+}
+
+/// Reads a log, and writes its lines with the last version.
+pub fn upgrade<S: Source, O: Sink>(alloc: Global, source: &mut S, out: &mut O) -> Outcome
+    ensures causes { HasCauses (change (S.seen source.old) (S.seen source.new))
+        (change (O.seen out.old) (O.seen out.new)) result }
+    ensures words { result ≢ Outcome.BadWords }
+    ensures told { (bytes : List ℕ) → (S.seen source.old).left ≡ Some bytes
+        → ReadsInput (log_input_of bytes) upgrade_text
+        (change (S.seen source.old) (S.seen source.new))
+        (change (O.seen out.old) (O.seen out.new)) result }
+{
+    let bytes = match read_bytes(alloc, source, LONGEST_INPUT) {
+        Ok(bytes) => bytes,
+        Err(outcome) => return outcome,
+    };
+    match read_lines(alloc, bytes) {
+        Ok(log) => write_upgraded(alloc, log, out),
+        Err(outcome) => outcome,
+    }
+}
