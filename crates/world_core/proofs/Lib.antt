@@ -6,6 +6,7 @@ mod SettingsLemmas
 mod UpdateLemmas
 mod WorldLemmas
 mod CountLemmas
+mod DescentLemmas
 mod DifferentLemmas
 mod EventLemmas
 mod GenomeLemmas

@@ -1,4 +1,10 @@
+ghost use Rattle.std.specs.Prelude.{◌≡◌, IfOk, option_map};
+ghost use Rattle.mutations.specs.BirthRecord.{record_of};
+ghost use Rattle.world_rules.specs.Descent.{link_value};
+
+use avida_port::Memory;
 use genome::Genome;
+use lineage_log::Link;
 use mutations::Origin;
 use std::alloc::Global;
 use std::marker::Model;
@@ -33,4 +39,29 @@ impl Model for Ancestor {
       origin = option_map record_of a.origin;
       genome = letters a.genome.value;
     } };
+}
+
+impl Ancestor {
+    /// Its link in a line of descent, with a record and a genome of its own.
+    pub(crate) fn link(&self, alloc: Global) -> Result<Link, Memory>
+        ensures { IfOk result (λ link. link_value link ≡ self.now) }
+    {
+        Ok(Link {
+            id: self.id,
+            parent: self.parent,
+            update: self.update,
+            cell: self.cell,
+            origin: copy_of(alloc, &self.origin)?,
+            genome: self.genome.copy(alloc)?,
+        })
+    }
+}
+
+fn copy_of(alloc: Global, origin: &Option<Origin>) -> Result<Option<Origin>, Memory>
+    ensures { IfOk result (λ copy. option_map record_of copy ≡ option_map record_of origin.now) }
+{
+    match origin {
+        Some(origin) => Ok(Some(origin.copy(alloc)?)),
+        None => Ok(None),
+    }
 }

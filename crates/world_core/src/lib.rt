@@ -6,6 +6,7 @@ mod births;
 mod burials;
 mod counting;
 mod delivery;
+mod descent;
 mod events;
 mod founding;
 mod lives;

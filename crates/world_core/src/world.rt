@@ -1,23 +1,27 @@
 // A world.
-ghost use Rattle.std.specs.Prelude.{◌≡◌, ◌+◌, ◌*◌, ◌<◌, ◌≤◌, IfOk, option_map};
+ghost use Rattle.std.specs.Prelude.{◌≡◌, ◌+◌, ◌*◌, ◌<◌, ◌≤◌, IfOk, map, option_map};
 ghost use Rattle.genome.specs.Genome.{letters};
 ghost use Rattle.log_lines.specs.Line as line_spec;
 ghost use Rattle.log_lines.specs.LineText.{line_text};
 ghost use Rattle.world_config.specs.Shown.{values_of};
+ghost use Rattle.world_rules.specs.Descent.{line_in, link_value};
 ghost use Rattle.world_rules.specs.LogText.{head_text, update_text, end_text};
 ghost use Rattle.world_rules.specs.Statistics.{stats_of};
 ghost use Rattle.world_core.specs.WorldValue.{WorldValue, world_in, genome_in};
 
 use crate::counting::count;
+use crate::descent::descent_in;
 use crate::founding::first_scene;
 use crate::scene::Scene;
 use crate::updating::next;
 use avida_port::{Gate, Memory};
 use genome::Genome;
+use lineage_log::Path;
 use log_lines::{LAST_VERSION, LogLine, Stats, write_line};
 use std::alloc::Global;
 use std::marker::Model;
 use world_config::Config;
+use world_rules::laws::ids_are_places;
 
 /// The updates of the longest run.
 pub const MOST_UPDATES: u32 = 1_000_000;
@@ -62,7 +66,11 @@ impl World {
     }
 
     /// One update, and its lines. After `Memory` no world is left.
-    pub fn advance<G: Gate + Sync>(self, alloc: Global, gate: &G) -> Result<(World, Vec<u8>), Memory>
+    pub fn advance<G: Gate + Sync>(
+        self,
+        alloc: Global,
+        gate: &G,
+    ) -> Result<(World, Vec<u8>), Memory>
         requires { self.update < MOST_UPDATES }
         ensures world { IfOk result (λ next. next.0 ≡ record self { update = self.update + 1 }) }
         ensures text { IfOk result (λ next. next.1.items ≡ update_text self.config (self.update + 1)) }
@@ -134,6 +142,16 @@ impl World {
             Some(occupant) => Some(occupant.organism.genome()),
             None => None,
         }
+    }
+
+    /// The line of who stands in the cell, its founder first; `Ok(None)` exactly where it is empty.
+    pub fn lineage(&self, alloc: Global, cell: u32) -> Result<Option<Path>, Memory>
+        requires { cell < self.now.config.width * self.now.config.height }
+        ensures { IfOk result (λ path.
+            option_map (λ p. map link_value p) path ≡ line_in (world_in self.now) cell) }
+    {
+        ids_are_places();
+        descent_in(alloc, &self.scene, cell)
     }
 }
 
