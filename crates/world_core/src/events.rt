@@ -1,5 +1,5 @@
 // The events of an update.
-ghost use Rattle.std.specs.Prelude.{◌≡◌, ◌+◌, ◌*◌, ◌++◌, ◌<◌, ◌≤◌, ◌^◌, [], ◌∷◌, Some, IsSome, IfOk, OnOk, length};
+ghost use Rattle.std.specs.Prelude.{◌≡◌, ◌+◌, ◌*◌, ◌++◌, ◌<◌, ◌≤◌, [], ◌∷◌, Some, IsSome, IfOk, OnOk, length};
 ghost use Rattle.std.specs.Option.{option_to_list};
 ghost use Rattle.genome.specs.Genome.{letters};
 ghost use Rattle.lineage_log.specs.LogGrammar.{lines_text};
@@ -198,4 +198,73 @@ fn tell_rate(scene: &Scene, name: RateName, ppm: u32, text: &mut Vec<u8>) -> Res
 {
     let update = scene.update;
     write_line(&LogLine::Rate { update, name, ppm }, text)
+}
+
+#[cfg(test)]
+mod tests {
+    use super::*;
+    use crate::counting::count;
+    use log_lines::Stats;
+    use std::test::Fail;
+    use world_config::read;
+
+    /// Two empty cells in update 1.
+    fn empty_scene(alloc: Global) -> Result<Scene, Memory>
+        ensures { IfOk result (λ scene. length scene.cells ≡ 2) }
+    {
+        let mut cells = Vec::new(alloc);
+        cells.push(None)?;
+        cells.push(None)?;
+        Ok(Scene {
+            update: 1,
+            cells,
+            everyone: Vec::new(alloc),
+            gone: Vec::new(alloc),
+        })
+    }
+
+    #[test]
+    fn events_happen_in_the_order_of_the_list(rt: HostRuntime) -> Result<(), Fail> {
+        let alloc = rt.alloc();
+        let document = "width = 2
+height = 1
+updates = 2
+event = [
+  { kind = \"inject\", update = 1, cell = 0, letters = \"aaaaaaaa\" },
+  { kind = \"inject\", update = 1, cell = 1, letters = \"bbbbbbbb\" },
+  { kind = \"inject\", update = 1, cell = 0, letters = \"bbbbbbbbb\" },
+  { kind = \"rate\", update = 1, name = \"copy_error\", ppm = 5 },
+  { kind = \"clear\", update = 1, first = 1, last = 1 },
+  { kind = \"inject\", update = 1, cell = 1, letters = \"bbbbbbbbb\" },
+  { kind = \"clear\", update = 2, first = 0, last = 1 },
+]
+";
+        let Ok(config) = read(alloc, document.as_bytes()) else {
+            return Err("the configuration is refused".into());
+        };
+        assert_eq!(rt; config.width, 2);
+        assert_eq!(rt; config.height, 1);
+        let mut scene = empty_scene(alloc)?;
+        let mut text = Vec::new(alloc);
+        happen(alloc, &config, &mut scene, &mut text)?;
+        let lines = "I 0 1 0 - aaaaaaaa
+I 1 1 1 - bbbbbbbb
+I 2 1 0 0 bbbbbbbbb
+R 1 copy_error 5
+X 1 1 1
+I 3 1 1 - bbbbbbbbb
+";
+        assert_eq!(rt; text.as_slice(), lines.as_bytes());
+        let stats = Stats {
+            update: 1,
+            living: 2,
+            births: 0,
+            deaths: 2,
+            genotypes: 1,
+            merit: 18,
+            tasks: [0; 9],
+        };
+        assert_eq!(rt; count(alloc, &scene, 0)?, stats);
+        Ok(())
+    }
 }
