@@ -1,9 +1,9 @@
 -- The events of an update, one after another.
-use Rattle.std.proofs.Common.{◌≡◌, refl, sym, ◌∙◌, ap, ℕ, ◌+◌, ◌-◌, ◌*◌, ◌<◌, ◌≤◌, true, false, cond, ◌&&◌, nat_le, List, ◌∷◌, ◌++◌, length, drop, get_or, fold, filter, append_assoc, append-nil, arith}
+use Rattle.std.proofs.Common.{◌≡◌, refl, sym, ◌∙◌, ap, ℕ, ◌+◌, ◌-◌, ◌*◌, ◌<◌, ◌≤◌, true, false, cond, ◌&&◌, nat_le, List, ◌∷◌, ◌++◌, length, drop, get_or, fold, filter, append_assoc, arith}
 use Rattle.std.specs.Prelude.{◌==◌}
 use Rattle.std.specs.List.{scan, flat_map, enumerate_from}
 use Rattle.std.proofs.lemmas.Bool.{leb-true, and_parts}
-use Rattle.std.proofs.lemmas.List.{at_drop_more, at_drop_all, get_or-map, length-map}
+use Rattle.std.proofs.lemmas.List.{at_drop_more, get_or-map, length-map}
 use Rattle.std.proofs.lemmas.List.Concat.{flat_map-append}
 use Rattle.std.proofs.lemmas.List.Elements.{All-get_or}
 use Rattle.std.proofs.lemmas.Nat.{mul-le}
@@ -38,12 +38,6 @@ pub record IsOnTheWay (config : Config) (update i : ℕ) (first scene : Scene) (
 pub way-start : (config : Config) (first : Scene) (start : List ℕ) → IsOnTheWay config first.update 0 first first start start
 unfolding after_events events_at
 way-start config first start = record { leads = refl; tells = refl }
-
--- behind the last one
-pub way-end : (config : Config) (update i : ℕ) (first scene : Scene) (start text : List ℕ) → length config.event ≤ i → IsOnTheWay config update i first scene start text → (scene ≡ after_events (values_of config) first) × (text ≡ start ++ lines_text (event_lines (values_of config) first))
-way-end config update i first scene start text all way =
-    let none = at_drop_all (coming update (i + 1)) config.event i all in
-    (sym (ap (fold (after_event (values_of config)) scene) none) ∙ way.leads, sym (append-nil text) ∙ sym (ap (λ events. text ++ coming_text (values_of config) scene events) none) ∙ way.tells)
 
 -- an event of another update
 pub way-past : (config : Config) (update i : ℕ) (e : Event) (first scene : Scene) (start text : List ℕ) → i < length config.event → e ≡ get_or config.event i e → (e.update == update) ≡ false → IsOnTheWay config update i first scene start text → IsOnTheWay config update (i + 1) first scene start text
