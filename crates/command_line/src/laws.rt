@@ -13,8 +13,8 @@ pub fn words_are_read_by_their_form()
         ≡ option_and_then undashed (told_by form (drop 1 words)) }
 {}
 
-/// A form of two positionals and an option is one of these.
-pub fn two_positionals_and_an_option_are_simple()
+/// A form of an option, a flag and two positionals is one of these.
+pub fn an_option_a_flag_and_two_positionals_are_simple()
     ensures { IsSimple (record {
       options = record { name = codes "workers"; default = Some (codes "1") } ∷ [];
       flags = codes "quiet" ∷ [];
