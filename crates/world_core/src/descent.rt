@@ -46,7 +46,8 @@ fn links_back(alloc: Global, everyone: &[Ancestor], id: u64) -> Result<Vec<Link>
     let mut next = Some(id);
     while let Some(id) = next {
         let ancestor = &everyone[id as usize];
-        links.push(ancestor.link(alloc)?)?;
+        let link = ancestor.link(alloc)?;
+        links.push(link)?;
         next = ancestor.parent;
     }
     Ok(links)

@@ -26,7 +26,7 @@ loop-next-preserved c =
       line =
           ap (λ p. line_of_parent lines p ++ reverse (map link_value c.push.new.self.items)) parent
           ∙ ap (λ l. line_of_parent lines ancestor.parent ++ reverse (map link_value l)) pushed
-          ∙ back_more link_value (line_of_parent lines ancestor.parent) ancestor links c.in_ok-link.field-0 linked
+          ∙ back_more link_value (line_of_parent lines ancestor.parent) ancestor links c.in_ok-link.link linked
           ∙ ap (λ l. l ++ reverse (map link_value links)) (sym line)
           ∙ subst (λ next. line_of_parent lines next ++ reverse (map link_value links) ≡ line_of everyone c.args.id) is before.line;
       below = subst (λ p. IsBelow (length everyone) p) (sym parent) (below_more id (length everyone) ancestor.parent (omega (arith, within)) below);
