@@ -68,6 +68,7 @@ done rules o (Some task) h = record {
     organism = record { made = h.organism.made; read = h.organism.read };
     machine = h.machine;
     genome = h.genome;
+    some_merit = h.some_merit;
     merit = h.merit;
   };
   genome = refl;
@@ -85,6 +86,7 @@ put_out rules o output before h =
       organism = record { made = h.organism.made; read = omega arith };
       machine = h.machine;
       genome = h.genome;
+      some_merit = h.some_merit;
       merit = h.merit;
     } in
     let told = done rules next (newly_done o output) sound in
@@ -118,6 +120,7 @@ stepped laws rules o copy h =
       organism = record { made = kept.made ∙ h.organism.made; read = omega (arith, h.organism.read) };
       machine = laws.steps o.machine (next_input o) copy h.machine;
       genome = h.genome;
+      some_merit = h.some_merit;
       merit = h.merit;
     } in
     let told = followed laws rules (older o machine) (step o.machine (next_input o) copy).1 (omega (arith, h.organism.read)) (laws.asks o.machine (next_input o) copy h.machine) sound in
@@ -148,6 +151,18 @@ within rules o ask h asked =
       child_most = omega (arith, asked.viable.child_not_long);
     }
 
+-- a share of a hundredth that is asked leaves something
+some-share : (percent places found : ℕ) → 1 ≤ percent → 1 ≤ places → percent * places ≤ 100 * found → 1 ≤ found
+some-share percent places found asked some share = let product : 1 * 1 ≤ percent * places = mul-le-mul asked some in omega (arith, product, share)
+
+-- a viable divide leaves a merit
+divide_merit : LowerLaws → (rules : DivideRules) (o : OrganismState) (ask : DivideAsk) → IsSoundOrganism o → IsAsked rules o ask → 1 ≤ merit_of (length o.genome) ask.executed ask.copied o.gestation
+divide_merit laws rules o ask h asked =
+    let w : IsWithin rules o ask = within rules o ask h asked in
+    let executed : 1 ≤ ask.executed = some-share rules.executed_percent ask.read ask.executed rules.executed_is_asked (omega (arith, w.read_least)) asked.viable.executed in
+    let copied : 1 ≤ ask.copied = some-share rules.copied_percent (child_length ask) ask.copied rules.copied_is_asked (omega (arith, rules.long_enough, w.child_least)) asked.viable.copied in
+    laws.positive (length o.genome) ask.executed ask.copied o.gestation (omega (arith, h.genome.least)) executed copied
+
 -- the parent after a divide
 born_anew : LowerLaws → (rules : DivideRules) (o : OrganismState) (ask : DivideAsk) → IsSoundOrganism o → IsAsked rules o ask → IsSoundOrganism (renewed o ask)
 unfolding renewed
@@ -158,12 +173,9 @@ born_anew laws rules o ask h asked =
       organism = record { made = h.organism.made; read = omega arith };
       machine = laws.starts (parent_part o.machine.memory ask.read) o.machine.made o.machine.limit (omega (arith, size, w.read_least)) (omega (arith, size, w.read_within, h.machine.greatest)) (omega (arith, size, w.read_most, h.organism.made)) h.machine.made h.machine.limit;
       genome = h.genome;
+      some_merit = divide_merit laws rules o ask h asked;
       merit = laws.bounded (length o.genome) ask.executed ask.copied o.gestation h.genome.greatest;
     }
-
--- a share of a hundredth that is asked leaves something
-some-share : (percent places found : ℕ) → 1 ≤ percent → 1 ≤ places → percent * places ≤ 100 * found → 1 ≤ found
-some-share percent places found asked some share = let product : 1 * 1 ≤ percent * places = mul-le-mul asked some in omega (arith, product, share)
 
 -- the letters of a record that applies
 made-letters : (P : List Letter → Type 0) (made : Result (List Letter) ApplyStop) → IsOkAnd made P → (made ≡ Ok (letters_made made)) × P (letters_made made)
@@ -187,7 +199,7 @@ newborn laws settings words fits s ask h asked =
       form = laws.form words s.next (numbers_of settings.rates) (child_range rules) (clean_text o ask) (written_text o ask) o.genome fits rules.long_enough rules.short_enough (clean ∙ sym written) least most;
       least = made.1.0;
       greatest = made.1.1;
-      some_merit = laws.positive (length o.genome) ask.executed ask.copied o.gestation (omega (arith, h.genome.least)) (some-share rules.executed_percent ask.read ask.executed rules.executed_is_asked (omega (arith, w.read_least)) asked.viable.executed) (some-share rules.copied_percent (child_length ask) ask.copied rules.copied_is_asked (omega (arith, rules.long_enough, w.child_least)) asked.viable.copied);
+      some_merit = divide_merit laws rules o ask h asked;
       merit = laws.bounded (length o.genome) ask.executed ask.copied o.gestation h.genome.greatest;
     }
 
@@ -293,11 +305,12 @@ unfolding life death_in
 lived laws settings words start steps fits h = lived-ended laws settings words fits start steps h (death_in settings words (beginning start) steps) (λ step found. let lt : step < 0 + steps = found-below (dies_at settings words (beginning start)) 0 steps step found in omega arith)
 
 -- the law of a new organism
-pub founded : ((text : List Letter) (made limit : ℕ) → 8 ≤ length text → length text ≤ limit → length text ≤ 2 * made → made ≤ limit → limit ≤ 8192 → IsMachine (fresh_machine text made limit)) → (letters : List Letter) (inputs : List ℕ) (merit : ℕ) (credited : List Bool) (limit : ℕ) → IsGenome letters → length letters ≤ limit → limit ≤ 8192 → merit ≤ 2 ^ 38 → IsSoundOrganism (new_organism letters inputs merit credited limit)
+pub founded : ((text : List Letter) (made limit : ℕ) → 8 ≤ length text → length text ≤ limit → length text ≤ 2 * made → made ≤ limit → limit ≤ 8192 → IsMachine (fresh_machine text made limit)) → (letters : List Letter) (inputs : List ℕ) (merit : ℕ) (credited : List Bool) (limit : ℕ) → IsGenome letters → length letters ≤ limit → limit ≤ 8192 → 1 ≤ merit → merit ≤ 2 ^ 38 → IsSoundOrganism (new_organism letters inputs merit credited limit)
 unfolding new_organism
-founded starts letters inputs merit credited limit genome short few fair = record {
+founded starts letters inputs merit credited limit genome short few some fair = record {
   organism = record { made = refl; read = omega arith };
   machine = starts letters (length letters) limit genome.least short (omega arith) short few;
   genome = genome;
+  some_merit = some;
   merit = fair;
 }

@@ -13,11 +13,12 @@ use Rattle.organism.specs.OrganismState.{OrganismState, IsOrganism}
 use Rattle.organism.specs.Newborns.{NewbornValue}
 use Rattle.organism.specs.UpdateLife.{LifeState}
 
--- an organism with a genome and a machine, all of whose numbers are in range
+-- an organism with a genome, a machine and a merit, all of whose numbers are in range
 pub record IsSoundOrganism (o : OrganismState) : Type 0 where
   pub organism : IsOrganism o
   pub machine : IsMachine o.machine
   pub genome : IsGenome o.genome
+  pub some_merit : 1 ≤ o.merit
   pub merit : o.merit ≤ GREATEST_MERIT
 
 -- a newborn with merit, which its record makes of this genome, and whose record a log can write

@@ -24,12 +24,13 @@ pub fn lives_are_sound()
     virtual_cpu::laws::texts_start_machines();
 }
 
-/// A new organism is sound.
+/// A new organism that has a merit is sound.
 pub fn new_organisms_are_sound()
     ensures { (letters : List Letter) (inputs : List ℕ) (merit : ℕ) (credited : List Bool) (limit : ℕ)
         → IsGenome letters
         → length letters ≤ limit
         → limit ≤ GREATEST_LENGTH
+        → 1 ≤ merit
         → merit ≤ GREATEST_MERIT
         → IsSoundOrganism (new_organism letters inputs merit credited limit) }
 {

@@ -18,3 +18,4 @@ mod Replays
 mod ConfigBounds
 mod Descents
 mod LineDescents
+mod Merits

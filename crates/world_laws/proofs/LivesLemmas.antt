@@ -27,7 +27,7 @@ use Rattle.world_laws.proofs.Scenes.{Each}
 pub record LifeLaws : Type 0 where
   pub lives : (settings : Settings) (words : ℕ → ℕ) (start : OrganismState) (steps : ℕ) → ((k : ℕ) → words k < 2 ^ 32) → IsSoundOrganism start → HasLived settings start steps (life settings words (beginning start) steps).0
   pub words : (seed update cell : ℕ) (purpose : Purpose) (k : ℕ) → draw seed update cell purpose k < 2 ^ 32
-  pub new : (letters : List Letter) (inputs : List ℕ) (merit : ℕ) (credited : List Bool) (limit : ℕ) → IsGenome letters → length letters ≤ limit → limit ≤ GREATEST_LENGTH → merit ≤ GREATEST_MERIT → IsSoundOrganism (new_organism letters inputs merit credited limit)
+  pub new : (letters : List Letter) (inputs : List ℕ) (merit : ℕ) (credited : List Bool) (limit : ℕ) → IsGenome letters → length letters ≤ limit → limit ≤ GREATEST_LENGTH → 1 ≤ merit → merit ≤ GREATEST_MERIT → IsSoundOrganism (new_organism letters inputs merit credited limit)
   pub slices : (merits : List ℕ) (average : ℕ) → sum (slices_of merits average) ≤ average * length merits
 
 -- a newborn as its parent's genome and the configuration's rules want it

@@ -85,7 +85,7 @@ module _ (laws : LifeLaws) (config : ConfigValues) (fit : IsConfig config) where
       let high = greatest_fits config fit in
       let top = fit.greatest in
       let genome : IsGenome b.newborn.genome = record { least = omega (arith, least, low); greatest = omega (arith, greatest, high, top) } in
-      laws.new b.newborn.genome placing.inputs b.newborn.merit b.newborn.credited config.memory_limit genome (omega (arith, greatest, high)) (omega (arith, top)) is.born.merit
+      laws.new b.newborn.genome placing.inputs b.newborn.merit b.newborn.credited config.memory_limit genome (omega (arith, greatest, high)) (omega (arith, top)) is.born.some_merit is.born.merit
 
   goes_birth : (size : ℕ) (start : People) (scene : Scene) (turn : Delivery × Placing) → IsDelivery config size start turn.0 → Goes scene (after_birth config scene turn) 1 1
   unfolding after_birth
@@ -100,9 +100,10 @@ module _ (laws : LifeLaws) (config : ConfigValues) (fit : IsConfig config) where
   pub sound_founder : (cell nth : ℕ) (letters : List Letter) → config.least_length ≤ length letters → length letters ≤ config.greatest_length → IsSoundOrganism (founder_of config cell nth letters)
   unfolding founder_of
   sound_founder cell nth letters least greatest =
+      let low = fit.least in
       let room = fit.room in
       let top = fit.greatest in
-      laws.new letters _ (length letters) no_tasks config.memory_limit (genome_fits config fit letters least greatest) (omega arith) (omega arith) (omega arith)
+      laws.new letters _ (length letters) no_tasks config.memory_limit (genome_fits config fit letters least greatest) (omega arith) (omega arith) (omega arith) (omega arith)
 
   goes_what : (scene : Scene) (nth : ℕ) (what : WhatValue) → FitsWhat config what → Goes scene (after_what config scene nth what) 1 65536
   goes_what scene nth (inject cell letters) fits = goes_more 1 1 1 65536 (goes_newcomer scene (founder_link (next_id scene) scene.update cell letters) (founder_of config cell nth letters) (sound_founder cell nth letters fits.1 fits.2)) (omega arith) (omega arith)

@@ -1,8 +1,11 @@
-// Laws of every run (docs/WORLD.md, "The log of a run" and "Lines of descent").
-ghost use Rattle.std.specs.Prelude.{ℕ, IfSome};
+// Laws of every run (docs/WORLD.md, "Time slices", "The log of a run" and "Lines of descent").
+ghost use Rattle.std.specs.Prelude.{◌≡◌, ℕ, ◌≤◌, ◌^◌, IfSome, Some, map, sum, slice_get};
+ghost use Rattle.organism.specs.Lived.{IsSoundOrganism};
 ghost use Rattle.world_config.specs.Shown.{values_of};
 ghost use Rattle.world_rules.specs.Descent.{line_in};
 ghost use Rattle.world_rules.specs.Laws.{ReplaysToLiving};
+ghost use Rattle.world_rules.specs.Lives.{merit_in};
+ghost use Rattle.world_rules.specs.World.{Occupant};
 ghost use Rattle.world_rules.specs.WorldRun.{world_after};
 ghost use Rattle.world_laws.specs.Heredity.{AreDescended, IsDescent};
 
@@ -32,4 +35,17 @@ pub fn genomes_come_from_parents(config: &Config, updates: u32)
     random_streams::laws::words_fit();
     world_rules::laws::ids_are_places();
     world_rules::laws::lines_come_from_parents();
+}
+
+/// Each organism of a world is sound, with a merit of its own, and all merits together are few.
+pub fn organisms_are_sound(config: &Config, updates: u32)
+    ensures each { (cell : ℕ) (occupant : Occupant)
+        → slice_get (world_after (values_of config.now) updates).cells cell ≡ Some (Some occupant)
+        → IsSoundOrganism occupant.organism }
+    ensures merits { sum (map merit_in (world_after (values_of config.now) updates).cells) ≤ 2 ^ 54 }
+{
+    merit_slices::laws::slices_are_few();
+    organism::laws::lives_are_sound();
+    organism::laws::new_organisms_are_sound();
+    random_streams::laws::words_fit();
 }
