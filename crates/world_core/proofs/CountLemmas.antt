@@ -21,7 +21,7 @@ use Rattle.world_rules.specs.World.{Occupant, id_of, ids_of}
 use Rattle.world_rules.specs.Lives.{merit_in}
 use Rattle.world_rules.specs.Scene.{Scene}
 use Rattle.world_rules.specs.Statistics.{organism_in, organisms_in, genomes_in, different, credited_with, stats_in, scene_stats}
-use Rattle.world_core.specs.Soundness.{AreSound, IsSoundIn}
+use Rattle.world_core.specs.Soundness.{AreBounded, IsBoundedIn}
 use Rattle.world_core.specs.declared.counting.Tally.{Tally}
 use Rattle.world_core.specs.Tally.{IsTallyOf, IsSmall, letters_in, with_genome}
 use Rattle.world_core.proofs.DifferentLemmas.{distinct, distinct_push}
@@ -106,12 +106,12 @@ tally-small cells tally is few merits =
       tasks = All-same P tally.tasks _ is.tasks (All-map P (credited_with cells) all_tasks (λ k task within. omega (arith, organisms_in-few cells, count_by-le-length (λ o. has_task o.credited (get_or all_tasks k task)) (organisms_in cells))));
     }
 
--- merits are bounded in a sound world
-pub merits-bounded : (update : ℕ) (cells : List (Option Occupant)) → AreSound update cells → All (λ slot. merit_in slot ≤ GREATEST_MERIT) cells
+-- merits are bounded in a bounded world
+pub merits-bounded : (update : ℕ) (cells : List (Option Occupant)) → AreBounded update cells → All (λ slot. merit_in slot ≤ GREATEST_MERIT) cells
 merits-bounded update cells sound =
-    All-weaker (IsSoundIn update) (λ slot. merit_in slot ≤ GREATEST_MERIT) bounded cells sound
+    All-weaker (IsBoundedIn update) (λ slot. merit_in slot ≤ GREATEST_MERIT) bounded cells sound
   where
-    bounded : (slot : Option Occupant) → IsSoundIn update slot → merit_in slot ≤ GREATEST_MERIT
+    bounded : (slot : Option Occupant) → IsBoundedIn update slot → merit_in slot ≤ GREATEST_MERIT
     bounded None sound = omega arith
     bounded (Some o) sound = sound.merit
 

@@ -14,7 +14,7 @@ use Rattle.world_config.specs.Values.{ConfigValues}
 use Rattle.world_rules.specs.World.{Occupant}
 use Rattle.world_rules.specs.Lives.{CellLife, no_life, life_of, life_at, lives_of, slices_at}
 use Rattle.world_rules.specs.Update.{Delivery, delivery_of, births_by, births_in, births_of, deaths_of}
-use Rattle.world_core.specs.Soundness.{AreSound, AreDeliveries, IsDelivery, IsSoundIn}
+use Rattle.world_core.specs.Soundness.{AreBounded, AreDeliveries, IsDelivery, IsBoundedIn}
 
 -- a numbered list with one more at its end
 enumerate_from-push : {X : Type 0} (k : ℕ) (xs : List X) (x : X) → enumerate_from k (xs ++ x ∷ []) ≡ enumerate_from k xs ++ (k + length xs, x) ∷ []
@@ -178,7 +178,7 @@ pub record HaveLived (config : ConfigValues) (update : ℕ) (start : List (Optio
   pub cells_are : cells ≡ map (λ l. l.occupant) (first_lives config update start n) ++ drop n start
   pub births_are : births ≡ births_of (first_lives config update start n)
   pub dead_are : dead ≡ deaths_of (first_lives config update start n)
-  pub sound : AreSound update (map (λ l. l.occupant) (first_lives config update start n))
+  pub sound : AreBounded update (map (λ l. l.occupant) (first_lives config update start n))
   pub each : All (IsDelivery config (length start)) births
   pub few : length births ≤ sum (take n slices)
 
@@ -189,22 +189,22 @@ HaveLived-none config update start slices births dead unborn alive = record {
   cells_are = refl;
   births_are = unborn;
   dead_are = alive;
-  sound = All-nil (IsSoundIn update);
+  sound = All-nil (IsBoundedIn update);
   each = All-same (IsDelivery config (length start)) births [] unborn (All-nil (IsDelivery config (length start)));
   few = omega (arith, ap length unborn);
 }
 
 -- who stands in the next cell is sound as at the start
-pub HaveLived-next : (config : ConfigValues) (update before : ℕ) (start : List (Option Occupant)) (slices : List ℕ) (n : ℕ) (cells : List (Option Occupant)) (births : List Delivery) (dead : List ℕ) (d : Option Occupant) → HaveLived config update start slices n cells births dead → n < length start → AreSound before start → IsSoundIn before (get_or cells n d)
+pub HaveLived-next : (config : ConfigValues) (update before : ℕ) (start : List (Option Occupant)) (slices : List ℕ) (n : ℕ) (cells : List (Option Occupant)) (births : List Delivery) (dead : List ℕ) (d : Option Occupant) → HaveLived config update start slices n cells births dead → n < length start → AreBounded before start → IsBoundedIn before (get_or cells n d)
 HaveLived-next config update before start slices n cells births dead d so_far within sound =
     let next = cell-next start cells (first_lives config update start n) n d (length-map-range_with_len (life_at config update start) 0 n) within so_far.cells_are in
-    subst (IsSoundIn before) (sym next) (sound n d within)
+    subst (IsBoundedIn before) (sym next) (sound n d within)
 
 -- one more cell has
 pub HaveLived-more : (config : ConfigValues) (update : ℕ) (start : List (Option Occupant)) (slices : List ℕ) (n : ℕ) (cells : List (Option Occupant)) (births next_births : List Delivery) (dead next_dead : List ℕ) (steps : ℕ) (old slot : Option Occupant) (died : Bool) (newborns : List Newborn)
     → HaveLived config update start slices n cells births dead → n < length start → slices ≡ slices_at config start → length slices ≡ length start → steps ≡ get_or slices n 0 → old ≡ get_or cells n None
     → life_of config update n steps old ≡ record { occupant = slot; died = died; newborns = map newborn_value newborns }
-    → IsSoundIn update slot → length newborns ≤ steps → MeritsFit newborns → LengthsFit config.greatest_length newborns
+    → IsBoundedIn update slot → length newborns ≤ steps → MeritsFit newborns → LengthsFit config.greatest_length newborns
     → next_births ≡ births ++ births_by n (map newborn_value newborns) slot → next_dead ≡ dead ++ cond died (n ∷ []) []
     → HaveLived config update start slices (n + 1) (set cells n slot) next_births next_dead
 HaveLived-more config update start slices n cells births next_births dead next_dead steps old slot died newborns so_far within shared long here was lived sound few merits lengths born gone =
@@ -220,7 +220,7 @@ HaveLived-more config update start slices n cells births next_births dead next_d
       cells_are = cells-push start cells lives l n size within so_far.cells_are ∙ ap (λ ls. map (λ (c : CellLife). c.occupant) ls ++ drop (n + 1) start) (sym more);
       births_are = born ∙ ap (λ bs. bs ++ births_in (n, l)) so_far.births_are ∙ sym (births_of-push lives l n size) ∙ ap births_of (sym more);
       dead_are = gone ∙ ap (λ ds. ds ++ cond died (n ∷ []) []) so_far.dead_are ∙ sym (deaths_of-push lives l n size) ∙ ap deaths_of (sym more);
-      sound = All-same (IsSoundIn update) _ _ (ap (map (λ (c : CellLife). c.occupant)) more ∙ map-append (λ (c : CellLife). c.occupant) lives (l ∷ [])) (All-push (IsSoundIn update) (map (λ (c : CellLife). c.occupant) lives) slot so_far.sound sound);
+      sound = All-same (IsBoundedIn update) _ _ (ap (map (λ (c : CellLife). c.occupant)) more ∙ map-append (λ (c : CellLife). c.occupant) lives (l ∷ [])) (All-push (IsBoundedIn update) (map (λ (c : CellLife). c.occupant) lives) slot so_far.sound sound);
       each = All-same (IsDelivery config (length start)) _ _ born (All-append (IsDelivery config (length start)) births (births_by n (map newborn_value newborns) slot) so_far.each (births_by-fit config (length start) n newborns slot within merits lengths));
       few = omega (arith, ap length born, length-append births (births_by n (map newborn_value newborns) slot), births_by-few n newborns slot, so_far.few, steps_more);
     }
@@ -238,8 +238,8 @@ module _ (config : ConfigValues) (update : ℕ) (start : List (Option Occupant))
   pub all-cells : cells ≡ map (λ l. l.occupant) (lives_of config update start)
   all-cells = cells_front ∙ ap (map (λ (c : CellLife). c.occupant)) lives_all
 
-  pub all-sound : AreSound update cells
-  all-sound = All-same (IsSoundIn update) _ _ cells_front so_far.sound
+  pub all-sound : AreBounded update cells
+  all-sound = All-same (IsBoundedIn update) _ _ cells_front so_far.sound
 
   pub all-births : births ≡ births_of (lives_of config update start)
   all-births = so_far.births_are ∙ ap births_of lives_all

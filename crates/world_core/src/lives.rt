@@ -6,7 +6,7 @@ ghost use Rattle.world_config.specs.Shown.{values_of};
 ghost use Rattle.world_rules.specs.Lives.{is_death, life_of, lives_of, merit_in, slices_at};
 ghost use Rattle.world_rules.specs.Settings.{settings_at};
 ghost use Rattle.world_rules.specs.Update.{births_by, births_of, deaths_of, delivery_of};
-ghost use Rattle.world_core.specs.Soundness.{AreSound, AreDeliveries, IsSound, IsSoundIn, MOST_STEPS};
+ghost use Rattle.world_core.specs.Soundness.{AreBounded, AreDeliveries, IsBounded, IsBoundedIn};
 
 use crate::delivery::Delivery;
 use crate::occupant::Occupant;
@@ -41,10 +41,10 @@ pub(crate) fn live(
 ) -> Result<Lived, Memory>
     requires cells { length cells.old ≤ CELLS }
     requires update { update < 1000000 }
-    requires sound { AreSound update cells.old }
+    requires sound { AreBounded update cells.old }
     ensures cells { OnOk result (cells.new
         ≡ map (λ l. l.occupant) (lives_of (values_of config.now) (update + 1) cells.old)) }
-    ensures sound { OnOk result (AreSound (update + 1) cells.new) }
+    ensures sound { OnOk result (AreBounded (update + 1) cells.new) }
     ensures births { IfOk result (λ lived. lived.births.items
         ≡ births_of (lives_of (values_of config.now) (update + 1) cells.old)) }
     ensures deliveries { IfOk result (λ lived.
@@ -81,8 +81,8 @@ fn slices_of(alloc: Global, config: &Config, cells: &[Option<Occupant>]) -> Resu
     requires cells { length cells.now ≤ CELLS }
     requires merits { All (λ slot. merit_in slot ≤ GREATEST_MERIT) cells.now }
     ensures slices { IfOk result (λ slices. slices.items ≡ slices_at (values_of config.now) cells.now) }
-    ensures few { IfOk result (λ slices. (cell : ℕ) → slice_index_or slices.items cell 0 < MOST_STEPS) }
-    ensures total { IfOk result (λ slices. sum slices.items < MOST_STEPS) }
+    ensures few { IfOk result (λ slices. (cell : ℕ) → slice_index_or slices.items cell 0 < LIFE_STEPS) }
+    ensures total { IfOk result (λ slices. sum slices.items < LIFE_STEPS) }
     ensures length { IfOk result (λ slices. length slices.items ≡ length cells.now) }
 {
     let merits = merits_of(alloc, cells)?;
@@ -125,10 +125,10 @@ fn live_in(
     requires steps { steps < LIFE_STEPS }
     requires update { update < 1000000 }
     requires settings { settings.now ≡ settings_at (values_of config.now) (update + 1) }
-    requires sound { IsSoundIn update slot.old }
+    requires sound { IsBoundedIn update slot.old }
     ensures life { IfOk result (λ life. life_of (values_of config.now) (update + 1) cell steps slot.old
         ≡ record { occupant = slot.new; died = life.died; newborns = map newborn_value (newborns_in life.births) }) }
-    ensures sound { OnOk result (IsSoundIn (update + 1) slot.new) }
+    ensures sound { OnOk result (IsBoundedIn (update + 1) slot.new) }
     ensures few { IfOk result (λ life. length (newborns_in life.births) ≤ steps) }
     ensures merits { IfOk result (λ life. MeritsFit (newborns_in life.births)) }
     ensures lengths { IfOk result (λ life. LengthsFit settings.now.rules.greatest (newborns_in life.births)) }
@@ -156,10 +156,10 @@ fn live_once(
     requires steps { steps < LIFE_STEPS }
     requires update { update < 1000000 }
     requires settings { settings.now ≡ settings_at (values_of config.now) (update + 1) }
-    requires sound { IsSound update occupant.old.organism }
+    requires sound { IsBounded update occupant.old.organism }
     ensures life { IfOk result (λ life. life_of (values_of config.now) (update + 1) cell steps (Some occupant.old)
         ≡ record { occupant = Some occupant.new; died = life.died; newborns = map newborn_value (newborns_in life.births) }) }
-    ensures sound { OnOk result (IsSound (update + 1) occupant.new.organism) }
+    ensures sound { OnOk result (IsBounded (update + 1) occupant.new.organism) }
     ensures few { IfOk result (λ life. length (newborns_in life.births) ≤ steps) }
     ensures merits { IfOk result (λ life. MeritsFit (newborns_in life.births)) }
     ensures lengths { IfOk result (λ life. LengthsFit settings.now.rules.greatest (newborns_in life.births)) }

@@ -21,7 +21,7 @@ pub(crate) struct Scene {
 
 impl Model for Scene {
     ghost use Rattle.world_rules.specs.Scene.{Scene};
-    ghost use Rattle.world_core.specs.Soundness.{AreSound};
+    ghost use Rattle.world_core.specs.Soundness.{AreBounded};
 
     ghost Value = { Scene };
 
@@ -32,7 +32,7 @@ impl Model for Scene {
       gone = s.gone.items;
     } };
 
-    ghost invariant = { λ s. AreSound s.update s.cells.items };
+    ghost invariant = { λ s. AreBounded s.update s.cells.items };
 }
 
 impl Scene {
