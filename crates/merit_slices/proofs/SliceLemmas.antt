@@ -1,6 +1,7 @@
 -- Quotients that rise, and their differences.
-use Rattle.std.proofs.Common.{ℕ, zero, suc, ◌+◌, ◌*◌, ◌<◌, ◌≤◌, ◌^◌, List, length, take, map, sum, get_or, subst, add-one, arith, inl, inr}
-use Rattle.std.proofs.Math.Nat.{div-mul-le_self, mul-le-mul_left, mul-le-mul, div-le_of_le-mul}
+use Rattle.std.proofs.Common.{◌≡◌, ◌∙◌, ap, ℕ, zero, suc, ◌+◌, ◌*◌, ◌<◌, ◌≤◌, ◌^◌, List, length, take, map, sum, get_or, subst, add-one, arith, inl, inr}
+use Rattle.std.proofs.Math.Nat.{div-mul-le_self, mul-le-mul_left, mul-le-mul, div-le_of_le-mul, mul-div_cancel}
+use Rattle.std.proofs.Math.Seq.{take-length}
 use Rattle.std.proofs.lemmas.Bool.{cases_lt}
 use Rattle.std.proofs.Math.ListN.{get_or-eq_default}
 use Rattle.std.proofs.lemmas.Nat.{le-div}
@@ -35,16 +36,21 @@ shares_of-few merits steps cell =
 pub steps-few : (average living : ℕ) → average ≤ 1000 → living ≤ 65536 → average * living < 2 ^ 27
 steps-few average living few cells = omega (arith, mul-le-mul few cells)
 
--- the shares of the first cells are together no more than the steps before the next one
-sum-shares-le : (merits : List ℕ) (steps n : ℕ) → 0 < sum merits → n ≤ length merits → sum (map (share_of merits steps) (range_with_len 0 n)) ≤ steps_before merits steps n
-sum-shares-le merits steps zero some within = omega arith
-sum-shares-le merits steps (suc n) some within =
+-- the shares of the first cells are together the steps before the next one
+sum-shares : (merits : List ℕ) (steps n : ℕ) → 0 < sum merits → n ≤ length merits → sum (map (share_of merits steps) (range_with_len 0 n)) ≡ steps_before merits steps n
+sum-shares merits steps zero some within =
+    let nothing : quota steps 0 (sum merits) ≤ 0 = div-le_of_le-mul (sum merits) (omega arith) in
+    omega (arith, nothing)
+sum-shares merits steps (suc n) some within =
     let more = sum_by_more (λ x. x) merits n 0 (omega arith) in
     let rises : steps_before merits steps n ≤ steps_before merits steps (n + 1) = quota-le-quota steps (sum (take n merits)) (sum (take (n + 1) merits)) (sum merits) some (omega (arith, more)) in
     let one = sum_by-map-range_with_len_more (λ x. x) (share_of merits steps) 0 n n (omega arith) in
-    let all : sum (map (share_of merits steps) (range_with_len 0 (n + 1))) ≤ steps_before merits steps (n + 1) = omega (arith, one, sum-shares-le merits steps n some (omega arith), rises) in
-    subst (λ (k : ℕ). sum (map (share_of merits steps) (range_with_len 0 k)) ≤ steps_before merits steps k) (add-one n) all
+    let all : sum (map (share_of merits steps) (range_with_len 0 (n + 1))) ≡ steps_before merits steps (n + 1) = omega (arith, one, sum-shares merits steps n some (omega arith), rises) in
+    subst (λ (k : ℕ). sum (map (share_of merits steps) (range_with_len 0 k)) ≡ steps_before merits steps k) (add-one n) all
 
--- all shares are together no more than all steps
-pub sum-shares_of-le : (merits : List ℕ) (steps : ℕ) → 0 < sum merits → sum (shares_of merits steps) ≤ steps
-sum-shares_of-le merits steps some = omega (arith, sum-shares-le merits steps (length merits) some (omega arith), quota-le steps (sum (take (length merits) merits)) (sum merits) (sum_by-take-le (λ x. x) merits (length merits)))
+-- all shares are together all steps
+pub sum-shares_of : (merits : List ℕ) (steps : ℕ) → 0 < sum merits → sum (shares_of merits steps) ≡ steps
+sum-shares_of merits steps some =
+    sum-shares merits steps (length merits) some (omega arith)
+    ∙ ap (λ part. quota steps (sum part) (sum merits)) (take-length merits)
+    ∙ mul-div_cancel steps some

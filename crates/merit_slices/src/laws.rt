@@ -1,6 +1,6 @@
-ghost use Rattle.std.specs.Prelude.{ℕ, ◌*◌, ◌≤◌, Bool, List, sum, length};
+ghost use Rattle.std.specs.Prelude.{◌≡◌, ℕ, ◌*◌, ◌<◌, ◌≤◌, Bool, List, sum, length};
 ghost use Rattle.merit_slices.specs.Merit.{merit_of};
-ghost use Rattle.merit_slices.specs.Slices.{slices_of};
+ghost use Rattle.merit_slices.specs.Slices.{living_in, slices_of};
 
 use crate::merits::{GREATEST_LENGTH, GREATEST_MERIT};
 
@@ -14,6 +14,13 @@ pub fn merits_are_bounded()
         → 1 ≤ executed
         → 1 ≤ copied
         → 1 ≤ merit_of genome_length executed copied tasks }
+{}
+
+/// All cells together get all steps, the average for each that lives, where there is a merit.
+pub fn slices_are_all_steps()
+    ensures { (merits : List ℕ) (average : ℕ)
+        → 0 < sum merits
+        → sum (slices_of merits average) ≡ average * living_in merits }
 {}
 
 /// All cells together get no more steps than the average for each.

@@ -1,6 +1,6 @@
 use Rattle.std.proofs.Common.{◌*◌, ◌≡◌, ◌<◌, ◌≤◌, ◌^◌, length, sum, rules, arith}
 use Rattle.std.proofs.Math.Nat.{mul-le-mul}
-use Rattle.merit_slices.proofs.SliceLemmas.{shares_of-few, steps-few, sum-shares_of-le}
+use Rattle.merit_slices.proofs.SliceLemmas.{shares_of-few, steps-few, sum-shares_of}
 use Rattle.merit_slices.proofs.slices.share.Goals as goal
 
 pub returns-clause-few : goal.returns-clause-few
@@ -14,5 +14,5 @@ returns-clause-total c =
     let some : 0 < sum c.args.merits.now = omega (arith, all, c.if-all-eq0.false) in
     let wide : c.from.result ≡ c.args.average = search rules in
     let most : c.from.result * c.living.result ≤ c.args.average * length c.args.merits.now = mul-le-mul (omega (arith, wide)) (omega arith) in
-    let dealt = sum-shares_of-le c.args.merits.now (c.from.result * c.living.result) some in
+    let dealt = sum-shares_of c.args.merits.now (c.from.result * c.living.result) some in
     rw c.deal.ensures (omega (arith, dealt, most))
