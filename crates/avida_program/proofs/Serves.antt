@@ -2,6 +2,7 @@
 use Rattle.std.proofs.Common.{◌≡◌, ◌≢◌, ℕ, List, Option, Some, Result, sym, subst, refl, inl, inr}
 use Rattle.avida_port.specs.Ports.{SourceState, SinkState}
 use Rattle.world_core.specs.WorldValue.{WorldValue}
+use Rattle.world_rules.specs.Laws.{ReplaysToLiving}
 use Rattle.avida_program.proofs.PutLemmas.{nothing_gained}
 use Rattle.avida_program.specs.declared.status.Status.TheVariants as status
 use Rattle.avida_program.specs.declared.outcome.Outcome.{Outcome}
@@ -105,12 +106,22 @@ serves_input read text_of source out watch err outcome.NoMemory w h t = record {
 -- the world that is left where all is done
 left_by : (bytes : List ℕ) (last : Change (Option WorldValue)) (told : Outcome) → LeavesLast bytes last told → status_of told ≡ status.Done
     → IsInputWith (configuration_of bytes) (λ config. last.after ≡ Some (final_world config))
-left_by bytes last outcome.Done h e = h
+left_by bytes last outcome.Done h e = (h.0, h.1, h.2.world)
 left_by bytes last outcome.BadWords h e = absurd (cc)
 left_by bytes last (outcome.BadInput why) h e = absurd (cc)
 left_by bytes last outcome.ReadFault h e = absurd (cc)
 left_by bytes last outcome.WriteFault h e = absurd (cc)
 left_by bytes last outcome.NoMemory h e = absurd (cc)
+
+-- the log of a run that came to its end replays to the living
+replayed_by : (bytes : List ℕ) (last : Change (Option WorldValue)) (told : Outcome) → LeavesLast bytes last told → status_of told ≡ status.Done
+    → IsInputWith (configuration_of bytes) (λ config. ReplaysToLiving config config.updates)
+replayed_by bytes last outcome.Done h e = (h.0, h.1, h.2.replays)
+replayed_by bytes last outcome.BadWords h e = absurd (cc)
+replayed_by bytes last (outcome.BadInput why) h e = absurd (cc)
+replayed_by bytes last outcome.ReadFault h e = absurd (cc)
+replayed_by bytes last outcome.WriteFault h e = absurd (cc)
+replayed_by bytes last outcome.NoMemory h e = absurd (cc)
 
 -- what was there stays in every other case
 kept_by : (bytes : List ℕ) (last : Change (Option WorldValue)) (told : Outcome) → LeavesLast bytes last told → status_of told ≢ status.Done → Stays last
@@ -126,5 +137,6 @@ pub serves_run : (bytes : List ℕ) (source : Change SourceState) (out watch err
 serves_run bytes source out watch err last told w h t = record {
   serves = serves_input _ _ source out watch err told w h.reads t;
   last_world = λ e. left_by bytes last told h.leaves e;
+  replays = λ e. replayed_by bytes last told h.leaves e;
   last_stays = λ e. kept_by bytes last told h.leaves e;
 }

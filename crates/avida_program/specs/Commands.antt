@@ -9,6 +9,7 @@ use Rattle.lineage_log.specs.LogGrammar.{lines_text}
 use Rattle.lineage_log.specs.Replay.{Resident, replay_of}
 use Rattle.lineage_log.specs.Upgrade.{upgraded}
 use Rattle.world_config.specs.Values.{ConfigValues}
+use Rattle.world_rules.specs.Laws.{ReplaysToLiving}
 use Rattle.world_rules.specs.LogText.{log_text}
 use Rattle.world_core.specs.WorldValue.{WorldValue}
 use Rattle.avida_program.specs.declared.command.Spelling.{Spelling}
@@ -139,6 +140,9 @@ pub record ServesRun (bytes : List ℕ) (source : Change SourceState)
   -- Done: the world after the last update is left
   pub last_world : s ≡ status.Done
       → IsInputWith (configuration_of bytes) (λ config. last.after ≡ Some (final_world config))
+  -- Done: the log is a good one, and replays to who lives in that world
+  pub replays : s ≡ status.Done
+      → IsInputWith (configuration_of bytes) (λ config. ReplaysToLiving config config.updates)
   -- else what was there stays
   pub last_stays : s ≢ status.Done → Stays last
 

@@ -3,7 +3,9 @@ use Rattle.std.specs.Prelude.{◌≡◌, ◌<◌, ◌⊎◌, ⊤, ℕ, List, len
 use Rattle.avida_port.specs.Ports.{SourceState, SinkState, AtEnd, CountsClimb, Gained}
 use Rattle.avida_port.specs.declared.sink.SinkStop.{SinkStop}
 use Rattle.avida_port.specs.declared.sink.SinkStop.TheVariants.{Fault, Memory}
+use Rattle.world_config.specs.Values.{ConfigValues}
 use Rattle.world_core.specs.WorldValue.{WorldValue}
+use Rattle.world_rules.specs.Laws.{ReplaysToLiving}
 use Rattle.avida_program.specs.declared.command.Spelling.{Spelling}
 use Rattle.avida_program.specs.declared.outcome.Outcome.{Outcome}
 use Rattle.avida_program.specs.declared.outcome.Outcome.TheVariants as outcome
@@ -92,10 +94,14 @@ abbrev pub Traces : ℕ → Spelling → List ℕ → Change SourceState → Cha
 Traces steps spelling bytes source out told =
     ReadsInput (genome_of spelling bytes) (λ genome. trace_text genome steps) source out told
 
+-- a run that came to its end leaves its last world, and its log replays to who lives there
+pub record LeavesWorld (last : Change (Option WorldValue)) (config : ConfigValues) : Type 0 where
+  pub world : last.after ≡ Some (final_world config)
+  pub replays : ReplaysToLiving config config.updates
+
 -- a run leaves its last world where all is done, and else what was there
 abbrev pub LeavesLast : List ℕ → Change (Option WorldValue) → Outcome → Type 0
-LeavesLast bytes last outcome.Done =
-    IsInputWith (configuration_of bytes) (λ config. last.after ≡ Some (final_world config))
+LeavesLast bytes last outcome.Done = IsInputWith (configuration_of bytes) (LeavesWorld last)
 LeavesLast bytes last told = Stays last
 
 -- `run` on these bytes

@@ -3,6 +3,7 @@ ghost use Rattle.std.specs.Prelude.{◌≡◌, ◌≢◌, ◌≤◌, ◌<◌, �
 ghost use Rattle.world_config.specs.Shown.{values_of};
 ghost use Rattle.world_core.specs.declared.world.TheConstants.{MOST_UPDATES, MOST_WORKERS};
 ghost use Rattle.world_core.specs.WorldValue.{WorldValue};
+ghost use Rattle.world_rules.specs.Laws.{ReplaysToLiving};
 ghost use Rattle.world_rules.specs.LogText.{head_text, update_text, updates_text, end_text, log_text};
 ghost use Rattle.avida_program.specs.Commands.{Stays, change, final_world, run_text};
 ghost use Rattle.avida_program.specs.Outcomes.{HasCauses, Runs, WritesAll};
@@ -13,6 +14,7 @@ use avida_port::{Gate, Sink, Source};
 use std::alloc::Global;
 use world_config::Config;
 use world_core::World;
+use world_core::laws::replay_gives_living;
 
 fn write_first<O: Sink>(alloc: Global, world: &World, out: &mut O) -> Result<(), Outcome>
     ensures { WritesAll (O.seen out.old) (O.seen out.new) (head_text world.now.config) result }
@@ -78,8 +80,10 @@ fn write_log<O: Sink, G: Gate + Sync>(
     requires workers { (1 ≤ workers) × (workers ≤ MOST_WORKERS) }
     ensures world { IfOk result (λ world. world ≡ final_world (values_of config)) }
     ensures text { WritesAll (O.seen out.old) (O.seen out.new) (run_text (values_of config)) result }
+    ensures replays { ReplaysToLiving (values_of config) config.updates }
 {
     let updates = config.updates;
+    replay_gives_living(&config, updates);
     let world = World::found(alloc, config, workers)?;
     write_first(alloc, &world, out)?;
     let world = write_updates(alloc, world, updates, out, gate)?;
