@@ -52,3 +52,45 @@ fn links_back(alloc: Global, everyone: &[Ancestor], id: u64) -> Result<Vec<Link>
     }
     Ok(links)
 }
+
+#[cfg(test)]
+mod tests {
+    use super::*;
+    use crate::world::World;
+    use avida_port::NoGate;
+    use std::test::Fail;
+    use world_config::read;
+
+    /// Each id, and its parent's.
+    fn ids_of(alloc: Global, path: Path) -> Result<String, Fail> {
+        let mut text = String::new(alloc);
+        for link in &path.into_vec() {
+            text.push_str(format!(in alloc; "{} of {:?}, ", link.id, link.parent)?.as_str())?;
+        }
+        Ok(text)
+    }
+
+    #[test]
+    fn a_line_begins_with_a_founder(rt: HostRuntime) -> Result<(), Fail> {
+        let alloc = rt.alloc();
+        // The founder divides once, into the other cell, and another founder takes its own.
+        let document = "width = 2
+height = 1
+average_slices = 400
+event = [{ kind = \"inject\", update = 1, cell = 0, letters = \"aaaaaaaa\" }]
+";
+        let Ok(config) = read(alloc, document.as_bytes()) else {
+            return Err("the configuration is refused".into());
+        };
+        let world = World::found(alloc, config, 1)?;
+        let (world, _) = world.advance(alloc, &NoGate)?;
+        for (cell, ids) in [(0, "2 of None, "), (1, "0 of None, 1 of Some(0), ")] {
+            assert!(rt; cell < world.cells());
+            let Some(path) = world.lineage(alloc, cell)? else {
+                return Err("the cell is empty".into());
+            };
+            assert_eq!(rt; ids_of(alloc, path)?.as_str(), ids);
+        }
+        Ok(())
+    }
+}
