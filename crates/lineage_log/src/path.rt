@@ -4,7 +4,7 @@ ghost use Rattle.std.specs.Option.{option_copied};
 use crate::link::Link;
 use std::marker::Model;
 
-/// A line of descent, the founder first.
+/// A line of descent. Who makes one hands in the founder first.
 #[derive(Debug, Drop)]
 pub struct Path {
     items: Vec<Link>,

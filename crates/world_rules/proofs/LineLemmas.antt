@@ -6,14 +6,14 @@ use Rattle.std.proofs.Math.Seq.{get_or-append_seam}
 use Rattle.world_rules.specs.World.{Link}
 use Rattle.world_rules.specs.Descent.{line_of_parent, with_line, lines_of, line_of, IsBelow, AreNumbered}
 
-grown : (lines : List (List Link)) (link : Link) → length (with_line lines link) ≡ length lines + 1
-grown lines link = length-append lines ((line_of_parent lines link.parent ++ link ∷ []) ∷ [])
+length-with_line : (lines : List (List Link)) (link : Link) → length (with_line lines link) ≡ length lines + 1
+length-with_line lines link = length-append lines ((line_of_parent lines link.parent ++ link ∷ []) ∷ [])
 
 -- lines that are there stay
 line_kept : (lines : List (List Link)) (links : List Link) (id : ℕ) → id < length lines → get_or (fold with_line lines links) id [] ≡ get_or lines id []
 line_kept lines [] id within = refl
 line_kept lines (link ∷ links) id within =
-    line_kept (with_line lines link) links id (omega (arith, within, grown lines link))
+    line_kept (with_line lines link) links id (omega (arith, within, length-with_line lines link))
     ∙ get_or-append lines ((line_of_parent lines link.parent ++ link ∷ []) ∷ []) [] id within
 
 parent_kept : (lines : List (List Link)) (links : List Link) (parent : Option ℕ) → IsBelow (length lines) parent → line_of_parent (fold with_line lines links) parent ≡ line_of_parent lines parent
@@ -31,11 +31,11 @@ line_there lines (first ∷ links) zero link there below =
     let parent : IsBelow (length lines) link.parent = subst (λ n. IsBelow n link.parent) none below in
     subst (λ f. get_or (fold with_line lines (f ∷ links)) (length lines + 0) [] ≡ line_of_parent (fold with_line lines (f ∷ links)) link.parent ++ link ∷ []) (sym same)
     (ap (λ n. get_or all n []) none
-    ∙ line_kept (with_line lines link) links (length lines) (omega (arith, grown lines link))
+    ∙ line_kept (with_line lines link) links (length lines) (omega (arith, length-with_line lines link))
     ∙ get_or-append_seam lines (line_of_parent lines link.parent ++ link ∷ []) [] []
     ∙ ap (λ l. l ++ link ∷ []) (sym (parent_kept lines (link ∷ links) link.parent parent)))
 line_there lines (first ∷ links) (suc place) link there below =
-    let next : length lines + suc place ≡ length (with_line lines first) + place = omega (arith, grown lines first) in
+    let next : length lines + suc place ≡ length (with_line lines first) + place = omega (arith, length-with_line lines first) in
     ap (λ n. get_or (fold with_line (with_line lines first) links) n []) next
     ∙ line_there (with_line lines first) links place link there (subst (λ n. IsBelow n link.parent) next below)
 
