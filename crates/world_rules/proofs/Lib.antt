@@ -1,2 +1,3 @@
 mod IdLemmas
 mod LineLemmas
+mod TinyPlacings

@@ -1,8 +1,11 @@
 -- Worlds of one cell, for theorems by computation. No public clause of the world cites this file.
-use Rattle.std.specs.Prelude.{ℕ, Bool, true, List, [], ◌∷◌, Some, replicate}
+use Rattle.std.specs.Prelude.{ℕ, Bool, true, List, [], ◌∷◌, Some, None, replicate}
 use Rattle.instruction_set.specs.declared.letter.Letter.{Letter}
 use Rattle.instruction_set.specs.declared.letter.Letter.TheVariants.{NopA}
 use Rattle.log_lines.specs.Line.{Line, Count}
+use Rattle.logic_tasks.specs.TaskSet.{no_tasks}
+use Rattle.mutations.specs.BirthRecord.{BirthRecord}
+use Rattle.organism.specs.Newborns.{NewbornValue}
 use Rattle.organism.specs.OrganismState.{OrganismState}
 use Rattle.world_config.specs.Events.{EventValue, WhatValue}
 use Rattle.world_config.specs.Values.{ConfigValues}
@@ -58,6 +61,22 @@ barren o died = record { occupant = Some (record { id = 0; organism = o }); died
 -- the scene of an update as that life has ended
 abbrev pub ended : ℕ → OrganismState → Bool → Scene
 ended update o died = after_lives update one_link (barren o died)
+
+-- the record of a child that is as its parent
+abbrev pub unchanged : BirthRecord
+unchanged = record { written = None; changes = [] }
+
+-- a child of the founder with this number and merit
+abbrev pub child : ℕ → ℕ → NewbornValue
+child nth merit = record { nth = nth; genome = eight NopA; origin = unchanged; merit = merit; credited = no_tasks }
+
+-- a life that ended by age, of an organism that bore two
+abbrev pub fertile : OrganismState → List CellLife
+fertile o = record { occupant = Some (record { id = 0; organism = o }); died = true; newborns = child 0 8 ∷ child 1 16 ∷ [] } ∷ []
+
+-- the scene of update 1 as that life has ended
+abbrev pub after_fertile : OrganismState → Scene
+after_fertile o = after_lives 1 one_link (fertile o)
 
 -- what is counted in one cell where no task is done
 abbrev pub counts : ℕ → ℕ → ℕ → ℕ → ℕ → ℕ → Line

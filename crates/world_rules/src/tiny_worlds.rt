@@ -1,8 +1,8 @@
 // What the definitions give for tiny worlds, worked out by hand (docs/WORLD.md, "The log of a run").
-ghost use Rattle.std.specs.Prelude.{◌≡◌, [], ◌∷◌, Some, true, false, codes};
+ghost use Rattle.std.specs.Prelude.{◌≡◌, [], ◌∷◌, Some, None, true, false, codes};
 ghost use Rattle.instruction_set.specs.declared.letter.Letter.TheVariants.{NopB};
 ghost use Rattle.mutations.specs.declared.rate_name.RateName.TheVariants.{Copy};
-ghost use Rattle.log_lines.specs.Line.{Death, Injected, Cleared, Rate};
+ghost use Rattle.log_lines.specs.Line.{Death, Birth, Injected, Cleared, Rate};
 ghost use Rattle.organism.specs.OrganismState.{OrganismState};
 ghost use Rattle.world_config.specs.Events.{inject, clear, rate};
 ghost use Rattle.world_config.specs.Values.{ConfigValues};
@@ -12,7 +12,7 @@ ghost use Rattle.world_rules.specs.Lives.{slices_at};
 ghost use Rattle.world_rules.specs.LogText.{lines_of_lives, update_lines, log_text};
 ghost use Rattle.world_rules.specs.WorldRun.{world_after, living_in};
 ghost use Rattle.world_rules.specs.Picture.{picture_of, picture_text};
-ghost use Rattle.world_rules.specs.TinyWorlds.{tiny, once, eight, ended, barren, counts};
+ghost use Rattle.world_rules.specs.TinyWorlds.{tiny, once, eight, ended, barren, unchanged, fertile, after_fertile, counts};
 
 #[tactic(auto, unfolding(crate::specs::WorldRun::world_after))]
 pub fn the_first_world_is_the_founders()
@@ -62,4 +62,10 @@ pub fn an_organism_dies_with_the_step_of_its_age_limit()
 pub fn an_empty_world_goes_on()
     ensures lines { update_lines (tiny []) (world_after (tiny []) 1) ≡ counts 2 0 0 0 0 0 ∷ [] }
     ensures nobody { living_in (world_after (tiny []) 1) ≡ [] }
+{}
+
+/// The first takes the cell of the dead parent, and the second that of the first.
+pub fn newborns_take_the_only_cell()
+    ensures { (o : OrganismState) → lines_of_lives (tiny []) (after_fertile o) (fertile o)
+        ≡ Death 0 1 0 ∷ Birth 1 0 1 0 None unchanged ∷ Birth 2 0 1 0 (Some 1) unchanged ∷ counts 1 1 2 2 1 16 ∷ [] }
 {}
