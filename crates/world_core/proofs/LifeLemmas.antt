@@ -7,19 +7,20 @@ use Rattle.std.proofs.lemmas.List.Sums.{sum_by-le}
 use Rattle.merit_slices.specs.declared.merits.TheConstants.{GREATEST_MERIT}
 use Rattle.organism.specs.declared.ran.Ran.{Ran}
 use Rattle.organism.specs.declared.settings.Settings.{Settings}
+use Rattle.organism.specs.Lived.{beginning}
 use Rattle.organism.specs.UpdateLife.{LifeState, life}
 use Rattle.random_streams.specs.declared.purpose.Purpose.TheVariants.{Run}
 use Rattle.random_streams.specs.RandomStream.{draw}
 use Rattle.world_config.specs.Values.{ConfigValues}
 use Rattle.world_rules.specs.World.{Occupant}
-use Rattle.world_rules.specs.Lives.{cell_life, is_death, life_of, life_start, merit_in}
+use Rattle.world_rules.specs.Lives.{cell_life, is_death, life_of, merit_in}
 use Rattle.world_rules.specs.Settings.{settings_at}
 
 -- the life of a cell is that of its organism
-pub life_of-run : (config : ConfigValues) (update cell steps : ℕ) (o : Occupant) (settings : Settings) (words : ℕ → ℕ) (start after : LifeState) (ran : Ran) (died : Bool) → settings ≡ settings_at config update → words ≡ draw config.seed update cell Run → start ≡ life_start o.organism → (after, ran) ≡ life settings words start steps → died ≡ is_death ran → life_of config update cell steps (Some o) ≡ record { occupant = Some (record { id = o.id; organism = after.organism }); died = died; newborns = after.newborns }
+pub life_of-run : (config : ConfigValues) (update cell steps : ℕ) (o : Occupant) (settings : Settings) (words : ℕ → ℕ) (start after : LifeState) (ran : Ran) (died : Bool) → settings ≡ settings_at config update → words ≡ draw config.seed update cell Run → start ≡ beginning o.organism → (after, ran) ≡ life settings words start steps → died ≡ is_death ran → life_of config update cell steps (Some o) ≡ record { occupant = Some (record { id = o.id; organism = after.organism }); died = died; newborns = after.newborns }
 unfolding life_of
 life_of-run config update cell steps o settings words start after ran died same alike begins ends dies =
-    let whole : life settings words start steps ≡ life (settings_at config update) (draw config.seed update cell Run) (life_start o.organism) steps = λ i. life (same i) (alike i) (begins i) steps in
+    let whole : life settings words start steps ≡ life (settings_at config update) (draw config.seed update cell Run) (beginning o.organism) steps = λ i. life (same i) (alike i) (begins i) steps in
     sym (ap (cell_life o.id) (ends ∙ whole)) ∙ ap (λ (b : Bool). record { occupant = Some (record { id = o.id; organism = after.organism }); died = b; newborns = after.newborns }) (sym dies)
 
 -- all merits of a world together

@@ -6,8 +6,8 @@ use Rattle.random_streams.specs.RandomStream.{draw}
 use Rattle.merit_slices.specs.Slices.{slices_of}
 use Rattle.organism.specs.declared.ran.Ran.{Ran}
 use Rattle.organism.specs.declared.ran.Ran.TheVariants.{Lives, Died}
+use Rattle.organism.specs.Lived.{beginning}
 use Rattle.organism.specs.Newborns.{NewbornValue}
-use Rattle.organism.specs.OrganismState.{OrganismState}
 use Rattle.organism.specs.UpdateLife.{LifeState, life}
 use Rattle.world_config.specs.Values.{ConfigValues}
 use Rattle.world_rules.specs.World.{Occupant}
@@ -36,10 +36,6 @@ slices_at config cells = slices_of (map merit_in cells) config.average_slices
 abbrev pub slice_at : ConfigValues → List (Option Occupant) → ℕ → ℕ
 slice_at config cells cell = slice_index_or (slices_at config cells) cell 0
 
--- an organism as its life in an update begins, before the first word of its stream
-abbrev pub life_start : OrganismState → LifeState
-life_start organism = record { organism = organism; newborns = []; next = 0 }
-
 -- whether a life ended by age
 abbrev pub is_death : Ran → Bool
 is_death Lives = false
@@ -57,7 +53,7 @@ cell_life id ended = record {
 unfoldable pub life_of : ConfigValues → ℕ → ℕ → ℕ → Option Occupant → CellLife
 life_of config update cell steps None = no_life
 life_of config update cell steps (Some o) =
-    cell_life o.id (life (settings_at config update) (draw config.seed update cell Run) (life_start o.organism) steps)
+    cell_life o.id (life (settings_at config update) (draw config.seed update cell Run) (beginning o.organism) steps)
 
 -- the life of a cell of these cells, as the update begins
 abbrev pub life_at : ConfigValues → ℕ → List (Option Occupant) → ℕ → CellLife

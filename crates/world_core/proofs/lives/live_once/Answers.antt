@@ -1,16 +1,16 @@
 use Rattle.std.proofs.Common.{◌≡◌, ◌+◌, map, ap}
 use Rattle.random_streams.specs.RandomStream.{word_of}
+use Rattle.organism.specs.Lived.{beginning}
 use Rattle.organism.specs.Newborns.{newborn_value}
 use Rattle.organism.specs.UpdateLife.{life_state}
 use Rattle.world_config.specs.Shown.{values_of}
-use Rattle.world_rules.specs.Lives.{life_start}
 use Rattle.world_core.proofs.LifeLemmas.{life_of-run}
 use Rattle.world_core.proofs.lives.live_once.Goals as goal
 
 pub returns-clause-life : goal.returns-clause-life
 returns-clause-life c =
     let o = c.occupant.inside in
-    let begins : life_state o.organism c.none-births.result c.start-draws.result ≡ life_start o.organism = λ i. record {
+    let begins : life_state o.organism c.none-births.result c.start-draws.result ≡ beginning o.organism = λ i. record {
       organism = o.organism;
       newborns = map newborn_value (c.none-births.ensures i);
       next = (c.start-draws.ensures i).taken;
