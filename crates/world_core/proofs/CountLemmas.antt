@@ -20,7 +20,7 @@ use Rattle.random_streams.specs.declared.draws.TheConstants.{CELLS}
 use Rattle.world_rules.specs.World.{Occupant, id_of, ids_of}
 use Rattle.world_rules.specs.Lives.{merit_in}
 use Rattle.world_rules.specs.Scene.{Scene}
-use Rattle.world_rules.specs.Statistics.{organism_in, organisms_in, genomes_in, different, credited_with, stats_in, scene_stats}
+use Rattle.world_rules.specs.Statistics.{organism_in, organisms_in, genomes_in, genotypes_of, credited_with, stats_in, scene_stats}
 use Rattle.world_core.specs.Soundness.{AreBounded, IsBoundedIn}
 use Rattle.world_core.specs.declared.counting.Tally.{Tally}
 use Rattle.world_core.specs.Tally.{IsTallyOf, IsSmall, letters_in, with_genome}
@@ -37,16 +37,16 @@ pub taken_push : (cells : List (Option Occupant)) (slot : Option Occupant) → t
 taken_push cells None = ap taken (map_push id_of cells None) ∙ sum_by_push _ (ids_of cells) None
 taken_push cells (Some o) = ap taken (map_push id_of cells (Some o)) ∙ sum_by_push _ (ids_of cells) (Some o.id)
 
-pub different_is : (genomes : List (List Letter)) → different genomes ≡ distinct same_letters same_letters-Decides genomes
-different_is [] = refl
-different_is (genome ∷ genomes) = ap (λ gs. genome ∷ filter (λ other. not (same_letters genome other)) gs) (different_is genomes)
+pub genotypes_of_is : (genomes : List (List Letter)) → genotypes_of genomes ≡ distinct same_letters same_letters-Decides genomes
+genotypes_of_is [] = refl
+genotypes_of_is (genome ∷ genomes) = ap (λ gs. genome ∷ filter (λ other. not (same_letters genome other)) gs) (genotypes_of_is genomes)
 
 -- a genome behind others is one more of the different ones, unless it is among them
-pub different_push : (genomes : List (List Letter)) (genome : List Letter) → different (genomes ++ genome ∷ []) ≡ with_genome (different genomes) genome
-different_push genomes genome =
-    different_is (genomes ++ genome ∷ [])
+pub genotypes_of_push : (genomes : List (List Letter)) (genome : List Letter) → genotypes_of (genomes ++ genome ∷ []) ≡ with_genome (genotypes_of genomes) genome
+genotypes_of_push genomes genome =
+    genotypes_of_is (genomes ++ genome ∷ [])
     ∙ distinct_push same_letters same_letters-Decides genomes genome
-    ∙ ap (λ gs. with_genome gs genome) (sym (different_is genomes))
+    ∙ ap (λ gs. with_genome gs genome) (sym (genotypes_of_is genomes))
 
 -- how many have each task
 abbrev tasks_by : List OrganismState → List ℕ
@@ -60,7 +60,7 @@ tally-none cells tally is =
       living = omega (arith, is.living, taken_push cells None);
       merit = is.merit ∙ ap (sum_by (λ (o : OrganismState). o.merit)) none;
       tasks = is.tasks ∙ ap tasks_by none;
-      genomes = is.genomes ∙ ap (λ (os : List OrganismState). different (map (λ o. o.genome) os)) none;
+      genomes = is.genomes ∙ ap (λ (os : List OrganismState). genotypes_of (map (λ o. o.genome) os)) none;
     }
 
 pub map_alike : {A B : Type 0} (f g : A → B) → ((a : A) → f a ≡ g a) → (xs : List A) → map f xs ≡ map g xs
@@ -79,9 +79,9 @@ tally-some cells o before after living merit tasks genomes is =
           ∙ ap (λ ns. map (λ task. slice_index ns (place_of task) + cond (has_task o.organism.credited task) 1 0) all_tasks) is.tasks
           ∙ map_alike _ _ (λ task. sym (sum_by_push (λ o. cond (has_task o.credited task) 1 0) os o.organism)) all_tasks
           ∙ ap tasks_by some;
-      genomes = genomes ∙ ap (λ gs. with_genome gs o.organism.genome) is.genomes ∙ sym (different_push (map (λ o. o.genome) os) o.organism.genome)
-          ∙ ap different (sym (map_push (λ o. o.genome) os o.organism))
-          ∙ ap (λ (os : List OrganismState). different (map (λ o. o.genome) os)) some;
+      genomes = genomes ∙ ap (λ gs. with_genome gs o.organism.genome) is.genomes ∙ sym (genotypes_of_push (map (λ o. o.genome) os) o.organism.genome)
+          ∙ ap genotypes_of (sym (map_push (λ o. o.genome) os o.organism))
+          ∙ ap (λ (os : List OrganismState). genotypes_of (map (λ o. o.genome) os)) some;
     }
 
 pub organisms_in-few : (cells : List (Option Occupant)) → length (organisms_in cells) ≤ length cells
@@ -167,6 +167,6 @@ stats_by_tally scene tally births deaths genotypes is dead different_ones =
     let living = is.living in
     let merit = is.merit in
     let tasks = is.tasks in
-    let kinds : genotypes ≡ length (different (genomes_in scene.cells)) =
+    let kinds : genotypes ≡ length (genotypes_of (genomes_in scene.cells)) =
     different_ones ∙ sym (length-map tally.genomes.keys (λ g. letters g.value)) ∙ ap length is.genomes in
     cc

@@ -12,7 +12,7 @@ use Rattle.merit_slices.specs.declared.merits.TheConstants.{GREATEST_MERIT}
 use Rattle.mutations.specs.BirthRecord.{same_letters}
 use Rattle.random_streams.specs.declared.draws.TheConstants.{CELLS}
 use Rattle.world_rules.specs.World.{Occupant, ids_of}
-use Rattle.world_rules.specs.Statistics.{organisms_in, genomes_in, different, credited_with}
+use Rattle.world_rules.specs.Statistics.{organisms_in, genomes_in, genotypes_of, credited_with}
 use Rattle.world_core.specs.declared.counting.Tally.{Tally}
 
 -- the letters of these genomes
@@ -28,7 +28,7 @@ pub record IsTallyOf (cells : List (Option Occupant)) (tally : Tally) : Type 0 w
   pub living : tally.living ≡ taken (ids_of cells)
   pub merit : tally.merit ≡ sum_by (λ o. o.merit) (organisms_in cells)
   pub tasks : tally.tasks ≡ map (credited_with cells) all_tasks
-  pub genomes : letters_in tally.genomes.keys ≡ different (genomes_in cells)
+  pub genomes : letters_in tally.genomes.keys ≡ genotypes_of (genomes_in cells)
 
 -- it has counted no more cells than a world has
 pub record IsSmall (tally : Tally) : Type 0 where

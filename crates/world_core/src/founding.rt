@@ -4,7 +4,7 @@ ghost use Rattle.genome.specs.Genome.{letters};
 ghost use Rattle.logic_tasks.specs.Inputs.{inputs_of};
 ghost use Rattle.random_streams.specs.RandomStream.{after};
 ghost use Rattle.world_config.specs.Shown.{values_of};
-ghost use Rattle.world_rules.specs.World.{founder_of, founder_words, founded};
+ghost use Rattle.world_rules.specs.World.{founder_of, founder_words, first_world};
 ghost use Rattle.world_rules.specs.Update.{world_of};
 
 use crate::ancestor::Ancestor;
@@ -71,9 +71,9 @@ fn pass_over(draws: &mut Draws, words: u32)
 }
 
 /// The scene of update 0: the configuration's founder alone.
-#[tactic(auto, unfolding(world_rules::specs::World::founded, world_rules::specs::World::founder_of, world_rules::specs::Scene::with_newcomer, organism::specs::OrganismState::new_organism))]
+#[tactic(auto, unfolding(world_rules::specs::World::first_world, world_rules::specs::World::founder_of, world_rules::specs::Scene::with_newcomer, organism::specs::OrganismState::new_organism))]
 pub(crate) fn first_scene(alloc: Global, config: &Config) -> Result<Scene, Memory>
-    ensures world { IfOk result (λ scene. world_of scene ≡ founded (values_of config.now)) }
+    ensures world { IfOk result (λ scene. world_of scene ≡ first_world (values_of config.now)) }
     ensures size { IfOk result (λ scene. length scene.cells ≡ config.now.width * config.now.height) }
     ensures nobody { IfOk result (λ scene. scene.gone ≡ []) }
     ensures one { IfOk result (λ scene. length scene.everyone ≡ 1) }

@@ -21,7 +21,7 @@ use world_config::Config;
 
 /// The scene at the end of the next update, what is counted of it, and its lines.
 #[tactic(auto, unfolding(world_rules::specs::Update::next_scene, world_rules::specs::Update::scene_of_lives, world_rules::specs::Update::last_scene, world_rules::specs::Update::after_burials, world_rules::specs::LogText::update_lines, world_rules::specs::LogText::lines_of_lives, world_rules::specs::Statistics::next_stats), using(crate::proofs::UpdateLemmas::joined))]
-pub(crate) fn next(
+pub(crate) fn next_scene(
     alloc: Global,
     config: &Config,
     scene: Scene,

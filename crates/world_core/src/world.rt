@@ -13,7 +13,7 @@ use crate::counting::count;
 use crate::descent::descent_in;
 use crate::founding::first_scene;
 use crate::scene::Scene;
-use crate::updating::next;
+use crate::updating::next_scene;
 use avida_port::{Gate, Memory};
 use genome::Genome;
 use lineage_log::Path;
@@ -50,7 +50,7 @@ impl Model for World {
 
 impl World {
     /// The world of update 0: the configuration's founder alone.
-    #[tactic(auto, unfolding(world_rules::specs::WorldRun::world_after, world_rules::specs::World::founded, world_rules::specs::Statistics::stats_of))]
+    #[tactic(auto, unfolding(world_rules::specs::WorldRun::world_after, world_rules::specs::World::first_world, world_rules::specs::Statistics::stats_of))]
     pub fn found(alloc: Global, config: Config, workers: u32) -> Result<World, Memory>
         requires workers { (1 ≤ workers) × (workers ≤ MOST_WORKERS) }
         ensures { IfOk result (λ world. world ≡ record { config = values_of config; update = 0 }) }
@@ -77,7 +77,7 @@ impl World {
     {
         let _ = gate;
         let World { config, scene, .. } = self;
-        let (scene, stats, text) = next(alloc, &config, scene)?;
+        let (scene, stats, text) = next_scene(alloc, &config, scene)?;
         let world = World {
             config,
             scene,

@@ -8,7 +8,7 @@ use Rattle.birth_board.specs.declared.placing.Placing.{Placing}
 use Rattle.mutations.specs.BirthRecord.{child_of}
 use Rattle.world_config.specs.Events.{EventValue, WhatValue, inject, clear, rate}
 use Rattle.world_config.specs.Values.{ConfigValues}
-use Rattle.world_rules.specs.World.{Link, World, founder_link, founded}
+use Rattle.world_rules.specs.World.{Link, World, founder_link, first_world}
 use Rattle.world_rules.specs.Scene.{Scene, next_id, with_death, with_deaths, cells_from, with_newcomer}
 use Rattle.world_rules.specs.Update.{Delivery, birth_link, after_birth, after_what, after_event, after_burials, deaths_of, births_of, turns_of, after_births, events_at, after_events, last_scene, scene_of_lives, lives_after, next_scene, next_world}
 use Rattle.world_rules.specs.WorldRun.{world_after}
@@ -92,6 +92,6 @@ module _ (laws : LifeLaws) (config : ConfigValues) (fit : IsConfig config) where
 
   -- in each world of a run
   pub descended_after : (n : ℕ) → AreDescended (world_after config n).everyone
-  unfolding world_after founded
+  unfolding world_after first_world
   descended_after zero = founder_descended config
   descended_after (suc n) = descended_next n (kept_after config n) (world_after config n) (run_after laws config fit n) (descended_after n)

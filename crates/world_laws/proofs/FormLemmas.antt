@@ -23,7 +23,7 @@ use Rattle.organism.specs.OrganismState.{OrganismState}
 use Rattle.organism.specs.Lived.{IsSoundOrganism}
 use Rattle.world_rules.specs.World.{Occupant, id_of, ids_of}
 use Rattle.world_rules.specs.Scene.{Scene}
-use Rattle.world_rules.specs.Statistics.{organism_in, organisms_in, genomes_in, different, credited_with, stats_in, scene_stats}
+use Rattle.world_rules.specs.Statistics.{organism_in, organisms_in, genomes_in, genotypes_of, credited_with, stats_in, scene_stats}
 use Rattle.world_laws.proofs.Scenes.{Each}
 use Rattle.world_laws.proofs.Configs.{filter_few}
 
@@ -55,9 +55,9 @@ organisms_few : (cells : List (Option Occupant)) → length (organisms_in cells)
 organisms_few [] = omega arith
 organisms_few (slot ∷ cells) = found_few (organism_in slot) (organisms_in cells) (length cells) (organisms_few cells)
 
-different_few : (genomes : List (List Letter)) → length (different genomes) ≤ length genomes
-different_few [] = omega arith
-different_few (genome ∷ genomes) = omega (arith, filter_few (λ other. not (same_letters genome other)) (different genomes), different_few genomes)
+genotypes_of_few : (genomes : List (List Letter)) → length (genotypes_of genomes) ≤ length genomes
+genotypes_of_few [] = omega arith
+genotypes_of_few (genome ∷ genomes) = omega (arith, filter_few (λ other. not (same_letters genome other)) (genotypes_of genomes), genotypes_of_few genomes)
 
 merits_first : (slot : Option Occupant) (os : List OrganismState) → ((o : Occupant) → slot ≡ Some o → o.organism.merit ≤ GREATEST_MERIT) → AllByRecursion (λ (o : OrganismState). o.merit ≤ GREATEST_MERIT) os → AllByRecursion (λ (o : OrganismState). o.merit ≤ GREATEST_MERIT) (cons_option (organism_in slot) os)
 merits_first None os first rest = rest
@@ -84,7 +84,7 @@ count_form scene births sound small early few gone =
     let organisms = organisms_few cells in
     let living : taken (ids_of cells) ≤ 65536 = omega (arith, count_by-le-length is_some (ids_of cells), length-map cells id_of, small) in
     let genomes : length (genomes_in cells) ≤ 65536 = omega (arith, length-map (organisms_in cells) (λ (o : OrganismState). o.genome), organisms, small) in
-    let genotypes : length (different (genomes_in cells)) ≤ 65536 = omega (arith, different_few (genomes_in cells), genomes) in
+    let genotypes : length (genotypes_of (genomes_in cells)) ≤ 65536 = omega (arith, genotypes_of_few (genomes_in cells), genomes) in
     let merit : sum_by (λ (o : OrganismState). o.merit) (organisms_in cells) ≤ 18446744073709551615 = omega (arith, merits_sum cells sound, organisms, small) in (
       (omega arith, omega (arith, early)),
       (

@@ -6,7 +6,7 @@ use Rattle.log_lines.specs.Line.{End}
 use Rattle.log_lines.specs.LineText.{HasForm, line_text}
 use Rattle.lineage_log.specs.LogGrammar.{lines_text}
 use Rattle.world_config.specs.Values.{ConfigValues}
-use Rattle.world_rules.specs.World.{World, founded}
+use Rattle.world_rules.specs.World.{World, first_world}
 use Rattle.world_rules.specs.Scene.{Scene}
 use Rattle.world_rules.specs.Update.{after_lives, after_burials, deaths_of, births_of, placings_of, turns_of, after_births, events_at, after_events, last_scene, lives_after}
 use Rattle.world_rules.specs.WorldRun.{world_after}
@@ -68,7 +68,7 @@ module _ (laws : LifeLaws) (config : ConfigValues) (fit : IsConfig config) where
 
   -- all who ever were in a world are few
   everyone_few : (n : ℕ) → length (world_after config n).everyone ≤ 1 + 65537000 * n
-  unfolding world_after founded
+  unfolding world_after first_world
   everyone_few zero = omega arith
   everyone_few (suc n) =
       let before = everyone_few n in

@@ -12,7 +12,7 @@ use Rattle.lineage_log.specs.Replay.{Seen, seen_on, Resident, residents_from, re
 use Rattle.organism.specs.OrganismState.{new_organism}
 use Rattle.organism.specs.Lived.{IsSoundOrganism}
 use Rattle.world_config.specs.Values.{ConfigValues}
-use Rattle.world_rules.specs.World.{Occupant, Link, id_of, ids_of, founder_of, founder_link, empty_cells, first_occupant, founded}
+use Rattle.world_rules.specs.World.{Occupant, Link, id_of, ids_of, founder_of, founder_link, empty_cells, first_occupant, first_world}
 use Rattle.world_rules.specs.Update.{next_scene}
 use Rattle.world_rules.specs.WorldRun.{world_after, resident_of, living_in}
 use Rattle.world_rules.specs.LogText.{update_lines, head_line}
@@ -85,17 +85,17 @@ same_living from (Some o ∷ cells) everyone known =
     ∙ ap (λ (r : List Resident). resident_of from o ∷ r) rest
 
 module _ (laws : LifeLaws) (config : ConfigValues) (fit : IsConfig config) where
-  founder_known : Known (Some config.ancestor ∷ []) (founded config).cells
-  unfolding founded
+  founder_known : Known (Some config.ancestor ∷ []) (first_world config).cells
+  unfolding first_world
   founder_known cell o h =
       let who = only_founder config cell o h in
       let known : slice_get (Some config.ancestor ∷ []) 0 ≡ Some (Some (first_occupant config).organism.genome) = ap (λ (g : List Letter). Some (Some g)) (sym (founder_genome config)) in
       subst (λ (x : Occupant). slice_get (Some config.ancestor ∷ []) x.id ≡ Some (Some x.organism.genome)) who.1 known
 
   -- the founder's world
-  run_founded : IsRun config 0 (Some config.ancestor ∷ []) (founded config)
-  unfolding founded
-  run_founded = record {
+  run_first : IsRun config 0 (Some config.ancestor ∷ []) (first_world config)
+  unfolding first_world
+  run_first = record {
     world = record {
       sized = length-set (empty_cells config) config.founder_cell (Some (first_occupant config)) ∙ length-replicate (size_of config) None;
       number = refl;
@@ -111,7 +111,7 @@ module _ (laws : LifeLaws) (config : ConfigValues) (fit : IsConfig config) where
   -- the world after so many updates
   pub run_after : (n : ℕ) → IsRun config n (kept_after config n) (world_after config n)
   unfolding world_after
-  run_after zero = run_founded
+  run_after zero = run_first
   run_after (suc n) = run_next laws config fit n (kept_after config n) (world_after config n) (run_after n)
 
   -- the reader after so many updates, and the replay
@@ -122,7 +122,7 @@ module _ (laws : LifeLaws) (config : ConfigValues) (fit : IsConfig config) where
   seen_after n = seen_in (world_after config n).cells (world_after config n).everyone
 
   head_told : after_start 2 config.width config.height config.founder_cell config.ancestor ≡ Ok (reader_after 0)
-  unfolding after_start world_after founded
+  unfolding after_start world_after first_world
   head_told =
       let f : Option Occupant = Some (first_occupant config) in
       let inside = fit.founder in
@@ -132,7 +132,7 @@ module _ (laws : LifeLaws) (config : ConfigValues) (fit : IsConfig config) where
       rw (test, same) refl
 
   head_seen : (s : Seen) → seen_on s (head_line config) ≡ seen_after 0
-  unfolding world_after founded
+  unfolding world_after first_world
   head_seen s =
       let f : Option Occupant = Some (first_occupant config) in
       let same : ids_of (slice_set (empty_cells config) config.founder_cell f) ≡ slice_set (replicate (size_of config) None) config.founder_cell (Some 0) =

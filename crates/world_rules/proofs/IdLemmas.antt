@@ -10,7 +10,7 @@ use Rattle.organism.specs.Newborns.{NewbornValue}
 use Rattle.organism.specs.OrganismState.{OrganismState}
 use Rattle.world_config.specs.Events.{EventValue, WhatValue, inject, clear, rate}
 use Rattle.world_config.specs.Values.{ConfigValues}
-use Rattle.world_rules.specs.World.{Occupant, Link, World, id_of, founder_of, founder_link, founded}
+use Rattle.world_rules.specs.World.{Occupant, Link, World, id_of, founder_of, founder_link, first_world}
 use Rattle.world_rules.specs.Lives.{CellLife, life_of, life_at, slice_at, lives_of}
 use Rattle.world_rules.specs.Scene.{Scene, next_id, with_death, cells_from, with_newcomer}
 use Rattle.world_rules.specs.Update.{Delivery, delivery_of, births_by, births_in, births_of, deaths_of, after_lives, after_burials, placings_of, birth_link, child_of_birth, after_birth, turns_of, after_births, after_what, after_event, events_at, after_events, last_scene, scene_of_lives, lives_after, next_scene, next_world, world_of}
@@ -167,9 +167,9 @@ numbered_update config w is =
       standing = All-map (λ slot. IsBelow (length w.everyone) (id_of slot)) (λ (l : CellLife). l.occupant) lives among;
     })
 
-numbered_founded : (config : ConfigValues) → IsNumberedWorld (founded config)
-unfolding founded
-numbered_founded config =
+numbered_first : (config : ConfigValues) → IsNumberedWorld (first_world config)
+unfolding first_world
+numbered_first config =
     let founder = founder_link 0 0 config.founder_cell config.ancestor in
     let one : 0 < 1 = omega arith in
     record {
@@ -180,5 +180,5 @@ numbered_founded config =
 
 pub numbered : (config : ConfigValues) (updates : ℕ) → IsNumberedWorld (world_after config updates)
 unfolding world_after
-numbered config zero = numbered_founded config
+numbered config zero = numbered_first config
 numbered config (suc n) = numbered_update config (world_after config n) (numbered config n)

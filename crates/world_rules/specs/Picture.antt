@@ -1,5 +1,5 @@
 -- The picture of a world, and its line (docs/WORLD.md, "Statistics"; docs/FORMATS.md, "The log").
-use Rattle.std.specs.Prelude.{ℕ, List, [], ◌∷◌, ◌++◌, Option, None, Some, decimal}
+use Rattle.std.specs.Prelude.{ℕ, List, [], ◌∷◌, ◌++◌, Option, None, Some, codes, decimal}
 use Rattle.genome.specs.GenomeText.{letters_text_of}
 use Rattle.log_lines.specs.LineText.{words_text}
 use Rattle.world_config.specs.Values.{ConfigValues}
@@ -26,7 +26,7 @@ picture_of config update = record {
 
 -- the count and the letters of a dominant genome; in an empty world 0 and a dash
 abbrev pub dominant_words : Option DominantValue → List (List ℕ)
-dominant_words None = decimal 0 ∷ (45 ∷ []) ∷ []
+dominant_words None = decimal 0 ∷ codes "-" ∷ []
 dominant_words (Some d) = decimal d.count ∷ letters_text_of d.genome ∷ []
 
 -- the words of a picture's line
@@ -35,4 +35,4 @@ picture_words p = decimal p.update ∷ decimal p.living ∷ decimal p.genotypes 
 
 -- the line of a picture
 unfoldable pub picture_text : PictureValue → List ℕ
-picture_text p = 87 ∷ (words_text (picture_words p) ++ 10 ∷ [])
+picture_text p = codes "W" ++ (words_text (picture_words p) ++ codes "\n")

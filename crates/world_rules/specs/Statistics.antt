@@ -31,9 +31,9 @@ abbrev pub genomes_in : List (Option Occupant) → List (List Letter)
 genomes_in cells = map (λ o. o.genome) (organisms_in cells)
 
 -- the different ones of some genomes, in order of their first place
-abbrev pub different : List (List Letter) → List (List Letter)
-different [] = []
-different (genome ∷ genomes) = genome ∷ filter (λ other. not (same_letters genome other)) (different genomes)
+abbrev pub genotypes_of : List (List Letter) → List (List Letter)
+genotypes_of [] = []
+genotypes_of (genome ∷ genomes) = genome ∷ filter (λ other. not (same_letters genome other)) (genotypes_of genomes)
 
 -- how many of some genomes are this one
 abbrev pub count_of : List (List Letter) → List Letter → ℕ
@@ -50,7 +50,7 @@ stats_in update cells births deaths = record {
   living = taken (ids_of cells);
   births = births;
   deaths = deaths;
-  genotypes = length (different (genomes_in cells));
+  genotypes = length (genotypes_of (genomes_in cells));
   merit = sum_by (λ o. o.merit) (organisms_in cells);
   tasks = map (credited_with cells) all_tasks;
 }

@@ -64,8 +64,8 @@ abbrev pub first_occupant : ConfigValues → Occupant
 first_occupant config = record { id = 0; organism = founder_of config config.founder_cell 0 config.ancestor }
 
 -- the world of update 0: the configuration's founder alone
-unfoldable pub founded : ConfigValues → World
-founded config = record {
+unfoldable pub first_world : ConfigValues → World
+first_world config = record {
   update = 0;
   cells = slice_set (empty_cells config) config.founder_cell (Some (first_occupant config));
   everyone = founder_link 0 0 config.founder_cell config.ancestor ∷ [];

@@ -3,12 +3,12 @@ use Rattle.std.specs.Prelude.{ℕ, zero, suc, List, Option, option_map}
 use Rattle.std.specs.List.{filter_map, enumerate_from}
 use Rattle.lineage_log.specs.Replay.{Resident}
 use Rattle.world_config.specs.Values.{ConfigValues}
-use Rattle.world_rules.specs.World.{Occupant, World, founded}
+use Rattle.world_rules.specs.World.{Occupant, World, first_world}
 use Rattle.world_rules.specs.Update.{next_world}
 
 -- the world after so many updates
 unfoldable pub world_after : ConfigValues → ℕ → World
-world_after config zero = founded config
+world_after config zero = first_world config
 world_after config (suc n) = next_world config (world_after config n)
 
 -- cell, id and genome of an organism

@@ -6,7 +6,7 @@ ghost use Rattle.log_lines.specs.Line.{Death, Birth, Injected, Cleared, Rate};
 ghost use Rattle.organism.specs.OrganismState.{OrganismState};
 ghost use Rattle.world_config.specs.Events.{inject, clear, rate};
 ghost use Rattle.world_config.specs.Values.{ConfigValues};
-ghost use Rattle.world_rules.specs.World.{founded};
+ghost use Rattle.world_rules.specs.World.{first_world};
 ghost use Rattle.world_rules.specs.Settings.{rates_at};
 ghost use Rattle.world_rules.specs.Lives.{slices_at};
 ghost use Rattle.world_rules.specs.LogText.{lines_of_lives, update_lines, log_text};
@@ -16,7 +16,7 @@ ghost use Rattle.world_rules.specs.TinyWorlds.{tiny, once, eight, ended, barren,
 
 #[tactic(auto, unfolding(crate::specs::WorldRun::world_after))]
 pub fn the_first_world_is_the_founders()
-    ensures { (config : ConfigValues) → world_after config 0 ≡ founded config }
+    ensures { (config : ConfigValues) → world_after config 0 ≡ first_world config }
 {}
 
 #[tactic(auto, unfolding(crate::specs::Settings::rates_at))]
@@ -26,9 +26,9 @@ pub fn a_rate_holds_from_the_next_update_on()
     ensures others { (rates_at (tiny (once (rate Copy 5))) 2).delete ≡ 0 }
 {}
 
-#[tactic(auto, unfolding(crate::specs::World::founded, crate::specs::World::founder_of, crate::specs::Lives::slices_at, organism::specs::OrganismState::new_organism, merit_slices::specs::Slices::slices_of))]
+#[tactic(auto, unfolding(crate::specs::World::first_world, crate::specs::World::founder_of, crate::specs::Lives::slices_at, organism::specs::OrganismState::new_organism, merit_slices::specs::Slices::slices_of))]
 pub fn the_founder_gets_all_steps()
-    ensures { slices_at (tiny []) (founded (tiny [])).cells ≡ 8 ∷ [] }
+    ensures { slices_at (tiny []) (first_world (tiny [])).cells ≡ 8 ∷ [] }
 {}
 
 #[tactic(auto, unfolding(crate::specs::LogText::lines_of_lives, crate::specs::Update::last_scene, crate::specs::Update::deaths_of, crate::specs::Update::after_burials, crate::specs::Update::births_of, crate::specs::Update::placings_of, crate::specs::Update::after_births, crate::specs::Update::after_birth, crate::specs::Update::events_at, crate::specs::Update::after_event, crate::specs::Update::after_events, crate::specs::Scene::with_death, crate::specs::Scene::with_newcomer, crate::specs::Statistics::stats_in, crate::specs::World::founder_of, organism::specs::OrganismState::new_organism, birth_board::specs::Placement::placements_of))]
@@ -46,19 +46,19 @@ pub fn a_run_of_no_updates_has_two_lines()
     ensures { log_text (tiny []) 0 ≡ codes "L 2 1 1 0 aaaaaaaa\nE 0\n" }
 {}
 
-#[tactic(auto, unfolding(crate::specs::Picture::picture_of, crate::specs::Picture::picture_text, crate::specs::Statistics::stats_of, crate::specs::Statistics::stats_in, crate::specs::Statistics::dominant_of, crate::specs::WorldRun::world_after, crate::specs::World::founded, crate::specs::World::founder_of, organism::specs::OrganismState::new_organism))]
+#[tactic(auto, unfolding(crate::specs::Picture::picture_of, crate::specs::Picture::picture_text, crate::specs::Statistics::stats_of, crate::specs::Statistics::stats_in, crate::specs::Statistics::dominant_of, crate::specs::WorldRun::world_after, crate::specs::World::first_world, crate::specs::World::founder_of, organism::specs::OrganismState::new_organism))]
 pub fn the_first_picture_shows_the_founder()
     ensures { picture_text (picture_of (tiny []) 0) ≡ codes "W 0 1 1 8 1 aaaaaaaa\n" }
 {}
 
-#[tactic(auto, unfolding(crate::specs::LogText::update_lines, crate::specs::LogText::lines_of_lives, crate::specs::Lives::lives_of, crate::specs::Lives::life_of, crate::specs::Lives::slices_at, crate::specs::Settings::settings_at, crate::specs::Settings::rates_at, crate::specs::Update::last_scene, crate::specs::Update::deaths_of, crate::specs::Update::after_burials, crate::specs::Update::births_of, crate::specs::Update::placings_of, crate::specs::Update::after_births, crate::specs::Update::events_at, crate::specs::Update::after_event, crate::specs::Update::after_events, crate::specs::Scene::with_death, crate::specs::Statistics::stats_in, crate::specs::World::founded, crate::specs::World::founder_of, organism::specs::OrganismState::new_organism, organism::specs::UpdateLife::life, organism::specs::UpdateLife::death_in, organism::specs::UpdateLife::state_after, organism::specs::UpdateLife::after_step, organism::specs::Life::life_step, virtual_cpu::specs::Step::step, merit_slices::specs::Slices::slices_of))]
+#[tactic(auto, unfolding(crate::specs::LogText::update_lines, crate::specs::LogText::lines_of_lives, crate::specs::Lives::lives_of, crate::specs::Lives::life_of, crate::specs::Lives::slices_at, crate::specs::Settings::settings_at, crate::specs::Settings::rates_at, crate::specs::Update::last_scene, crate::specs::Update::deaths_of, crate::specs::Update::after_burials, crate::specs::Update::births_of, crate::specs::Update::placings_of, crate::specs::Update::after_births, crate::specs::Update::events_at, crate::specs::Update::after_event, crate::specs::Update::after_events, crate::specs::Scene::with_death, crate::specs::Statistics::stats_in, crate::specs::World::first_world, crate::specs::World::founder_of, organism::specs::OrganismState::new_organism, organism::specs::UpdateLife::life, organism::specs::UpdateLife::death_in, organism::specs::UpdateLife::state_after, organism::specs::UpdateLife::after_step, organism::specs::Life::life_step, virtual_cpu::specs::Step::step, merit_slices::specs::Slices::slices_of))]
 pub fn an_organism_dies_with_the_step_of_its_age_limit()
-    ensures alone { update_lines (tiny []) (founded (tiny [])) ≡ Death 0 1 0 ∷ counts 1 0 0 1 0 0 ∷ [] }
-    ensures with_event { update_lines (tiny (once (rate Copy 5))) (founded (tiny (once (rate Copy 5))))
+    ensures alone { update_lines (tiny []) (first_world (tiny [])) ≡ Death 0 1 0 ∷ counts 1 0 0 1 0 0 ∷ [] }
+    ensures with_event { update_lines (tiny (once (rate Copy 5))) (first_world (tiny (once (rate Copy 5))))
         ≡ Death 0 1 0 ∷ Rate 1 Copy 5 ∷ counts 1 0 0 1 0 0 ∷ [] }
 {}
 
-#[tactic(auto, unfolding(crate::specs::WorldRun::world_after, crate::specs::Update::next_world, crate::specs::Update::next_scene, crate::specs::Update::scene_of_lives, crate::specs::LogText::update_lines, crate::specs::LogText::lines_of_lives, crate::specs::Lives::lives_of, crate::specs::Lives::life_of, crate::specs::Lives::slices_at, crate::specs::Settings::settings_at, crate::specs::Settings::rates_at, crate::specs::Update::last_scene, crate::specs::Update::deaths_of, crate::specs::Update::after_burials, crate::specs::Update::births_of, crate::specs::Update::placings_of, crate::specs::Update::after_births, crate::specs::Update::events_at, crate::specs::Update::after_event, crate::specs::Update::after_events, crate::specs::Scene::with_death, crate::specs::Statistics::stats_in, crate::specs::World::founded, crate::specs::World::founder_of, organism::specs::OrganismState::new_organism, organism::specs::UpdateLife::life, organism::specs::UpdateLife::death_in, organism::specs::UpdateLife::state_after, organism::specs::UpdateLife::after_step, organism::specs::Life::life_step, virtual_cpu::specs::Step::step, merit_slices::specs::Slices::slices_of))]
+#[tactic(auto, unfolding(crate::specs::WorldRun::world_after, crate::specs::Update::next_world, crate::specs::Update::next_scene, crate::specs::Update::scene_of_lives, crate::specs::LogText::update_lines, crate::specs::LogText::lines_of_lives, crate::specs::Lives::lives_of, crate::specs::Lives::life_of, crate::specs::Lives::slices_at, crate::specs::Settings::settings_at, crate::specs::Settings::rates_at, crate::specs::Update::last_scene, crate::specs::Update::deaths_of, crate::specs::Update::after_burials, crate::specs::Update::births_of, crate::specs::Update::placings_of, crate::specs::Update::after_births, crate::specs::Update::events_at, crate::specs::Update::after_event, crate::specs::Update::after_events, crate::specs::Scene::with_death, crate::specs::Statistics::stats_in, crate::specs::World::first_world, crate::specs::World::founder_of, organism::specs::OrganismState::new_organism, organism::specs::UpdateLife::life, organism::specs::UpdateLife::death_in, organism::specs::UpdateLife::state_after, organism::specs::UpdateLife::after_step, organism::specs::Life::life_step, virtual_cpu::specs::Step::step, merit_slices::specs::Slices::slices_of))]
 pub fn an_empty_world_goes_on()
     ensures lines { update_lines (tiny []) (world_after (tiny []) 1) ≡ counts 2 0 0 0 0 0 ∷ [] }
     ensures nobody { living_in (world_after (tiny []) 1) ≡ [] }

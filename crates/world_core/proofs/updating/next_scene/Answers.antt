@@ -7,7 +7,7 @@ use Rattle.world_rules.specs.LogText.{death_lines, birth_lines, event_lines}
 use Rattle.world_rules.specs.Statistics.{scene_stats}
 use Rattle.world_rules.specs.Update.{world_of}
 use Rattle.world_core.proofs.UpdateLemmas.{Phases, joined, lines_of_phases, update_of_phases}
-use Rattle.world_core.proofs.updating.next.Goals as goal
+use Rattle.world_core.proofs.updating.next_scene.Goals as goal
 
 phases : (c : goal.After-drop-lived-2) → Phases (values_of c.args.config.now) (world_of c.args.scene) c.deref.result.now c.in_ok-scene.lived.births.items c.in_ok-scene.scene c.bury.new.scene c.place_births.new.scene c.happen.new.scene c.in_ok-stats.stats
 phases c = record {
