@@ -32,13 +32,23 @@ place_stream season cell taken = record { seed = season.seed; update = season.up
 
 -- the four words of newborn `nth` of a cell, from 0
 abbrev pub words_of : Season → ℕ → ℕ → List ℕ
-words_of season cell nth = draw season.seed season.update cell Place (4 * nth) ∷ draw season.seed season.update cell Place (4 * nth + 1) ∷ draw season.seed season.update cell Place (4 * nth + 2) ∷ draw season.seed season.update cell Place (4 * nth + 3) ∷ []
+words_of season cell nth =
+    draw season.seed season.update cell Place (4 * nth)
+    ∷ draw season.seed season.update cell Place (4 * nth + 1)
+    ∷ draw season.seed season.update cell Place (4 * nth + 2)
+    ∷ draw season.seed season.update cell Place (4 * nth + 3)
+    ∷ []
 
 -- the first word chooses the cell, the others make the inputs
 unfoldable pub placing_of : Torus → Bool → List (Option ℕ) → ℕ → ℕ → List ℕ → Placing
 placing_of torus prefer_empty occupants id parent words =
     let cell = chosen_cell torus prefer_empty occupants parent (slice_index_or words 0 0) in
-    record { id = id; cell = cell; over = slice_index_or occupants cell None; inputs = inputs_of (slice_index_or words 1 0 ∷ slice_index_or words 2 0 ∷ slice_index_or words 3 0 ∷ []) }
+    record {
+      id = id;
+      cell = cell;
+      over = slice_index_or occupants cell None;
+      inputs = inputs_of (slice_index_or words 1 0 ∷ slice_index_or words 2 0 ∷ slice_index_or words 3 0 ∷ []);
+    }
 
 -- who stands where, the newborns that were placed, and the cells of their parents
 pub record Board : Type 0 where
@@ -56,7 +66,11 @@ next_placing torus season board parent =
 unfoldable pub next_board : Torus → Season → Board → ℕ → Board
 next_board torus season board parent =
     let placing = next_placing torus season board parent in
-    record { occupants = slice_set board.occupants placing.cell (Some placing.id); placings = board.placings ++ placing ∷ []; parents = board.parents ++ parent ∷ [] }
+    record {
+      occupants = slice_set board.occupants placing.cell (Some placing.id);
+      placings = board.placings ++ placing ∷ [];
+      parents = board.parents ++ parent ∷ [];
+    }
 
 -- the board once the newborns of these parents are placed, one after another
 unfoldable pub placements_of : Torus → List ℕ → List (Option ℕ) → Season → Board

@@ -36,7 +36,16 @@ south_of torus row = (row + 1) % torus.height
 
 -- the cells around that of a column and a row: NW, N, NE, W, E, SW, S, SE
 abbrev pub around : Torus → ℕ → ℕ → List ℕ
-around torus column row = cell_at torus (west_of torus column) (north_of torus row) ∷ cell_at torus column (north_of torus row) ∷ cell_at torus (east_of torus column) (north_of torus row) ∷ cell_at torus (west_of torus column) row ∷ cell_at torus (east_of torus column) row ∷ cell_at torus (west_of torus column) (south_of torus row) ∷ cell_at torus column (south_of torus row) ∷ cell_at torus (east_of torus column) (south_of torus row) ∷ []
+around torus column row =
+    cell_at torus (west_of torus column) (north_of torus row)
+    ∷ cell_at torus column (north_of torus row)
+    ∷ cell_at torus (east_of torus column) (north_of torus row)
+    ∷ cell_at torus (west_of torus column) row
+    ∷ cell_at torus (east_of torus column) row
+    ∷ cell_at torus (west_of torus column) (south_of torus row)
+    ∷ cell_at torus column (south_of torus row)
+    ∷ cell_at torus (east_of torus column) (south_of torus row)
+    ∷ []
 
 -- the eight neighbours of a cell, with repeats
 unfoldable pub neighbours_of : Torus → ℕ → List ℕ

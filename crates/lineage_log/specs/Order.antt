@@ -41,7 +41,9 @@ after_start version width height cell genome = within_if (nat_lt cell (width * h
 
 -- a death: in the due update, before births and events, in rising cells, of who stands there
 unfoldable pub after_death : Reader → ℕ → ℕ → ℕ → Result Place Reason
-after_death r id update cell = within_if ((update == r.due) && may_die r.stage cell && holds (slice_get r.standing cell) (Some id)) (with_death r (Dying cell) cell id)
+after_death r id update cell =
+    within_if ((update == r.due) && may_die r.stage cell && holds (slice_get r.standing cell) (Some id))
+    (with_death r (Dying cell) cell id)
 
 -- the child where its record applies
 abbrev pub with_child : Reader → ℕ → Option ℕ → Result (List Letter) ApplyStop → Result Place Reason
@@ -66,7 +68,9 @@ may_happen r update = (r.version == 2) && (update == r.due)
 
 -- an injected organism, with the next id, over who stands in the cell
 unfoldable pub after_injected : Reader → ℕ → ℕ → ℕ → Option ℕ → List Letter → Result Place Reason
-after_injected r id update cell over genome = within_if (may_happen r update && (id == length r.people) && holds (slice_get r.standing cell) over) (with_newcomer r Happening cell over genome r.births)
+after_injected r id update cell over genome =
+    within_if (may_happen r update && (id == length r.people) && holds (slice_get r.standing cell) over)
+    (with_newcomer r Happening cell over genome r.births)
 
 -- a cleared organism, which stands in the cell
 unfoldable pub after_cleared : Reader → ℕ → ℕ → ℕ → Result Place Reason

@@ -98,7 +98,13 @@ rules_of config = record {
 
 -- what a life in an update needs to know of its world
 unfoldable pub settings_at : ConfigValues → ℕ → Settings
-settings_at config update = record { rates = rates_of (rates_at config update); rules = rules_of config; death = config.death; age_limit = config.age_limit; memory_limit = config.memory_limit }
+settings_at config update = record {
+  rates = rates_of (rates_at config update);
+  rules = rules_of config;
+  death = config.death;
+  age_limit = config.age_limit;
+  memory_limit = config.memory_limit;
+}
 
 -- the torus of the cells
 abbrev pub torus_of : ConfigValues → Torus

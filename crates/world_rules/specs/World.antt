@@ -44,7 +44,11 @@ id_at cells cell = id_of (slice_index_or cells cell None)
 
 -- the three words of update 0 that make a founder's inputs
 abbrev pub founder_words : ℕ → ℕ → ℕ → List ℕ
-founder_words seed cell nth = draw seed 0 cell Place (3 * nth) ∷ draw seed 0 cell Place (3 * nth + 1) ∷ draw seed 0 cell Place (3 * nth + 2) ∷ []
+founder_words seed cell nth =
+    draw seed 0 cell Place (3 * nth)
+    ∷ draw seed 0 cell Place (3 * nth + 1)
+    ∷ draw seed 0 cell Place (3 * nth + 2)
+    ∷ []
 
 -- a founder in a cell: the configuration's own is number 0, an injected one has its event's place in the list, from 1
 unfoldable pub founder_of : ConfigValues → ℕ → ℕ → List Letter → OrganismState
