@@ -50,11 +50,7 @@ pub(crate) fn next_scene(
 
 /// The scene as all lives of the next update have ended.
 #[tactic(auto, using(crate::proofs::UpdateLemmas::length_lived))]
-fn scene_of_lives(
-    alloc: Global,
-    config: &Config,
-    scene: Scene,
-) -> Result<(Scene, Lived), Memory>
+fn scene_of_lives(alloc: Global, config: &Config, scene: Scene) -> Result<(Scene, Lived), Memory>
     requires size { length scene.cells ≡ config.now.width * config.now.height }
     requires update { scene.update < 1000000 }
     ensures scene { IfOk result (λ next. next.0 ≡ after_lives (scene.update + 1) scene.everyone

@@ -51,7 +51,7 @@ births_of lives = flat_map births_in (enumerate_from 0 lives)
 unfoldable pub placings_of : ConfigValues → Scene → List Delivery → List Placing
 placings_of config scene births =
     (placements_of (torus_of config) (map (λ b. b.cell) births) (ids_of scene.cells)
-      (season_at config scene.update (next_id scene))).placings
+    (season_at config scene.update (next_id scene))).placings
 
 -- how a newborn stands in the list of all
 abbrev pub birth_link : ℕ → ℕ → Delivery → ℕ → Link
