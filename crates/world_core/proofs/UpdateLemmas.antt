@@ -17,7 +17,7 @@ use Rattle.world_rules.specs.Lives.{life_at, lives_of}
 use Rattle.world_rules.specs.Scene.{Scene, cells_from, with_death, with_deaths, with_newcomer}
 use Rattle.world_rules.specs.Statistics.{scene_stats}
 use Rattle.world_rules.specs.LogText.{death_lines, birth_lines, event_lines, lines_of_lives, update_lines}
-use Rattle.world_rules.specs.Update.{Delivery, after_lives, lives_after, deaths_of, births_of, turns_of, events_at, after_birth, after_births, after_burials, after_what, after_event, after_events, last_scene, scene_of_lives, next_scene}
+use Rattle.world_rules.specs.Update.{Delivery, after_lives, lives_after, deaths_of, births_of, turns_of, events_at, after_birth, after_births, after_burials, after_what, after_event, after_events, last_scene}
 
 pub with_death-update : (scene : Scene) (cell : ℕ) → (with_death scene cell).update ≡ scene.update
 unfolding with_death

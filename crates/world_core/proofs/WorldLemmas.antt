@@ -1,5 +1,5 @@
 -- The world after an update is again the world of its configuration.
-use Rattle.std.proofs.Common.{◌≡◌, ◌∙◌, refl, sym, ap, ℕ, suc, ◌+◌, ◌*◌, ◌<◌, ◌≤◌, ◌^◌, List, length, arith}
+use Rattle.std.proofs.Common.{◌≡◌, ◌∙◌, refl, sym, ap, ℕ, suc, ◌+◌, ◌<◌, ◌≤◌, ◌^◌, List, length, arith}
 use Rattle.lineage_log.specs.LogGrammar.{lines_text}
 use Rattle.log_lines.specs.declared.stats.Stats.{Stats}
 use Rattle.world_config.specs.Values.{ConfigValues}

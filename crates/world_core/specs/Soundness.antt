@@ -1,5 +1,5 @@
 -- What holds of the numbers of every world, so that none leaves its range (docs/WORLD.md, "The end of an update").
-use Rattle.std.specs.Prelude.{ℕ, ◌+◌, ◌*◌, ◌<◌, ◌≤◌, ◌^◌, All, Option, None, Some, List, length, map}
+use Rattle.std.specs.Prelude.{ℕ, ◌*◌, ◌<◌, ◌≤◌, ◌^◌, All, Option, None, Some, List, length, map}
 use Rattle.std.specs.List.Sorted.{IsNonDecreasing}
 use Rattle.merit_slices.specs.declared.merits.TheConstants.{GREATEST_MERIT}
 use Rattle.organism.specs.OrganismState.{OrganismState}

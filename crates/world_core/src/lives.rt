@@ -1,5 +1,5 @@
 // The lives of an update, all from one start.
-ghost use Rattle.std.specs.Prelude.{◌≡◌, ◌+◌, ◌*◌, ◌<◌, ◌≤◌, ◌^◌, ◌∷◌, ◌++◌, [], ℕ, Some, None, Option, All, OnOk, IfOk, length, map, sum, slice_index_or, if◌then◌else◌};
+ghost use Rattle.std.specs.Prelude.{◌≡◌, ◌+◌, ◌<◌, ◌≤◌, ◌∷◌, ◌++◌, [], ℕ, Some, None, Option, All, OnOk, IfOk, length, map, sum, slice_index_or, if◌then◌else◌};
 ghost use Rattle.merit_slices.specs.declared.merits.TheConstants.{GREATEST_MERIT};
 ghost use Rattle.organism.specs.Newborns.{newborns_in, newborn_value, MeritsFit, LengthsFit};
 ghost use Rattle.world_config.specs.Shown.{values_of};

@@ -1,7 +1,6 @@
 // A world within an update.
-ghost use Rattle.std.specs.Prelude.{◌≡◌, ◌+◌, ◌<◌, ◌≤◌, OnOk, IfOk, length};
+ghost use Rattle.std.specs.Prelude.{◌≡◌, ◌<◌, ◌≤◌, OnOk, length};
 ghost use Rattle.merit_slices.specs.declared.merits.TheConstants.{GREATEST_MERIT};
-ghost use Rattle.organism.specs.OrganismState.{OrganismState};
 ghost use Rattle.world_rules.specs.Scene.{next_id, standing_at, with_death, with_newcomer};
 
 use crate::ancestor::Ancestor;

@@ -1,4 +1,4 @@
-use Rattle.std.proofs.Common.{◌≡◌, ◌∙◌, ◌++◌, ap, ℕ, List, arith}
+use Rattle.std.proofs.Common.{◌∙◌, ◌++◌, ap, ℕ, List, arith}
 use Rattle.lineage_log.specs.LogGrammar.{lines_text}
 use Rattle.log_lines.specs.Line.{Count}
 use Rattle.log_lines.specs.LineText.{line_text}
