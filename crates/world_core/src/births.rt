@@ -1,7 +1,7 @@
 // The newborns of an update are placed, one after another.
 ghost use Rattle.std.specs.Prelude.{◌≡◌, ◌+◌, ◌*◌, ◌++◌, ◌<◌, ◌≤◌, ◌^◌, All, OnOk, IfOk, length, map};
 ghost use Rattle.lineage_log.specs.LogGrammar.{lines_text};
-ghost use Rattle.log_lines.specs.Line.{Birth, values_of as line_values};
+ghost use Rattle.log_lines.specs.Line.{Birth};
 ghost use Rattle.log_lines.specs.LineText.{line_text};
 ghost use Rattle.mutations.specs.BirthRecord.{record_of};
 ghost use Rattle.world_config.specs.Shown.{values_of};
@@ -16,9 +16,10 @@ use crate::delivery::Delivery;
 use crate::occupant::Occupant;
 use crate::scene::Scene;
 use crate::settings::{season_at, torus_of};
+use crate::telling::tell;
 use avida_port::Memory;
 use birth_board::{Occupants, Parents, Placing, Placings, place};
-use log_lines::{LogLine, write_line};
+use log_lines::LogLine;
 use mutations::Origin;
 use organism::{Newborn, Organism};
 use std::alloc::Global;
@@ -177,13 +178,4 @@ fn tell_birth(
         LogLine::Birth { origin, .. } => Ok(origin),
         _ => unreachable!(),
     }
-}
-
-/// Writes a line, and gives it back.
-fn tell(line: LogLine, text: &mut Vec<u8>) -> Result<LogLine, Memory>
-    ensures text { OnOk result (text.new.items ≡ text.old.items ++ line_text (line_values line)) }
-    ensures line { IfOk result (λ same. same ≡ line) }
-{
-    write_line(&line, text)?;
-    Ok(line)
 }

@@ -1,5 +1,5 @@
 // The events of an update.
-ghost use Rattle.std.specs.Prelude.{◌≡◌, ◌+◌, ◌*◌, ◌++◌, ◌<◌, ◌≤◌, [], ◌∷◌, Some, IsSome, IfOk, OnOk, length};
+ghost use Rattle.std.specs.Prelude.{◌≡◌, ◌+◌, ◌*◌, ◌++◌, ◌<◌, ◌≤◌, [], ◌∷◌, Some, IfOk, OnOk, length};
 ghost use Rattle.std.specs.Option.{option_to_list};
 ghost use Rattle.genome.specs.Genome.{letters};
 ghost use Rattle.lineage_log.specs.LogGrammar.{lines_text};
@@ -9,11 +9,12 @@ ghost use Rattle.world_config.specs.Shown.{values_of};
 ghost use Rattle.world_rules.specs.LogText.{event_lines, what_lines, cleared_line};
 ghost use Rattle.world_rules.specs.Scene.{cells_from, with_death, with_deaths};
 ghost use Rattle.world_rules.specs.Update.{after_events, after_what};
-ghost use Rattle.world_core.specs.Happening.{CanHappen, genome_told};
+ghost use Rattle.world_core.specs.Happening.{CanHappen};
 
 use crate::ancestor::Ancestor;
 use crate::founding::founder;
 use crate::scene::Scene;
+use crate::telling::tell;
 use avida_port::Memory;
 use genome::Genome;
 use log_lines::{LogLine, write_line};
@@ -120,27 +121,15 @@ fn tell_injection(
     ensures text { OnOk result (text.new.items
         ≡ text.old.items ++ lines_text (what_lines scene.now (inject cell (letters genome)))) }
 {
-    let id = scene.next_id();
-    let over = scene.standing_at(cell);
-    let update = scene.update;
     let line = LogLine::Injected {
-        id,
-        update,
+        id: scene.next_id(),
+        update: scene.update,
         cell,
-        over,
+        over: scene.standing_at(cell),
         genome,
     };
-    write_line(&line, text)?;
-    Ok(injected_genome(line))
-}
-
-/// The genome that comes back from the line of an injection.
-fn injected_genome(line: LogLine) -> Genome
-    requires { IsSome (genome_told line) }
-    ensures { genome_told line ≡ Some (letters result) }
-{
-    match line {
-        LogLine::Injected { genome, .. } => genome,
+    match tell(line, text)? {
+        LogLine::Injected { genome, .. } => Ok(genome),
         _ => unreachable!(),
     }
 }

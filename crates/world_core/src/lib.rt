@@ -13,6 +13,7 @@ mod lives;
 mod occupant;
 mod scene;
 mod settings;
+mod telling;
 mod updating;
 mod world;
 
