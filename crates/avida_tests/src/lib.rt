@@ -2,6 +2,14 @@
 #![tactic(auto)]
 
 #[cfg(test)]
+mod log_rows;
+#[cfg(test)]
+mod one_cell;
+#[cfg(test)]
+mod run_faults;
+#[cfg(test)]
+mod run_rows;
+#[cfg(test)]
 mod served;
 #[cfg(test)]
 mod trace_faults;

@@ -14,21 +14,23 @@ pub struct Served {
     pub last: Option<World>,
 }
 
-/// The calls at which a source and the sinks fail.
+/// How many bytes a source gives a call, and the calls at which it and the sinks fail.
 #[derive(Clone, Copy)]
 pub struct Faults<'a> {
+    pub piece: usize,
     pub reads: &'a [u64],
     pub puts: &'a [Failing],
     pub err_puts: &'a [Failing],
 }
 
 pub const NO_FAULTS: Faults<'static> = Faults {
+    piece: 2,
     reads: &[],
     puts: &[],
     err_puts: &[],
 };
 
-/// Serves the words, which spaces part, on these bytes in pieces of two.
+/// Serves the words, which spaces part, on these bytes.
 pub fn serve_with(
     alloc: Global,
     words: &str,
@@ -41,7 +43,11 @@ pub fn serve_with(
             texts.push(String::from_str(alloc, word)?)?;
         }
     }
-    let mut source = MemSource::new(bytes.to_vec(alloc)?, 2, faults.reads.to_vec(alloc)?);
+    let mut source = MemSource::new(
+        bytes.to_vec(alloc)?,
+        faults.piece,
+        faults.reads.to_vec(alloc)?,
+    );
     let mut out = MemSink::new(alloc, faults.puts.to_vec(alloc)?);
     let mut watch = MemSink::new(alloc, Vec::new(alloc));
     let mut err = MemSink::new(alloc, faults.err_puts.to_vec(alloc)?);
