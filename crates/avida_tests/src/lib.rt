@@ -1,16 +1,8 @@
-//! Tests of the program from above.
+//! Tests of the program from above, and what those of other crates share.
 #![tactic(auto)]
 
-#[cfg(test)]
-mod log_rows;
-#[cfg(test)]
-mod one_cell;
-#[cfg(test)]
-mod run_faults;
-#[cfg(test)]
-mod run_rows;
-#[cfg(test)]
-mod served;
+pub mod one_cell;
+pub mod served;
 #[cfg(test)]
 mod trace_faults;
 #[cfg(test)]

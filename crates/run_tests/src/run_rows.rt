@@ -1,7 +1,7 @@
 // What `run` writes, leaves and refuses.
-use crate::one_cell::CONFIG;
-use crate::served::serve_on;
 use avida_program::Status;
+use avida_tests::one_cell::CONFIG;
+use avida_tests::served::serve_on;
 use genome::letters_text;
 use std::alloc::Global;
 use std::test::Fail;
@@ -303,8 +303,9 @@ fn a_configuration_of_a_mebibyte_is_run_and_a_longer_one_is_refused(
             "avida: bad input: too long\n".as_bytes(),
         ),
     ] {
-        let mut config = Vec::from_slice(alloc, b"updates = 0\n#")?;
-        while config.len() < length {
+        let start = b"updates = 0\n#";
+        let mut config = Vec::from_slice(alloc, start)?;
+        for _ in start.len()..length {
             config.push(b' ')?;
         }
         let served = serve_on(alloc, "run", &config)?;

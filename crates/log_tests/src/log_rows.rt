@@ -1,7 +1,7 @@
 // What `replay` and `upgrade` make of a log, and what they refuse.
-use crate::one_cell::log_of;
-use crate::served::serve_on;
 use avida_program::Status;
+use avida_tests::one_cell::log_of;
+use avida_tests::served::serve_on;
 use std::alloc::Global;
 use std::process::Abort;
 use std::test::Fail;

@@ -1,0 +1,7 @@
+//! Tests of the commands that run a configuration.
+#![tactic(auto)]
+
+#[cfg(test)]
+mod run_faults;
+#[cfg(test)]
+mod run_rows;
