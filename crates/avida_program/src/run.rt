@@ -1,7 +1,8 @@
 // The command `run`.
 ghost use Rattle.std.specs.Prelude.{◌≡◌, ◌≢◌, ◌≤◌, ◌<◌, ◌+◌, ℕ, List, Ok, Some, IfOk, OnOk, MatchResult};
 ghost use Rattle.world_config.specs.Shown.{values_of};
-ghost use Rattle.world_core.specs.declared.world.TheConstants.{MOST_UPDATES, MOST_WORKERS};
+ghost use Rattle.world_config.specs.declared.limits.TheConstants.{GREATEST_UPDATES};
+ghost use Rattle.world_core.specs.declared.world.TheConstants.{MOST_WORKERS};
 ghost use Rattle.world_core.specs.WorldValue.{WorldValue};
 ghost use Rattle.world_rules.specs.Laws.{ReplaysToLiving};
 ghost use Rattle.world_rules.specs.LogText.{head_text, update_text, updates_text, end_text, log_text};
@@ -39,7 +40,7 @@ fn write_update<O: Sink, G: Gate + Sync>(
     out: &mut O,
     gate: &G,
 ) -> Result<World, Outcome>
-    requires { world.update < MOST_UPDATES }
+    requires { world.update < GREATEST_UPDATES }
     ensures world { IfOk result (λ next. next ≡ record world { update = world.update + 1 }) }
     ensures text { WritesAll (O.seen out.old) (O.seen out.new)
         (update_text world.config (world.update + 1)) result }
@@ -58,7 +59,7 @@ fn write_updates<O: Sink, G: Gate + Sync>(
     gate: &G,
 ) -> Result<World, Outcome>
     requires new { world.update ≡ 0 }
-    requires updates { updates ≤ MOST_UPDATES }
+    requires updates { updates ≤ GREATEST_UPDATES }
     ensures world { IfOk result (λ after. after ≡ record world { update = updates }) }
     ensures text { WritesAll (O.seen out.old) (O.seen out.new)
         (updates_text world.config updates) result }

@@ -3,6 +3,7 @@ use Rattle.std.proofs.Common.{◌≡◌, ◌∙◌, refl, sym, ap, ℕ, suc, ◌
 use Rattle.lineage_log.specs.LogGrammar.{lines_text}
 use Rattle.log_lines.specs.declared.stats.Stats.{Stats}
 use Rattle.world_config.specs.Values.{ConfigValues}
+use Rattle.world_config.specs.declared.limits.TheConstants.{GREATEST_UPDATES}
 use Rattle.world_rules.specs.World.{World}
 use Rattle.world_rules.specs.Scene.{Scene}
 use Rattle.world_rules.specs.Update.{next_scene, next_world, world_of}
@@ -39,7 +40,7 @@ unfolding next_world
 world_of-next config before = refl
 
 -- where the scene before was that of its configuration's world, so is the one after
-pub next_world_is : (config : ConfigValues) (before after : Scene) (old stats : Stats) → IsWorldOf config before old → IsNext config before after stats → before.update < 1000000 → IsWorldOf config after stats
+pub next_world_is : (config : ConfigValues) (before after : Scene) (old stats : Stats) → IsWorldOf config before old → IsNext config before after stats → before.update < GREATEST_UPDATES → IsWorldOf config after stats
 next_world_is config before after old stats was is early = record {
   world = ap world_of is.scene ∙ world_of-next config before ∙ ap (next_world config) was.world ∙ sym (world_after-more config before.update) ∙ ap (world_after config) (sym is.update);
   counts = is.counts ∙ ap (next_stats config) was.world ∙ sym (stats_of-more config before.update) ∙ ap (stats_of config) (sym is.update);

@@ -22,7 +22,7 @@ use mutations::RateName;
 use random_streams::CELLS;
 use std::alloc::Global;
 use std::sync::Arc;
-use world_config::{Config, What};
+use world_config::{Config, MOST_EVENTS, What};
 
 /// The events of the scene's update in order, with their lines. After `Memory` drop the scene.
 pub(crate) fn happen(
@@ -36,7 +36,7 @@ pub(crate) fn happen(
     ensures text { OnOk result (text.new.items
         ≡ text.old.items ++ lines_text (event_lines (values_of config.now) scene.old)) }
     ensures size { OnOk result (length scene.new.cells ≡ length scene.old.cells) }
-    ensures everyone { OnOk result (length scene.new.everyone ≤ length scene.old.everyone + 1000) }
+    ensures everyone { OnOk result (length scene.new.everyone ≤ length scene.old.everyone + MOST_EVENTS) }
 {
     let update = scene.update;
     for (at, event) in config.event.as_slice().iter().enumerate() {
@@ -57,7 +57,7 @@ fn occur(
     text: &mut Vec<u8>,
 ) -> Result<(), Memory>
     requires cells { length scene.old.cells ≤ CELLS }
-    requires nth { nth ≤ 1000 }
+    requires nth { nth ≤ MOST_EVENTS }
     requires fits { CanHappen (length scene.old.cells) config.now.greatest_length (what_value what.now) }
     ensures scene { OnOk result (scene.new
         ≡ after_what (values_of config.now) scene.old nth (what_value what.now)) }
@@ -86,7 +86,7 @@ fn inject(
 ) -> Result<(), Memory>
     requires cells { length scene.old.cells ≤ CELLS }
     requires cell { cell < length scene.old.cells }
-    requires nth { nth ≤ 1000 }
+    requires nth { nth ≤ MOST_EVENTS }
     requires genome { length (letters genome.now) ≤ config.now.greatest_length }
     ensures scene { OnOk result (scene.new
         ≡ after_what (values_of config.now) scene.old nth (inject cell (letters genome.now))) }

@@ -17,7 +17,7 @@ use organism::Organism;
 use random_streams::{CELLS, Draws, Purpose};
 use std::alloc::Global;
 use std::sync::Arc;
-use world_config::Config;
+use world_config::{Config, MOST_EVENTS};
 
 /// Founder number `nth` of a run, in this cell.
 #[tactic(auto, unfolding(world_rules::specs::World::founder_of))]
@@ -29,7 +29,7 @@ pub(crate) fn founder(
     genome: Arc<Genome, Global>,
 ) -> Result<Organism, Memory>
     requires cell { cell < CELLS }
-    requires nth { nth ≤ 1000 }
+    requires nth { nth ≤ MOST_EVENTS }
     requires genome { length (letters genome.value) ≤ config.now.greatest_length }
     ensures { IfOk result (λ organism.
         organism ≡ founder_of (values_of config.now) cell nth (letters genome.value)) }
@@ -49,7 +49,7 @@ pub(crate) fn founder(
 /// The inputs of founder number `nth`, by three words of update 0.
 fn founder_inputs(seed: u64, cell: u32, nth: u32) -> Inputs
     requires cell { cell < CELLS }
-    requires nth { nth ≤ 1000 }
+    requires nth { nth ≤ MOST_EVENTS }
     ensures { result ≡ inputs_of (founder_words seed cell nth) }
 {
     let mut draws = Draws::start(seed, 0, cell, Purpose::Place);

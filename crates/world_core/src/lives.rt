@@ -16,7 +16,7 @@ use merit_slices::{GREATEST_MERIT, share};
 use organism::{Births, LIFE_STEPS, Ran, Settings};
 use random_streams::{CELLS, Draws, Purpose};
 use std::alloc::{AllocError, Global};
-use world_config::Config;
+use world_config::{Config, GREATEST_UPDATES};
 
 /// What the lives of an update bring: the newborns in order of cell and birth, and the cells whose organism died of age.
 #[derive(Drop)]
@@ -40,7 +40,7 @@ pub(crate) fn live(
     cells: &mut [Option<Occupant>],
 ) -> Result<Lived, Memory>
     requires cells { length cells.old ≤ CELLS }
-    requires update { update < 1000000 }
+    requires update { update < GREATEST_UPDATES }
     requires sound { AreBounded update cells.old }
     ensures cells { OnOk result (cells.new
         ≡ map (λ l. l.occupant) (lives_of (values_of config.now) (update + 1) cells.old)) }
@@ -123,7 +123,7 @@ fn live_in(
 ) -> Result<Life, Memory>
     requires cell { cell < CELLS }
     requires steps { steps < LIFE_STEPS }
-    requires update { update < 1000000 }
+    requires update { update < GREATEST_UPDATES }
     requires settings { settings.now ≡ settings_at (values_of config.now) (update + 1) }
     requires sound { IsBoundedIn update slot.old }
     ensures life { IfOk result (λ life. life_of (values_of config.now) (update + 1) cell steps slot.old
@@ -154,7 +154,7 @@ fn live_once(
 ) -> Result<Life, Memory>
     requires cell { cell < CELLS }
     requires steps { steps < LIFE_STEPS }
-    requires update { update < 1000000 }
+    requires update { update < GREATEST_UPDATES }
     requires settings { settings.now ≡ settings_at (values_of config.now) (update + 1) }
     requires sound { IsBounded update occupant.old.organism }
     ensures life { IfOk result (λ life. life_of (values_of config.now) (update + 1) cell steps (Some occupant.old)

@@ -17,7 +17,7 @@ use crate::scene::Scene;
 use avida_port::Memory;
 use log_lines::{LogLine, Stats, write_line};
 use std::alloc::Global;
-use world_config::Config;
+use world_config::{Config, GREATEST_UPDATES};
 
 /// The scene at the end of the next update, what is counted of it, and its lines.
 #[tactic(auto, unfolding(world_rules::specs::Update::next_scene, world_rules::specs::Update::scene_of_lives, world_rules::specs::Update::last_scene, world_rules::specs::Update::after_burials, world_rules::specs::LogText::update_lines, world_rules::specs::LogText::lines_of_lives, world_rules::specs::Statistics::next_stats), using(crate::proofs::UpdateLemmas::joined))]
@@ -27,7 +27,7 @@ pub(crate) fn next_scene(
     scene: Scene,
 ) -> Result<(Scene, Stats, Vec<u8>), Memory>
     requires size { length scene.cells ≡ config.now.width * config.now.height }
-    requires update { scene.update < 1000000 }
+    requires update { scene.update < GREATEST_UPDATES }
     requires few { length scene.everyone ≤ 2 ^ 60 }
     ensures scene { IfOk result (λ next. next.0 ≡ next_scene (values_of config.now) (world_of scene)) }
     ensures stats { IfOk result (λ next. next.1 ≡ next_stats (values_of config.now) (world_of scene)) }
@@ -52,7 +52,7 @@ pub(crate) fn next_scene(
 #[tactic(auto, using(crate::proofs::UpdateLemmas::length_lived))]
 fn scene_of_lives(alloc: Global, config: &Config, scene: Scene) -> Result<(Scene, Lived), Memory>
     requires size { length scene.cells ≡ config.now.width * config.now.height }
-    requires update { scene.update < 1000000 }
+    requires update { scene.update < GREATEST_UPDATES }
     ensures scene { IfOk result (λ next. next.0 ≡ after_lives (scene.update + 1) scene.everyone
         (lives_of (values_of config.now) (scene.update + 1) scene.cells)) }
     ensures births { IfOk result (λ next. next.1.births.items

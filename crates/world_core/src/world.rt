@@ -20,11 +20,8 @@ use lineage_log::Path;
 use log_lines::{LAST_VERSION, LogLine, Stats, write_line};
 use std::alloc::Global;
 use std::marker::Model;
-use world_config::Config;
+use world_config::{Config, GREATEST_UPDATES};
 use world_rules::laws::ids_are_places;
-
-/// The updates of the longest run.
-pub const MOST_UPDATES: u32 = 1_000_000;
 
 /// The greatest number of workers.
 pub const MOST_WORKERS: u32 = 64;
@@ -71,7 +68,7 @@ impl World {
         alloc: Global,
         gate: &G,
     ) -> Result<(World, Vec<u8>), Memory>
-        requires { self.update < MOST_UPDATES }
+        requires { self.update < GREATEST_UPDATES }
         ensures world { IfOk result (λ next. next.0 ≡ record self { update = self.update + 1 }) }
         ensures text { IfOk result (λ next. next.1.items ≡ update_text self.config (self.update + 1)) }
     {
