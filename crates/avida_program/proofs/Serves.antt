@@ -1,17 +1,17 @@
 -- From what the work leaves by its outcome to what `serve` promises by its status.
-use Rattle.std.proofs.Common.{◌≡◌, ◌≢◌, ℕ, List, Option, Some, Result, sym, subst, refl, inl, inr}
+use Rattle.std.proofs.Common.{◌≡◌, ◌≢◌, ℕ, List, Option, Result, sym, subst, refl, inl, inr}
 use Rattle.avida_port.specs.Ports.{SourceState, SinkState}
+use Rattle.world_config.specs.Values.{ConfigValues}
 use Rattle.world_core.specs.WorldValue.{WorldValue}
-use Rattle.world_rules.specs.Laws.{ReplaysToLiving}
 use Rattle.avida_program.proofs.PutLemmas.{nothing_gained}
 use Rattle.avida_program.specs.declared.status.Status.TheVariants as status
 use Rattle.avida_program.specs.declared.outcome.Outcome.{Outcome}
 use Rattle.avida_program.specs.declared.outcome.Outcome.TheVariants as outcome
 use Rattle.avida_program.specs.declared.refusal.Refusal.{Refusal}
-use Rattle.avida_program.specs.Input.{IsInputWith, configuration_of}
+use Rattle.avida_program.specs.Input.{IsInputWith, configuration_of, lineage_input_of}
 use Rattle.avida_program.specs.Status.{status_of}
-use Rattle.avida_program.specs.Commands.{Change, Stays, TellsOf, GainedFront, ServesInput, ServesRun, final_world, told_by}
-use Rattle.avida_program.specs.Outcomes.{LeavesLast, ReadsInput, Runs}
+use Rattle.avida_program.specs.Commands.{Change, Stays, TellsOf, GainedFront, ServesInput, ServesLineage, ServesRun, told_by}
+use Rattle.avida_program.specs.Outcomes.{Descends, LeavesFinal, LeavesLast, LeavesWorld, ReadsInput, Runs}
 
 -- nothing is a front of every text
 pub stays_front : (sink : Change SinkState) (text : List ℕ) → Stays sink → GainedFront sink text
@@ -103,40 +103,43 @@ serves_input read text_of source out watch err outcome.NoMemory w h t = record {
   complete = λ input is read_well put_well. inr refl;
 }
 
--- the world that is left where all is done
-left_by : (bytes : List ℕ) (last : Change (Option WorldValue)) (told : Outcome) → LeavesLast bytes last told → status_of told ≡ status.Done
-    → IsInputWith (configuration_of bytes) (λ config. last.after ≡ Some (final_world config))
-left_by bytes last outcome.Done h e = (h.0, h.1, h.2.world)
-left_by bytes last outcome.BadWords h e = absurd (cc)
-left_by bytes last (outcome.BadInput why) h e = absurd (cc)
-left_by bytes last outcome.ReadFault h e = absurd (cc)
-left_by bytes last outcome.WriteFault h e = absurd (cc)
-left_by bytes last outcome.NoMemory h e = absurd (cc)
-
--- the log of a run that came to its end replays to the living
-replayed_by : (bytes : List ℕ) (last : Change (Option WorldValue)) (told : Outcome) → LeavesLast bytes last told → status_of told ≡ status.Done
-    → IsInputWith (configuration_of bytes) (λ config. ReplaysToLiving config config.updates)
-replayed_by bytes last outcome.Done h e = (h.0, h.1, h.2.replays)
-replayed_by bytes last outcome.BadWords h e = absurd (cc)
-replayed_by bytes last (outcome.BadInput why) h e = absurd (cc)
-replayed_by bytes last outcome.ReadFault h e = absurd (cc)
-replayed_by bytes last outcome.WriteFault h e = absurd (cc)
-replayed_by bytes last outcome.NoMemory h e = absurd (cc)
+-- what is left where all is done
+left_by : (read : Result ConfigValues Refusal) (Leaves : Change (Option WorldValue) → ConfigValues → Type 0) (last : Change (Option WorldValue)) (told : Outcome)
+    → LeavesLast read Leaves last told → status_of told ≡ status.Done → IsInputWith read (Leaves last)
+left_by read Leaves last outcome.Done h e = h
+left_by read Leaves last outcome.BadWords h e = absurd (cc)
+left_by read Leaves last (outcome.BadInput why) h e = absurd (cc)
+left_by read Leaves last outcome.ReadFault h e = absurd (cc)
+left_by read Leaves last outcome.WriteFault h e = absurd (cc)
+left_by read Leaves last outcome.NoMemory h e = absurd (cc)
 
 -- what was there stays in every other case
-kept_by : (bytes : List ℕ) (last : Change (Option WorldValue)) (told : Outcome) → LeavesLast bytes last told → status_of told ≢ status.Done → Stays last
-kept_by bytes last outcome.Done h n = absurd (n refl)
-kept_by bytes last outcome.BadWords h n = h
-kept_by bytes last (outcome.BadInput why) h n = h
-kept_by bytes last outcome.ReadFault h n = h
-kept_by bytes last outcome.WriteFault h n = h
-kept_by bytes last outcome.NoMemory h n = h
+kept_by : (read : Result ConfigValues Refusal) (Leaves : Change (Option WorldValue) → ConfigValues → Type 0) (last : Change (Option WorldValue)) (told : Outcome)
+    → LeavesLast read Leaves last told → status_of told ≢ status.Done → Stays last
+kept_by read Leaves last outcome.Done h n = absurd (n refl)
+kept_by read Leaves last outcome.BadWords h n = h
+kept_by read Leaves last (outcome.BadInput why) h n = h
+kept_by read Leaves last outcome.ReadFault h n = h
+kept_by read Leaves last outcome.WriteFault h n = h
+kept_by read Leaves last outcome.NoMemory h n = h
 
 pub serves_run : (bytes : List ℕ) (source : Change SourceState) (out watch err : Change SinkState) (last : Change (Option WorldValue)) (told : Outcome)
     → Stays watch → Runs bytes source out last told → TellsOf err told → ServesRun bytes source out watch err last (status_of told)
 serves_run bytes source out watch err last told w h t = record {
   serves = serves_input _ _ source out watch err told w h.reads t;
-  last_world = λ e. left_by bytes last told h.leaves e;
-  replays = λ e. replayed_by bytes last told h.leaves e;
-  last_stays = λ e. kept_by bytes last told h.leaves e;
+  last_world = λ e.
+      let left : IsInputWith (configuration_of bytes) (LeavesWorld last) = left_by (configuration_of bytes) LeavesWorld last told h.leaves e in
+      (left.0, left.1, left.2.world);
+  replays = λ e.
+      let left : IsInputWith (configuration_of bytes) (LeavesWorld last) = left_by (configuration_of bytes) LeavesWorld last told h.leaves e in
+      (left.0, left.1, left.2.replays);
+  last_stays = λ e. kept_by (configuration_of bytes) LeavesWorld last told h.leaves e;
+}
+
+pub serves_lineage : (cell : ℕ) (bytes : List ℕ) (source : Change SourceState) (out watch err : Change SinkState) (last : Change (Option WorldValue)) (told : Outcome)
+    → Stays watch → Descends cell bytes source out last told → TellsOf err told → ServesLineage cell bytes source out watch err last (status_of told)
+serves_lineage cell bytes source out watch err last told w h t = record {
+  serves = serves_input _ _ source out watch err told w h.reads t;
+  last_world = λ e. left_by (lineage_input_of cell bytes) LeavesFinal last told h.leaves e;
+  last_stays = λ e. kept_by (lineage_input_of cell bytes) LeavesFinal last told h.leaves e;
 }

@@ -5,7 +5,7 @@ use Rattle.command_line.specs.Commands as told
 use Rattle.command_line.specs.declared.run.Run.{Run as RunWords}
 use Rattle.command_line.specs.declared.workers.TheConstants.{LEAST_WORKERS, MOST_WORKERS}
 use Rattle.avida_program.specs.declared.command.Command.{Command}
-use Rattle.avida_program.specs.declared.command.Command.TheVariants.{Trace, Run, Replay, Upgrade}
+use Rattle.avida_program.specs.declared.command.Command.TheVariants.{Trace, Run, Lineage, Replay, Upgrade}
 use Rattle.avida_program.specs.declared.command.Spelling.{Spelling}
 use Rattle.avida_program.specs.declared.command.Spelling.TheVariants.{Letters, Names}
 
@@ -26,6 +26,11 @@ unwatched run = if is_none run.watch then Some (Run run.workers) else None
 abbrev pub run_command : List (List ℕ) → Option Command
 run_command words = option_and_then unwatched (told.run_told words)
 
+-- `lineage` by the words after the name
+abbrev pub lineage_command : List (List ℕ) → Option Command
+lineage_command words =
+    option_map (λ lineage. Lineage lineage.cell lineage.workers) (told.lineage_told words)
+
 -- a command that takes no words
 abbrev pub bare_command : Command → List (List ℕ) → Option Command
 bare_command command words = option_map (λ nothing. command) (told.nothing_told words)
@@ -35,6 +40,7 @@ abbrev pub command_named : List ℕ → List (List ℕ) → Option Command
 command_named name words =
     if bytes_eq name (codes "trace") then trace_command words
     else if bytes_eq name (codes "run") then run_command words
+    else if bytes_eq name (codes "lineage") then lineage_command words
     else if bytes_eq name (codes "replay") then bare_command Replay words
     else if bytes_eq name (codes "upgrade") then bare_command Upgrade words
     else None
@@ -44,9 +50,10 @@ abbrev pub command_of : List (List ℕ) → Option Command
 command_of [] = None
 command_of (name ∷ words) = command_named name words
 
--- a run has from 1 to 64 workers
+-- a command that runs a world has from 1 to 64 workers
 abbrev pub HasWorkers : Command → Type 0
 HasWorkers (Trace steps spelling) = ⊤
 HasWorkers (Run workers) = (LEAST_WORKERS ≤ workers) × (workers ≤ MOST_WORKERS)
+HasWorkers (Lineage cell workers) = (LEAST_WORKERS ≤ workers) × (workers ≤ MOST_WORKERS)
 HasWorkers Replay = ⊤
 HasWorkers Upgrade = ⊤

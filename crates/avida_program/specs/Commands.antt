@@ -18,7 +18,8 @@ use Rattle.avida_program.specs.declared.status.Status.TheVariants as status
 use Rattle.avida_program.specs.declared.outcome.Outcome.{Outcome}
 use Rattle.avida_program.specs.declared.outcome.Outcome.TheVariants as outcome
 use Rattle.avida_program.specs.declared.refusal.Refusal.{Refusal}
-use Rattle.avida_program.specs.Input.{IsInputWith, configuration_of, genome_of, log_input_of}
+use Rattle.avida_program.specs.Input.{IsInputWith, configuration_of, genome_of, lineage_input_of, log_input_of}
+use Rattle.avida_program.specs.PathText.{path_text}
 use Rattle.avida_program.specs.Status.{fault_line}
 use Rattle.avida_program.specs.TraceText.{trace_text}
 
@@ -143,6 +144,18 @@ pub record ServesRun (bytes : List ℕ) (source : Change SourceState)
   -- Done: the log is a good one, and replays to who lives in that world
   pub replays : s ≡ status.Done
       → IsInputWith (configuration_of bytes) (λ config. ReplaysToLiving config config.updates)
+  -- else what was there stays
+  pub last_stays : s ≢ status.Done → Stays last
+
+-- `lineage` of a cell, on a source that tells these bytes
+pub record ServesLineage (cell : ℕ) (bytes : List ℕ) (source : Change SourceState)
+    (out watch err : Change SinkState) (last : Change (Option WorldValue)) (s : Status) : Type 0 where
+  -- what is read and written; a cell that is not in the world is refused
+  pub serves : ServesInput (lineage_input_of cell bytes) (λ config. path_text config cell)
+      source out watch err s
+  -- Done: the world after the last update is left
+  pub last_world : s ≡ status.Done
+      → IsInputWith (lineage_input_of cell bytes) (λ config. last.after ≡ Some (final_world config))
   -- else what was there stays
   pub last_stays : s ≢ status.Done → Stays last
 

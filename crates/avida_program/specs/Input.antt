@@ -1,5 +1,5 @@
 -- Which input a command takes (docs/FORMATS.md, "Genomes by letters", "Genomes by names", "The configuration" and "The log").
-use Rattle.std.specs.Prelude.{◌≡◌, ℕ, List, Result, Ok, Err, length, nat_lt, if◌then◌else◌}
+use Rattle.std.specs.Prelude.{◌≡◌, ◌*◌, ℕ, List, Result, Ok, Err, length, nat_lt, if◌then◌else◌}
 use Rattle.instruction_set.specs.declared.letter.Letter.{Letter}
 use Rattle.genome.specs.declared.stop.GenomeStop.{GenomeStop}
 use Rattle.genome.specs.GenomeText.{spelled_by_letters, spelled_by_names}
@@ -13,7 +13,7 @@ use Rattle.avida_program.specs.declared.input.TheConstants.{INPUT_LIMIT}
 use Rattle.avida_program.specs.declared.command.Spelling.{Spelling}
 use Rattle.avida_program.specs.declared.command.Spelling.TheVariants.{Letters, Names}
 use Rattle.avida_program.specs.declared.refusal.Refusal.{Refusal}
-use Rattle.avida_program.specs.declared.refusal.Refusal.TheVariants.{TooLong, Genome, Config, Log}
+use Rattle.avida_program.specs.declared.refusal.Refusal.TheVariants.{TooLong, Genome, Config, Log, Cell}
 
 -- an input, or what refuses it as the reason of a refusal
 abbrev pub refused_as : {A E : Type 0} → (E → Refusal) → Result A E → Result A Refusal
@@ -41,6 +41,16 @@ genome_of spelling bytes =
 -- the configuration of an input, or why it is refused
 abbrev pub configuration_of : List ℕ → Result ConfigValues Refusal
 configuration_of bytes = within INPUT_LIMIT bytes (refused_as Config (config_of bytes))
+
+-- a configuration, unless this cell is not in its world; what refuses the configuration comes first
+abbrev pub with_cell : ℕ → Result ConfigValues Refusal → Result ConfigValues Refusal
+with_cell cell (Ok config) =
+    if nat_lt cell (config.width * config.height) then Ok config else Err (Cell cell)
+with_cell cell (Err why) = Err why
+
+-- the configuration of an input that asks for a cell, or why it is refused
+abbrev pub lineage_input_of : ℕ → List ℕ → Result ConfigValues Refusal
+lineage_input_of cell bytes = with_cell cell (configuration_of bytes)
 
 -- the lines of an input that is a log, or why it is refused
 abbrev pub log_input_of : List ℕ → Result (List Line) Refusal

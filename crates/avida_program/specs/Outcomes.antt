@@ -11,7 +11,8 @@ use Rattle.avida_program.specs.declared.outcome.Outcome.{Outcome}
 use Rattle.avida_program.specs.declared.outcome.Outcome.TheVariants as outcome
 use Rattle.avida_program.specs.declared.refusal.Refusal.{Refusal}
 use Rattle.avida_program.specs.declared.refusal.Refusal.TheVariants.{TooLong}
-use Rattle.avida_program.specs.Input.{IsInputWith, configuration_of, genome_of}
+use Rattle.avida_program.specs.Input.{IsInputWith, configuration_of, genome_of, lineage_input_of}
+use Rattle.avida_program.specs.PathText.{path_text}
 use Rattle.avida_program.specs.TraceText.{trace_text}
 use Rattle.avida_program.specs.Commands.{Change, Stays, SourceFailed, SinkFailed, GainedText, GainedFront, change, final_world, run_text}
 
@@ -99,13 +100,26 @@ pub record LeavesWorld (last : Change (Option WorldValue)) (config : ConfigValue
   pub world : last.after ≡ Some (final_world config)
   pub replays : ReplaysToLiving config config.updates
 
--- a run leaves its last world where all is done, and else what was there
-abbrev pub LeavesLast : List ℕ → Change (Option WorldValue) → Outcome → Type 0
-LeavesLast bytes last outcome.Done = IsInputWith (configuration_of bytes) (LeavesWorld last)
-LeavesLast bytes last told = Stays last
+-- where all is done this holds of the input and the last world, and else what was there stays
+abbrev pub LeavesLast : Result ConfigValues Refusal
+    → (Change (Option WorldValue) → ConfigValues → Type 0)
+    → Change (Option WorldValue) → Outcome → Type 0
+LeavesLast read Leaves last outcome.Done = IsInputWith read (Leaves last)
+LeavesLast read Leaves last told = Stays last
 
 -- `run` on these bytes
 pub record Runs (bytes : List ℕ) (source : Change SourceState) (out : Change SinkState)
     (last : Change (Option WorldValue)) (told : Outcome) : Type 0 where
   pub reads : ReadsInput (configuration_of bytes) run_text source out told
-  pub leaves : LeavesLast bytes last told
+  pub leaves : LeavesLast (configuration_of bytes) LeavesWorld last told
+
+-- a configuration's last world is left
+abbrev pub LeavesFinal : Change (Option WorldValue) → ConfigValues → Type 0
+LeavesFinal last config = last.after ≡ Some (final_world config)
+
+-- `lineage` of a cell on these bytes
+pub record Descends (cell : ℕ) (bytes : List ℕ) (source : Change SourceState)
+    (out : Change SinkState) (last : Change (Option WorldValue)) (told : Outcome) : Type 0 where
+  pub reads : ReadsInput (lineage_input_of cell bytes) (λ config. path_text config cell)
+      source out told
+  pub leaves : LeavesLast (lineage_input_of cell bytes) LeavesFinal last told

@@ -6,7 +6,7 @@ use Rattle.avida_program.specs.declared.status.Status.TheVariants as status
 use Rattle.avida_program.specs.declared.outcome.Outcome.{Outcome}
 use Rattle.avida_program.specs.declared.outcome.Outcome.TheVariants as outcome
 use Rattle.avida_program.specs.declared.refusal.Refusal.{Refusal}
-use Rattle.avida_program.specs.declared.refusal.Refusal.TheVariants.{TooLong, Genome, Config, Log}
+use Rattle.avida_program.specs.declared.refusal.Refusal.TheVariants.{TooLong, Genome, Config, Log, Cell}
 use Rattle.avida_program.specs.declared.fault_line.TheConstants.{SHOWN_BYTES}
 use Rattle.genome.specs.declared.stop.GenomeStop.{GenomeStop}
 use Rattle.genome.specs.declared.stop.GenomeStop.TheVariants as stop
@@ -76,6 +76,7 @@ reason_of TooLong = codes "too long"
 reason_of (Genome why) = genome_reason why
 reason_of (Config why) = config_reason why
 reason_of (Log why) = log_reason why
+reason_of (Cell cell) = codes "cell " ++ decimal cell
 
 -- the line that tells of an outcome
 abbrev pub fault_line : Outcome → List ℕ

@@ -1,9 +1,9 @@
 // The words of a command line.
 ghost use Rattle.std.specs.Prelude.{◌≡◌, ◌<◌, Some, MatchResult, IfOk, drop, length, map, string_bytes};
 ghost use Rattle.command_line.specs.Refusals.{Refuses};
-ghost use Rattle.avida_program.specs.CommandLine.{HasWorkers, bare_command, command_named, command_of, run_command, spelling_of, trace_command};
+ghost use Rattle.avida_program.specs.CommandLine.{HasWorkers, bare_command, command_named, command_of, lineage_command, run_command, spelling_of, trace_command};
 
-use command_line::{Refused, read_nothing, read_run, read_trace};
+use command_line::{Refused, read_lineage, read_nothing, read_run, read_trace};
 use std::alloc::Global;
 
 /// How a genome is written.
@@ -17,6 +17,7 @@ pub enum Spelling {
 pub enum Command {
     Trace { steps: u32, spelling: Spelling },
     Run { workers: u32 },
+    Lineage { cell: u32, workers: u32 },
     Replay,
     Upgrade,
 }
@@ -60,6 +61,19 @@ fn read_run_words(alloc: Global, words: &[String]) -> Result<Command, Refused>
     }
 }
 
+fn read_lineage_words(alloc: Global, words: &[String]) -> Result<Command, Refused>
+    requires { 0 < length words.now }
+    ensures { MatchResult result
+        (λ command. lineage_command (drop 1 (map string_bytes words.now)) ≡ Some command)
+        (Refuses (lineage_command (drop 1 (map string_bytes words.now)))) }
+{
+    let lineage = read_lineage(alloc, words)?;
+    Ok(Command::Lineage {
+        cell: lineage.cell,
+        workers: lineage.workers,
+    })
+}
+
 /// A command that takes no words.
 fn read_bare_words(alloc: Global, words: &[String], command: Command) -> Result<Command, Refused>
     requires { 0 < length words.now }
@@ -83,6 +97,7 @@ fn read_named(alloc: Global, name: &str, words: &[String]) -> Result<Command, Re
     match name {
         "trace" => read_trace_words(alloc, words),
         "run" => read_run_words(alloc, words),
+        "lineage" => read_lineage_words(alloc, words),
         "replay" => read_bare_words(alloc, words, Command::Replay),
         "upgrade" => read_bare_words(alloc, words, Command::Upgrade),
         _ => Err(Refused::BadWords),

@@ -175,6 +175,7 @@ fn push_reason(line: &mut Line, refusal: &Refusal)
         Refusal::Genome(stop) => push_genome_reason(line, *stop),
         Refusal::Config(stop) => push_config_reason(line, stop),
         Refusal::Log(stop) => push_log_reason(line, *stop),
+        Refusal::Cell(cell) => push_number(line, "cell ", u64::from(*cell)),
     }
 }
 

@@ -1,10 +1,10 @@
 // What a command reads.
-ghost use Rattle.std.specs.Prelude.{◌≡◌, ◌≢◌, ◌≤◌, length, IfOk, IfErr, OnOk, Ok, Err};
+ghost use Rattle.std.specs.Prelude.{◌≡◌, ◌≢◌, ◌≤◌, ◌<◌, ◌*◌, length, IfOk, IfErr, OnOk, Ok, Err};
 ghost use Rattle.avida_port.specs.Ports.{IsAllOf, AtEnd};
 ghost use Rattle.genome.specs.Genome.{letters};
 ghost use Rattle.world_config.specs.Shown.{values_of};
 ghost use Rattle.avida_program.specs.Commands.{change};
-ghost use Rattle.avida_program.specs.Input.{configuration_of, genome_of, genome_spelled, log_input_of};
+ghost use Rattle.avida_program.specs.Input.{configuration_of, genome_of, genome_spelled, lineage_input_of, log_input_of};
 ghost use Rattle.avida_program.specs.Outcomes.{RefusesInput, StopsReading};
 
 use crate::{Outcome, Refusal, Spelling};
@@ -72,6 +72,24 @@ pub fn read_config(alloc: Global, bytes: Vec<u8>) -> Result<Config, Outcome>
         Ok(config) => Ok(config),
         Err(ConfigStop::Memory) => Err(Outcome::NoMemory),
         Err(stop) => Err(Outcome::BadInput(Refusal::Config(stop))),
+    }
+}
+
+/// The configuration of bytes within the limit, which are dropped, with this cell in its world.
+pub fn read_config_with(alloc: Global, bytes: Vec<u8>, cell: u32) -> Result<Config, Outcome>
+    requires { length bytes.items ≤ INPUT_LIMIT }
+    ensures ok { IfOk result (λ config. lineage_input_of cell bytes.items ≡ Ok (values_of config)) }
+    ensures cell { IfOk result (λ config. cell < config.width * config.height) }
+    ensures refused { IfErr result (RefusesInput (lineage_input_of cell bytes.items)) }
+{
+    let config = match read_config(alloc, bytes) {
+        Ok(config) => config,
+        Err(outcome) => return Err(outcome),
+    };
+    if cell < config.width * config.height {
+        Ok(config)
+    } else {
+        Err(Outcome::BadInput(Refusal::Cell(cell)))
     }
 }
 

@@ -4,6 +4,7 @@
 mod command;
 mod fault_line;
 mod input;
+mod lineage;
 mod outcome;
 mod piece;
 mod refusal;

@@ -10,4 +10,6 @@ pub enum Refusal {
     Genome(GenomeStop),
     Config(ConfigStop),
     Log(LogStop),
+    /// This cell is not in the world.
+    Cell(u32),
 }

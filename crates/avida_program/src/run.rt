@@ -11,7 +11,7 @@ ghost use Rattle.avida_program.specs.Outcomes.{HasCauses, Runs, WritesAll};
 
 use crate::input::{read_bytes, read_config};
 use crate::{INPUT_LIMIT, Outcome};
-use avida_port::{Gate, Sink, Source};
+use avida_port::{Gate, Memory, Sink, Source};
 use std::alloc::Global;
 use world_config::Config;
 use world_core::World;
@@ -92,8 +92,49 @@ fn write_log<O: Sink, G: Gate + Sync>(
     Ok(world)
 }
 
+/// One update, whose text is dropped.
+fn pass_update<G: Gate + Sync>(alloc: Global, world: World, gate: &G) -> Result<World, Memory>
+    requires { world.update < GREATEST_UPDATES }
+    ensures { IfOk result (λ next. next ≡ record world { update = world.update + 1 }) }
+{
+    let (next, _text) = world.advance(alloc, gate)?;
+    Ok(next)
+}
+
+/// The updates of a new world, without their texts.
+fn pass_updates<G: Gate + Sync>(
+    alloc: Global,
+    mut world: World,
+    updates: u32,
+    gate: &G,
+) -> Result<World, Memory>
+    requires new { world.update ≡ 0 }
+    requires updates { updates ≤ GREATEST_UPDATES }
+    ensures { IfOk result (λ after. after ≡ record world { update = updates }) }
+{
+    for _ in 0..updates {
+        world = pass_update(alloc, world, gate)?;
+    }
+    Ok(world)
+}
+
+/// The world after a configuration's last update.
+pub fn run_to_end<G: Gate + Sync>(
+    alloc: Global,
+    config: Config,
+    workers: u32,
+    gate: &G,
+) -> Result<World, Memory>
+    requires workers { (1 ≤ workers) × (workers ≤ MOST_WORKERS) }
+    ensures { IfOk result (λ world. world ≡ final_world (values_of config)) }
+{
+    let updates = config.updates;
+    let world = World::found(alloc, config, workers)?;
+    pass_updates(alloc, world, updates, gate)
+}
+
 /// Leaves the world of a run that came to its end.
-fn leave(run: Result<World, Outcome>, last: &mut Option<World>) -> Outcome
+pub fn leave(run: Result<World, Outcome>, last: &mut Option<World>) -> Outcome
     ensures { MatchResult run (λ world. (result ≡ Outcome.Done) × (last.new ≡ Some world))
         (λ told. (result ≡ told) × (last.new ≡ last.old)) }
 {

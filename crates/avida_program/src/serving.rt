@@ -1,14 +1,15 @@
 // The whole program.
 ghost use Rattle.std.specs.Prelude.{◌≡◌, ◌≢◌, ℕ, List, Some, None, map, string_bytes};
 ghost use Rattle.avida_program.specs.CommandLine.{command_of};
-ghost use Rattle.avida_program.specs.Commands.{change, Stays, TellsOf, SourceFailed, SinkFailed, ServesNothing, ServesReplay, ServesRun, ServesTrace, ServesUpgrade, replay_text, upgrade_text};
+ghost use Rattle.avida_program.specs.Commands.{change, Stays, TellsOf, SourceFailed, SinkFailed, ServesLineage, ServesNothing, ServesReplay, ServesRun, ServesTrace, ServesUpgrade, replay_text, upgrade_text};
 ghost use Rattle.avida_program.specs.Input.{log_input_of};
-ghost use Rattle.avida_program.specs.Outcomes.{HasCauses, ReadsInput, ReadsNothing, Runs, Traces};
-ghost use Rattle.avida_program.specs.declared.command.Command.TheVariants.{Replay, Run, Trace, Upgrade};
+ghost use Rattle.avida_program.specs.Outcomes.{Descends, HasCauses, ReadsInput, ReadsNothing, Runs, Traces};
+ghost use Rattle.avida_program.specs.declared.command.Command.TheVariants.{Lineage, Replay, Run, Trace, Upgrade};
 ghost use Rattle.avida_program.specs.declared.command.Spelling.{Spelling};
 
 use crate::command::{Command, read_words};
 use crate::fault_line::line_of;
+use crate::lineage::lineage;
 use crate::replay::replay;
 use crate::run::run;
 use crate::trace::trace;
@@ -56,6 +57,11 @@ fn carry_out<S: Source, O: Sink, G: Gate + Sync>(
         → (bytes : List ℕ) → (S.seen source.old).left ≡ Some bytes
         → Runs bytes (change (S.seen source.old) (S.seen source.new))
         (change (O.seen out.old) (O.seen out.new)) (change last.old last.new) result }
+    ensures lineage { (cell workers : ℕ)
+        → command_of (map string_bytes words.now) ≡ Some (Lineage cell workers)
+        → (bytes : List ℕ) → (S.seen source.old).left ≡ Some bytes
+        → Descends cell bytes (change (S.seen source.old) (S.seen source.new))
+        (change (O.seen out.old) (O.seen out.new)) (change last.old last.new) result }
     ensures replay { command_of (map string_bytes words.now) ≡ Some Replay
         → (bytes : List ℕ) → (S.seen source.old).left ≡ Some bytes
         → ReadsInput (log_input_of bytes) replay_text
@@ -70,6 +76,9 @@ fn carry_out<S: Source, O: Sink, G: Gate + Sync>(
     match read_words(alloc, words) {
         Ok(Command::Trace { steps, spelling }) => trace(alloc, steps, spelling, source, out),
         Ok(Command::Run { workers }) => run(alloc, workers, source, out, last, gate),
+        Ok(Command::Lineage { cell, workers }) => {
+            lineage(alloc, cell, workers, source, out, last, gate)
+        }
         Ok(Command::Replay) => replay(alloc, source, out),
         Ok(Command::Upgrade) => upgrade(alloc, source, out),
         Err(Refused::BadWords) => Outcome::BadWords,
@@ -112,6 +121,12 @@ pub fn serve<S: Source, O: Sink + Send, W: Sink + Send, E: Sink, G: Gate + Sync>
         → command_of (map string_bytes words.now) ≡ Some (Run workers)
         → (bytes : List ℕ) → (S.seen source.old).left ≡ Some bytes
         → ServesRun bytes (change (S.seen source.old) (S.seen source.new))
+        (change (O.seen out.old) (O.seen out.new)) (change (W.seen watch.old) (W.seen watch.new))
+        (change (E.seen err.old) (E.seen err.new)) (change last.old last.new) result }
+    ensures lineage { (cell workers : ℕ)
+        → command_of (map string_bytes words.now) ≡ Some (Lineage cell workers)
+        → (bytes : List ℕ) → (S.seen source.old).left ≡ Some bytes
+        → ServesLineage cell bytes (change (S.seen source.old) (S.seen source.new))
         (change (O.seen out.old) (O.seen out.new)) (change (W.seen watch.old) (W.seen watch.new))
         (change (E.seen err.old) (E.seen err.new)) (change last.old last.new) result }
     ensures replay { command_of (map string_bytes words.now) ≡ Some Replay

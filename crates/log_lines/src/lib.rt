@@ -14,4 +14,4 @@ pub use log_line::{GREATEST_SIDE, LAST_VERSION, LogLine};
 pub use reading::read_line;
 pub use stats::Stats;
 pub use words::split_at;
-pub use writing::write_line;
+pub use writing::{write_line, write_record};

@@ -156,9 +156,9 @@ fn placed(out: &mut Vec<u8>, update: u32, cell: u32) -> Result<(), Memory>
     number(out, b' ', u64::from(cell))
 }
 
-/// The base and the changes.
+/// Appends the base and the changes, each behind a space.
 #[tactic(auto, using(crate::proofs::KeptLemmas::keeps_front))]
-fn record(out: &mut Vec<u8>, origin: &Origin) -> Result<(), Memory>
+pub fn write_record(origin: &Origin, out: &mut Vec<u8>) -> Result<(), Memory>
     ensures ok { OnOk result (out.new.items ≡ out.old.items
         ++ words_text (base_field.text (written_in origin.now.base)
         ∷ changes_field.text origin.now.changes ∷ [])) }
@@ -232,7 +232,7 @@ fn birth(
     number(out, b' ', parent)?;
     placed(out, update, cell)?;
     over(out, who)?;
-    record(out, origin)
+    write_record(origin, out)
 }
 
 #[tactic(auto, using(crate::proofs::KeptLemmas::keeps_front))]

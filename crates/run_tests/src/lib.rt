@@ -2,6 +2,8 @@
 #![tactic(auto)]
 
 #[cfg(test)]
+mod lineage_rows;
+#[cfg(test)]
 mod run_faults;
 #[cfg(test)]
 mod run_rows;

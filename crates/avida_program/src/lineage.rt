@@ -1,0 +1,179 @@
+// The command `lineage`.
+ghost use Rattle.std.specs.Prelude.{◌≡◌, ◌≢◌, ◌≤◌, ◌<◌, ◌*◌, ◌++◌, ℕ, List, Some, IfOk, IfErr, OnOk, flat_map, map, option_map};
+ghost use Rattle.mutations.specs.BirthRecord.{record_of};
+ghost use Rattle.world_config.specs.Shown.{values_of};
+ghost use Rattle.world_core.specs.WorldValue.{world_in};
+ghost use Rattle.world_core.specs.declared.world.TheConstants.{MOST_WORKERS};
+ghost use Rattle.world_rules.specs.Descent.{line_in, link_value};
+ghost use Rattle.avida_program.specs.Commands.{GainedText, Stays, change, final_world};
+ghost use Rattle.avida_program.specs.Outcomes.{Descends, HasCauses, StopsWithin, WritesText};
+ghost use Rattle.avida_program.specs.PathText.{origin_text, parent_text, path_line, path_lines, path_text, place_text};
+ghost use Rattle.avida_program.specs.TraceText.{spaced};
+
+use crate::input::{read_bytes, read_config_with};
+use crate::outcome::ended;
+use crate::piece::{Piece, write_text};
+use crate::run::{leave, run_to_end};
+use crate::{INPUT_LIMIT, Outcome};
+use avida_port::{Gate, Memory, Sink, Source};
+use genome::letters_text;
+use lineage_log::{Link, Path};
+use log_lines::write_record;
+use mutations::Origin;
+use std::alloc::Global;
+use world_config::Config;
+use world_core::World;
+
+/// A number with a space before it.
+fn add_number(text: &mut Vec<u8>, number: u64) -> Result<(), Memory>
+    ensures { OnOk result (text.new.items ≡ text.old.items ++ spaced number) }
+{
+    let mut digits = itoa::Buffer::new();
+    text.push(b' ')?;
+    text.extend_from_slice(digits.format(number).as_bytes())?;
+    Ok(())
+}
+
+fn add_parent(text: &mut Vec<u8>, parent: Option<u64>) -> Result<(), Memory>
+    ensures { OnOk result (text.new.items ≡ text.old.items ++ parent_text parent) }
+{
+    match parent {
+        Some(id) => add_number(text, id),
+        None => {
+            text.extend_from_slice(b" -")?;
+            Ok(())
+        }
+    }
+}
+
+fn add_origin(text: &mut Vec<u8>, origin: &Option<Origin>) -> Result<(), Memory>
+    ensures { OnOk result (text.new.items
+        ≡ text.old.items ++ origin_text (option_map record_of origin.now)) }
+{
+    match origin {
+        Some(origin) => write_record(origin, text),
+        None => {
+            text.extend_from_slice(b" - -")?;
+            Ok(())
+        }
+    }
+}
+
+fn add_place(text: &mut Vec<u8>, link: &Link) -> Result<(), Memory>
+    ensures { OnOk result (text.new.items
+        ≡ text.old.items ++ place_text (link_value link.now)) }
+{
+    text.push(b'P')?;
+    add_number(text, link.id)?;
+    add_parent(text, link.parent)?;
+    add_number(text, u64::from(link.update))?;
+    add_number(text, u64::from(link.cell))
+}
+
+/// Appends the line of one of a line of descent.
+fn add_link(text: &mut Vec<u8>, link: &Link) -> Result<(), Memory>
+    ensures { OnOk result (text.new.items ≡ text.old.items ++ path_line (link_value link.now)) }
+{
+    add_place(text, link)?;
+    add_origin(text, &link.origin)?;
+    text.push(b' ')?;
+    letters_text(&link.genome, text)?;
+    text.push(b'\n')?;
+    Ok(())
+}
+
+fn write_links<O: Sink>(alloc: Global, links: &[Link], out: &mut O) -> Outcome
+    ensures { WritesText (flat_map path_line (map link_value links.now))
+        (change (O.seen out.old) (O.seen out.new)) result }
+{
+    let mut piece = Piece::new();
+    let mut text = Vec::new(alloc);
+    for link in links {
+        text.clear();
+        let Ok(()) = add_link(&mut text, link) else {
+            return Outcome::NoMemory;
+        };
+        if let Err(stop) = write_text(&mut piece, &text, out) {
+            return ended(Err(stop));
+        }
+    }
+    ended(out.put(piece.as_slice()))
+}
+
+fn write_path<O: Sink>(alloc: Global, path: Option<Path>, out: &mut O) -> Outcome
+    ensures { WritesText (path_lines (option_map (λ p. map link_value p) path))
+        (change (O.seen out.old) (O.seen out.new)) result }
+{
+    match path {
+        Some(path) => {
+            let links = path.into_vec();
+            write_links(alloc, &links, out)
+        }
+        None => ended(out.put(b"-\n")),
+    }
+}
+
+/// Writes the line of descent of who stands in the cell.
+fn write_descent<O: Sink>(alloc: Global, world: &World, cell: u32, out: &mut O) -> Outcome
+    requires { cell < world.now.config.width * world.now.config.height }
+    ensures { WritesText (path_lines (line_in (world_in world.now) cell))
+        (change (O.seen out.old) (O.seen out.new)) result }
+{
+    match world.lineage(alloc, cell) {
+        Ok(path) => write_path(alloc, path, out),
+        Err(Memory) => Outcome::NoMemory,
+    }
+}
+
+/// Runs a configuration to its end, and writes the line of descent of who stands in the cell then.
+fn run_and_write<O: Sink, G: Gate + Sync>(
+    alloc: Global,
+    config: Config,
+    cell: u32,
+    workers: u32,
+    out: &mut O,
+    gate: &G,
+) -> Result<World, Outcome>
+    requires workers { (1 ≤ workers) × (workers ≤ MOST_WORKERS) }
+    requires cell { cell < config.width * config.height }
+    ensures world { IfOk result (λ world. world ≡ final_world (values_of config)) }
+    ensures ok { OnOk result (GainedText (change (O.seen out.old) (O.seen out.new))
+        (path_text (values_of config) cell)) }
+    ensures err { IfErr result (StopsWithin (path_text (values_of config) cell)
+        (change (O.seen out.old) (O.seen out.new))) }
+{
+    let world = run_to_end(alloc, config, workers, gate)?;
+    match write_descent(alloc, &world, cell, out) {
+        Outcome::Done => Ok(world),
+        stopped => Err(stopped),
+    }
+}
+
+/// Reads a configuration, runs it to its end, and writes the line of descent of who stands in the cell; the last world is left only where all is done.
+pub fn lineage<S: Source, O: Sink, G: Gate + Sync>(
+    alloc: Global,
+    cell: u32,
+    workers: u32,
+    source: &mut S,
+    out: &mut O,
+    last: &mut Option<World>,
+    gate: &G,
+) -> Outcome
+    requires { (1 ≤ workers) × (workers ≤ MOST_WORKERS) }
+    ensures causes { HasCauses (change (S.seen source.old) (S.seen source.new))
+        (change (O.seen out.old) (O.seen out.new)) result }
+    ensures words { result ≢ Outcome.BadWords }
+    ensures last_stays { result ≢ Outcome.Done → Stays (change last.old last.new) }
+    ensures told { (bytes : List ℕ) → (S.seen source.old).left ≡ Some bytes
+        → Descends cell bytes (change (S.seen source.old) (S.seen source.new))
+        (change (O.seen out.old) (O.seen out.new)) (change last.old last.new) result }
+{
+    let bytes = match read_bytes(alloc, source, INPUT_LIMIT) {
+        Ok(bytes) => bytes,
+        Err(outcome) => return outcome,
+    };
+    match read_config_with(alloc, bytes, cell) {
+        Ok(config) => leave(run_and_write(alloc, config, cell, workers, out, gate), last),
+        Err(outcome) => outcome,
+    }
+}
