@@ -1,14 +1,16 @@
 -- Quotients that rise, and their differences.
-use Rattle.std.proofs.Common.{◌≡◌, ◌∙◌, ap, ℕ, zero, suc, ◌+◌, ◌*◌, ◌<◌, ◌≤◌, ◌^◌, List, length, take, map, sum, get_or, subst, add-one, arith, inl, inr}
+use Rattle.std.proofs.Common.{◌≡◌, ◌∙◌, ap, ℕ, zero, suc, ◌+◌, ◌*◌, ◌<◌, ◌≤◌, ◌^◌, List, length, take, map, sum, cond, get_or, subst, add-one, arith, inl, inr}
 use Rattle.std.proofs.Math.Nat.{div-mul-le_self, mul-le-mul_left, mul-le-mul, div-le_of_le-mul, mul-div_cancel}
 use Rattle.std.proofs.Math.Seq.{take-length}
 use Rattle.std.proofs.lemmas.Bool.{cases_lt}
 use Rattle.std.proofs.Math.ListN.{get_or-eq_default}
 use Rattle.std.proofs.lemmas.Nat.{le-div}
 use Rattle.std.proofs.lemmas.List.FromFn.{get_or-map-range_with_len, length-map-range_with_len, sum_by-map-range_with_len_more}
-use Rattle.std.proofs.lemmas.List.Sums.{sum_by-take-le, sum_by_more}
+use Rattle.std.proofs.lemmas.List.Sums.{sum_by-take-le, sum_by_more, sum_by-le-sum_by}
+use Rattle.std.specs.Prelude.{nat_lt}
 use Rattle.std.specs.List.{range_with_len}
-use Rattle.merit_slices.specs.Slices.{quota, steps_before, share_of, shares_of}
+use Rattle.merit_slices.proofs.MeritLemmas.{if-le}
+use Rattle.merit_slices.specs.Slices.{living_in, quota, steps_before, share_of, shares_of}
 
 -- a larger part of the merits gets no less
 pub quota-le-quota : (steps part more all : ℕ) → 0 < all → part ≤ more → quota steps part all ≤ quota steps more all
@@ -54,3 +56,12 @@ sum-shares_of merits steps some =
     sum-shares merits steps (length merits) some (omega arith)
     ∙ ap (λ part. quota steps (sum part) (sum merits)) (take-length merits)
     ∙ mul-div_cancel steps some
+
+-- who lives counts for no more than the merit
+counted-le : (merit : ℕ) → cond (nat_lt 0 merit) 1 0 ≤ merit
+counted-le zero = omega arith
+counted-le (suc n) = omega (arith, if-le (nat_lt 0 (suc n)) 1)
+
+-- no more live than all merits together
+pub living-le-sum : (merits : List ℕ) → living_in merits ≤ sum merits
+living-le-sum merits = sum_by-le-sum_by (λ merit. cond (nat_lt 0 merit) 1 0) (λ merit. merit) merits counted-le

@@ -1,4 +1,4 @@
-ghost use Rattle.std.specs.Prelude.{◌≡◌, ℕ, ◌*◌, ◌<◌, ◌≤◌, Bool, List, sum, length};
+ghost use Rattle.std.specs.Prelude.{◌≡◌, ℕ, ◌*◌, ◌≤◌, Bool, List, sum, length};
 ghost use Rattle.merit_slices.specs.Merit.{merit_of};
 ghost use Rattle.merit_slices.specs.Slices.{living_in, slices_of};
 
@@ -16,15 +16,16 @@ pub fn merits_are_bounded()
         → 1 ≤ merit_of genome_length executed copied tasks }
 {}
 
-/// All cells together get all steps, the average for each that lives, where there is a merit.
+/// All cells together get all steps, the average for each that lives.
 pub fn slices_are_all_steps()
     ensures { (merits : List ℕ) (average : ℕ)
-        → 0 < sum merits
         → sum (slices_of merits average) ≡ average * living_in merits }
 {}
 
-/// All cells together get no more steps than the average for each.
+/// So they get no more steps than the average for each cell.
 pub fn slices_are_few()
     ensures { (merits : List ℕ) (average : ℕ)
         → sum (slices_of merits average) ≤ average * length merits }
-{}
+{
+    slices_are_all_steps();
+}
