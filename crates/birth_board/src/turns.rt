@@ -202,28 +202,19 @@ mod tests {
             height: 1,
         };
         for (standing, first_over) in [(Some(0), Some(0)), (None, None)] {
-            let (Ok(parents), Ok(mut occupants)) = (
-                crate::gather(alloc, &[2]),
-                Occupants::empty(alloc, &torus),
-            ) else {
-                assert!(rt; false, "there was no memory");
-                return Ok(());
-            };
+            let parents = crate::gather(alloc, &[2])?;
+            let mut occupants = Occupants::empty(alloc, &torus)?;
             occupants.set(0, standing);
-            if parents.len() == 2 {
-                if let Ok(placings) = place(alloc, &torus, &parents, &mut occupants, &SEASON) {
-                    assert_eq!(rt; placings.len(), 2);
-                    let rows = placings.into_vec();
-                    for (nth, id, over) in [(0, 1, first_over), (1, 2, Some(1))] {
-                        if let Some(placing) = rows.get(nth) {
-                            assert_eq!(rt; placing.cell, 0);
-                            assert_eq!(rt; placing.id, id);
-                            assert_eq!(rt; placing.over, over);
-                        }
-                    }
-                    assert_eq!(rt; occupants.at(0), Some(2));
-                }
+            assert_eq!(rt; parents.len(), 2);
+            let placings = place(alloc, &torus, &parents, &mut occupants, &SEASON)?;
+            assert_eq!(rt; placings.len(), 2);
+            for (nth, id, over) in [(0, 1, first_over), (1, 2, Some(1))] {
+                let placing = placings.get(nth).ok_or("no placing")?;
+                assert_eq!(rt; placing.cell, 0);
+                assert_eq!(rt; placing.id, id);
+                assert_eq!(rt; placing.over, over);
             }
+            assert_eq!(rt; occupants.at(0), Some(2));
         }
         Ok(())
     }
@@ -235,23 +226,15 @@ mod tests {
             width: 2,
             height: 1,
         };
-        let (Ok(parents), Ok(mut occupants)) = (
-            crate::gather(alloc, &[1]),
-            Occupants::empty(alloc, &torus),
-        ) else {
-            assert!(rt; false, "there was no memory");
-            return Ok(());
-        };
+        let parents = crate::gather(alloc, &[1])?;
+        let mut occupants = Occupants::empty(alloc, &torus)?;
         occupants.set(0, Some(0));
-        if parents.len() == 1 {
-            if let Ok(placings) = place(alloc, &torus, &parents, &mut occupants, &SEASON) {
-                for placing in placings.into_vec().iter() {
-                    assert_eq!(rt; placing.id, 1);
-                    assert_eq!(rt; placing.cell, 1);
-                    assert_eq!(rt; placing.over, None);
-                }
-            }
-        }
+        assert_eq!(rt; parents.len(), 1);
+        let placings = place(alloc, &torus, &parents, &mut occupants, &SEASON)?.into_vec();
+        assert_eq!(rt; placings.len(), 1);
+        assert_eq!(rt; placings[0].id, 1);
+        assert_eq!(rt; placings[0].cell, 1);
+        assert_eq!(rt; placings[0].over, None);
         Ok(())
     }
 
@@ -265,10 +248,7 @@ mod tests {
             width: 60,
             height: 60,
         };
-        let Ok(mut occupants) = Occupants::empty(alloc, &torus) else {
-            assert!(rt; false, "there was no memory");
-            return Ok(());
-        };
+        let mut occupants = Occupants::empty(alloc, &torus)?;
         let mut draws = Draws::start(1, 7, 1805, Purpose::Place);
         let placing = place_one(&torus, 1805, &mut occupants, true, 9, &mut draws);
         assert_eq!(rt; placing.cell, 1806);
