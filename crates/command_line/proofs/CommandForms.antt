@@ -1,13 +1,13 @@
 -- The forms of the commands are simple, and a text that begins with `-` is none of their numbers.
 use Rattle.std.proofs.Common.{◌≡◌, ◌∙◌, ◌<◌, ◌||◌, arith, refl, sym, subst, ap, inl, inr, Bool, true, ℕ, List, [], ◌∷◌, length, codes, drop, Option, Some, None, Result, MatchResult, option_map, option_and_then, ok_or}
 use Rattle.std.specs.List.{list_any}
-use Rattle.std.proofs.lemmas.Bool.{cases_Bool, false≢true}
+use Rattle.std.proofs.lemmas.Bool.{cases_Bool, eqb-true, false≢true}
+use Rattle.numerals.specs.Numeral.{number_of}
 use Rattle.clap.specs.Walk.{Row, Text}
 use Rattle.clap.specs.Simple.{App, matches_of}
 use Rattle.clap.specs.Faults.{fault_of}
 use Rattle.command_line.specs.Form.{Form, IsSimple, Told}
 use Rattle.command_line.specs.Words.{begins_dashed, has_dashed, is_dashed, told_by}
-use Rattle.command_line.specs.Number.{number_in, in_range}
 use Rattle.command_line.specs.Commands.{bare_form, lineage_form, lineage_of, run_form, run_of, run_with, trace_form, trace_of}
 use Rattle.command_line.specs.Parsers.{app_by, lineage_texts, told_in, trace_texts}
 use Rattle.command_line.specs.Refusals.{IsRefusedBy, Refuses}
@@ -22,7 +22,6 @@ use Rattle.command_line.specs.declared.refused.Refused.{Refused}
 use Rattle.command_line.specs.declared.refused.Refused.TheVariants.{BadWords}
 use Rattle.command_line.proofs.DashedValues.{IsOf}
 use Rattle.command_line.proofs.FormLaw.{form_fits, form_stops}
-use Rattle.command_line.proofs.Numerals.{no_dash}
 use Rattle.command_line.proofs.RefusalLemmas.{ends_told, refuses}
 
 -- a command of which the law holds, and what is taken of what it is told
@@ -52,19 +51,6 @@ module _ {T : Type 0} {name : Text} {form : Form} {texts : List Text} {take : To
   ends words a rows taken result some is free same from gives =
       ends_told (option_and_then take (told_by form (drop 1 words))) taken result (from ∙ fits words a rows some is free same) gives
 
--- ---- numbers
-
-pub dashed_number : (least greatest : ℕ) (text : Text) → begins_dashed text ≡ true → number_in least greatest text ≡ None
-dashed_number least greatest text d = ap (option_and_then (in_range least greatest)) (no_dash text d)
-
-none_after : {X Y : Type 0} (f : X → Option Y) (o : Option X) → ((x : X) → f x ≡ None) → option_and_then f o ≡ None
-none_after f None none = refl
-none_after f (Some x) none = none x
-
-dashed_text : (least greatest : ℕ) (text : Option Text) → is_dashed text ≡ true → option_and_then (number_in least greatest) text ≡ None
-dashed_text least greatest None d = absurd (false≢true d)
-dashed_text least greatest (Some text) d = dashed_number least greatest text d
-
 -- ---- the commands
 
 pub bare_reads : Reads (Unit {0}) (codes "bare") bare_form [] (λ told. Some tt)
@@ -79,63 +65,77 @@ bare_reads = record {
     go (p ∷ ps) vs n m d = absurd (omega arith)
     go [] (v ∷ vs) n m d = absurd (omega arith)
 
-pub trace_reads : Reads Trace (codes "trace") trace_form trace_texts trace_of
-trace_reads = record {
-  simple = record { names = refl; count = refl; few = omega arith };
-  refuses = λ told is d. go told.positionals told.values told.flags is.positionals is.values d;
-}
-  where
-    go : (ps : List Text) (vs : List (Option Text)) (fs : List Bool) → length ps ≡ 1 → length vs ≡ 0 → (list_any begins_dashed ps || list_any is_dashed vs) ≡ true
-        → trace_of (record { positionals = ps; values = vs; flags = fs }) ≡ None
-    go (p ∷ []) [] fs n m d = elim (cases_Bool (begins_dashed p)) [
-      | inl a ↦ rw (dashed_number 0 MOST_STEPS p a) refl
-      | inr a ↦ absurd (false≢true (rw a at d))
-    ]
-    go [] vs fs n m d = absurd (omega arith)
-    go (p ∷ q ∷ ps) vs fs n m d = absurd (omega arith)
-    go (p ∷ []) (v ∷ vs) fs n m d = absurd (omega arith)
+none_after : {X Y : Type 0} (f : X → Option Y) (o : Option X) → ((x : X) → f x ≡ None) → option_and_then f o ≡ None
+none_after f None none = refl
+none_after f (Some x) none = none x
 
-pub run_reads : Reads Run (codes "run") run_form [] run_of
-run_reads = record {
-  simple = record { names = refl; count = refl; few = omega arith };
-  refuses = λ told is d. go told.positionals told.values told.flags is.positionals is.values d;
-}
-  where
-    no_looks : (watch : Option Text) (workers : ℕ) → is_dashed watch ≡ true → run_with watch workers ≡ None
-    no_looks None workers d = absurd (false≢true d)
-    no_looks (Some text) workers d = rw (dashed_number 0 MOST_LOOKS text d) refl
+-- where no text that begins with `-` is a number
+module _ (no_minus : (least greatest : ℕ) (text : Text) → number_of least greatest (45 ∷ text) ≡ None) where
+  dashed_number : (least greatest : ℕ) (text : Text) → begins_dashed text ≡ true → number_of least greatest text ≡ None
+  dashed_number least greatest [] d = absurd (false≢true d)
+  dashed_number least greatest (byte ∷ bytes) d = rw (eqb-true byte 45 d) (no_minus least greatest bytes)
 
-    go : (ps : List Text) (vs : List (Option Text)) (fs : List Bool) → length ps ≡ 0 → length vs ≡ 2 → (list_any begins_dashed ps || list_any is_dashed vs) ≡ true
-        → run_of (record { positionals = ps; values = vs; flags = fs }) ≡ None
-    go [] (w ∷ t ∷ []) fs n m d = elim (cases_Bool (is_dashed w)) [
-      | inl a ↦ ap (option_and_then (run_with t)) (dashed_text LEAST_WORKERS MOST_WORKERS w a)
-      | inr a ↦ elim (cases_Bool (is_dashed t)) [
-        | inl b ↦ none_after (run_with t) (option_and_then (number_in LEAST_WORKERS MOST_WORKERS) w) (λ workers. no_looks t workers b)
-        | inr b ↦ absurd (false≢true (rw (a, b) at d))
+  dashed_text : (least greatest : ℕ) (text : Option Text) → is_dashed text ≡ true → option_and_then (number_of least greatest) text ≡ None
+  dashed_text least greatest None d = absurd (false≢true d)
+  dashed_text least greatest (Some text) d = dashed_number least greatest text d
+
+  pub trace_reads : Reads Trace (codes "trace") trace_form trace_texts trace_of
+  trace_reads = record {
+    simple = record { names = refl; count = refl; few = omega arith };
+    refuses = λ told is d. go told.positionals told.values told.flags is.positionals is.values d;
+  }
+    where
+      go : (ps : List Text) (vs : List (Option Text)) (fs : List Bool) → length ps ≡ 1 → length vs ≡ 0 → (list_any begins_dashed ps || list_any is_dashed vs) ≡ true
+          → trace_of (record { positionals = ps; values = vs; flags = fs }) ≡ None
+      go (p ∷ []) [] fs n m d = elim (cases_Bool (begins_dashed p)) [
+        | inl a ↦ rw (dashed_number 0 MOST_STEPS p a) refl
+        | inr a ↦ absurd (false≢true (rw a at d))
       ]
-    ]
-    go (p ∷ ps) vs fs n m d = absurd (omega arith)
-    go [] [] fs n m d = absurd (omega arith)
-    go [] (w ∷ []) fs n m d = absurd (omega arith)
-    go [] (w ∷ t ∷ v ∷ vs) fs n m d = absurd (omega arith)
+      go [] vs fs n m d = absurd (omega arith)
+      go (p ∷ q ∷ ps) vs fs n m d = absurd (omega arith)
+      go (p ∷ []) (v ∷ vs) fs n m d = absurd (omega arith)
 
-pub lineage_reads : Reads Lineage (codes "lineage") lineage_form lineage_texts lineage_of
-lineage_reads = record {
-  simple = record { names = refl; count = refl; few = omega arith };
-  refuses = λ told is d. go told.positionals told.values told.flags is.positionals is.values d;
-}
-  where
-    go : (ps : List Text) (vs : List (Option Text)) (fs : List Bool) → length ps ≡ 1 → length vs ≡ 1 → (list_any begins_dashed ps || list_any is_dashed vs) ≡ true
-        → lineage_of (record { positionals = ps; values = vs; flags = fs }) ≡ None
-    go (p ∷ []) (w ∷ []) fs n m d = elim (cases_Bool (begins_dashed p)) [
-      | inl a ↦ rw (dashed_number 0 MOST_CELL p a) refl
-      | inr a ↦ elim (cases_Bool (is_dashed w)) [
-        | inl b ↦ none_after (λ cell. option_map (λ workers. record { cell = cell; workers = workers }) (option_and_then (number_in LEAST_WORKERS MOST_WORKERS) w))
-            (number_in 0 MOST_CELL p) (λ cell. ap (option_map (λ workers. record { cell = cell; workers = workers })) (dashed_text LEAST_WORKERS MOST_WORKERS w b))
-        | inr b ↦ absurd (false≢true (rw (a, b) at d))
+  pub run_reads : Reads Run (codes "run") run_form [] run_of
+  run_reads = record {
+    simple = record { names = refl; count = refl; few = omega arith };
+    refuses = λ told is d. go told.positionals told.values told.flags is.positionals is.values d;
+  }
+    where
+      no_looks : (watch : Option Text) (workers : ℕ) → is_dashed watch ≡ true → run_with watch workers ≡ None
+      no_looks None workers d = absurd (false≢true d)
+      no_looks (Some text) workers d = rw (dashed_number 0 MOST_LOOKS text d) refl
+
+      go : (ps : List Text) (vs : List (Option Text)) (fs : List Bool) → length ps ≡ 0 → length vs ≡ 2 → (list_any begins_dashed ps || list_any is_dashed vs) ≡ true
+          → run_of (record { positionals = ps; values = vs; flags = fs }) ≡ None
+      go [] (w ∷ t ∷ []) fs n m d = elim (cases_Bool (is_dashed w)) [
+        | inl a ↦ ap (option_and_then (run_with t)) (dashed_text LEAST_WORKERS MOST_WORKERS w a)
+        | inr a ↦ elim (cases_Bool (is_dashed t)) [
+          | inl b ↦ none_after (run_with t) (option_and_then (number_of LEAST_WORKERS MOST_WORKERS) w) (λ workers. no_looks t workers b)
+          | inr b ↦ absurd (false≢true (rw (a, b) at d))
+        ]
       ]
-    ]
-    go [] vs fs n m d = absurd (omega arith)
-    go (p ∷ q ∷ ps) vs fs n m d = absurd (omega arith)
-    go (p ∷ []) [] fs n m d = absurd (omega arith)
-    go (p ∷ []) (w ∷ v ∷ vs) fs n m d = absurd (omega arith)
+      go (p ∷ ps) vs fs n m d = absurd (omega arith)
+      go [] [] fs n m d = absurd (omega arith)
+      go [] (w ∷ []) fs n m d = absurd (omega arith)
+      go [] (w ∷ t ∷ v ∷ vs) fs n m d = absurd (omega arith)
+
+  pub lineage_reads : Reads Lineage (codes "lineage") lineage_form lineage_texts lineage_of
+  lineage_reads = record {
+    simple = record { names = refl; count = refl; few = omega arith };
+    refuses = λ told is d. go told.positionals told.values told.flags is.positionals is.values d;
+  }
+    where
+      go : (ps : List Text) (vs : List (Option Text)) (fs : List Bool) → length ps ≡ 1 → length vs ≡ 1 → (list_any begins_dashed ps || list_any is_dashed vs) ≡ true
+          → lineage_of (record { positionals = ps; values = vs; flags = fs }) ≡ None
+      go (p ∷ []) (w ∷ []) fs n m d = elim (cases_Bool (begins_dashed p)) [
+        | inl a ↦ rw (dashed_number 0 MOST_CELL p a) refl
+        | inr a ↦ elim (cases_Bool (is_dashed w)) [
+          | inl b ↦ none_after (λ cell. option_map (λ workers. record { cell = cell; workers = workers }) (option_and_then (number_of LEAST_WORKERS MOST_WORKERS) w))
+              (number_of 0 MOST_CELL p) (λ cell. ap (option_map (λ workers. record { cell = cell; workers = workers })) (dashed_text LEAST_WORKERS MOST_WORKERS w b))
+          | inr b ↦ absurd (false≢true (rw (a, b) at d))
+        ]
+      ]
+      go [] vs fs n m d = absurd (omega arith)
+      go (p ∷ q ∷ ps) vs fs n m d = absurd (omega arith)
+      go (p ∷ []) [] fs n m d = absurd (omega arith)
+      go (p ∷ []) (w ∷ v ∷ vs) fs n m d = absurd (omega arith)

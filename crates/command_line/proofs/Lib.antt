@@ -1,4 +1,3 @@
-pub mod Numerals
 pub mod WordViews
 pub mod Names
 pub mod Uses

@@ -2,7 +2,7 @@
 use Rattle.std.specs.Prelude.{ℕ, List, [], ◌∷◌, Option, Some, None, codes, option_and_then, option_map, slice_get}
 use Rattle.command_line.specs.Form.{Form, Told, Valued}
 use Rattle.command_line.specs.Words.{is_set, told_by}
-use Rattle.command_line.specs.Number.{number_in}
+use Rattle.numerals.specs.Numeral.{number_of}
 use Rattle.command_line.specs.declared.run.Run.{Run}
 use Rattle.command_line.specs.declared.run.TheConstants.{MOST_LOOKS}
 use Rattle.command_line.specs.declared.lineage.Lineage.{Lineage}
@@ -38,7 +38,7 @@ bare_form = record { options = []; flags = []; positionals = 0 }
 -- the number in this range that the positional at this place spells
 abbrev pub number_at : ℕ → ℕ → ℕ → Told → Option ℕ
 number_at least greatest place told =
-    option_and_then (number_in least greatest) (slice_get told.positionals place)
+    option_and_then (number_of least greatest) (slice_get told.positionals place)
 
 -- `trace` with the steps that the positional spells
 abbrev pub trace_of : Told → Option Trace
@@ -48,7 +48,7 @@ trace_of told = option_map (λ steps. record { steps = steps; org = is_set told.
 -- the looks that the value spells, where there is a value
 abbrev pub looks_of : Option (List ℕ) → Option (Option ℕ)
 looks_of None = Some None
-looks_of (Some value) = option_map (λ looks. Some looks) (number_in 0 MOST_LOOKS value)
+looks_of (Some value) = option_map (λ looks. Some looks) (number_of 0 MOST_LOOKS value)
 
 -- the value of the option at this place
 abbrev pub value_at : ℕ → Told → Option (List ℕ)
@@ -57,7 +57,7 @@ value_at place told = option_and_then (λ value. value) (slice_get told.values p
 -- the workers that the value at this place spells
 abbrev pub workers_at : ℕ → Told → Option ℕ
 workers_at place told =
-    option_and_then (number_in LEAST_WORKERS MOST_WORKERS) (value_at place told)
+    option_and_then (number_of LEAST_WORKERS MOST_WORKERS) (value_at place told)
 
 -- `run` with so many workers and this watch
 abbrev pub run_with : Option (List ℕ) → ℕ → Option Run

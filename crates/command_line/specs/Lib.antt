@@ -1,6 +1,5 @@
 pub mod Form
 pub mod Words
-pub mod Number
 pub mod Commands
 pub mod Refusals
 pub mod Parsers

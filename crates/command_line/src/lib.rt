@@ -15,7 +15,6 @@ mod workers;
 
 pub use lineage::{Lineage, MOST_CELL, read_lineage};
 pub use nothing::read_nothing;
-pub use numbers::{number, number_in};
 pub use refused::Refused;
 pub use run::{MOST_LOOKS, Run, read_run};
 pub use trace::{MOST_STEPS, Trace, read_trace};

@@ -10,6 +10,7 @@ use crate::parser::matches;
 use crate::refused::Refused;
 use crate::workers::workers_in;
 use clap::{Arg, ArgMatches, Command};
+use numerals::laws::one_spelling;
 use std::alloc::{AllocError, Global};
 
 /// The greatest number of a cell.
@@ -51,6 +52,7 @@ pub fn read_lineage(alloc: Global, words: &[String]) -> Result<Lineage, Refused>
         (λ lineage. lineage_told (drop 1 (map string_bytes words.now)) ≡ Some lineage)
         (Refuses (lineage_told (drop 1 (map string_bytes words.now)))) }
 {
+    one_spelling();
     let command = match command(alloc) {
         Ok(command) => command,
         Err(_) => return Err(Refused::Memory),

@@ -10,6 +10,7 @@ use crate::parser::matches;
 use crate::refused::Refused;
 use crate::workers::workers_in;
 use clap::{Arg, ArgMatches, Command};
+use numerals::laws::one_spelling;
 use std::alloc::{AllocError, Global};
 
 /// The greatest number of looks of a watcher.
@@ -68,6 +69,7 @@ pub fn read_run(alloc: Global, words: &[String]) -> Result<Run, Refused>
         (λ run. run_told (drop 1 (map string_bytes words.now)) ≡ Some run)
         (Refuses (run_told (drop 1 (map string_bytes words.now)))) }
 {
+    one_spelling();
     let command = match command(alloc) {
         Ok(command) => command,
         Err(_) => return Err(Refused::Memory),

@@ -9,6 +9,7 @@ use crate::numbers::number_in;
 use crate::parser::matches;
 use crate::refused::Refused;
 use clap::{Arg, ArgAction, ArgMatches, Command};
+use numerals::laws::one_spelling;
 use std::alloc::{AllocError, Global};
 
 /// The greatest number of steps of a trace.
@@ -59,6 +60,7 @@ pub fn read_trace(alloc: Global, words: &[String]) -> Result<Trace, Refused>
         (λ trace. trace_told (drop 1 (map string_bytes words.now)) ≡ Some trace)
         (Refuses (trace_told (drop 1 (map string_bytes words.now)))) }
 {
+    one_spelling();
     let command = match command(alloc) {
         Ok(command) => command,
         Err(_) => return Err(Refused::Memory),

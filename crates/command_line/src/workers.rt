@@ -1,7 +1,7 @@
 // The option `--workers`, which several commands have.
 ghost use Rattle.std.specs.Prelude.{◌≡◌, codes, option_and_then};
 ghost use Rattle.clap.specs.Words.{found_of, rows_of, first_of};
-ghost use Rattle.command_line.specs.Number.{number_in};
+ghost use Rattle.numerals.specs.Numeral.{number_of};
 
 use crate::numbers::number_in;
 use clap::ArgMatches;
@@ -13,7 +13,7 @@ pub const LEAST_WORKERS: u32 = 1;
 pub const MOST_WORKERS: u32 = 64;
 
 pub(crate) fn workers_in(matches: &ArgMatches<'_>) -> Option<u32>
-    ensures { result ≡ option_and_then (number_in LEAST_WORKERS MOST_WORKERS)
+    ensures { result ≡ option_and_then (number_of LEAST_WORKERS MOST_WORKERS)
         (first_of (codes "workers") (rows_of (found_of matches.now))) }
 {
     number_in(LEAST_WORKERS, MOST_WORKERS, matches.get_str("workers")?)

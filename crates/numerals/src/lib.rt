@@ -1,0 +1,7 @@
+//! The one spelling of a number: decimal digits with no sign and no leading zero.
+#![tactic(auto)]
+
+pub mod laws;
+mod numeral;
+
+pub use numeral::{number, small_number};
