@@ -74,14 +74,13 @@ fn a_genome_has_from_8_to_8192_letters(rt: HostRuntime) -> Result<(), Fail> {
         (8192, None),
         (8193, Some(GenomeStop::TooLong { len: 8193 })),
     ] {
-        if len <= letters.len() {
-            let genome = Genome::from_letters(alloc, &letters[..len]);
-            assert_eq!(rt;
-                genome.as_ref().ok().map(|genome| genome.letters().len()),
-                stop.is_none().then_some(len)
-            );
-            assert_eq!(rt; genome.err(), stop);
-        }
+        assert!(rt; len <= letters.len());
+        let genome = Genome::from_letters(alloc, &letters[..len]);
+        assert_eq!(rt;
+            genome.as_ref().ok().map(|genome| genome.letters().len()),
+            stop.is_none().then_some(len)
+        );
+        assert_eq!(rt; genome.err(), stop);
     }
     Ok(())
 }
