@@ -1,5 +1,5 @@
 -- The bits of words.
-use Rattle.std.proofs.Common.{◌-◌, zero, suc, true, false, not, arith, ◌≡◌, ◌∙◌, sym, ap, refl, ℕ, ◌+◌, ◌%◌, ◌^◌, ◌<◌, ◌≤◌, ◌==◌, min, max, List, [], ◌∷◌, Bool, ◌&&◌, ◌||◌, bit_and, bit_or, subst, inl, inr}
+use Rattle.std.proofs.Common.{◌-◌, zero, suc, true, false, not, arith, ◌≡◌, ◌∙◌, sym, ap, refl, ℕ, ◌+◌, ◌%◌, ◌<◌, ◌≤◌, ◌==◌, min, max, Bool, ◌&&◌, ◌||◌, bit_and, bit_or, subst, inl, inr}
 use Rattle.std.proofs.Math.Nat.{eq-or-lt_of_le}
 use Rattle.std.specs.Bool.{Decides, beq}
 use mathlib.Core.Bool.{xor}

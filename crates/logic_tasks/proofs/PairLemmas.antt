@@ -1,5 +1,5 @@
 -- Some place of a list passes a test.
-use Rattle.std.proofs.Common.{◌-◌, zero, suc, arith, ◌≡◌, ℕ, ◌+◌, ◌<◌, Bool, ◌||◌, refl}
+use Rattle.std.proofs.Common.{◌-◌, suc, arith, ◌≡◌, ℕ, ◌+◌, ◌<◌, Bool, ◌||◌, refl}
 use Rattle.std.specs.List.{list_any, range_with_len}
 
 -- the places from one on

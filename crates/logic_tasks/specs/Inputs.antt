@@ -1,5 +1,5 @@
 -- The inputs of an organism (docs/MACHINE.md, "Inputs").
-use Rattle.std.specs.Prelude.{◌≡◌, ℕ, ◌+◌, ◌*◌, ◌/◌, ◌%◌, ◌^◌, List, [], ◌∷◌, length, take, min, map, slice_index_or}
+use Rattle.std.specs.Prelude.{◌≡◌, ℕ, ◌+◌, ◌*◌, ◌/◌, ◌%◌, ◌^◌, List, [], ◌∷◌, take, min, map, slice_index_or}
 
 -- the top bytes of the three inputs
 abbrev pub top_bytes : List ℕ

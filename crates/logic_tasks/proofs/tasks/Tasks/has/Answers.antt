@@ -1,6 +1,5 @@
-use Rattle.std.proofs.Common.{◌≡◌, ◌∙◌, ◌<◌, sym, ap, ◌==◌, arith, false, get_or}
+use Rattle.std.proofs.Common.{◌∙◌, ◌<◌, sym, ap, ◌==◌, arith, false, get_or}
 use Rattle.std.proofs.lemmas.Nat.Bits.{shr_and_one}
-use Rattle.logic_tasks.specs.LogicTasks.{has_bit}
 use Rattle.logic_tasks.specs.TaskBitsLaws.{get_or-tasks_of}
 use Rattle.logic_tasks.proofs.TaskBitsLemmas.{place_of-small}
 use Rattle.logic_tasks.proofs.tasks.Tasks.has.Goals as goal

@@ -1,4 +1,4 @@
-use Rattle.std.proofs.Common.{◌≡◌, ◌∙◌, ◌<◌, sym, ap, arith, true}
+use Rattle.std.proofs.Common.{◌∙◌, ◌<◌, ap, arith, true}
 use Rattle.std.proofs.Math.ListN.{set}
 use Rattle.logic_tasks.proofs.TaskBitsLemmas.{place_of-small, with_bit-small, tasks_of-with}
 use Rattle.logic_tasks.proofs.tasks.Tasks.with.Goals as goal
