@@ -1,6 +1,5 @@
 -- Only blanks are passed.
 use Rattle.std.proofs.Common.{◌≡◌, length}
-use Rattle.std.specs.Prelude.{reverse}
 use Rattle.genome.specs.GenomeText.{after_blanks}
 use Rattle.genome.proofs.names.after_blanks.Given as goal
 
