@@ -26,6 +26,6 @@ share_of merits steps cell = steps_before merits steps (cell + 1) - steps_before
 abbrev pub shares_of : List ℕ → ℕ → List ℕ
 shares_of merits steps = map (share_of merits steps) (range_with_len 0 (length merits))
 
--- the slices of a world with these merits; where all are 0 there is none
+-- the slices of a world with these merits; where all are 0 each cell gets 0
 unfoldable pub slices_of : List ℕ → ℕ → List ℕ
 slices_of merits average = if sum merits == 0 then replicate (length merits) 0 else shares_of merits (steps_in merits average)

@@ -85,7 +85,7 @@ renewed o ask = record o {
   machine = fresh_machine (parent_part o.machine.memory ask.read) o.machine.made o.machine.limit;
 }
 
--- a divide whose two parts are genomes and lie in memory
+-- a divide whose two parts are long enough for genomes and lie in memory, the parent's at most twice its genome
 pub record IsDivide (o : OrganismState) (ask : DivideAsk) : Type 0 where
   pub least_parent : LEAST_LENGTH ≤ ask.read
   pub least_child : LEAST_LENGTH ≤ ask.end - ask.read

@@ -13,7 +13,7 @@ use Rattle.organism.specs.OrganismState.{OrganismState, IsOrganism}
 use Rattle.organism.specs.Newborns.{NewbornValue}
 use Rattle.organism.specs.UpdateLife.{LifeState}
 
--- an organism with a genome, a machine and a merit, all of whose numbers are in range
+-- an organism with a genome, a machine, and a merit from 1 to the greatest
 pub record IsSoundOrganism (o : OrganismState) : Type 0 where
   pub organism : IsOrganism o
   pub machine : IsMachine o.machine
@@ -21,7 +21,7 @@ pub record IsSoundOrganism (o : OrganismState) : Type 0 where
   pub some_merit : 1 ≤ o.merit
   pub merit : o.merit ≤ GREATEST_MERIT
 
--- a newborn with merit, which its record makes of this genome, and whose record a log can write
+-- a newborn that its record makes of this genome, with a length that the rules allow, a merit, and a record that a log can write
 pub record IsBornOf (parent : List Letter) (rules : DivideRules) (newborn : NewbornValue) : Type 0 where
   pub child : child_of parent newborn.origin ≡ Ok newborn.genome
   pub form : HasRecordForm newborn.origin

@@ -11,7 +11,7 @@ pub record OrganismState : Type 0 where
   pub merit : ℕ
   -- the tasks that its merit comes from
   pub credited : List Bool
-  -- the steps since its birth or its last divide
+  -- the steps since its birth or its last viable divide
   pub age : ℕ
   -- how many inputs it has read since then
   pub read : ℕ

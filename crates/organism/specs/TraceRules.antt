@@ -1,4 +1,4 @@
--- The rules of a divide in a trace (docs/FORMATS.md, "Trace lines").
+-- The rules of a divide in a trace (docs/MACHINE.md, "The rules of a divide").
 use Rattle.std.specs.Prelude.{ℕ, true, nat_le, if◌then◌else◌}
 use Rattle.std.proofs.Math.Dec.{lit≤}
 use Rattle.divide_rules.specs.declared.limits.DivideRules.{DivideRules}

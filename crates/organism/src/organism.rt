@@ -1,4 +1,4 @@
-// An organism: its genome, its machine, and what it has done since its birth and its last divide.
+// An organism: its genome, its machine, and what it has done since its birth or its last viable divide.
 ghost use Rattle.std.specs.Prelude.{◌≡◌, ◌+◌, ◌*◌, ◌-◌, ◌<◌, ◌≤◌, ◌^◌, IfOk, OnOk, length};
 ghost use Rattle.divide_rules.specs.declared.limits.DivideRules.{DivideRules};
 ghost use Rattle.genome.specs.Genome.{letters};
@@ -97,7 +97,7 @@ impl Organism {
         self.credited
     }
 
-    /// The steps since its birth or its last divide.
+    /// The steps since its birth or its last viable divide.
     pub fn age(&self) -> u64
         ensures age { result ≡ self.now.age }
         ensures organism { IsOrganism self.now }
