@@ -1,12 +1,14 @@
 -- The look-ups of a letter.
 use Rattle.std.proofs.Common.{◌≡◌, ◌≢◌, ◌∙◌, sym, ap, subst, ℕ, zero, suc, ◌+◌, ◌-◌, ◌<◌, ◌≤◌, ◌↔◌, Bool, true, false, cond, refl, Option, None, Some, List, [], ◌∷◌, arith, eq-eqb}
 use Rattle.std.specs.Prelude.{◌==◌, find, slice_get, IsNone}
+use Rattle.std.specs.Bool.{Decides}
 use Rattle.std.specs.Str.{bytes_eq}
 use Rattle.std.proofs.lemmas.Bool.{ne_eqb}
-use Rattle.std.proofs.lemmas.Slice.Eq.{bytes_eq-Decides}
+use Rattle.std.proofs.lemmas.Bool.Decides.{Decides-eqb}
+use Rattle.std.proofs.lemmas.Slice.Eq.{bytes_eq-Decides, slice_eq-Decides}
 use Rattle.instruction_set.specs.declared.letter.Letter.{Letter}
 use Rattle.instruction_set.specs.declared.letter.Letter.TheVariants.{NopA, NopB, NopC, IfNEqu, IfLess, IfLabel, MovHead, JmpHead, GetHead, SetFlow, ShiftR, ShiftL, Inc, Dec, Push, Pop, SwapStk, Swap, Add, Sub, Nand, HCopy, HAlloc, HDivide, Io, HSearch}
-use Rattle.instruction_set.specs.Letter.{letters, index_of, byte_of, name_of, letter_at, letter_of_byte, letter_named}
+use Rattle.instruction_set.specs.Letter.{letters, index_of, byte_of, name_of, letter_at, letter_of_byte, letter_named, same_letter, same_letters}
 
 -- the keys of these letters count on from a number
 abbrev pub Counts : (Letter → ℕ) → ℕ → List Letter → Type 0
@@ -102,3 +104,13 @@ letter_named-None name = by (letter_named name) refl where
   by : (found : Option Letter) → letter_named name ≡ found → IsNone found ↔ ((letter : Letter) → name_of letter ≢ name)
   by None is = (λ _ letter same. let found : letter_named name ≡ Some letter = subst (λ n. letter_named n ≡ Some letter) same (found_again letter).by_name in cc, λ _. refl)
   by (Some letter) is = (λ none. cc, λ nobody. absurd (nobody letter (letter_named-name_of name letter is)))
+
+-- letters with one index are one letter
+pub same_letter-Decides : (letter other : Letter) → Decides (same_letter letter other) (letter ≡ other)
+same_letter-Decides letter other =
+    let same = Decides-eqb (index_of letter) (index_of other) in
+    (λ equal. let found : Some letter ≡ Some other = sym (found_again letter).by_index ∙ ap letter_at (same.0 equal) ∙ (found_again other).by_index in cc, λ equal. same.1 (ap index_of equal))
+
+-- and so are lists of them
+pub same_letters-Decides : (letters others : List Letter) → Decides (same_letters letters others) (letters ≡ others)
+same_letters-Decides letters others = slice_eq-Decides same_letter-Decides letters others _ refl

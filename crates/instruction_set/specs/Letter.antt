@@ -1,5 +1,6 @@
 -- The instruction table (docs/MACHINE.md, "The instruction table").
-use Rattle.std.specs.Prelude.{ℕ, ◌+◌, List, Option, None, Some, codes, [], ◌∷◌, find, ◌==◌}
+use Rattle.std.specs.Prelude.{ℕ, ◌+◌, Bool, List, Option, None, Some, codes, [], ◌∷◌, find, ◌==◌}
+use Rattle.std.specs.Cmp.Lexicographic.{pointwise}
 use Rattle.std.specs.Str.{bytes_eq}
 use Rattle.instruction_set.specs.declared.letter.Letter.{Letter}
 use Rattle.instruction_set.specs.declared.letter.Letter.TheVariants.{NopA, NopB, NopC, IfNEqu, IfLess, IfLabel, MovHead, JmpHead, GetHead, SetFlow, ShiftR, ShiftL, Inc, Dec, Push, Pop, SwapStk, Swap, Add, Sub, Nand, HCopy, HAlloc, HDivide, Io, HSearch}
@@ -42,6 +43,14 @@ index_of HSearch = 25
 -- a letter is written as the byte `a` to `z`
 abbrev pub byte_of : Letter → ℕ
 byte_of letter = 97 + index_of letter
+
+-- both are one letter
+abbrev pub same_letter : Letter → Letter → Bool
+same_letter letter other = index_of letter == index_of other
+
+-- both are one list of letters
+abbrev pub same_letters : List Letter → List Letter → Bool
+same_letters letters others = pointwise same_letter letters others
 
 -- what the operand of a letter is
 abbrev pub class_of : Letter → Class

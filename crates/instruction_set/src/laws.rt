@@ -1,6 +1,6 @@
-// What the look-ups of a letter have to do with one another.
-ghost use Rattle.std.specs.Prelude.{◌≡◌, Some};
-ghost use Rattle.instruction_set.specs.Letter.{index_of, byte_of, name_of, letter_at, letter_of_byte, letter_named};
+// What the look-ups of a letter have to do with one another, and that a letter has an index of its own.
+ghost use Rattle.std.specs.Prelude.{◌≡◌, Decides, List, Some};
+ghost use Rattle.instruction_set.specs.Letter.{index_of, byte_of, name_of, letter_at, letter_of_byte, letter_named, same_letter, same_letters};
 
 use crate::letter::Letter;
 
@@ -12,3 +12,11 @@ pub fn found_again(letter: Letter)
 {
     let _letter = letter;
 }
+
+/// Letters with one index are one letter, and so are lists of them.
+pub fn one_index()
+    ensures letter { (letter other : Letter)
+        → Decides (same_letter letter other) (letter ≡ other) }
+    ensures list { (letters others : List Letter)
+        → Decides (same_letters letters others) (letters ≡ others) }
+{}

@@ -6,8 +6,8 @@ use Rattle.std.specs.List.{find, range_with_len}
 use Rattle.std.specs.Option.{MatchOption, IfSome}
 use Rattle.std.proofs.lemmas.Bool.Decides.{not_from_Decides}
 use Rattle.instruction_set.specs.declared.letter.Letter.{Letter}
+use Rattle.instruction_set.specs.Letter.{same_letters}
 use Rattle.label_search.specs.Search.{OccursAt, occurs_at, first_match}
-use Rattle.label_search.proofs.TemplateLemmas.{same_letters-Decides}
 
 -- the search among the places from one on
 pub find-next : (test : ℕ → Bool) (place n : ℕ) → place < n → find test (range_with_len place (n - place)) ≡ cond (test place) (Some place) (find test (range_with_len (place + 1) (n - (place + 1))))
@@ -35,20 +35,22 @@ pub find-least : (test : ℕ → Bool) (P : ℕ → Type 0) → ((n : ℕ) → D
 find-least test P decides zero start end e = λ k low high _. absurd (omega arith)
 find-least test P decides (suc n) start end e = IsLeast-next P (test start) start end (decides start) _ (find-least test P decides n (start + 1) end (omega arith))
 
--- a template that is not empty stands at a place exactly where the test says so
-pub occurs_at-Decides : (memory template : List Letter) → 0 < length template → (place : ℕ) → Decides (occurs_at memory template place) (OccursAt memory template place)
-occurs_at-Decides memory template some place =
-    let rest = take (length template) (drop place memory) in
-    let same = same_letters-Decides template rest in
-    let fits : template ≡ rest → place + length template ≤ length memory = λ e. omega (arith, ap length e, length-take (length template) (drop place memory), length-drop place memory) in
-    (λ passes. (fits (same.0 passes), sym (same.0 passes)), λ stands. same.1 (sym stands.1))
+-- where the test of lists tells which are one list
+module _ (one_list : (letters others : List Letter) → Decides (same_letters letters others) (letters ≡ others)) where
+  -- a template that is not empty stands at a place exactly where the test says so
+  pub occurs_at-Decides : (memory template : List Letter) → 0 < length template → (place : ℕ) → Decides (occurs_at memory template place) (OccursAt memory template place)
+  occurs_at-Decides memory template some place =
+      let rest = take (length template) (drop place memory) in
+      let same = one_list template rest in
+      let fits : template ≡ rest → place + length template ≤ length memory = λ e. omega (arith, ap length e, length-take (length template) (drop place memory), length-drop place memory) in
+      (λ passes. (fits (same.0 passes), sym (same.0 passes)), λ stands. same.1 (sym stands.1))
 
--- the first match is the least place at which the template stands
-pub first_match-least : (memory template : List Letter) → 0 < length template → MatchOption (first_match memory template) ((place : ℕ) → ¬ OccursAt memory template place) (λ first. OccursAt memory template first × ((place : ℕ) → place < first → ¬ OccursAt memory template place))
-first_match-least memory template some =
-    MatchOption-map (first_match memory template) _ _ _ _ (λ none place stands. none place (omega arith) (omega (arith, stands.0)) stands) (λ first least. (least.0, λ place before. least.1 place (omega arith) before)) (find-least (occurs_at memory template) (OccursAt memory template) (occurs_at-Decides memory template some) (length memory) 0 (length memory) (omega arith))
+  -- the first match is the least place at which the template stands
+  pub first_match-least : (memory template : List Letter) → 0 < length template → MatchOption (first_match memory template) ((place : ℕ) → ¬ OccursAt memory template place) (λ first. OccursAt memory template first × ((place : ℕ) → place < first → ¬ OccursAt memory template place))
+  first_match-least memory template some =
+      MatchOption-map (first_match memory template) _ _ _ _ (λ none place stands. none place (omega arith) (omega (arith, stands.0)) stands) (λ first least. (least.0, λ place before. least.1 place (omega arith) before)) (find-least (occurs_at memory template) (OccursAt memory template) (occurs_at-Decides memory template some) (length memory) 0 (length memory) (omega arith))
 
--- the first match stands wholly before the end
-pub first_match-before_end : (memory template : List Letter) → 0 < length template → IfSome (first_match memory template) (λ first. first + length template ≤ length memory)
-first_match-before_end memory template some =
-    MatchOption-map (first_match memory template) _ _ _ _ (λ _. tt) (λ first least. least.0.0) (first_match-least memory template some)
+  -- the first match stands wholly before the end
+  pub first_match-before_end : (memory template : List Letter) → 0 < length template → IfSome (first_match memory template) (λ first. first + length template ≤ length memory)
+  first_match-before_end memory template some =
+      MatchOption-map (first_match memory template) _ _ _ _ (λ _. tt) (λ first least. least.0.0) (first_match-least memory template some)

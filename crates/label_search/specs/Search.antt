@@ -2,11 +2,13 @@
 use Rattle.std.specs.Prelude.{◌≡◌, ℕ, ◌+◌, ◌≤◌, Bool, Option, List, length, take, drop, find}
 use Rattle.std.specs.List.{starts_with, range_with_len}
 use Rattle.instruction_set.specs.declared.letter.Letter.{Letter}
-use Rattle.label_search.specs.Template.{same_letter}
+use Rattle.instruction_set.specs.Letter.{same_letter}
 
 -- the template stands at this place, wholly before the end of memory
 abbrev pub OccursAt : List Letter → List Letter → ℕ → Type 0
-OccursAt memory template place = (place + length template ≤ length memory) × (take (length template) (drop place memory) ≡ template)
+OccursAt memory template place =
+    (place + length template ≤ length memory)
+    × (take (length template) (drop place memory) ≡ template)
 
 -- the letters begin with the template
 abbrev pub begins_with : List Letter → List Letter → Bool

@@ -1,10 +1,9 @@
 -- Templates and the nops read last (docs/MACHINE.md, "Templates").
-use Rattle.std.specs.Prelude.{map, unwrap_or, ℕ, ◌+◌, ◌-◌, ◌%◌, Bool, true, false, List, [], ◌∷◌, ◌++◌, length, drop, take_while, slice_index_or, if◌then◌else◌, ◌==◌}
+use Rattle.std.specs.Prelude.{map, unwrap_or, ℕ, ◌+◌, ◌-◌, ◌%◌, Bool, true, false, List, [], ◌∷◌, ◌++◌, length, drop, take_while, slice_index_or, if◌then◌else◌}
 use Rattle.std.specs.List.{range_with_len}
-use Rattle.std.specs.Cmp.Lexicographic.{pointwise}
 use Rattle.instruction_set.specs.declared.letter.Letter.{Letter}
 use Rattle.instruction_set.specs.declared.letter.Letter.TheVariants.{NopA, NopB, NopC}
-use Rattle.instruction_set.specs.Letter.{index_of, complement_of}
+use Rattle.instruction_set.specs.Letter.{complement_of}
 use Rattle.label_search.specs.declared.template.TheConstants.{LONGEST_TEMPLATE}
 
 -- the letters that stand in a template
@@ -13,14 +12,6 @@ is_nop NopA = true
 is_nop NopB = true
 is_nop NopC = true
 is_nop _ = false
-
--- both are one letter
-abbrev pub same_letter : Letter → Letter → Bool
-same_letter a b = index_of a == index_of b
-
--- both are one list of letters
-abbrev pub same_letters : List Letter → List Letter → Bool
-same_letters letters others = pointwise same_letter letters others
 
 -- the last ten of a list
 abbrev pub last_ten : List Letter → List Letter

@@ -4,6 +4,7 @@ ghost use Rattle.label_search.specs.Search.{OccursAt, first_match, begins_with};
 
 use crate::Template;
 use instruction_set::Letter;
+use instruction_set::laws::one_index;
 
 /// The least place at which the template stands wholly before the end of memory.
 pub fn find(memory: &[Letter], what: &Template) -> Option<usize>
@@ -15,6 +16,7 @@ pub fn find(memory: &[Letter], what: &Template) -> Option<usize>
         × ((place : ℕ) → place < first → ¬ OccursAt memory.now what.now place)) }
     ensures before_end { IfSome result (λ first. first + length what.now ≤ length memory.now) }
 {
+    one_index();
     least_match(memory, what.letters())
 }
 

@@ -1,11 +1,13 @@
 // Lists of nops: the nops read last, and the operand of if-label and h-search.
 ghost use Rattle.std.specs.Prelude.{◌≡◌, ◌+◌, ◌%◌, ◌<◌, ◌≤◌, ◌↔◌, IsTrue, [], length, slice_get};
 ghost use Rattle.std.specs.Option.{option_copied};
+ghost use Rattle.instruction_set.specs.Letter.{same_letters};
 ghost use Rattle.label_search.specs.Template as spec;
-ghost use Rattle.label_search.specs.Template.{is_nop, same_letters, nops_read, complements_of};
+ghost use Rattle.label_search.specs.Template.{is_nop, nops_read, complements_of};
 
 use arrayvec::ArrayVec;
 use instruction_set::Letter;
+use instruction_set::laws::one_index;
 use std::marker::Model;
 
 /// How many nops a template has at most.
@@ -99,6 +101,7 @@ impl Template {
         ensures value { result ≡ same_letters self.now other.now }
         ensures same { IsTrue result ↔ (self.now ≡ other.now) }
     {
+        one_index();
         are_equal(self.letters(), other.letters())
     }
 }

@@ -3,7 +3,7 @@ use Rattle.std.proofs.Common.{◌≡◌, refl, ◌∙◌, ap, ℕ, zero, suc, �
 use Rattle.std.specs.List.{AllByRecursion}
 use Rattle.std.proofs.lemmas.Bool.Decides.{nat_tests}
 use Rattle.instruction_set.specs.declared.letter.Letter.{Letter}
-use Rattle.instruction_set.specs.Letter.{index_of}
+use Rattle.instruction_set.specs.Letter.{same_letter, same_letters}
 use Rattle.random_streams.specs.RandomStream.{hits, scaled}
 use Rattle.mutations.specs.declared.change.Change.{Change}
 use Rattle.mutations.specs.declared.change.Change.TheVariants.{Point, Insert, Delete}
@@ -13,8 +13,9 @@ use Rattle.mutations.specs.Change.{text_after, with_change, has_place, is_genome
 use Rattle.mutations.specs.CopyError.{letter_of_word}
 use Rattle.mutations.specs.Rates.{RateNumbers, LengthRange}
 use Rattle.mutations.specs.DivideErrors.{Drawn, none_by, pointed_text, after_points, points_from, insertion_at, insertions_from, site_insertions, deletion_at, deletions_from, site_deletions, insertions, deletions}
-use Rattle.mutations.specs.BirthRecord.{drawn_by_divide, origin_of, same_letters}
+use Rattle.mutations.specs.BirthRecord.{drawn_by_divide, origin_of}
 use Rattle.mutations.specs.RecordForm.{FitsBase, FitsPlace, FitsChange, may_follow, in_order, HasRecordForm}
+use Rattle.mutations.proofs.PointLemmas.{OneIndex}
 use Rattle.mutations.proofs.LawLemmas.{Child, drawn_by_divide-child}
 
 -- a genome's length
@@ -171,7 +172,7 @@ points-order : (at : ℕ) (clean text : List Letter) (rest : List Change) → Is
 points-order at [] text rest others = record { order = others.order; after_point = λ before was h. others.after_point before was }
 points-order at (was ∷ clean) [] rest others = record { order = others.order; after_point = λ before was h. others.after_point before was }
 points-order at (was ∷ clean) (letter ∷ text) rest others =
-    goes_on-next (eqb (index_of was) (index_of letter)) at letter (points_from (at + 1) clean text) rest (points-order (at + 1) clean text rest others)
+    goes_on-next (same_letter was letter) at letter (points_from (at + 1) clean text) rest (points-order (at + 1) clean text rest others)
 
 -- all changes of a birth are in order
 drawn-order : (words : ℕ → ℕ) (k : ℕ) (rates : RateNumbers) (limits : LengthRange) (clean written : List Letter) → in_order (drawn_by_divide words k rates limits clean written).changes ≡ true
@@ -191,9 +192,9 @@ fits-base true clean genome = tt
 fits-base false clean genome = genome
 
 -- the record of a birth has the form
-pub origin_of-form : (words : ℕ → ℕ) → ((n : ℕ) → words n < 2 ^ 32) → (k : ℕ) (rates : RateNumbers) (limits : LengthRange) (clean written parent : List Letter) → 8 ≤ limits.least → limits.greatest ≤ 8192 → length clean ≡ length written → limits.least ≤ length written → length written ≤ limits.greatest → HasRecordForm (origin_of words k rates limits clean written parent)
-origin_of-form words fits k rates limits clean written parent least most one_length shortest longest =
-    let child : Child (drawn_by_divide words k rates limits clean written) clean limits = drawn_by_divide-child words fits k rates limits clean written least most one_length shortest longest in
+pub origin_of-form : OneIndex → (words : ℕ → ℕ) → ((n : ℕ) → words n < 2 ^ 32) → (k : ℕ) (rates : RateNumbers) (limits : LengthRange) (clean written parent : List Letter) → 8 ≤ limits.least → limits.greatest ≤ 8192 → length clean ≡ length written → limits.least ≤ length written → length written ≤ limits.greatest → HasRecordForm (origin_of words k rates limits clean written parent)
+origin_of-form one_index words fits k rates limits clean written parent least most one_length shortest longest =
+    let child : Child (drawn_by_divide words k rates limits clean written) clean limits = drawn_by_divide-child one_index words fits k rates limits clean written least most one_length shortest longest in
     let genome : is_genome_length (length clean) ≡ true = genome-length (length clean) (omega arith) (omega arith) in
     record {
       base = fits-base (same_letters clean parent) clean genome;

@@ -15,7 +15,7 @@ use Rattle.mutations.specs.DivideErrors.{Drawn, none_by, site_text, pointed_text
 use Rattle.mutations.specs.Pass.{Makes}
 use Rattle.mutations.proofs.ChangeLemmas.{Makes-append, Makes-one, Makes-none}
 use Rattle.mutations.proofs.DeletionLemmas.{Makes-delete}
-use Rattle.mutations.proofs.PointLemmas.{points-make}
+use Rattle.mutations.proofs.PointLemmas.{OneIndex, points-make}
 use Rattle.mutations.proofs.BirthLemmas.{written_of-clean}
 use Rattle.mutations.specs.BirthRecord.{drawn_by_divide, origin_of, child_of}
 use Rattle.mutations.specs.declared.stop.ApplyStop.{ApplyStop}
@@ -245,34 +245,35 @@ pub record Child (drawn : Drawn) (clean : List Letter) (limits : LengthRange) : 
   pub least : limits.least ≤ length to
   pub greatest : length to ≤ limits.greatest
 
--- all changes of a birth
-pub drawn_by_divide-child : (words : ℕ → ℕ) → ((n : ℕ) → words n < 2 ^ 32) → (k : ℕ) (rates : RateNumbers) (limits : LengthRange) (clean written : List Letter) → 8 ≤ limits.least → limits.greatest ≤ 8192 → length clean ≡ length written → limits.least ≤ length written → length written ≤ limits.greatest → Child (drawn_by_divide words k rates limits clean written) clean limits
-unfolding drawn_by_divide
-drawn_by_divide-child words fits k rates limits clean written least most one_length shortest longest =
-    let text : List Letter = pointed_text words rates.site_point k written in
-    let size : length text ≡ length written = length-pointed_text words rates.site_point k written in
-    let next : ℕ = after_points words rates.site_point k (length written) in
-    let genome : IsGenome clean = record { least = omega arith; greatest = omega arith } in
-    let points : Makes (points_from 0 clean text) clean text = points-make 0 [] clean text refl (omega arith) genome in
-    let inserted : Longer (insertions words rates limits (length text) next) text limits.greatest = insertions-longer words fits rates limits text next (omega arith) (omega arith) most in
-    let longer : Longer (insertions words rates limits (length written) next) text limits.greatest = subst (λ (n : ℕ). Longer (insertions words rates limits n next) text limits.greatest) size inserted in
-    let L : Drawn = insertions words rates limits (length written) next in
-    let deleted : Shorter (deletions words rates limits (length longer.to) L.next) longer.to limits.least = deletions-shorter words fits rates limits longer.to L.next least (omega (arith, longer.size)) (omega (arith, longer.fits)) in
-    let len : length longer.to ≡ length written + length L.changes = omega (arith, longer.size) in
-    let shorter : Shorter (deletions words rates limits (length written + length L.changes) L.next) longer.to limits.least = subst (λ (n : ℕ). Shorter (deletions words rates limits n L.next) longer.to limits.least) len deleted in
-    let S : Drawn = deletions words rates limits (length written + length L.changes) L.next in
-    record {
-      to = shorter.to;
-      makes = Makes-append (points_from 0 clean text ++ L.changes) S.changes clean longer.to shorter.to (Makes-append (points_from 0 clean text) L.changes clean text longer.to points longer.makes) shorter.makes;
-      least = shorter.fits;
-      greatest = omega (arith, shorter.size, longer.fits);
-    }
+module _ (one_index : OneIndex) where
+  -- all changes of a birth
+  pub drawn_by_divide-child : (words : ℕ → ℕ) → ((n : ℕ) → words n < 2 ^ 32) → (k : ℕ) (rates : RateNumbers) (limits : LengthRange) (clean written : List Letter) → 8 ≤ limits.least → limits.greatest ≤ 8192 → length clean ≡ length written → limits.least ≤ length written → length written ≤ limits.greatest → Child (drawn_by_divide words k rates limits clean written) clean limits
+  unfolding drawn_by_divide
+  drawn_by_divide-child words fits k rates limits clean written least most one_length shortest longest =
+      let text : List Letter = pointed_text words rates.site_point k written in
+      let size : length text ≡ length written = length-pointed_text words rates.site_point k written in
+      let next : ℕ = after_points words rates.site_point k (length written) in
+      let genome : IsGenome clean = record { least = omega arith; greatest = omega arith } in
+      let points : Makes (points_from 0 clean text) clean text = points-make one_index 0 [] clean text refl (omega arith) genome in
+      let inserted : Longer (insertions words rates limits (length text) next) text limits.greatest = insertions-longer words fits rates limits text next (omega arith) (omega arith) most in
+      let longer : Longer (insertions words rates limits (length written) next) text limits.greatest = subst (λ (n : ℕ). Longer (insertions words rates limits n next) text limits.greatest) size inserted in
+      let L : Drawn = insertions words rates limits (length written) next in
+      let deleted : Shorter (deletions words rates limits (length longer.to) L.next) longer.to limits.least = deletions-shorter words fits rates limits longer.to L.next least (omega (arith, longer.size)) (omega (arith, longer.fits)) in
+      let len : length longer.to ≡ length written + length L.changes = omega (arith, longer.size) in
+      let shorter : Shorter (deletions words rates limits (length written + length L.changes) L.next) longer.to limits.least = subst (λ (n : ℕ). Shorter (deletions words rates limits n L.next) longer.to limits.least) len deleted in
+      let S : Drawn = deletions words rates limits (length written + length L.changes) L.next in
+      record {
+        to = shorter.to;
+        makes = Makes-append (points_from 0 clean text ++ L.changes) S.changes clean longer.to shorter.to (Makes-append (points_from 0 clean text) L.changes clean text longer.to points longer.makes) shorter.makes;
+        least = shorter.fits;
+        greatest = omega (arith, shorter.size, longer.fits);
+      }
 
--- the record of a birth applies
-pub origin_of-applies : (words : ℕ → ℕ) → ((n : ℕ) → words n < 2 ^ 32) → (k : ℕ) (rates : RateNumbers) (limits : LengthRange) (clean written parent : List Letter) → 8 ≤ limits.least → limits.greatest ≤ 8192 → length clean ≡ length written → limits.least ≤ length written → length written ≤ limits.greatest → IsOkAnd (child_of parent (origin_of words k rates limits clean written parent)) (λ child. (limits.least ≤ length child) × (length child ≤ limits.greatest))
-origin_of-applies words fits k rates limits clean written parent least most one_length shortest longest =
-    let child : Child (drawn_by_divide words k rates limits clean written) clean limits = drawn_by_divide-child words fits k rates limits clean written least most one_length shortest longest in
-    let changes : List Change = (drawn_by_divide words k rates limits clean written).changes in
-    let made : child_of parent (origin_of words k rates limits clean written parent) ≡ Ok child.to = ap (λ (base : List Letter). text_after 1 changes base) (written_of-clean clean parent) ∙ child.makes.made 1 in
-    let P : Result (List Letter) ApplyStop → Type 0 = λ r. IsOkAnd r (λ child. (limits.least ≤ length child) × (length child ≤ limits.greatest)) in
-    subst P (sym made) (child.least, child.greatest)
+  -- the record of a birth applies
+  pub origin_of-applies : (words : ℕ → ℕ) → ((n : ℕ) → words n < 2 ^ 32) → (k : ℕ) (rates : RateNumbers) (limits : LengthRange) (clean written parent : List Letter) → 8 ≤ limits.least → limits.greatest ≤ 8192 → length clean ≡ length written → limits.least ≤ length written → length written ≤ limits.greatest → IsOkAnd (child_of parent (origin_of words k rates limits clean written parent)) (λ child. (limits.least ≤ length child) × (length child ≤ limits.greatest))
+  origin_of-applies words fits k rates limits clean written parent least most one_length shortest longest =
+      let child : Child (drawn_by_divide words k rates limits clean written) clean limits = drawn_by_divide-child words fits k rates limits clean written least most one_length shortest longest in
+      let changes : List Change = (drawn_by_divide words k rates limits clean written).changes in
+      let made : child_of parent (origin_of words k rates limits clean written parent) ≡ Ok child.to = ap (λ (base : List Letter). text_after 1 changes base) (written_of-clean one_index clean parent) ∙ child.makes.made 1 in
+      let P : Result (List Letter) ApplyStop → Type 0 = λ r. IsOkAnd r (λ child. (limits.least ≤ length child) × (length child ≤ limits.greatest)) in
+      subst P (sym made) (child.least, child.greatest)

@@ -1,8 +1,7 @@
 -- The record of a birth and the child that it makes (docs/WORLD.md, "Records of birth").
-use Rattle.std.specs.Prelude.{ℕ, ◌+◌, Bool, ◌==◌, if◌then◌else◌, List, ◌++◌, length, Option, None, Some, unwrap_or, Result}
-use Rattle.std.specs.Cmp.Lexicographic.{pointwise}
+use Rattle.std.specs.Prelude.{ℕ, ◌+◌, if◌then◌else◌, List, ◌++◌, length, Option, None, Some, unwrap_or, Result}
 use Rattle.instruction_set.specs.declared.letter.Letter.{Letter}
-use Rattle.instruction_set.specs.Letter.{index_of}
+pub use Rattle.instruction_set.specs.Letter.{same_letters}
 use Rattle.genome.specs.Genome.{letters}
 use Rattle.mutations.specs.declared.base.Base.{Base}
 use Rattle.mutations.specs.declared.base.Base.TheVariants.{Parent, Written}
@@ -30,10 +29,6 @@ record_of origin = record { written = written_in origin.base; changes = origin.c
 -- the child that a record makes of the parent's genome, or the first change that is refused
 abbrev pub child_of : List Letter → BirthRecord → Result (List Letter) ApplyStop
 child_of parent birth = text_after 1 birth.changes (unwrap_or birth.written parent)
-
--- both are one list of letters
-abbrev pub same_letters : List Letter → List Letter → Bool
-same_letters letters others = pointwise (λ a b. index_of a == index_of b) letters others
 
 -- the clean text, unless it is the parent's genome
 abbrev pub written_of : List Letter → List Letter → Option (List Letter)

@@ -2,7 +2,7 @@
 -- Word k is the one that makes the first test.
 use Rattle.std.specs.Prelude.{ℕ, zero, suc, ◌+◌, ◌-◌, ◌&&◌, ◌==◌, nat_lt, if◌then◌else◌, List, [], ◌∷◌, ◌++◌, length, unwrap_or}
 use Rattle.instruction_set.specs.declared.letter.Letter.{Letter}
-use Rattle.instruction_set.specs.Letter.{index_of}
+use Rattle.instruction_set.specs.Letter.{same_letter}
 use Rattle.random_streams.specs.RandomStream.{scaled, hits}
 use Rattle.mutations.specs.declared.change.Change.{Change}
 use Rattle.mutations.specs.declared.change.Change.TheVariants.{Point, Insert, Delete}
@@ -43,7 +43,7 @@ abbrev pub points_from : ℕ → List Letter → List Letter → List Change
 points_from at [] text = []
 points_from at (was ∷ clean) [] = []
 points_from at (was ∷ clean) (letter ∷ text) =
-    if index_of was == index_of letter
+    if same_letter was letter
     then points_from (at + 1) clean text
     else Point at letter ∷ points_from (at + 1) clean text
 

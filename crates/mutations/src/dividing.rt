@@ -1,9 +1,10 @@
 // The record and the genome of a child.
 ghost use Rattle.std.specs.Prelude.{◌≡◌, ◌+◌, ◌-◌, ◌*◌, ◌≤◌, ◌<◌, Ok, [], ◌↔◌, length, IsNone, IfOk, OnOk};
+ghost use Rattle.instruction_set.specs.Letter.{same_letters};
 ghost use Rattle.genome.specs.Genome.{letters};
 ghost use Rattle.random_streams.specs.RandomStream.{word_of};
 ghost use Rattle.mutations.specs.Rates.{numbers_of, range_of};
-ghost use Rattle.mutations.specs.BirthRecord.{record_of, child_of, origin_of, after_birth, written_in, written_of, drawn_by_divide, same_letters};
+ghost use Rattle.mutations.specs.BirthRecord.{record_of, child_of, origin_of, after_birth, written_in, written_of, drawn_by_divide};
 ghost use Rattle.mutations.specs.Pass.{Passed};
 
 use crate::deletions::delete_errors;
@@ -13,6 +14,7 @@ use crate::{Base, Born, Change, Changes, Limits, Origin, Rates};
 use avida_port::Memory;
 use genome::{GREATEST_LENGTH, Genome, LEAST_LENGTH};
 use instruction_set::Letter;
+use instruction_set::laws::one_index;
 use random_streams::{Draws, WORDS};
 use std::alloc::{AllocError, Global};
 
@@ -52,6 +54,7 @@ pub fn divide_errors(
     ensures most { OnOk result (draws.new.taken
         ≤ draws.old.taken + 6 * length (letters written.now) + 6) }
 {
+    one_index();
     let drawn = drawn_child(
         alloc,
         clean.letters(),

@@ -18,7 +18,9 @@ pub fn drawn_records_apply()
         → length written ≤ limits.greatest
         → IsOkAnd (child_of parent (origin_of words k rates limits clean written parent))
         (λ child. (limits.least ≤ length child) × (length child ≤ limits.greatest)) }
-{}
+{
+    instruction_set::laws::one_index();
+}
 
 /// The record that words give has the form that a log asks for.
 pub fn drawn_records_have_form()
@@ -31,4 +33,6 @@ pub fn drawn_records_have_form()
         → limits.least ≤ length written
         → length written ≤ limits.greatest
         → HasRecordForm (origin_of words k rates limits clean written parent) }
-{}
+{
+    instruction_set::laws::one_index();
+}

@@ -8,6 +8,7 @@ ghost use Rattle.mutations.specs.Pass.{Makes};
 use crate::Change;
 use crate::copying::error_letter;
 use instruction_set::Letter;
+use instruction_set::laws::one_index;
 use random_streams::{Draws, MILLION, WORDS};
 use std::alloc::{AllocError, Global};
 
@@ -76,6 +77,7 @@ pub(crate) fn points(
     ensures points { IfOk result (λ points. points.items ≡ points_from 0 clean.now text.now) }
     ensures made { IfOk result (λ points. Makes points.items clean.now text.now) }
 {
+    one_index();
     let mut points = Vec::new(alloc);
     for (at, letter) in text.iter().enumerate() {
         if clean[at] != *letter {

@@ -1,7 +1,8 @@
 -- What the two instructions on templates do before IP advances (docs/MACHINE.md, "Templates", "h-search").
 use Rattle.std.specs.Prelude.{ℕ, ℤ, pos, ◌+◌, ◌-◌, ◌%◌, true, false, Option, Some, None, List, [], ◌∷◌, length, if◌then◌else◌, ◌-ℤ◌}
 use Rattle.instruction_set.specs.declared.letter.Letter.{Letter}
-use Rattle.label_search.specs.Template.{complements_of, same_letters}
+use Rattle.instruction_set.specs.Letter.{same_letters}
+use Rattle.label_search.specs.Template.{complements_of}
 use Rattle.label_search.specs.Search.{first_match}
 use Rattle.virtual_cpu.specs.declared.registers.Register.TheVariants.{Bx, Cx}
 use Rattle.virtual_cpu.specs.Machine.{Machine, place_after, with_flow_at, with_value}

@@ -1,8 +1,8 @@
 // The machine: its parts, and the few ways in which an instruction changes them.
 ghost use Rattle.std.specs.Prelude.{◌≡◌, ℕ, ℤ, pos, ◌-◌, ◌*◌, ◌<◌, ◌≤◌, IfOk, List, [], ◌∷◌, length, ◌+◌, ◌++◌, replicate, true, false, vec_capacity, IfSome, IsTrue};
 ghost use Rattle.instruction_set.specs.declared.letter.Letter.{Letter};
+ghost use Rattle.instruction_set.specs.Letter.{same_letters};
 ghost use Rattle.genome.specs.Genome.{letters};
-ghost use Rattle.label_search.specs.Template.{same_letters};
 ghost use Rattle.label_search.specs.Search.{first_match};
 ghost use Rattle.virtual_cpu.specs.Registers.{value_of};
 ghost use Rattle.virtual_cpu.specs.Heads.{place_of};
