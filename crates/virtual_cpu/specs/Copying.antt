@@ -13,5 +13,6 @@ after_h_copy m copy =
       clean = slice_set m.clean m.heads.write read;
       copied = slice_set m.copied m.heads.write true;
       nops = nops_read m.nops read;
-      heads = record m.heads { read = place_after m m.heads.read; write = place_after m m.heads.write };
+      heads = record m.heads
+          { read = place_after m m.heads.read; write = place_after m m.heads.write };
     }

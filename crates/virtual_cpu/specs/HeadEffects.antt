@@ -20,7 +20,8 @@ after_mov_head m = let n = on_modifier m in with_head_at n (head m) n.heads.flow
 unfoldable pub after_jmp_head : Machine → Machine
 after_jmp_head m =
     let n = on_modifier m in
-    with_head_at n (head m) (place_of_number n (pos (place_of n.heads (head m)) +ℤ value_of n.registers Cx))
+    with_head_at n (head m)
+    (place_of_number n (pos (place_of n.heads (head m)) +ℤ value_of n.registers Cx))
 
 -- get-head
 unfoldable pub after_get_head : Machine → Machine

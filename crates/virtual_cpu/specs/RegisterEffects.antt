@@ -35,11 +35,14 @@ after_if_n_equ m = skipping_if (int_eq (value m (picked m)) (value m (next m))) 
 
 -- if-less
 unfoldable pub after_if_less : Machine → Machine
-after_if_less m = skipping_if (if int_lt (value m (picked m)) (value m (next m)) then false else true) (on_modifier m)
+after_if_less m =
+    skipping_if (if int_lt (value m (picked m)) (value m (next m)) then false else true)
+    (on_modifier m)
 
 -- set-flow
 unfoldable pub after_set_flow : Machine → Machine
-after_set_flow m = let n = on_modifier m in with_flow_at n (place_of_number n (value m (register_picked m Cx)))
+after_set_flow m =
+    let n = on_modifier m in with_flow_at n (place_of_number n (value m (register_picked m Cx)))
 
 -- shift-r
 unfoldable pub after_shift_r : Machine → Machine
@@ -67,12 +70,14 @@ with_active_stack m numbers = record m { stacks = slice_set m.stacks m.active nu
 
 -- push
 unfoldable pub after_push : Machine → Machine
-after_push m = with_active_stack (on_modifier m) (pushed (value m (picked m)) (active_stack (on_modifier m)))
+after_push m =
+    with_active_stack (on_modifier m) (pushed (value m (picked m)) (active_stack (on_modifier m)))
 
 -- pop
 unfoldable pub after_pop : Machine → Machine
 after_pop m =
-    let n = on_modifier m in with_value (with_active_stack n (popped (active_stack n))) (picked m) (top_of (active_stack n))
+    let n = on_modifier m in
+    with_value (with_active_stack n (popped (active_stack n))) (picked m) (top_of (active_stack n))
 
 -- swap-stk
 unfoldable pub after_swap_stk : Machine → Machine

@@ -22,13 +22,15 @@ with_search m flow bx cx = with_value (with_value (with_flow_at m flow) Bx bx) C
 -- a search for this many nops with a match at a place, or without one
 abbrev pub with_match : Machine → ℕ → Option ℕ → Machine
 with_match m count (Some place) =
-    with_search m ((place + count) % length m.memory) (pos (place + count - 1) -ℤ pos m.heads.ip) count
+    with_search m ((place + count) % length m.memory) (pos (place + count - 1) -ℤ pos m.heads.ip)
+    count
 with_match m count None = with_search m (place_after m m.heads.ip) (pos 0) count
 
 -- a search for the complement of a template
 abbrev pub with_search_for : Machine → List Letter → Machine
 with_search_for m [] = with_search m (place_after m m.heads.ip) (pos 0) 0
-with_search_for m (nop ∷ nops) = with_match m (length (nop ∷ nops)) (first_match m.memory (complements_of (nop ∷ nops)))
+with_search_for m (nop ∷ nops) =
+    with_match m (length (nop ∷ nops)) (first_match m.memory (complements_of (nop ∷ nops)))
 
 -- h-search
 unfoldable pub after_h_search : Machine → Machine

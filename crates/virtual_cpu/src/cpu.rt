@@ -145,7 +145,8 @@ impl Cpu {
 
     /// AX, BX and CX.
     pub fn registers(&self) -> [i32; 3]
-        ensures { result ≡ self.now.registers.ax ∷ self.now.registers.bx ∷ self.now.registers.cx ∷ [] }
+        ensures { result
+            ≡ self.now.registers.ax ∷ self.now.registers.bx ∷ self.now.registers.cx ∷ [] }
     {
         [self.registers.ax, self.registers.bx, self.registers.cx]
     }

@@ -246,7 +246,8 @@ impl Cpu {
     /// Puts the register out, and takes the input into it.
     #[tactic(auto, unfolding(crate::specs::RegisterEffects::after_io, crate::specs::RegisterEffects::output_of))]
     fn io(&mut self, input: i32) -> Did
-        ensures { (self.new, result) ≡ telling (Output (output_of self.old)) (after_io self.old input) }
+        ensures { (self.new, result)
+            ≡ telling (Output (output_of self.old)) (after_io self.old input) }
     {
         let register = self.pick_register(Register::Bx);
         let value = self.register(register);
@@ -289,8 +290,8 @@ impl Cpu {
         self.go_on()
     }
 
-    #[tactic(auto, unfolding(crate::specs::Step::step))]
     /// One instruction. `input` is taken only by IO, `copy` only by h-copy.
+    #[tactic(auto, unfolding(crate::specs::Step::step))]
     pub fn step(&mut self, input: i32, copy: Option<Letter>) -> Did
         ensures step { (self.new, result) ≡ step self.old input copy }
         ensures question { AsksOf self.new result }
