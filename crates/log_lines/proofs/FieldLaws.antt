@@ -1,21 +1,19 @@
 -- What is written is read again, and what is read was written so.
-use Rattle.std.proofs.Common.{◌≡◌, ◌≢◌, ℕ, ◌<◌, ◌≤◌, ◌^◌, Bool, true, false, not, cond, List, [], ◌∷◌, ◌++◌, map, length, get_or, Option, Some, None, refl, sym, ap, subst, ◌∙◌, arith, inl, inr, eq-eqb, decimal}
+use Rattle.std.proofs.Common.{◌≡◌, ◌≢◌, ℕ, ◌<◌, ◌≤◌, ◌^◌, Bool, true, false, cond, List, [], ◌∷◌, ◌++◌, map, length, Option, Some, None, refl, sym, ap, subst, ◌∙◌, arith, inl, inr, eq-eqb, decimal}
 use Rattle.std.proofs.lemmas.List.{length-map}
-use Rattle.std.specs.Prelude.{option_and_then, option_map, nat_le, ◌==◌, ◌&&◌}
-use Rattle.std.specs.Str.{bytes_eq, all_ascii_digits}
-use Rattle.std.specs.Str.Parse.{digits_value}
+use Rattle.std.specs.Prelude.{option_and_then, option_map, ◌==◌}
+use Rattle.std.specs.Str.{bytes_eq}
 use Rattle.std.specs.List.{slice_split, join_with_byte, AllByRecursion}
-use Rattle.std.proofs.lemmas.Bool.{and_parts, cases_eq, cases_Bool, eqb-true}
+use Rattle.std.proofs.lemmas.Bool.{cases_Bool, eqb-true}
 use Rattle.std.proofs.lemmas.Bool.Decides.{nat_tests}
 use Rattle.std.proofs.lemmas.Option.{cond_some}
 use Rattle.std.proofs.lemmas.Slice.Eq.{bytes_eq-Decides}
 use Rattle.std.proofs.lemmas.List.Splits.{join_with_byte-slice_split}
-use Rattle.std.proofs.lemmas.Str.Parse.{IsNumeralModel, numerals_by_value, tells_all_ascii_digits}
-use Rattle.std.proofs.lemmas.Fmt.{digits_decimal, digits_value-decimal, decimal-digits_value, decimal_nonempty, first_decimal, decimal_digit}
 use Rattle.instruction_set.specs.declared.letter.Letter.{Letter}
 use Rattle.instruction_set.specs.Letter.{byte_of, letter_of_byte}
 use Rattle.mutations.specs.Change.{is_genome_length}
-use Rattle.log_lines.specs.Fields.{Field, given, is_numeral, number_of, number, genome_of, letters, text_or, FitsOr, or_sign, each, list_text, list_of, where_true}
+use Rattle.numerals.specs.Numeral.{number_of}
+use Rattle.log_lines.specs.Fields.{Field, given, number, genome_of, letters, text_or, FitsOr, or_sign, each, list_text, list_of, where_true}
 use Rattle.log_lines.specs.Rows.{Row, read_last, last, times, read_both, ◌◂◌}
 use Rattle.log_lines.proofs.LetterLemmas.{byte_of_letter, letter_of_byte-byte_of, letter_above}
 
@@ -70,59 +68,23 @@ split_joined c word (next ∷ words) all = split_first c word (join_with_byte c 
 
 -- ---- numbers
 
-pub own : IsNumeralModel (λ ds. all_ascii_digits ds ≡ true) (λ ds. digits_value 10 ds)
-own = numerals_by_value (λ ds. all_ascii_digits ds ≡ true) tells_all_ascii_digits
+-- what is known of the spelling of a number
+pub record OneNumber : Type 0 where
+  pub again : (least greatest n : ℕ) → greatest < 2 ^ 64 → least ≤ n → n ≤ greatest → number_of least greatest (decimal n) ≡ Some n
+  pub takes : (least greatest n : ℕ) (word : List ℕ) → greatest < 2 ^ 64 → number_of least greatest word ≡ Some n → (decimal n ≡ word) × (least ≤ n) × (n ≤ greatest)
+  pub digits : (n : ℕ) → n < 2 ^ 64 → AllByRecursion (λ b. (48 ≤ b) × (b ≤ 57)) (decimal n)
+  pub no_digits : (least greatest : ℕ) → number_of least greatest [] ≡ None
+  pub no_minus : (least greatest : ℕ) (word : List ℕ) → number_of least greatest (45 ∷ word) ≡ None
 
-abbrev OneZero : List ℕ → Type 0
-OneZero ds = get_or ds 0 0 ≡ 48 → length ds ≡ 1
-
-numeral_from : (ds : List ℕ) → all_ascii_digits ds ≡ true → 0 < length ds → OneZero ds → is_numeral ds ≡ true
-numeral_from [] digits some zero_alone = absurd (omega (arith, some))
-numeral_from (d ∷ []) digits some zero_alone = digits
-numeral_from (d ∷ e ∷ ds) digits some zero_alone = elim (cases_eq d 48) [
-  | inl is ↦ absurd (omega (arith, zero_alone is))
-  | inr other ↦ let t : (d == 48) ≡ false = grind (arith, nat_tests) in rw (t, digits) refl
-]
-
-numeral_to : (ds : List ℕ) → is_numeral ds ≡ true → (all_ascii_digits ds ≡ true) × (0 < length ds) × OneZero ds
-numeral_to [] is = absurd cc
-numeral_to (d ∷ []) is = (is, omega arith, λ z. refl)
-numeral_to (d ∷ e ∷ ds) is =
-    let parts = and_parts (not (d == 48)) (all_ascii_digits (d ∷ e ∷ ds)) is in
-    (parts.1, omega arith, λ z. let t : (d == 48) ≡ true = eq-eqb d 48 z in let f : not (d == 48) ≡ false = rw t refl in absurd cc)
-
-pub above_digits : (ds : List ℕ) → all_ascii_digits ds ≡ true → Above 44 ds
+above_digits : (ds : List ℕ) → AllByRecursion (λ b. (48 ≤ b) × (b ≤ 57)) ds → Above 44 ds
 above_digits [] all = tt
-above_digits (d ∷ ds) all =
-    let parts = and_parts _ (all_ascii_digits ds) all in
-    (grind (arith, nat_tests, parts.0), above_digits ds parts.1)
+above_digits (d ∷ ds) all = (omega (arith, all.0.0), above_digits ds all.1)
 
-decimal_numeral : (n : ℕ) → n < 2 ^ 64 → is_numeral (decimal n) ≡ true
-decimal_numeral n small = numeral_from (decimal n) (digits_decimal own n small) (decimal_nonempty n small) (λ z.
-    elim (cases_eq n 0) [
-      | inl is ↦ rw (is, decimal_digit 0 (omega arith)) refl
-      | inr other ↦ absurd (omega (arith, z, first_decimal n (omega (arith, other)) small))
-    ])
-
-pub number_law : (least most : ℕ) → most < 2 ^ 64 → IsField 44 (number least most)
-unfolding number_of
-number_law least most wide = record {
-  again = λ n fits.
-      let small : n < 2 ^ 64 = omega (arith, fits.1, wide) in
-      let value : digits_value 10 (decimal n) ≡ n = digits_value-decimal own n small in
-      let low : nat_le least n ≡ true = grind (arith, nat_tests, fits.0) in
-      let high : nat_le n most ≡ true = grind (arith, nat_tests, fits.1) in
-      rw (decimal_numeral n small, value, low, high) refl;
-  takes = λ word n is.
-      let got = cond_some (is_numeral word && nat_le (digits_value 10 word) most && nat_le least (digits_value 10 word)) (digits_value 10 word) n is in
-      let two = and_parts (is_numeral word && nat_le (digits_value 10 word) most) (nat_le least (digits_value 10 word)) got.0 in
-      let one = and_parts (is_numeral word) (nat_le (digits_value 10 word) most) two.0 in
-      let numeral = numeral_to word one.0 in
-      let low : least ≤ digits_value 10 word = grind (arith, nat_tests, two.1) in
-      let high : digits_value 10 word ≤ most = grind (arith, nat_tests, one.1) in
-      let back : decimal (digits_value 10 word) ≡ word = decimal-digits_value own word numeral.0 numeral.1 numeral.2 (omega (arith, high, wide)) in
-      (ap (λ k. decimal k) (sym got.1) ∙ back, (omega (arith, low, got.1), omega (arith, high, got.1)));
-  plain = λ n fits. above_digits (decimal n) (digits_decimal own n (omega (arith, fits.1, wide)));
+pub number_law : (numbers : OneNumber) (least greatest : ℕ) → greatest < 2 ^ 64 → IsField 44 (number least greatest)
+number_law numbers least greatest wide = record {
+  again = λ n fits. numbers.again least greatest n wide fits.0 fits.1;
+  takes = λ word n is. let t = numbers.takes least greatest n word wide is in (t.0, (t.1, t.2));
+  plain = λ n fits. above_digits (decimal n) (numbers.digits n (omega (arith, fits.1, wide)));
 }
 
 -- ---- options

@@ -3,7 +3,6 @@ pub mod KeptLemmas
 pub mod LetterLemmas
 pub mod FieldLaws
 pub mod LineLaws
-pub mod DigitLemmas
 pub mod WordLemmas
 pub mod TimesLemmas
 pub mod GenomeLemmas

@@ -1,11 +1,11 @@
 -- Fields of a line: each is a text of a value, and the reading of that text (docs/FORMATS.md, "The log").
-use Rattle.std.specs.Prelude.{◌≡◌, ℕ, ◌≤◌, List, [], ◌∷◌, map, length, Option, Some, None, Bool, true, false, not, nat_le, ◌==◌, ◌&&◌, if◌then◌else◌, option_and_then, option_map, decimal}
-use Rattle.std.specs.Str.{bytes_eq, all_ascii_digits}
-use Rattle.std.specs.Str.Parse.{digits_value}
+use Rattle.std.specs.Prelude.{◌≡◌, ℕ, ◌≤◌, List, [], ◌∷◌, map, length, Option, Some, None, Bool, true, ◌==◌, if◌then◌else◌, option_and_then, option_map, decimal}
+use Rattle.std.specs.Str.{bytes_eq}
 use Rattle.std.specs.List.{slice_split, join_with_byte, AllByRecursion}
 use Rattle.instruction_set.specs.declared.letter.Letter.{Letter}
 use Rattle.instruction_set.specs.Letter.{byte_of, letter_of_byte}
 use Rattle.mutations.specs.Change.{is_genome_length}
+use Rattle.numerals.specs.Numeral.{number_of}
 
 -- the text of a value, what is read from a text, and which values have a text
 pub record Field (A : Type 0) : Type 1 where
@@ -17,19 +17,9 @@ pub record Field (A : Type 0) : Type 1 where
 abbrev pub given : {A : Type 0} → Bool → A → Option A
 given test value = if test then Some value else None
 
--- digits without a leading zero, or the one digit 0
-abbrev pub is_numeral : List ℕ → Bool
-is_numeral [] = false
-is_numeral (d ∷ []) = all_ascii_digits (d ∷ [])
-is_numeral (d ∷ e ∷ ds) = not (d == 48) && all_ascii_digits (d ∷ e ∷ ds)
-
--- the number that a numeral writes, where it is from least to most
-unfoldable pub number_of : ℕ → ℕ → List ℕ → Option ℕ
-number_of least most word = given (is_numeral word && nat_le (digits_value 10 word) most && nat_le least (digits_value 10 word)) (digits_value 10 word)
-
--- a number from least to most, in decimal digits
+-- a number from least to greatest, in decimal digits
 abbrev pub number : ℕ → ℕ → Field ℕ
-number least most = record { text = λ n. decimal n; read = λ word. number_of least most word; Fits = λ n. (least ≤ n) × (n ≤ most) }
+number least greatest = record { text = λ n. decimal n; read = λ word. number_of least greatest word; Fits = λ n. (least ≤ n) × (n ≤ greatest) }
 
 -- each value read, or none
 abbrev pub each : {X A : Type 0} → (X → Option A) → List X → Option (List A)

@@ -8,7 +8,8 @@ use Rattle.mutations.specs.declared.change.Change.TheVariants.{Point, Insert, De
 use Rattle.mutations.specs.declared.rate_name.RateName.{RateName}
 use Rattle.mutations.specs.declared.rate_name.RateName.TheVariants as rate
 use Rattle.mutations.specs.RecordForm.{FitsChange, in_order}
-use Rattle.log_lines.specs.Fields.{Field, number, number_of, letters, or_sign, list_of, where_true}
+use Rattle.numerals.specs.Numeral.{number_of}
+use Rattle.log_lines.specs.Fields.{Field, number, letters, or_sign, list_of, where_true}
 
 -- a number below 2 ^ 32
 abbrev pub small : Field ℕ

@@ -9,12 +9,12 @@ ghost use Rattle.mutations.specs.RecordForm.{in_order, may_follow};
 ghost use Rattle.log_lines.specs.Kinds.{base_field, change, changes_field, large, over_field, rate_named, read_change, read_lettered};
 ghost use Rattle.log_lines.specs.Words.{ToChange, pieces_of};
 
-use crate::digits::{number, small_number};
 use crate::words::split_at;
 use avida_port::Memory;
 use genome::{GREATEST_LENGTH, Genome, GenomeStop, LEAST_LENGTH};
 use instruction_set::Letter;
 use mutations::{Base, Change, Changes, RateName};
+use numerals::{number, small_number};
 use std::alloc::Global;
 
 /// The letters of a word, where each byte is one.
@@ -71,7 +71,7 @@ pub fn over(word: &[u8]) -> Option<Option<u64>>
 {
     match word {
         [b'-'] => Some(None),
-        _ => match number(word, 0, u64::MAX) {
+        _ => match number(0, u64::MAX, word) {
             Some(value) => Some(Some(value)),
             None => None,
         },
@@ -113,7 +113,7 @@ fn lettered(rest: &[u8]) -> Option<(u32, Letter)>
         ≡ read_lettered make rest.now }
 {
     match rest {
-        [front @ .., last] => match small_number(front, 0, u32::MAX) {
+        [front @ .., last] => match small_number(0, u32::MAX, front) {
             Some(at) => match Letter::from_byte(*last) {
                 Some(letter) => Some((at, letter)),
                 None => None,
@@ -137,7 +137,7 @@ fn item(word: &[u8]) -> Option<Change>
             Some((at, letter)) => Some(Change::Insert { at, letter }),
             None => None,
         },
-        [b'd', rest @ ..] => match small_number(rest, 0, u32::MAX) {
+        [b'd', rest @ ..] => match small_number(0, u32::MAX, rest) {
             Some(at) => Some(Change::Delete { at }),
             None => None,
         },

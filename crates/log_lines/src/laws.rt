@@ -11,4 +11,6 @@ pub fn one_spelling()
         → (row_text line ≡ bytes) × HasForm line }
     ensures one_line { (line : Line) → HasForm line
         → AllByRecursion (λ b. 10 < b) (row_text line) }
-{}
+{
+    numerals::laws::one_spelling();
+}

@@ -1,7 +1,6 @@
 //! The lines of a log, and their texts.
 #![tactic(auto)]
 
-mod digits;
 mod fields;
 pub mod laws;
 mod log_line;

@@ -1,11 +1,11 @@
 // Reads the words of a line, from what is left of it.
 ghost use Rattle.std.specs.Prelude.{◌≡◌, ◌∷◌, ◌==◌, Some, option_copied, option_map};
 ghost use Rattle.std.specs.List.{slice_split};
-ghost use Rattle.log_lines.specs.Fields.{number_of};
+ghost use Rattle.numerals.specs.Numeral.{number_of};
 ghost use Rattle.log_lines.specs.Rows.{read_last};
 ghost use Rattle.log_lines.specs.Words.{pieces_of, read_first, words_of};
 
-use crate::digits::{number, small_number};
+use numerals::{number, small_number};
 
 /// The piece before the next such byte, and what follows that byte.
 pub fn split_at(rest: &[u8], part: u8) -> (&[u8], Option<&[u8]>)
@@ -28,7 +28,7 @@ pub fn large_first<'a>(rest: Option<&'a [u8]>) -> Option<(u64, Option<&'a [u8]>)
     match rest {
         Some(bytes) => {
             let (word, others) = split_at(bytes, b' ');
-            match number(word, 0, u64::MAX) {
+            match number(0, u64::MAX, word) {
                 Some(value) => Some((value, others)),
                 None => None,
             }
@@ -41,15 +41,15 @@ pub fn large_first<'a>(rest: Option<&'a [u8]>) -> Option<(u64, Option<&'a [u8]>)
 pub fn small_first<'a>(
     rest: Option<&'a [u8]>,
     least: u32,
-    most: u32,
+    greatest: u32,
 ) -> Option<(u32, Option<&'a [u8]>)>
     ensures { option_map (λ p. (p.0, words_of (option_copied p.1))) result
-        ≡ read_first (number_of least most) (words_of (option_copied rest.entry)) }
+        ≡ read_first (number_of least greatest) (words_of (option_copied rest.entry)) }
 {
     match rest {
         Some(bytes) => {
             let (word, others) = split_at(bytes, b' ');
-            match small_number(word, least, most) {
+            match small_number(least, greatest, word) {
                 Some(value) => Some((value, others)),
                 None => None,
             }
@@ -73,12 +73,12 @@ pub fn last_word<'a>(rest: Option<&'a [u8]>) -> Option<&'a [u8]>
 }
 
 /// A number that ends the line.
-pub fn small_last(rest: Option<&[u8]>, least: u32, most: u32) -> Option<u32>
-    ensures { result ≡ read_last (number_of least most) (words_of (option_copied rest.entry)) }
+pub fn small_last(rest: Option<&[u8]>, least: u32, greatest: u32) -> Option<u32>
+    ensures { result ≡ read_last (number_of least greatest) (words_of (option_copied rest.entry)) }
 {
     match rest {
         Some(bytes) => match split_at(bytes, b' ') {
-            (word, None) => small_number(word, least, most),
+            (word, None) => small_number(least, greatest, word),
             (_, Some(_)) => None,
         },
         None => None,

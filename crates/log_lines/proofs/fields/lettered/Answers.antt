@@ -1,5 +1,5 @@
 use Rattle.std.proofs.Common.{◌≡◌, ◌<◌, ℕ, List, [], ◌∷◌, length, None, refl, arith}
-use Rattle.log_lines.specs.Fields.{number_of}
+use Rattle.numerals.specs.Numeral.{number_of}
 use Rattle.log_lines.specs.Kinds.{read_lettered}
 use Rattle.log_lines.specs.Words.{ToChange}
 use Rattle.log_lines.proofs.fields.lettered.Goals as goal

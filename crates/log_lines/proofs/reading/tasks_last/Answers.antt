@@ -1,7 +1,7 @@
 use Rattle.std.proofs.Common.{◌≡◌, ◌∙◌, ◌+◌, ◌<◌, ◌∷◌, ◌++◌, ℕ, List, [], Option, Some, Bor, length, take, set, get_or, sym, ap, subst, arith}
 use Rattle.std.specs.Prelude.{option_copied}
 use Rattle.std.proofs.lemmas.List.{take_all, take_more, take-set-le, get_or-set_same, length-set}
-use Rattle.log_lines.specs.Fields.{number_of}
+use Rattle.numerals.specs.Numeral.{number_of}
 use Rattle.log_lines.specs.Words.{words_of}
 use Rattle.log_lines.proofs.WordLemmas.{split_some}
 use Rattle.log_lines.proofs.TimesLemmas.{HasRead, read_more, read_all, read_too_many}

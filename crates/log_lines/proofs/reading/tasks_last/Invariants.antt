@@ -1,6 +1,6 @@
 use Rattle.std.proofs.Common.{◌≡◌, take, length}
 use Rattle.std.specs.Prelude.{option_copied}
-use Rattle.log_lines.specs.Fields.{number_of}
+use Rattle.numerals.specs.Numeral.{number_of}
 use Rattle.log_lines.specs.Words.{words_of}
 use Rattle.log_lines.proofs.TimesLemmas.{HasRead}
 use Rattle.log_lines.proofs.reading.tasks_last.Given as goal

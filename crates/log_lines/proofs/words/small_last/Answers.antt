@@ -1,7 +1,7 @@
 use Rattle.std.proofs.Common.{◌∙◌, ◌∷◌, ℕ, List, Option, sym, ap}
 use Rattle.std.proofs.Common.{Bor}
 use Rattle.std.specs.Prelude.{option_copied}
-use Rattle.log_lines.specs.Fields.{number_of}
+use Rattle.numerals.specs.Numeral.{number_of}
 use Rattle.log_lines.specs.Rows.{read_last}
 use Rattle.log_lines.specs.Words.{words_of}
 use Rattle.log_lines.proofs.WordLemmas.{last_more}
@@ -9,7 +9,7 @@ use Rattle.log_lines.proofs.words.small_last.Goals as goal
 
 pub returns-in_default-Some : goal.returns-in_default-Some
 returns-in_default-Some c =
-    let read = λ (w : List ℕ). number_of c.args.least c.args.most w in
+    let read = λ (w : List ℕ). number_of c.args.least c.args.greatest w in
     let word = c.split_at.result.0.now in
     sym (ap (λ (o : Option (Bor (List ℕ))). read_last read (words_of (option_copied o))) c.in-Some.is
     ∙ ap (λ (ws : List (List ℕ)). read_last read ws) c.split_at.ensures
