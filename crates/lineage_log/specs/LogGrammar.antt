@@ -39,12 +39,14 @@ with_line line (Ok lines) = Ok (line ∷ lines)
 with_line line (Err e) = Err e
 
 -- a line that was told, and the others
-abbrev pub after_told : ℕ → Line → Result Place Reason → (Place → Result (List Line) Fault) → Result (List Line) Fault
+abbrev pub after_told :
+    ℕ → Line → Result Place Reason → (Place → Result (List Line) Fault) → Result (List Line) Fault
 after_told number line (Ok place) others = with_line line (others place)
 after_told number line (Err reason) others = fault number (OutOfOrder reason)
 
 -- a piece with its line or none, and the others
-abbrev pub one_piece : ℕ → Place → Option Line → (Place → Result (List Line) Fault) → Result (List Line) Fault
+abbrev pub one_piece :
+    ℕ → Place → Option Line → (Place → Result (List Line) Fault) → Result (List Line) Fault
 one_piece number place None others = fault number BadLine
 one_piece number place (Some line) others = after_told number line (told place line) others
 
@@ -52,7 +54,8 @@ one_piece number place (Some line) others = after_told number line (told place l
 abbrev pub pieces_log : ℕ → Place → List (List ℕ) → Result (List Line) Fault
 pieces_log number place [] = fault number Unended
 pieces_log number place (piece ∷ []) = last_piece number place piece
-pieces_log number place (piece ∷ next ∷ pieces) = one_piece number place (line_of piece) (λ p. pieces_log (number + 1) p (next ∷ pieces))
+pieces_log number place (piece ∷ next ∷ pieces) =
+    one_piece number place (line_of piece) (λ p. pieces_log (number + 1) p (next ∷ pieces))
 
 -- the lines of a log, or the first faulty one
 unfoldable pub log_of : List ℕ → Result (List Line) Fault

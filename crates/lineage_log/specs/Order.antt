@@ -37,28 +37,33 @@ opened version cells cell genome = record {
 
 -- the first line: the founder's cell is in the world
 unfoldable pub after_start : ℕ → ℕ → ℕ → ℕ → List Letter → Result Place Reason
-after_start version width height cell genome = within_if (nat_lt cell (width * height)) (opened version (width * height) cell genome)
+after_start version width height cell genome =
+    within_if (nat_lt cell (width * height)) (opened version (width * height) cell genome)
 
 -- a death: in the due update, before births and events, in rising cells, of who stands there
 unfoldable pub after_death : Reader → ℕ → ℕ → ℕ → Result Place Reason
 after_death r id update cell =
-    within_if ((update == r.due) && may_die r.stage cell && holds (slice_get r.standing cell) (Some id))
+    within_if
+    ((update == r.due) && may_die r.stage cell && holds (slice_get r.standing cell) (Some id))
     (with_death r (Dying cell) cell id)
 
 -- the child where its record applies
 abbrev pub with_child : Reader → ℕ → Option ℕ → Result (List Letter) ApplyStop → Result Place Reason
-with_child r cell over (Ok child) = Ok (Within (with_newcomer r Placing cell over child (r.births + 1)))
+with_child r cell over (Ok child) =
+    Ok (Within (with_newcomer r Placing cell over child (r.births + 1)))
 with_child r cell over (Err stop) = Err BadChange
 
 -- the child of a parent that lived when the update began
-abbrev pub with_parent : Reader → ℕ → Option ℕ → BirthRecord → Option (List Letter) → Result Place Reason
+abbrev pub with_parent :
+    Reader → ℕ → Option ℕ → BirthRecord → Option (List Letter) → Result Place Reason
 with_parent r cell over birth None = Err UnknownParent
 with_parent r cell over birth (Some letters) = with_child r cell over (child_of letters birth)
 
 -- a birth: in the due update, before events, with the next id, over who stands in the cell
 unfoldable pub after_birth : Reader → ℕ → ℕ → ℕ → ℕ → Option ℕ → BirthRecord → Result Place Reason
 after_birth r id parent update cell over birth =
-    if (update == r.due) && may_be_born r.stage && (id == length r.people) && holds (slice_get r.standing cell) over
+    if (update == r.due) && may_be_born r.stage && (id == length r.people)
+    && holds (slice_get r.standing cell) over
     then with_parent r cell over birth (parent_in r parent)
     else Err BadOrder
 
@@ -69,12 +74,15 @@ may_happen r update = (r.version == 2) && (update == r.due)
 -- an injected organism, with the next id, over who stands in the cell
 unfoldable pub after_injected : Reader → ℕ → ℕ → ℕ → Option ℕ → List Letter → Result Place Reason
 after_injected r id update cell over genome =
-    within_if (may_happen r update && (id == length r.people) && holds (slice_get r.standing cell) over)
+    within_if
+    (may_happen r update && (id == length r.people) && holds (slice_get r.standing cell) over)
     (with_newcomer r Happening cell over genome r.births)
 
 -- a cleared organism, which stands in the cell
 unfoldable pub after_cleared : Reader → ℕ → ℕ → ℕ → Result Place Reason
-after_cleared r id update cell = within_if (may_happen r update && holds (slice_get r.standing cell) (Some id)) (with_death r Happening cell id)
+after_cleared r id update cell =
+    within_if (may_happen r update && holds (slice_get r.standing cell) (Some id))
+    (with_death r Happening cell id)
 
 -- a rate
 unfoldable pub after_rate : Reader → ℕ → Result Place Reason
@@ -93,17 +101,23 @@ renewed r = record r {
 
 -- the end of the due update, with the counts that its lines give
 unfoldable pub after_count : Reader → Stats → Result Place Reason
-after_count r s = within_if ((s.update == r.due) && (s.living == taken r.standing) && (s.births == r.births) && (s.deaths == length r.leaving)) (renewed r)
+after_count r s =
+    within_if
+    ((s.update == r.due) && (s.living == taken r.standing) && (s.births == r.births)
+    && (s.deaths == length r.leaving))
+    (renewed r)
 
 -- the last line: the last update has its end, and this number
 unfoldable pub after_end : Reader → ℕ → Result Place Reason
-after_end r updates = if is_quiet r.stage && (updates + 1 == r.due) then Ok (After r) else Err BadOrder
+after_end r updates =
+    if is_quiet r.stage && (updates + 1 == r.due) then Ok (After r) else Err BadOrder
 
 -- one line within the log
 abbrev pub told_within : Reader → Line → Result Place Reason
 told_within r (Start version width height cell genome) = Err BadOrder
 told_within r (Death id update cell) = after_death r id update cell
-told_within r (Birth id parent update cell over birth) = after_birth r id parent update cell over birth
+told_within r (Birth id parent update cell over birth) =
+    after_birth r id parent update cell over birth
 told_within r (Injected id update cell over genome) = after_injected r id update cell over genome
 told_within r (Cleared id update cell) = after_cleared r id update cell
 told_within r (Rate update name ppm) = after_rate r update

@@ -40,7 +40,10 @@ is_quiet Happening = false
 
 -- the genome of somebody who lived when the update began
 abbrev pub parent_in : Reader → ℕ → Option (List Letter)
-parent_in r parent = if nat_lt parent r.newest then option_and_then (λ found. found) (slice_get r.people parent) else None
+parent_in r parent =
+    if nat_lt parent r.newest
+    then option_and_then (λ found. found) (slice_get r.people parent)
+    else None
 
 -- somebody new with the next id stands in the cell, and who stood there dies
 abbrev pub with_newcomer : Reader → Stage → ℕ → Option ℕ → List Letter → ℕ → Reader
@@ -54,4 +57,9 @@ with_newcomer r stage cell over genome births = record r {
 
 -- who stands in the cell dies
 abbrev pub with_death : Reader → Stage → ℕ → ℕ → Reader
-with_death r stage cell id = record r { stage = stage; standing = slice_set r.standing cell None; leaving = r.leaving ++ id ∷ [] }
+with_death r stage cell id =
+    record r {
+      stage = stage;
+      standing = slice_set r.standing cell None;
+      leaving = r.leaving ++ id ∷ [];
+    }

@@ -43,4 +43,5 @@ MakesChild (Ok child) None birth = ⊥
 MakesChild (Ok child) (Some parent) birth = child_of parent birth ≡ Ok (letters child)
 MakesChild (Err Memory) parent birth = ⊤
 MakesChild (Err (Faulty reason)) None birth = reason ≡ UnknownParent
-MakesChild (Err (Faulty reason)) (Some parent) birth = (reason ≡ BadChange) × IsErr (child_of parent birth)
+MakesChild (Err (Faulty reason)) (Some parent) birth =
+    (reason ≡ BadChange) × IsErr (child_of parent birth)

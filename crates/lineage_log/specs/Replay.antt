@@ -12,14 +12,25 @@ pub record Seen : Type 0 where
 
 -- the genome that a record makes of its parent's
 abbrev pub born_in : List (List Letter) → ℕ → BirthRecord → List Letter
-born_in genomes parent birth = unwrap_or (option_and_then (λ letters. result_ok (child_of letters birth)) (slice_get genomes parent)) []
+born_in genomes parent birth =
+    unwrap_or
+    (option_and_then (λ letters. result_ok (child_of letters birth)) (slice_get genomes parent)) []
 
 -- one line more
 abbrev pub seen_on : Seen → Line → Seen
-seen_on s (Start version width height cell genome) = record { standing = slice_set (replicate (width * height) None) cell (Some 0); genomes = genome ∷ [] }
+seen_on s (Start version width height cell genome) =
+    record {
+      standing = slice_set (replicate (width * height) None) cell (Some 0);
+      genomes = genome ∷ [];
+    }
 seen_on s (Death id update cell) = record s { standing = slice_set s.standing cell None }
-seen_on s (Birth id parent update cell over birth) = record { standing = slice_set s.standing cell (Some id); genomes = s.genomes ++ born_in s.genomes parent birth ∷ [] }
-seen_on s (Injected id update cell over genome) = record { standing = slice_set s.standing cell (Some id); genomes = s.genomes ++ genome ∷ [] }
+seen_on s (Birth id parent update cell over birth) =
+    record {
+      standing = slice_set s.standing cell (Some id);
+      genomes = s.genomes ++ born_in s.genomes parent birth ∷ [];
+    }
+seen_on s (Injected id update cell over genome) =
+    record { standing = slice_set s.standing cell (Some id); genomes = s.genomes ++ genome ∷ [] }
 seen_on s (Cleared id update cell) = record s { standing = slice_set s.standing cell None }
 seen_on s (Rate update name ppm) = s
 seen_on s (Count stats) = s
@@ -39,12 +50,14 @@ pub record Resident : Type 0 where
 -- the organism of a cell before others
 abbrev pub resident_at : ℕ → Option ℕ → List (List Letter) → List Resident → List Resident
 resident_at cell None genomes others = others
-resident_at cell (Some id) genomes others = record { cell = cell; id = id; genome = unwrap_or (slice_get genomes id) [] } ∷ others
+resident_at cell (Some id) genomes others =
+    record { cell = cell; id = id; genome = unwrap_or (slice_get genomes id) [] } ∷ others
 
 -- the living from a cell on
 abbrev pub residents_from : ℕ → List (Option ℕ) → List (List Letter) → List Resident
 residents_from cell [] genomes = []
-residents_from cell (slot ∷ slots) genomes = resident_at cell slot genomes (residents_from (suc cell) slots genomes)
+residents_from cell (slot ∷ slots) genomes =
+    resident_at cell slot genomes (residents_from (suc cell) slots genomes)
 
 -- who lives at the end, each with the genome that the records of its line make
 unfoldable pub replay_of : List Line → List Resident

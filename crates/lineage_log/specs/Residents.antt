@@ -15,4 +15,7 @@ kept_genomes people = map (λ found. unwrap_or found []) people
 
 -- the genome of each who stands in a cell is kept
 abbrev pub EachIsKept : List (Option ℕ) → List (Option (List Letter)) → Type 0
-EachIsKept standing people = (cell id : ℕ) → slice_get standing cell ≡ Some (Some id) → IsSome (option_and_then (λ found. found) (slice_get people id))
+EachIsKept standing people =
+    (cell id : ℕ)
+    → slice_get standing cell ≡ Some (Some id)
+    → IsSome (option_and_then (λ found. found) (slice_get people id))

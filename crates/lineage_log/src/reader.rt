@@ -64,8 +64,8 @@ fn is_quiet(stage: Stage) -> bool
 impl Reader {
     ghost use Rattle.lineage_log.specs.Readings.{MakesChild, Tells, TellsReader, reader_of};
 
-    #[tactic(auto, unfolding(crate::specs::Order::after_start))]
     /// The reader after the first line.
+    #[tactic(auto, unfolding(crate::specs::Order::after_start))]
     pub fn open(
         alloc: Global,
         version: u32,
@@ -103,7 +103,8 @@ impl Reader {
 
     /// The id is the next one, and `over` stands in the cell.
     fn may_come(&self, id: u64, cell: u32, over: Option<u64>) -> bool
-        ensures test { result ≡ ((id == length self.now.people) && holds (slice_get self.now.standing cell) over) }
+        ensures test { result
+            ≡ ((id == length self.now.people) && holds (slice_get self.now.standing cell) over) }
         ensures within { IsTrue result → cell < length self.now.standing }
         ensures few { IsTrue result → length self.now.people < 2 ^ 63 }
     {
@@ -148,7 +149,8 @@ impl Reader {
 
     #[tactic(auto, unfolding(crate::specs::Order::after_death))]
     pub fn death(&mut self, id: u64, update: u32, cell: u32) -> Result<(), Refusal>
-        ensures { Tells result (reader_of self.new) (after_death (reader_of self.old) id update cell) }
+        ensures { Tells result (reader_of self.new)
+            (after_death (reader_of self.old) id update cell) }
     {
         if u64::from(update) == self.due
             && may_die(self.stage, cell)
@@ -163,7 +165,8 @@ impl Reader {
 
     #[tactic(auto, unfolding(crate::specs::Order::after_cleared))]
     pub fn cleared(&mut self, id: u64, update: u32, cell: u32) -> Result<(), Refusal>
-        ensures { Tells result (reader_of self.new) (after_cleared (reader_of self.old) id update cell) }
+        ensures { Tells result (reader_of self.new)
+            (after_cleared (reader_of self.old) id update cell) }
     {
         if self.may_happen(update) && self.standing.holds(cell, Some(id)) {
             self.remove(Stage::Happening, cell, id)?;
@@ -187,7 +190,8 @@ impl Reader {
 
     /// The genome of somebody who lived when the update began.
     fn parent(&self, id: u64) -> Option<&Genome>
-        ensures { option_map (λ found. letters found.now) result ≡ parent_in (reader_of self.now) id }
+        ensures { option_map (λ found. letters found.now) result
+            ≡ parent_in (reader_of self.now) id }
     {
         if id < self.newest {
             self.people.get(id)
@@ -259,8 +263,10 @@ impl Reader {
 
     fn counts_fit(&self, stats: &Stats) -> bool
         ensures small { IsTrue result → self.now.due < 2 ^ 32 }
-        ensures test { result ≡ ((stats.now.update == self.now.due) && (stats.now.living == taken self.now.standing)
-            && (stats.now.births == self.now.births) && (stats.now.deaths == length self.now.leaving.items)) }
+        ensures test { result
+            ≡ ((stats.now.update == self.now.due) && (stats.now.living == taken self.now.standing)
+            && (stats.now.births == self.now.births)
+            && (stats.now.deaths == length self.now.leaving.items)) }
     {
         u64::from(stats.update) == self.due
             && stats.living == self.standing.taken()
@@ -304,7 +310,8 @@ impl Reader {
     /// One line more that is not the last line.
     pub fn tell(&mut self, alloc: Global, line: &LogLine) -> Result<(), Refusal>
         requires { (updates : ℕ) → values_of line.now ≢ End updates }
-        ensures { Tells result (reader_of self.new) (told_within (reader_of self.old) (values_of line.now)) }
+        ensures { Tells result (reader_of self.new)
+            (told_within (reader_of self.old) (values_of line.now)) }
     {
         match line {
             LogLine::Start { .. } => Err(OUT_OF_ORDER),

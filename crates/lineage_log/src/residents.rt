@@ -27,7 +27,8 @@ pub fn replay(alloc: Global, log: &Log) -> Result<Livings, Memory>
 
 fn reader_after(alloc: Global, lines: &[LogLine]) -> Result<Reader, Memory>
     requires { IsGoodLog (lines_of lines.now) }
-    ensures { IfOk result (λ reader. told_all Before (lines_of lines.now) ≡ Ok (After (reader_of reader))) }
+    ensures { IfOk result
+        (λ reader. told_all Before (lines_of lines.now) ≡ Ok (After (reader_of reader))) }
 {
     let mut place = Place::Before;
     for line in lines {
