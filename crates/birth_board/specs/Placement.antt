@@ -24,11 +24,19 @@ chosen_from cells word = slice_index_or cells (scaled word (length cells)) 0
 
 -- the cell that a word chooses for a newborn
 unfoldable pub chosen_cell : Torus → Bool → List (Option ℕ) → ℕ → ℕ → ℕ
-chosen_cell torus prefer_empty occupants parent word = chosen_from (choices_of torus prefer_empty occupants parent) word
+chosen_cell torus prefer_empty occupants parent word =
+    chosen_from (choices_of torus prefer_empty occupants parent) word
 
 -- the stream of a cell's newborns, of which so many words were taken
 abbrev pub place_stream : Season → ℕ → ℕ → Stream
-place_stream season cell taken = record { seed = season.seed; update = season.update; cell = cell; purpose = Place; taken = taken }
+place_stream season cell taken =
+    record {
+      seed = season.seed;
+      update = season.update;
+      cell = cell;
+      purpose = Place;
+      taken = taken;
+    }
 
 -- the four words of newborn `nth` of a cell, from 0
 abbrev pub words_of : Season → ℕ → ℕ → List ℕ
@@ -47,7 +55,8 @@ placing_of torus prefer_empty occupants id parent words =
       id = id;
       cell = cell;
       over = slice_index_or occupants cell None;
-      inputs = inputs_of (slice_index_or words 1 0 ∷ slice_index_or words 2 0 ∷ slice_index_or words 3 0 ∷ []);
+      inputs = inputs_of
+          (slice_index_or words 1 0 ∷ slice_index_or words 2 0 ∷ slice_index_or words 3 0 ∷ []);
     }
 
 -- who stands where, the newborns that were placed, and the cells of their parents
@@ -60,7 +69,8 @@ pub record Board : Type 0 where
 abbrev pub next_placing : Torus → Season → Board → ℕ → Placing
 next_placing torus season board parent =
     let nth = count_by (λ cell. cell == parent) board.parents in
-    placing_of torus season.prefer_empty board.occupants (season.next_id + length board.parents) parent (words_of season parent nth)
+    placing_of torus season.prefer_empty board.occupants (season.next_id + length board.parents)
+    parent (words_of season parent nth)
 
 -- the board once that newborn is placed
 unfoldable pub next_board : Torus → Season → Board → ℕ → Board
@@ -74,4 +84,6 @@ next_board torus season board parent =
 
 -- the board once the newborns of these parents are placed, one after another
 unfoldable pub placements_of : Torus → List ℕ → List (Option ℕ) → Season → Board
-placements_of torus parents occupants season = fold (next_board torus season) (record { occupants = occupants; placings = []; parents = [] }) parents
+placements_of torus parents occupants season =
+    fold (next_board torus season) (record { occupants = occupants; placings = []; parents = [] })
+    parents

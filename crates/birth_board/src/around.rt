@@ -4,8 +4,8 @@ ghost use Rattle.birth_board.specs.Torus.{cells_of, neighbours_of};
 
 use crate::Torus;
 
-#[tactic(auto, unfolding(crate::specs::Torus::neighbours_of))]
 /// The eight cells around a cell, row by row from the north-west, with repeats.
+#[tactic(auto, unfolding(crate::specs::Torus::neighbours_of))]
 pub fn neighbours(torus: &Torus, cell: u32) -> [u32; 8]
     requires { cell < cells_of torus.now }
     ensures value { result ≡ neighbours_of torus.now cell }

@@ -38,7 +38,8 @@ pub fn place(
         ≡ (placements_of torus.now parents.now occupants.old season.now).occupants) }
     ensures err { OnErr result (occupants.new ≡ occupants.old) }
     ensures count { IfOk result (λ placings. length placings ≡ length parents.now) }
-    ensures in_torus { IfOk result (λ placings. All (λ placing. placing.cell < cells_of torus.now) placings) }
+    ensures in_torus { IfOk result
+        (λ placings. All (λ placing. placing.cell < cells_of torus.now) placings) }
     ensures cells { length occupants.new ≡ cells_of torus.now }
 {
     let mut placings = Vec::with_capacity(alloc, parents.len())?;
@@ -106,8 +107,8 @@ fn turn_to(turn: Turn, cell: u32, season: &Season) -> Turn
     }
 }
 
-#[tactic(auto, unfolding(crate::specs::Placement::placing_of))]
 /// Places one newborn by the next four words of its parent's stream.
+#[tactic(auto, unfolding(crate::specs::Placement::placing_of))]
 fn place_one(
     torus: &Torus,
     parent: u32,
@@ -141,8 +142,8 @@ fn place_one(
     }
 }
 
-#[tactic(auto, unfolding(crate::specs::Placement::chosen_cell))]
 /// The cell that a word chooses among the neighbours, or among the empty ones where these are preferred.
+#[tactic(auto, unfolding(crate::specs::Placement::chosen_cell))]
 fn choose(torus: &Torus, occupants: &Occupants, prefer_empty: bool, parent: u32, word: u32) -> u32
     requires cells { length occupants.now ≡ cells_of torus.now }
     requires parent { parent < cells_of torus.now }
