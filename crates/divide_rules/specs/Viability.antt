@@ -34,9 +34,13 @@ copied_share ask rules = rules.copied_percent * child_length ask
 -- whether a rule holds
 abbrev pub holds : Rule → DivideAsk → ℕ → DivideRules → Bool
 holds V1 ask genome_length rules = ask.allocated || not rules.need_alloc
-holds V2 ask genome_length rules = nat_le (least_part genome_length rules) ask.read && nat_le ask.read (greatest_part genome_length rules)
+holds V2 ask genome_length rules =
+    nat_le (least_part genome_length rules) ask.read
+    && nat_le ask.read (greatest_part genome_length rules)
 holds V3 ask genome_length rules = nat_lt ask.read ask.end
-holds V4 ask genome_length rules = nat_le (least_part genome_length rules) (child_length ask) && nat_le (child_length ask) (greatest_part genome_length rules)
+holds V4 ask genome_length rules =
+    nat_le (least_part genome_length rules) (child_length ask)
+    && nat_le (child_length ask) (greatest_part genome_length rules)
 holds V5 ask genome_length rules = nat_le (executed_share ask rules) (100 * ask.executed)
 holds V6 ask genome_length rules = nat_le (copied_share ask rules) (100 * ask.copied)
 
@@ -51,7 +55,10 @@ found_of V6 ask = ask.copied
 
 -- the end of the allowed lengths that a length has passed
 abbrev pub bound_passed : ℕ → ℕ → DivideRules → ℕ
-bound_passed part genome_length rules = if nat_lt part (least_part genome_length rules) then least_part genome_length rules else greatest_part genome_length rules
+bound_passed part genome_length rules =
+    if nat_lt part (least_part genome_length rules)
+    then least_part genome_length rules
+    else greatest_part genome_length rules
 
 -- a hundredth, rounded up
 abbrev pub hundredth : ℕ → ℕ
@@ -68,16 +75,19 @@ bound_of V6 ask genome_length rules = hundredth (copied_share ask rules)
 
 -- the first rule that does not hold
 abbrev pub first_broken : DivideAsk → ℕ → DivideRules → Option Rule
-first_broken ask genome_length rules = find (λ rule. not (holds rule ask genome_length rules)) all_rules
+first_broken ask genome_length rules =
+    find (λ rule. not (holds rule ask genome_length rules)) all_rules
 
 -- a rule that is broken is named with its two numbers
 abbrev pub verdict_by : Option Rule → DivideAsk → ℕ → DivideRules → Verdict
 verdict_by None ask genome_length rules = Viable
-verdict_by (Some rule) ask genome_length rules = Broken rule (found_of rule ask) (bound_of rule ask genome_length rules)
+verdict_by (Some rule) ask genome_length rules =
+    Broken rule (found_of rule ask) (bound_of rule ask genome_length rules)
 
 -- the verdict on a divide of a parent whose genome has this length
 unfoldable pub verdict_of : DivideAsk → ℕ → DivideRules → Verdict
-verdict_of ask genome_length rules = verdict_by (first_broken ask genome_length rules) ask genome_length rules
+verdict_of ask genome_length rules =
+    verdict_by (first_broken ask genome_length rules) ask genome_length rules
 
 -- all six rules hold
 pub record IsViable (ask : DivideAsk) (genome_length : ℕ) (rules : DivideRules) : Type 0 where
