@@ -28,4 +28,7 @@ shares_of merits steps = map (share_of merits steps) (range_with_len 0 (length m
 
 -- the slices of a world with these merits; where all are 0 each cell gets 0
 unfoldable pub slices_of : List ℕ → ℕ → List ℕ
-slices_of merits average = if sum merits == 0 then replicate (length merits) 0 else shares_of merits (steps_in merits average)
+slices_of merits average =
+    if sum merits == 0
+    then replicate (length merits) 0
+    else shares_of merits (steps_in merits average)

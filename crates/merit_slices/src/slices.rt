@@ -8,8 +8,8 @@ pub const GREATEST_AVERAGE: u32 = 1000;
 /// The number of cells of the greatest world.
 pub const GREATEST_WORLD: usize = 65536;
 
-#[tactic(auto, unfolding(crate::specs::Slices::slices_of))]
 /// Each cell gets the difference of two quotients, so that all cells together get all steps.
+#[tactic(auto, unfolding(crate::specs::Slices::slices_of))]
 pub fn share(merits: &[u64], average: u32, out: &mut [u64])
     requires same_length { length out.old ≡ length merits.now }
     requires cells { length merits.now ≤ GREATEST_WORLD }
