@@ -15,7 +15,11 @@ input_of top word = top * 2 ^ 24 + word % 2 ^ 24
 
 -- the inputs that are made of three words
 abbrev pub inputs_of : List ℕ → List ℕ
-inputs_of words = input_of 0x0F (slice_index_or words 0 0) ∷ input_of 0x33 (slice_index_or words 1 0) ∷ input_of 0x55 (slice_index_or words 2 0) ∷ []
+inputs_of words =
+    input_of 0x0F (slice_index_or words 0 0)
+    ∷ input_of 0x33 (slice_index_or words 1 0)
+    ∷ input_of 0x55 (slice_index_or words 2 0)
+    ∷ []
 
 -- the inputs that an organism has read, of which there are at most three
 abbrev pub known_inputs : List ℕ → ℕ → List ℕ

@@ -58,11 +58,15 @@ has_bit n k = bit_at n k == 1
 
 -- the equation of the task holds at each of the 32 bits
 unfoldable pub computes : Task → ℕ → ℕ → ℕ → Bool
-computes task output x y = list_all (λ k. beq (has_bit output k) (bit_of task (has_bit x k) (has_bit y k))) (range_with_len 0 32)
+computes task output x y =
+    list_all (λ k. beq (has_bit output k) (bit_of task (has_bit x k) (has_bit y k)))
+    (range_with_len 0 32)
 
 -- the task is done with the inputs at two places, which differ unless it needs one input alone
 abbrev pub does_pair : Task → ℕ → List ℕ → ℕ → ℕ → Bool
-does_pair task output known first second = (not (first == second) || needs_one task) && computes task output (slice_index_or known first 0) (slice_index_or known second 0)
+does_pair task output known first second =
+    (not (first == second) || needs_one task)
+    && computes task output (slice_index_or known first 0) (slice_index_or known second 0)
 
 -- the places of a list
 abbrev pub places_of : List ℕ → List ℕ
@@ -78,4 +82,5 @@ does task output known = list_any (does_with task output known) (places_of known
 
 -- the first task of the table that is done by an output after so many inputs were read
 unfoldable pub task_done : ℤ → List ℕ → ℕ → Option Task
-task_done output inputs read = find (λ task. does task (cast_unsigned w32 output) (known_inputs inputs read)) all_tasks
+task_done output inputs read =
+    find (λ task. does task (cast_unsigned w32 output) (known_inputs inputs read)) all_tasks
