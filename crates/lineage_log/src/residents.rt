@@ -78,7 +78,8 @@ mod tests {
 
     fn text_of(alloc: Global, livings: Livings) -> Result<Vec<u8>, Fail> {
         let mut out = Vec::new(alloc);
-        for living in &livings.into_vec() {
+        for at in 0..livings.len() {
+            let living = livings.get(at).ok_or("no living")?;
             let place = format!(in alloc; "{} {} ", living.cell, living.id)?;
             out.extend_from_slice(place.as_bytes())?;
             letters_text(&living.genome, &mut out)?;
@@ -90,26 +91,38 @@ mod tests {
     #[test]
     fn who_lives_at_the_end_has_the_genome_of_its_line(rt: HostRuntime) -> Result<(), Fail> {
         let alloc = rt.alloc();
-        for (log, living) in [
-            ("L 2 3 1 1 aaaaaaaa\nE 0\n", "1 0 aaaaaaaa\n"),
+        for (log, lines, living) in [
+            ("L 2 3 1 1 aaaaaaaa\nE 0\n", 2, "1 0 aaaaaaaa\n"),
             (
                 "L 1 1 1 0 aaaaaaaa\nB 1 0 1 0 0 = -\nB 2 0 1 0 1 = p0b\nU 1 1 2 2 1 8 0 0 0 0 0 0 0 0 0\nE 1\n",
+                5,
                 "0 2 baaaaaaa\n",
             ),
             (
                 "L 1 2 1 0 aaaaaaaa\nB 1 0 1 1 - = p0b\nU 1 2 1 0 2 8 0 0 0 0 0 0 0 0 0\nB 2 1 2 0 0 = p7c\nU 2 2 1 1 2 8 0 0 0 0 0 0 0 0 0\nE 2\n",
+                6,
                 "0 2 baaaaaac\n1 1 baaaaaaa\n",
             ),
             (
                 "L 2 1 1 0 aaaaaaaa\nI 1 1 0 0 bbbbbbbb\nU 1 1 0 1 1 8 0 0 0 0 0 0 0 0 0\nU 2 1 0 0 1 8 0 0 0 0 0 0 0 0 0\nE 2\n",
+                5,
                 "0 1 bbbbbbbb\n",
             ),
             (
                 "L 2 1 1 0 aaaaaaaa\nX 0 1 0\nU 1 0 0 1 0 0 0 0 0 0 0 0 0 0 0\nE 1\n",
+                4,
+                "",
+            ),
+            (
+                "L 2 1 1 0 aaaaaaaa\nD 0 1 0\nR 1 copy_error 5\nU 1 0 0 1 0 0 0 0 0 0 0 0 0 0 0\nE 1\n",
+                5,
                 "",
             ),
         ] {
             let log = read_log(alloc, log.as_bytes())?;
+            assert_eq!(rt; log.len(), lines);
+            assert!(rt; log.get(0).is_some());
+            assert!(rt; log.get(lines).is_none());
             let bytes = text_of(alloc, replay(alloc, &log)?)?;
             assert_eq!(rt; bytes.as_slice(), living.as_bytes());
         }
