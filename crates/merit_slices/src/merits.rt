@@ -83,16 +83,14 @@ mod tests {
             (8192, 8192, 8192, all, 274877906944),
         ];
         for (length, executed, copied, tasks, expected) in cases {
-            if length <= GREATEST_LENGTH
-                && executed <= GREATEST_LENGTH
-                && copied <= GREATEST_LENGTH
-            {
-                assert_eq!(rt;
-                    merit(length, executed, copied, tasks),
-                    expected,
-                    "at {tasks:?}"
-                );
-            }
+            assert!(rt; length <= GREATEST_LENGTH);
+            assert!(rt; executed <= GREATEST_LENGTH);
+            assert!(rt; copied <= GREATEST_LENGTH);
+            assert_eq!(rt;
+                merit(length, executed, copied, tasks),
+                expected,
+                "at {tasks:?}"
+            );
         }
     }
 }
