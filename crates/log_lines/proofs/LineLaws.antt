@@ -19,7 +19,8 @@ use Rattle.log_lines.specs.Fields.{Field, number, genome_of, letters, list_of}
 use Rattle.log_lines.specs.Rows.{Row, last, times, ◌◂◌}
 use Rattle.log_lines.specs.Line.{Line, Start, Death, Birth, Injected, Cleared, Rate, Count, End}
 use Rattle.mutations.specs.RecordForm.{FitsChange, in_order}
-use Rattle.log_lines.specs.Kinds.{small, large, rate_key, rate_names, rate_named, rate_name, change_text, read_lettered, read_change, change, over_field, base_field, changes_field}
+use Rattle.mutations.specs.RateNames.{name_of_rate, rate_named, rate_names}
+use Rattle.log_lines.specs.Kinds.{small, large, rate_name, change_text, read_lettered, read_change, change, over_field, base_field, changes_field}
 use Rattle.log_lines.specs.LineText.{start_row, death_row, birth_row, injected_row, rate_row, count_row, end_row, counted, born, words_text, form_text, row_text, HasForm}
 use Rattle.log_lines.specs.LineReading.{start_of, death_of, birth_of, injected_of, cleared_of, rate_of, count_of, read_words, line_of}
 use Rattle.log_lines.proofs.LetterLemmas.{byte_of_letter, letter_of_byte-byte_of, letter_above, found_passes}
@@ -119,7 +120,7 @@ module _ (numbers : OneNumber) where
 
   -- ---- rates
 
-  rate_again : (name : RateName) → rate_named (rate_key name) ≡ Some name
+  rate_again : (name : RateName) → rate_named (name_of_rate name) ≡ Some name
   unfolding rate_named
   rate_again rate.Copy = refl
   rate_again rate.Insert = refl
@@ -128,11 +129,11 @@ module _ (numbers : OneNumber) where
   rate_again rate.SiteInsert = refl
   rate_again rate.SiteDelete = refl
 
-  rate_takes : (word : List ℕ) (name : RateName) → rate_named word ≡ Some name → rate_key name ≡ word
+  rate_takes : (word : List ℕ) (name : RateName) → rate_named word ≡ Some name → name_of_rate name ≡ word
   unfolding rate_named
-  rate_takes word name is = same_bytes (rate_key name) word (found_passes (λ n. bytes_eq (rate_key n) word) rate_names name is)
+  rate_takes word name is = same_bytes (name_of_rate name) word (found_passes (λ n. bytes_eq (name_of_rate n) word) rate_names name is)
 
-  rate_plain : (name : RateName) → Above 44 (rate_key name)
+  rate_plain : (name : RateName) → Above 44 (name_of_rate name)
   rate_plain rate.Copy = search arith
   rate_plain rate.Insert = search arith
   rate_plain rate.Delete = search arith

@@ -1,12 +1,11 @@
 -- The kinds of fields in a log (docs/FORMATS.md, "The log").
-use Rattle.std.specs.Prelude.{ℕ, ◌-◌, List, [], ◌∷◌, ◌++◌, length, take, codes, find, Option, None, ◌==◌, if◌then◌else◌, option_and_then, option_map, decimal, slice_index}
-use Rattle.std.specs.Str.{bytes_eq}
+use Rattle.std.specs.Prelude.{ℕ, ◌-◌, List, [], ◌∷◌, ◌++◌, length, take, Option, None, ◌==◌, if◌then◌else◌, option_and_then, option_map, decimal, slice_index}
 use Rattle.instruction_set.specs.declared.letter.Letter.{Letter}
 use Rattle.instruction_set.specs.Letter.{byte_of, letter_of_byte}
 use Rattle.mutations.specs.declared.change.Change.{Change}
 use Rattle.mutations.specs.declared.change.Change.TheVariants.{Point, Insert, Delete}
 use Rattle.mutations.specs.declared.rate_name.RateName.{RateName}
-use Rattle.mutations.specs.declared.rate_name.RateName.TheVariants as rate
+use Rattle.mutations.specs.RateNames.{name_of_rate, rate_named}
 use Rattle.mutations.specs.RecordForm.{FitsChange, in_order}
 use Rattle.numerals.specs.Numeral.{number_of}
 use Rattle.log_lines.specs.Fields.{Field, number, letters, or_sign, list_of, where_true}
@@ -19,26 +18,9 @@ small = number 0 4294967295
 abbrev pub large : Field ℕ
 large = number 0 18446744073709551615
 
--- the key of a rate
-abbrev pub rate_key : RateName → List ℕ
-rate_key rate.Copy = codes "copy_error"
-rate_key rate.Insert = codes "divide_insert"
-rate_key rate.Delete = codes "divide_delete"
-rate_key rate.SitePoint = codes "site_point"
-rate_key rate.SiteInsert = codes "site_insert"
-rate_key rate.SiteDelete = codes "site_delete"
-
--- the six rates
-abbrev pub rate_names : List RateName
-rate_names = rate.Copy ∷ rate.Insert ∷ rate.Delete ∷ rate.SitePoint ∷ rate.SiteInsert ∷ rate.SiteDelete ∷ []
-
--- the rate that has this key
-unfoldable pub rate_named : List ℕ → Option RateName
-rate_named word = find (λ name. bytes_eq (rate_key name) word) rate_names
-
--- a rate by its key
+-- a rate by its name
 abbrev pub rate_name : Field RateName
-rate_name = record { text = rate_key; read = λ word. rate_named word; Fits = λ name. Unit {0} }
+rate_name = record { text = name_of_rate; read = λ word. rate_named word; Fits = λ name. Unit {0} }
 
 -- one change: `p`, `i` or `d`, its place, and a letter but for `d`
 abbrev pub change_text : Change → List ℕ

@@ -6,14 +6,14 @@ ghost use Rattle.mutations.specs.BirthRecord.{written_in};
 ghost use Rattle.mutations.specs.Change.{is_genome_length};
 ghost use Rattle.log_lines.specs.Fields.{each, genome_of, list_of, or_sign};
 ghost use Rattle.mutations.specs.RecordForm.{in_order, may_follow};
-ghost use Rattle.log_lines.specs.Kinds.{base_field, change, changes_field, large, over_field, rate_named, read_change, read_lettered};
+ghost use Rattle.log_lines.specs.Kinds.{base_field, change, changes_field, large, over_field, read_change, read_lettered};
 ghost use Rattle.log_lines.specs.Words.{ToChange, pieces_of};
 
 use crate::words::split_at;
 use avida_port::Memory;
 use genome::{GREATEST_LENGTH, Genome, GenomeStop, LEAST_LENGTH};
 use instruction_set::Letter;
-use mutations::{Base, Change, Changes, RateName};
+use mutations::{Base, Change, Changes};
 use numerals::{number, small_number};
 use std::alloc::Global;
 
@@ -88,22 +88,6 @@ pub fn base(alloc: Global, word: &[u8]) -> Result<Option<Base>, Memory>
             Some(genome) => Ok(Some(Base::Written(genome))),
             None => Ok(None),
         },
-    }
-}
-
-/// The rate that has this key.
-#[tactic(auto, unfolding(crate::specs::Kinds::rate_named))]
-pub fn rate(word: &[u8]) -> Option<RateName>
-    ensures { result ≡ rate_named word.now }
-{
-    match word {
-        b"copy_error" => Some(RateName::Copy),
-        b"divide_insert" => Some(RateName::Insert),
-        b"divide_delete" => Some(RateName::Delete),
-        b"site_point" => Some(RateName::SitePoint),
-        b"site_insert" => Some(RateName::SiteInsert),
-        b"site_delete" => Some(RateName::SiteDelete),
-        _ => None,
     }
 }
 

@@ -3,14 +3,15 @@ ghost use Rattle.std.specs.Prelude.{◌≡◌, Some, IfOk, length, option_copied
 ghost use Rattle.genome.specs.Genome as genome_spec;
 ghost use Rattle.mutations.specs.BirthRecord.{written_in};
 ghost use Rattle.log_lines.specs.Fields as fields_spec;
-ghost use Rattle.log_lines.specs.Kinds.{base_field, changes_field, large, over_field, rate_named};
+ghost use Rattle.mutations.specs.RateNames.{rate_named};
+ghost use Rattle.log_lines.specs.Kinds.{base_field, changes_field, large, over_field};
 ghost use Rattle.log_lines.specs.Rows.{read_last, times};
 ghost use Rattle.log_lines.specs.Words.{read_first, words_of};
 ghost use Rattle.log_lines.specs.Line.{values_of};
 ghost use Rattle.log_lines.specs.LineText.{birth_row, count_row, counted, death_row, injected_row, rate_row, record_row, start_row};
 ghost use Rattle.log_lines.specs.LineReading.{birth_of, injected_of, line_of, rate_of, read_form, start_of};
 
-use crate::fields::{base, changes, genome, over, rate};
+use crate::fields::{base, changes, genome, over};
 use crate::log_line::{GREATEST_SIDE, LAST_VERSION, LogLine};
 use crate::stats::Stats;
 use crate::words::{large_first, last_word, small_first, small_last, split_at};
@@ -65,7 +66,7 @@ fn rate_first<'a>(rest: Option<&'a [u8]>) -> Option<(RateName, Option<&'a [u8]>)
     match rest {
         Some(bytes) => {
             let (word, others) = split_at(bytes, b' ');
-            match rate(word) {
+            match RateName::from_name(word) {
                 Some(value) => Some((value, others)),
                 None => None,
             }

@@ -3,7 +3,7 @@ ghost use Rattle.std.specs.Prelude.{ℕ, ◌≡◌, ◌++◌, ◌∷◌, [], Lis
 ghost use Rattle.genome.specs.Genome as genome_spec;
 ghost use Rattle.mutations.specs.BirthRecord.{record_of, written_in};
 ghost use Rattle.log_lines.specs.Fields.{letters, list_text};
-ghost use Rattle.log_lines.specs.Kinds.{base_field, change, change_text, changes_field, over_field, rate_key};
+ghost use Rattle.log_lines.specs.Kinds.{base_field, change, change_text, changes_field, over_field};
 ghost use Rattle.log_lines.specs.LineText.{words_text, born, birth_row, count_row, counted, death_row, end_row, form_text, injected_row, line_text, rate_row, row_text, start_row};
 ghost use Rattle.log_lines.specs.Line.{values_of};
 ghost use Rattle.log_lines.specs.Kept.{Keeps};
@@ -133,19 +133,6 @@ fn tasks(out: &mut Vec<u8>, tasks: &[u64; 9]) -> Result<(), Memory>
     Ok(())
 }
 
-fn rate_key(name: RateName) -> &'static [u8]
-    ensures { result.now ≡ rate_key name }
-{
-    match name {
-        RateName::Copy => b"copy_error",
-        RateName::Insert => b"divide_insert",
-        RateName::Delete => b"divide_delete",
-        RateName::SitePoint => b"site_point",
-        RateName::SiteInsert => b"site_insert",
-        RateName::SiteDelete => b"site_delete",
-    }
-}
-
 /// The update and the cell.
 fn placed(out: &mut Vec<u8>, update: u32, cell: u32) -> Result<(), Memory>
     ensures ok { OnOk result (out.new.items ≡ out.old.items
@@ -264,7 +251,7 @@ fn rate(out: &mut Vec<u8>, update: u32, name: RateName, ppm: u32) -> Result<(), 
     byte(out, b'R')?;
     number(out, b' ', u64::from(update))?;
     byte(out, b' ')?;
-    text(out, rate_key(name))?;
+    text(out, name.name().as_bytes())?;
     number(out, b' ', u64::from(ppm))
 }
 

@@ -3,6 +3,7 @@ pub mod Change
 pub mod CopyError
 pub mod DivideErrors
 pub mod Pass
+pub mod RateNames
 pub mod Rates
 pub mod RecordForm
 pub use Rattle.genome.specs.Genome

@@ -1,3 +1,6 @@
+ghost use Rattle.std.specs.Prelude.{◌≡◌};
+ghost use Rattle.mutations.specs.RateNames.{name_of_rate, rate_named};
+
 /// A rate by its name, in the order of `Rates`.
 #[derive(Clone, Copy, Debug, PartialEq, Eq)]
 pub enum RateName {
@@ -7,4 +10,36 @@ pub enum RateName {
     SitePoint,
     SiteInsert,
     SiteDelete,
+}
+
+impl RateName {
+    /// The name of the rate in a configuration and in a log.
+    pub fn name(self) -> &'static str
+        ensures name { result.now ≡ name_of_rate self }
+    {
+        match self {
+            RateName::Copy => "copy_error",
+            RateName::Insert => "divide_insert",
+            RateName::Delete => "divide_delete",
+            RateName::SitePoint => "site_point",
+            RateName::SiteInsert => "site_insert",
+            RateName::SiteDelete => "site_delete",
+        }
+    }
+
+    /// The rate of this name.
+    #[tactic(auto, unfolding(crate::specs::RateNames::rate_named))]
+    pub fn from_name(name: &[u8]) -> Option<RateName>
+        ensures rate { result ≡ rate_named name.now }
+    {
+        match name {
+            b"copy_error" => Some(RateName::Copy),
+            b"divide_insert" => Some(RateName::Insert),
+            b"divide_delete" => Some(RateName::Delete),
+            b"site_point" => Some(RateName::SitePoint),
+            b"site_insert" => Some(RateName::SiteInsert),
+            b"site_delete" => Some(RateName::SiteDelete),
+            _ => None,
+        }
+    }
 }

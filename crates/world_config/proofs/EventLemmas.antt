@@ -14,7 +14,8 @@ use Rattle.random_streams.specs.declared.draws.TheConstants.{MILLION}
 use Rattle.world_config.specs.declared.limits.TheConstants.{MOST_EVENTS}
 use Rattle.world_config.specs.KeyTable.{Frame}
 use Rattle.world_config.specs.Events.{AreEvents, EventValue, WhatValue, inject, clear, rate, event_fits, what_fits}
-use Rattle.world_config.specs.EventForms.{both, clear_names, clear_of, event_of, events_from, events_of, followed, genome_from, has_only, inject_names, inject_of, more_events, number_from, rate_form_names, rate_named, rate_of, sized, what_of}
+use Rattle.mutations.specs.RateNames.{rate_named}
+use Rattle.world_config.specs.EventForms.{both, clear_names, clear_of, event_of, events_from, events_of, followed, genome_from, has_only, inject_names, inject_of, more_events, number_from, rate_form_names, rate_of, sized, what_of}
 use Rattle.world_config.specs.Lookup.{count_of}
 
 -- what a test that was passed gave

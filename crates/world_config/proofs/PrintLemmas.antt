@@ -15,9 +15,10 @@ use Rattle.genome.specs.GenomeText.{before_line_end, first_bad_byte, genome_by_l
 use Rattle.mutations.specs.declared.rate_name.RateName.{RateName}
 use Rattle.mutations.specs.declared.rate_name.RateName.TheVariants.{Copy, Insert, Delete, SitePoint, SiteInsert, SiteDelete}
 use Rattle.random_streams.specs.declared.draws.TheConstants.{MILLION}
-use Rattle.world_config.specs.KeyTable.{Frame, key_name}
+use Rattle.world_config.specs.KeyTable.{Frame}
 use Rattle.world_config.specs.Events.{AreEvents, EventValue, WhatValue, inject, clear, rate, event_fits, what_fits}
-use Rattle.world_config.specs.EventForms.{both, event_of, events_from, events_of, followed, genome_from, more_events, number_from, rate_key, rate_named, sized, what_of}
+use Rattle.mutations.specs.RateNames.{name_of_rate, rate_named}
+use Rattle.world_config.specs.EventForms.{both, event_of, events_from, events_of, followed, genome_from, more_events, number_from, sized, what_of}
 use Rattle.world_config.specs.Lookup.{count_of}
 use Rattle.world_config.specs.Printing.{event_members, items_for}
 
@@ -82,7 +83,7 @@ spelled_by_letters-text ls low high =
     ∙ ap Ok (all_letters ls))
     ∙ genome_of-fits ls low high
 
-rate_named-key : (name : RateName) → rate_named (key_name (rate_key name)) ≡ Some name
+rate_named-key : (name : RateName) → rate_named (name_of_rate name) ≡ Some name
 unfolding rate_named
 rate_named-key Copy = refl
 rate_named-key Insert = refl

@@ -1,35 +1,15 @@
 -- The members of `event` (docs/FORMATS.md, "The configuration").
-use Rattle.std.specs.Prelude.{ℕ, ◌+◌, pos, Bool, true, ◌&&◌, nat_le, if◌then◌else◌, List, [], ◌∷◌, codes, length, find, Option, Some, None, option_map, option_and_then, Result, Ok, Err}
+use Rattle.std.specs.Prelude.{ℕ, ◌+◌, pos, Bool, true, ◌&&◌, nat_le, if◌then◌else◌, List, [], ◌∷◌, codes, length, Option, Some, None, option_map, option_and_then, Result, Ok, Err}
 use Rattle.std.specs.List.{list_any}
 use Rattle.std.specs.Str.{bytes_eq}
 use Rattle.toml.specs.Data.{Data, string, integer, table, Items, no_items, item, Members, no_members, member, get_member, as_str}
 use Rattle.instruction_set.specs.declared.letter.Letter.{Letter}
 use Rattle.genome.specs.declared.stop.GenomeStop.{GenomeStop}
 use Rattle.genome.specs.GenomeText.{spelled_by_letters}
-use Rattle.mutations.specs.declared.rate_name.RateName.{RateName}
-use Rattle.mutations.specs.declared.rate_name.RateName.TheVariants.{Copy, Insert, Delete, SitePoint, SiteInsert, SiteDelete}
-use Rattle.world_config.specs.declared.key.Key.{Key}
-use Rattle.world_config.specs.declared.key.Key.TheVariants as key
+use Rattle.mutations.specs.RateNames.{rate_named}
 use Rattle.random_streams.specs.declared.draws.TheConstants.{MILLION}
-use Rattle.world_config.specs.KeyTable.{Frame, key_name}
+use Rattle.world_config.specs.KeyTable.{Frame}
 use Rattle.world_config.specs.Events.{EventValue, WhatValue, inject, clear, rate}
-
--- the key of a rate
-abbrev pub rate_key : RateName → Key
-rate_key Copy = key.CopyError
-rate_key Insert = key.DivideInsert
-rate_key Delete = key.DivideDelete
-rate_key SitePoint = key.SitePoint
-rate_key SiteInsert = key.SiteInsert
-rate_key SiteDelete = key.SiteDelete
-
--- the six rates
-abbrev pub rate_names : List RateName
-rate_names = Copy ∷ Insert ∷ Delete ∷ SitePoint ∷ SiteInsert ∷ SiteDelete ∷ []
-
--- the rate whose key has this name
-unfoldable pub rate_named : List ℕ → Option RateName
-rate_named text = find (λ name. bytes_eq (key_name (rate_key name)) text) rate_names
 
 -- each key of the table is one of these names
 abbrev pub has_only : List (List ℕ) → Members → Bool

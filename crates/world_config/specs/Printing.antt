@@ -4,9 +4,8 @@ use Rattle.std.specs.Ordering.{nat_cmp, match_ordering}
 use Rattle.std.specs.Cmp.Lexicographic.{slice_cmp}
 use Rattle.toml.specs.Data.{Data, string, integer, boolean, array, table, Items, no_items, item, Members, no_members, member}
 use Rattle.genome.specs.GenomeText.{letters_text_of}
-use Rattle.world_config.specs.KeyTable.{key_name}
+use Rattle.mutations.specs.RateNames.{name_of_rate}
 use Rattle.world_config.specs.Events.{EventValue, WhatValue, inject, clear, rate}
-use Rattle.world_config.specs.EventForms.{rate_key}
 use Rattle.world_config.specs.Values.{ConfigValues}
 
 -- the members with this value at the key, at its place in the order
@@ -29,7 +28,7 @@ event_members update (clear first last) =
     (member (codes "update") (integer (pos update)) no_members)))
 event_members update (rate name ppm) =
     member (codes "kind") (string (codes "rate"))
-    (member (codes "name") (string (key_name (rate_key name)))
+    (member (codes "name") (string (name_of_rate name))
     (member (codes "ppm") (integer (pos ppm))
     (member (codes "update") (integer (pos update)) no_members)))
 

@@ -8,14 +8,12 @@ ghost use Rattle.toml.specs.View.{items_view, table_view, view};
 ghost use Rattle.genome.specs.Genome.{letters};
 ghost use Rattle.genome.specs.GenomeText.{spelled_by_letters};
 ghost use Rattle.world_config.specs.declared.limits.TheConstants.{MOST_EVENTS};
-ghost use Rattle.world_config.specs.KeyTable.{key_name};
 ghost use Rattle.world_config.specs.Events.{event_value, event_values, what_value};
-ghost use Rattle.world_config.specs.EventForms.{clear_of, event_of, events_of, genome_from, has_only, inject_of, number_from, rate_key, rate_named, rate_of, sized, what_of};
+ghost use Rattle.world_config.specs.EventForms.{clear_of, event_of, events_of, genome_from, has_only, inject_of, number_from, rate_of, sized, what_of};
 ghost use Rattle.world_config.specs.Members.{event_refusal, frame_value};
 
 use crate::event::{Event, What};
 use crate::events::Events;
-use crate::key::Key;
 use crate::lookup::found;
 use crate::stop::ConfigStop;
 use avida_port::Memory;
@@ -32,40 +30,6 @@ pub(crate) struct Frame {
     pub updates: u32,
     pub least_length: u32,
     pub greatest_length: u32,
-}
-
-/// Every rate.
-const RATES: [RateName; 6] = [
-    RateName::Copy,
-    RateName::Insert,
-    RateName::Delete,
-    RateName::SitePoint,
-    RateName::SiteInsert,
-    RateName::SiteDelete,
-];
-
-/// The key of a rate.
-pub(crate) fn rate_key(name: RateName) -> Key
-    ensures { result ≡ rate_key name }
-{
-    match name {
-        RateName::Copy => Key::CopyError,
-        RateName::Insert => Key::DivideInsert,
-        RateName::Delete => Key::DivideDelete,
-        RateName::SitePoint => Key::SitePoint,
-        RateName::SiteInsert => Key::SiteInsert,
-        RateName::SiteDelete => Key::SiteDelete,
-    }
-}
-
-#[tactic(auto, unfolding(crate::specs::EventForms::rate_named))]
-fn rate_named(text: &str) -> Option<RateName>
-    ensures { result ≡ rate_named text.now }
-{
-    RATES
-        .iter()
-        .copied()
-        .find(|name| rate_key(*name).name() == text)
 }
 
 fn number_from(table: &Table, name: &str, least: u32, greatest: u32) -> Option<u32>
@@ -184,7 +148,7 @@ fn rate(table: &Table) -> Option<What>
     if !has_only(table, &["kind", "update", "name", "ppm"]) {
         return None;
     }
-    let name = rate_named(text_at(table, "name")?)?;
+    let name = RateName::from_name(text_at(table, "name")?.as_bytes())?;
     let ppm = number_from(table, "ppm", 0, MILLION)?;
     Some(What::Rate { name, ppm })
 }

@@ -11,7 +11,6 @@ ghost use Rattle.world_config.specs.Shown.{values_of};
 
 use crate::config::Config;
 use crate::event::{Event, What};
-use crate::event_forms::rate_key;
 use crate::key::Key;
 use avida_port::Memory;
 use genome::Genome;
@@ -106,7 +105,7 @@ fn rate_table(alloc: Global, update: u32, name: RateName, ppm: u32) -> Result<Ta
     let mut table = Table::new(alloc);
     put_number(alloc, &mut table, "update", u64::from(update))?;
     put_number(alloc, &mut table, "ppm", u64::from(ppm))?;
-    put_text(alloc, &mut table, "name", rate_key(name).name())?;
+    put_text(alloc, &mut table, "name", name.name())?;
     put_text(alloc, &mut table, "kind", "rate")?;
     Ok(table)
 }
