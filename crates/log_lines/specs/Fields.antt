@@ -19,20 +19,32 @@ given test value = if test then Some value else None
 
 -- a number from least to greatest, in decimal digits
 abbrev pub number : ℕ → ℕ → Field ℕ
-number least greatest = record { text = λ n. decimal n; read = λ word. number_of least greatest word; Fits = λ n. (least ≤ n) × (n ≤ greatest) }
+number least greatest =
+    record {
+      text = λ n. decimal n;
+      read = λ word. number_of least greatest word;
+      Fits = λ n. (least ≤ n) × (n ≤ greatest);
+    }
 
 -- each value read, or none
 abbrev pub each : {X A : Type 0} → (X → Option A) → List X → Option (List A)
 each read [] = Some []
-each read (x ∷ xs) = option_and_then (λ a. option_map (λ others. a ∷ others) (each read xs)) (read x)
+each read (x ∷ xs) =
+    option_and_then (λ a. option_map (λ others. a ∷ others) (each read xs)) (read x)
 
 -- the genome that a word spells, a byte a letter
 unfoldable pub genome_of : List ℕ → Option (List Letter)
-genome_of word = option_and_then (λ ls. given (is_genome_length (length ls)) ls) (each letter_of_byte word)
+genome_of word =
+    option_and_then (λ ls. given (is_genome_length (length ls)) ls) (each letter_of_byte word)
 
 -- the letters of a genome
 abbrev pub letters : Field (List Letter)
-letters = record { text = map byte_of; read = λ word. genome_of word; Fits = λ ls. is_genome_length (length ls) ≡ true }
+letters =
+    record {
+      text = map byte_of;
+      read = λ word. genome_of word;
+      Fits = λ ls. is_genome_length (length ls) ≡ true;
+    }
 
 -- a sign for none, or the text of a value
 abbrev pub text_or : {A : Type 0} → ℕ → Field A → Option A → List ℕ
@@ -46,7 +58,12 @@ FitsOr f (Some a) = f.Fits a
 
 -- a sign for none, or a field
 abbrev pub or_sign : {A : Type 0} → ℕ → Field A → Field (Option A)
-or_sign sign f = record { text = text_or sign f; read = λ word. if bytes_eq word (sign ∷ []) then Some None else option_map Some (f.read word); Fits = FitsOr f }
+or_sign sign f =
+    record {
+      text = text_or sign f;
+      read = λ word. if bytes_eq word (sign ∷ []) then Some None else option_map Some (f.read word);
+      Fits = FitsOr f;
+    }
 
 -- a dash for an empty list, or texts parted by commas
 abbrev pub list_text : {A : Type 0} → Field A → List A → List ℕ
@@ -55,8 +72,19 @@ list_text f (a ∷ items) = join_with_byte 44 (map f.text (a ∷ items))
 
 -- a dash for an empty list, or items parted by commas
 abbrev pub list_of : {A : Type 0} → Field A → Field (List A)
-list_of f = record { text = list_text f; read = λ word. if bytes_eq word (45 ∷ []) then Some [] else each f.read (slice_split (λ b. b == 44) word); Fits = AllByRecursion f.Fits }
+list_of f =
+    record {
+      text = list_text f;
+      read = λ word. if bytes_eq word (45 ∷ []) then Some []
+          else each f.read (slice_split (λ b. b == 44) word);
+      Fits = AllByRecursion f.Fits;
+    }
 
 -- the values of a field that pass a test
 abbrev pub where_true : {A : Type 0} → (A → Bool) → Field A → Field A
-where_true test f = record { text = f.text; read = λ word. option_and_then (λ a. given (test a) a) (f.read word); Fits = λ a. f.Fits a × (test a ≡ true) }
+where_true test f =
+    record {
+      text = f.text;
+      read = λ word. option_and_then (λ a. given (test a) a) (f.read word);
+      Fits = λ a. f.Fits a × (test a ≡ true);
+    }

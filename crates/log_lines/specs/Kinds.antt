@@ -30,7 +30,11 @@ change_text (Delete at) = 100 ∷ decimal at
 
 -- a place, and a letter at the end
 abbrev pub read_lettered : (ℕ → Letter → Change) → List ℕ → Option Change
-read_lettered make rest = option_and_then (λ at. option_map (λ letter. make at letter) (letter_of_byte (slice_index rest (length rest - 1)))) (number_of 0 4294967295 (take (length rest - 1) rest))
+read_lettered make rest =
+    option_and_then
+    (λ at. option_map (λ letter. make at letter)
+    (letter_of_byte (slice_index rest (length rest - 1))))
+    (number_of 0 4294967295 (take (length rest - 1) rest))
 
 -- the change that a word writes
 abbrev pub read_change : List ℕ → Option Change

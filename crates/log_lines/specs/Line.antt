@@ -21,10 +21,13 @@ pub data Line : Type 0 where
 
 -- the values of a line
 abbrev pub values_of : LogLine → Line
-values_of (log_line.Start version width height cell genome) = Start version width height cell (letters genome)
+values_of (log_line.Start version width height cell genome) =
+    Start version width height cell (letters genome)
 values_of (log_line.Death id update cell) = Death id update cell
-values_of (log_line.Birth id parent update cell over origin) = Birth id parent update cell over (record_of origin)
-values_of (log_line.Injected id update cell over genome) = Injected id update cell over (letters genome)
+values_of (log_line.Birth id parent update cell over origin) =
+    Birth id parent update cell over (record_of origin)
+values_of (log_line.Injected id update cell over genome) =
+    Injected id update cell over (letters genome)
 values_of (log_line.Cleared id update cell) = Cleared id update cell
 values_of (log_line.Rate update name ppm) = Rate update name ppm
 values_of (log_line.Count stats) = Count stats

@@ -19,7 +19,9 @@ death_of p = Death p.0 p.1.0 p.1.1
 
 -- a birth of its fields
 abbrev pub birth_of : ℕ × (ℕ × (ℕ × (ℕ × (Option ℕ × (Option (List Letter) × List Change))))) → Line
-birth_of p = Birth p.0 p.1.0 p.1.1.0 p.1.1.1.0 p.1.1.1.1.0 (record { written = p.1.1.1.1.1.0; changes = p.1.1.1.1.1.1 })
+birth_of p =
+    Birth p.0 p.1.0 p.1.1.0 p.1.1.1.0 p.1.1.1.1.0
+    (record { written = p.1.1.1.1.1.0; changes = p.1.1.1.1.1.1 })
 
 -- an injected organism of its fields
 abbrev pub injected_of : ℕ × (ℕ × (ℕ × (Option ℕ × List Letter))) → Line
@@ -35,7 +37,16 @@ rate_of p = Rate p.0 p.1.0 p.1.1
 
 -- the counts of their fields
 abbrev pub stats_of : ℕ × (ℕ × (ℕ × (ℕ × (ℕ × (ℕ × List ℕ))))) → Stats
-stats_of p = record { update = p.0; living = p.1.0; births = p.1.1.0; deaths = p.1.1.1.0; genotypes = p.1.1.1.1.0; merit = p.1.1.1.1.1.0; tasks = p.1.1.1.1.1.1 }
+stats_of p =
+    record {
+      update = p.0;
+      living = p.1.0;
+      births = p.1.1.0;
+      deaths = p.1.1.1.0;
+      genotypes = p.1.1.1.1.0;
+      merit = p.1.1.1.1.1.0;
+      tasks = p.1.1.1.1.1.1;
+    }
 
 -- the end of an update of its fields
 abbrev pub count_of : ℕ × (ℕ × (ℕ × (ℕ × (ℕ × (ℕ × List ℕ))))) → Line

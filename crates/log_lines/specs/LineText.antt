@@ -14,7 +14,9 @@ use Rattle.log_lines.specs.Kinds.{small, large, rate_name, over_field, base_fiel
 
 -- the version, the width, the height, the founder's cell and its letters
 abbrev pub start_row : Row (ℕ × (ℕ × (ℕ × (ℕ × List Letter))))
-start_row = number 1 LAST_VERSION ◂ (number 1 GREATEST_SIDE ◂ (number 1 GREATEST_SIDE ◂ (small ◂ last letters)))
+start_row =
+    number 1 LAST_VERSION
+    ◂ (number 1 GREATEST_SIDE ◂ (number 1 GREATEST_SIDE ◂ (small ◂ last letters)))
 
 -- an id, the update and the cell
 abbrev pub death_row : Row (ℕ × (ℕ × ℕ))
@@ -54,8 +56,11 @@ words_text [] = []
 words_text (word ∷ words) = (32 ∷ word) ++ words_text words
 
 -- the fields of a birth
-abbrev pub born : ℕ → ℕ → ℕ → ℕ → Option ℕ → BirthRecord → ℕ × (ℕ × (ℕ × (ℕ × (Option ℕ × (Option (List Letter) × List Change)))))
-born id parent update cell over birth = (id, (parent, (update, (cell, (over, (birth.written, birth.changes))))))
+abbrev pub born :
+    ℕ → ℕ → ℕ → ℕ → Option ℕ → BirthRecord
+    → ℕ × (ℕ × (ℕ × (ℕ × (Option ℕ × (Option (List Letter) × List Change)))))
+born id parent update cell over birth =
+    (id, (parent, (update, (cell, (over, (birth.written, birth.changes))))))
 
 -- the mark and the words of a row, parted by spaces
 abbrev pub form_text : {A : Type 0} → ℕ → Row A → A → List ℕ
@@ -63,10 +68,13 @@ form_text mark row a = mark ∷ words_text (row.texts a)
 
 -- a line without its newline
 abbrev pub row_text : Line → List ℕ
-row_text (Start version width height cell genome) = form_text 76 start_row (version, (width, (height, (cell, genome))))
+row_text (Start version width height cell genome) =
+    form_text 76 start_row (version, (width, (height, (cell, genome))))
 row_text (Death id update cell) = form_text 68 death_row (id, (update, cell))
-row_text (Birth id parent update cell over birth) = form_text 66 birth_row (born id parent update cell over birth)
-row_text (Injected id update cell over genome) = form_text 73 injected_row (id, (update, (cell, (over, genome))))
+row_text (Birth id parent update cell over birth) =
+    form_text 66 birth_row (born id parent update cell over birth)
+row_text (Injected id update cell over genome) =
+    form_text 73 injected_row (id, (update, (cell, (over, genome))))
 row_text (Cleared id update cell) = form_text 88 death_row (id, (update, cell))
 row_text (Rate update name ppm) = form_text 82 rate_row (update, (name, ppm))
 row_text (Count stats) = form_text 85 count_row (counted stats)
@@ -78,10 +86,13 @@ line_text line = row_text line ++ 10 ∷ []
 
 -- a line has one of the eight forms
 abbrev pub HasForm : Line → Type 0
-HasForm (Start version width height cell genome) = start_row.Fits (version, (width, (height, (cell, genome))))
+HasForm (Start version width height cell genome) =
+    start_row.Fits (version, (width, (height, (cell, genome))))
 HasForm (Death id update cell) = death_row.Fits (id, (update, cell))
-HasForm (Birth id parent update cell over birth) = birth_row.Fits (born id parent update cell over birth)
-HasForm (Injected id update cell over genome) = injected_row.Fits (id, (update, (cell, (over, genome))))
+HasForm (Birth id parent update cell over birth) =
+    birth_row.Fits (born id parent update cell over birth)
+HasForm (Injected id update cell over genome) =
+    injected_row.Fits (id, (update, (cell, (over, genome))))
 HasForm (Cleared id update cell) = death_row.Fits (id, (update, cell))
 HasForm (Rate update name ppm) = rate_row.Fits (update, (name, ppm))
 HasForm (Count stats) = count_row.Fits (counted stats)

@@ -21,14 +21,27 @@ last f = record { texts = λ a. f.text a ∷ []; read = read_last f.read; Fits =
 
 -- as many fields of one kind, which end the row
 abbrev pub times : {A : Type 0} → ℕ → Field A → Row (List A)
-times count f = record { texts = map f.text; read = λ words. if length words == count then each f.read words else None; Fits = λ items. (length items ≡ count) × AllByRecursion f.Fits items }
+times count f =
+    record {
+      texts = map f.text;
+      read = λ words. if length words == count then each f.read words else None;
+      Fits = λ items. (length items ≡ count) × AllByRecursion f.Fits items;
+    }
 
 -- the first word read, and the others
-abbrev pub read_both : {A B : Type 0} → (List ℕ → Option A) → (List (List ℕ) → Option B) → List (List ℕ) → Option (A × B)
+abbrev pub read_both :
+    {A B : Type 0} → (List ℕ → Option A) → (List (List ℕ) → Option B) → List (List ℕ)
+    → Option (A × B)
 read_both first others [] = None
-read_both first others (word ∷ words) = option_and_then (λ a. option_map (λ b. (a, b)) (others words)) (first word)
+read_both first others (word ∷ words) =
+    option_and_then (λ a. option_map (λ b. (a, b)) (others words)) (first word)
 
 infixr 20 ◌◂◌
 -- a field, and the row behind it
 abbrev pub ◌◂◌ : {A B : Type 0} → Field A → Row B → Row (A × B)
-f ◂ r = record { texts = λ p. f.text p.0 ∷ r.texts p.1; read = read_both f.read r.read; Fits = λ p. f.Fits p.0 × r.Fits p.1 }
+f ◂ r =
+    record {
+      texts = λ p. f.text p.0 ∷ r.texts p.1;
+      read = read_both f.read r.read;
+      Fits = λ p. f.Fits p.0 × r.Fits p.1;
+    }

@@ -16,7 +16,8 @@ abbrev pub words_of : Option (List ℕ) → List (List ℕ)
 words_of rest = pieces_of 32 rest
 
 -- the first word read, and the words behind it
-abbrev pub read_first : {A : Type 0} → (List ℕ → Option A) → List (List ℕ) → Option (A × List (List ℕ))
+abbrev pub read_first :
+    {A : Type 0} → (List ℕ → Option A) → List (List ℕ) → Option (A × List (List ℕ))
 read_first read [] = None
 read_first read (word ∷ words) = option_map (λ a. (a, words)) (read word)
 

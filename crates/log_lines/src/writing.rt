@@ -101,8 +101,8 @@ fn change(out: &mut Vec<u8>, before: u8, change: Change) -> Result<(), Memory>
     }
 }
 
-#[tactic(auto, using(crate::proofs::KeptLemmas::keeps_front))]
 /// The items, behind a space and then behind commas.
+#[tactic(auto, using(crate::proofs::KeptLemmas::keeps_front))]
 fn changes(out: &mut Vec<u8>, changes: &Changes) -> Result<(), Memory>
     ensures ok { OnOk result (out.new.items ≡ out.old.items
         ++ 32 ∷ list_text change changes.now) }
