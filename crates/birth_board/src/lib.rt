@@ -16,5 +16,5 @@ pub use parents::{Parents, gather};
 pub use placing::Placing;
 pub use placings::Placings;
 pub use season::Season;
-pub use torus::{GREATEST_SIDE, Torus};
+pub use torus::Torus;
 pub use turns::place;

@@ -4,6 +4,7 @@ ghost use Rattle.std.specs.Option.{option_copied};
 ghost use Rattle.birth_board.specs.Parents.{parents_of};
 
 use avida_port::Memory;
+use random_streams::CELLS;
 use std::alloc::Global;
 use std::marker::Model;
 
@@ -55,7 +56,7 @@ impl Parents {
 
 /// Each cell stands as often as it is counted, in the order of the cells.
 pub fn gather(alloc: Global, counts: &[u32]) -> Result<Parents, Memory>
-    requires { length counts.now ≤ 65536 }
+    requires { length counts.now ≤ CELLS }
     ensures parents { IfOk result (λ parents. parents ≡ parents_of counts.now) }
     ensures rising { IfOk result (λ parents. IsNonDecreasing parents) }
     ensures counted { IfOk result (λ parents. All (λ cell. cell < length counts.now) parents) }

@@ -1,9 +1,6 @@
 // The torus of cells.
 ghost use Rattle.std.specs.Prelude.{◌≤◌};
-ghost use Rattle.birth_board.specs.declared.torus.TheConstants.{GREATEST_SIDE};
-
-/// How many columns and rows a torus has at most.
-pub const GREATEST_SIDE: u32 = 256;
+ghost use Rattle.random_streams.specs.declared.draws.TheConstants.{GREATEST_SIDE};
 
 /// Cells in rows; each side meets the side opposite.
 #[derive(Clone, Copy, Debug, PartialEq, Eq)]

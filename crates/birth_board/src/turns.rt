@@ -9,7 +9,7 @@ use crate::{Occupants, Parents, Placing, Placings, Season, Torus, neighbours};
 use arrayvec::ArrayVec;
 use avida_port::Memory;
 use logic_tasks::Inputs;
-use random_streams::{Draws, Purpose, scaled};
+use random_streams::{CELLS, Draws, Purpose, scaled};
 use std::alloc::Global;
 
 /// The stream of the cell whose newborns are placed.
@@ -92,7 +92,7 @@ fn place_all(
 
 /// The stream of this cell: a cell that comes again goes on in its own.
 fn turn_to(turn: Turn, cell: u32, season: &Season) -> Turn
-    requires cell { cell < 65536 }
+    requires cell { cell < CELLS }
     requires stream { turn.draws ≡ place_stream season.now turn.cell turn.draws.taken }
     ensures cell { result.cell ≡ cell }
     ensures draws { result.draws

@@ -22,7 +22,7 @@ pub use link::Link;
 pub use living::Living;
 pub use livings::Livings;
 pub use log::Log;
-pub use log_lines::{GREATEST_SIDE, LAST_VERSION, LogLine, Stats, read_line, write_line};
+pub use log_lines::{LAST_VERSION, LogLine, Stats, read_line, write_line};
 pub use log_stop::LogStop;
 pub use path::Path;
 pub use read::read_log;

@@ -12,8 +12,8 @@ use Rattle.mutations.specs.declared.change.Change.{Change}
 use Rattle.mutations.specs.declared.change.Change.TheVariants.{Point, Insert, Delete}
 use Rattle.mutations.specs.declared.rate_name.RateName.{RateName}
 use Rattle.mutations.specs.declared.rate_name.RateName.TheVariants as rate
-use Rattle.random_streams.specs.declared.draws.TheConstants.{MILLION}
-use Rattle.log_lines.specs.declared.log_line.TheConstants.{LAST_VERSION, GREATEST_SIDE}
+use Rattle.random_streams.specs.declared.draws.TheConstants.{GREATEST_SIDE, MILLION}
+use Rattle.log_lines.specs.declared.log_line.TheConstants.{LAST_VERSION}
 use Rattle.numerals.specs.Numeral.{number_of}
 use Rattle.log_lines.specs.Fields.{Field, number, genome_of, letters, list_of}
 use Rattle.log_lines.specs.Rows.{Row, last, times, ◌◂◌}

@@ -4,8 +4,8 @@ use Rattle.instruction_set.specs.declared.letter.Letter.{Letter}
 use Rattle.mutations.specs.declared.change.Change.{Change}
 use Rattle.mutations.specs.BirthRecord.{BirthRecord}
 use Rattle.mutations.specs.declared.rate_name.RateName.{RateName}
-use Rattle.random_streams.specs.declared.draws.TheConstants.{MILLION}
-use Rattle.log_lines.specs.declared.log_line.TheConstants.{LAST_VERSION, GREATEST_SIDE}
+use Rattle.random_streams.specs.declared.draws.TheConstants.{GREATEST_SIDE, MILLION}
+use Rattle.log_lines.specs.declared.log_line.TheConstants.{LAST_VERSION}
 use Rattle.log_lines.specs.declared.stats.Stats.{Stats}
 use Rattle.log_lines.specs.Fields.{number, letters}
 use Rattle.log_lines.specs.Rows.{Row, last, times, ◌◂◌}

@@ -9,7 +9,7 @@ mod stats;
 mod words;
 mod writing;
 
-pub use log_line::{GREATEST_SIDE, LAST_VERSION, LogLine};
+pub use log_line::{LAST_VERSION, LogLine};
 pub use reading::read_line;
 pub use stats::Stats;
 pub use words::split_at;

@@ -5,9 +5,6 @@ use mutations::{Origin, RateName};
 /// The version that a new log has.
 pub const LAST_VERSION: u32 = 2;
 
-/// The greatest width and height of a world.
-pub const GREATEST_SIDE: u32 = 256;
-
 /// One line of a log.
 #[derive(Drop)]
 pub enum LogLine {

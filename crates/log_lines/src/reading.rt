@@ -12,13 +12,13 @@ ghost use Rattle.log_lines.specs.LineText.{birth_row, count_row, counted, death_
 ghost use Rattle.log_lines.specs.LineReading.{birth_of, injected_of, line_of, rate_of, read_form, start_of};
 
 use crate::fields::{base, changes, genome, over};
-use crate::log_line::{GREATEST_SIDE, LAST_VERSION, LogLine};
+use crate::log_line::{LAST_VERSION, LogLine};
 use crate::stats::Stats;
 use crate::words::{large_first, last_word, small_first, small_last, split_at};
 use avida_port::Memory;
 use genome::Genome;
 use mutations::{Base, Changes, Origin, RateName};
-use random_streams::MILLION;
+use random_streams::{GREATEST_SIDE, MILLION};
 use std::alloc::Global;
 
 /// The genome that ends the line.

@@ -7,8 +7,11 @@ use rand_core::SeedableRng;
 use rand_core::utils::NextWord;
 use std::marker::Model;
 
+/// The greatest width and the greatest height of a world.
+pub const GREATEST_SIDE: u32 = 256;
+
 /// Cells are numbered below this.
-pub const CELLS: u32 = 65_536;
+pub const CELLS: u32 = GREATEST_SIDE * GREATEST_SIDE;
 
 /// A stream gives the words whose numbers are below this.
 pub const WORDS: u64 = 1 << 48;

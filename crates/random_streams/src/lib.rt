@@ -7,5 +7,5 @@ mod purpose;
 #[cfg(test)]
 mod tests;
 
-pub use draws::{CELLS, Draws, MILLION, WORDS, scaled};
+pub use draws::{CELLS, Draws, GREATEST_SIDE, MILLION, WORDS, scaled};
 pub use purpose::Purpose;

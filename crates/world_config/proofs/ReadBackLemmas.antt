@@ -4,10 +4,10 @@ use Rattle.toml.specs.Data.{Members, items_depth, members_depth}
 use Rattle.instruction_set.specs.declared.letter.Letter.{Letter}
 use Rattle.genome.specs.declared.genome.TheConstants.{LEAST_LENGTH, GREATEST_LENGTH}
 use Rattle.genome.specs.GenomeText.{letters_text_of, spelled_by_letters}
-use Rattle.random_streams.specs.declared.draws.TheConstants.{MILLION}
+use Rattle.random_streams.specs.declared.draws.TheConstants.{GREATEST_SIDE, MILLION}
 use Rattle.world_config.specs.declared.config.Config.{Config}
 use Rattle.world_config.specs.declared.key.Key.TheVariants.{Width, Height, Updates, Seed, FounderCell, AverageSlices, Death, AgeLimit, CopyError, DivideInsert, DivideDelete, SitePoint, SiteInsert, SiteDelete, PreferEmpty, NeedAlloc, ExecutedPercent, CopiedPercent, LeastLength, GreatestLength, MemoryLimit, Ancestor, Event}
-use Rattle.world_config.specs.declared.limits.TheConstants.{GREATEST_SIDE, GREATEST_UPDATES, GREATEST_SEED, GREATEST_AVERAGE, GREATEST_AGE, GREATEST_PERCENT, MOST_EVENTS}
+use Rattle.world_config.specs.declared.limits.TheConstants.{GREATEST_UPDATES, GREATEST_SEED, GREATEST_AVERAGE, GREATEST_AGE, GREATEST_PERCENT, MOST_EVENTS}
 use Rattle.world_config.specs.declared.stop.ConfigStop.{ConfigStop}
 use Rattle.world_config.specs.KeyTable.{keys}
 use Rattle.world_config.specs.Bounds.{IsWithin, frame_of, last_cell_of}

@@ -2,10 +2,10 @@
 use Rattle.std.specs.Prelude.{ℕ, max, pos, true, List, [], ◌∷◌, ◌++◌, codes, replicate}
 use Rattle.toml.specs.Data.{Data, string, integer, boolean, array, no_items}
 use Rattle.genome.specs.declared.genome.TheConstants.{LEAST_LENGTH, GREATEST_LENGTH}
-use Rattle.random_streams.specs.declared.draws.TheConstants.{MILLION}
+use Rattle.random_streams.specs.declared.draws.TheConstants.{GREATEST_SIDE, MILLION}
 use Rattle.world_config.specs.declared.key.Key.{Key}
 use Rattle.world_config.specs.declared.key.Key.TheVariants.{Width, Height, Updates, Seed, FounderCell, AverageSlices, Death, AgeLimit, CopyError, DivideInsert, DivideDelete, SitePoint, SiteInsert, SiteDelete, PreferEmpty, NeedAlloc, ExecutedPercent, CopiedPercent, LeastLength, GreatestLength, MemoryLimit, Ancestor, Event}
-use Rattle.world_config.specs.declared.limits.TheConstants.{GREATEST_SIDE, GREATEST_UPDATES, GREATEST_SEED, GREATEST_AVERAGE, GREATEST_AGE, GREATEST_PERCENT, MOST_EVENTS}
+use Rattle.world_config.specs.declared.limits.TheConstants.{GREATEST_UPDATES, GREATEST_SEED, GREATEST_AVERAGE, GREATEST_AGE, GREATEST_PERCENT, MOST_EVENTS}
 
 -- what a key's value is, with its bounds
 pub data Kind : Type 0 where

@@ -2,8 +2,8 @@
 ghost use Rattle.std.specs.Prelude.{◌≡◌, length};
 ghost use Rattle.genome.specs.declared.genome.TheConstants.{LEAST_LENGTH, GREATEST_LENGTH};
 ghost use Rattle.genome.specs.Genome.{letters};
-ghost use Rattle.random_streams.specs.declared.draws.TheConstants.{MILLION};
-ghost use Rattle.world_config.specs.declared.limits.TheConstants.{GREATEST_SIDE, GREATEST_UPDATES, GREATEST_SEED, GREATEST_AVERAGE, GREATEST_AGE, GREATEST_PERCENT};
+ghost use Rattle.random_streams.specs.declared.draws.TheConstants.{GREATEST_SIDE, MILLION};
+ghost use Rattle.world_config.specs.declared.limits.TheConstants.{GREATEST_UPDATES, GREATEST_SEED, GREATEST_AVERAGE, GREATEST_AGE, GREATEST_PERCENT};
 ghost use Rattle.world_config.specs.Bounds.{IsWithin, frame_of, last_cell_of};
 ghost use Rattle.world_config.specs.Events.{AreEvents, event_values};
 

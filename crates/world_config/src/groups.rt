@@ -2,19 +2,18 @@
 ghost use Rattle.std.specs.Prelude.{◌≡◌, None, Some, IfOk, IfErr, OnOk};
 ghost use Rattle.toml.specs.View.{table_view};
 ghost use Rattle.genome.specs.declared.genome.TheConstants.{LEAST_LENGTH, GREATEST_LENGTH};
-ghost use Rattle.random_streams.specs.declared.draws.TheConstants.{MILLION};
-ghost use Rattle.world_config.specs.declared.limits.TheConstants.{GREATEST_SIDE, GREATEST_UPDATES, GREATEST_SEED, GREATEST_AVERAGE, GREATEST_AGE, GREATEST_PERCENT};
+ghost use Rattle.random_streams.specs.declared.draws.TheConstants.{GREATEST_SIDE, MILLION};
+ghost use Rattle.world_config.specs.declared.limits.TheConstants.{GREATEST_UPDATES, GREATEST_SEED, GREATEST_AVERAGE, GREATEST_AGE, GREATEST_PERCENT};
 ghost use Rattle.world_config.specs.Bounds.{IsWithin, last_cell_of};
 
 use crate::key::Key;
 use crate::limits::{
-    GREATEST_AGE, GREATEST_AVERAGE, GREATEST_PERCENT, GREATEST_SEED, GREATEST_SIDE,
-    GREATEST_UPDATES,
+    GREATEST_AGE, GREATEST_AVERAGE, GREATEST_PERCENT, GREATEST_SEED, GREATEST_UPDATES,
 };
 use crate::lookup::{flag, long_number, number};
 use crate::stop::ConfigStop;
 use genome::{GREATEST_LENGTH, LEAST_LENGTH};
-use random_streams::MILLION;
+use random_streams::{GREATEST_SIDE, MILLION};
 use toml::Table;
 
 /// Where and how long a run goes.

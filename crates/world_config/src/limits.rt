@@ -1,6 +1,3 @@
-/// The greatest width and the greatest height of a world.
-pub const GREATEST_SIDE: u32 = 256;
-
 /// The greatest number of updates.
 pub const GREATEST_UPDATES: u32 = 1_000_000;
 

@@ -5,7 +5,6 @@ use Rattle.std.proofs.Math.Dec.{lit≤}
 use Rattle.std.proofs.Math.Nat.{min-le_right}
 use Rattle.birth_board.specs.declared.season.Season.{Season}
 use Rattle.birth_board.specs.declared.torus.Torus.{Torus}
-use Rattle.birth_board.specs.declared.torus.TheConstants.{GREATEST_SIDE}
 use Rattle.divide_rules.specs.declared.limits.DivideRules.{DivideRules}
 use Rattle.divide_rules.specs.declared.limits.TheConstants.{LEAST_LENGTH, GREATEST_LENGTH, LEAST_PERCENT, GREATEST_PERCENT}
 use Rattle.mutations.specs.declared.rate_name.RateName.{RateName}
@@ -13,7 +12,7 @@ use Rattle.mutations.specs.declared.rate_name.RateName.TheVariants.{Copy, Insert
 use Rattle.mutations.specs.declared.rates.Rates.{Rates}
 use Rattle.mutations.specs.Rates.{RateNumbers}
 use Rattle.organism.specs.declared.settings.Settings.{Settings}
-use Rattle.random_streams.specs.declared.draws.TheConstants.{MILLION}
+use Rattle.random_streams.specs.declared.draws.TheConstants.{GREATEST_SIDE, MILLION}
 use Rattle.world_config.specs.Events.{EventValue, WhatValue, inject, clear, rate}
 use Rattle.world_config.specs.Values.{ConfigValues}
 use Rattle.world_rules.specs.Bounds.{within_bounds}
