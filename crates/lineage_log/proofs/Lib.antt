@@ -1,4 +1,5 @@
 pub mod LogLaws
 pub mod ReadLemmas
 pub mod UpgradeLemmas
+mod StandingLemmas
 pub mod ReplayLemmas
