@@ -16,7 +16,7 @@ use Rattle.lineage_log.specs.declared.stage.Stage.{Stage}
 use Rattle.lineage_log.specs.declared.stage.Stage.TheVariants.{Dying, Placing, Happening}
 use Rattle.lineage_log.specs.Slots.{holds, taken}
 use Rattle.lineage_log.specs.Reader.{Reader, may_die, may_be_born, is_quiet, parent_in, with_newcomer, with_death}
-use Rattle.lineage_log.specs.Order.{Place, Before, Within, After, within_if, opened, renewed, may_happen, with_child, with_parent, after_start, after_death, after_birth, after_injected, after_cleared, after_rate, after_count, after_end, told_within, told_all}
+use Rattle.lineage_log.specs.Order.{Place, Before, Within, After, within_if, opened, renewed, may_happen, with_child, with_parent, told_start, told_death, told_birth, told_injected, told_cleared, told_rate, told_count, told_end, told_within, told_all}
 use Rattle.lineage_log.specs.LogGrammar.{IsGoodLog}
 use Rattle.lineage_log.specs.Replay.{Seen, born_in, seen_on, seen_all, Resident, resident_at, residents_from, replay_of}
 use Rattle.lineage_log.specs.Residents.{EachIsKept, kept_genomes, resident_of}
@@ -137,7 +137,7 @@ last_tests : (a b c d : Bool) → (((a && b) && c) && d) ≡ true → (c ≡ tru
 last_tests a b c d is = let both = and_parts ((a && b) && c) d is in ((and_parts (a && b) c both.0).1, both.1)
 
 line_agrees : (r : Reader) (s : Seen) (line : Line) (p : Place) → Agrees r s → told_within r line ≡ Ok p → AgreesAt p (seen_on s line)
-unfolding after_death after_birth after_injected after_cleared after_rate after_count after_end
+unfolding told_death told_birth told_injected told_cleared told_rate told_count told_end
 line_agrees r s (Start version width height cell genome) p agrees is = absurd cc
 line_agrees r s (Death id update cell) p agrees is =
     let stands = holds (slice_get r.standing cell) (Some id) in
@@ -249,9 +249,9 @@ agreed lines r agrees =
     }
 
 start_leaves : (version width height cell : ℕ) (genome : List Letter) (lines : List Line) (r : Reader) → width ≤ 256 → height ≤ 256 → told_all Before (Start version width height cell genome ∷ lines) ≡ Ok (After r) → Leaves (Start version width height cell genome ∷ lines) r
-unfolding after_start
+unfolding told_start
 start_leaves version width height cell genome lines r w h is =
-    let step = went_on (after_start version width height cell genome) (λ p. told_all p lines) (After r) is in
+    let step = went_on (told_start version width height cell genome) (λ p. told_all p lines) (After r) is in
     let s = seen_on nobody (Start version width height cell genome) in
     let few = area_few width height w h in
     let first = within_gives (nat_lt cell (width * height)) (opened version (width * height) cell genome) step.0 s step.1 (λ t. first_agrees version (width * height) cell genome few) in

@@ -11,7 +11,7 @@ use Rattle.lineage_log.specs.declared.reason.Reason.TheVariants.{BadOrder}
 use Rattle.lineage_log.specs.declared.stage.Stage.TheVariants.{Dying, Placing, Happening}
 use Rattle.lineage_log.specs.Slots.{holds, taken}
 use Rattle.lineage_log.specs.Reader.{Reader, may_die, may_be_born, is_quiet, parent_in, with_newcomer, with_death}
-use Rattle.lineage_log.specs.Order.{Place, Before, Within, After, within_if, opened, renewed, with_child, with_parent, after_start, after_death, after_birth, after_injected, after_cleared, after_rate, after_count, after_end, told_within, and_on, told_all, IsWhole}
+use Rattle.lineage_log.specs.Order.{Place, Before, Within, After, within_if, opened, renewed, with_child, with_parent, told_start, told_death, told_birth, told_injected, told_cleared, told_rate, told_count, told_end, told_within, and_on, told_all, IsWhole}
 use Rattle.lineage_log.specs.LogGrammar.{IsGoodLog}
 use Rattle.lineage_log.specs.Upgrade.{newer, upgraded}
 use Rattle.lineage_log.proofs.LogLaws.{went_on, whole_is, place_is}
@@ -61,7 +61,7 @@ end_still true r q is = ap (λ (p : Place). Ok (up p)) (place_is (After r) q is)
 end_still false r q is = absurd cc
 
 told_still : (r : Reader) (line : Line) (q : Place) → told_within r line ≡ Ok q → told_within (up_reader r) line ≡ Ok (up q)
-unfolding after_death after_birth after_injected after_cleared after_rate after_count after_end
+unfolding told_death told_birth told_injected told_cleared told_rate told_count told_end
 told_still r (Start version width height cell genome) q is = absurd cc
 told_still r (Death id update cell) q is = if_still ((update == r.due) && may_die r.stage cell && holds (slice_get r.standing cell) (Some id)) (with_death r (Dying cell) cell id) q is
 told_still r (Birth id parent update cell over birth) q is = birth_still ((update == r.due) && may_be_born r.stage && (id == length r.people) && holds (slice_get r.standing cell) over) r cell over birth (parent_in r parent) q is
@@ -97,14 +97,14 @@ form_still (Count stats) fits = fits
 form_still (End updates) fits = fits
 
 first_still : (version width height cell : ℕ) (genome : List Letter) (lines : List Line) → IsWhole (told_all Before (Start version width height cell genome ∷ lines)) → IsWhole (told_all Before (Start 2 width height cell genome ∷ lines))
-unfolding after_start
+unfolding told_start
 first_still version width height cell genome lines w =
     let end = whole_is (told_all Before (Start version width height cell genome ∷ lines)) w in
-    let step = went_on (after_start version width height cell genome) (λ p. told_all p lines) (After end.0) end.1 in
+    let step = went_on (told_start version width height cell genome) (λ p. told_all p lines) (After end.0) end.1 in
     let rest : IsWhole (told_all step.0 lines) = subst IsWhole (sym step.2) tt in
     let deep = whole_still step.0 lines rest in
-    let is : after_start 2 width height cell genome ≡ Ok (up step.0) = if_still (nat_lt cell (width * height)) (opened version (width * height) cell genome) step.0 step.1 in
-    whole_step (after_start version width height cell genome) (after_start 2 width height cell genome) (up step.0) (λ p. told_all p lines) is deep
+    let is : told_start 2 width height cell genome ≡ Ok (up step.0) = if_still (nat_lt cell (width * height)) (opened version (width * height) cell genome) step.0 step.1 in
+    whole_step (told_start version width height cell genome) (told_start 2 width height cell genome) (up step.0) (λ p. told_all p lines) is deep
 
 order_still : (line : Line) (lines : List Line) → IsWhole (told_all Before (line ∷ lines)) → IsWhole (told_all Before (newer line ∷ lines))
 order_still (Start version width height cell genome) lines w = first_still version width height cell genome lines w

@@ -36,13 +36,13 @@ opened version cells cell genome = record {
 }
 
 -- the first line: the founder's cell is in the world
-unfoldable pub after_start : ℕ → ℕ → ℕ → ℕ → List Letter → Result Place Reason
-after_start version width height cell genome =
+unfoldable pub told_start : ℕ → ℕ → ℕ → ℕ → List Letter → Result Place Reason
+told_start version width height cell genome =
     within_if (nat_lt cell (width * height)) (opened version (width * height) cell genome)
 
 -- a death: in the due update, before births and events, in rising cells, of who stands there
-unfoldable pub after_death : Reader → ℕ → ℕ → ℕ → Result Place Reason
-after_death r id update cell =
+unfoldable pub told_death : Reader → ℕ → ℕ → ℕ → Result Place Reason
+told_death r id update cell =
     within_if
     ((update == r.due) && may_die r.stage cell && holds (slice_get r.standing cell) (Some id))
     (with_death r (Dying cell) cell id)
@@ -60,8 +60,8 @@ with_parent r cell over birth None = Err UnknownParent
 with_parent r cell over birth (Some letters) = with_child r cell over (child_of letters birth)
 
 -- a birth: in the due update, before events, with the next id, over who stands in the cell
-unfoldable pub after_birth : Reader → ℕ → ℕ → ℕ → ℕ → Option ℕ → BirthRecord → Result Place Reason
-after_birth r id parent update cell over birth =
+unfoldable pub told_birth : Reader → ℕ → ℕ → ℕ → ℕ → Option ℕ → BirthRecord → Result Place Reason
+told_birth r id parent update cell over birth =
     if (update == r.due) && may_be_born r.stage && (id == length r.people)
     && holds (slice_get r.standing cell) over
     then with_parent r cell over birth (parent_in r parent)
@@ -72,21 +72,21 @@ abbrev pub may_happen : Reader → ℕ → Bool
 may_happen r update = (r.version == 2) && (update == r.due)
 
 -- an injected organism, with the next id, over who stands in the cell
-unfoldable pub after_injected : Reader → ℕ → ℕ → ℕ → Option ℕ → List Letter → Result Place Reason
-after_injected r id update cell over genome =
+unfoldable pub told_injected : Reader → ℕ → ℕ → ℕ → Option ℕ → List Letter → Result Place Reason
+told_injected r id update cell over genome =
     within_if
     (may_happen r update && (id == length r.people) && holds (slice_get r.standing cell) over)
     (with_newcomer r Happening cell over genome r.births)
 
 -- a cleared organism, which stands in the cell
-unfoldable pub after_cleared : Reader → ℕ → ℕ → ℕ → Result Place Reason
-after_cleared r id update cell =
+unfoldable pub told_cleared : Reader → ℕ → ℕ → ℕ → Result Place Reason
+told_cleared r id update cell =
     within_if (may_happen r update && holds (slice_get r.standing cell) (Some id))
     (with_death r Happening cell id)
 
 -- a rate
-unfoldable pub after_rate : Reader → ℕ → Result Place Reason
-after_rate r update = within_if (may_happen r update) (record r { stage = Happening })
+unfoldable pub told_rate : Reader → ℕ → Result Place Reason
+told_rate r update = within_if (may_happen r update) (record r { stage = Happening })
 
 -- the reader when the next update is due
 abbrev pub renewed : Reader → Reader
@@ -100,33 +100,33 @@ renewed r = record r {
 }
 
 -- the end of the due update, with the counts that its lines give
-unfoldable pub after_count : Reader → Stats → Result Place Reason
-after_count r s =
+unfoldable pub told_count : Reader → Stats → Result Place Reason
+told_count r s =
     within_if
     ((s.update == r.due) && (s.living == taken r.standing) && (s.births == r.births)
     && (s.deaths == length r.leaving))
     (renewed r)
 
 -- the last line: the last update has its end, and this number
-unfoldable pub after_end : Reader → ℕ → Result Place Reason
-after_end r updates =
+unfoldable pub told_end : Reader → ℕ → Result Place Reason
+told_end r updates =
     if is_quiet r.stage && (updates + 1 == r.due) then Ok (After r) else Err BadOrder
 
 -- one line within the log
 abbrev pub told_within : Reader → Line → Result Place Reason
 told_within r (Start version width height cell genome) = Err BadOrder
-told_within r (Death id update cell) = after_death r id update cell
+told_within r (Death id update cell) = told_death r id update cell
 told_within r (Birth id parent update cell over birth) =
-    after_birth r id parent update cell over birth
-told_within r (Injected id update cell over genome) = after_injected r id update cell over genome
-told_within r (Cleared id update cell) = after_cleared r id update cell
-told_within r (Rate update name ppm) = after_rate r update
-told_within r (Count stats) = after_count r stats
-told_within r (End updates) = after_end r updates
+    told_birth r id parent update cell over birth
+told_within r (Injected id update cell over genome) = told_injected r id update cell over genome
+told_within r (Cleared id update cell) = told_cleared r id update cell
+told_within r (Rate update name ppm) = told_rate r update
+told_within r (Count stats) = told_count r stats
+told_within r (End updates) = told_end r updates
 
 -- the first line
 abbrev pub told_first : Line → Result Place Reason
-told_first (Start version width height cell genome) = after_start version width height cell genome
+told_first (Start version width height cell genome) = told_start version width height cell genome
 told_first _ = Err BadOrder
 
 -- one line

@@ -5,7 +5,7 @@ ghost use Rattle.mutations.specs.BirthRecord.{record_of};
 ghost use Rattle.log_lines.specs.Line.{End, values_of};
 ghost use Rattle.lineage_log.specs.Slots.{holds, taken};
 ghost use Rattle.lineage_log.specs.Reader.{is_quiet, may_be_born, may_die, parent_in, with_death, with_newcomer};
-ghost use Rattle.lineage_log.specs.Order.{after_birth, after_cleared, after_count, after_death, after_end, after_injected, after_rate, after_start, may_happen, renewed, told_within, After};
+ghost use Rattle.lineage_log.specs.Order.{told_birth, told_cleared, told_count, told_death, told_end, told_injected, told_rate, told_start, may_happen, renewed, told_within, After};
 
 use crate::people::People;
 use crate::reason::Reason;
@@ -65,7 +65,7 @@ impl Reader {
     ghost use Rattle.lineage_log.specs.Readings.{MakesChild, Tells, TellsReader, reader_of};
 
     /// The reader after the first line.
-    #[tactic(auto, unfolding(crate::specs::Order::after_start))]
+    #[tactic(auto, unfolding(crate::specs::Order::told_start))]
     pub fn open(
         alloc: Global,
         version: u32,
@@ -74,7 +74,7 @@ impl Reader {
         cell: u32,
         genome: Genome,
     ) -> Result<Reader, Refusal>
-        ensures { TellsReader result (after_start version width height cell (letters genome)) }
+        ensures { TellsReader result (told_start version width height cell (letters genome)) }
     {
         let cells = u64::from(width) * u64::from(height);
         if u64::from(cell) >= cells {
@@ -147,10 +147,10 @@ impl Reader {
         Ok(())
     }
 
-    #[tactic(auto, unfolding(crate::specs::Order::after_death))]
+    #[tactic(auto, unfolding(crate::specs::Order::told_death))]
     pub fn death(&mut self, id: u64, update: u32, cell: u32) -> Result<(), Refusal>
         ensures { Tells result (reader_of self.new)
-            (after_death (reader_of self.old) id update cell) }
+            (told_death (reader_of self.old) id update cell) }
     {
         if u64::from(update) == self.due
             && may_die(self.stage, cell)
@@ -163,10 +163,10 @@ impl Reader {
         }
     }
 
-    #[tactic(auto, unfolding(crate::specs::Order::after_cleared))]
+    #[tactic(auto, unfolding(crate::specs::Order::told_cleared))]
     pub fn cleared(&mut self, id: u64, update: u32, cell: u32) -> Result<(), Refusal>
         ensures { Tells result (reader_of self.new)
-            (after_cleared (reader_of self.old) id update cell) }
+            (told_cleared (reader_of self.old) id update cell) }
     {
         if self.may_happen(update) && self.standing.holds(cell, Some(id)) {
             self.remove(Stage::Happening, cell, id)?;
@@ -176,9 +176,9 @@ impl Reader {
         }
     }
 
-    #[tactic(auto, unfolding(crate::specs::Order::after_rate))]
+    #[tactic(auto, unfolding(crate::specs::Order::told_rate))]
     pub fn rate(&mut self, update: u32) -> Result<(), Refusal>
-        ensures { Tells result (reader_of self.new) (after_rate (reader_of self.old) update) }
+        ensures { Tells result (reader_of self.new) (told_rate (reader_of self.old) update) }
     {
         if self.may_happen(update) {
             self.stage = Stage::Happening;
@@ -213,7 +213,7 @@ impl Reader {
         }
     }
 
-    #[tactic(auto, unfolding(crate::specs::Order::after_birth))]
+    #[tactic(auto, unfolding(crate::specs::Order::told_birth))]
     pub fn birth(
         &mut self,
         alloc: Global,
@@ -225,7 +225,7 @@ impl Reader {
         origin: &Origin,
     ) -> Result<(), Refusal>
         ensures { Tells result (reader_of self.new)
-            (after_birth (reader_of self.old) id parent update cell over (record_of origin.now)) }
+            (told_birth (reader_of self.old) id parent update cell over (record_of origin.now)) }
     {
         if u64::from(update) == self.due
             && may_be_born(self.stage)
@@ -240,7 +240,7 @@ impl Reader {
         }
     }
 
-    #[tactic(auto, unfolding(crate::specs::Order::after_injected))]
+    #[tactic(auto, unfolding(crate::specs::Order::told_injected))]
     pub fn injected(
         &mut self,
         id: u64,
@@ -250,7 +250,7 @@ impl Reader {
         genome: Genome,
     ) -> Result<(), Refusal>
         ensures { Tells result (reader_of self.new)
-            (after_injected (reader_of self.old) id update cell over (letters genome)) }
+            (told_injected (reader_of self.old) id update cell over (letters genome)) }
     {
         if self.may_happen(update) && self.may_come(id, cell, over) {
             let births = self.births;
@@ -287,9 +287,9 @@ impl Reader {
         self.births = 0;
     }
 
-    #[tactic(auto, unfolding(crate::specs::Order::after_count))]
+    #[tactic(auto, unfolding(crate::specs::Order::told_count))]
     pub fn count(&mut self, stats: &Stats) -> Result<(), Refusal>
-        ensures { Tells result (reader_of self.new) (after_count (reader_of self.old) stats.now) }
+        ensures { Tells result (reader_of self.new) (told_count (reader_of self.old) stats.now) }
     {
         if self.counts_fit(stats) {
             self.renew();
@@ -299,9 +299,9 @@ impl Reader {
         }
     }
 
-    #[tactic(auto, unfolding(crate::specs::Order::after_end))]
+    #[tactic(auto, unfolding(crate::specs::Order::told_end))]
     pub fn ends(&self, updates: u32) -> bool
-        ensures { after_end (reader_of self.now) updates
+        ensures { told_end (reader_of self.now) updates
             ≡ (if result then Ok (After (reader_of self.now)) else Err Reason.BadOrder) }
     {
         is_quiet(self.stage) && u64::from(updates) + 1 == self.due

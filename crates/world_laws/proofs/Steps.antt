@@ -13,7 +13,7 @@ use Rattle.lineage_log.specs.declared.reason.Reason.{Reason}
 use Rattle.lineage_log.specs.declared.stage.Stage.{Stage}
 use Rattle.lineage_log.specs.declared.stage.Stage.TheVariants.{Dying, Placing, Happening}
 use Rattle.lineage_log.specs.Slots.{same_slot, holds}
-use Rattle.lineage_log.specs.Order.{Place, Within, after_death, after_birth, with_parent, with_child, after_injected, after_cleared, after_rate}
+use Rattle.lineage_log.specs.Order.{Place, Within, told_death, told_birth, with_parent, with_child, told_injected, told_cleared, told_rate}
 use Rattle.lineage_log.specs.Reader.{Reader, may_die, may_be_born, parent_in}
 use Rattle.lineage_log.specs.Reader as reader
 use Rattle.organism.specs.OrganismState.{OrganismState}
@@ -83,38 +83,38 @@ seen_newcomer scene link organism cells genomes e f =
 -- the line of a death of age
 pub one_death : (start : People) (stage : Stage) (births : ℕ) (scene : Scene) (cell id : ℕ) → may_die stage cell ≡ true → standing_at scene cell ≡ Some id
     → Passes start stage births scene (Death id scene.update cell ∷ []) (Dying cell) births (with_death scene cell)
-unfolding after_death
+unfolding told_death
 one_death start stage births scene cell id may h =
     let stands = holds_who scene.cells cell id h in
-    let told : after_death (mirror start stage births scene) id scene.update cell ≡ on (reader.with_death (mirror start stage births scene) (Dying cell) cell id) = rw (eqb_same scene.update, may, stands) refl in
+    let told : told_death (mirror start stage births scene) id scene.update cell ≡ on (reader.with_death (mirror start stage births scene) (Dying cell) cell id) = rw (eqb_same scene.update, may, stands) refl in
     one_line _ _ _ _ _ (told ∙ ap on (mirror_death start stage (Dying cell) births scene cell id h)) (seen_death scene cell)
 
 -- the line of who is cleared
 pub one_cleared : (start : People) (stage : Stage) (births : ℕ) (scene : Scene) (cell id : ℕ) → standing_at scene cell ≡ Some id
     → Passes start stage births scene (Cleared id scene.update cell ∷ []) Happening births (with_death scene cell)
-unfolding after_cleared
+unfolding told_cleared
 one_cleared start stage births scene cell id h =
     let stands = holds_who scene.cells cell id h in
-    let told : after_cleared (mirror start stage births scene) id scene.update cell ≡ on (reader.with_death (mirror start stage births scene) Happening cell id) = rw (eqb_same scene.update, stands) refl in
+    let told : told_cleared (mirror start stage births scene) id scene.update cell ≡ on (reader.with_death (mirror start stage births scene) Happening cell id) = rw (eqb_same scene.update, stands) refl in
     one_line _ _ _ _ _ (told ∙ ap on (mirror_death start stage Happening births scene cell id h)) (seen_death scene cell)
 
 -- the line of a rate
 pub one_rate : (start : People) (stage : Stage) (births : ℕ) (scene : Scene) (name : RateName) (ppm : ℕ)
     → Passes start stage births scene (Rate scene.update name ppm ∷ []) Happening births scene
-unfolding after_rate
+unfolding told_rate
 one_rate start stage births scene name ppm =
-    let told : after_rate (mirror start stage births scene) scene.update ≡ on (mirror start Happening births scene) = rw (eqb_same scene.update) refl in
+    let told : told_rate (mirror start stage births scene) scene.update ≡ on (mirror start Happening births scene) = rw (eqb_same scene.update) refl in
     one_line _ _ _ _ _ told refl
 
 -- the line of an injected organism
 pub one_injected : (start : People) (stage : Stage) (births : ℕ) (scene : Scene) (link : Link) (organism : OrganismState) → length start ≤ length scene.everyone → link.cell < length scene.cells → link.id ≡ length scene.everyone
     → Passes start stage births scene (Injected link.id scene.update link.cell (standing_at scene link.cell) link.genome ∷ []) Happening births (with_newcomer scene link organism)
-unfolding after_injected
+unfolding told_injected
 one_injected start stage births scene link organism grown within is =
     let people = people_in start scene.everyone in
     let number : (link.id == length people) ≡ true = rw (is, people_number start scene.everyone grown) (eqb_same (length scene.everyone)) in
     let stands = holds_cell scene.cells link.cell within in
-    let told : after_injected (mirror start stage births scene) link.id scene.update link.cell (standing_at scene link.cell) link.genome ≡ on (reader.with_newcomer (mirror start stage births scene) Happening link.cell (standing_at scene link.cell) link.genome births) =
+    let told : told_injected (mirror start stage births scene) link.id scene.update link.cell (standing_at scene link.cell) link.genome ≡ on (reader.with_newcomer (mirror start stage births scene) Happening link.cell (standing_at scene link.cell) link.genome births) =
     rw (eqb_same scene.update, number, stands) refl in
     one_line _ _ _ _ _ (told ∙ ap on (mirror_newcomer start stage Happening births births scene link organism grown is)) (seen_newcomer scene link organism _ _ refl refl)
 
@@ -131,15 +131,15 @@ pub one_birth : (start : People) (stage : Stage) (births : ℕ) (scene : Scene) 
     → may_be_born stage ≡ true → length start ≤ length scene.everyone → link.cell < length scene.cells → link.id ≡ length scene.everyone
     → slice_get start parent ≡ Some (Some letters) → slice_get (map (λ (l : Link). l.genome) scene.everyone) parent ≡ Some letters → child_of letters origin ≡ Ok link.genome
     → Passes start stage births scene (Birth link.id parent scene.update link.cell (standing_at scene link.cell) origin ∷ []) Placing (births + 1) (with_newcomer scene link organism)
-unfolding after_birth
+unfolding told_birth
 one_birth start stage births scene link organism parent origin letters may grown within is lived wrote child =
     let people = people_in start scene.everyone in
     let number : (link.id == length people) ≡ true = rw (is, people_number start scene.everyone grown) (eqb_same (length scene.everyone)) in
     let stands = holds_cell scene.cells link.cell within in
     let found = parent_is start stage births scene parent letters lived in
     let over = standing_at scene link.cell in
-    let first : after_birth (mirror start stage births scene) link.id parent scene.update link.cell over origin ≡ with_parent (mirror start stage births scene) link.cell over origin (parent_in (mirror start stage births scene) parent) =
+    let first : told_birth (mirror start stage births scene) link.id parent scene.update link.cell over origin ≡ with_parent (mirror start stage births scene) link.cell over origin (parent_in (mirror start stage births scene) parent) =
     rw (eqb_same scene.update, may, number, stands) refl in
-    let told : after_birth (mirror start stage births scene) link.id parent scene.update link.cell over origin ≡ on (reader.with_newcomer (mirror start stage births scene) Placing link.cell over link.genome (births + 1)) =
+    let told : told_birth (mirror start stage births scene) link.id parent scene.update link.cell over origin ≡ on (reader.with_newcomer (mirror start stage births scene) Placing link.cell over link.genome (births + 1)) =
     first ∙ ap (with_parent (mirror start stage births scene) link.cell over origin) found ∙ ap (with_child (mirror start stage births scene) link.cell over) child in
     one_line _ _ _ _ _ (told ∙ ap on (mirror_newcomer start stage Placing births (births + 1) scene link organism grown is)) (seen_newcomer scene link organism _ _ refl (rw (wrote, child) refl))

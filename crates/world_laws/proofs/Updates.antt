@@ -10,7 +10,7 @@ use Rattle.log_lines.specs.Line.{Count}
 use Rattle.lineage_log.specs.declared.stage.Stage.{Stage}
 use Rattle.lineage_log.specs.declared.stage.Stage.TheVariants.{Quiet}
 use Rattle.lineage_log.specs.Slots.{taken}
-use Rattle.lineage_log.specs.Order.{Within, after_count, renewed}
+use Rattle.lineage_log.specs.Order.{Within, told_count, renewed}
 use Rattle.lineage_log.specs.People.{without}
 use Rattle.lineage_log.specs.Reader.{may_be_born}
 use Rattle.world_config.specs.Values.{ConfigValues}
@@ -90,8 +90,8 @@ pub record KeepsFolk (cells later : List (Option Occupant)) : Type 0 where
   pub same : (cell : ℕ) (o : Occupant) → Stands later cell o → (x : Occupant) × Stands cells cell x × (x.id ≡ o.id) × (x.organism.genome ≡ o.organism.genome)
 
 -- the line of what is counted
-one_count : (start : People) (stage : Stage) (births : ℕ) (scene : Scene) → after_count (mirror start stage births scene) (scene_stats scene births) ≡ Ok (Within (renewed (mirror start stage births scene)))
-unfolding after_count stats_in
+one_count : (start : People) (stage : Stage) (births : ℕ) (scene : Scene) → told_count (mirror start stage births scene) (scene_stats scene births) ≡ Ok (Within (renewed (mirror start stage births scene)))
+unfolding told_count stats_in
 one_count start stage births scene = rw (eqb_same scene.update, eqb_same (taken (ids_of scene.cells)), eqb_same births, eqb_same (length scene.gone)) refl
 
 renewed_is : (start : People) (stage : Stage) (births : ℕ) (scene : Scene) → renewed (mirror start stage births scene) ≡ between (people_after start scene) (scene.update + 1) scene.cells

@@ -7,7 +7,7 @@ use Rattle.std.proofs.lemmas.Option.{slice_get-map}
 use Rattle.std.proofs.lemmas.Bool.Decides.{nat_tests}
 use Rattle.instruction_set.specs.declared.letter.Letter.{Letter}
 use Rattle.log_lines.specs.Line.{Line, End}
-use Rattle.lineage_log.specs.Order.{Place, Before, Within, After, IsWhole, after_start, after_end, told_all}
+use Rattle.lineage_log.specs.Order.{Place, Before, Within, After, IsWhole, told_start, told_end, told_all}
 use Rattle.lineage_log.specs.Replay.{Seen, seen_on, Resident, residents_from, replay_of}
 use Rattle.organism.specs.OrganismState.{new_organism}
 use Rattle.organism.specs.Lived.{IsSoundOrganism}
@@ -121,8 +121,8 @@ module _ (laws : LifeLaws) (config : ConfigValues) (fit : IsConfig config) where
   abbrev pub seen_after : ℕ → Seen
   seen_after n = seen_in (world_after config n).cells (world_after config n).everyone
 
-  head_told : after_start 2 config.width config.height config.founder_cell config.ancestor ≡ Ok (reader_after 0)
-  unfolding after_start world_after first_world
+  head_told : told_start 2 config.width config.height config.founder_cell config.ancestor ≡ Ok (reader_after 0)
+  unfolding told_start world_after first_world
   head_told =
       let f : Option Occupant = Some (first_occupant config) in
       let inside = fit.founder in
@@ -147,8 +147,8 @@ module _ (laws : LifeLaws) (config : ConfigValues) (fit : IsConfig config) where
   updates_tell zero = no_lines (reader_after 0) (seen_after 0)
   updates_tell (suc n) = more_lines (updates_lines config n) (update_lines config (world_after config n)) (updates_tell n) (next_tells n)
 
-  end_told : (n : ℕ) → after_end (between (kept_after config n) ((world_after config n).update + 1) (world_after config n).cells) n ≡ Ok (After (between (kept_after config n) ((world_after config n).update + 1) (world_after config n).cells))
-  unfolding after_end
+  end_told : (n : ℕ) → told_end (between (kept_after config n) ((world_after config n).update + 1) (world_after config n).cells) n ≡ Ok (After (between (kept_after config n) ((world_after config n).update + 1) (world_after config n).cells))
+  unfolding told_end
   end_told n = let test : (n + 1 == (world_after config n).update + 1) ≡ true = rw (run_after n).update (eqb_same (n + 1)) in rw test refl
 
   abbrev nobody : Seen
