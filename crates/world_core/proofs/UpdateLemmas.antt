@@ -17,7 +17,7 @@ use Rattle.world_rules.specs.Lives.{life_at, lives_of}
 use Rattle.world_rules.specs.Scene.{Scene, cells_from, with_death, with_deaths, with_newcomer}
 use Rattle.world_rules.specs.Statistics.{scene_stats}
 use Rattle.world_rules.specs.LogText.{death_lines, birth_lines, event_lines, lines_of_lives, update_lines}
-use Rattle.world_rules.specs.Update.{Delivery, after_lives, lives_after, deaths_of, births_of, turns_of, events_at, after_birth, after_births, after_burials, after_what, after_event, after_events, last_scene}
+use Rattle.world_rules.specs.Update.{Delivery, after_lives, lives_after, deaths_of, births_of, turns_of, events_at, with_newborn, after_births, after_burials, after_what, after_event, after_events, last_scene}
 
 pub with_death-update : (scene : Scene) (cell : ℕ) → (with_death scene cell).update ≡ scene.update
 unfolding with_death
@@ -34,13 +34,13 @@ fold-update f keeps scene (x ∷ xs) = fold-update f keeps (f scene x) xs ∙ ke
 pub with_deaths-update : (scene : Scene) (cells : List ℕ) → (with_deaths scene cells).update ≡ scene.update
 with_deaths-update scene cells = fold-update with_death with_death-update scene cells
 
-pub after_birth-update : (config : ConfigValues) (scene : Scene) (turn : Delivery × Placing) → (after_birth config scene turn).update ≡ scene.update
-unfolding after_birth
-after_birth-update config scene turn = with_newcomer-update scene _ _
+pub with_newborn-update : (config : ConfigValues) (scene : Scene) (turn : Delivery × Placing) → (with_newborn config scene turn).update ≡ scene.update
+unfolding with_newborn
+with_newborn-update config scene turn = with_newcomer-update scene _ _
 
 pub after_births-update : (config : ConfigValues) (scene : Scene) (births : List Delivery) → (after_births config scene births).update ≡ scene.update
 unfolding after_births
-after_births-update config scene births = fold-update (after_birth config) (after_birth-update config) scene (turns_of config scene births)
+after_births-update config scene births = fold-update (with_newborn config) (with_newborn-update config) scene (turns_of config scene births)
 
 pub after_what-update : (config : ConfigValues) (scene : Scene) (nth : ℕ) (what : WhatValue) → (after_what config scene nth what).update ≡ scene.update
 after_what-update config scene nth (inject cell letters) = with_newcomer-update scene _ _

@@ -7,7 +7,7 @@ ghost use Rattle.mutations.specs.BirthRecord.{record_of};
 ghost use Rattle.world_config.specs.Shown.{values_of};
 ghost use Rattle.world_rules.specs.LogText.{birth_line, birth_lines};
 ghost use Rattle.world_rules.specs.Scene.{next_id, standing_at};
-ghost use Rattle.world_rules.specs.Update.{placings_of, after_birth, after_births};
+ghost use Rattle.world_rules.specs.Update.{placings_of, with_newborn, after_births};
 ghost use Rattle.world_rules.specs.World.{id_of, ids_of};
 ghost use Rattle.world_core.specs.Soundness.{IsDelivery, AreDeliveries};
 
@@ -101,7 +101,7 @@ fn id_of(slot: &Option<Occupant>) -> Option<u64>
 }
 
 /// A newborn stands in the cell of its placing, with the next id, and has its line.
-#[tactic(auto, unfolding(world_rules::specs::Update::after_birth, world_rules::specs::Scene::with_newcomer, organism::specs::OrganismState::new_organism))]
+#[tactic(auto, unfolding(world_rules::specs::Update::with_newborn, world_rules::specs::Scene::with_newcomer, organism::specs::OrganismState::new_organism))]
 fn settle(
     alloc: Global,
     config: &Config,
@@ -112,7 +112,7 @@ fn settle(
 ) -> Result<(), Memory>
     requires cell { placing.now.cell < length scene.old.cells }
     requires birth { IsDelivery (values_of config.now) (length scene.old.cells) birth }
-    ensures scene { OnOk result (scene.new ≡ after_birth (values_of config.now) scene.old (birth, placing.now)) }
+    ensures scene { OnOk result (scene.new ≡ with_newborn (values_of config.now) scene.old (birth, placing.now)) }
     ensures text { OnOk result (text.new.items
         ≡ text.old.items ++ line_text (birth_line scene.old (birth, placing.now))) }
     ensures size { OnOk result (length scene.new.cells ≡ length scene.old.cells) }

@@ -10,7 +10,7 @@ use Rattle.world_config.specs.Events.{EventValue, WhatValue, inject, clear, rate
 use Rattle.world_config.specs.Values.{ConfigValues}
 use Rattle.world_rules.specs.World.{Link, World, founder_link, first_world}
 use Rattle.world_rules.specs.Scene.{Scene, next_id, with_death, with_deaths, cells_from, with_newcomer}
-use Rattle.world_rules.specs.Update.{Delivery, birth_link, after_birth, after_what, after_event, after_burials, deaths_of, births_of, turns_of, after_births, events_at, after_events, last_scene, scene_of_lives, lives_after, next_scene, next_world}
+use Rattle.world_rules.specs.Update.{Delivery, birth_link, with_newborn, after_what, after_event, after_burials, deaths_of, births_of, turns_of, after_births, events_at, after_events, last_scene, scene_of_lives, lives_after, next_scene, next_world}
 use Rattle.world_rules.specs.WorldRun.{world_after}
 use Rattle.world_laws.specs.Heredity.{ComesFrom, AreDescended}
 use Rattle.world_laws.proofs.ListLemmas.{get_last, get_more}
@@ -38,8 +38,8 @@ link_there : (slot : Option Link) (letters : List Letter) → option_map (λ (l 
 link_there None letters e = absurd cc
 link_there (Some link) letters e = (link, refl, cc)
 
-descended_birth : (size : ℕ) (start : People) (config : ConfigValues) (scene : Scene) (turn : Delivery × Placing) → IsScene size start scene → IsTurn size start turn → AreDescended scene.everyone → AreDescended (after_birth config scene turn).everyone
-unfolding after_birth with_newcomer
+descended_birth : (size : ℕ) (start : People) (config : ConfigValues) (scene : Scene) (turn : Delivery × Placing) → IsScene size start scene → IsTurn size start turn → AreDescended scene.everyone → AreDescended (with_newborn config scene turn).everyone
+unfolding with_newborn with_newcomer
 descended_birth size start config scene turn is lawful are =
     let b = turn.0 in
     let wrote = sym (slice_get-map (λ (l : Link). l.genome) scene.everyone b.parent) ∙ is.agree b.parent lawful.letters lawful.lived in
@@ -47,10 +47,10 @@ descended_birth size start config scene turn is lawful are =
     let made : child_of found.0.genome b.newborn.origin ≡ Ok b.newborn.genome = ap (λ (g : List Letter). child_of g b.newborn.origin) found.2 ∙ lawful.made in
     descended_more scene.everyone (birth_link (next_id scene) scene.update b turn.1.cell) are (found.0, found.1, record { record_of_birth = b.newborn.origin; recorded = refl; made = made })
 
-descended_births : (size : ℕ) (start : People) (config : ConfigValues) (scene : Scene) (turns : List (Delivery × Placing)) → IsScene size start scene → AllByRecursion (IsTurn size start) turns → AreDescended scene.everyone → AreDescended (fold (after_birth config) scene turns).everyone
+descended_births : (size : ℕ) (start : People) (config : ConfigValues) (scene : Scene) (turns : List (Delivery × Placing)) → IsScene size start scene → AllByRecursion (IsTurn size start) turns → AreDescended scene.everyone → AreDescended (fold (with_newborn config) scene turns).everyone
 descended_births size start config scene [] is lawful are = are
 descended_births size start config scene (turn ∷ turns) is lawful are =
-    descended_births size start config (after_birth config scene turn) turns (scene_birth size start config scene turn is) lawful.1 (descended_birth size start config scene turn is lawful.0 are)
+    descended_births size start config (with_newborn config scene turn) turns (scene_birth size start config scene turn is) lawful.1 (descended_birth size start config scene turn is lawful.0 are)
 
 -- deaths change no link
 same_everyone : (scene : Scene) (cells : List ℕ) → (with_deaths scene cells).everyone ≡ scene.everyone

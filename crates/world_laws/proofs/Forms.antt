@@ -11,7 +11,7 @@ use Rattle.world_config.specs.Events.{EventValue, WhatValue, inject, clear, rate
 use Rattle.world_config.specs.Values.{ConfigValues}
 use Rattle.world_rules.specs.World.{founder_link}
 use Rattle.world_rules.specs.Scene.{Scene, next_id, standing_at, with_death, with_deaths, cells_from, with_newcomer}
-use Rattle.world_rules.specs.Update.{Delivery, birth_link, after_birth, after_what, after_event}
+use Rattle.world_rules.specs.Update.{Delivery, birth_link, with_newborn, after_what, after_event}
 use Rattle.world_rules.specs.LogText.{death_lines, birth_line, cleared_line, what_lines, lines_of_event}
 use Rattle.world_laws.proofs.Mirror.{People}
 use Rattle.world_laws.proofs.Scenes.{IsScene, who_stands, id_small, scene_death}
@@ -69,15 +69,15 @@ module _ (size : ℕ) (start : People) (small : size ≤ 65536) where
       let next = with_death scene cell in
       cleared_fits scene more cell (standing_at scene cell) (filter_map (λ line. line) (scan with_death cleared_line next cells)) is room refl (all_cleared_fit next more cells (scene_death size start scene is cell) (room_death scene more cell room))
 
-  room_birth : (config : ConfigValues) (scene : Scene) (more : ℕ) (turn : Delivery × Placing) → HasRoom scene (suc more) → HasRoom (after_birth config scene turn) more
-  unfolding after_birth with_newcomer
+  room_birth : (config : ConfigValues) (scene : Scene) (more : ℕ) (turn : Delivery × Placing) → HasRoom scene (suc more) → HasRoom (with_newborn config scene turn) more
+  unfolding with_newborn with_newcomer
   room_birth config scene more turn room =
       let link = birth_link (next_id scene) scene.update turn.0 turn.1.cell in
       record { ids = omega (arith, room.ids, length-append scene.everyone (link ∷ [])); early = room.early }
 
   -- the lines of births
   pub births_fit : (config : ConfigValues) (scene : Scene) (births : List Delivery) (placings : List Placing) → IsScene size start scene → HasRoom scene (length births) → AllByRecursion (IsDelivery config size start) births → AllByRecursion (λ (p : Placing). p.cell < size) placings
-      → Forms (scan (after_birth config) birth_line scene (zip births placings))
+      → Forms (scan (with_newborn config) birth_line scene (zip births placings))
   births_fit config scene [] placings is room are within = tt
   births_fit config scene (b ∷ births) [] is room are within = tt
   births_fit config scene (b ∷ births) (p ∷ placings) is room are within =
@@ -86,7 +86,7 @@ module _ (size : ℕ) (start : People) (small : size ≤ 65536) where
       let record_fits = record_form b.newborn.origin are.0.born.form in
       let first : HasForm (birth_line scene (b, p)) =
       ((omega arith, omega (arith, room.ids)), ((omega arith, omega (arith, parent, is.grown, room.ids)), ((omega arith, room.early), ((omega arith, omega (arith, within.0, small)), (over, record_fits))))) in
-      (first, births_fit config (after_birth config scene (b, p)) births placings (scene_birth size start config scene (b, p) is) (room_birth config scene (length births) (b, p) room) are.1 within.1)
+      (first, births_fit config (with_newborn config scene (b, p)) births placings (scene_birth size start config scene (b, p) is) (room_birth config scene (length births) (b, p) room) are.1 within.1)
 
 room_deaths : (scene : Scene) (more : ℕ) (cells : List ℕ) → HasRoom scene more → HasRoom (with_deaths scene cells) more
 unfolding with_death

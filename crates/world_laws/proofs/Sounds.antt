@@ -15,7 +15,7 @@ use Rattle.world_config.specs.Values.{ConfigValues}
 use Rattle.world_rules.specs.World.{Occupant, Link, founder_of, founder_link}
 use Rattle.world_rules.specs.Settings.{rules_of}
 use Rattle.world_rules.specs.Scene.{Scene, next_id, standing_at, with_death, with_deaths, cells_from, with_newcomer}
-use Rattle.world_rules.specs.Update.{Delivery, child_of_birth, birth_link, after_birth, after_what, after_event}
+use Rattle.world_rules.specs.Update.{Delivery, child_of_birth, birth_link, with_newborn, after_what, after_event}
 use Rattle.world_laws.proofs.Mirror.{People}
 use Rattle.world_laws.proofs.Scenes.{Each, stands_before, stands_with}
 use Rattle.world_laws.proofs.LivesLemmas.{LifeLaws}
@@ -87,15 +87,15 @@ module _ (laws : LifeLaws) (config : ConfigValues) (fit : IsConfig config) where
       let genome : IsGenome b.newborn.genome = record { least = omega (arith, least, low); greatest = omega (arith, greatest, high, top) } in
       laws.new b.newborn.genome placing.inputs b.newborn.merit b.newborn.credited config.memory_limit genome (omega (arith, greatest, high)) (omega (arith, top)) is.born.some_merit is.born.merit
 
-  goes_birth : (size : ℕ) (start : People) (scene : Scene) (turn : Delivery × Placing) → IsDelivery config size start turn.0 → Goes scene (after_birth config scene turn) 1 1
-  unfolding after_birth
+  goes_birth : (size : ℕ) (start : People) (scene : Scene) (turn : Delivery × Placing) → IsDelivery config size start turn.0 → Goes scene (with_newborn config scene turn) 1 1
+  unfolding with_newborn
   goes_birth size start scene turn is = goes_newcomer scene (birth_link (next_id scene) scene.update turn.0 turn.1.cell) (child_of_birth config turn.0 turn.1) (sound_newborn size start turn.0 turn.1 is)
 
-  pub goes_births : (size : ℕ) (start : People) (scene : Scene) (births : List Delivery) (placings : List Placing) → AllByRecursion (IsDelivery config size start) births → Goes scene (fold (after_birth config) scene (zip births placings)) (length births) (length births)
+  pub goes_births : (size : ℕ) (start : People) (scene : Scene) (births : List Delivery) (placings : List Placing) → AllByRecursion (IsDelivery config size start) births → Goes scene (fold (with_newborn config) scene (zip births placings)) (length births) (length births)
   goes_births size start scene [] placings are = goes_nowhere scene
   goes_births size start scene (b ∷ births) [] are = goes_more 0 (length (b ∷ births)) 0 (length (b ∷ births)) (goes_nowhere scene) (omega arith) (omega arith)
   goes_births size start scene (b ∷ births) (p ∷ placings) are =
-      goes_more (1 + length births) (length (b ∷ births)) (1 + length births) (length (b ∷ births)) (goes_on (goes_birth size start scene (b, p) are.0) (goes_births size start (after_birth config scene (b, p)) births placings are.1)) (omega arith) (omega arith)
+      goes_more (1 + length births) (length (b ∷ births)) (1 + length births) (length (b ∷ births)) (goes_on (goes_birth size start scene (b, p) are.0) (goes_births size start (with_newborn config scene (b, p)) births placings are.1)) (omega arith) (omega arith)
 
   pub sound_founder : (cell nth : ℕ) (letters : List Letter) → config.least_length ≤ length letters → length letters ≤ config.greatest_length → IsSoundOrganism (founder_of config cell nth letters)
   unfolding founder_of

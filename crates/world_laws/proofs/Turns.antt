@@ -15,7 +15,7 @@ use Rattle.world_config.specs.Events.{EventValue, WhatValue, inject, clear, rate
 use Rattle.world_config.specs.Values.{ConfigValues}
 use Rattle.world_rules.specs.World.{Link, founder_of, founder_link}
 use Rattle.world_rules.specs.Scene.{Scene, next_id, standing_at, with_death, with_deaths, cells_from}
-use Rattle.world_rules.specs.Update.{Delivery, birth_link, child_of_birth, after_birth, after_what, after_event}
+use Rattle.world_rules.specs.Update.{Delivery, birth_link, child_of_birth, with_newborn, after_what, after_event}
 use Rattle.world_rules.specs.LogText.{death_lines, birth_line, cleared_line, what_lines, lines_of_event}
 use Rattle.world_laws.proofs.Mirror.{People, Passes, no_lines, more_lines}
 use Rattle.world_laws.proofs.Scenes.{IsScene, no_death, scene_death, scene_newcomer}
@@ -107,35 +107,35 @@ abbrev pub link_of : Scene → Delivery × Placing → Link
 link_of scene turn = birth_link (next_id scene) scene.update turn.0 turn.1.cell
 
 -- a birth keeps a scene
-pub scene_birth : (size : ℕ) (start : People) (config : ConfigValues) (scene : Scene) (turn : Delivery × Placing) → IsScene size start scene → IsScene size start (after_birth config scene turn)
-unfolding after_birth new_organism
+pub scene_birth : (size : ℕ) (start : People) (config : ConfigValues) (scene : Scene) (turn : Delivery × Placing) → IsScene size start scene → IsScene size start (with_newborn config scene turn)
+unfolding with_newborn new_organism
 scene_birth size start config scene turn is = scene_newcomer size start scene is (link_of scene turn) (child_of_birth config turn.0 turn.1) refl refl
 
-pub scene_births : (size : ℕ) (start : People) (config : ConfigValues) (scene : Scene) (turns : List (Delivery × Placing)) → IsScene size start scene → IsScene size start (fold (after_birth config) scene turns)
+pub scene_births : (size : ℕ) (start : People) (config : ConfigValues) (scene : Scene) (turns : List (Delivery × Placing)) → IsScene size start scene → IsScene size start (fold (with_newborn config) scene turns)
 scene_births size start config scene [] is = is
-scene_births size start config scene (turn ∷ turns) is = scene_births size start config (after_birth config scene turn) turns (scene_birth size start config scene turn is)
+scene_births size start config scene (turn ∷ turns) is = scene_births size start config (with_newborn config scene turn) turns (scene_birth size start config scene turn is)
 
 -- the line of a birth
 pub turn_passes : (size : ℕ) (start : People) (stage : Stage) (births : ℕ) (config : ConfigValues) (scene : Scene) (turn : Delivery × Placing) → IsScene size start scene → IsTurn size start turn → may_be_born stage ≡ true
-    → Passes start stage births scene (birth_line scene turn ∷ []) Placed (births + 1) (after_birth config scene turn)
-unfolding after_birth
+    → Passes start stage births scene (birth_line scene turn ∷ []) Placed (births + 1) (with_newborn config scene turn)
+unfolding with_newborn
 turn_passes size start stage births config scene turn is lawful may =
     one_birth start stage births scene (link_of scene turn) (child_of_birth config turn.0 turn.1) turn.0.parent turn.0.newborn.origin lawful.letters
     may is.grown (omega (arith, lawful.within, is.sized)) refl lawful.lived (is.agree turn.0.parent lawful.letters lawful.lived) lawful.made
 
 -- the births
 pub all_births : (size : ℕ) (start : People) (stage : Stage) (births : ℕ) (config : ConfigValues) (scene : Scene) (turns : List (Delivery × Placing)) → IsScene size start scene → AllByRecursion (IsTurn size start) turns → may_be_born stage ≡ true
-    → ToBirths start stage births scene (scan (after_birth config) birth_line scene turns) (births + length turns) (fold (after_birth config) scene turns)
+    → ToBirths start stage births scene (scan (with_newborn config) birth_line scene turns) (births + length turns) (fold (with_newborn config) scene turns)
 all_births size start stage births config scene [] is lawful may =
     let e : births ≡ births + 0 = omega arith in
     record { later = stage; may = may; passes = subst (λ n. Passes start stage births scene [] stage n scene) e (no_lines _ _) }
 all_births size start stage births config scene (turn ∷ turns) is lawful may =
-    let next = after_birth config scene turn in
+    let next = with_newborn config scene turn in
     let first = turn_passes size start stage births config scene turn is lawful.0 may in
     let rest = all_births size start Placed (births + 1) config next turns (scene_birth size start config scene turn is) lawful.1 refl in
     let e : births + 1 + length turns ≡ births + length (turn ∷ turns) = omega arith in
-    let all = more_lines (birth_line scene turn ∷ []) (scan (after_birth config) birth_line next turns) first rest.passes in
-    record { later = rest.later; may = rest.may; passes = subst (λ n. Passes start stage births scene (birth_line scene turn ∷ scan (after_birth config) birth_line next turns) rest.later n (fold (after_birth config) next turns)) e all }
+    let all = more_lines (birth_line scene turn ∷ []) (scan (with_newborn config) birth_line next turns) first rest.passes in
+    record { later = rest.later; may = rest.may; passes = subst (λ n. Passes start stage births scene (birth_line scene turn ∷ scan (with_newborn config) birth_line next turns) rest.later n (fold (with_newborn config) next turns)) e all }
 
 -- an injected organism's cell is in the world
 abbrev pub IsWhat : ℕ → WhatValue → Type 0

@@ -18,7 +18,7 @@ use Rattle.world_rules.specs.World.{Occupant, Link, World, id_of, ids_of}
 use Rattle.world_rules.specs.Lives.{CellLife}
 use Rattle.world_rules.specs.Scene.{Scene}
 use Rattle.world_rules.specs.Statistics.{scene_stats, stats_in}
-use Rattle.world_rules.specs.Update.{after_lives, deaths_of, after_burials, births_of, turns_of, after_birth, after_births, events_at, after_events, last_scene}
+use Rattle.world_rules.specs.Update.{after_lives, deaths_of, after_burials, births_of, turns_of, with_newborn, after_births, events_at, after_events, last_scene}
 use Rattle.world_rules.specs.LogText.{death_lines, birth_lines, event_lines, lines_of_lives}
 use Rattle.world_laws.proofs.ListLemmas.{get_written, get_elsewhere, get_left, get_right, get_dropped, eqb_same}
 use Rattle.world_laws.proofs.Mirror.{People, written, people_in, genomes_of, mirror, between, seen_in, Tells, one_line, more_lines}
@@ -182,7 +182,7 @@ module _ (size : ℕ) (start : People) (config : ConfigValues) (scene : Scene) (
       let buried = after_burials scene lives in
       let list = turns_of config buried (births_of lives) in
       let e : 0 + length list ≡ length (births_of lives) = omega (arith, turns.number) in
-      subst (λ n. ToBirths start stage 0 buried (birth_lines config buried (births_of lives)) n (fold (after_birth config) buried list)) e (all_births size start stage 0 config buried list scene_buried turns.lawful may)
+      subst (λ n. ToBirths start stage 0 buried (birth_lines config buried (births_of lives)) n (fold (with_newborn config) buried list)) e (all_births size start stage 0 config buried list scene_buried turns.lawful may)
 
   events_tell : (stage : Stage) (births : ℕ) → ((update : ℕ) → AllByRecursion (IsEvent size) (events_at config update)) → ToEvents start stage births (after_births config (after_burials scene lives) (births_of lives)) (event_lines config (after_births config (after_burials scene lives) (births_of lives))) (last_scene config scene lives)
   unfolding last_scene after_events

@@ -14,7 +14,7 @@ use Rattle.organism.specs.Lived.{IsSoundOrganism}
 use Rattle.world_config.specs.Values.{ConfigValues}
 use Rattle.world_rules.specs.World.{Occupant, Link, id_of, ids_of, founder_of, founder_link, empty_cells, first_occupant, first_world}
 use Rattle.world_rules.specs.Update.{next_scene}
-use Rattle.world_rules.specs.WorldRun.{world_after, resident_of, living_in}
+use Rattle.world_rules.specs.WorldRun.{world_after, resident_of, residents_of_world}
 use Rattle.world_rules.specs.LogText.{update_lines, head_line}
 use Rattle.world_laws.proofs.ListLemmas.{map-replicate, eqb_same}
 use Rattle.world_laws.proofs.Mirror.{People, written, genomes_of, between, seen_in, Tells, one_line, more_lines, no_lines}
@@ -165,7 +165,7 @@ module _ (laws : LifeLaws) (config : ConfigValues) (fit : IsConfig config) where
   run_whole n = let told = (run_tells n).told in rw told tt
 
   -- they replay to who lives
-  pub run_replays : (n : ℕ) → replay_of (run_lines config n) ≡ living_in (world_after config n)
+  pub run_replays : (n : ℕ) → replay_of (run_lines config n) ≡ residents_of_world (world_after config n)
   unfolding replay_of
   run_replays n =
       ap (λ (s : Seen). residents_from 0 s.standing s.genomes) (run_tells n).seen

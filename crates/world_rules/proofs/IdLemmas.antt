@@ -13,7 +13,7 @@ use Rattle.world_config.specs.Values.{ConfigValues}
 use Rattle.world_rules.specs.World.{Occupant, Link, World, id_of, founder_of, founder_link, first_world}
 use Rattle.world_rules.specs.Lives.{CellLife, life_of, life_at, slice_at, lives_of}
 use Rattle.world_rules.specs.Scene.{Scene, next_id, with_death, cells_from, with_newcomer}
-use Rattle.world_rules.specs.Update.{Delivery, delivery_of, births_by, births_in, births_of, deaths_of, after_lives, after_burials, placings_of, birth_link, child_of_birth, after_birth, turns_of, after_births, after_what, after_event, events_at, after_events, last_scene, scene_of_lives, lives_after, next_scene, next_world, world_of}
+use Rattle.world_rules.specs.Update.{Delivery, delivery_of, births_by, births_in, births_of, deaths_of, after_lives, after_burials, placings_of, birth_link, child_of_birth, with_newborn, turns_of, after_births, after_what, after_event, events_at, after_events, last_scene, scene_of_lives, lives_after, next_scene, next_world, world_of}
 use Rattle.world_rules.specs.WorldRun.{world_after}
 use Rattle.world_rules.specs.Descent.{IsBelow, IsNumbered, AreNumbered, AreAmong, IsNumberedWorld}
 
@@ -71,25 +71,25 @@ numbered_newcomer scene link organism is new =
           (All-weaker (λ slot. IsBelow few (id_of slot)) (λ slot. IsBelow many (id_of slot)) (λ slot. below_more few many (id_of slot) low) scene.cells is.standing);
     }
 
-numbered_birth : (config : ConfigValues) (scene : Scene) (turn : Delivery × Placing) → turn.0.parent < length scene.everyone → IsNumberedScene scene → IsNumberedScene (after_birth config scene turn)
-unfolding after_birth
+numbered_birth : (config : ConfigValues) (scene : Scene) (turn : Delivery × Placing) → turn.0.parent < length scene.everyone → IsNumberedScene scene → IsNumberedScene (with_newborn config scene turn)
+unfolding with_newborn
 numbered_birth config scene turn parent is =
     numbered_newcomer scene (birth_link (next_id scene) scene.update turn.0 turn.1.cell) (child_of_birth config turn.0 turn.1) is (record { id = refl; parent = parent })
 
-birth_grows : (config : ConfigValues) (scene : Scene) (turn : Delivery × Placing) → length (after_birth config scene turn).everyone ≡ length scene.everyone + 1
-unfolding after_birth with_newcomer
+birth_grows : (config : ConfigValues) (scene : Scene) (turn : Delivery × Placing) → length (with_newborn config scene turn).everyone ≡ length scene.everyone + 1
+unfolding with_newborn with_newcomer
 birth_grows config scene turn = length-append scene.everyone (birth_link (next_id scene) scene.update turn.0 turn.1.cell ∷ [])
 
 -- the parent is one of so many
 abbrev IsOf : ℕ → Delivery → Type 0
 IsOf count b = b.parent < count
 
-numbered_births : (config : ConfigValues) (count : ℕ) (scene : Scene) (births : List Delivery) (placings : List Placing) → count ≤ length scene.everyone → AllByRecursion (IsOf count) births → IsNumberedScene scene → IsNumberedScene (fold (after_birth config) scene (zip births placings))
+numbered_births : (config : ConfigValues) (count : ℕ) (scene : Scene) (births : List Delivery) (placings : List Placing) → count ≤ length scene.everyone → AllByRecursion (IsOf count) births → IsNumberedScene scene → IsNumberedScene (fold (with_newborn config) scene (zip births placings))
 numbered_births config count scene [] placings few of is = is
 numbered_births config count scene (b ∷ births) [] few of is = is
 numbered_births config count scene (b ∷ births) (p ∷ placings) few of is =
     let parent : b.parent < length scene.everyone = omega (arith, few, of.0) in
-    numbered_births config count (after_birth config scene (b, p)) births placings (omega (arith, few, birth_grows config scene (b, p))) of.1 (numbered_birth config scene (b, p) parent is)
+    numbered_births config count (with_newborn config scene (b, p)) births placings (omega (arith, few, birth_grows config scene (b, p))) of.1 (numbered_birth config scene (b, p) parent is)
 
 numbered_what : (config : ConfigValues) (scene : Scene) (nth : ℕ) (what : WhatValue) → IsNumberedScene scene → IsNumberedScene (after_what config scene nth what)
 numbered_what config scene nth (inject cell letters) is =
@@ -152,7 +152,7 @@ numbered_last config scene lives among is =
     let dead = fold with_death scene (deaths_of lives) in
     let births = births_of lives in
     let same : length dead.everyone ≡ length scene.everyone = ap length (deaths_keep scene (deaths_of lives)) in
-    let born = fold (after_birth config) dead (turns_of config dead births) in
+    let born = fold (with_newborn config) dead (turns_of config dead births) in
     numbered_events config born (events_at config born.update)
     (numbered_births config (length scene.everyone) dead births (placings_of config dead births) (omega (arith, same)) (births_of_of (length scene.everyone) lives among)
     (numbered_deaths scene (deaths_of lives) is))

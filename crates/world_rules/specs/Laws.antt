@@ -5,10 +5,10 @@ use Rattle.lineage_log.specs.Replay.{replay_of}
 use Rattle.log_lines.specs.Line.{Line}
 use Rattle.world_config.specs.Values.{ConfigValues}
 use Rattle.world_rules.specs.LogText.{log_text}
-use Rattle.world_rules.specs.WorldRun.{world_after, living_in}
+use Rattle.world_rules.specs.WorldRun.{world_after, residents_of_world}
 
 -- the log of a run is a good one, and replays to who lives at its end
 pub record ReplaysToLiving (config : ConfigValues) (updates : ℕ) : Type 0 where
   pub lines : List Line
   pub good : Reads (log_text config updates) lines
-  pub replays : replay_of lines ≡ living_in (world_after config updates)
+  pub replays : replay_of lines ≡ residents_of_world (world_after config updates)

@@ -12,7 +12,7 @@ use Rattle.world_rules.specs.World.{World}
 use Rattle.world_rules.specs.Lives.{CellLife}
 use Rattle.world_rules.specs.Scene.{Scene, next_id, standing_at, with_death, cells_from}
 use Rattle.world_rules.specs.Statistics.{scene_stats}
-use Rattle.world_rules.specs.Update.{Delivery, after_lives, deaths_of, after_burials, births_of, after_birth, turns_of, after_births, events_at, after_event, last_scene, lives_after}
+use Rattle.world_rules.specs.Update.{Delivery, after_lives, deaths_of, after_burials, births_of, with_newborn, turns_of, after_births, events_at, after_event, last_scene, lives_after}
 use Rattle.world_rules.specs.WorldRun.{world_after}
 
 -- the line of a death of age, where somebody stands in the cell
@@ -29,7 +29,7 @@ birth_line scene turn = Birth (next_id scene) turn.0.parent scene.update turn.1.
 
 -- the lines of births, each by the scene before it
 abbrev pub birth_lines : ConfigValues → Scene → List Delivery → List Line
-birth_lines config scene births = scan (after_birth config) birth_line scene (turns_of config scene births)
+birth_lines config scene births = scan (with_newborn config) birth_line scene (turns_of config scene births)
 
 -- the line of who is cleared from a cell, where somebody is
 abbrev pub cleared_line : Scene → ℕ → Option Line

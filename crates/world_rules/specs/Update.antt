@@ -70,8 +70,8 @@ child_of_birth config b placing =
     new_organism b.newborn.genome placing.inputs b.newborn.merit b.newborn.credited config.memory_limit
 
 -- a newborn stands in the cell of its placing, with the next id
-unfoldable pub after_birth : ConfigValues → Scene → Delivery × Placing → Scene
-after_birth config scene turn =
+unfoldable pub with_newborn : ConfigValues → Scene → Delivery × Placing → Scene
+with_newborn config scene turn =
     with_newcomer scene (birth_link (next_id scene) scene.update turn.0 turn.1.cell) (child_of_birth config turn.0 turn.1)
 
 -- the newborns with their placings
@@ -80,7 +80,7 @@ turns_of config scene births = zip births (placings_of config scene births)
 
 -- once these newborns are placed, one after another
 unfoldable pub after_births : ConfigValues → Scene → List Delivery → Scene
-after_births config scene births = fold (after_birth config) scene (turns_of config scene births)
+after_births config scene births = fold (with_newborn config) scene (turns_of config scene births)
 
 -- the events of an update, each with its place in the list, from 1
 unfoldable pub events_at : ConfigValues → ℕ → List (ℕ × EventValue)

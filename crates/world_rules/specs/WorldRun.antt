@@ -20,5 +20,5 @@ abbrev pub residents_in : List (Option Occupant) → List Resident
 residents_in cells = filter_map (λ place. option_map (resident_of place.0) place.1) (enumerate_from 0 cells)
 
 -- cell, id and genome of each occupied cell, in the order of the cells
-abbrev pub living_in : World → List Resident
-living_in w = residents_in w.cells
+abbrev pub residents_of_world : World → List Resident
+residents_of_world w = residents_in w.cells

@@ -10,7 +10,7 @@ ghost use Rattle.world_rules.specs.World.{first_world};
 ghost use Rattle.world_rules.specs.Settings.{rates_at};
 ghost use Rattle.world_rules.specs.Lives.{slices_at};
 ghost use Rattle.world_rules.specs.LogText.{lines_of_lives, update_lines, log_text};
-ghost use Rattle.world_rules.specs.WorldRun.{world_after, living_in};
+ghost use Rattle.world_rules.specs.WorldRun.{world_after, residents_of_world};
 ghost use Rattle.world_rules.specs.Picture.{picture_of, picture_text};
 ghost use Rattle.world_rules.specs.TinyWorlds.{tiny, once, eight, ended, barren, unchanged, fertile, after_fertile, counts};
 
@@ -31,7 +31,7 @@ pub fn the_founder_gets_all_steps()
     ensures { slices_at (tiny []) (first_world (tiny [])).cells ≡ 8 ∷ [] }
 {}
 
-#[tactic(auto, unfolding(crate::specs::LogText::lines_of_lives, crate::specs::Update::last_scene, crate::specs::Update::deaths_of, crate::specs::Update::after_burials, crate::specs::Update::births_of, crate::specs::Update::placings_of, crate::specs::Update::after_births, crate::specs::Update::after_birth, crate::specs::Update::events_at, crate::specs::Update::after_event, crate::specs::Update::after_events, crate::specs::Scene::with_death, crate::specs::Scene::with_newcomer, crate::specs::Statistics::stats_in, crate::specs::World::founder_of, organism::specs::OrganismState::new_organism, birth_board::specs::Placement::placements_of))]
+#[tactic(auto, unfolding(crate::specs::LogText::lines_of_lives, crate::specs::Update::last_scene, crate::specs::Update::deaths_of, crate::specs::Update::after_burials, crate::specs::Update::births_of, crate::specs::Update::placings_of, crate::specs::Update::after_births, crate::specs::Update::with_newborn, crate::specs::Update::events_at, crate::specs::Update::after_event, crate::specs::Update::after_events, crate::specs::Scene::with_death, crate::specs::Scene::with_newcomer, crate::specs::Statistics::stats_in, crate::specs::World::founder_of, organism::specs::OrganismState::new_organism, birth_board::specs::Placement::placements_of))]
 pub fn an_update_tells_its_events()
     ensures inject { (o : OrganismState) → lines_of_lives (tiny (once (inject 0 (eight NopB)))) (ended 1 o false) (barren o false)
         ≡ Injected 1 1 0 (Some 0) (eight NopB) ∷ counts 1 1 0 1 1 8 ∷ [] }
@@ -61,7 +61,7 @@ pub fn an_organism_dies_with_the_step_of_its_age_limit()
 #[tactic(auto, unfolding(crate::specs::WorldRun::world_after, crate::specs::Update::next_world, crate::specs::Update::next_scene, crate::specs::Update::scene_of_lives, crate::specs::LogText::update_lines, crate::specs::LogText::lines_of_lives, crate::specs::Lives::lives_of, crate::specs::Lives::life_of, crate::specs::Lives::slices_at, crate::specs::Settings::settings_at, crate::specs::Settings::rates_at, crate::specs::Update::last_scene, crate::specs::Update::deaths_of, crate::specs::Update::after_burials, crate::specs::Update::births_of, crate::specs::Update::placings_of, crate::specs::Update::after_births, crate::specs::Update::events_at, crate::specs::Update::after_event, crate::specs::Update::after_events, crate::specs::Scene::with_death, crate::specs::Statistics::stats_in, crate::specs::World::first_world, crate::specs::World::founder_of, organism::specs::OrganismState::new_organism, organism::specs::UpdateLife::life, organism::specs::UpdateLife::death_in, organism::specs::UpdateLife::state_after, organism::specs::UpdateLife::after_step, organism::specs::Life::life_step, virtual_cpu::specs::Step::step, merit_slices::specs::Slices::slices_of))]
 pub fn an_empty_world_goes_on()
     ensures lines { update_lines (tiny []) (world_after (tiny []) 1) ≡ counts 2 0 0 0 0 0 ∷ [] }
-    ensures nobody { living_in (world_after (tiny []) 1) ≡ [] }
+    ensures nobody { residents_of_world (world_after (tiny []) 1) ≡ [] }
 {}
 
 /// The first takes the cell of the dead parent, and the second that of the first.

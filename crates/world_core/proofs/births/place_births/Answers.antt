@@ -13,7 +13,7 @@ use Rattle.lineage_log.specs.LogGrammar.{lines_text}
 use Rattle.log_lines.specs.LineText.{line_text}
 use Rattle.world_config.specs.Shown.{values_of}
 use Rattle.world_rules.specs.LogText.{birth_line}
-use Rattle.world_rules.specs.Update.{Delivery, placings_of, after_birth, after_births, turns_of}
+use Rattle.world_rules.specs.Update.{Delivery, placings_of, with_newborn, after_births, turns_of}
 use Rattle.world_core.proofs.ScanLemmas.{lines-step}
 use Rattle.world_core.proofs.births.place_births.Goals as goal
 
@@ -37,8 +37,8 @@ loop-birth-preserved c =
     let here = YieldsList-turn road so_far c.loop-birth.birth-iterator c.loop-birth.yielded_by c.next.result c.next.new.self turn c.in-Some.is c.next.ensures.steps in
     let long : length (so_far ++ turn ∷ []) ≡ n + 1 = length_push so_far turn in
     record {
-      scene = rw long (told.scene ∙ ap (λ s. after_birth config s turn) before.scene ∙ ap (after_birth config (fold (after_birth config) first (take n turns))) here.1 ∙ sym (fold_more (after_birth config) first turns n turn here.0));
-      text = rw long (lines-step (after_birth config) birth_line line_text first c.loop-birth.scene turns n turn c.args.text.now.items c.loop-birth.text.items c.settle.new.text.items here.0 before.scene before.text (told.text ∙ ap (λ (t : Delivery × Placing). c.loop-birth.text.items ++ line_text (birth_line c.loop-birth.scene t)) here.1));
+      scene = rw long (told.scene ∙ ap (λ s. with_newborn config s turn) before.scene ∙ ap (with_newborn config (fold (with_newborn config) first (take n turns))) here.1 ∙ sym (fold_more (with_newborn config) first turns n turn here.0));
+      text = rw long (lines-step (with_newborn config) birth_line line_text first c.loop-birth.scene turns n turn c.args.text.now.items c.loop-birth.text.items c.settle.new.text.items here.0 before.scene before.text (told.text ∙ ap (λ (t : Delivery × Placing). c.loop-birth.text.items ++ line_text (birth_line c.loop-birth.scene t)) here.1));
       size = told.size ∙ before.size;
       everyone = omega (arith, long);
     }
@@ -61,8 +61,8 @@ returns c =
     let all : take (length so_far) turns ≡ turns = take_all (length so_far) turns (omega (arith, whole.1)) in
     let many = length-zip births placings in
     record {
-      scene = c.loop-birth.invariant.scene ∙ ap (fold (after_birth config) first) all;
-      text = c.loop-birth.invariant.text ∙ ap (λ (done : List (Delivery × Placing)). c.args.text.now.items ++ lines_text (scan (after_birth config) birth_line first done)) all;
+      scene = c.loop-birth.invariant.scene ∙ ap (fold (with_newborn config) first) all;
+      text = c.loop-birth.invariant.text ∙ ap (λ (done : List (Delivery × Placing)). c.args.text.now.items ++ lines_text (scan (with_newborn config) birth_line first done)) all;
       size = c.loop-birth.invariant.size;
       everyone = omega (arith, whole.1, many, c.in_ok-placings.ensures.count, ap length found, ap length c.into_vec.ensures, ap length c.deref.ensures.value);
     }
