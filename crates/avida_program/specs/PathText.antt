@@ -4,9 +4,9 @@ use Rattle.instruction_set.specs.Letter.{byte_of}
 use Rattle.log_lines.specs.Kinds.{base_field, changes_field}
 use Rattle.log_lines.specs.LineText.{words_text}
 use Rattle.mutations.specs.BirthRecord.{BirthRecord}
+use Rattle.lineage_log.specs.Links.{Link}
 use Rattle.world_config.specs.Values.{ConfigValues}
 use Rattle.world_rules.specs.Descent.{line_in}
-use Rattle.world_rules.specs.World.{Link}
 use Rattle.world_rules.specs.WorldRun.{world_after}
 use Rattle.avida_program.specs.TraceText.{spaced}
 

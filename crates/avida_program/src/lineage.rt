@@ -1,10 +1,10 @@
 // The command `lineage`.
-ghost use Rattle.std.specs.Prelude.{◌≡◌, ◌≢◌, ◌≤◌, ◌<◌, ◌*◌, ◌++◌, ℕ, List, Some, IfOk, IfErr, OnOk, flat_map, map, option_map};
+ghost use Rattle.std.specs.Prelude.{◌≡◌, ◌≢◌, ◌≤◌, ◌<◌, ◌*◌, ◌++◌, ℕ, List, Some, IfOk, IfErr, OnOk, flat_map, option_map};
 ghost use Rattle.mutations.specs.BirthRecord.{record_of};
 ghost use Rattle.world_config.specs.Shown.{values_of};
 ghost use Rattle.world_core.specs.WorldValue.{world_in};
 ghost use Rattle.world_core.specs.declared.world.TheConstants.{MOST_WORKERS};
-ghost use Rattle.world_rules.specs.Descent.{line_in, link_value};
+ghost use Rattle.world_rules.specs.Descent.{line_in};
 ghost use Rattle.avida_program.specs.Commands.{GainedText, Stays, change, final_world};
 ghost use Rattle.avida_program.specs.Outcomes.{Descends, HasCauses, StopsWithin, WritesText};
 ghost use Rattle.avida_program.specs.PathText.{origin_text, parent_text, path_line, path_lines, path_text, place_text};
@@ -60,8 +60,7 @@ fn add_origin(text: &mut Vec<u8>, origin: &Option<Origin>) -> Result<(), Memory>
 }
 
 fn add_place(text: &mut Vec<u8>, link: &Link) -> Result<(), Memory>
-    ensures { OnOk result (text.new.items
-        ≡ text.old.items ++ place_text (link_value link.now)) }
+    ensures { OnOk result (text.new.items ≡ text.old.items ++ place_text link.now) }
 {
     text.push(b'P')?;
     add_number(text, link.id)?;
@@ -72,7 +71,7 @@ fn add_place(text: &mut Vec<u8>, link: &Link) -> Result<(), Memory>
 
 /// Appends the line of one of a line of descent.
 fn add_link(text: &mut Vec<u8>, link: &Link) -> Result<(), Memory>
-    ensures { OnOk result (text.new.items ≡ text.old.items ++ path_line (link_value link.now)) }
+    ensures { OnOk result (text.new.items ≡ text.old.items ++ path_line link.now) }
 {
     add_place(text, link)?;
     add_origin(text, &link.origin)?;
@@ -83,7 +82,7 @@ fn add_link(text: &mut Vec<u8>, link: &Link) -> Result<(), Memory>
 }
 
 fn write_links<O: Sink>(alloc: Global, links: &[Link], out: &mut O) -> Outcome
-    ensures { WritesText (flat_map path_line (map link_value links.now))
+    ensures { WritesText (flat_map path_line links.now)
         (change (O.seen out.old) (O.seen out.new)) result }
 {
     let mut piece = Piece::new();
@@ -101,7 +100,7 @@ fn write_links<O: Sink>(alloc: Global, links: &[Link], out: &mut O) -> Outcome
 }
 
 fn write_path<O: Sink>(alloc: Global, path: Option<Path>, out: &mut O) -> Outcome
-    ensures { WritesText (path_lines (option_map (λ p. map link_value p) path))
+    ensures { WritesText (path_lines path)
         (change (O.seen out.old) (O.seen out.new)) result }
 {
     match path {

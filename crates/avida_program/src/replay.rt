@@ -1,7 +1,6 @@
 // The command `replay`.
-ghost use Rattle.std.specs.Prelude.{◌≡◌, ◌≢◌, ◌+◌, ◌++◌, ◌≤◌, ℕ, List, Some, flat_map, map, codes, decimal};
+ghost use Rattle.std.specs.Prelude.{◌≡◌, ◌≢◌, ◌+◌, ◌++◌, ◌≤◌, ℕ, List, Some, flat_map, codes, decimal};
 ghost use Rattle.arrayvec.specs.ArrayVec.{array_vec_len};
-ghost use Rattle.lineage_log.specs.Residents.{resident_of};
 ghost use Rattle.avida_program.specs.Commands.{change, replay_text, resident_line};
 ghost use Rattle.avida_program.specs.Input.{log_input_of};
 ghost use Rattle.avida_program.specs.Outcomes.{HasCauses, ReadsInput, WritesText};
@@ -31,7 +30,7 @@ fn push_place(piece: &mut Piece, living: &Living)
 
 fn write_living<O: Sink>(piece: &mut Piece, living: &Living, out: &mut O) -> Result<(), SinkStop>
     ensures { Writes (O.seen out.old) (O.seen out.new) piece.old.items piece.new.items
-        (resident_line (resident_of living.now)) result }
+        (resident_line living.now) result }
 {
     make_room(piece, LINE_ROOM, out)?;
     push_place(piece, living);
@@ -40,7 +39,7 @@ fn write_living<O: Sink>(piece: &mut Piece, living: &Living, out: &mut O) -> Res
 }
 
 fn write_livings<O: Sink>(livings: &[Living], out: &mut O) -> Outcome
-    ensures { WritesText (flat_map resident_line (map resident_of livings.now))
+    ensures { WritesText (flat_map resident_line livings.now)
         (change (O.seen out.old) (O.seen out.new)) result }
 {
     let mut piece = Piece::new();

@@ -9,7 +9,6 @@ use Rattle.instruction_set.specs.declared.letter.Letter.{Letter}
 use Rattle.mutations.specs.BirthRecord.{BirthRecord, child_of}
 use Rattle.mutations.specs.declared.stop.ApplyStop.{ApplyStop}
 use Rattle.log_lines.specs.Line.{Line, Start, Death, Birth, Injected, Cleared, Rate, Count, End}
-use Rattle.lineage_log.specs.declared.living.Living.{Living}
 use Rattle.lineage_log.specs.declared.reason.Reason.{Reason}
 use Rattle.lineage_log.specs.declared.reason.Reason.TheVariants.{BadOrder}
 use Rattle.lineage_log.specs.declared.stage.Stage.{Stage}
@@ -19,7 +18,7 @@ use Rattle.lineage_log.specs.Reader.{Reader, may_die, may_be_born, is_quiet, par
 use Rattle.lineage_log.specs.Order.{Place, Before, Within, After, within_if, opened, renewed, may_happen, with_child, with_parent, told_start, told_death, told_birth, told_injected, told_cleared, told_rate, told_count, told_end, told_within, told_all}
 use Rattle.lineage_log.specs.LogGrammar.{IsGoodLog}
 use Rattle.lineage_log.specs.Replay.{Seen, born_in, seen_on, seen_all, Resident, resident_at, residents_from, replay_of}
-use Rattle.lineage_log.specs.Residents.{EachIsKept, kept_genomes, resident_of}
+use Rattle.lineage_log.specs.Residents.{EachIsKept, kept_genomes}
 use Rattle.lineage_log.proofs.LogLaws.{went_on, place_is}
 use Rattle.lineage_log.proofs.StandingLemmas.{get_written, get_pushed, get_before, get_last, length_pushed, empty, none_there, length_replicate, People, length_without, kept_before, IsTidy, tidy_death, tidy_newcomer, tidy_renewed}
 
@@ -284,12 +283,11 @@ cell_more slots genomes cell slot is =
     ∙ resident_front cell slot genomes (residents_from (cell + 1) (drop (cell + 1) slots) genomes)
 
 -- one cell more of a walk over the cells
-pub cell_walked : (items next : List Living) (slots : List (Option ℕ)) (genomes : List (List Letter)) (cell : ℕ) (slot : Option ℕ) (all : List Resident) → slice_get slots cell ≡ Some slot → map resident_of next ≡ map resident_of items ++ resident_at cell slot genomes [] → map resident_of items ++ residents_from cell (drop cell slots) genomes ≡ all → map resident_of next ++ residents_from (cell + 1) (drop (cell + 1) slots) genomes ≡ all
+pub cell_walked : (items next : List Resident) (slots : List (Option ℕ)) (genomes : List (List Letter)) (cell : ℕ) (slot : Option ℕ) (all : List Resident) → slice_get slots cell ≡ Some slot → next ≡ items ++ resident_at cell slot genomes [] → items ++ residents_from cell (drop cell slots) genomes ≡ all → next ++ residents_from (cell + 1) (drop (cell + 1) slots) genomes ≡ all
 cell_walked items next slots genomes cell slot all is more so_far =
-    let front = map resident_of items in
     let here = resident_at cell slot genomes [] in
     let rest = residents_from (cell + 1) (drop (cell + 1) slots) genomes in
     ap (λ (rs : List Resident). rs ++ rest) more
-    ∙ append_assoc front here rest
-    ∙ ap (λ (rs : List Resident). front ++ rs) (sym (cell_more slots genomes cell slot is))
+    ∙ append_assoc items here rest
+    ∙ ap (λ (rs : List Resident). items ++ rs) (sym (cell_more slots genomes cell slot is))
     ∙ so_far

@@ -14,3 +14,4 @@ pub mod LogValues
 pub mod Upgrade
 pub mod Replay
 pub mod Residents
+pub mod Links

@@ -1,4 +1,5 @@
 use genome::Genome;
+use std::marker::Model;
 
 /// Who lives in a cell at the end of a log.
 #[derive(Debug, Drop)]
@@ -6,4 +7,13 @@ pub struct Living {
     pub cell: u32,
     pub id: u64,
     pub genome: Genome,
+}
+
+impl Model for Living {
+    ghost use Rattle.genome.specs.Genome.{letters};
+    ghost use Rattle.lineage_log.specs.Replay.{Resident};
+
+    ghost Value = { Resident };
+
+    ghost view = { λ a. record { cell = a.cell; id = a.id; genome = letters a.genome } };
 }

@@ -12,9 +12,9 @@ pub struct Livings {
 
 impl Model for Livings {
     ghost use Rattle.std.specs.Prelude.{List};
-    ghost use Rattle.lineage_log.specs.declared.living.Living.{Living};
+    ghost use Rattle.lineage_log.specs.Replay.{Resident};
 
-    ghost Value = { List Living };
+    ghost Value = { List Resident };
 
     ghost view = { λ a. a.items.items };
 }

@@ -12,7 +12,7 @@ pub struct Path {
 
 impl Model for Path {
     ghost use Rattle.std.specs.Prelude.{List};
-    ghost use Rattle.lineage_log.specs.declared.link.Link.{Link};
+    ghost use Rattle.lineage_log.specs.Links.{Link};
 
     ghost Value = { List Link };
 

@@ -1,11 +1,11 @@
 // Who lives at the end of a log.
-ghost use Rattle.std.specs.Prelude.{◌≡◌, ◌≤◌, ◌∷◌, [], Some, Ok, IfOk, IsSome, length, map, option_and_then, slice_get};
+ghost use Rattle.std.specs.Prelude.{◌≡◌, ◌≤◌, ◌∷◌, [], Some, Ok, IfOk, IsSome, length, option_and_then, slice_get};
 ghost use Rattle.lineage_log.specs.LogGrammar.{IsGoodLog};
 ghost use Rattle.lineage_log.specs.LogValues.{lines_of};
 ghost use Rattle.lineage_log.specs.Order.{After, Before, told_all};
 ghost use Rattle.lineage_log.specs.Readings.{reader_of};
 ghost use Rattle.lineage_log.specs.Replay.{replay_of, resident_at, residents_from};
-ghost use Rattle.lineage_log.specs.Residents.{EachIsKept, kept_genomes, resident_of};
+ghost use Rattle.lineage_log.specs.Residents.{EachIsKept, kept_genomes};
 
 use crate::living::Living;
 use crate::livings::Livings;
@@ -19,7 +19,7 @@ use std::alloc::Global;
 
 /// The organisms that live at the end of a log, in order of cells.
 pub fn replay(alloc: Global, log: &Log) -> Result<Livings, Memory>
-    ensures { IfOk result (λ livings. map resident_of livings ≡ replay_of log.now) }
+    ensures { IfOk result (λ livings. livings ≡ replay_of log.now) }
 {
     let reader = reader_after(alloc, log.lines())?;
     living_in(alloc, &reader)
@@ -47,7 +47,7 @@ fn reader_after(alloc: Global, lines: &[LogLine]) -> Result<Reader, Memory>
 fn living_in(alloc: Global, reader: &Reader) -> Result<Livings, Memory>
     requires kept { EachIsKept reader.now.standing reader.now.people }
     requires few { length reader.now.standing ≤ 65536 }
-    ensures { IfOk result (λ livings. map resident_of livings
+    ensures { IfOk result (λ livings. livings
         ≡ residents_from 0 reader.now.standing (kept_genomes reader.now.people)) }
 {
     let mut livings = Vec::new(alloc);
@@ -62,7 +62,7 @@ fn living_in(alloc: Global, reader: &Reader) -> Result<Livings, Memory>
 /// Who stands in a cell, with a genome of its own.
 fn living_at(alloc: Global, reader: &Reader, cell: u32, id: u64) -> Result<Living, Memory>
     requires { IsSome (option_and_then (λ found. found) (slice_get reader.now.people id)) }
-    ensures { IfOk result (λ living. resident_of living ∷ []
+    ensures { IfOk result (λ living. living ∷ []
         ≡ resident_at cell (Some id) (kept_genomes reader.now.people) []) }
 {
     let genome = reader.people.get(id).unwrap().copy(alloc)?;

@@ -5,6 +5,7 @@ use Rattle.std.proofs.lemmas.Grind.{flat_map-append}
 use Rattle.std.proofs.lemmas.List.{length-map}
 use Rattle.std.proofs.lemmas.List.FromFn.{length-map-range_with_len}
 use Rattle.lineage_log.specs.LogGrammar.{lines_text}
+use Rattle.lineage_log.specs.Links.{Link}
 use Rattle.log_lines.specs.Line.{Line, Count}
 use Rattle.log_lines.specs.declared.stats.Stats.{Stats}
 use Rattle.log_lines.specs.LineText.{line_text}
@@ -12,7 +13,7 @@ use Rattle.organism.specs.OrganismState.{OrganismState}
 use Rattle.birth_board.specs.declared.placing.Placing.{Placing}
 use Rattle.world_config.specs.Events.{EventValue, WhatValue, inject, clear, rate}
 use Rattle.world_config.specs.Values.{ConfigValues}
-use Rattle.world_rules.specs.World.{Link, Occupant, World}
+use Rattle.world_rules.specs.World.{Occupant, World}
 use Rattle.world_rules.specs.Lives.{life_at, lives_of}
 use Rattle.world_rules.specs.Scene.{Scene, cells_from, with_death, with_deaths, with_newcomer}
 use Rattle.world_rules.specs.Statistics.{scene_stats}

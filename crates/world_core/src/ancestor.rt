@@ -1,6 +1,5 @@
 ghost use Rattle.std.specs.Prelude.{◌≡◌, IfOk, option_map};
 ghost use Rattle.mutations.specs.BirthRecord.{record_of};
-ghost use Rattle.world_rules.specs.Descent.{link_value};
 
 use avida_port::Memory;
 use genome::Genome;
@@ -23,7 +22,7 @@ pub(crate) struct Ancestor {
 }
 
 impl Model for Ancestor {
-    ghost use Rattle.world_rules.specs.World.{Link};
+    ghost use Rattle.lineage_log.specs.Links.{Link};
 
     ghost Value = { Link };
 
@@ -44,7 +43,7 @@ impl Model for Ancestor {
 impl Ancestor {
     /// Its link in a line of descent, with a record and a genome of its own.
     pub(crate) fn link(&self, alloc: Global) -> Result<Link, Memory>
-        ensures { IfOk result (λ link. link_value link ≡ self.now) }
+        ensures { IfOk result (λ link. link ≡ self.now) }
     {
         Ok(Link {
             id: self.id,

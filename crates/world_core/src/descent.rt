@@ -1,7 +1,7 @@
 // Lines of descent.
-ghost use Rattle.std.specs.Prelude.{◌≡◌, ◌<◌, IfOk, length, map, option_map, reverse};
+ghost use Rattle.std.specs.Prelude.{◌≡◌, ◌<◌, IfOk, length, reverse};
 ghost use Rattle.world_rules.specs.Update.{world_of};
-ghost use Rattle.world_rules.specs.Descent.{line_in, line_of, link_value, AreNumbered, IsNumberedWorld};
+ghost use Rattle.world_rules.specs.Descent.{line_in, line_of, AreNumbered, IsNumberedWorld};
 
 use crate::ancestor::Ancestor;
 use crate::scene::Scene;
@@ -15,8 +15,7 @@ use world_rules::laws::lines_come_from_parents;
 pub(crate) fn descent_in(alloc: Global, scene: &Scene, cell: u32) -> Result<Option<Path>, Memory>
     requires cell { cell < length scene.now.cells }
     requires numbered { IsNumberedWorld (world_of scene.now) }
-    ensures { IfOk result (λ path.
-        option_map (λ p. map link_value p) path ≡ line_in (world_of scene.now) cell) }
+    ensures { IfOk result (λ path. path ≡ line_in (world_of scene.now) cell) }
 {
     match scene.standing_at(cell) {
         Some(id) => Ok(Some(descent_of(alloc, &scene.everyone, id)?)),
@@ -28,7 +27,7 @@ pub(crate) fn descent_in(alloc: Global, scene: &Scene, cell: u32) -> Result<Opti
 fn descent_of(alloc: Global, everyone: &[Ancestor], id: u64) -> Result<Path, Memory>
     requires numbered { AreNumbered everyone.now }
     requires id { id < length everyone.now }
-    ensures { IfOk result (λ path. map link_value path ≡ line_of everyone.now id) }
+    ensures { IfOk result (λ path. path ≡ line_of everyone.now id) }
 {
     let mut links = links_back(alloc, everyone, id)?;
     links.reverse();
@@ -39,7 +38,7 @@ fn descent_of(alloc: Global, everyone: &[Ancestor], id: u64) -> Result<Path, Mem
 fn links_back(alloc: Global, everyone: &[Ancestor], id: u64) -> Result<Vec<Link>, Memory>
     requires numbered { AreNumbered everyone.now }
     requires id { id < length everyone.now }
-    ensures { IfOk result (λ links. map link_value links.items ≡ reverse (line_of everyone.now id)) }
+    ensures { IfOk result (λ links. links.items ≡ reverse (line_of everyone.now id)) }
 {
     lines_come_from_parents();
     let mut links = Vec::new(alloc);

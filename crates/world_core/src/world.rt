@@ -1,10 +1,10 @@
 // A world.
-ghost use Rattle.std.specs.Prelude.{◌≡◌, ◌+◌, ◌*◌, ◌<◌, ◌≤◌, IfOk, map, option_map};
+ghost use Rattle.std.specs.Prelude.{◌≡◌, ◌+◌, ◌*◌, ◌<◌, ◌≤◌, IfOk, option_map};
 ghost use Rattle.genome.specs.Genome.{letters};
 ghost use Rattle.log_lines.specs.Line as line_spec;
 ghost use Rattle.log_lines.specs.LineText.{line_text};
 ghost use Rattle.world_config.specs.Shown.{values_of};
-ghost use Rattle.world_rules.specs.Descent.{line_in, link_value};
+ghost use Rattle.world_rules.specs.Descent.{line_in};
 ghost use Rattle.world_rules.specs.LogText.{head_text, update_text, end_text};
 ghost use Rattle.world_rules.specs.Statistics.{stats_of};
 ghost use Rattle.world_core.specs.WorldValue.{WorldValue, world_in, genome_in};
@@ -144,8 +144,7 @@ impl World {
     /// The line of who stands in the cell, its founder first; `Ok(None)` exactly where it is empty.
     pub fn lineage(&self, alloc: Global, cell: u32) -> Result<Option<Path>, Memory>
         requires { cell < self.now.config.width * self.now.config.height }
-        ensures { IfOk result (λ path.
-            option_map (λ p. map link_value p) path ≡ line_in (world_in self.now) cell) }
+        ensures { IfOk result (λ path. path ≡ line_in (world_in self.now) cell) }
     {
         ids_are_places();
         descent_in(alloc, &self.scene, cell)

@@ -6,9 +6,10 @@ use Rattle.std.proofs.lemmas.Option.{slice_get-map}
 use Rattle.instruction_set.specs.declared.letter.Letter.{Letter}
 use Rattle.birth_board.specs.declared.placing.Placing.{Placing}
 use Rattle.mutations.specs.BirthRecord.{child_of}
+use Rattle.lineage_log.specs.Links.{Link}
 use Rattle.world_config.specs.Events.{EventValue, WhatValue, inject, clear, rate}
 use Rattle.world_config.specs.Values.{ConfigValues}
-use Rattle.world_rules.specs.World.{Link, World, founder_link, first_world}
+use Rattle.world_rules.specs.World.{World, founder_link, first_world}
 use Rattle.world_rules.specs.Scene.{Scene, next_id, with_death, with_deaths, cells_from, with_newcomer}
 use Rattle.world_rules.specs.Update.{Delivery, birth_link, with_newborn, after_what, after_event, after_burials, deaths_of, births_of, turns_of, after_births, events_at, after_events, last_scene, scene_of_lives, lives_after, next_scene, next_world}
 use Rattle.world_rules.specs.WorldRun.{world_after}

@@ -8,7 +8,8 @@ use Rattle.lineage_log.specs.declared.stage.Stage.TheVariants.{Quiet}
 use Rattle.lineage_log.specs.Order.{Place, Within, told, told_all, and_on}
 use Rattle.lineage_log.specs.Reader.{Reader}
 use Rattle.lineage_log.specs.Replay.{Seen, seen_on, seen_all}
-use Rattle.world_rules.specs.World.{Occupant, Link, ids_of}
+use Rattle.lineage_log.specs.Links.{Link}
+use Rattle.world_rules.specs.World.{Occupant, ids_of}
 use Rattle.world_rules.specs.Scene.{Scene}
 
 -- the genomes of those who lived when the update began, by id

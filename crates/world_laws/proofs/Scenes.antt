@@ -7,7 +7,8 @@ use Rattle.std.proofs.lemmas.Option.{slice_get_within}
 use Rattle.std.proofs.lemmas.Bool.{cases_eq}
 use Rattle.instruction_set.specs.declared.letter.Letter.{Letter}
 use Rattle.organism.specs.OrganismState.{OrganismState}
-use Rattle.world_rules.specs.World.{Occupant, Link, id_of, id_at}
+use Rattle.lineage_log.specs.Links.{Link}
+use Rattle.world_rules.specs.World.{Occupant, id_of, id_at}
 use Rattle.world_rules.specs.Scene.{Scene, standing_at, with_death, with_newcomer}
 use Rattle.world_laws.proofs.ListLemmas.{get_written, get_elsewhere, get_more, get_seam, get_last, set_nothing, got_some}
 use Rattle.world_laws.proofs.Mirror.{People, written, people_in, genomes_of}

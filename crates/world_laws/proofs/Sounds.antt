@@ -10,9 +10,10 @@ use Rattle.birth_board.specs.declared.placing.Placing.{Placing}
 use Rattle.organism.specs.OrganismState.{OrganismState}
 use Rattle.organism.specs.Lived.{IsSoundOrganism}
 use Rattle.logic_tasks.specs.TaskSet.{no_tasks}
+use Rattle.lineage_log.specs.Links.{Link}
 use Rattle.world_config.specs.Events.{EventValue, WhatValue, inject, clear, rate}
 use Rattle.world_config.specs.Values.{ConfigValues}
-use Rattle.world_rules.specs.World.{Occupant, Link, founder_of, founder_link}
+use Rattle.world_rules.specs.World.{Occupant, founder_of, founder_link}
 use Rattle.world_rules.specs.Settings.{rules_of}
 use Rattle.world_rules.specs.Scene.{Scene, next_id, standing_at, with_death, with_deaths, cells_from, with_newcomer}
 use Rattle.world_rules.specs.Update.{Delivery, child_of_birth, birth_link, with_newborn, after_what, after_event}

@@ -16,8 +16,9 @@ use Rattle.lineage_log.specs.Slots.{same_slot, holds}
 use Rattle.lineage_log.specs.Order.{Place, Within, told_death, told_birth, with_parent, with_child, told_injected, told_cleared, told_rate}
 use Rattle.lineage_log.specs.Reader.{Reader, may_die, may_be_born, parent_in}
 use Rattle.lineage_log.specs.Reader as reader
+use Rattle.lineage_log.specs.Links.{Link}
 use Rattle.organism.specs.OrganismState.{OrganismState}
-use Rattle.world_rules.specs.World.{Occupant, Link, id_of, ids_of, id_at}
+use Rattle.world_rules.specs.World.{Occupant, id_of, ids_of, id_at}
 use Rattle.world_rules.specs.Scene.{Scene, standing_at, with_death, with_newcomer}
 use Rattle.world_laws.proofs.ListLemmas.{get_more, eqb_same}
 use Rattle.world_laws.proofs.Mirror.{People, written, people_in, mirror, seen_in, Passes, one_line}

@@ -10,10 +10,11 @@ use Rattle.log_lines.specs.Line.{Line, Death, Cleared}
 use Rattle.lineage_log.specs.declared.stage.Stage.{Stage}
 use Rattle.lineage_log.specs.declared.stage.Stage.TheVariants.{Dying, Placing as Placed, Happening}
 use Rattle.lineage_log.specs.Reader.{may_die, may_be_born}
+use Rattle.lineage_log.specs.Links.{Link}
 use Rattle.organism.specs.OrganismState.{new_organism}
 use Rattle.world_config.specs.Events.{EventValue, WhatValue, inject, clear, rate}
 use Rattle.world_config.specs.Values.{ConfigValues}
-use Rattle.world_rules.specs.World.{Link, founder_of, founder_link}
+use Rattle.world_rules.specs.World.{founder_of, founder_link}
 use Rattle.world_rules.specs.Scene.{Scene, next_id, standing_at, with_death, with_deaths, cells_from}
 use Rattle.world_rules.specs.Update.{Delivery, birth_link, child_of_birth, with_newborn, after_what, after_event}
 use Rattle.world_rules.specs.LogText.{death_lines, birth_line, cleared_line, what_lines, lines_of_event}

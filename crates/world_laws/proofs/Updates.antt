@@ -13,8 +13,9 @@ use Rattle.lineage_log.specs.Slots.{taken}
 use Rattle.lineage_log.specs.Order.{Within, told_count, renewed}
 use Rattle.lineage_log.specs.People.{without}
 use Rattle.lineage_log.specs.Reader.{may_be_born}
+use Rattle.lineage_log.specs.Links.{Link}
 use Rattle.world_config.specs.Values.{ConfigValues}
-use Rattle.world_rules.specs.World.{Occupant, Link, World, id_of, ids_of}
+use Rattle.world_rules.specs.World.{Occupant, World, id_of, ids_of}
 use Rattle.world_rules.specs.Lives.{CellLife}
 use Rattle.world_rules.specs.Scene.{Scene}
 use Rattle.world_rules.specs.Statistics.{scene_stats, stats_in}

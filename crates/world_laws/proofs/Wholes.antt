@@ -9,10 +9,11 @@ use Rattle.instruction_set.specs.declared.letter.Letter.{Letter}
 use Rattle.log_lines.specs.Line.{Line, End}
 use Rattle.lineage_log.specs.Order.{Place, Before, Within, After, IsWhole, told_start, told_end, told_all}
 use Rattle.lineage_log.specs.Replay.{Seen, seen_on, Resident, residents_from, replay_of}
+use Rattle.lineage_log.specs.Links.{Link}
 use Rattle.organism.specs.OrganismState.{new_organism}
 use Rattle.organism.specs.Lived.{IsSoundOrganism}
 use Rattle.world_config.specs.Values.{ConfigValues}
-use Rattle.world_rules.specs.World.{Occupant, Link, id_of, ids_of, founder_of, founder_link, empty_cells, first_occupant, first_world}
+use Rattle.world_rules.specs.World.{Occupant, id_of, ids_of, founder_of, founder_link, empty_cells, first_occupant, first_world}
 use Rattle.world_rules.specs.Update.{next_scene}
 use Rattle.world_rules.specs.WorldRun.{world_after, resident_of, residents_of_world}
 use Rattle.world_rules.specs.LogText.{update_lines, head_line}

@@ -1,7 +1,7 @@
 -- How genomes come down a line of descent (docs/WORLD.md, "Lines of descent").
 use Rattle.std.specs.Prelude.{◌≡◌, ℕ, List, [], ◌∷◌, Option, None, Some, Ok, slice_get}
 use Rattle.mutations.specs.BirthRecord.{BirthRecord, child_of}
-use Rattle.world_rules.specs.World.{Link}
+use Rattle.lineage_log.specs.Links.{Link}
 
 -- the record of a link makes its genome of the other's
 pub record IsChildOf (parent link : Link) : Type 0 where

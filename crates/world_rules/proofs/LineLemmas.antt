@@ -3,7 +3,7 @@ use Rattle.std.proofs.Common.{◌≡◌, ◌∙◌, refl, sym, ap, subst, ℕ, z
 use Rattle.std.specs.Prelude.{slice_get}
 use Rattle.std.proofs.Math.ListN.{get_or-append}
 use Rattle.std.proofs.Math.Seq.{get_or-append_seam}
-use Rattle.world_rules.specs.World.{Link}
+use Rattle.lineage_log.specs.Links.{Link}
 use Rattle.world_rules.specs.Descent.{line_of_parent, with_line, lines_of, line_of, IsBelow, AreNumbered}
 
 length-with_line : (lines : List (List Link)) (link : Link) → length (with_line lines link) ≡ length lines + 1

@@ -1,9 +1,7 @@
 -- Lines of descent (docs/WORLD.md, "Lines of descent").
 use Rattle.std.specs.Prelude.{◌≡◌, ℕ, ◌<◌, All, List, [], ◌∷◌, ◌++◌, length, Option, None, Some, fold, option_map, slice_get, slice_index_or}
-use Rattle.genome.specs.Genome.{letters}
-use Rattle.mutations.specs.BirthRecord.{record_of}
-use Rattle.lineage_log.specs.declared.link.Link as code
-use Rattle.world_rules.specs.World.{Occupant, Link, World, id_of, id_at}
+use Rattle.lineage_log.specs.Links.{Link}
+use Rattle.world_rules.specs.World.{Occupant, World, id_of, id_at}
 
 -- the line of a parent, by id; a founder has none
 abbrev pub line_of_parent : List (List Link) → Option ℕ → List Link
@@ -25,17 +23,6 @@ line_of everyone id = slice_index_or (lines_of everyone) id []
 -- the line of who stands in a cell
 unfoldable pub line_in : World → ℕ → Option (List Link)
 line_in w cell = option_map (line_of w.everyone) (id_at w.cells cell)
-
--- a link of a path, as the definitions see it
-abbrev pub link_value : code.Link → Link
-link_value link = record {
-  id = link.id;
-  parent = link.parent;
-  update = link.update;
-  cell = link.cell;
-  origin = option_map record_of link.origin;
-  genome = letters link.genome;
-}
 
 -- this id, if there is one, is below a number
 abbrev pub IsBelow : ℕ → Option ℕ → Type 0

@@ -3,7 +3,8 @@ use Rattle.std.specs.Prelude.{ℕ, ◌+◌, ◌-◌, List, [], ◌∷◌, ◌++�
 use Rattle.std.specs.List.{range_with_len}
 use Rattle.std.specs.Option.{option_to_list}
 use Rattle.organism.specs.OrganismState.{OrganismState}
-use Rattle.world_rules.specs.World.{Occupant, Link, id_at}
+use Rattle.lineage_log.specs.Links.{Link}
+use Rattle.world_rules.specs.World.{Occupant, id_at}
 
 -- the update, who stands in each cell, all organisms ever in the world by id, and the ids of those that died in this update, in order
 pub record Scene : Type 0 where

@@ -7,9 +7,10 @@ use Rattle.logic_tasks.specs.TaskSet.{no_tasks}
 use Rattle.mutations.specs.BirthRecord.{BirthRecord}
 use Rattle.organism.specs.Newborns.{NewbornValue}
 use Rattle.organism.specs.OrganismState.{OrganismState}
+use Rattle.lineage_log.specs.Links.{Link}
 use Rattle.world_config.specs.Events.{EventValue, WhatValue}
 use Rattle.world_config.specs.Values.{ConfigValues}
-use Rattle.world_rules.specs.World.{Link, founder_link}
+use Rattle.world_rules.specs.World.{founder_link}
 use Rattle.world_rules.specs.Lives.{CellLife}
 use Rattle.world_rules.specs.Scene.{Scene}
 use Rattle.world_rules.specs.Update.{after_lives}

@@ -5,9 +5,10 @@ use Rattle.birth_board.specs.declared.placing.Placing.{Placing}
 use Rattle.birth_board.specs.Placement.{placements_of}
 use Rattle.organism.specs.Newborns.{NewbornValue}
 use Rattle.organism.specs.OrganismState.{OrganismState, new_organism}
+use Rattle.lineage_log.specs.Links.{Link}
 use Rattle.world_config.specs.Events.{EventValue, WhatValue, inject, clear, rate}
 use Rattle.world_config.specs.Values.{ConfigValues}
-use Rattle.world_rules.specs.World.{Occupant, Link, World, ids_of, founder_of, founder_link}
+use Rattle.world_rules.specs.World.{Occupant, World, ids_of, founder_of, founder_link}
 use Rattle.world_rules.specs.Settings.{torus_of, season_at}
 use Rattle.world_rules.specs.Lives.{CellLife, no_life, lives_of}
 use Rattle.world_rules.specs.Scene.{Scene, next_id, with_deaths, cells_from, with_newcomer}

@@ -5,8 +5,8 @@ use Rattle.logic_tasks.specs.Inputs.{inputs_of}
 use Rattle.logic_tasks.specs.TaskSet.{no_tasks}
 use Rattle.random_streams.specs.declared.purpose.Purpose.TheVariants.{Place}
 use Rattle.random_streams.specs.RandomStream.{draw}
-use Rattle.mutations.specs.BirthRecord.{BirthRecord}
 use Rattle.organism.specs.OrganismState.{OrganismState, new_organism}
+use Rattle.lineage_log.specs.Links.{Link}
 use Rattle.world_config.specs.Values.{ConfigValues}
 
 -- an organism in a cell, with its id
@@ -14,17 +14,8 @@ pub record Occupant : Type 0 where
   pub id : ℕ
   pub organism : OrganismState
 
--- one of all organisms ever in the world: where it came from, and its genome at birth
-pub record Link : Type 0 where
-  pub id : ℕ
-  -- a founder has no parent and no origin
-  pub parent : Option ℕ
-  pub update : ℕ
-  pub cell : ℕ
-  pub origin : Option BirthRecord
-  pub genome : List Letter
-
--- a world after an update: who stands in each cell, and all organisms ever in it, by id
+-- a world after an update: who stands in each cell, and all organisms ever in it, by id; the link of each tells its parent,
+-- the update and the cell of its birth, its record of birth and its genome then (lineage_log/specs/Links.antt)
 pub record World : Type 0 where
   pub update : ℕ
   pub cells : List (Option Occupant)

@@ -1,11 +1,10 @@
 -- The lines so far are written.
 use Rattle.std.proofs.Common.{[], take, Ok}
-use Rattle.world_rules.specs.Descent.{link_value}
+use Rattle.std.specs.Prelude.{flat_map}
 use Rattle.avida_program.specs.PathText.{path_line}
 use Rattle.avida_program.specs.Pieces.{Writes}
-use Rattle.avida_program.proofs.ListTexts.{texts_of}
 use Rattle.avida_program.proofs.lineage.write_links.Given as goal
 
 abbrev pub invariant-loop-link : goal.invariant-loop-link
 invariant-loop-link g l =
-    Writes (g.O.Sink.seen l.fn.out) (g.O.Sink.seen l.out) [] l.piece.items (texts_of path_line link_value (take l.link-index l.links)) (Ok tt)
+    Writes (g.O.Sink.seen l.fn.out) (g.O.Sink.seen l.out) [] l.piece.items (flat_map path_line (take l.link-index l.links)) (Ok tt)

@@ -1,5 +1,4 @@
 use Rattle.std.proofs.Common.{◌≡◌, ◌+◌, length, refl, arith}
-use Rattle.lineage_log.specs.Residents.{resident_of}
 use Rattle.avida_program.specs.Commands.{resident_line}
 use Rattle.avida_program.proofs.ListTexts.{item_stopped, item_written, items_put}
 use Rattle.avida_program.proofs.replay.write_livings.Goals as goal
@@ -7,12 +6,12 @@ use Rattle.avida_program.proofs.replay.write_livings.Goals as goal
 pub returns-in-Err : goal.returns-in-Err
 returns-in-Err g c =
     let i = c.loop-living.living-index in
-    let wrote = item_written resident_line resident_of c.args.livings.now i c.living-item.result c.loop-living.invariant c.in-Err.ensures refl c.living-item.is c.loop-living-test.true in
-    rw c.ended.ensures (item_stopped resident_line resident_of c.args.livings.now (i + 1) c.in-Err.stop wrote)
+    let wrote = item_written resident_line c.args.livings.now i c.living-item.result c.loop-living.invariant c.in-Err.ensures refl c.living-item.is c.loop-living-test.true in
+    rw c.ended.ensures (item_stopped resident_line c.args.livings.now (i + 1) c.in-Err.stop wrote)
 
 pub loop-living-preserved : goal.loop-living-preserved
 loop-living-preserved g c =
-    item_written resident_line resident_of c.args.livings.now c.loop-living.living-index c.living-item.result
+    item_written resident_line c.args.livings.now c.loop-living.living-index c.living-item.result
     c.loop-living.invariant c.in_default.ensures refl c.living-item.is c.loop-living-test.true
 
 pub returns : goal.returns
@@ -20,4 +19,4 @@ returns g c =
     let i = c.loop-living.living-index in
     let at_end : i ≡ length c.args.livings.now = omega (arith, c.loop-living.auto.living-index-end) in
     rw c.ended-2.ensures
-    (items_put resident_line resident_of c.args.livings.now i c.loop-living.invariant at_end c.as_slice.ensures.value c.put.ensures.puts)
+    (items_put resident_line c.args.livings.now i c.loop-living.invariant at_end c.as_slice.ensures.value c.put.ensures.puts)

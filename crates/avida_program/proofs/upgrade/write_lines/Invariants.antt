@@ -1,11 +1,16 @@
 -- The lines so far are written.
-use Rattle.std.proofs.Common.{[], take, Ok}
+use Rattle.std.proofs.Common.{ℕ, List, [], take, Ok}
+use Rattle.std.specs.Prelude.{flat_map}
+use Rattle.log_lines.specs.declared.log_line.LogLine.{LogLine}
 use Rattle.log_lines.specs.Line.{values_of}
 use Rattle.log_lines.specs.LineText.{line_text}
 use Rattle.avida_program.specs.Pieces.{Writes}
-use Rattle.avida_program.proofs.ListTexts.{texts_of}
 use Rattle.avida_program.proofs.upgrade.write_lines.Given as goal
+
+-- the text of a line
+abbrev pub text_of : LogLine → List ℕ
+text_of line = line_text (values_of line)
 
 abbrev pub invariant-loop-line : goal.invariant-loop-line
 invariant-loop-line g l =
-    Writes (g.O.Sink.seen l.fn.out) (g.O.Sink.seen l.out) [] l.piece.items (texts_of line_text values_of (take l.line-index l.lines)) (Ok tt)
+    Writes (g.O.Sink.seen l.fn.out) (g.O.Sink.seen l.out) [] l.piece.items (flat_map text_of (take l.line-index l.lines)) (Ok tt)

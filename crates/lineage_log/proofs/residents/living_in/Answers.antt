@@ -1,8 +1,6 @@
-use Rattle.std.proofs.Common.{◌∷◌, ◌++◌, ◌∙◌, [], List, Some, None, map, sym, ap, append-nil}
-use Rattle.std.proofs.lemmas.List.{map-append}
+use Rattle.std.proofs.Common.{◌++◌, ◌∙◌, List, Some, None, sym, ap, append-nil}
 use Rattle.lineage_log.specs.Replay.{Resident, residents_from}
-use Rattle.lineage_log.specs.Residents.{kept_genomes, resident_of}
-use Rattle.lineage_log.specs.declared.living.Living.{Living}
+use Rattle.lineage_log.specs.Residents.{kept_genomes}
 use Rattle.lineage_log.proofs.ReplayLemmas.{cell_walked}
 use Rattle.lineage_log.proofs.residents.living_in.Goals.{in-Some+in_ok-living_at+in_ok-push, in_default}
 use Rattle.lineage_log.proofs.residents.living_in.Goals as goal
@@ -13,14 +11,11 @@ loop-cell-preserved c =
     let genomes = kept_genomes c.args.reader.now.people in
     let cell = c.loop-cell.cell in
     let items = c.loop-cell.livings.items in
-    let front = map resident_of items in
     let all = residents_from 0 slots genomes in
     elim c.match-get.branch [
       | in-Some+in_ok-living_at+in_ok-push w ↦
-          let living = w.in_ok-living_at.field-0 in
-          let more = ap (λ (ls : List Living). map resident_of ls) w.in_ok-push.ensures.items
-          ∙ map-append resident_of items (living ∷ []) ∙ ap (λ (rs : List Resident). front ++ rs) w.in_ok-living_at.ensures in
+          let more = w.in_ok-push.ensures.items ∙ ap (λ (rs : List Resident). items ++ rs) w.in_ok-living_at.ensures in
           rw w.livings-is (cell_walked items w.push.new.self.items slots genomes cell (Some w.in-Some.id) all w.in-Some.ensures more c.loop-cell.invariant)
       | in_default w ↦
-          rw w.livings-is (cell_walked items items slots genomes cell None all w.in_default.ensures (sym (append-nil front)) c.loop-cell.invariant)
+          rw w.livings-is (cell_walked items items slots genomes cell None all w.in_default.ensures (sym (append-nil items)) c.loop-cell.invariant)
     ]

@@ -1,10 +1,9 @@
-use Rattle.std.proofs.Common.{◌≡◌, ◌∙◌, List, map, ap}
+use Rattle.std.proofs.Common.{◌≡◌, ◌∙◌, List, ap}
 use Rattle.std.proofs.lemmas.Result.{IfOk-weaker}
 use Rattle.lineage_log.specs.LogValues.{lines_of}
 use Rattle.lineage_log.specs.Readings.{reader_of}
-use Rattle.lineage_log.specs.Replay.{residents_from, replay_of}
-use Rattle.lineage_log.specs.Residents.{kept_genomes, resident_of}
-use Rattle.lineage_log.specs.declared.living.Living.{Living}
+use Rattle.lineage_log.specs.Replay.{Resident, residents_from, replay_of}
+use Rattle.lineage_log.specs.Residents.{kept_genomes}
 use Rattle.lineage_log.proofs.ReplayLemmas.{leaves}
 use Rattle.lineage_log.proofs.residents.replay.Goals as goal
 
@@ -18,6 +17,6 @@ returns c =
     let reader = c.in_ok-reader.reader in
     let left = leaves (lines_of c.lines.result.now) (reader_of reader) c.lines.ensures.good c.in_ok-reader.ensures in
     IfOk-weaker c.living_in.result
-    (λ (livings : List Living). map resident_of livings ≡ residents_from 0 reader.standing (kept_genomes reader.people))
-    (λ (livings : List Living). map resident_of livings ≡ replay_of c.args.log.now)
+    (λ (livings : List Resident). livings ≡ residents_from 0 reader.standing (kept_genomes reader.people))
+    (λ (livings : List Resident). livings ≡ replay_of c.args.log.now)
     (λ livings is. is ∙ left.living ∙ ap replay_of c.lines.ensures.values) c.living_in.ensures
