@@ -17,4 +17,7 @@ pub record IsGenome (ls : List Letter) : Type 0 where
 
 -- these letters as a genome, or what refuses them
 abbrev pub genome_of : List Letter → Result (List Letter) GenomeStop
-genome_of ls = if nat_lt (length ls) LEAST_LENGTH then Err (TooShort (length ls)) else (if nat_lt GREATEST_LENGTH (length ls) then Err (TooLong (length ls)) else Ok ls)
+genome_of ls =
+    if nat_lt (length ls) LEAST_LENGTH
+    then Err (TooShort (length ls))
+    else (if nat_lt GREATEST_LENGTH (length ls) then Err (TooLong (length ls)) else Ok ls)

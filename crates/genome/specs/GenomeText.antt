@@ -14,7 +14,8 @@ unless_faulty (Some place) ls = Err place
 
 -- the text before one final line end
 abbrev pub before_line_end : List ℕ → List ℕ
-before_line_end bytes = if ends_with nat_eq bytes (10 ∷ []) then take (length bytes - 1) bytes else bytes
+before_line_end bytes =
+    if ends_with nat_eq bytes (10 ∷ []) then take (length bytes - 1) bytes else bytes
 
 -- the place of the first byte that is no letter
 abbrev pub first_bad_byte : List ℕ → Option ℕ
@@ -22,7 +23,9 @@ first_bad_byte text = position_from (λ byte. is_none (letter_of_byte byte)) 0 t
 
 -- the letters of a text by letters, or the place, from 0, of its first byte that is none
 abbrev pub letters_of : List ℕ → Result (List Letter) ℕ
-letters_of bytes = unless_faulty (first_bad_byte (before_line_end bytes)) (filter_map letter_of_byte (before_line_end bytes))
+letters_of bytes =
+    unless_faulty (first_bad_byte (before_line_end bytes))
+    (filter_map letter_of_byte (before_line_end bytes))
 
 -- the genome of a reading by letters, or what refuses it
 abbrev pub genome_by_letters : Result (List Letter) ℕ → Result (List Letter) GenomeStop
@@ -64,7 +67,9 @@ is_bad_line line = not (length (word_of line) == 0) && is_none (letter_named (wo
 
 -- the letters of a text by names, or the number, from 1, of its first line that has none
 abbrev pub names_of : List ℕ → Result (List Letter) ℕ
-names_of bytes = unless_faulty (position_from is_bad_line 1 (name_lines bytes)) (filter_map (λ line. letter_named (word_of line)) (name_lines bytes))
+names_of bytes =
+    unless_faulty (position_from is_bad_line 1 (name_lines bytes))
+    (filter_map (λ line. letter_named (word_of line)) (name_lines bytes))
 
 -- the genome of a reading by names, or what refuses it
 abbrev pub genome_by_names : Result (List Letter) ℕ → Result (List Letter) GenomeStop

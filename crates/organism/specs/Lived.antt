@@ -22,7 +22,8 @@ pub record IsSoundOrganism (o : OrganismState) : Type 0 where
   pub merit : o.merit ≤ GREATEST_MERIT
 
 -- a newborn that its record makes of this genome, with a length that the rules allow, a merit, and a record that a log can write
-pub record IsBornOf (parent : List Letter) (rules : DivideRules) (newborn : NewbornValue) : Type 0 where
+pub record IsBornOf (parent : List Letter) (rules : DivideRules)
+    (newborn : NewbornValue) : Type 0 where
   pub child : child_of parent newborn.origin ≡ Ok newborn.genome
   pub form : HasRecordForm newborn.origin
   pub least : rules.least ≤ length newborn.genome
@@ -35,7 +36,8 @@ abbrev pub beginning : OrganismState → LifeState
 beginning o = record { organism = o; newborns = []; next = 0 }
 
 -- what a life of at most so many steps made of an organism
-pub record HasLived (settings : Settings) (start : OrganismState) (steps : ℕ) (now : LifeState) : Type 0 where
+pub record HasLived (settings : Settings) (start : OrganismState) (steps : ℕ)
+    (now : LifeState) : Type 0 where
   pub sound : IsSoundOrganism now.organism
   pub genome : now.organism.genome ≡ start.genome
   pub inputs : now.organism.inputs ≡ start.inputs

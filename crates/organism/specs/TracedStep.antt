@@ -37,19 +37,29 @@ abbrev pub remark_value : Remark → TracedRemark
 remark_value remark.Nothing = nothing
 remark_value (remark.Task done) = task done
 remark_value (remark.Refused rule found bound) = refused rule found bound
-remark_value (remark.Divide executed copied merit child) = divide executed copied merit (letters child)
+remark_value (remark.Divide executed copied merit child) =
+    divide executed copied merit (letters child)
 
 -- a traced step, with its remark
 abbrev pub traced_value : Traced → TracedStep
-traced_value t = record { place = t.place; letter = t.letter; registers = t.registers; remark = remark_value t.remark }
+traced_value t =
+    record {
+      place = t.place;
+      letter = t.letter;
+      registers = t.registers;
+      remark = remark_value t.remark;
+    }
 
 -- the organism and the remark after an outcome: a viable divide renews the parent, and the child is what was written
 abbrev pub remark_on : OrganismState → Outcome → OrganismState × TracedRemark
 remark_on o outcome.Nothing = (o, nothing)
 remark_on o (outcome.Task done) = (o, task done)
 remark_on o (outcome.Refused rule found bound) = (o, refused rule found bound)
-remark_on o (outcome.Viable ask) =
-    (renewed o ask, divide ask.executed ask.copied (divide_merit o ask) (child_part o.machine.memory ask.read ask.end))
+remark_on o (outcome.Viable ask) = (
+  renewed o ask,
+  divide ask.executed ask.copied (divide_merit o ask)
+      (child_part o.machine.memory ask.read ask.end),
+)
 
 -- an organism after a step without errors and death, and its remark
 abbrev pub remarked : OrganismState → OrganismState × TracedRemark

@@ -43,11 +43,13 @@ is_copy _ = false
 
 -- the letter of a copy error, where the letter under IP is h-copy
 abbrev pub copy_drawn : (ℕ → ℕ) → ℕ → ℕ → OrganismState → Option Letter
-copy_drawn words rate k o = if is_copy (letter_under_ip o.machine) then error_letter words rate k else None
+copy_drawn words rate k o =
+    if is_copy (letter_under_ip o.machine) then error_letter words rate k else None
 
 -- the number of the word after that test
 abbrev pub after_copy : (ℕ → ℕ) → ℕ → ℕ → OrganismState → ℕ
-after_copy words rate k o = if is_copy (letter_under_ip o.machine) then after_error words rate k else k
+after_copy words rate k o =
+    if is_copy (letter_under_ip o.machine) then after_error words rate k else k
 
 -- the child's part of the clean text
 abbrev pub clean_text : OrganismState → DivideAsk → List Letter
@@ -64,12 +66,14 @@ child_range rules = record { least = rules.least; greatest = rules.greatest }
 -- the record of a birth, word k being the first
 unfoldable pub birth_record : Settings → (ℕ → ℕ) → ℕ → OrganismState → DivideAsk → BirthRecord
 birth_record settings words k o ask =
-    origin_of words k (numbers_of settings.rates) (child_range settings.rules) (clean_text o ask) (written_text o ask) o.genome
+    origin_of words k (numbers_of settings.rates) (child_range settings.rules) (clean_text o ask)
+    (written_text o ask) o.genome
 
 -- the number of the word after those of a birth
 unfoldable pub after_child : Settings → (ℕ → ℕ) → ℕ → OrganismState → DivideAsk → ℕ
 after_child settings words k o ask =
-    after_birth words k (numbers_of settings.rates) (child_range settings.rules) (clean_text o ask) (written_text o ask)
+    after_birth words k (numbers_of settings.rates) (child_range settings.rules) (clean_text o ask)
+    (written_text o ask)
 
 -- the letters of a child; a refused record has none
 abbrev pub letters_made : Result (List Letter) ApplyStop → List Letter
@@ -78,7 +82,8 @@ letters_made (Err stop) = []
 
 -- the letters that its record makes of the parent's genome
 unfoldable pub child_letters : Settings → (ℕ → ℕ) → ℕ → OrganismState → DivideAsk → List Letter
-child_letters settings words k o ask = letters_made (child_of o.genome (birth_record settings words k o ask))
+child_letters settings words k o ask =
+    letters_made (child_of o.genome (birth_record settings words k o ask))
 
 -- the newborn of a viable divide
 abbrev pub newborn_of : Settings → (ℕ → ℕ) → LifeState → DivideAsk → NewbornValue
@@ -110,7 +115,8 @@ after_step settings words s =
 -- the state after so many steps
 unfoldable pub state_after : Settings → (ℕ → ℕ) → LifeState → ℕ → LifeState
 state_after settings words start zero = start
-state_after settings words start (suc steps) = after_step settings words (state_after settings words start steps)
+state_after settings words start (suc steps) =
+    after_step settings words (state_after settings words start steps)
 
 -- whether death is on and the age is at its limit
 abbrev pub is_old : Settings → OrganismState → Bool
@@ -118,7 +124,8 @@ is_old settings o = settings.death && (o.age == settings.age_limit * length o.ge
 
 -- whether it is so after the step with this number from 0
 abbrev pub dies_at : Settings → (ℕ → ℕ) → LifeState → ℕ → Bool
-dies_at settings words start step = is_old settings (state_after settings words start (step + 1)).organism
+dies_at settings words start step =
+    is_old settings (state_after settings words start (step + 1)).organism
 
 -- the first of so many steps with which the organism dies
 unfoldable pub death_in : Settings → (ℕ → ℕ) → LifeState → ℕ → Option ℕ
@@ -127,8 +134,10 @@ death_in settings words start steps = find (dies_at settings words start) (range
 -- a life ends with the step of its death, or with all steps
 abbrev pub ended : Settings → (ℕ → ℕ) → LifeState → ℕ → Option ℕ → LifeState × Ran
 ended settings words start steps None = (state_after settings words start steps, Lives)
-ended settings words start steps (Some step) = (state_after settings words start (step + 1), Died (step + 1))
+ended settings words start steps (Some step) =
+    (state_after settings words start (step + 1), Died (step + 1))
 
 -- the life of one update, of at most so many steps
 unfoldable pub life : Settings → (ℕ → ℕ) → LifeState → ℕ → LifeState × Ran
-life settings words start steps = ended settings words start steps (death_in settings words start steps)
+life settings words start steps =
+    ended settings words start steps (death_in settings words start steps)

@@ -26,7 +26,8 @@ pub fn lives_are_sound()
 
 /// A new organism that has a merit is sound.
 pub fn new_organisms_are_sound()
-    ensures { (letters : List Letter) (inputs : List ℕ) (merit : ℕ) (credited : List Bool) (limit : ℕ)
+    ensures { (letters : List Letter) (inputs : List ℕ) (merit : ℕ) (credited : List Bool)
+        (limit : ℕ)
         → IsGenome letters
         → length letters ≤ limit
         → limit ≤ GREATEST_LENGTH

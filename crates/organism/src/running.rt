@@ -42,14 +42,17 @@ impl Organism {
         requires fresh { draws.old.taken ≡ 0 }
         requires no_births { newborns_in births.old ≡ [] }
         ensures life { IfOk result (λ ran. (life_state self.new births.new draws.new, ran)
-            ≡ life settings.now (word_of draws.old) (life_state self.old births.old draws.old) slices) }
+            ≡ life settings.now (word_of draws.old) (life_state self.old births.old draws.old)
+            slices) }
         ensures stream { OnOk result (draws.new ≡ record draws.old { taken = draws.new.taken }) }
         ensures taken { OnOk result (draws.new.taken < LIFE_WORDS) }
         ensures births { OnOk result (length (newborns_in births.new) ≤ slices) }
         ensures age { OnOk result (self.new.age ≤ self.old.age + slices) }
-        ensures merit { OnOk result (self.old.merit ≤ GREATEST_MERIT → self.new.merit ≤ GREATEST_MERIT) }
+        ensures merit { OnOk result
+            (self.old.merit ≤ GREATEST_MERIT → self.new.merit ≤ GREATEST_MERIT) }
         ensures merits { OnOk result (MeritsFit (newborns_in births.new)) }
-        ensures lengths { OnOk result (LengthsFit settings.now.rules.greatest (newborns_in births.new)) }
+        ensures lengths { OnOk result
+            (LengthsFit settings.now.rules.greatest (newborns_in births.new)) }
     {
         for step in 0..slices {
             self.live(alloc, settings, draws, births)?;
@@ -79,14 +82,19 @@ impl Organism {
         requires room { draws.old.taken < LIFE_WORDS }
         requires few_births { length (newborns_in births.old) < LIFE_STEPS }
         ensures state { OnOk result (life_state self.new births.new draws.new
-            ≡ after_step settings.now (word_of draws.old) (life_state self.old births.old draws.old)) }
+            ≡ after_step settings.now (word_of draws.old)
+            (life_state self.old births.old draws.old)) }
         ensures stream { OnOk result (draws.new ≡ record draws.old { taken = draws.new.taken }) }
         ensures taken { OnOk result (draws.new.taken ≤ draws.old.taken + STEP_WORDS) }
-        ensures births { OnOk result (length (newborns_in births.new) ≤ length (newborns_in births.old) + 1) }
+        ensures births { OnOk result
+            (length (newborns_in births.new) ≤ length (newborns_in births.old) + 1) }
         ensures age { OnOk result (self.new.age ≤ self.old.age + 1) }
-        ensures merit { OnOk result (self.old.merit ≤ GREATEST_MERIT → self.new.merit ≤ GREATEST_MERIT) }
-        ensures merits { OnOk result (MeritsFit (newborns_in births.old) → MeritsFit (newborns_in births.new)) }
-        ensures lengths { OnOk result (LengthsFit settings.now.rules.greatest (newborns_in births.old)
+        ensures merit { OnOk result
+            (self.old.merit ≤ GREATEST_MERIT → self.new.merit ≤ GREATEST_MERIT) }
+        ensures merits { OnOk result
+            (MeritsFit (newborns_in births.old) → MeritsFit (newborns_in births.new)) }
+        ensures lengths { OnOk result
+            (LengthsFit settings.now.rules.greatest (newborns_in births.old)
             → LengthsFit settings.now.rules.greatest (newborns_in births.new)) }
     {
         let copy = self.draw_copy(&settings.rates, draws);
@@ -97,7 +105,8 @@ impl Organism {
     /// The letter of a copy error, which only h-copy draws.
     fn draw_copy(&self, rates: &Rates, draws: &mut Draws) -> Option<Letter>
         requires { draws.old.taken < LIFE_WORDS }
-        ensures letter { result ≡ copy_drawn (word_of draws.old) rates.now.copy draws.old.taken self.now }
+        ensures letter { result
+            ≡ copy_drawn (word_of draws.old) rates.now.copy draws.old.taken self.now }
         ensures stream { draws.new ≡ record draws.old {
           taken = after_copy (word_of draws.old) rates.now.copy draws.old.taken self.now;
         } }
@@ -123,14 +132,19 @@ impl Organism {
         requires room { draws.old.taken < 2 * LIFE_WORDS }
         requires few_births { length (newborns_in births.old) < LIFE_STEPS }
         ensures state { OnOk result (life_state self.new births.new draws.new
-            ≡ after_outcome settings.now (word_of draws.old) (life_state self.old births.old draws.old) outcome) }
+            ≡ after_outcome settings.now (word_of draws.old)
+            (life_state self.old births.old draws.old) outcome) }
         ensures stream { OnOk result (draws.new ≡ record draws.old { taken = draws.new.taken }) }
         ensures taken { OnOk result (draws.new.taken + 2 ≤ draws.old.taken + STEP_WORDS) }
-        ensures births { OnOk result (length (newborns_in births.new) ≤ length (newborns_in births.old) + 1) }
+        ensures births { OnOk result
+            (length (newborns_in births.new) ≤ length (newborns_in births.old) + 1) }
         ensures age { OnOk result (self.new.age ≤ self.old.age) }
-        ensures merit { OnOk result (self.old.merit ≤ GREATEST_MERIT → self.new.merit ≤ GREATEST_MERIT) }
-        ensures merits { OnOk result (MeritsFit (newborns_in births.old) → MeritsFit (newborns_in births.new)) }
-        ensures lengths { OnOk result (LengthsFit settings.now.rules.greatest (newborns_in births.old)
+        ensures merit { OnOk result
+            (self.old.merit ≤ GREATEST_MERIT → self.new.merit ≤ GREATEST_MERIT) }
+        ensures merits { OnOk result
+            (MeritsFit (newborns_in births.old) → MeritsFit (newborns_in births.new)) }
+        ensures lengths { OnOk result
+            (LengthsFit settings.now.rules.greatest (newborns_in births.old)
             → LengthsFit settings.now.rules.greatest (newborns_in births.new)) }
     {
         match outcome {
@@ -155,15 +169,19 @@ impl Organism {
         requires room { draws.old.taken < 2 * LIFE_WORDS }
         requires few_births { length (newborns_in births.old) < LIFE_STEPS }
         ensures state { OnOk result (life_state self.new births.new draws.new
-            ≡ after_outcome settings.now (word_of draws.old) (life_state self.old births.old draws.old)
+            ≡ after_outcome settings.now (word_of draws.old)
+            (life_state self.old births.old draws.old)
             (Outcome.Viable ask.now)) }
         ensures stream { OnOk result (draws.new ≡ record draws.old { taken = draws.new.taken }) }
         ensures taken { OnOk result (draws.new.taken + 2 ≤ draws.old.taken + STEP_WORDS) }
-        ensures births { OnOk result (length (newborns_in births.new) ≤ length (newborns_in births.old) + 1) }
+        ensures births { OnOk result
+            (length (newborns_in births.new) ≤ length (newborns_in births.old) + 1) }
         ensures age { OnOk result (self.new.age ≤ self.old.age) }
         ensures merit { OnOk result (self.new.merit ≤ GREATEST_MERIT) }
-        ensures merits { OnOk result (MeritsFit (newborns_in births.old) → MeritsFit (newborns_in births.new)) }
-        ensures lengths { OnOk result (LengthsFit settings.now.rules.greatest (newborns_in births.old)
+        ensures merits { OnOk result
+            (MeritsFit (newborns_in births.old) → MeritsFit (newborns_in births.new)) }
+        ensures lengths { OnOk result
+            (LengthsFit settings.now.rules.greatest (newborns_in births.old)
             → LengthsFit settings.now.rules.greatest (newborns_in births.new)) }
     {
         let nth = births.len() as u32;
@@ -194,7 +212,8 @@ impl Organism {
             ≡ birth_record settings.now (word_of draws.old) draws.old.taken self.now ask.now) }
         ensures genome { IfOk result (λ born. letters born.genome
             ≡ child_letters settings.now (word_of draws.old) draws.old.taken self.now ask.now) }
-        ensures longest { IfOk result (λ born. length (letters born.genome) ≤ settings.now.rules.greatest) }
+        ensures longest { IfOk result
+            (λ born. length (letters born.genome) ≤ settings.now.rules.greatest) }
         ensures stream { OnOk result (draws.new ≡ record draws.old {
           taken = after_child settings.now (word_of draws.old) draws.old.taken self.now ask.now;
         }) }

@@ -46,13 +46,15 @@ values_with ms (Ok happening) = Ok (values_in ms happening)
 values_with ms (Err nth) = Err (BadEvent nth)
 
 -- these values, unless there is a refusal
-abbrev pub unless_refused : Option ConfigStop → Result ConfigValues ConfigStop → Result ConfigValues ConfigStop
+abbrev pub unless_refused :
+    Option ConfigStop → Result ConfigValues ConfigStop → Result ConfigValues ConfigStop
 unless_refused (Some stop) values = Err stop
 unless_refused None values = values
 
 -- the configuration of a table: its keys are tried first, and its events last
 abbrev pub config_in : Members → Result ConfigValues ConfigStop
-config_in ms = unless_refused (refusal_in ms) (values_with ms (events_of (frame_in ms) (items_at Event ms)))
+config_in ms =
+    unless_refused (refusal_in ms) (values_with ms (events_of (frame_in ms) (items_at Event ms)))
 
 -- the configuration of a document's table, where it is one
 abbrev pub config_of_table : Option Members → Result ConfigValues ConfigStop

@@ -22,12 +22,14 @@ if_only names ms value = if has_only names ms then value else None
 
 -- the number that a value is, where it lies within bounds
 abbrev pub number_from : ℕ → ℕ → Option Data → Option ℕ
-number_from least greatest (Some (integer (pos n))) = if nat_le least n && nat_le n greatest then Some n else None
+number_from least greatest (Some (integer (pos n))) =
+    if nat_le least n && nat_le n greatest then Some n else None
 number_from least greatest _ = None
 
 -- the letters, where their number lies within bounds
 abbrev pub sized : ℕ → ℕ → Result (List Letter) GenomeStop → Option (List Letter)
-sized least greatest (Ok ls) = if nat_le least (length ls) && nat_le (length ls) greatest then Some ls else None
+sized least greatest (Ok ls) =
+    if nat_le least (length ls) && nat_le (length ls) greatest then Some ls else None
 sized least greatest (Err stop) = None
 
 -- the genome that a value spells by letters, where its length lies within bounds
@@ -61,7 +63,8 @@ inject_of frame ms = if_only inject_names ms
 -- cells of the world from the first to the last
 abbrev pub clear_of : Frame → Members → Option WhatValue
 clear_of frame ms = if_only clear_names ms
-    (option_and_then (λ last. option_map (λ first. clear first last) (number_from 0 last (get_member (codes "first") ms)))
+    (option_and_then (λ last. option_map (λ first. clear first last)
+    (number_from 0 last (get_member (codes "first") ms)))
     (number_from 0 frame.last_cell (get_member (codes "last") ms)))
 
 -- one of the six rates, in parts per million
@@ -81,7 +84,8 @@ what_of frame ms kind =
 -- the event that a member is, in an update that is not below the least
 abbrev pub event_of : Frame → ℕ → Data → Option EventValue
 event_of frame least (table ms) =
-    both (λ update what. record { update = update; what = what }) (number_from least frame.updates (get_member (codes "update") ms))
+    both (λ update what. record { update = update; what = what })
+    (number_from least frame.updates (get_member (codes "update") ms))
     (option_and_then (what_of frame ms) (option_and_then as_str (get_member (codes "kind") ms)))
 event_of frame least _ = None
 
@@ -91,14 +95,16 @@ more_events event (Ok events) = Ok (event ∷ events)
 more_events event (Err nth) = Err nth
 
 -- a member and what follows it, or the place of the member where it is none
-abbrev pub followed : ℕ → Option EventValue → (ℕ → Result (List EventValue) ℕ) → Result (List EventValue) ℕ
+abbrev pub followed :
+    ℕ → Option EventValue → (ℕ → Result (List EventValue) ℕ) → Result (List EventValue) ℕ
 followed nth None others = Err nth
 followed nth (Some event) others = more_events event (others event.update)
 
 -- the events that members are from this place and this update on, or the place of the first member that is none
 abbrev pub events_from : Frame → Items → ℕ → ℕ → Result (List EventValue) ℕ
 events_from frame no_items nth least = Ok []
-events_from frame (item d ds) nth least = followed nth (event_of frame least d) (events_from frame ds (nth + 1))
+events_from frame (item d ds) nth least =
+    followed nth (event_of frame least d) (events_from frame ds (nth + 1))
 
 -- the events of a configuration: the updates are from 1 on and never fall
 abbrev pub events_of : Frame → Items → Result (List EventValue) ℕ

@@ -36,13 +36,15 @@ event_value event = record { update = event.update; what = what_value event.what
 -- its cells are in the world, its genome is within the two lengths, and its rate is one
 abbrev pub what_fits : Frame → WhatValue → Bool
 what_fits frame (inject cell ls) =
-    nat_le cell frame.last_cell && (nat_le frame.least_length (length ls) && nat_le (length ls) frame.greatest_length)
+    nat_le cell frame.last_cell
+    && (nat_le frame.least_length (length ls) && nat_le (length ls) frame.greatest_length)
 what_fits frame (clear first last) = nat_le first last && nat_le last frame.last_cell
 what_fits frame (rate name ppm) = nat_le ppm MILLION
 
 -- it happens in one of the updates, and what it does fits
 abbrev pub event_fits : Frame → EventValue → Bool
-event_fits frame event = (nat_le 1 event.update && nat_le event.update frame.updates) && what_fits frame event.what
+event_fits frame event =
+    (nat_le 1 event.update && nat_le event.update frame.updates) && what_fits frame event.what
 
 -- these events can stand in a configuration with these numbers
 pub record AreEvents (frame : Frame) (events : List EventValue) : Type 0 where

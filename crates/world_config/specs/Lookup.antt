@@ -62,5 +62,6 @@ items_at key ms = items_of_value (value_at (key_row no_frame key) ms)
 -- the numbers on which other rows hang; their own names and defaults hang on none
 abbrev pub frame_in : Members → Frame
 frame_in ms =
-    frame_of (number_at no_frame Width ms) (number_at no_frame Height ms) (number_at no_frame Updates ms)
+    frame_of (number_at no_frame Width ms) (number_at no_frame Height ms)
+    (number_at no_frame Updates ms)
     (number_at no_frame LeastLength ms) (number_at no_frame GreatestLength ms)

@@ -12,7 +12,8 @@ use Rattle.world_config.specs.Values.{ConfigValues}
 abbrev pub insert_member : List ℕ → Data → Members → Members
 insert_member k d no_members = member k d no_members
 insert_member k d (member l e ms) =
-    match_ordering (slice_cmp nat_cmp k l) (member k d (member l e ms)) (member l d ms) (member l e (insert_member k d ms))
+    match_ordering (slice_cmp nat_cmp k l) (member k d (member l e ms)) (member l d ms)
+    (member l e (insert_member k d ms))
 
 -- the members of an event
 abbrev pub event_members : ℕ → WhatValue → Members

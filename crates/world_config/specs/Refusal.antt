@@ -44,7 +44,8 @@ unless_genome key least greatest (Err stop) = Some (BadAncestor stop)
 abbrev pub refusal_of : Kind → Key → Data → Option ConfigStop
 refusal_of (number least greatest) key (integer z) = unless_within key least greatest z
 refusal_of flag key (boolean b) = None
-refusal_of (genome least greatest) key (string text) = unless_genome key least greatest (spelled_by_letters text)
+refusal_of (genome least greatest) key (string text) =
+    unless_genome key least greatest (spelled_by_letters text)
 refusal_of (events most) key (array items) = unless_within key 0 most (pos (count_of items))
 refusal_of _ key _ = Some (WrongKind key)
 
@@ -60,7 +61,8 @@ earlier None later = later
 -- the refusal of the first of these keys whose value is refused
 abbrev pub first_refusal : List Key → Members → Option ConfigStop
 first_refusal [] ms = None
-first_refusal (key ∷ others) ms = earlier (refusal_at (frame_in ms) key ms) (first_refusal others ms)
+first_refusal (key ∷ others) ms =
+    earlier (refusal_at (frame_in ms) key ms) (first_refusal others ms)
 
 -- the refusal of a key that no row names
 abbrev pub unknown_refusal : Option (List ℕ) → Option ConfigStop

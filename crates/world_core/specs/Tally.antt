@@ -6,10 +6,10 @@ use Rattle.std.specs.declared.sync.Arc.{Arc}
 use Rattle.genome.specs.Genome.{letters}
 use Rattle.genome.specs.declared.genome.Genome.{Genome}
 use Rattle.instruction_set.specs.declared.letter.Letter.{Letter}
+use Rattle.instruction_set.specs.Letter.{same_letters}
 use Rattle.lineage_log.specs.Slots.{taken}
 use Rattle.logic_tasks.specs.LogicTasks.{all_tasks}
 use Rattle.merit_slices.specs.declared.merits.TheConstants.{GREATEST_MERIT}
-use Rattle.mutations.specs.BirthRecord.{same_letters}
 use Rattle.random_streams.specs.declared.draws.TheConstants.{CELLS}
 use Rattle.world_rules.specs.World.{Occupant, ids_of}
 use Rattle.world_rules.specs.Statistics.{organisms_in, genomes_in, genotypes_of, credited_with}
@@ -21,7 +21,8 @@ letters_in genomes = map (λ genome. letters genome.value) genomes
 
 -- a genome stands behind these, unless it is one of them
 abbrev pub with_genome : List (List Letter) → List Letter → List (List Letter)
-with_genome genomes genome = if list_any (same_letters genome) genomes then genomes else genomes ++ genome ∷ []
+with_genome genomes genome =
+    if list_any (same_letters genome) genomes then genomes else genomes ++ genome ∷ []
 
 -- it has counted these cells
 pub record IsTallyOf (cells : List (Option Occupant)) (tally : Tally) : Type 0 where
@@ -38,4 +39,5 @@ pub record IsSmall (tally : Tally) : Type 0 where
 
 -- whatever it has counted before, it has counted this cell too
 abbrev pub CountsOneMore : Tally → Option Occupant → Tally → Type 0
-CountsOneMore before slot after = (cells : List (Option Occupant)) → IsTallyOf cells before → IsTallyOf (cells ++ slot ∷ []) after
+CountsOneMore before slot after =
+    (cells : List (Option Occupant)) → IsTallyOf cells before → IsTallyOf (cells ++ slot ∷ []) after

@@ -37,11 +37,14 @@ pub(crate) fn place_births(
     requires size { length scene.old.cells ≡ config.now.width * config.now.height }
     requires births { AreDeliveries (values_of config.now) (length scene.old.cells) births.items }
     requires few { length scene.old.everyone ≤ 2 ^ 60 }
-    ensures scene { OnOk result (scene.new ≡ after_births (values_of config.now) scene.old births.items) }
+    ensures scene { OnOk result
+        (scene.new ≡ after_births (values_of config.now) scene.old births.items) }
     ensures text { OnOk result (text.new.items
-        ≡ text.old.items ++ lines_text (birth_lines (values_of config.now) scene.old births.items)) }
+        ≡ text.old.items
+        ++ lines_text (birth_lines (values_of config.now) scene.old births.items)) }
     ensures size { OnOk result (length scene.new.cells ≡ length scene.old.cells) }
-    ensures everyone { OnOk result (length scene.new.everyone ≡ length scene.old.everyone + length births.items) }
+    ensures everyone { OnOk result
+        (length scene.new.everyone ≡ length scene.old.everyone + length births.items) }
 {
     let placings = placings_of(alloc, config, scene, &births)?;
     for (birth, placing) in births.into_iter().zip(placings.into_vec()) {
@@ -112,7 +115,8 @@ fn settle(
 ) -> Result<(), Memory>
     requires cell { placing.now.cell < length scene.old.cells }
     requires birth { IsDelivery (values_of config.now) (length scene.old.cells) birth }
-    ensures scene { OnOk result (scene.new ≡ with_newborn (values_of config.now) scene.old (birth, placing.now)) }
+    ensures scene { OnOk result
+        (scene.new ≡ with_newborn (values_of config.now) scene.old (birth, placing.now)) }
     ensures text { OnOk result (text.new.items
         ≡ text.old.items ++ line_text (birth_line scene.old (birth, placing.now))) }
     ensures size { OnOk result (length scene.new.cells ≡ length scene.old.cells) }
@@ -162,7 +166,8 @@ fn tell_birth(
     text: &mut Vec<u8>,
 ) -> Result<Origin, Memory>
     requires { cell < length scene.now.cells }
-    ensures text { OnOk result (text.new.items ≡ text.old.items ++ line_text (Birth (next_id scene.now)
+    ensures text { OnOk result
+        (text.new.items ≡ text.old.items ++ line_text (Birth (next_id scene.now)
         parent scene.now.update cell (standing_at scene.now cell) (record_of origin))) }
     ensures origin { IfOk result (λ kept. record_of kept ≡ record_of origin) }
 {

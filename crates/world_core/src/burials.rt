@@ -13,7 +13,8 @@ use log_lines::{LogLine, write_line};
 pub(crate) fn bury(scene: &mut Scene, dead: &[u32], text: &mut Vec<u8>) -> Result<(), Memory>
     requires { All (λ cell. cell < length scene.old.cells) dead.now }
     ensures scene { OnOk result (scene.new ≡ with_deaths scene.old dead.now) }
-    ensures text { OnOk result (text.new.items ≡ text.old.items ++ lines_text (death_lines scene.old dead.now)) }
+    ensures text { OnOk result
+        (text.new.items ≡ text.old.items ++ lines_text (death_lines scene.old dead.now)) }
     ensures size { OnOk result (length scene.new.cells ≡ length scene.old.cells) }
     ensures everyone { OnOk result (scene.new.everyone ≡ scene.old.everyone) }
 {

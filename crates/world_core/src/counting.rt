@@ -13,6 +13,7 @@ use crate::scene::Scene;
 use avida_port::Memory;
 use genome::Genome;
 use indexmap::IndexSet;
+use instruction_set::laws::one_index;
 use log_lines::Stats;
 use logic_tasks::{TASK_COUNT, TASKS, Tasks};
 use random_streams::CELLS;
@@ -59,6 +60,7 @@ impl Tally {
         requires merit { merit_in slot.now ≤ GREATEST_MERIT }
         ensures { OnOk result (CountsOneMore self.old slot.now self.new) }
     {
+        one_index();
         let Some(occupant) = slot else {
             return Ok(());
         };
@@ -89,6 +91,7 @@ fn note_genome(
     ensures { OnOk result (letters_in genomes.new.keys
         ≡ with_genome (letters_in genomes.old.keys) (letters genome.now.value)) }
 {
+    one_index();
     genomes.insert(Arc::try_clone(genome)?)?;
     Ok(())
 }

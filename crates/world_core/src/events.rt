@@ -36,7 +36,8 @@ pub(crate) fn happen(
     ensures text { OnOk result (text.new.items
         ≡ text.old.items ++ lines_text (event_lines (values_of config.now) scene.old)) }
     ensures size { OnOk result (length scene.new.cells ≡ length scene.old.cells) }
-    ensures everyone { OnOk result (length scene.new.everyone ≤ length scene.old.everyone + MOST_EVENTS) }
+    ensures everyone { OnOk result
+        (length scene.new.everyone ≤ length scene.old.everyone + MOST_EVENTS) }
 {
     let update = scene.update;
     for (at, event) in config.event.as_slice().iter().enumerate() {
@@ -58,7 +59,8 @@ fn occur(
 ) -> Result<(), Memory>
     requires cells { length scene.old.cells ≤ CELLS }
     requires nth { nth ≤ MOST_EVENTS }
-    requires fits { CanHappen (length scene.old.cells) config.now.greatest_length (what_value what.now) }
+    requires fits { CanHappen (length scene.old.cells) config.now.greatest_length
+        (what_value what.now) }
     ensures scene { OnOk result (scene.new
         ≡ after_what (values_of config.now) scene.old nth (what_value what.now)) }
     ensures text { OnOk result (text.new.items

@@ -74,7 +74,8 @@ fn pass_over(draws: &mut Draws, words: u32)
 #[tactic(auto, unfolding(world_rules::specs::World::first_world, world_rules::specs::World::founder_of, world_rules::specs::Scene::with_newcomer, organism::specs::OrganismState::new_organism))]
 pub(crate) fn first_scene(alloc: Global, config: &Config) -> Result<Scene, Memory>
     ensures world { IfOk result (λ scene. world_of scene ≡ first_world (values_of config.now)) }
-    ensures size { IfOk result (λ scene. length scene.cells ≡ config.now.width * config.now.height) }
+    ensures size { IfOk result
+        (λ scene. length scene.cells ≡ config.now.width * config.now.height) }
     ensures nobody { IfOk result (λ scene. scene.gone ≡ []) }
     ensures one { IfOk result (λ scene. length scene.everyone ≡ 1) }
 {

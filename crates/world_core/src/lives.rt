@@ -51,7 +51,8 @@ pub(crate) fn live(
         AreDeliveries (values_of config.now) (length cells.old) lived.births.items) }
     ensures dead { IfOk result (λ lived. lived.dead.items
         ≡ deaths_of (lives_of (values_of config.now) (update + 1) cells.old)) }
-    ensures in_world { IfOk result (λ lived. All (λ cell. cell < length cells.old) lived.dead.items) }
+    ensures in_world { IfOk result
+        (λ lived. All (λ cell. cell < length cells.old) lived.dead.items) }
 {
     let slices = slices_of(alloc, config, cells)?;
     let settings = settings_at(config, update + 1);
@@ -80,8 +81,10 @@ pub(crate) fn live(
 fn slices_of(alloc: Global, config: &Config, cells: &[Option<Occupant>]) -> Result<Vec<u64>, Memory>
     requires cells { length cells.now ≤ CELLS }
     requires merits { All (λ slot. merit_in slot ≤ GREATEST_MERIT) cells.now }
-    ensures slices { IfOk result (λ slices. slices.items ≡ slices_at (values_of config.now) cells.now) }
-    ensures few { IfOk result (λ slices. (cell : ℕ) → slice_index_or slices.items cell 0 < LIFE_STEPS) }
+    ensures slices { IfOk result
+        (λ slices. slices.items ≡ slices_at (values_of config.now) cells.now) }
+    ensures few { IfOk result
+        (λ slices. (cell : ℕ) → slice_index_or slices.items cell 0 < LIFE_STEPS) }
     ensures total { IfOk result (λ slices. sum slices.items < LIFE_STEPS) }
     ensures length { IfOk result (λ slices. length slices.items ≡ length cells.now) }
 {
@@ -126,12 +129,18 @@ fn live_in(
     requires update { update < GREATEST_UPDATES }
     requires settings { settings.now ≡ settings_at (values_of config.now) (update + 1) }
     requires sound { IsBoundedIn update slot.old }
-    ensures life { IfOk result (λ life. life_of (values_of config.now) (update + 1) cell steps slot.old
-        ≡ record { occupant = slot.new; died = life.died; newborns = map newborn_value (newborns_in life.births) }) }
+    ensures life { IfOk result
+        (λ life. life_of (values_of config.now) (update + 1) cell steps slot.old
+        ≡ record {
+          occupant = slot.new;
+          died = life.died;
+          newborns = map newborn_value (newborns_in life.births);
+        }) }
     ensures sound { OnOk result (IsBoundedIn (update + 1) slot.new) }
     ensures few { IfOk result (λ life. length (newborns_in life.births) ≤ steps) }
     ensures merits { IfOk result (λ life. MeritsFit (newborns_in life.births)) }
-    ensures lengths { IfOk result (λ life. LengthsFit settings.now.rules.greatest (newborns_in life.births)) }
+    ensures lengths { IfOk result
+        (λ life. LengthsFit settings.now.rules.greatest (newborns_in life.births)) }
 {
     match slot {
         Some(occupant) => live_once(alloc, config, settings, update, cell, steps, occupant),
@@ -157,12 +166,18 @@ fn live_once(
     requires update { update < GREATEST_UPDATES }
     requires settings { settings.now ≡ settings_at (values_of config.now) (update + 1) }
     requires sound { IsBounded update occupant.old.organism }
-    ensures life { IfOk result (λ life. life_of (values_of config.now) (update + 1) cell steps (Some occupant.old)
-        ≡ record { occupant = Some occupant.new; died = life.died; newborns = map newborn_value (newborns_in life.births) }) }
+    ensures life { IfOk result
+        (λ life. life_of (values_of config.now) (update + 1) cell steps (Some occupant.old)
+        ≡ record {
+          occupant = Some occupant.new;
+          died = life.died;
+          newborns = map newborn_value (newborns_in life.births);
+        }) }
     ensures sound { OnOk result (IsBounded (update + 1) occupant.new.organism) }
     ensures few { IfOk result (λ life. length (newborns_in life.births) ≤ steps) }
     ensures merits { IfOk result (λ life. MeritsFit (newborns_in life.births)) }
-    ensures lengths { IfOk result (λ life. LengthsFit settings.now.rules.greatest (newborns_in life.births)) }
+    ensures lengths { IfOk result
+        (λ life. LengthsFit settings.now.rules.greatest (newborns_in life.births)) }
 {
     let mut births = Births::none(alloc);
     let mut draws = Draws::start(config.seed, update + 1, cell, Purpose::Run);

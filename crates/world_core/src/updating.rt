@@ -29,8 +29,10 @@ pub(crate) fn next_scene(
     requires size { length scene.cells ≡ config.now.width * config.now.height }
     requires update { scene.update < GREATEST_UPDATES }
     requires few { length scene.everyone ≤ 2 ^ 60 }
-    ensures scene { IfOk result (λ next. next.0 ≡ next_scene (values_of config.now) (world_of scene)) }
-    ensures stats { IfOk result (λ next. next.1 ≡ next_stats (values_of config.now) (world_of scene)) }
+    ensures scene { IfOk result
+        (λ next. next.0 ≡ next_scene (values_of config.now) (world_of scene)) }
+    ensures stats { IfOk result
+        (λ next. next.1 ≡ next_stats (values_of config.now) (world_of scene)) }
     ensures text { IfOk result (λ next.
         next.2.items ≡ lines_text (update_lines (values_of config.now) (world_of scene))) }
     ensures update { IfOk result (λ next. next.0.update ≡ scene.update + 1) }
@@ -61,7 +63,8 @@ fn scene_of_lives(alloc: Global, config: &Config, scene: Scene) -> Result<(Scene
         AreDeliveries (values_of config.now) (length scene.cells) next.1.births.items) }
     ensures dead { IfOk result (λ next. next.1.dead.items
         ≡ deaths_of (lives_of (values_of config.now) (scene.update + 1) scene.cells)) }
-    ensures in_world { IfOk result (λ next. All (λ cell. cell < length scene.cells) next.1.dead.items) }
+    ensures in_world { IfOk result
+        (λ next. All (λ cell. cell < length scene.cells) next.1.dead.items) }
     ensures size { IfOk result (λ next. length next.0.cells ≡ length scene.cells) }
 {
     let Scene {

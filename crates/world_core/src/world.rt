@@ -70,7 +70,8 @@ impl World {
     ) -> Result<(World, Vec<u8>), Memory>
         requires { self.update < GREATEST_UPDATES }
         ensures world { IfOk result (λ next. next.0 ≡ record self { update = self.update + 1 }) }
-        ensures text { IfOk result (λ next. next.1.items ≡ update_text self.config (self.update + 1)) }
+        ensures text { IfOk result
+            (λ next. next.1.items ≡ update_text self.config (self.update + 1)) }
     {
         let _ = gate;
         let World { config, scene, .. } = self;
@@ -133,7 +134,8 @@ impl World {
     /// The genome of who stands in the cell; None exactly where it is empty.
     pub fn genome_at(&self, cell: u32) -> Option<&Genome>
         requires { cell < self.now.config.width * self.now.config.height }
-        ensures { option_map (λ genome. letters genome.now) result ≡ genome_in (world_in self.now) cell }
+        ensures { option_map (λ genome. letters genome.now) result
+            ≡ genome_in (world_in self.now) cell }
     {
         match &self.scene.cells[cell as usize] {
             Some(occupant) => Some(occupant.organism.genome()),

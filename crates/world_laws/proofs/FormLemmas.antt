@@ -7,13 +7,14 @@ use Rattle.std.proofs.lemmas.List.{length-map}
 use Rattle.std.proofs.lemmas.List.Sums.{sum_by-le, count_by-le-length}
 use Rattle.std.proofs.lemmas.List.Elements.{All-from_recursion}
 use Rattle.instruction_set.specs.declared.letter.Letter.{Letter}
+use Rattle.instruction_set.specs.Letter.{same_letters}
 use Rattle.genome.specs.Genome.{IsGenome}
 use Rattle.logic_tasks.specs.declared.task.Task.{Task}
 use Rattle.logic_tasks.specs.LogicTasks.{all_tasks}
 use Rattle.logic_tasks.specs.TaskSet.{has_task}
 use Rattle.merit_slices.specs.declared.merits.TheConstants.{GREATEST_MERIT}
 use Rattle.mutations.specs.Change.{is_genome_length}
-use Rattle.mutations.specs.BirthRecord.{BirthRecord, same_letters}
+use Rattle.mutations.specs.BirthRecord.{BirthRecord}
 use Rattle.mutations.specs.RecordForm.{HasRecordForm, FitsBase}
 use Rattle.log_lines.specs.Line.{Count}
 use Rattle.log_lines.specs.Kinds.{large, over_field, base_field}

@@ -12,11 +12,15 @@ pub record IsChildOf (parent link : Link) : Type 0 where
 -- a founder has no record, and the record of any other makes its genome of its parent's
 abbrev pub ComesFrom : List Link → Option ℕ → Link → Type 0
 ComesFrom everyone None link = link.origin ≡ None
-ComesFrom everyone (Some parent) link = (before : Link) × (slice_get everyone parent ≡ Some before) × IsChildOf before link
+ComesFrom everyone (Some parent) link =
+    (before : Link) × (slice_get everyone parent ≡ Some before) × IsChildOf before link
 
 -- so it is of each of these
 abbrev pub AreDescended : List Link → Type 0
-AreDescended everyone = (place : ℕ) (link : Link) → slice_get everyone place ≡ Some link → ComesFrom everyone link.parent link
+AreDescended everyone =
+    (place : ℕ) (link : Link)
+    → slice_get everyone place ≡ Some link
+    → ComesFrom everyone link.parent link
 
 -- each of a line but the first is made of the one before it
 abbrev pub IsDescent : List Link → Type 0

@@ -42,7 +42,8 @@ pub fn organisms_are_sound(config: &Config, updates: u32)
     ensures each { (cell : ℕ) (occupant : Occupant)
         → slice_get (world_after (values_of config.now) updates).cells cell ≡ Some (Some occupant)
         → IsSoundOrganism occupant.organism }
-    ensures merits { sum (map merit_in (world_after (values_of config.now) updates).cells) ≤ 2 ^ 54 }
+    ensures merits { sum (map merit_in (world_after (values_of config.now) updates).cells)
+        ≤ 2 ^ 54 }
 {
     merit_slices::laws::slices_are_few();
     organism::laws::lives_are_sound();

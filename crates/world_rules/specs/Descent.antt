@@ -36,7 +36,8 @@ pub record IsNumbered (place : ℕ) (link : Link) : Type 0 where
 
 -- so has each of these
 abbrev pub AreNumbered : List Link → Type 0
-AreNumbered everyone = (place : ℕ) (link : Link) → slice_get everyone place ≡ Some link → IsNumbered place link
+AreNumbered everyone =
+    (place : ℕ) (link : Link) → slice_get everyone place ≡ Some link → IsNumbered place link
 
 -- who stands in the cells is one of so many
 abbrev pub AreAmong : ℕ → List (Option Occupant) → Type 0

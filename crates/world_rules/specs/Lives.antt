@@ -53,11 +53,14 @@ cell_life id ended = record {
 unfoldable pub life_of : ConfigValues → ℕ → ℕ → ℕ → Option Occupant → CellLife
 life_of config update cell steps None = no_life
 life_of config update cell steps (Some o) =
-    cell_life o.id (life (settings_at config update) (draw config.seed update cell Run) (beginning o.organism) steps)
+    cell_life o.id
+    (life (settings_at config update) (draw config.seed update cell Run) (beginning o.organism)
+    steps)
 
 -- the life of a cell of these cells, as the update begins
 abbrev pub life_at : ConfigValues → ℕ → List (Option Occupant) → ℕ → CellLife
-life_at config update cells cell = life_of config update cell (slice_at config cells cell) (slice_index_or cells cell None)
+life_at config update cells cell =
+    life_of config update cell (slice_at config cells cell) (slice_index_or cells cell None)
 
 -- the lives of all cells, in their order
 unfoldable pub lives_of : ConfigValues → ℕ → List (Option Occupant) → List CellLife

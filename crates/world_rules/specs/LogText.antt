@@ -25,11 +25,14 @@ death_lines scene cells = filter_map (λ line. line) (scan with_death death_line
 
 -- the line of a birth, by the scene before it
 abbrev pub birth_line : Scene → Delivery × Placing → Line
-birth_line scene turn = Birth (next_id scene) turn.0.parent scene.update turn.1.cell (standing_at scene turn.1.cell) turn.0.newborn.origin
+birth_line scene turn =
+    Birth (next_id scene) turn.0.parent scene.update turn.1.cell (standing_at scene turn.1.cell)
+    turn.0.newborn.origin
 
 -- the lines of births, each by the scene before it
 abbrev pub birth_lines : ConfigValues → Scene → List Delivery → List Line
-birth_lines config scene births = scan (with_newborn config) birth_line scene (turns_of config scene births)
+birth_lines config scene births =
+    scan (with_newborn config) birth_line scene (turns_of config scene births)
 
 -- the line of who is cleared from a cell, where somebody is
 abbrev pub cleared_line : Scene → ℕ → Option Line
@@ -37,8 +40,10 @@ cleared_line scene cell = option_map (λ id. Cleared id scene.update cell) (stan
 
 -- the lines of what an event does, by the scene before it
 abbrev pub what_lines : Scene → WhatValue → List Line
-what_lines scene (inject cell letters) = Injected (next_id scene) scene.update cell (standing_at scene cell) letters ∷ []
-what_lines scene (clear first last) = filter_map (λ line. line) (scan with_death cleared_line scene (cells_from first last))
+what_lines scene (inject cell letters) =
+    Injected (next_id scene) scene.update cell (standing_at scene cell) letters ∷ []
+what_lines scene (clear first last) =
+    filter_map (λ line. line) (scan with_death cleared_line scene (cells_from first last))
 what_lines scene (rate name ppm) = Rate scene.update name ppm ∷ []
 
 -- the lines of an event, by the scene before it
@@ -47,7 +52,9 @@ lines_of_event scene event = what_lines scene event.1.what
 
 -- the lines of the events of the scene's update, each by the scene before it
 abbrev pub event_lines : ConfigValues → Scene → List Line
-event_lines config scene = flat_map (λ lines. lines) (scan (after_event config) lines_of_event scene (events_at config scene.update))
+event_lines config scene =
+    flat_map (λ lines. lines)
+    (scan (after_event config) lines_of_event scene (events_at config scene.update))
 
 -- the lines of an update, from the scene as these lives have ended: deaths of age, births, events, and what is counted
 unfoldable pub lines_of_lives : ConfigValues → Scene → List CellLife → List Line
@@ -61,7 +68,9 @@ lines_of_lives config scene lives =
 
 -- the lines of the update that follows a world
 unfoldable pub update_lines : ConfigValues → World → List Line
-update_lines config w = lines_of_lives config (after_lives (w.update + 1) w.everyone (lives_after config w)) (lives_after config w)
+update_lines config w =
+    lines_of_lives config (after_lives (w.update + 1) w.everyone (lives_after config w))
+    (lives_after config w)
 
 -- the first line of a run's log
 abbrev pub head_line : ConfigValues → Line

@@ -31,7 +31,12 @@ dominant_words (Some d) = decimal d.count ∷ letters_text_of d.genome ∷ []
 
 -- the words of a picture's line
 abbrev pub picture_words : PictureValue → List (List ℕ)
-picture_words p = decimal p.update ∷ decimal p.living ∷ decimal p.genotypes ∷ decimal p.merit ∷ dominant_words p.dominant
+picture_words p =
+    decimal p.update
+    ∷ decimal p.living
+    ∷ decimal p.genotypes
+    ∷ decimal p.merit
+    ∷ dominant_words p.dominant
 
 -- the line of a picture
 unfoldable pub picture_text : PictureValue → List ℕ

@@ -88,11 +88,14 @@ rules_of config = record {
   long_enough = within_bounds-least LEAST_LENGTH (greatest_of config) config.least_length;
   ordered = within_bounds-greatest LEAST_LENGTH (greatest_of config) config.least_length
       (within_bounds-least LEAST_LENGTH GREATEST_LENGTH config.greatest_length);
-  short_enough = within_bounds-greatest LEAST_LENGTH GREATEST_LENGTH config.greatest_length (lit≤ tt);
+  short_enough = within_bounds-greatest LEAST_LENGTH GREATEST_LENGTH config.greatest_length
+      (lit≤ tt);
   executed_is_asked = within_bounds-least LEAST_PERCENT GREATEST_PERCENT config.executed_percent;
-  executed_is_percent = within_bounds-greatest LEAST_PERCENT GREATEST_PERCENT config.executed_percent (lit≤ tt);
+  executed_is_percent = within_bounds-greatest LEAST_PERCENT GREATEST_PERCENT
+      config.executed_percent (lit≤ tt);
   copied_is_asked = within_bounds-least LEAST_PERCENT GREATEST_PERCENT config.copied_percent;
-  copied_is_percent = within_bounds-greatest LEAST_PERCENT GREATEST_PERCENT config.copied_percent (lit≤ tt);
+  copied_is_percent = within_bounds-greatest LEAST_PERCENT GREATEST_PERCENT config.copied_percent
+      (lit≤ tt);
 }
 
 -- what a life in an update needs to know of its world
@@ -118,4 +121,10 @@ torus_of config = record {
 
 -- what the placing of an update needs besides the cells
 abbrev pub season_at : ConfigValues → ℕ → ℕ → Season
-season_at config update next_id = record { seed = config.seed; update = update; prefer_empty = config.prefer_empty; next_id = next_id }
+season_at config update next_id =
+    record {
+      seed = config.seed;
+      update = update;
+      prefer_empty = config.prefer_empty;
+      next_id = next_id;
+    }

@@ -33,7 +33,8 @@ genomes_in cells = map (λ o. o.genome) (organisms_in cells)
 -- the different ones of some genomes, in order of their first place
 abbrev pub genotypes_of : List (List Letter) → List (List Letter)
 genotypes_of [] = []
-genotypes_of (genome ∷ genomes) = genome ∷ filter (λ other. not (same_letters genome other)) (genotypes_of genomes)
+genotypes_of (genome ∷ genomes) =
+    genome ∷ filter (λ other. not (same_letters genome other)) (genotypes_of genomes)
 
 -- how many of some genomes are this one
 abbrev pub count_of : List (List Letter) → List Letter → ℕ

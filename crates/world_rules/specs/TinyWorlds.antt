@@ -57,7 +57,8 @@ one_link = founder_link 0 0 0 (eight NopA) ∷ []
 
 -- a life without newborns
 abbrev pub barren : OrganismState → Bool → List CellLife
-barren o died = record { occupant = Some (record { id = 0; organism = o }); died = died; newborns = [] } ∷ []
+barren o died =
+    record { occupant = Some (record { id = 0; organism = o }); died = died; newborns = [] } ∷ []
 
 -- the scene of an update as that life has ended
 abbrev pub ended : ℕ → OrganismState → Bool → Scene
@@ -69,11 +70,24 @@ unchanged = record { written = None; changes = [] }
 
 -- a child of the founder with this number and merit
 abbrev pub child : ℕ → ℕ → NewbornValue
-child nth merit = record { nth = nth; genome = eight NopA; origin = unchanged; merit = merit; credited = no_tasks }
+child nth merit =
+    record {
+      nth = nth;
+      genome = eight NopA;
+      origin = unchanged;
+      merit = merit;
+      credited = no_tasks;
+    }
 
 -- a life that ended by age, of an organism that bore two
 abbrev pub fertile : OrganismState → List CellLife
-fertile o = record { occupant = Some (record { id = 0; organism = o }); died = true; newborns = child 0 8 ∷ child 1 16 ∷ [] } ∷ []
+fertile o =
+    record {
+      occupant = Some (record { id = 0; organism = o });
+      died = true;
+      newborns = child 0 8 ∷ child 1 16 ∷ [];
+    }
+    ∷ []
 
 -- the scene of update 1 as that life has ended
 abbrev pub after_fertile : OrganismState → Scene

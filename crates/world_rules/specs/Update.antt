@@ -15,11 +15,13 @@ use Rattle.world_rules.specs.Scene.{Scene, next_id, with_deaths, cells_from, wit
 
 -- the scene as all lives have ended, with the dead still in their cells
 abbrev pub after_lives : ℕ → List Link → List CellLife → Scene
-after_lives update everyone lives = record { update = update; cells = map (λ l. l.occupant) lives; everyone = everyone; gone = [] }
+after_lives update everyone lives =
+    record { update = update; cells = map (λ l. l.occupant) lives; everyone = everyone; gone = [] }
 
 -- the cells whose organism died of age, rising
 unfoldable pub deaths_of : List CellLife → List ℕ
-deaths_of lives = filter (λ cell. (slice_index_or lives cell no_life).died) (range_with_len 0 (length lives))
+deaths_of lives =
+    filter (λ cell. (slice_index_or lives cell no_life).died) (range_with_len 0 (length lives))
 
 -- once those that died of age have left their cells
 unfoldable pub after_burials : Scene → List CellLife → Scene
@@ -68,12 +70,14 @@ birth_link id update b cell = record {
 -- a newborn as an organism
 abbrev pub child_of_birth : ConfigValues → Delivery → Placing → OrganismState
 child_of_birth config b placing =
-    new_organism b.newborn.genome placing.inputs b.newborn.merit b.newborn.credited config.memory_limit
+    new_organism b.newborn.genome placing.inputs b.newborn.merit b.newborn.credited
+    config.memory_limit
 
 -- a newborn stands in the cell of its placing, with the next id
 unfoldable pub with_newborn : ConfigValues → Scene → Delivery × Placing → Scene
 with_newborn config scene turn =
-    with_newcomer scene (birth_link (next_id scene) scene.update turn.0 turn.1.cell) (child_of_birth config turn.0 turn.1)
+    with_newcomer scene (birth_link (next_id scene) scene.update turn.0 turn.1.cell)
+    (child_of_birth config turn.0 turn.1)
 
 -- the newborns with their placings
 abbrev pub turns_of : ConfigValues → Scene → List Delivery → List (Delivery × Placing)
@@ -90,7 +94,8 @@ events_at config update = filter (λ event. event.1.update == update) (enumerate
 -- after what an event does; a rate changes nobody
 abbrev pub after_what : ConfigValues → Scene → ℕ → WhatValue → Scene
 after_what config scene nth (inject cell letters) =
-    with_newcomer scene (founder_link (next_id scene) scene.update cell letters) (founder_of config cell nth letters)
+    with_newcomer scene (founder_link (next_id scene) scene.update cell letters)
+    (founder_of config cell nth letters)
 after_what config scene nth (clear first last) = with_deaths scene (cells_from first last)
 after_what config scene nth (rate name ppm) = scene
 
@@ -104,11 +109,13 @@ after_events config scene = fold (after_event config) scene (events_at config sc
 
 -- the end of an update: burials, then births, then events
 unfoldable pub last_scene : ConfigValues → Scene → List CellLife → Scene
-last_scene config scene lives = after_events config (after_births config (after_burials scene lives) (births_of lives))
+last_scene config scene lives =
+    after_events config (after_births config (after_burials scene lives) (births_of lives))
 
 -- the scene at the end of the update after a world, given the lives of its cells
 unfoldable pub scene_of_lives : ConfigValues → World → List CellLife → Scene
-scene_of_lives config w lives = last_scene config (after_lives (w.update + 1) w.everyone lives) lives
+scene_of_lives config w lives =
+    last_scene config (after_lives (w.update + 1) w.everyone lives) lives
 
 -- the world that a scene leaves
 abbrev pub world_of : Scene → World

@@ -44,11 +44,13 @@ founder_words seed cell nth =
 -- a founder in a cell: the configuration's own is number 0, an injected one has its event's place in the list, from 1
 unfoldable pub founder_of : ConfigValues → ℕ → ℕ → List Letter → OrganismState
 founder_of config cell nth letters =
-    new_organism letters (inputs_of (founder_words config.seed cell nth)) (length letters) no_tasks config.memory_limit
+    new_organism letters (inputs_of (founder_words config.seed cell nth)) (length letters) no_tasks
+    config.memory_limit
 
 -- how a founder stands in the list of all
 abbrev pub founder_link : ℕ → ℕ → ℕ → List Letter → Link
-founder_link id update cell letters = record { id = id; parent = None; update = update; cell = cell; origin = None; genome = letters }
+founder_link id update cell letters =
+    record { id = id; parent = None; update = update; cell = cell; origin = None; genome = letters }
 
 -- the cells of a world in which nobody stands
 abbrev pub empty_cells : ConfigValues → List (Option Occupant)
@@ -56,7 +58,8 @@ empty_cells config = replicate (config.width * config.height) None
 
 -- the organism of the ancestor, with id 0
 abbrev pub first_occupant : ConfigValues → Occupant
-first_occupant config = record { id = 0; organism = founder_of config config.founder_cell 0 config.ancestor }
+first_occupant config =
+    record { id = 0; organism = founder_of config config.founder_cell 0 config.ancestor }
 
 -- the world of update 0: the configuration's founder alone
 unfoldable pub first_world : ConfigValues → World

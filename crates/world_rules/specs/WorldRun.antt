@@ -17,7 +17,8 @@ resident_of cell o = record { cell = cell; id = o.id; genome = o.organism.genome
 
 -- who stands in some cells, in their order
 abbrev pub residents_in : List (Option Occupant) → List Resident
-residents_in cells = filter_map (λ place. option_map (resident_of place.0) place.1) (enumerate_from 0 cells)
+residents_in cells =
+    filter_map (λ place. option_map (resident_of place.0) place.1) (enumerate_from 0 cells)
 
 -- cell, id and genome of each occupied cell, in the order of the cells
 abbrev pub residents_of_world : World → List Resident

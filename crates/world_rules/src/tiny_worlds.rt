@@ -33,9 +33,11 @@ pub fn the_founder_gets_all_steps()
 
 #[tactic(auto, unfolding(crate::specs::LogText::lines_of_lives, crate::specs::Update::last_scene, crate::specs::Update::deaths_of, crate::specs::Update::after_burials, crate::specs::Update::births_of, crate::specs::Update::placings_of, crate::specs::Update::after_births, crate::specs::Update::with_newborn, crate::specs::Update::events_at, crate::specs::Update::after_event, crate::specs::Update::after_events, crate::specs::Scene::with_death, crate::specs::Scene::with_newcomer, crate::specs::Statistics::stats_in, crate::specs::World::founder_of, organism::specs::OrganismState::new_organism, birth_board::specs::Placement::placements_of))]
 pub fn an_update_tells_its_events()
-    ensures inject { (o : OrganismState) → lines_of_lives (tiny (once (inject 0 (eight NopB)))) (ended 1 o false) (barren o false)
+    ensures inject { (o : OrganismState)
+        → lines_of_lives (tiny (once (inject 0 (eight NopB)))) (ended 1 o false) (barren o false)
         ≡ Injected 1 1 0 (Some 0) (eight NopB) ∷ counts 1 1 0 1 1 8 ∷ [] }
-    ensures clear { (o : OrganismState) → lines_of_lives (tiny (once (clear 0 0))) (ended 1 o false) (barren o false)
+    ensures clear { (o : OrganismState)
+        → lines_of_lives (tiny (once (clear 0 0))) (ended 1 o false) (barren o false)
         ≡ Cleared 0 1 0 ∷ counts 1 0 0 1 0 0 ∷ [] }
     ensures death { (o : OrganismState) → lines_of_lives (tiny []) (ended 4 o true) (barren o true)
         ≡ Death 0 4 0 ∷ counts 4 0 0 1 0 0 ∷ [] }
@@ -53,8 +55,10 @@ pub fn the_first_picture_shows_the_founder()
 
 #[tactic(auto, unfolding(crate::specs::LogText::update_lines, crate::specs::LogText::lines_of_lives, crate::specs::Lives::lives_of, crate::specs::Lives::life_of, crate::specs::Lives::slices_at, crate::specs::Settings::settings_at, crate::specs::Settings::rates_at, crate::specs::Update::last_scene, crate::specs::Update::deaths_of, crate::specs::Update::after_burials, crate::specs::Update::births_of, crate::specs::Update::placings_of, crate::specs::Update::after_births, crate::specs::Update::events_at, crate::specs::Update::after_event, crate::specs::Update::after_events, crate::specs::Scene::with_death, crate::specs::Statistics::stats_in, crate::specs::World::first_world, crate::specs::World::founder_of, organism::specs::OrganismState::new_organism, organism::specs::UpdateLife::life, organism::specs::UpdateLife::death_in, organism::specs::UpdateLife::state_after, organism::specs::UpdateLife::after_step, organism::specs::Life::life_step, virtual_cpu::specs::Step::step, merit_slices::specs::Slices::slices_of))]
 pub fn an_organism_dies_with_the_step_of_its_age_limit()
-    ensures alone { update_lines (tiny []) (first_world (tiny [])) ≡ Death 0 1 0 ∷ counts 1 0 0 1 0 0 ∷ [] }
-    ensures with_event { update_lines (tiny (once (rate Copy 5))) (first_world (tiny (once (rate Copy 5))))
+    ensures alone { update_lines (tiny []) (first_world (tiny []))
+        ≡ Death 0 1 0 ∷ counts 1 0 0 1 0 0 ∷ [] }
+    ensures with_event { update_lines (tiny (once (rate Copy 5)))
+        (first_world (tiny (once (rate Copy 5))))
         ≡ Death 0 1 0 ∷ Rate 1 Copy 5 ∷ counts 1 0 0 1 0 0 ∷ [] }
 {}
 
@@ -67,5 +71,6 @@ pub fn an_empty_world_goes_on()
 /// The first takes the cell of the dead parent, and the second that of the first.
 pub fn newborns_take_the_only_cell()
     ensures { (o : OrganismState) → lines_of_lives (tiny []) (after_fertile o) (fertile o)
-        ≡ Death 0 1 0 ∷ Birth 1 0 1 0 None unchanged ∷ Birth 2 0 1 0 (Some 1) unchanged ∷ counts 1 1 2 2 1 16 ∷ [] }
+        ≡ Death 0 1 0 ∷ Birth 1 0 1 0 None unchanged ∷ Birth 2 0 1 0 (Some 1) unchanged
+        ∷ counts 1 1 2 2 1 16 ∷ [] }
 {}
