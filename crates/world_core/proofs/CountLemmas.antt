@@ -8,13 +8,13 @@ use Rattle.std.proofs.lemmas.List.Elements.{filter_map-append, All-map, All-same
 use Rattle.std.proofs.lemmas.List.Sums.{sum_by_push, sum_by-cons, sum_by-le, count_by-le-length}
 use Rattle.genome.specs.Genome.{letters}
 use Rattle.instruction_set.specs.declared.letter.Letter.{Letter}
+use Rattle.instruction_set.specs.Letter.{same_letters}
 use Rattle.lineage_log.specs.Slots.{taken}
 use Rattle.logic_tasks.specs.declared.task.Task.{Task}
 use Rattle.logic_tasks.specs.declared.task.Task.TheVariants.{Not}
 use Rattle.logic_tasks.specs.LogicTasks.{all_tasks, place_of}
 use Rattle.logic_tasks.specs.TaskSet.{has_task}
 use Rattle.merit_slices.specs.declared.merits.TheConstants.{GREATEST_MERIT}
-use Rattle.mutations.specs.BirthRecord.{same_letters}
 use Rattle.organism.specs.OrganismState.{OrganismState}
 use Rattle.random_streams.specs.declared.draws.TheConstants.{CELLS}
 use Rattle.world_rules.specs.World.{Occupant, id_of, ids_of}
@@ -25,7 +25,7 @@ use Rattle.world_core.specs.Soundness.{AreBounded, IsBoundedIn}
 use Rattle.world_core.specs.declared.counting.Tally.{Tally}
 use Rattle.world_core.specs.Tally.{IsTallyOf, IsSmall, letters_in, with_genome}
 use Rattle.world_core.proofs.DifferentLemmas.{distinct, distinct_push}
-use Rattle.world_core.proofs.GenomeLemmas.{same_letters-Decides}
+use Rattle.world_core.proofs.GenomeLemmas.{OneList}
 
 pub organisms_in-none : (cells : List (Option Occupant)) → organisms_in (cells ++ None ∷ []) ≡ organisms_in cells
 organisms_in-none cells = filter_map-append organism_in cells (None ∷ []) ∙ append-nil (organisms_in cells)
@@ -37,16 +37,16 @@ pub taken_push : (cells : List (Option Occupant)) (slot : Option Occupant) → t
 taken_push cells None = ap taken (map_push id_of cells None) ∙ sum_by_push _ (ids_of cells) None
 taken_push cells (Some o) = ap taken (map_push id_of cells (Some o)) ∙ sum_by_push _ (ids_of cells) (Some o.id)
 
-pub genotypes_of_is : (genomes : List (List Letter)) → genotypes_of genomes ≡ distinct same_letters same_letters-Decides genomes
-genotypes_of_is [] = refl
-genotypes_of_is (genome ∷ genomes) = ap (λ gs. genome ∷ filter (λ other. not (same_letters genome other)) gs) (genotypes_of_is genomes)
+pub genotypes_of_is : (one_list : OneList) (genomes : List (List Letter)) → genotypes_of genomes ≡ distinct same_letters one_list genomes
+genotypes_of_is one_list [] = refl
+genotypes_of_is one_list (genome ∷ genomes) = ap (λ gs. genome ∷ filter (λ other. not (same_letters genome other)) gs) (genotypes_of_is one_list genomes)
 
 -- a genome behind others is one more of the different ones, unless it is among them
-pub genotypes_of_push : (genomes : List (List Letter)) (genome : List Letter) → genotypes_of (genomes ++ genome ∷ []) ≡ with_genome (genotypes_of genomes) genome
-genotypes_of_push genomes genome =
-    genotypes_of_is (genomes ++ genome ∷ [])
-    ∙ distinct_push same_letters same_letters-Decides genomes genome
-    ∙ ap (λ gs. with_genome gs genome) (sym (genotypes_of_is genomes))
+pub genotypes_of_push : OneList → (genomes : List (List Letter)) (genome : List Letter) → genotypes_of (genomes ++ genome ∷ []) ≡ with_genome (genotypes_of genomes) genome
+genotypes_of_push one_list genomes genome =
+    genotypes_of_is one_list (genomes ++ genome ∷ [])
+    ∙ distinct_push same_letters one_list genomes genome
+    ∙ ap (λ gs. with_genome gs genome) (sym (genotypes_of_is one_list genomes))
 
 -- how many have each task
 abbrev tasks_by : List OrganismState → List ℕ
@@ -68,8 +68,8 @@ map_alike f g alike [] = refl
 map_alike f g alike (x ∷ xs) = ap (λ y. y ∷ map f xs) (alike x) ∙ ap (λ ys. g x ∷ ys) (map_alike f g alike xs)
 
 -- one more organism in its cell
-pub tally-some : (cells : List (Option Occupant)) (o : Occupant) (before after : Tally) → after.living ≡ before.living + 1 → after.merit ≡ before.merit + o.organism.merit → after.tasks ≡ map (λ task. slice_index before.tasks (place_of task) + cond (has_task o.organism.credited task) 1 0) all_tasks → letters_in after.genomes.keys ≡ with_genome (letters_in before.genomes.keys) o.organism.genome → IsTallyOf cells before → IsTallyOf (cells ++ Some o ∷ []) after
-tally-some cells o before after living merit tasks genomes is =
+pub tally-some : OneList → (cells : List (Option Occupant)) (o : Occupant) (before after : Tally) → after.living ≡ before.living + 1 → after.merit ≡ before.merit + o.organism.merit → after.tasks ≡ map (λ task. slice_index before.tasks (place_of task) + cond (has_task o.organism.credited task) 1 0) all_tasks → letters_in after.genomes.keys ≡ with_genome (letters_in before.genomes.keys) o.organism.genome → IsTallyOf cells before → IsTallyOf (cells ++ Some o ∷ []) after
+tally-some one_list cells o before after living merit tasks genomes is =
     let os : List OrganismState = organisms_in cells in
     let some : organisms_in cells ++ o.organism ∷ [] ≡ organisms_in (cells ++ Some o ∷ []) = sym (organisms_in-some cells o) in
     record {
@@ -79,7 +79,7 @@ tally-some cells o before after living merit tasks genomes is =
           ∙ ap (λ ns. map (λ task. slice_index ns (place_of task) + cond (has_task o.organism.credited task) 1 0) all_tasks) is.tasks
           ∙ map_alike _ _ (λ task. sym (sum_by_push (λ o. cond (has_task o.credited task) 1 0) os o.organism)) all_tasks
           ∙ ap tasks_by some;
-      genomes = genomes ∙ ap (λ gs. with_genome gs o.organism.genome) is.genomes ∙ sym (genotypes_of_push (map (λ o. o.genome) os) o.organism.genome)
+      genomes = genomes ∙ ap (λ gs. with_genome gs o.organism.genome) is.genomes ∙ sym (genotypes_of_push one_list (map (λ o. o.genome) os) o.organism.genome)
           ∙ ap genotypes_of (sym (map_push (λ o. o.genome) os o.organism))
           ∙ ap (λ (os : List OrganismState). genotypes_of (map (λ o. o.genome) os)) some;
     }

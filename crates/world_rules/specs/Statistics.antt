@@ -4,13 +4,12 @@ use Rattle.std.specs.List.{filter_map, list_all, count_by, sum_by}
 use Rattle.std.specs.Ordering.{nat_cmp, is_lt}
 use Rattle.std.specs.Cmp.Lexicographic.{slice_cmp}
 use Rattle.instruction_set.specs.declared.letter.Letter.{Letter}
-use Rattle.instruction_set.specs.Letter.{index_of}
+use Rattle.instruction_set.specs.Letter.{index_of, same_letters}
 use Rattle.logic_tasks.specs.declared.task.Task.{Task}
 use Rattle.logic_tasks.specs.LogicTasks.{all_tasks}
 use Rattle.logic_tasks.specs.TaskSet.{has_task}
 use Rattle.log_lines.specs.declared.stats.Stats.{Stats}
 use Rattle.lineage_log.specs.Slots.{taken}
-use Rattle.mutations.specs.BirthRecord.{same_letters}
 use Rattle.organism.specs.OrganismState.{OrganismState}
 use Rattle.world_config.specs.Values.{ConfigValues}
 use Rattle.world_rules.specs.World.{Occupant, World, ids_of}
