@@ -8,12 +8,12 @@ ghost use Rattle.world_config.specs.Shown.{values_of};
 ghost use Rattle.world_rules.specs.LogText.{birth_line, birth_lines};
 ghost use Rattle.world_rules.specs.Scene.{next_id, standing_at};
 ghost use Rattle.world_rules.specs.Update.{placings_of, with_newborn, after_births};
-ghost use Rattle.world_rules.specs.World.{id_of, ids_of};
+ghost use Rattle.world_rules.specs.World.{ids_of};
 ghost use Rattle.world_core.specs.Soundness.{IsDelivery, AreDeliveries};
 
 use crate::ancestor::Ancestor;
 use crate::delivery::Delivery;
-use crate::occupant::Occupant;
+use crate::occupant::{Occupant, id_of};
 use crate::scene::Scene;
 use crate::settings::{season_at, torus_of};
 use crate::telling::tell;
@@ -91,16 +91,6 @@ fn board_of(alloc: Global, cells: &[Option<Occupant>]) -> Result<Occupants, Memo
 {
     let ids = cells.iter().map(id_of).collect(alloc)?;
     Ok(Occupants::from_vec(ids))
-}
-
-/// The id of who stands in a cell.
-fn id_of(slot: &Option<Occupant>) -> Option<u64>
-    ensures { result ≡ id_of slot.now }
-{
-    match slot {
-        Some(occupant) => Some(occupant.id),
-        None => None,
-    }
 }
 
 /// A newborn stands in the cell of its placing, with the next id, and has its line.

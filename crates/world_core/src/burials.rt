@@ -3,7 +3,7 @@ ghost use Rattle.std.specs.Prelude.{◌≡◌, ◌++◌, ◌<◌, All, OnOk, len
 ghost use Rattle.std.specs.Option.{option_to_list};
 ghost use Rattle.lineage_log.specs.LogGrammar.{lines_text};
 ghost use Rattle.world_rules.specs.LogText.{death_line, death_lines};
-ghost use Rattle.world_rules.specs.Scene.{with_death, with_deaths};
+ghost use Rattle.world_rules.specs.Scene.{with_deaths};
 
 use crate::scene::Scene;
 use avida_port::Memory;
@@ -19,23 +19,9 @@ pub(crate) fn bury(scene: &mut Scene, dead: &[u32], text: &mut Vec<u8>) -> Resul
     ensures everyone { OnOk result (scene.new.everyone ≡ scene.old.everyone) }
 {
     for cell in dead {
-        bury_one(scene, *cell, text)?;
+        tell_death(scene, *cell, text)?;
+        scene.die(*cell)?;
     }
-    Ok(())
-}
-
-/// Who stands in the cell dies, with a line.
-#[tactic(auto, unfolding(world_rules::specs::Scene::with_death))]
-fn bury_one(scene: &mut Scene, cell: u32, text: &mut Vec<u8>) -> Result<(), Memory>
-    requires { cell < length scene.old.cells }
-    ensures scene { OnOk result (scene.new ≡ with_death scene.old cell) }
-    ensures text { OnOk result (text.new.items
-        ≡ text.old.items ++ lines_text (option_to_list (death_line scene.old cell))) }
-    ensures size { OnOk result (length scene.new.cells ≡ length scene.old.cells) }
-    ensures everyone { OnOk result (scene.new.everyone ≡ scene.old.everyone) }
-{
-    tell_death(scene, cell, text)?;
-    scene.die(cell)?;
     Ok(())
 }
 

@@ -7,7 +7,7 @@ ghost use Rattle.log_lines.specs.Line.{Rate};
 ghost use Rattle.world_config.specs.Events.{what_value, inject, clear};
 ghost use Rattle.world_config.specs.Shown.{values_of};
 ghost use Rattle.world_rules.specs.LogText.{event_lines, what_lines, cleared_line};
-ghost use Rattle.world_rules.specs.Scene.{cells_from, with_death, with_deaths};
+ghost use Rattle.world_rules.specs.Scene.{cells_from, with_deaths};
 ghost use Rattle.world_rules.specs.Update.{after_events, after_what};
 ghost use Rattle.world_core.specs.Happening.{CanHappen};
 
@@ -147,23 +147,9 @@ fn clear(scene: &mut Scene, first: u32, last: u32, text: &mut Vec<u8>) -> Result
     ensures everyone { OnOk result (scene.new.everyone ≡ scene.old.everyone) }
 {
     for cell in first..last + 1 {
-        clear_one(scene, cell, text)?;
+        tell_clearing(scene, cell, text)?;
+        scene.die(cell)?;
     }
-    Ok(())
-}
-
-/// Who stands in the cell dies, with a line.
-#[tactic(auto, unfolding(world_rules::specs::Scene::with_death))]
-fn clear_one(scene: &mut Scene, cell: u32, text: &mut Vec<u8>) -> Result<(), Memory>
-    requires { cell < length scene.old.cells }
-    ensures scene { OnOk result (scene.new ≡ with_death scene.old cell) }
-    ensures text { OnOk result (text.new.items
-        ≡ text.old.items ++ lines_text (option_to_list (cleared_line scene.old cell))) }
-    ensures size { OnOk result (length scene.new.cells ≡ length scene.old.cells) }
-    ensures everyone { OnOk result (scene.new.everyone ≡ scene.old.everyone) }
-{
-    tell_clearing(scene, cell, text)?;
-    scene.die(cell)?;
     Ok(())
 }
 

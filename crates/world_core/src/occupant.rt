@@ -1,3 +1,7 @@
+// Who stands in a cell.
+ghost use Rattle.std.specs.Prelude.{◌≡◌};
+ghost use Rattle.world_rules.specs.World.{id_of};
+
 use organism::Organism;
 use std::marker::Model;
 
@@ -14,4 +18,14 @@ impl Model for Occupant {
     ghost Value = { Occupant };
 
     ghost view = { λ o. record { id = o.id; organism = o.organism } };
+}
+
+/// The id of who stands in a cell.
+pub(crate) fn id_of(slot: &Option<Occupant>) -> Option<u64>
+    ensures { result ≡ id_of slot.now }
+{
+    match slot {
+        Some(occupant) => Some(occupant.id),
+        None => None,
+    }
 }

@@ -4,7 +4,7 @@ ghost use Rattle.merit_slices.specs.declared.merits.TheConstants.{GREATEST_MERIT
 ghost use Rattle.world_rules.specs.Scene.{next_id, standing_at, with_death, with_newcomer};
 
 use crate::ancestor::Ancestor;
-use crate::occupant::Occupant;
+use crate::occupant::{Occupant, id_of};
 use avida_port::Memory;
 use organism::Organism;
 use std::marker::Model;
@@ -46,17 +46,16 @@ impl Scene {
         requires { cell < length self.now.cells }
         ensures { result ≡ standing_at self.now cell }
     {
-        match &self.cells[cell as usize] {
-            Some(occupant) => Some(occupant.id),
-            None => None,
-        }
+        id_of(&self.cells[cell as usize])
     }
 
     /// Who stands in the cell dies. After `Memory` drop the scene.
     #[tactic(auto, unfolding(world_rules::specs::Scene::with_death))]
     pub(crate) fn die(&mut self, cell: u32) -> Result<(), Memory>
         requires { cell < length self.old.cells }
-        ensures { OnOk result (self.new ≡ with_death self.old cell) }
+        ensures scene { OnOk result (self.new ≡ with_death self.old cell) }
+        ensures size { OnOk result (length self.new.cells ≡ length self.old.cells) }
+        ensures everyone { OnOk result (self.new.everyone ≡ self.old.everyone) }
     {
         if let Some(id) = self.standing_at(cell) {
             self.gone.push(id)?;

@@ -12,11 +12,11 @@ loop-cell-preserved c =
     let i = c.loop-cell.cell-index in
     let first = c.args.scene.now in
     let before = c.loop-cell.invariant in
-    let turn = c.in_ok-bury_one.ensures in
+    let turn = c.in_ok-die.ensures in
     let within : i < length dead = c.loop-cell-test.true in
     record {
       scene = turn.scene ∙ ap (λ s. with_death s (get_or dead i 0)) before.scene ∙ sym (fold_more with_death first dead i 0 within);
-      text = told-step with_death death_line line_text first c.loop-cell.scene dead i 0 c.args.text.now.items c.loop-cell.text.items c.bury_one.new.text.items within before.scene before.text turn.text;
+      text = told-step with_death death_line line_text first c.loop-cell.scene dead i 0 c.args.text.now.items c.loop-cell.text.items c.tell_death.new.text.items within before.scene before.text c.in_ok-tell_death.ensures;
       size = turn.size ∙ before.size;
       everyone = turn.everyone ∙ before.everyone;
     }
