@@ -5,7 +5,7 @@ use Rattle.world_config.specs.Values.{ConfigValues}
 use Rattle.world_rules.specs.LogText.{head_text, update_text, updates_text, end_text, log_text}
 use Rattle.avida_program.specs.declared.outcome.Outcome.{Outcome}
 use Rattle.avida_program.specs.declared.outcome.Outcome.TheVariants as outcome
-use Rattle.avida_program.specs.Commands.{change}
+use Rattle.avida_program.specs.Changes.{change}
 use Rattle.avida_program.specs.Outcomes.{StopsWithin, WritesAll}
 use Rattle.avida_program.proofs.PutLemmas.{append_known-nothing, front_short, front_then, gained_then, rose_later}
 

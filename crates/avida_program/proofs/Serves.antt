@@ -9,8 +9,9 @@ use Rattle.avida_program.specs.declared.outcome.Outcome.{Outcome}
 use Rattle.avida_program.specs.declared.outcome.Outcome.TheVariants as outcome
 use Rattle.avida_program.specs.declared.refusal.Refusal.{Refusal}
 use Rattle.avida_program.specs.Input.{IsInputWith, configuration_of, lineage_input_of}
-use Rattle.avida_program.specs.Status.{status_of}
-use Rattle.avida_program.specs.Commands.{Change, Stays, TellsOf, GainedFront, ServesInput, ServesLineage, ServesRun, told_by}
+use Rattle.avida_program.specs.Status.{status_of, told_by}
+use Rattle.avida_program.specs.Changes.{Change, Stays, TellsOf, GainedFront}
+use Rattle.avida_program.specs.Commands.{ServesInput, ServesLineage, ServesRun}
 use Rattle.avida_program.specs.Outcomes.{Descends, LeavesFinal, LeavesLast, LeavesWorld, ReadsInput, Runs}
 
 -- nothing is a front of every text

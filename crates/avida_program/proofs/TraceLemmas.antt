@@ -7,7 +7,7 @@ use Rattle.avida_port.specs.Ports.{SinkState, Puts, GainedPrefix}
 use Rattle.avida_program.proofs.PutLemmas.{puts_short, puts_then}
 use Rattle.organism.specs.OrganismState.{OrganismState}
 use Rattle.organism.specs.TracedStep.{TracedStep, trace_step_of}
-use Rattle.avida_program.specs.Commands.{change}
+use Rattle.avida_program.specs.Changes.{change}
 use Rattle.avida_program.specs.Outcomes.{WritesText, outcome_of}
 use Rattle.avida_program.specs.Pieces.{Writes}
 use Rattle.avida_program.specs.TraceText.{lines_of, numbers_below, organism_after, step_after, trace_line}

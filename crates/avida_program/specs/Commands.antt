@@ -1,12 +1,9 @@
 -- What `serve` promises of each command: a record a command, with a field for each sentence
 -- (docs/FORMATS.md, "The command line" and "Statuses and fault lines").
-use Rattle.std.specs.Prelude.{◌≡◌, ◌≢◌, ◌⊎◌, ◌++◌, ℕ, List, Option, Some, Result, Ok, Err, codes, decimal, flat_map, map}
-use Rattle.avida_port.specs.Faults.{Rose}
-use Rattle.avida_port.specs.Ports.{SourceState, SinkState, Gained, GainedPrefix, AtEnd}
-use Rattle.instruction_set.specs.Letter.{byte_of}
+use Rattle.std.specs.Prelude.{◌≡◌, ◌≢◌, ◌⊎◌, ℕ, List, Option, Some, Result, Ok, Err}
+use Rattle.avida_port.specs.Ports.{SourceState, SinkState, AtEnd}
 use Rattle.log_lines.specs.Line.{Line}
 use Rattle.lineage_log.specs.LogGrammar.{lines_text}
-use Rattle.lineage_log.specs.Replay.{Resident, replay_of}
 use Rattle.lineage_log.specs.Upgrade.{upgraded}
 use Rattle.world_config.specs.Values.{ConfigValues}
 use Rattle.world_rules.specs.Laws.{ReplaysToLiving}
@@ -15,70 +12,13 @@ use Rattle.world_core.specs.WorldValue.{WorldValue}
 use Rattle.avida_program.specs.declared.command.Spelling.{Spelling}
 use Rattle.avida_program.specs.declared.status.Status.{Status}
 use Rattle.avida_program.specs.declared.status.Status.TheVariants as status
-use Rattle.avida_program.specs.declared.outcome.Outcome.{Outcome}
-use Rattle.avida_program.specs.declared.outcome.Outcome.TheVariants as outcome
 use Rattle.avida_program.specs.declared.refusal.Refusal.{Refusal}
+use Rattle.avida_program.specs.Changes.{Change, Stays, SourceFailed, SinkFailed, GainedText, GainedFront, TellsOf}
 use Rattle.avida_program.specs.Input.{IsInputWith, configuration_of, genome_of, lineage_input_of, log_input_of}
 use Rattle.avida_program.specs.PathText.{path_text}
-use Rattle.avida_program.specs.Status.{fault_line}
+use Rattle.avida_program.specs.ReplayText.{replay_text}
+use Rattle.avida_program.specs.Status.{told_by, told_by_words}
 use Rattle.avida_program.specs.TraceText.{trace_text}
-
--- what a call finds and what it leaves
-pub record Change (A : Type 0) : Type 0 where
-  pub before : A
-  pub after : A
-
--- a value before and after a call
-abbrev pub change : {A : Type 0} → A → A → Change A
-change before after = record { before = before; after = after }
-
--- nothing of it was changed
-abbrev pub Stays : {A : Type 0} → Change A → Type 0
-Stays c = c.after ≡ c.before
-
--- the faults of a source rose
-abbrev pub SourceFailed : Change SourceState → Type 0
-SourceFailed source = Rose source.before.faults source.after.faults
-
--- the faults of a sink rose
-abbrev pub SinkFailed : Change SinkState → Type 0
-SinkFailed sink = Rose sink.before.faults sink.after.faults
-
--- the faults or the wants of a sink rose
-abbrev pub SinkStopped : Change SinkState → Type 0
-SinkStopped sink = SinkFailed sink ⊎ Rose sink.before.wants sink.after.wants
-
--- exactly this text came behind what the sink held
-abbrev pub GainedText : Change SinkState → List ℕ → Type 0
-GainedText sink text = Gained sink.before sink.after text
-
--- a front of this text came behind what the sink held
-abbrev pub GainedFront : Change SinkState → List ℕ → Type 0
-GainedFront sink text = GainedPrefix sink.before sink.after text
-
--- the fault line of an outcome on `err`
-pub record TellsOf (err : Change SinkState) (told : Outcome) : Type 0 where
-  -- nothing where all is done
-  pub done : told ≡ outcome.Done → Stays err
-  -- else a front of the line
-  pub front : told ≢ outcome.Done → GainedFront err (fault_line told)
-  -- and the whole line where no put to `err` has failed or wanted memory
-  pub whole : told ≢ outcome.Done → ¬ SinkStopped err → GainedText err (fault_line told)
-
--- the outcome that a status tells of, where the input reads so
-abbrev pub told_by : {A : Type 0} → Result A Refusal → Status → Outcome
-told_by read status.Done = outcome.Done
-told_by read status.BadWords = outcome.BadWords
-told_by (Ok input) status.BadInput = outcome.Done
-told_by (Err why) status.BadInput = outcome.BadInput why
-told_by read status.ReadFault = outcome.ReadFault
-told_by read status.WriteFault = outcome.WriteFault
-told_by read status.NoMemory = outcome.NoMemory
-
--- the outcome that a status tells of, where the words give no command
-abbrev pub told_by_words : Status → Outcome
-told_by_words status.NoMemory = outcome.NoMemory
-told_by_words _ = outcome.BadWords
 
 -- the words give no command
 pub record ServesNothing (source : Change SourceState) (out watch err : Change SinkState)
@@ -158,15 +98,6 @@ pub record ServesLineage (cell : ℕ) (bytes : List ℕ) (source : Change Source
       → IsInputWith (lineage_input_of cell bytes) (λ config. last.after ≡ Some (final_world config))
   -- else what was there stays
   pub last_stays : s ≢ status.Done → Stays last
-
--- the line of one who lives: the cell, the id and the letters
-abbrev pub resident_line : Resident → List ℕ
-resident_line r =
-    decimal r.cell ++ codes " " ++ decimal r.id ++ codes " " ++ map byte_of r.genome ++ codes "\n"
-
--- who lives at the end of a log, a line each
-abbrev pub replay_text : List Line → List ℕ
-replay_text lines = flat_map resident_line (replay_of lines)
 
 -- `replay`, on a source that tells these bytes
 pub record ServesReplay (bytes : List ℕ) (source : Change SourceState)

@@ -4,5 +4,7 @@ pub mod Pieces
 pub mod TraceText
 pub mod PathText
 pub mod Input
+pub mod ReplayText
+pub mod Changes
 pub mod Commands
 pub mod Outcomes

@@ -14,7 +14,8 @@ use Rattle.avida_program.specs.declared.refusal.Refusal.TheVariants.{TooLong}
 use Rattle.avida_program.specs.Input.{IsInputWith, configuration_of, genome_of, lineage_input_of}
 use Rattle.avida_program.specs.PathText.{path_text}
 use Rattle.avida_program.specs.TraceText.{trace_text}
-use Rattle.avida_program.specs.Commands.{Change, Stays, SourceFailed, SinkFailed, GainedText, GainedFront, change, final_world, run_text}
+use Rattle.avida_program.specs.Changes.{Change, Stays, SourceFailed, SinkFailed, GainedText, GainedFront, change}
+use Rattle.avida_program.specs.Commands.{final_world, run_text}
 
 -- a fault is told only where its count rose
 pub record HasCauses (source : Change SourceState) (out : Change SinkState)

@@ -1,5 +1,5 @@
 -- What `lineage` writes (docs/FORMATS.md, "Lines of descent").
-use Rattle.std.specs.Prelude.{ℕ, [], ◌∷◌, ◌++◌, List, Option, None, Some, codes, decimal, flat_map, map}
+use Rattle.std.specs.Prelude.{ℕ, [], ◌∷◌, ◌++◌, List, Option, None, Some, codes, flat_map, map}
 use Rattle.instruction_set.specs.Letter.{byte_of}
 use Rattle.log_lines.specs.Kinds.{base_field, changes_field}
 use Rattle.log_lines.specs.LineText.{words_text}

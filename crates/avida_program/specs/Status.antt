@@ -1,5 +1,5 @@
 -- Statuses, and the lines that tell of them (docs/FORMATS.md, "Statuses and fault lines").
-use Rattle.std.specs.Prelude.{ℕ, ◌&&◌, nat_le, if◌then◌else◌, List, [], ◌++◌, map, take, codes, decimal}
+use Rattle.std.specs.Prelude.{ℕ, ◌&&◌, nat_le, if◌then◌else◌, List, [], ◌++◌, Result, Ok, Err, map, take, codes, decimal}
 use Rattle.std.specs.Fmt.{signed_decimal}
 use Rattle.avida_program.specs.declared.status.Status.{Status}
 use Rattle.avida_program.specs.declared.status.Status.TheVariants as status
@@ -33,6 +33,21 @@ status_of (outcome.BadInput why) = status.BadInput
 status_of outcome.ReadFault = status.ReadFault
 status_of outcome.WriteFault = status.WriteFault
 status_of outcome.NoMemory = status.NoMemory
+
+-- the outcome that a status tells of, where the input reads so
+abbrev pub told_by : {A : Type 0} → Result A Refusal → Status → Outcome
+told_by read status.Done = outcome.Done
+told_by read status.BadWords = outcome.BadWords
+told_by (Ok input) status.BadInput = outcome.Done
+told_by (Err why) status.BadInput = outcome.BadInput why
+told_by read status.ReadFault = outcome.ReadFault
+told_by read status.WriteFault = outcome.WriteFault
+told_by read status.NoMemory = outcome.NoMemory
+
+-- the outcome that a status tells of, where the words give no command
+abbrev pub told_by_words : Status → Outcome
+told_by_words status.NoMemory = outcome.NoMemory
+told_by_words _ = outcome.BadWords
 
 -- why letters, or a text, are no genome; want of memory refuses no input
 abbrev pub genome_reason : GenomeStop → List ℕ

@@ -87,6 +87,7 @@ fn read_bare_words(alloc: Global, words: &[String], command: Command) -> Result<
 }
 
 /// The command of this name, which is the first word.
+#[tactic(auto, unfolding(numerals::specs::Numeral::number_of))]
 fn read_named(alloc: Global, name: &str, words: &[String]) -> Result<Command, Refused>
     requires { 0 < length words.now }
     ensures command { MatchResult result

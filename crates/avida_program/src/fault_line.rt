@@ -5,6 +5,7 @@ ghost use Rattle.arrayvec.specs.ArrayVec.{array_vec_len};
 ghost use Rattle.world_config.specs.KeyTable.{key_name};
 ghost use Rattle.avida_program.specs.Status.{config_reason, fault_line, genome_reason, log_reason, reason_of, shown_byte, shown_key};
 
+use crate::fixed_text::{push_natural, push_text};
 use crate::{Outcome, Refusal};
 use arrayvec::ArrayVec;
 use genome::GenomeStop;
@@ -19,22 +20,13 @@ pub const SHOWN_BYTES: usize = 64;
 
 type Line = ArrayVec<u8, LONGEST_LINE>;
 
-fn push_text(line: &mut Line, text: &str)
-    requires { array_vec_len line.old + length text.now ≤ LONGEST_LINE }
-    ensures items { line.new.items ≡ line.old.items ++ text.now }
-    ensures len { array_vec_len line.new ≡ array_vec_len line.old + length text.now }
-{
-    let _ = line.try_extend_from_slice(text.as_bytes());
-}
-
 fn push_number(line: &mut Line, before: &str, number: u64)
     requires { array_vec_len line.old + length before.now ≤ 64 }
     ensures items { line.new.items ≡ line.old.items ++ before.now ++ decimal number }
     ensures len { array_vec_len line.new ≤ array_vec_len line.old + length before.now + 20 }
 {
-    let mut digits = itoa::Buffer::new();
     push_text(line, before);
-    push_text(line, digits.format(number));
+    push_natural(line, number);
 }
 
 fn push_value(line: &mut Line, value: i64)
@@ -75,20 +67,13 @@ fn push_unknown(line: &mut Line, key: &[u8])
     push_shown(line, &key[..SHOWN_BYTES.min(key.len())]);
 }
 
-fn name_of_key(key: Key) -> &'static str
-    ensures name { result.now ≡ key_name key }
-    ensures short { length result.now ≤ 16 }
-{
-    key.name()
-}
-
 fn push_key(line: &mut Line, before: &str, key: Key)
     requires { array_vec_len line.old + length before.now ≤ 40 }
     ensures items { line.new.items ≡ line.old.items ++ before.now ++ key_name key }
     ensures len { array_vec_len line.new ≤ array_vec_len line.old + length before.now + 16 }
 {
     push_text(line, before);
-    push_text(line, name_of_key(key));
+    push_text(line, key.name());
 }
 
 fn push_genome_reason(line: &mut Line, stop: GenomeStop)

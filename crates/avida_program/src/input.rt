@@ -3,7 +3,7 @@ ghost use Rattle.std.specs.Prelude.{◌≡◌, ◌≢◌, ◌≤◌, ◌<◌, �
 ghost use Rattle.avida_port.specs.Ports.{IsAllOf, AtEnd};
 ghost use Rattle.genome.specs.Genome.{letters};
 ghost use Rattle.world_config.specs.Shown.{values_of};
-ghost use Rattle.avida_program.specs.Commands.{change};
+ghost use Rattle.avida_program.specs.Changes.{change};
 ghost use Rattle.avida_program.specs.Input.{configuration_of, genome_of, genome_spelled, lineage_input_of, log_input_of};
 ghost use Rattle.avida_program.specs.Outcomes.{RefusesInput, StopsReading};
 

@@ -3,6 +3,7 @@
 
 mod command;
 mod fault_line;
+mod fixed_text;
 mod input;
 mod lineage;
 mod outcome;

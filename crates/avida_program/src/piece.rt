@@ -1,6 +1,5 @@
 // Texts of at most 8 KiB on their way to a sink. No memory is taken for them.
-ghost use Rattle.std.specs.Prelude.{◌≡◌, ◌+◌, ◌<◌, ◌≤◌, ◌∷◌, [], ◌++◌, length, map, decimal, OnOk};
-ghost use Rattle.std.specs.Fmt.{signed_decimal};
+ghost use Rattle.std.specs.Prelude.{◌≡◌, ◌+◌, ◌≤◌, ◌∷◌, [], map, OnOk};
 ghost use Rattle.arrayvec.specs.ArrayVec.{array_vec_len};
 ghost use Rattle.instruction_set.specs.Letter.{byte_of};
 ghost use Rattle.avida_program.specs.Pieces.{Writes};
@@ -13,32 +12,6 @@ use instruction_set::Letter;
 pub const PIECE_SIZE: usize = 8192;
 
 pub type Piece = ArrayVec<u8, PIECE_SIZE>;
-
-pub fn push_text(piece: &mut Piece, text: &str)
-    requires { array_vec_len piece.old + length text.now ≤ PIECE_SIZE }
-    ensures items { piece.new.items ≡ piece.old.items ++ text.now }
-    ensures len { array_vec_len piece.new ≡ array_vec_len piece.old + length text.now }
-{
-    let _ = piece.try_extend_from_slice(text.as_bytes());
-}
-
-pub fn push_natural(piece: &mut Piece, number: u64)
-    requires { array_vec_len piece.old + 20 ≤ PIECE_SIZE }
-    ensures items { piece.new.items ≡ piece.old.items ++ decimal number }
-    ensures len { array_vec_len piece.new ≤ array_vec_len piece.old + 20 }
-{
-    let mut digits = itoa::Buffer::new();
-    push_text(piece, digits.format(number));
-}
-
-pub fn push_integer(piece: &mut Piece, number: i32)
-    requires { array_vec_len piece.old + 11 ≤ PIECE_SIZE }
-    ensures items { piece.new.items ≡ piece.old.items ++ signed_decimal number }
-    ensures len { array_vec_len piece.new ≤ array_vec_len piece.old + 11 }
-{
-    let mut digits = itoa::Buffer::new();
-    push_text(piece, digits.format(number));
-}
 
 /// Puts the piece, and begins a new one.
 fn put_piece<O: Sink>(piece: &mut Piece, out: &mut O) -> Result<(), SinkStop>
@@ -98,13 +71,6 @@ fn write_bytes<O: Sink>(piece: &mut Piece, text: &[u8], out: &mut O) -> Result<(
     Ok(())
 }
 
-fn push_bytes(piece: &mut Piece, text: &[u8])
-    requires { array_vec_len piece.old + length text.now ≤ PIECE_SIZE }
-    ensures { piece.new.items ≡ piece.old.items ++ text.now }
-{
-    let _ = piece.try_extend_from_slice(text);
-}
-
 /// A text that fits a piece is not cut.
 pub fn write_text<O: Sink>(piece: &mut Piece, text: &[u8], out: &mut O) -> Result<(), SinkStop>
     ensures { Writes (O.seen out.old) (O.seen out.new)
@@ -114,6 +80,6 @@ pub fn write_text<O: Sink>(piece: &mut Piece, text: &[u8], out: &mut O) -> Resul
         return write_bytes(piece, text, out);
     }
     make_room(piece, text.len(), out)?;
-    push_bytes(piece, text);
+    let _ = piece.try_extend_from_slice(text);
     Ok(())
 }

@@ -1,15 +1,17 @@
 // The command `replay`.
 ghost use Rattle.std.specs.Prelude.{◌≡◌, ◌≢◌, ◌+◌, ◌++◌, ◌≤◌, ℕ, List, Some, flat_map, codes, decimal};
 ghost use Rattle.arrayvec.specs.ArrayVec.{array_vec_len};
-ghost use Rattle.avida_program.specs.Commands.{change, replay_text, resident_line};
+ghost use Rattle.avida_program.specs.Changes.{change};
 ghost use Rattle.avida_program.specs.Input.{log_input_of};
 ghost use Rattle.avida_program.specs.Outcomes.{HasCauses, ReadsInput, WritesText};
 ghost use Rattle.avida_program.specs.Pieces.{Writes};
+ghost use Rattle.avida_program.specs.ReplayText.{replay_text, resident_line};
 
 use crate::Outcome;
+use crate::fixed_text::push_natural;
 use crate::input::{read_bytes, read_lines};
 use crate::outcome::ended;
-use crate::piece::{PIECE_SIZE, Piece, make_room, push_natural, write_byte, write_letters};
+use crate::piece::{PIECE_SIZE, Piece, make_room, write_byte, write_letters};
 use avida_port::{LONGEST_INPUT, Memory, Sink, SinkStop, Source};
 use lineage_log::{Living, Log};
 use std::alloc::Global;

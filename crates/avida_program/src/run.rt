@@ -6,7 +6,8 @@ ghost use Rattle.world_core.specs.declared.world.TheConstants.{MOST_WORKERS};
 ghost use Rattle.world_core.specs.WorldValue.{WorldValue};
 ghost use Rattle.world_rules.specs.Laws.{ReplaysToLiving};
 ghost use Rattle.world_rules.specs.LogText.{head_text, update_text, updates_text, end_text, log_text};
-ghost use Rattle.avida_program.specs.Commands.{Stays, change, final_world, run_text};
+ghost use Rattle.avida_program.specs.Changes.{Stays, change};
+ghost use Rattle.avida_program.specs.Commands.{final_world, run_text};
 ghost use Rattle.avida_program.specs.Outcomes.{HasCauses, Runs, WritesAll};
 
 use crate::input::{read_bytes, read_config};

@@ -1,9 +1,11 @@
 // The whole program.
 ghost use Rattle.std.specs.Prelude.{◌≡◌, ◌≢◌, ℕ, List, Some, None, map, string_bytes};
 ghost use Rattle.avida_program.specs.CommandLine.{command_of};
-ghost use Rattle.avida_program.specs.Commands.{change, Stays, TellsOf, SourceFailed, SinkFailed, ServesLineage, ServesNothing, ServesReplay, ServesRun, ServesTrace, ServesUpgrade, replay_text, upgrade_text};
+ghost use Rattle.avida_program.specs.Changes.{change, Stays, TellsOf, SourceFailed, SinkFailed};
+ghost use Rattle.avida_program.specs.Commands.{ServesLineage, ServesNothing, ServesReplay, ServesRun, ServesTrace, ServesUpgrade, upgrade_text};
 ghost use Rattle.avida_program.specs.Input.{log_input_of};
 ghost use Rattle.avida_program.specs.Outcomes.{Descends, HasCauses, ReadsInput, ReadsNothing, Runs, Traces};
+ghost use Rattle.avida_program.specs.ReplayText.{replay_text};
 ghost use Rattle.avida_program.specs.declared.command.Command.TheVariants.{Lineage, Replay, Run, Trace, Upgrade};
 ghost use Rattle.avida_program.specs.declared.command.Spelling.{Spelling};
 

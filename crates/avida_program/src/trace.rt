@@ -1,7 +1,7 @@
 // The command `trace`.
 ghost use Rattle.std.specs.Prelude.{◌≡◌, ◌≢◌, ℕ, List, Some, length, IfOk};
 ghost use Rattle.genome.specs.Genome.{letters};
-ghost use Rattle.avida_program.specs.Commands.{change};
+ghost use Rattle.avida_program.specs.Changes.{change};
 ghost use Rattle.avida_program.specs.Outcomes.{HasCauses, Traces, WritesText};
 ghost use Rattle.avida_program.specs.TraceText.{lines_of, trace_limit, trace_text, traced_organism};
 
@@ -11,25 +11,20 @@ use crate::piece::Piece;
 use crate::trace_line::write_line;
 use crate::{INPUT_LIMIT, Outcome, Spelling};
 use avida_port::{Memory, Sink, Source};
-use genome::Genome;
+use genome::{GREATEST_LENGTH, Genome};
 use logic_tasks::{Inputs, Tasks};
-use organism::Organism;
+use organism::{Organism, TRACE_LENGTH};
 use std::alloc::Global;
 use std::sync::Arc;
 
-/// A trace has this limit of memory where the genome is no longer.
-const SHORT_LIMIT: u32 = 2048;
-
-/// The limit for a longer genome.
-const LONG_LIMIT: u32 = 8192;
-
+/// The memory limit of a trace, by the length of its genome.
 fn memory_limit(letters: u32) -> u32
     ensures { result ≡ trace_limit letters }
 {
-    if letters <= SHORT_LIMIT {
-        SHORT_LIMIT
+    if letters <= TRACE_LENGTH {
+        TRACE_LENGTH
     } else {
-        LONG_LIMIT
+        GREATEST_LENGTH
     }
 }
 

@@ -10,39 +10,16 @@ ghost use Rattle.organism.specs.TracedStep.{remark_value, traced_value};
 ghost use Rattle.avida_program.specs.Pieces.{Writes};
 ghost use Rattle.avida_program.specs.TraceText.{remark_text, spaced, spaced_value, step_text, trace_line};
 
-use crate::piece::{
-    PIECE_SIZE, Piece, make_room, push_integer, push_natural, push_text, write_byte, write_letters,
-};
+use crate::fixed_text::{push_integer, push_natural, push_text};
+use crate::piece::{PIECE_SIZE, Piece, make_room, write_byte, write_letters};
 use avida_port::{Sink, SinkStop};
 use divide_rules::Rule;
 use genome::Genome;
-use instruction_set::Letter;
 use logic_tasks::Task;
 use organism::{Remark, Traced};
 
 /// No line is longer before its letters.
 const LINE_ROOM: usize = 192;
-
-fn task_name(task: Task) -> &'static str
-    ensures name { result.now ≡ tasks.name_of task }
-    ensures short { length result.now ≤ 4 }
-{
-    task.name()
-}
-
-fn rule_name(rule: Rule) -> &'static str
-    ensures name { result.now ≡ rule_name_of rule }
-    ensures short { length result.now ≤ 2 }
-{
-    rule.name()
-}
-
-fn letter_name(letter: Letter) -> &'static str
-    ensures name { result.now ≡ name_of letter }
-    ensures short { length result.now ≤ 8 }
-{
-    letter.name()
-}
 
 fn push_spaced(piece: &mut Piece, number: u64)
     requires { array_vec_len piece.old + 21 ≤ PIECE_SIZE }
@@ -73,7 +50,7 @@ fn push_step(piece: &mut Piece, number: u32, traced: &Traced)
     push_natural(piece, number as u64);
     push_spaced(piece, traced.place as u64);
     piece.push(b' ');
-    push_text(piece, letter_name(traced.letter));
+    push_text(piece, traced.letter.name());
     push_values(piece, &traced.registers);
 }
 
@@ -82,7 +59,7 @@ fn push_task(piece: &mut Piece, task: Task)
     ensures { piece.new.items ≡ piece.old.items ++ codes " " ++ tasks.name_of task }
 {
     piece.push(b' ');
-    push_text(piece, task_name(task));
+    push_text(piece, task.name());
 }
 
 fn push_refused(piece: &mut Piece, rule: Rule, found: u32, bound: u32)
@@ -92,7 +69,7 @@ fn push_refused(piece: &mut Piece, rule: Rule, found: u32, bound: u32)
         ++ spaced found ++ spaced bound }
 {
     push_text(piece, " refused ");
-    push_text(piece, rule_name(rule));
+    push_text(piece, rule.name());
     push_spaced(piece, found as u64);
     push_spaced(piece, bound as u64);
 }

@@ -3,7 +3,8 @@ ghost use Rattle.std.specs.Prelude.{◌≡◌, ◌≢◌, ℕ, List, Some};
 ghost use Rattle.lineage_log.specs.LogGrammar.{lines_text};
 ghost use Rattle.lineage_log.specs.LogValues.{lines_of};
 ghost use Rattle.lineage_log.specs.Upgrade.{upgraded};
-ghost use Rattle.avida_program.specs.Commands.{change, upgrade_text};
+ghost use Rattle.avida_program.specs.Changes.{change};
+ghost use Rattle.avida_program.specs.Commands.{upgrade_text};
 ghost use Rattle.avida_program.specs.Input.{log_input_of};
 ghost use Rattle.avida_program.specs.Outcomes.{HasCauses, ReadsInput, WritesText};
 

@@ -1,6 +1,7 @@
-use Rattle.std.proofs.Common.{◌++◌, Err, [], ◌∷◌, map, codes, decimal}
+use Rattle.std.proofs.Common.{◌∙◌, ap, ◌++◌, Err, [], ◌∷◌, map, codes, decimal}
 use Rattle.std.proofs.lemmas.Result.{err_from_is_err_and}
 use Rattle.instruction_set.specs.Letter.{byte_of}
+use Rattle.lineage_log.specs.Replay.{Resident}
 use Rattle.avida_program.proofs.PieceLemmas.{writes_held, writes_short, writes_then}
 use Rattle.avida_program.proofs.replay.write_living.Goals as goal
 
@@ -10,11 +11,13 @@ returns-in_err-write_letters g c =
     let place = decimal c.args.living.now.cell ++ codes " " ++ decimal c.args.living.now.id ++ codes " " in
     let held = writes_held (g.O.Sink.seen c.make_room.new.out) _ _ place c.push_place.ensures in
     let wrote = writes_then {r = Err c.in_err-write_letters.field-0.0} (map byte_of c.letters.result.now) (writes_then place c.in_ok-make_room.ensures.writes held) c.in_err-write_letters.ensures in
-    rw (p.1, p.2, ← c.letters.ensures.letters) (writes_short (10 ∷ []) wrote)
+    let genome = c.letters.ensures.letters ∙ ap (λ (r : Resident). r.genome) c.living.view_is in
+    rw (p.1, p.2, ← genome) (writes_short (10 ∷ []) wrote)
 
 pub returns : goal.returns
 returns g c =
     let place = decimal c.args.living.now.cell ++ codes " " ++ decimal c.args.living.now.id ++ codes " " in
     let held = writes_held (g.O.Sink.seen c.make_room.new.out) _ _ place c.push_place.ensures in
     let wrote = writes_then (map byte_of c.letters.result.now) (writes_then place c.in_ok-make_room.ensures.writes held) c.in_ok-write_letters.ensures in
-    rw (← c.letters.ensures.letters) (writes_then (10 ∷ []) wrote c.write_byte.ensures)
+    let genome = c.letters.ensures.letters ∙ ap (λ (r : Resident). r.genome) c.living.view_is in
+    rw (← genome) (writes_then (10 ∷ []) wrote c.write_byte.ensures)

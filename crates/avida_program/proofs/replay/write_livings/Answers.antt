@@ -1,5 +1,5 @@
 use Rattle.std.proofs.Common.{◌≡◌, ◌+◌, length, refl, arith}
-use Rattle.avida_program.specs.Commands.{resident_line}
+use Rattle.avida_program.specs.ReplayText.{resident_line}
 use Rattle.avida_program.proofs.ListTexts.{item_stopped, item_written, items_put}
 use Rattle.avida_program.proofs.replay.write_livings.Goals as goal
 

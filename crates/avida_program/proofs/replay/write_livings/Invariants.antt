@@ -1,7 +1,7 @@
 -- The lines so far are written.
 use Rattle.std.proofs.Common.{[], take, Ok}
 use Rattle.std.specs.Prelude.{flat_map}
-use Rattle.avida_program.specs.Commands.{resident_line}
+use Rattle.avida_program.specs.ReplayText.{resident_line}
 use Rattle.avida_program.specs.Pieces.{Writes}
 use Rattle.avida_program.proofs.replay.write_livings.Given as goal
 
