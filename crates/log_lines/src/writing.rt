@@ -40,7 +40,8 @@ fn text(out: &mut Vec<u8>, bytes: &[u8]) -> Result<(), Memory>
     }
 }
 
-/// Appends a byte, and a number behind it.
+/// Appends a byte, and a number in decimal digits behind it. When memory runs out `out` stays as it
+/// was.
 pub fn write_number(before: u8, value: u64, out: &mut Vec<u8>) -> Result<(), Memory>
     ensures ok { OnOk result (out.new.items ≡ out.old.items ++ before ∷ decimal value) }
     ensures err { OnErr result (out.new.items ≡ out.old.items) }
@@ -143,7 +144,8 @@ fn placed(out: &mut Vec<u8>, update: u32, cell: u32) -> Result<(), Memory>
     write_number(b' ', u64::from(cell), out)
 }
 
-/// Appends the base and the changes, each behind a space.
+/// Appends the base and the changes of a birth, each behind a space. When memory runs out `out` begins
+/// with what it held before.
 #[tactic(auto, using(crate::proofs::KeptLemmas::keeps_front))]
 pub fn write_record(origin: &Origin, out: &mut Vec<u8>) -> Result<(), Memory>
     ensures ok { OnOk result (out.new.items ≡ out.old.items
@@ -322,7 +324,7 @@ fn row_and_newline(line: &LogLine, out: &mut Vec<u8>) -> Result<(), Memory>
     byte(out, b'\n')
 }
 
-/// Appends the text of a line, with its newline.
+/// Appends the text of a line, with its newline. When memory runs out `out` stays as it was.
 pub fn write_line(line: &LogLine, out: &mut Vec<u8>) -> Result<(), Memory>
     ensures ok { OnOk result (out.new.items ≡ out.old.items ++ line_text (values_of line.now)) }
     ensures err { OnErr result (out.new.items ≡ out.old.items) }
