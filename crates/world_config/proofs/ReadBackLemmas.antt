@@ -4,6 +4,7 @@ use Rattle.toml.specs.Data.{Members, items_depth, members_depth}
 use Rattle.instruction_set.specs.declared.letter.Letter.{Letter}
 use Rattle.genome.specs.GenomeText.{letters_text_of, spelled_by_letters}
 use Rattle.world_config.specs.declared.config.Config.{Config}
+use Rattle.world_config.specs.declared.key.Key.{Key}
 use Rattle.world_config.specs.declared.key.Key.TheVariants.{Width, Height, Updates, Seed, FounderCell, AverageSlices, Death, AgeLimit, CopyError, DivideInsert, DivideDelete, SitePoint, SiteInsert, SiteDelete, PreferEmpty, NeedAlloc, ExecutedPercent, CopiedPercent, LeastLength, GreatestLength, MemoryLimit, Ancestor, Event}
 use Rattle.world_config.specs.declared.stop.ConfigStop.{ConfigStop}
 use Rattle.world_config.specs.KeyTable.{keys}
@@ -89,126 +90,35 @@ genome_at-members v = refl
 neither : {a b : Option ConfigStop} → a ≡ None → b ≡ None → earlier a b ≡ None
 neither {b = b} h k = ap (λ o. earlier o b) h ∙ k
 
-accepted-width : (v : ConfigValues) → IsWithin 1 256 v.width → refusal_at (frame_in (members_for v)) Width (members_for v) ≡ None
-unfolding refusal_at number_at
-accepted-width v h = unless_within-none Width 1 256 v.width h.0 h.1
-
-accepted-height : (v : ConfigValues) → IsWithin 1 256 v.height → refusal_at (frame_in (members_for v)) Height (members_for v) ≡ None
-unfolding refusal_at number_at
-accepted-height v h = unless_within-none Height 1 256 v.height h.0 h.1
-
-accepted-updates : (v : ConfigValues) → IsWithin 0 1000000 v.updates → refusal_at (frame_in (members_for v)) Updates (members_for v) ≡ None
-unfolding refusal_at number_at
-accepted-updates v h = unless_within-none Updates 0 1000000 v.updates h.0 h.1
-
-accepted-seed : (v : ConfigValues) → IsWithin 0 9223372036854775807 v.seed → refusal_at (frame_in (members_for v)) Seed (members_for v) ≡ None
-unfolding refusal_at number_at
-accepted-seed v h = unless_within-none Seed 0 9223372036854775807 v.seed h.0 h.1
-
-accepted-founder_cell : (v : ConfigValues) → IsWithin 0 (last_cell_of v.width v.height) v.founder_cell → refusal_at (frame_in (members_for v)) FounderCell (members_for v) ≡ None
-unfolding refusal_at number_at
-accepted-founder_cell v h = unless_within-none FounderCell 0 (last_cell_of v.width v.height) v.founder_cell h.0 h.1
-
-accepted-average_slices : (v : ConfigValues) → IsWithin 1 1000 v.average_slices → refusal_at (frame_in (members_for v)) AverageSlices (members_for v) ≡ None
-unfolding refusal_at number_at
-accepted-average_slices v h = unless_within-none AverageSlices 1 1000 v.average_slices h.0 h.1
-
-accepted-death : (v : ConfigValues) → refusal_at (frame_in (members_for v)) Death (members_for v) ≡ None
-unfolding refusal_at
-accepted-death v = refl
-
-accepted-age_limit : (v : ConfigValues) → IsWithin 1 1000 v.age_limit → refusal_at (frame_in (members_for v)) AgeLimit (members_for v) ≡ None
-unfolding refusal_at number_at
-accepted-age_limit v h = unless_within-none AgeLimit 1 1000 v.age_limit h.0 h.1
-
-accepted-copy_error : (v : ConfigValues) → IsWithin 0 1000000 v.copy_error → refusal_at (frame_in (members_for v)) CopyError (members_for v) ≡ None
-unfolding refusal_at number_at
-accepted-copy_error v h = unless_within-none CopyError 0 1000000 v.copy_error h.0 h.1
-
-accepted-divide_insert : (v : ConfigValues) → IsWithin 0 1000000 v.divide_insert → refusal_at (frame_in (members_for v)) DivideInsert (members_for v) ≡ None
-unfolding refusal_at number_at
-accepted-divide_insert v h = unless_within-none DivideInsert 0 1000000 v.divide_insert h.0 h.1
-
-accepted-divide_delete : (v : ConfigValues) → IsWithin 0 1000000 v.divide_delete → refusal_at (frame_in (members_for v)) DivideDelete (members_for v) ≡ None
-unfolding refusal_at number_at
-accepted-divide_delete v h = unless_within-none DivideDelete 0 1000000 v.divide_delete h.0 h.1
-
-accepted-site_point : (v : ConfigValues) → IsWithin 0 1000000 v.site_point → refusal_at (frame_in (members_for v)) SitePoint (members_for v) ≡ None
-unfolding refusal_at number_at
-accepted-site_point v h = unless_within-none SitePoint 0 1000000 v.site_point h.0 h.1
-
-accepted-site_insert : (v : ConfigValues) → IsWithin 0 1000000 v.site_insert → refusal_at (frame_in (members_for v)) SiteInsert (members_for v) ≡ None
-unfolding refusal_at number_at
-accepted-site_insert v h = unless_within-none SiteInsert 0 1000000 v.site_insert h.0 h.1
-
-accepted-site_delete : (v : ConfigValues) → IsWithin 0 1000000 v.site_delete → refusal_at (frame_in (members_for v)) SiteDelete (members_for v) ≡ None
-unfolding refusal_at number_at
-accepted-site_delete v h = unless_within-none SiteDelete 0 1000000 v.site_delete h.0 h.1
-
-accepted-prefer_empty : (v : ConfigValues) → refusal_at (frame_in (members_for v)) PreferEmpty (members_for v) ≡ None
-unfolding refusal_at
-accepted-prefer_empty v = refl
-
-accepted-need_alloc : (v : ConfigValues) → refusal_at (frame_in (members_for v)) NeedAlloc (members_for v) ≡ None
-unfolding refusal_at
-accepted-need_alloc v = refl
-
-accepted-executed_percent : (v : ConfigValues) → IsWithin 1 100 v.executed_percent → refusal_at (frame_in (members_for v)) ExecutedPercent (members_for v) ≡ None
-unfolding refusal_at number_at
-accepted-executed_percent v h = unless_within-none ExecutedPercent 1 100 v.executed_percent h.0 h.1
-
-accepted-copied_percent : (v : ConfigValues) → IsWithin 1 100 v.copied_percent → refusal_at (frame_in (members_for v)) CopiedPercent (members_for v) ≡ None
-unfolding refusal_at number_at
-accepted-copied_percent v h = unless_within-none CopiedPercent 1 100 v.copied_percent h.0 h.1
-
-accepted-least_length : (v : ConfigValues) → IsWithin 8 8192 v.least_length → refusal_at (frame_in (members_for v)) LeastLength (members_for v) ≡ None
-unfolding refusal_at number_at
-accepted-least_length v h = unless_within-none LeastLength 8 8192 v.least_length h.0 h.1
-
-accepted-greatest_length : (v : ConfigValues) → IsWithin v.least_length 8192 v.greatest_length → refusal_at (frame_in (members_for v)) GreatestLength (members_for v) ≡ None
-unfolding refusal_at number_at
-accepted-greatest_length v h = unless_within-none GreatestLength v.least_length 8192 v.greatest_length h.0 h.1
-
-accepted-memory_limit : (v : ConfigValues) → IsWithin v.greatest_length 8192 v.memory_limit → refusal_at (frame_in (members_for v)) MemoryLimit (members_for v) ≡ None
-unfolding refusal_at number_at
-accepted-memory_limit v h = unless_within-none MemoryLimit v.greatest_length 8192 v.memory_limit h.0 h.1
-
-accepted-ancestor : (v : ConfigValues) → spelled_by_letters (letters_text_of v.ancestor) ≡ Ok v.ancestor → IsWithin v.least_length v.greatest_length (length v.ancestor)
-    → refusal_at (frame_in (members_for v)) Ancestor (members_for v) ≡ None
-unfolding refusal_at number_at
-accepted-ancestor v read h =
-    ap (unless_genome Ancestor v.least_length v.greatest_length) read ∙ unless_within-none Ancestor v.least_length v.greatest_length (length v.ancestor) h.0 h.1
-
-accepted-event : (v : ConfigValues) → length v.event ≤ 1000 → refusal_at (frame_in (members_for v)) Event (members_for v) ≡ None
-unfolding refusal_at
-accepted-event v few =
-    ap (λ (n : ℕ). unless_within Event 0 1000 (pos n)) (count_of-items v.event) ∙ unless_within-none Event 0 1000 (length v.event) (omega arith) few
+within : (key : Key) (least greatest n : ℕ) → IsWithin least greatest n → unless_within key least greatest (pos n) ≡ None
+within key least greatest n h = unless_within-none key least greatest n h.0 h.1
 
 all_accepted : (v : ConfigValues) → AreBounded v → spelled_by_letters (letters_text_of v.ancestor) ≡ Ok v.ancestor → first_refusal keys (members_for v) ≡ None
+unfolding refusal_at number_at
 all_accepted v are read =
-    (neither (accepted-width v are.width)
-    (neither (accepted-height v are.height)
-    (neither (accepted-updates v are.updates)
-    (neither (accepted-seed v are.seed)
-    (neither (accepted-founder_cell v are.founder_cell)
-    (neither (accepted-average_slices v are.average_slices)
-    (neither (accepted-death v)
-    (neither (accepted-age_limit v are.age_limit)
-    (neither (accepted-copy_error v are.copy_error)
-    (neither (accepted-divide_insert v are.divide_insert)
-    (neither (accepted-divide_delete v are.divide_delete)
-    (neither (accepted-site_point v are.site_point)
-    (neither (accepted-site_insert v are.site_insert)
-    (neither (accepted-site_delete v are.site_delete)
-    (neither (accepted-prefer_empty v)
-    (neither (accepted-need_alloc v)
-    (neither (accepted-executed_percent v are.executed_percent)
-    (neither (accepted-copied_percent v are.copied_percent)
-    (neither (accepted-least_length v are.least_length)
-    (neither (accepted-greatest_length v are.greatest_length)
-    (neither (accepted-memory_limit v are.memory_limit)
-    (neither (accepted-ancestor v read are.ancestor)
-    (neither (accepted-event v are.event.number) refl)))))))))))))))))))))))
+    (neither (within Width 1 256 v.width are.width)
+    (neither (within Height 1 256 v.height are.height)
+    (neither (within Updates 0 1000000 v.updates are.updates)
+    (neither (within Seed 0 9223372036854775807 v.seed are.seed)
+    (neither (within FounderCell 0 (last_cell_of v.width v.height) v.founder_cell are.founder_cell)
+    (neither (within AverageSlices 1 1000 v.average_slices are.average_slices)
+    (neither refl
+    (neither (within AgeLimit 1 1000 v.age_limit are.age_limit)
+    (neither (within CopyError 0 1000000 v.copy_error are.copy_error)
+    (neither (within DivideInsert 0 1000000 v.divide_insert are.divide_insert)
+    (neither (within DivideDelete 0 1000000 v.divide_delete are.divide_delete)
+    (neither (within SitePoint 0 1000000 v.site_point are.site_point)
+    (neither (within SiteInsert 0 1000000 v.site_insert are.site_insert)
+    (neither (within SiteDelete 0 1000000 v.site_delete are.site_delete)
+    (neither refl
+    (neither refl
+    (neither (within ExecutedPercent 1 100 v.executed_percent are.executed_percent)
+    (neither (within CopiedPercent 1 100 v.copied_percent are.copied_percent)
+    (neither (within LeastLength 8 8192 v.least_length are.least_length)
+    (neither (within GreatestLength v.least_length 8192 v.greatest_length are.greatest_length)
+    (neither (within MemoryLimit v.greatest_length 8192 v.memory_limit are.memory_limit)
+    (neither (ap (unless_genome Ancestor v.least_length v.greatest_length) read ∙ within Ancestor v.least_length v.greatest_length (length v.ancestor) are.ancestor)
+    (neither (ap (λ (n : ℕ). unless_within Event 0 1000 (pos n)) (count_of-items v.event) ∙ unless_within-none Event 0 1000 (length v.event) (omega arith) are.event.number) refl)))))))))))))))))))))))
 
 -- the table of a configuration says what the configuration says
 pub config_in-members : (v : ConfigValues) → AreBounded v → config_in (members_for v) ≡ Ok v
