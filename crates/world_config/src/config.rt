@@ -4,14 +4,14 @@ ghost use Rattle.genome.specs.Genome.{letters};
 ghost use Rattle.world_config.specs.Bounds.{IsWithin, frame_of, last_cell_of};
 ghost use Rattle.world_config.specs.Events.{AreEvents, event_values};
 
-use crate::events::Events;
+use crate::events::{Events, copy_of};
 use crate::reading::config_in;
 use avida_port::Memory;
 use genome::Genome;
 use std::alloc::Global;
 use toml::Table;
 
-/// What a run is told: a field for each key, which keeps to the key's bounds.
+/// The configuration of a run: a field for each key, whose type keeps the key's bounds.
 #[derive(Drop)]
 pub struct Config {
     pub width: u32,
@@ -66,7 +66,7 @@ impl Config {
     ghost use Rattle.world_config.specs.Config.{config_in};
     ghost use Rattle.world_config.specs.Shown.{values_of};
 
-    /// All defaults, as a table without keys states them.
+    /// The configuration of a document without keys: each key has its default.
     pub fn plain(alloc: Global) -> Result<Config, Memory>
         ensures { IfOk result (λ config. config_in no_members ≡ Ok (values_of config)) }
     {
@@ -83,7 +83,7 @@ impl Config {
             { seed = seed }) }
     {
         let ancestor = self.ancestor.copy(alloc)?;
-        let event = self.event.copy(alloc)?;
+        let event = copy_of(alloc, self.event.as_slice())?;
         Ok(Config {
             width: self.width,
             height: self.height,

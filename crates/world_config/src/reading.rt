@@ -163,7 +163,7 @@ pub(crate) fn config_in(alloc: Global, table: &Table) -> Result<Config, ConfigSt
     known_in(alloc, table)
 }
 
-/// The configuration that a document states.
+/// Reads a document as a configuration, or tells the first reason to reject it.
 pub fn read(alloc: Global, bytes: &[u8]) -> Result<Config, ConfigStop>
     ensures ok { IfOk result (λ config. config_of bytes.now ≡ Ok (values_of config)) }
     ensures refused { IfErr result (λ stop. stop ≢ ConfigStop.Memory → config_of bytes.now
