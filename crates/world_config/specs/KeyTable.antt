@@ -53,14 +53,24 @@ key_row frame NeedAlloc = row (codes "need_alloc") (boolean true) flag
 key_row frame ExecutedPercent = row (codes "executed_percent") (integer (pos 50)) (number 1 100)
 key_row frame CopiedPercent = row (codes "copied_percent") (integer (pos 50)) (number 1 100)
 key_row frame LeastLength = row (codes "least_length") (integer (pos 8)) (number 8 8192)
-key_row frame GreatestLength = row (codes "greatest_length") (integer (pos 2048)) (number frame.least_length 8192)
-key_row frame MemoryLimit = row (codes "memory_limit") (integer (pos (max 2048 frame.greatest_length))) (number frame.greatest_length 8192)
-key_row frame Ancestor = row (codes "ancestor") (string default_ancestor) (genome frame.least_length frame.greatest_length)
+key_row frame GreatestLength =
+    row (codes "greatest_length") (integer (pos 2048)) (number frame.least_length 8192)
+key_row frame MemoryLimit =
+    row (codes "memory_limit") (integer (pos (max 2048 frame.greatest_length)))
+    (number frame.greatest_length 8192)
+key_row frame Ancestor =
+    row (codes "ancestor") (string default_ancestor)
+    (genome frame.least_length frame.greatest_length)
 key_row frame Event = row (codes "event") (array no_items) (events 1000)
 
 -- the keys in the order in which they are tried
 abbrev pub keys : List Key
-keys = Width ∷ Height ∷ Updates ∷ Seed ∷ FounderCell ∷ AverageSlices ∷ Death ∷ AgeLimit ∷ CopyError ∷ DivideInsert ∷ DivideDelete ∷ SitePoint ∷ SiteInsert ∷ SiteDelete ∷ PreferEmpty ∷ NeedAlloc ∷ ExecutedPercent ∷ CopiedPercent ∷ LeastLength ∷ GreatestLength ∷ MemoryLimit ∷ Ancestor ∷ Event ∷ []
+keys =
+    Width ∷ Height ∷ Updates ∷ Seed ∷ FounderCell
+    ∷ AverageSlices ∷ Death ∷ AgeLimit
+    ∷ CopyError ∷ DivideInsert ∷ DivideDelete ∷ SitePoint ∷ SiteInsert ∷ SiteDelete
+    ∷ PreferEmpty ∷ NeedAlloc ∷ ExecutedPercent ∷ CopiedPercent
+    ∷ LeastLength ∷ GreatestLength ∷ MemoryLimit ∷ Ancestor ∷ Event ∷ []
 
 -- a frame for what hangs on none
 abbrev pub no_frame : Frame
