@@ -2,6 +2,7 @@
 use Rattle.std.proofs.Common.{◌≡◌, ℕ, ◌≤◌, max, suc, List, length, Option, None, Ok, pos, refl, ap, ◌∙◌, arith}
 use Rattle.toml.specs.Data.{Members, items_depth, members_depth}
 use Rattle.instruction_set.specs.declared.letter.Letter.{Letter}
+use Rattle.genome.specs.Genome.{letters}
 use Rattle.genome.specs.GenomeText.{letters_text_of, spelled_by_letters}
 use Rattle.world_config.specs.declared.config.Config.{Config}
 use Rattle.world_config.specs.declared.key.Key.{Key}
@@ -9,7 +10,6 @@ use Rattle.world_config.specs.declared.key.Key.TheVariants.{Width, Height, Updat
 use Rattle.world_config.specs.declared.stop.ConfigStop.{ConfigStop}
 use Rattle.world_config.specs.KeyTable.{keys}
 use Rattle.world_config.specs.Bounds.{IsWithin, frame_of, last_cell_of}
-use Rattle.world_config.specs.Events.{AreEvents}
 use Rattle.world_config.specs.EventForms.{events_of}
 use Rattle.world_config.specs.Values.{ConfigValues}
 use Rattle.world_config.specs.Config.{config_in, unless_refused, values_in, values_with}
@@ -19,53 +19,6 @@ use Rattle.world_config.specs.Printing.{items_for, members_for}
 use Rattle.world_config.specs.Shown.{values_of}
 use Rattle.world_config.proofs.PrintLemmas.{IsFrame, count_of-items, events_of-items, items_depth-events, spelled_by_letters-text}
 use Rattle.world_config.proofs.RefusalLemmas.{unless_within-none}
-
--- the values keep to their bounds
-pub record AreBounded (v : ConfigValues) : Type 0 where
-  pub width : IsWithin 1 256 v.width
-  pub height : IsWithin 1 256 v.height
-  pub updates : IsWithin 0 1000000 v.updates
-  pub seed : IsWithin 0 9223372036854775807 v.seed
-  pub founder_cell : IsWithin 0 (last_cell_of v.width v.height) v.founder_cell
-  pub average_slices : IsWithin 1 1000 v.average_slices
-  pub age_limit : IsWithin 1 1000 v.age_limit
-  pub copy_error : IsWithin 0 1000000 v.copy_error
-  pub divide_insert : IsWithin 0 1000000 v.divide_insert
-  pub divide_delete : IsWithin 0 1000000 v.divide_delete
-  pub site_point : IsWithin 0 1000000 v.site_point
-  pub site_insert : IsWithin 0 1000000 v.site_insert
-  pub site_delete : IsWithin 0 1000000 v.site_delete
-  pub executed_percent : IsWithin 1 100 v.executed_percent
-  pub copied_percent : IsWithin 1 100 v.copied_percent
-  pub least_length : IsWithin 8 8192 v.least_length
-  pub greatest_length : IsWithin v.least_length 8192 v.greatest_length
-  pub memory_limit : IsWithin v.greatest_length 8192 v.memory_limit
-  pub ancestor : IsWithin v.least_length v.greatest_length (length v.ancestor)
-  pub event : AreEvents (frame_of v.width v.height v.updates v.least_length v.greatest_length) v.event
-
-pub AreBounded-values : (c : Config) → AreBounded (values_of c)
-AreBounded-values c = record {
-  width = c.width_bounds;
-  height = c.height_bounds;
-  updates = c.updates_bounds;
-  seed = c.seed_bounds;
-  founder_cell = c.founder_cell_bounds;
-  average_slices = c.average_slices_bounds;
-  age_limit = c.age_limit_bounds;
-  copy_error = c.copy_error_bounds;
-  divide_insert = c.divide_insert_bounds;
-  divide_delete = c.divide_delete_bounds;
-  site_point = c.site_point_bounds;
-  site_insert = c.site_insert_bounds;
-  site_delete = c.site_delete_bounds;
-  executed_percent = c.executed_percent_bounds;
-  copied_percent = c.copied_percent_bounds;
-  least_length = c.least_length_bounds;
-  greatest_length = c.greatest_length_bounds;
-  memory_limit = c.memory_limit_bounds;
-  ancestor = c.ancestor_bounds;
-  event = c.event_bounds;
-}
 
 no_unknown : (v : ConfigValues) → least_unknown (members_for v) ≡ None
 unfolding is_known
@@ -93,47 +46,50 @@ neither {b = b} h k = ap (λ o. earlier o b) h ∙ k
 within : (key : Key) (least greatest n : ℕ) → IsWithin least greatest n → unless_within key least greatest (pos n) ≡ None
 within key least greatest n h = unless_within-none key least greatest n h.0 h.1
 
-all_accepted : (v : ConfigValues) → AreBounded v → spelled_by_letters (letters_text_of v.ancestor) ≡ Ok v.ancestor → first_refusal keys (members_for v) ≡ None
+-- no value of a configuration is refused
+all_accepted : (c : Config) → spelled_by_letters (letters_text_of (letters c.ancestor)) ≡ Ok (letters c.ancestor) → first_refusal keys (members_for (values_of c)) ≡ None
 unfolding refusal_at number_at
-all_accepted v are read =
-    (neither (within Width 1 256 v.width are.width)
-    (neither (within Height 1 256 v.height are.height)
-    (neither (within Updates 0 1000000 v.updates are.updates)
-    (neither (within Seed 0 9223372036854775807 v.seed are.seed)
-    (neither (within FounderCell 0 (last_cell_of v.width v.height) v.founder_cell are.founder_cell)
-    (neither (within AverageSlices 1 1000 v.average_slices are.average_slices)
+all_accepted c read =
+    let v = values_of c in
+    (neither (within Width 1 256 v.width c.width_bounds)
+    (neither (within Height 1 256 v.height c.height_bounds)
+    (neither (within Updates 0 1000000 v.updates c.updates_bounds)
+    (neither (within Seed 0 9223372036854775807 v.seed c.seed_bounds)
+    (neither (within FounderCell 0 (last_cell_of v.width v.height) v.founder_cell c.founder_cell_bounds)
+    (neither (within AverageSlices 1 1000 v.average_slices c.average_slices_bounds)
     (neither refl
-    (neither (within AgeLimit 1 1000 v.age_limit are.age_limit)
-    (neither (within CopyError 0 1000000 v.copy_error are.copy_error)
-    (neither (within DivideInsert 0 1000000 v.divide_insert are.divide_insert)
-    (neither (within DivideDelete 0 1000000 v.divide_delete are.divide_delete)
-    (neither (within SitePoint 0 1000000 v.site_point are.site_point)
-    (neither (within SiteInsert 0 1000000 v.site_insert are.site_insert)
-    (neither (within SiteDelete 0 1000000 v.site_delete are.site_delete)
+    (neither (within AgeLimit 1 1000 v.age_limit c.age_limit_bounds)
+    (neither (within CopyError 0 1000000 v.copy_error c.copy_error_bounds)
+    (neither (within DivideInsert 0 1000000 v.divide_insert c.divide_insert_bounds)
+    (neither (within DivideDelete 0 1000000 v.divide_delete c.divide_delete_bounds)
+    (neither (within SitePoint 0 1000000 v.site_point c.site_point_bounds)
+    (neither (within SiteInsert 0 1000000 v.site_insert c.site_insert_bounds)
+    (neither (within SiteDelete 0 1000000 v.site_delete c.site_delete_bounds)
     (neither refl
     (neither refl
-    (neither (within ExecutedPercent 1 100 v.executed_percent are.executed_percent)
-    (neither (within CopiedPercent 1 100 v.copied_percent are.copied_percent)
-    (neither (within LeastLength 8 8192 v.least_length are.least_length)
-    (neither (within GreatestLength v.least_length 8192 v.greatest_length are.greatest_length)
-    (neither (within MemoryLimit v.greatest_length 8192 v.memory_limit are.memory_limit)
-    (neither (ap (unless_genome Ancestor v.least_length v.greatest_length) read ∙ within Ancestor v.least_length v.greatest_length (length v.ancestor) are.ancestor)
-    (neither (ap (λ (n : ℕ). unless_within Event 0 1000 (pos n)) (count_of-items v.event) ∙ unless_within-none Event 0 1000 (length v.event) (omega arith) are.event.number) refl)))))))))))))))))))))))
+    (neither (within ExecutedPercent 1 100 v.executed_percent c.executed_percent_bounds)
+    (neither (within CopiedPercent 1 100 v.copied_percent c.copied_percent_bounds)
+    (neither (within LeastLength 8 8192 v.least_length c.least_length_bounds)
+    (neither (within GreatestLength v.least_length 8192 v.greatest_length c.greatest_length_bounds)
+    (neither (within MemoryLimit v.greatest_length 8192 v.memory_limit c.memory_limit_bounds)
+    (neither (ap (unless_genome Ancestor v.least_length v.greatest_length) read ∙ within Ancestor v.least_length v.greatest_length (length v.ancestor) c.ancestor_bounds)
+    (neither (ap (λ (n : ℕ). unless_within Event 0 1000 (pos n)) (count_of-items v.event) ∙ unless_within-none Event 0 1000 (length v.event) (omega arith) c.event_bounds.number) refl)))))))))))))))))))))))
 
 -- the table of a configuration says what the configuration says
-pub config_in-members : (v : ConfigValues) → AreBounded v → config_in (members_for v) ≡ Ok v
-config_in-members v are =
-    let low : 8 ≤ length v.ancestor = omega (arith, are.ancestor.0, are.least_length.0) in
-    let high : length v.ancestor ≤ 8192 = omega (arith, are.ancestor.1, are.greatest_length.1) in
+pub config_in-members : (c : Config) → config_in (members_for (values_of c)) ≡ Ok (values_of c)
+config_in-members c =
+    let v = values_of c in
+    let low : 8 ≤ length v.ancestor = omega (arith, c.ancestor_bounds.0, c.least_length_bounds.0) in
+    let high : length v.ancestor ≤ 8192 = omega (arith, c.ancestor_bounds.1, c.greatest_length_bounds.1) in
     let read : spelled_by_letters (letters_text_of v.ancestor) ≡ Ok v.ancestor = spelled_by_letters-text v.ancestor low high in
     let ms : Members = members_for v in
-    let frame : IsFrame (frame_of v.width v.height v.updates v.least_length v.greatest_length) = record { least = are.least_length.0; greatest = are.greatest_length.1 } in
+    let frame : IsFrame (frame_of v.width v.height v.updates v.least_length v.greatest_length) = record { least = c.least_length_bounds.0; greatest = c.greatest_length_bounds.1 } in
     let happening : events_of (frame_in ms) (items_at Event ms) ≡ Ok v.event =
     ap (λ f. events_of f (items_at Event ms)) (frame_in-members v)
     ∙ ap (events_of (frame_of v.width v.height v.updates v.least_length v.greatest_length)) (items_at-members v)
-    ∙ events_of-items (frame_of v.width v.height v.updates v.least_length v.greatest_length) frame v.event are.event in
+    ∙ events_of-items (frame_of v.width v.height v.updates v.least_length v.greatest_length) frame v.event c.event_bounds in
     ap (λ o. unless_refused (earlier (unknown_refusal o) (first_refusal keys ms)) (values_with ms (events_of (frame_in ms) (items_at Event ms)))) (no_unknown v)
-    ∙ ap (λ o. unless_refused o (values_with ms (events_of (frame_in ms) (items_at Event ms)))) (all_accepted v are read)
+    ∙ ap (λ o. unless_refused o (values_with ms (events_of (frame_in ms) (items_at Event ms)))) (all_accepted c read)
     ∙ ap (values_with ms) happening
     ∙ ap Ok (values_in-members v (genome_at-members v ∙ ap letters_or_none read))
 
