@@ -1,10 +1,11 @@
 -- The loop over the pieces of a log.
-use Rattle.std.proofs.Common.{◌≡◌, ℕ, ◌+◌, List, [], ◌∷◌, ◌++◌, Option, Some, None, Result, Ok, Err, refl, sym, ap, ◌∙◌, append_assoc, inl, inr}
-use Rattle.std.specs.Prelude.{◌==◌, ◌≢◌, ◌↔◌}
+use Rattle.std.proofs.Common.{◌≡◌, ℕ, ◌+◌, List, [], ◌∷◌, ◌++◌, Option, Some, None, Result, Ok, Err, Bor, refl, sym, ap, ◌∙◌, append_assoc, inl, inr}
+use Rattle.std.specs.Prelude.{◌==◌, ◌≢◌, ◌↔◌, option_copied}
 use Rattle.std.specs.List.{slice_split, onto_first}
 use Rattle.std.proofs.lemmas.Bool.{cases_Bool}
 use Rattle.log_lines.specs.Line.{Line}
 use Rattle.log_lines.specs.LineReading.{line_of}
+use Rattle.log_lines.specs.Words.{pieces_of}
 use Rattle.lineage_log.specs.declared.reason.Reason.{Reason}
 use Rattle.lineage_log.specs.declared.refusal.Refusal.{Refusal}
 use Rattle.lineage_log.specs.declared.refusal.Refusal.TheVariants.{Memory, Faulty}
@@ -25,6 +26,12 @@ front_more front one (Err fault) = refl
 
 abbrev cut : List ℕ → List (List ℕ)
 cut bytes = slice_split (λ b. b == 10) bytes
+
+-- what is left of the bytes begins with a piece before a newline
+pub next_piece : (read : Result (List Line) Fault) (front : List Line) (number : ℕ) (place : Place) (left piece : List ℕ) (others : Option (Bor (List ℕ))) (behind : Bor (List ℕ)) → with_front front (pieces_log number place (cut left)) ≡ read → cut left ≡ piece ∷ pieces_of 10 (option_copied others) → others ≡ Some behind → read ≡ with_front front (pieces_log number place (piece ∷ cut behind.now))
+next_piece read front number place left piece others behind so_far split is =
+    let pieces : cut left ≡ piece ∷ cut behind.now = split ∙ ap (λ (o : Option (Bor (List ℕ))). piece ∷ pieces_of 10 (option_copied o)) is in
+    sym so_far ∙ ap (λ (ps : List (List ℕ)). with_front front (pieces_log number place ps)) pieces
 
 more_onto : (number : ℕ) (place : Place) (piece : List ℕ) (b : ℕ) (parts : List (List ℕ)) → pieces_log number place (piece ∷ onto_first b parts) ≡ one_piece number place (line_of piece) (λ p. pieces_log (number + 1) p (onto_first b parts))
 more_onto number place piece b [] = refl

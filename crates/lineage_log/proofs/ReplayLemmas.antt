@@ -1,6 +1,6 @@
 -- What a reader has kept of a log is who lives at its end.
 use Rattle.std.proofs.Common.{◌≡◌, ℕ, zero, suc, drop, add-one, mul-le-mul, ◌+◌, ◌≤◌, Bool, true, false, List, [], ◌∷◌, ◌++◌, Option, Some, None, Result, Ok, Err, length, refl, sym, ap, subst, append_assoc, ◌∙◌, arith, inl, inr}
-use Rattle.std.specs.Prelude.{◌==◌, ◌&&◌, ◌*◌, if◌then◌else◌, nat_lt, map, slice_get, slice_set, unwrap_or, option_map, option_and_then, IsSome}
+use Rattle.std.specs.Prelude.{◌==◌, ◌&&◌, ◌*◌, if◌then◌else◌, nat_lt, slice_get, slice_set, unwrap_or, option_map, option_and_then, IsSome}
 use Rattle.std.specs.Result.{result_ok}
 use Rattle.std.proofs.lemmas.Bool.{and_parts, eqb-true}
 use Rattle.std.proofs.lemmas.List.{length-set, drop_more}

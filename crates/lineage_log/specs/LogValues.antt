@@ -32,7 +32,7 @@ abbrev pub answer_of : Result (List Line) Fault → Result (List Line) LogStop
 answer_of (Ok lines) = Ok lines
 answer_of (Err e) = Err (stop_at e.line e.cause)
 
--- what a reading of lines gave; want of memory says nothing of it
+-- what a reading of lines gave; running out of memory says nothing of it
 abbrev pub Gives : Result (Vec LogLine Global) LogStop → Result (List Line) Fault → Type 0
 Gives (Ok lines) read = read ≡ Ok (lines_of lines.items)
 Gives (Err e) read = e ≢ stop.Memory → answer_of read ≡ Err e

@@ -14,7 +14,7 @@ place_of place.Before = Before
 place_of (place.Within r) = Within (reader_of r)
 place_of (place.After r) = After (reader_of r)
 
--- what a line did: this place is reached, or why the line is faulty; want of memory says nothing of it
+-- what a line did: this place is reached, or why the line is faulty; running out of memory says nothing of it
 abbrev pub TellsPlace : Result code.Place Refusal → Result Place Reason → Type 0
 TellsPlace (Ok next) told = told ≡ Ok (place_of next)
 TellsPlace (Err Memory) told = ⊤

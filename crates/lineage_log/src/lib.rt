@@ -4,10 +4,8 @@
 pub mod laws;
 mod link;
 mod living;
-mod livings;
 mod log;
 mod log_stop;
-mod path;
 mod people;
 mod place;
 mod read;
@@ -18,13 +16,11 @@ mod residents;
 mod slots;
 mod stage;
 
-pub use link::Link;
-pub use living::Living;
-pub use livings::Livings;
+pub use link::{Link, Path};
+pub use living::{Living, Livings};
 pub use log::Log;
 pub use log_lines::{LAST_VERSION, LogLine, Stats, read_line, write_line};
 pub use log_stop::LogStop;
-pub use path::Path;
 pub use read::read_log;
 pub use reason::Reason;
 pub use residents::replay;

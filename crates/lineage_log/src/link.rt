@@ -1,3 +1,4 @@
+use avida_port::Items;
 use genome::Genome;
 use mutations::Origin;
 use std::marker::Model;
@@ -32,3 +33,6 @@ impl Model for Link {
       genome = letters a.genome;
     } };
 }
+
+/// A line of descent, the founder first.
+pub type Path = Items<Link>;

@@ -1,3 +1,4 @@
+use avida_port::Items;
 use genome::Genome;
 use std::marker::Model;
 
@@ -17,3 +18,6 @@ impl Model for Living {
 
     ghost view = { λ a. record { cell = a.cell; id = a.id; genome = letters a.genome } };
 }
+
+/// Who lives at the end of a log, in order of cells.
+pub type Livings = Items<Living>;

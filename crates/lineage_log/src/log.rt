@@ -42,18 +42,21 @@ impl Log {
         self.lines.as_slice()
     }
 
+    /// The lines, in order. It takes no memory.
     pub fn into_vec(self) -> Vec<LogLine>
         ensures { lines_of result.items ≡ self }
     {
         self.lines
     }
 
+    /// How many lines there are.
     pub fn len(&self) -> usize
         ensures { result ≡ length self.now }
     {
         self.lines.len()
     }
 
+    /// The line at a place, counted from 0. None exactly where the place is not below `len`.
     pub fn get(&self, at: usize) -> Option<&LogLine>
         ensures { option_map (λ line. values_of line.now) result ≡ slice_get self.now at }
     {

@@ -4,9 +4,10 @@ ghost use Rattle.lineage_log.specs.declared.log_stop.LogStop.TheVariants as stop
 use avida_port::Memory;
 use std::alloc::AllocFailed;
 
-/// Why bytes are no log: memory was wanting, or a line is faulty, numbered from 1.
+/// Why bytes are rejected as a log: the first faulty line, numbered from 1, or out of memory.
 #[derive(Clone, Copy, Debug, PartialEq, Eq)]
 pub enum LogStop {
+    /// Out of memory: an allocation failed.
     Memory,
     /// The line has none of the forms, or has no newline.
     BadLine { line: u64 },
@@ -14,7 +15,7 @@ pub enum LogStop {
     BadOrder { line: u64 },
     /// The parent did not live when its update began.
     UnknownParent { line: u64 },
-    /// The record of a birth does not apply.
+    /// The record of a birth can't be applied to its parent's genome.
     BadChange { line: u64 },
     /// All lines are good and none is the last line of a log; the line is the one that would follow.
     Unended { line: u64 },

@@ -13,7 +13,7 @@ use crate::refusal::Refusal;
 use log_lines::{LogLine, read_line, split_at};
 use std::alloc::Global;
 
-/// The log that has this text, or its first faulty line.
+/// Reads the text of a log, or tells its first faulty line.
 pub fn read_log(alloc: Global, bytes: &[u8]) -> Result<Log, LogStop>
     ensures { result ≢ Err LogStop.Memory → result ≡ answer_of (log_of bytes.now) }
 {

@@ -5,7 +5,7 @@ ghost use Rattle.lineage_log.specs.declared.refusal.Refusal.TheVariants as refus
 use crate::reason::Reason;
 use avida_port::Memory;
 
-/// Memory was wanting, or the line is faulty.
+/// Out of memory, or the line is faulty.
 #[derive(Clone, Copy)]
 pub enum Refusal {
     Memory,

@@ -7,8 +7,7 @@ ghost use Rattle.lineage_log.specs.Readings.{reader_of};
 ghost use Rattle.lineage_log.specs.Replay.{replay_of, resident_at, residents_from};
 ghost use Rattle.lineage_log.specs.Residents.{EachIsKept, kept_genomes};
 
-use crate::living::Living;
-use crate::livings::Livings;
+use crate::living::{Living, Livings};
 use crate::log::Log;
 use crate::place::{Place, tell};
 use crate::reader::Reader;
@@ -17,7 +16,7 @@ use avida_port::Memory;
 use log_lines::LogLine;
 use std::alloc::Global;
 
-/// The organisms that live at the end of a log, in order of cells.
+/// Replays a log: the organisms that live at its end, in order of cells, each with its genome.
 pub fn replay(alloc: Global, log: &Log) -> Result<Livings, Memory>
     ensures { IfOk result (λ livings. livings ≡ replay_of log.now) }
 {

@@ -12,8 +12,6 @@ use Rattle.mutations.specs.declared.change.Change.{Change}
 use Rattle.mutations.specs.declared.change.Change.TheVariants.{Point, Insert, Delete}
 use Rattle.mutations.specs.declared.rate_name.RateName.{RateName}
 use Rattle.mutations.specs.declared.rate_name.RateName.TheVariants as rate
-use Rattle.random_streams.specs.declared.draws.TheConstants.{GREATEST_SIDE, MILLION}
-use Rattle.log_lines.specs.declared.log_line.TheConstants.{LAST_VERSION}
 use Rattle.numerals.specs.Numeral.{number_of}
 use Rattle.log_lines.specs.Fields.{Field, number, genome_of, letters, list_of}
 use Rattle.log_lines.specs.Rows.{Row, last, times, ◌◂◌}
@@ -179,10 +177,10 @@ module _ (numbers : OneNumber) where
 
   start_law : IsRow 32 start_row
   start_law =
-      let side : IsField 32 (number 1 GREATEST_SIDE) = low (number 1 GREATEST_SIDE) (number_law numbers 1 GREATEST_SIDE (omega arith)) in
-      row_law (number 1 LAST_VERSION) (number 1 GREATEST_SIDE ◂ (number 1 GREATEST_SIDE ◂ (small ◂ last letters))) 32 (low (number 1 LAST_VERSION) (number_law numbers 1 LAST_VERSION (omega arith)))
-      (row_law (number 1 GREATEST_SIDE) (number 1 GREATEST_SIDE ◂ (small ◂ last letters)) 32 side
-      (row_law (number 1 GREATEST_SIDE) (small ◂ last letters) 32 side
+      let side : IsField 32 (number 1 256) = low (number 1 256) (number_law numbers 1 256 (omega arith)) in
+      row_law (number 1 2) (number 1 256 ◂ (number 1 256 ◂ (small ◂ last letters))) 32 (low (number 1 2) (number_law numbers 1 2 (omega arith)))
+      (row_law (number 1 256) (number 1 256 ◂ (small ◂ last letters)) 32 side
+      (row_law (number 1 256) (small ◂ last letters) 32 side
       (row_law small (last letters) 32 small32 (last_law letters 32 letters32))))
 
   death_law : IsRow 32 death_row
@@ -206,9 +204,9 @@ module _ (numbers : OneNumber) where
 
   rate_row_law : IsRow 32 rate_row
   rate_row_law =
-      row_law small (rate_name ◂ last (number 0 MILLION)) 32 small32
-      (row_law rate_name (last (number 0 MILLION)) 32 (low rate_name rate_law)
-      (last_law (number 0 MILLION) 32 (low (number 0 MILLION) (number_law numbers 0 MILLION (omega arith)))))
+      row_law small (rate_name ◂ last (number 0 1000000)) 32 small32
+      (row_law rate_name (last (number 0 1000000)) 32 (low rate_name rate_law)
+      (last_law (number 0 1000000) 32 (low (number 0 1000000) (number_law numbers 0 1000000 (omega arith)))))
 
   count_law : IsRow 32 count_row
   count_law =

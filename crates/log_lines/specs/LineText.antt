@@ -4,8 +4,6 @@ use Rattle.instruction_set.specs.declared.letter.Letter.{Letter}
 use Rattle.mutations.specs.declared.change.Change.{Change}
 use Rattle.mutations.specs.BirthRecord.{BirthRecord}
 use Rattle.mutations.specs.declared.rate_name.RateName.{RateName}
-use Rattle.random_streams.specs.declared.draws.TheConstants.{GREATEST_SIDE, MILLION}
-use Rattle.log_lines.specs.declared.log_line.TheConstants.{LAST_VERSION}
 use Rattle.log_lines.specs.declared.stats.Stats.{Stats}
 use Rattle.log_lines.specs.Fields.{number, letters}
 use Rattle.log_lines.specs.Rows.{Row, last, times, ◌◂◌}
@@ -14,9 +12,7 @@ use Rattle.log_lines.specs.Kinds.{small, large, rate_name, over_field, base_fiel
 
 -- the version, the width, the height, the founder's cell and its letters
 abbrev pub start_row : Row (ℕ × (ℕ × (ℕ × (ℕ × List Letter))))
-start_row =
-    number 1 LAST_VERSION
-    ◂ (number 1 GREATEST_SIDE ◂ (number 1 GREATEST_SIDE ◂ (small ◂ last letters)))
+start_row = number 1 2 ◂ (number 1 256 ◂ (number 1 256 ◂ (small ◂ last letters)))
 
 -- an id, the update and the cell
 abbrev pub death_row : Row (ℕ × (ℕ × ℕ))
@@ -36,7 +32,7 @@ injected_row = large ◂ (small ◂ (small ◂ (over_field ◂ last letters)))
 
 -- the update, the rate and its parts per million
 abbrev pub rate_row : Row (ℕ × (RateName × ℕ))
-rate_row = small ◂ (rate_name ◂ last (number 0 MILLION))
+rate_row = small ◂ (rate_name ◂ last (number 0 1000000))
 
 -- the update, living, births, deaths, genotypes, merit and the nine task counts
 abbrev pub count_row : Row (ℕ × (ℕ × (ℕ × (ℕ × (ℕ × (ℕ × List ℕ))))))

@@ -13,4 +13,4 @@ pub use log_line::{LAST_VERSION, LogLine};
 pub use reading::read_line;
 pub use stats::Stats;
 pub use words::split_at;
-pub use writing::{write_line, write_record};
+pub use writing::{write_line, write_number, write_record};

@@ -307,7 +307,8 @@ fn read_form(alloc: Global, mark: &[u8], rest: Option<&[u8]>) -> Result<Option<L
     Ok(None)
 }
 
-/// The line that has this text before its newline.
+/// Reads the text of a line, which stands before its newline. None exactly where the text has none
+/// of the eight forms.
 #[tactic(auto, unfolding(crate::specs::LineReading::line_of))]
 pub fn read_line(alloc: Global, text: &[u8]) -> Result<Option<LogLine>, Memory>
     ensures { IfOk result (λ found. option_map values_of found ≡ line_of text.now) }

@@ -1,4 +1,4 @@
-/// What is counted after an update.
+/// The statistics of an update, taken at its end.
 #[derive(Clone, Copy, Debug, PartialEq, Eq)]
 pub struct Stats {
     pub update: u32,

@@ -7,7 +7,8 @@ ghost use Rattle.log_lines.specs.Words.{pieces_of, read_first, words_of};
 
 use numerals::{number, small_number};
 
-/// The piece before the next such byte, and what follows that byte.
+/// The piece before the next byte `part`, and what follows that byte. Without such a byte the piece
+/// is all of `rest`, and nothing follows it.
 pub fn split_at(rest: &[u8], part: u8) -> (&[u8], Option<&[u8]>)
     ensures { slice_split (λ b. b == part) rest.now
         ≡ result.0.now ∷ pieces_of part (option_copied result.1) }

@@ -40,8 +40,9 @@ fn text(out: &mut Vec<u8>, bytes: &[u8]) -> Result<(), Memory>
     }
 }
 
-/// A byte, and a number behind it.
-fn number(out: &mut Vec<u8>, before: u8, value: u64) -> Result<(), Memory>
+/// Appends a byte, and a number in decimal digits behind it. When memory runs out `out` stays as it
+/// was.
+pub fn write_number(before: u8, value: u64, out: &mut Vec<u8>) -> Result<(), Memory>
     ensures ok { OnOk result (out.new.items ≡ out.old.items ++ before ∷ decimal value) }
     ensures err { OnErr result (out.new.items ≡ out.old.items) }
 {
@@ -66,7 +67,7 @@ fn over(out: &mut Vec<u8>, over: Option<u64>) -> Result<(), Memory>
     ensures err { OnErr result (out.new.items ≡ out.old.items) }
 {
     match over {
-        Some(id) => number(out, b' ', id),
+        Some(id) => write_number(b' ', id, out),
         None => text(out, b" -"),
     }
 }
@@ -90,14 +91,14 @@ fn change(out: &mut Vec<u8>, before: u8, change: Change) -> Result<(), Memory>
     byte(out, before)?;
     match change {
         Change::Point { at, letter } => {
-            number(out, b'p', u64::from(at))?;
+            write_number(b'p', u64::from(at), out)?;
             byte(out, letter.byte())
         }
         Change::Insert { at, letter } => {
-            number(out, b'i', u64::from(at))?;
+            write_number(b'i', u64::from(at), out)?;
             byte(out, letter.byte())
         }
-        Change::Delete { at } => number(out, b'd', u64::from(at)),
+        Change::Delete { at } => write_number(b'd', u64::from(at), out),
     }
 }
 
@@ -128,7 +129,7 @@ fn tasks(out: &mut Vec<u8>, tasks: &[u64; 9]) -> Result<(), Memory>
     ensures err { OnErr result (Keeps out.old.items out.new.items) }
 {
     for count in tasks {
-        number(out, b' ', *count)?;
+        write_number(b' ', *count, out)?;
     }
     Ok(())
 }
@@ -139,11 +140,12 @@ fn placed(out: &mut Vec<u8>, update: u32, cell: u32) -> Result<(), Memory>
         ++ words_text (decimal update ∷ decimal cell ∷ [])) }
     ensures err { OnErr result (Keeps out.old.items out.new.items) }
 {
-    number(out, b' ', u64::from(update))?;
-    number(out, b' ', u64::from(cell))
+    write_number(b' ', u64::from(update), out)?;
+    write_number(b' ', u64::from(cell), out)
 }
 
-/// Appends the base and the changes, each behind a space.
+/// Appends the base and the changes of a birth, each behind a space. When memory runs out `out` begins
+/// with what it held before.
 #[tactic(auto, using(crate::proofs::KeptLemmas::keeps_front))]
 pub fn write_record(origin: &Origin, out: &mut Vec<u8>) -> Result<(), Memory>
     ensures ok { OnOk result (out.new.items ≡ out.old.items
@@ -161,9 +163,9 @@ fn turnover(out: &mut Vec<u8>, living: u64, births: u64, deaths: u64) -> Result<
         ++ words_text (decimal living ∷ decimal births ∷ decimal deaths ∷ [])) }
     ensures err { OnErr result (Keeps out.old.items out.new.items) }
 {
-    number(out, b' ', living)?;
-    number(out, b' ', births)?;
-    number(out, b' ', deaths)
+    write_number(b' ', living, out)?;
+    write_number(b' ', births, out)?;
+    write_number(b' ', deaths, out)
 }
 
 #[tactic(auto, using(crate::proofs::KeptLemmas::keeps_front))]
@@ -181,10 +183,10 @@ fn start(
     ensures err { OnErr result (Keeps out.old.items out.new.items) }
 {
     byte(out, b'L')?;
-    number(out, b' ', u64::from(version))?;
-    number(out, b' ', u64::from(width))?;
-    number(out, b' ', u64::from(height))?;
-    number(out, b' ', u64::from(cell))?;
+    write_number(b' ', u64::from(version), out)?;
+    write_number(b' ', u64::from(width), out)?;
+    write_number(b' ', u64::from(height), out)?;
+    write_number(b' ', u64::from(cell), out)?;
     letters(out, genome)
 }
 
@@ -196,7 +198,7 @@ fn death(out: &mut Vec<u8>, mark: u8, id: u64, update: u32, cell: u32) -> Result
     ensures err { OnErr result (Keeps out.old.items out.new.items) }
 {
     byte(out, mark)?;
-    number(out, b' ', id)?;
+    write_number(b' ', id, out)?;
     placed(out, update, cell)
 }
 
@@ -215,8 +217,8 @@ fn birth(
     ensures err { OnErr result (Keeps out.old.items out.new.items) }
 {
     byte(out, b'B')?;
-    number(out, b' ', id)?;
-    number(out, b' ', parent)?;
+    write_number(b' ', id, out)?;
+    write_number(b' ', parent, out)?;
     placed(out, update, cell)?;
     over(out, who)?;
     write_record(origin, out)
@@ -237,7 +239,7 @@ fn injected(
     ensures err { OnErr result (Keeps out.old.items out.new.items) }
 {
     byte(out, b'I')?;
-    number(out, b' ', id)?;
+    write_number(b' ', id, out)?;
     placed(out, update, cell)?;
     over(out, who)?;
     letters(out, genome)
@@ -249,10 +251,10 @@ fn rate(out: &mut Vec<u8>, update: u32, name: RateName, ppm: u32) -> Result<(), 
     ensures err { OnErr result (Keeps out.old.items out.new.items) }
 {
     byte(out, b'R')?;
-    number(out, b' ', u64::from(update))?;
+    write_number(b' ', u64::from(update), out)?;
     byte(out, b' ')?;
     text(out, name.name().as_bytes())?;
-    number(out, b' ', u64::from(ppm))
+    write_number(b' ', u64::from(ppm), out)
 }
 
 #[tactic(auto, using(crate::proofs::KeptLemmas::keeps_front))]
@@ -262,10 +264,10 @@ fn count(out: &mut Vec<u8>, stats: &Stats) -> Result<(), Memory>
     ensures err { OnErr result (Keeps out.old.items out.new.items) }
 {
     byte(out, b'U')?;
-    number(out, b' ', u64::from(stats.update))?;
+    write_number(b' ', u64::from(stats.update), out)?;
     turnover(out, stats.living, stats.births, stats.deaths)?;
-    number(out, b' ', stats.genotypes)?;
-    number(out, b' ', stats.merit)?;
+    write_number(b' ', stats.genotypes, out)?;
+    write_number(b' ', stats.merit, out)?;
     tasks(out, &stats.tasks)
 }
 
@@ -274,7 +276,7 @@ fn end(out: &mut Vec<u8>, updates: u32) -> Result<(), Memory>
     ensures err { OnErr result (Keeps out.old.items out.new.items) }
 {
     byte(out, b'E')?;
-    number(out, b' ', u64::from(updates))
+    write_number(b' ', u64::from(updates), out)
 }
 
 /// The line without its newline.
@@ -322,7 +324,7 @@ fn row_and_newline(line: &LogLine, out: &mut Vec<u8>) -> Result<(), Memory>
     byte(out, b'\n')
 }
 
-/// Appends the text of a line, with its newline.
+/// Appends the text of a line, with its newline. When memory runs out `out` stays as it was.
 pub fn write_line(line: &LogLine, out: &mut Vec<u8>) -> Result<(), Memory>
     ensures ok { OnOk result (out.new.items ≡ out.old.items ++ line_text (values_of line.now)) }
     ensures err { OnErr result (out.new.items ≡ out.old.items) }

@@ -10,8 +10,6 @@ use Rattle.instruction_set.specs.declared.letter.Letter.{Letter}
 use Rattle.genome.specs.declared.stop.GenomeStop.{GenomeStop}
 use Rattle.genome.specs.GenomeText.{spelled_by_letters}
 use Rattle.mutations.specs.declared.rate_name.RateName.{RateName}
-use Rattle.random_streams.specs.declared.draws.TheConstants.{MILLION}
-use Rattle.world_config.specs.declared.limits.TheConstants.{MOST_EVENTS}
 use Rattle.world_config.specs.KeyTable.{Frame}
 use Rattle.world_config.specs.Events.{AreEvents, EventValue, WhatValue, inject, clear, rate, event_fits, what_fits}
 use Rattle.mutations.specs.RateNames.{rate_named}
@@ -94,10 +92,10 @@ clear_of-fits frame ms what h =
 rate_of-fits : (frame : Frame) (ms : Members) (what : WhatValue) → rate_of ms ≡ Some what → what_fits frame what ≡ true
 rate_of-fits frame ms what h =
     let called : Option RateName = option_and_then rate_named (option_and_then as_str (get_member (codes "name") ms)) in
-    let number : Option ℕ = number_from 0 MILLION (get_member (codes "ppm") ms) in
+    let number : Option ℕ = number_from 0 1000000 (get_member (codes "ppm") ms) in
     let (name, ppm, of_name, of_ppm, made) = both-some rate called number what (only_if (has_only rate_form_names ms) (both rate called number) what h) in
-    let low : (nat_le 0 ppm && nat_le ppm MILLION) ≡ true = within 0 MILLION (get_member (codes "ppm") ms) ppm of_ppm in
-    rw (← made, (and_parts (nat_le 0 ppm) (nat_le ppm MILLION) low).1) refl
+    let low : (nat_le 0 ppm && nat_le ppm 1000000) ≡ true = within 0 1000000 (get_member (codes "ppm") ms) ppm of_ppm in
+    rw (← made, (and_parts (nat_le 0 ppm) (nat_le ppm 1000000) low).1) refl
 
 -- what a table of this kind does fits
 choose : (frame : Frame) (what : WhatValue) (a b c : Bool) (x y z : Option WhatValue)
@@ -206,7 +204,7 @@ non_decreasing least (event ∷ events) rises (suc i) (suc j) d le h =
     non_decreasing event.update events rises.1 i j d less rest
 
 -- events that were read can stand in a configuration
-pub AreEvents-read : (frame : Frame) (items : Items) (happening : List EventValue) → count_of items ≤ MOST_EVENTS → events_of frame items ≡ Ok happening → AreEvents frame happening
+pub AreEvents-read : (frame : Frame) (items : Items) (happening : List EventValue) → count_of items ≤ 1000 → events_of frame items ≡ Ok happening → AreEvents frame happening
 AreEvents-read frame items happening few h =
     let kept : Kept frame 1 (count_of items) happening = events_from-kept frame items 1 1 happening (omega arith) h in
     record { number = rw kept.number few; fit = kept.fit; rising = non_decreasing 1 happening kept.rises }

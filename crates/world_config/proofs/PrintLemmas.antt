@@ -9,12 +9,10 @@ use Rattle.toml.specs.Data.{as_str, get_member, string, integer, table, depth, i
 use Rattle.instruction_set.specs.declared.letter.Letter.{Letter}
 use Rattle.instruction_set.specs.declared.letter.Letter.TheVariants.{NopA, NopB, NopC, IfNEqu, IfLess, IfLabel, MovHead, JmpHead, GetHead, SetFlow, ShiftR, ShiftL, Inc, Dec, Push, Pop, SwapStk, Swap, Add, Sub, Nand, HCopy, HAlloc, HDivide, Io, HSearch}
 use Rattle.instruction_set.specs.Letter.{byte_of, letter_of_byte}
-use Rattle.genome.specs.declared.genome.TheConstants.{LEAST_LENGTH, GREATEST_LENGTH}
 use Rattle.genome.specs.Genome.{genome_of}
 use Rattle.genome.specs.GenomeText.{before_line_end, first_bad_byte, genome_by_letters, letters_text_of, spelled_by_letters, unless_faulty}
 use Rattle.mutations.specs.declared.rate_name.RateName.{RateName}
 use Rattle.mutations.specs.declared.rate_name.RateName.TheVariants.{Copy, Insert, Delete, SitePoint, SiteInsert, SiteDelete}
-use Rattle.random_streams.specs.declared.draws.TheConstants.{MILLION}
 use Rattle.world_config.specs.KeyTable.{Frame}
 use Rattle.world_config.specs.Events.{AreEvents, EventValue, WhatValue, inject, clear, rate, event_fits, what_fits}
 use Rattle.mutations.specs.RateNames.{name_of_rate, rate_named}
@@ -72,11 +70,11 @@ no_line_end (l ∷ ls) (suc k) = no_line_end ls k
 same_before_line_end : (ls : List Letter) → before_line_end (map byte_of ls) ≡ map byte_of ls
 same_before_line_end ls = rw (no_line_end ls (length (map byte_of ls) - 1)) refl
 
-genome_of-fits : (ls : List Letter) → LEAST_LENGTH ≤ length ls → length ls ≤ GREATEST_LENGTH → genome_of ls ≡ Ok ls
-genome_of-fits ls low high = rw (le-ltb (length ls) LEAST_LENGTH low, le-ltb GREATEST_LENGTH (length ls) high) refl
+genome_of-fits : (ls : List Letter) → 8 ≤ length ls → length ls ≤ 8192 → genome_of ls ≡ Ok ls
+genome_of-fits ls low high = rw (le-ltb (length ls) 8 low, le-ltb 8192 (length ls) high) refl
 
 -- letters that are printed are read back
-pub spelled_by_letters-text : (ls : List Letter) → LEAST_LENGTH ≤ length ls → length ls ≤ GREATEST_LENGTH → spelled_by_letters (letters_text_of ls) ≡ Ok ls
+pub spelled_by_letters-text : (ls : List Letter) → 8 ≤ length ls → length ls ≤ 8192 → spelled_by_letters (letters_text_of ls) ≡ Ok ls
 spelled_by_letters-text ls low high =
     ap genome_by_letters (ap (λ text. unless_faulty (first_bad_byte text) (filter_map letter_of_byte text)) (same_before_line_end ls)
     ∙ ap (λ o. unless_faulty o (filter_map letter_of_byte (map byte_of ls))) (no_bad_byte ls 0)
@@ -103,8 +101,8 @@ sized-fits least greatest ls h = rw h refl
 
 -- the lengths of a frame are those of genomes
 pub record IsFrame (frame : Frame) : Type 0 where
-  pub least : LEAST_LENGTH ≤ frame.least_length
-  pub greatest : frame.greatest_length ≤ GREATEST_LENGTH
+  pub least : 8 ≤ frame.least_length
+  pub greatest : frame.greatest_length ≤ 8192
 
 module _ (frame : Frame) (is : IsFrame frame) where
   genome_from-text : (ls : List Letter) → (nat_le frame.least_length (length ls) && nat_le (length ls) frame.greatest_length) ≡ true
@@ -113,8 +111,8 @@ module _ (frame : Frame) (is : IsFrame frame) where
       let (low, high) = and_parts (nat_le frame.least_length (length ls)) (nat_le (length ls) frame.greatest_length) h in
       let above : frame.least_length ≤ length ls = leb-true frame.least_length (length ls) low in
       let below : length ls ≤ frame.greatest_length = leb-true (length ls) frame.greatest_length high in
-      let least : LEAST_LENGTH ≤ length ls = omega (arith, is.least) in
-      let greatest : length ls ≤ GREATEST_LENGTH = omega (arith, is.greatest) in
+      let least : 8 ≤ length ls = omega (arith, is.least) in
+      let greatest : length ls ≤ 8192 = omega (arith, is.greatest) in
       ap (sized frame.least_length frame.greatest_length) (spelled_by_letters-text ls least greatest) ∙ sized-fits frame.least_length frame.greatest_length ls h
 
   -- what an event does is read back
@@ -127,7 +125,7 @@ module _ (frame : Frame) (is : IsFrame frame) where
       ap (option_and_then (λ (last : ℕ). option_map (λ (first : ℕ). clear first last) (number_from 0 last (Some (integer (pos first)))))) (number_from-pos 0 frame.last_cell last (omega arith) (leb-true last frame.last_cell high))
       ∙ ap (option_map (λ (first : ℕ). clear first last)) (number_from-pos 0 last first (omega arith) (leb-true first last low))
   what_of-members update (rate name ppm) h =
-      both-some rate name ppm (rate_named-key name) (number_from-pos 0 MILLION ppm (omega arith) (leb-true ppm MILLION h))
+      both-some rate name ppm (rate_named-key name) (number_from-pos 0 1000000 ppm (omega arith) (leb-true ppm 1000000 h))
 
   member_update : (least update : ℕ) (what : WhatValue) → least ≤ update → update ≤ frame.updates → number_from least frame.updates (get_member (codes "update") (event_members update what)) ≡ Some update
   member_update least update (inject cell ls) low high = number_from-pos least frame.updates update low high

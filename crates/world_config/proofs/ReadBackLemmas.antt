@@ -2,16 +2,14 @@
 use Rattle.std.proofs.Common.{◌≡◌, ℕ, ◌≤◌, max, suc, List, length, Option, None, Ok, pos, refl, ap, ◌∙◌, arith}
 use Rattle.toml.specs.Data.{Members, items_depth, members_depth}
 use Rattle.instruction_set.specs.declared.letter.Letter.{Letter}
-use Rattle.genome.specs.declared.genome.TheConstants.{LEAST_LENGTH, GREATEST_LENGTH}
+use Rattle.genome.specs.Genome.{letters}
 use Rattle.genome.specs.GenomeText.{letters_text_of, spelled_by_letters}
-use Rattle.random_streams.specs.declared.draws.TheConstants.{GREATEST_SIDE, MILLION}
 use Rattle.world_config.specs.declared.config.Config.{Config}
+use Rattle.world_config.specs.declared.key.Key.{Key}
 use Rattle.world_config.specs.declared.key.Key.TheVariants.{Width, Height, Updates, Seed, FounderCell, AverageSlices, Death, AgeLimit, CopyError, DivideInsert, DivideDelete, SitePoint, SiteInsert, SiteDelete, PreferEmpty, NeedAlloc, ExecutedPercent, CopiedPercent, LeastLength, GreatestLength, MemoryLimit, Ancestor, Event}
-use Rattle.world_config.specs.declared.limits.TheConstants.{GREATEST_UPDATES, GREATEST_SEED, GREATEST_AVERAGE, GREATEST_AGE, GREATEST_PERCENT, MOST_EVENTS}
 use Rattle.world_config.specs.declared.stop.ConfigStop.{ConfigStop}
 use Rattle.world_config.specs.KeyTable.{keys}
 use Rattle.world_config.specs.Bounds.{IsWithin, frame_of, last_cell_of}
-use Rattle.world_config.specs.Events.{AreEvents}
 use Rattle.world_config.specs.EventForms.{events_of}
 use Rattle.world_config.specs.Values.{ConfigValues}
 use Rattle.world_config.specs.Config.{config_in, unless_refused, values_in, values_with}
@@ -21,53 +19,6 @@ use Rattle.world_config.specs.Printing.{items_for, members_for}
 use Rattle.world_config.specs.Shown.{values_of}
 use Rattle.world_config.proofs.PrintLemmas.{IsFrame, count_of-items, events_of-items, items_depth-events, spelled_by_letters-text}
 use Rattle.world_config.proofs.RefusalLemmas.{unless_within-none}
-
--- the values keep to their bounds
-pub record AreBounded (v : ConfigValues) : Type 0 where
-  pub width : IsWithin 1 GREATEST_SIDE v.width
-  pub height : IsWithin 1 GREATEST_SIDE v.height
-  pub updates : IsWithin 0 GREATEST_UPDATES v.updates
-  pub seed : IsWithin 0 GREATEST_SEED v.seed
-  pub founder_cell : IsWithin 0 (last_cell_of v.width v.height) v.founder_cell
-  pub average_slices : IsWithin 1 GREATEST_AVERAGE v.average_slices
-  pub age_limit : IsWithin 1 GREATEST_AGE v.age_limit
-  pub copy_error : IsWithin 0 MILLION v.copy_error
-  pub divide_insert : IsWithin 0 MILLION v.divide_insert
-  pub divide_delete : IsWithin 0 MILLION v.divide_delete
-  pub site_point : IsWithin 0 MILLION v.site_point
-  pub site_insert : IsWithin 0 MILLION v.site_insert
-  pub site_delete : IsWithin 0 MILLION v.site_delete
-  pub executed_percent : IsWithin 1 GREATEST_PERCENT v.executed_percent
-  pub copied_percent : IsWithin 1 GREATEST_PERCENT v.copied_percent
-  pub least_length : IsWithin LEAST_LENGTH GREATEST_LENGTH v.least_length
-  pub greatest_length : IsWithin v.least_length GREATEST_LENGTH v.greatest_length
-  pub memory_limit : IsWithin v.greatest_length GREATEST_LENGTH v.memory_limit
-  pub ancestor : IsWithin v.least_length v.greatest_length (length v.ancestor)
-  pub event : AreEvents (frame_of v.width v.height v.updates v.least_length v.greatest_length) v.event
-
-pub AreBounded-values : (c : Config) → AreBounded (values_of c)
-AreBounded-values c = record {
-  width = c.width_bounds;
-  height = c.height_bounds;
-  updates = c.updates_bounds;
-  seed = c.seed_bounds;
-  founder_cell = c.founder_cell_bounds;
-  average_slices = c.average_slices_bounds;
-  age_limit = c.age_limit_bounds;
-  copy_error = c.copy_error_bounds;
-  divide_insert = c.divide_insert_bounds;
-  divide_delete = c.divide_delete_bounds;
-  site_point = c.site_point_bounds;
-  site_insert = c.site_insert_bounds;
-  site_delete = c.site_delete_bounds;
-  executed_percent = c.executed_percent_bounds;
-  copied_percent = c.copied_percent_bounds;
-  least_length = c.least_length_bounds;
-  greatest_length = c.greatest_length_bounds;
-  memory_limit = c.memory_limit_bounds;
-  ancestor = c.ancestor_bounds;
-  event = c.event_bounds;
-}
 
 no_unknown : (v : ConfigValues) → least_unknown (members_for v) ≡ None
 unfolding is_known
@@ -92,141 +43,53 @@ genome_at-members v = refl
 neither : {a b : Option ConfigStop} → a ≡ None → b ≡ None → earlier a b ≡ None
 neither {b = b} h k = ap (λ o. earlier o b) h ∙ k
 
-accepted-width : (v : ConfigValues) → IsWithin 1 GREATEST_SIDE v.width → refusal_at (frame_in (members_for v)) Width (members_for v) ≡ None
+within : (key : Key) (least greatest n : ℕ) → IsWithin least greatest n → unless_within key least greatest (pos n) ≡ None
+within key least greatest n h = unless_within-none key least greatest n h.0 h.1
+
+-- no value of a configuration is refused
+all_accepted : (c : Config) → spelled_by_letters (letters_text_of (letters c.ancestor)) ≡ Ok (letters c.ancestor) → first_refusal keys (members_for (values_of c)) ≡ None
 unfolding refusal_at number_at
-accepted-width v h = unless_within-none Width 1 GREATEST_SIDE v.width h.0 h.1
-
-accepted-height : (v : ConfigValues) → IsWithin 1 GREATEST_SIDE v.height → refusal_at (frame_in (members_for v)) Height (members_for v) ≡ None
-unfolding refusal_at number_at
-accepted-height v h = unless_within-none Height 1 GREATEST_SIDE v.height h.0 h.1
-
-accepted-updates : (v : ConfigValues) → IsWithin 0 GREATEST_UPDATES v.updates → refusal_at (frame_in (members_for v)) Updates (members_for v) ≡ None
-unfolding refusal_at number_at
-accepted-updates v h = unless_within-none Updates 0 GREATEST_UPDATES v.updates h.0 h.1
-
-accepted-seed : (v : ConfigValues) → IsWithin 0 GREATEST_SEED v.seed → refusal_at (frame_in (members_for v)) Seed (members_for v) ≡ None
-unfolding refusal_at number_at
-accepted-seed v h = unless_within-none Seed 0 GREATEST_SEED v.seed h.0 h.1
-
-accepted-founder_cell : (v : ConfigValues) → IsWithin 0 (last_cell_of v.width v.height) v.founder_cell → refusal_at (frame_in (members_for v)) FounderCell (members_for v) ≡ None
-unfolding refusal_at number_at
-accepted-founder_cell v h = unless_within-none FounderCell 0 (last_cell_of v.width v.height) v.founder_cell h.0 h.1
-
-accepted-average_slices : (v : ConfigValues) → IsWithin 1 GREATEST_AVERAGE v.average_slices → refusal_at (frame_in (members_for v)) AverageSlices (members_for v) ≡ None
-unfolding refusal_at number_at
-accepted-average_slices v h = unless_within-none AverageSlices 1 GREATEST_AVERAGE v.average_slices h.0 h.1
-
-accepted-death : (v : ConfigValues) → refusal_at (frame_in (members_for v)) Death (members_for v) ≡ None
-unfolding refusal_at
-accepted-death v = refl
-
-accepted-age_limit : (v : ConfigValues) → IsWithin 1 GREATEST_AGE v.age_limit → refusal_at (frame_in (members_for v)) AgeLimit (members_for v) ≡ None
-unfolding refusal_at number_at
-accepted-age_limit v h = unless_within-none AgeLimit 1 GREATEST_AGE v.age_limit h.0 h.1
-
-accepted-copy_error : (v : ConfigValues) → IsWithin 0 MILLION v.copy_error → refusal_at (frame_in (members_for v)) CopyError (members_for v) ≡ None
-unfolding refusal_at number_at
-accepted-copy_error v h = unless_within-none CopyError 0 MILLION v.copy_error h.0 h.1
-
-accepted-divide_insert : (v : ConfigValues) → IsWithin 0 MILLION v.divide_insert → refusal_at (frame_in (members_for v)) DivideInsert (members_for v) ≡ None
-unfolding refusal_at number_at
-accepted-divide_insert v h = unless_within-none DivideInsert 0 MILLION v.divide_insert h.0 h.1
-
-accepted-divide_delete : (v : ConfigValues) → IsWithin 0 MILLION v.divide_delete → refusal_at (frame_in (members_for v)) DivideDelete (members_for v) ≡ None
-unfolding refusal_at number_at
-accepted-divide_delete v h = unless_within-none DivideDelete 0 MILLION v.divide_delete h.0 h.1
-
-accepted-site_point : (v : ConfigValues) → IsWithin 0 MILLION v.site_point → refusal_at (frame_in (members_for v)) SitePoint (members_for v) ≡ None
-unfolding refusal_at number_at
-accepted-site_point v h = unless_within-none SitePoint 0 MILLION v.site_point h.0 h.1
-
-accepted-site_insert : (v : ConfigValues) → IsWithin 0 MILLION v.site_insert → refusal_at (frame_in (members_for v)) SiteInsert (members_for v) ≡ None
-unfolding refusal_at number_at
-accepted-site_insert v h = unless_within-none SiteInsert 0 MILLION v.site_insert h.0 h.1
-
-accepted-site_delete : (v : ConfigValues) → IsWithin 0 MILLION v.site_delete → refusal_at (frame_in (members_for v)) SiteDelete (members_for v) ≡ None
-unfolding refusal_at number_at
-accepted-site_delete v h = unless_within-none SiteDelete 0 MILLION v.site_delete h.0 h.1
-
-accepted-prefer_empty : (v : ConfigValues) → refusal_at (frame_in (members_for v)) PreferEmpty (members_for v) ≡ None
-unfolding refusal_at
-accepted-prefer_empty v = refl
-
-accepted-need_alloc : (v : ConfigValues) → refusal_at (frame_in (members_for v)) NeedAlloc (members_for v) ≡ None
-unfolding refusal_at
-accepted-need_alloc v = refl
-
-accepted-executed_percent : (v : ConfigValues) → IsWithin 1 GREATEST_PERCENT v.executed_percent → refusal_at (frame_in (members_for v)) ExecutedPercent (members_for v) ≡ None
-unfolding refusal_at number_at
-accepted-executed_percent v h = unless_within-none ExecutedPercent 1 GREATEST_PERCENT v.executed_percent h.0 h.1
-
-accepted-copied_percent : (v : ConfigValues) → IsWithin 1 GREATEST_PERCENT v.copied_percent → refusal_at (frame_in (members_for v)) CopiedPercent (members_for v) ≡ None
-unfolding refusal_at number_at
-accepted-copied_percent v h = unless_within-none CopiedPercent 1 GREATEST_PERCENT v.copied_percent h.0 h.1
-
-accepted-least_length : (v : ConfigValues) → IsWithin LEAST_LENGTH GREATEST_LENGTH v.least_length → refusal_at (frame_in (members_for v)) LeastLength (members_for v) ≡ None
-unfolding refusal_at number_at
-accepted-least_length v h = unless_within-none LeastLength LEAST_LENGTH GREATEST_LENGTH v.least_length h.0 h.1
-
-accepted-greatest_length : (v : ConfigValues) → IsWithin v.least_length GREATEST_LENGTH v.greatest_length → refusal_at (frame_in (members_for v)) GreatestLength (members_for v) ≡ None
-unfolding refusal_at number_at
-accepted-greatest_length v h = unless_within-none GreatestLength v.least_length GREATEST_LENGTH v.greatest_length h.0 h.1
-
-accepted-memory_limit : (v : ConfigValues) → IsWithin v.greatest_length GREATEST_LENGTH v.memory_limit → refusal_at (frame_in (members_for v)) MemoryLimit (members_for v) ≡ None
-unfolding refusal_at number_at
-accepted-memory_limit v h = unless_within-none MemoryLimit v.greatest_length GREATEST_LENGTH v.memory_limit h.0 h.1
-
-accepted-ancestor : (v : ConfigValues) → spelled_by_letters (letters_text_of v.ancestor) ≡ Ok v.ancestor → IsWithin v.least_length v.greatest_length (length v.ancestor)
-    → refusal_at (frame_in (members_for v)) Ancestor (members_for v) ≡ None
-unfolding refusal_at number_at
-accepted-ancestor v read h =
-    ap (unless_genome Ancestor v.least_length v.greatest_length) read ∙ unless_within-none Ancestor v.least_length v.greatest_length (length v.ancestor) h.0 h.1
-
-accepted-event : (v : ConfigValues) → length v.event ≤ MOST_EVENTS → refusal_at (frame_in (members_for v)) Event (members_for v) ≡ None
-unfolding refusal_at
-accepted-event v few =
-    ap (λ (n : ℕ). unless_within Event 0 MOST_EVENTS (pos n)) (count_of-items v.event) ∙ unless_within-none Event 0 MOST_EVENTS (length v.event) (omega arith) few
-
-all_accepted : (v : ConfigValues) → AreBounded v → spelled_by_letters (letters_text_of v.ancestor) ≡ Ok v.ancestor → first_refusal keys (members_for v) ≡ None
-all_accepted v are read =
-    (neither (accepted-width v are.width)
-    (neither (accepted-height v are.height)
-    (neither (accepted-updates v are.updates)
-    (neither (accepted-seed v are.seed)
-    (neither (accepted-founder_cell v are.founder_cell)
-    (neither (accepted-average_slices v are.average_slices)
-    (neither (accepted-death v)
-    (neither (accepted-age_limit v are.age_limit)
-    (neither (accepted-copy_error v are.copy_error)
-    (neither (accepted-divide_insert v are.divide_insert)
-    (neither (accepted-divide_delete v are.divide_delete)
-    (neither (accepted-site_point v are.site_point)
-    (neither (accepted-site_insert v are.site_insert)
-    (neither (accepted-site_delete v are.site_delete)
-    (neither (accepted-prefer_empty v)
-    (neither (accepted-need_alloc v)
-    (neither (accepted-executed_percent v are.executed_percent)
-    (neither (accepted-copied_percent v are.copied_percent)
-    (neither (accepted-least_length v are.least_length)
-    (neither (accepted-greatest_length v are.greatest_length)
-    (neither (accepted-memory_limit v are.memory_limit)
-    (neither (accepted-ancestor v read are.ancestor)
-    (neither (accepted-event v are.event.number) refl)))))))))))))))))))))))
+all_accepted c read =
+    let v = values_of c in
+    (neither (within Width 1 256 v.width c.width_bounds)
+    (neither (within Height 1 256 v.height c.height_bounds)
+    (neither (within Updates 0 1000000 v.updates c.updates_bounds)
+    (neither (within Seed 0 9223372036854775807 v.seed c.seed_bounds)
+    (neither (within FounderCell 0 (last_cell_of v.width v.height) v.founder_cell c.founder_cell_bounds)
+    (neither (within AverageSlices 1 1000 v.average_slices c.average_slices_bounds)
+    (neither refl
+    (neither (within AgeLimit 1 1000 v.age_limit c.age_limit_bounds)
+    (neither (within CopyError 0 1000000 v.copy_error c.copy_error_bounds)
+    (neither (within DivideInsert 0 1000000 v.divide_insert c.divide_insert_bounds)
+    (neither (within DivideDelete 0 1000000 v.divide_delete c.divide_delete_bounds)
+    (neither (within SitePoint 0 1000000 v.site_point c.site_point_bounds)
+    (neither (within SiteInsert 0 1000000 v.site_insert c.site_insert_bounds)
+    (neither (within SiteDelete 0 1000000 v.site_delete c.site_delete_bounds)
+    (neither refl
+    (neither refl
+    (neither (within ExecutedPercent 1 100 v.executed_percent c.executed_percent_bounds)
+    (neither (within CopiedPercent 1 100 v.copied_percent c.copied_percent_bounds)
+    (neither (within LeastLength 8 8192 v.least_length c.least_length_bounds)
+    (neither (within GreatestLength v.least_length 8192 v.greatest_length c.greatest_length_bounds)
+    (neither (within MemoryLimit v.greatest_length 8192 v.memory_limit c.memory_limit_bounds)
+    (neither (ap (unless_genome Ancestor v.least_length v.greatest_length) read ∙ within Ancestor v.least_length v.greatest_length (length v.ancestor) c.ancestor_bounds)
+    (neither (ap (λ (n : ℕ). unless_within Event 0 1000 (pos n)) (count_of-items v.event) ∙ unless_within-none Event 0 1000 (length v.event) (omega arith) c.event_bounds.number) refl)))))))))))))))))))))))
 
 -- the table of a configuration says what the configuration says
-pub config_in-members : (v : ConfigValues) → AreBounded v → config_in (members_for v) ≡ Ok v
-config_in-members v are =
-    let low : LEAST_LENGTH ≤ length v.ancestor = omega (arith, are.ancestor.0, are.least_length.0) in
-    let high : length v.ancestor ≤ GREATEST_LENGTH = omega (arith, are.ancestor.1, are.greatest_length.1) in
+pub config_in-members : (c : Config) → config_in (members_for (values_of c)) ≡ Ok (values_of c)
+config_in-members c =
+    let v = values_of c in
+    let low : 8 ≤ length v.ancestor = omega (arith, c.ancestor_bounds.0, c.least_length_bounds.0) in
+    let high : length v.ancestor ≤ 8192 = omega (arith, c.ancestor_bounds.1, c.greatest_length_bounds.1) in
     let read : spelled_by_letters (letters_text_of v.ancestor) ≡ Ok v.ancestor = spelled_by_letters-text v.ancestor low high in
     let ms : Members = members_for v in
-    let frame : IsFrame (frame_of v.width v.height v.updates v.least_length v.greatest_length) = record { least = are.least_length.0; greatest = are.greatest_length.1 } in
+    let frame : IsFrame (frame_of v.width v.height v.updates v.least_length v.greatest_length) = record { least = c.least_length_bounds.0; greatest = c.greatest_length_bounds.1 } in
     let happening : events_of (frame_in ms) (items_at Event ms) ≡ Ok v.event =
     ap (λ f. events_of f (items_at Event ms)) (frame_in-members v)
     ∙ ap (events_of (frame_of v.width v.height v.updates v.least_length v.greatest_length)) (items_at-members v)
-    ∙ events_of-items (frame_of v.width v.height v.updates v.least_length v.greatest_length) frame v.event are.event in
+    ∙ events_of-items (frame_of v.width v.height v.updates v.least_length v.greatest_length) frame v.event c.event_bounds in
     ap (λ o. unless_refused (earlier (unknown_refusal o) (first_refusal keys ms)) (values_with ms (events_of (frame_in ms) (items_at Event ms)))) (no_unknown v)
-    ∙ ap (λ o. unless_refused o (values_with ms (events_of (frame_in ms) (items_at Event ms)))) (all_accepted v are read)
+    ∙ ap (λ o. unless_refused o (values_with ms (events_of (frame_in ms) (items_at Event ms)))) (all_accepted c read)
     ∙ ap (values_with ms) happening
     ∙ ap Ok (values_in-members v (genome_at-members v ∙ ap letters_or_none read))
 

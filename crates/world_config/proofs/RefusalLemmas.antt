@@ -6,7 +6,6 @@ use Rattle.toml.specs.View.{items_view}
 use Rattle.instruction_set.specs.declared.letter.Letter.{Letter}
 use Rattle.world_config.specs.declared.key.Key.{Key}
 use Rattle.world_config.specs.declared.key.Key.TheVariants.{Width, Height, Updates, LeastLength, GreatestLength, Ancestor, Event}
-use Rattle.world_config.specs.declared.limits.TheConstants.{MOST_EVENTS}
 use Rattle.world_config.specs.declared.numbers.Numbers.{Numbers}
 use Rattle.world_config.specs.declared.stop.ConfigStop.{ConfigStop}
 use Rattle.world_config.specs.KeyTable.{Frame, default_ancestor, events, genome, keys}
@@ -47,7 +46,7 @@ refusal_at-ancestor : (frame : Frame) (ms : Members) → refusal_at frame Ancest
 unfolding refusal_at
 refusal_at-ancestor frame ms = refl
 
-refusal_at-event : (frame : Frame) (ms : Members) → refusal_at frame Event ms ≡ refusal_of (events MOST_EVENTS) Event (value_or Event (array no_items) ms)
+refusal_at-event : (frame : Frame) (ms : Members) → refusal_at frame Event ms ≡ refusal_of (events 1000) Event (value_or Event (array no_items) ms)
 unfolding refusal_at
 refusal_at-event frame ms = refl
 
@@ -55,7 +54,7 @@ refusal_at-event frame ms = refl
 pub first_refusal-last : (ms : Members) (numbers : Numbers) → AreNumbers ms numbers → first_refusal number_keys ms ≡ None
     → first_refusal keys ms
     ≡ earlier (refusal_of (genome numbers.lengths.least_length numbers.lengths.greatest_length) Ancestor (value_or Ancestor (string default_ancestor) ms))
-    (earlier (refusal_of (events MOST_EVENTS) Event (value_or Event (array no_items) ms)) None)
+    (earlier (refusal_of (events 1000) Event (value_or Event (array no_items) ms)) None)
 first_refusal-last ms numbers are accepted =
     first_refusal-append number_keys last_keys ms
     ∙ ap (λ o. earlier o (first_refusal last_keys ms)) accepted
@@ -139,7 +138,7 @@ abbrev ancestor_refusal : Members → Numbers → Option ConfigStop
 ancestor_refusal ms numbers = refusal_of (genome numbers.lengths.least_length numbers.lengths.greatest_length) Ancestor (value_or Ancestor (string default_ancestor) ms)
 
 abbrev members_refusal : Members → Option ConfigStop
-members_refusal ms = refusal_of (events MOST_EVENTS) Event (value_or Event (array no_items) ms)
+members_refusal ms = refusal_of (events 1000) Event (value_or Event (array no_items) ms)
 
 -- the frame of the numbers
 abbrev pub numbers_frame : Numbers → Frame

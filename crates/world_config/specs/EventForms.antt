@@ -7,7 +7,6 @@ use Rattle.instruction_set.specs.declared.letter.Letter.{Letter}
 use Rattle.genome.specs.declared.stop.GenomeStop.{GenomeStop}
 use Rattle.genome.specs.GenomeText.{spelled_by_letters}
 use Rattle.mutations.specs.RateNames.{rate_named}
-use Rattle.random_streams.specs.declared.draws.TheConstants.{MILLION}
 use Rattle.world_config.specs.KeyTable.{Frame}
 use Rattle.world_config.specs.Events.{EventValue, WhatValue, inject, clear, rate}
 
@@ -71,7 +70,7 @@ clear_of frame ms = if_only clear_names ms
 abbrev pub rate_of : Members → Option WhatValue
 rate_of ms = if_only rate_form_names ms
     (both rate (option_and_then rate_named (option_and_then as_str (get_member (codes "name") ms)))
-    (number_from 0 MILLION (get_member (codes "ppm") ms)))
+    (number_from 0 1000000 (get_member (codes "ppm") ms)))
 
 -- what an event of this kind does
 abbrev pub what_of : Frame → Members → List ℕ → Option WhatValue

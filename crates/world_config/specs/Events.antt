@@ -5,11 +5,9 @@ use Rattle.std.specs.List.Sorted.{IsNonDecreasingBy}
 use Rattle.instruction_set.specs.declared.letter.Letter.{Letter}
 use Rattle.genome.specs.Genome.{letters}
 use Rattle.mutations.specs.declared.rate_name.RateName.{RateName}
-use Rattle.random_streams.specs.declared.draws.TheConstants.{MILLION}
 use Rattle.world_config.specs.declared.event.Event.{Event}
 use Rattle.world_config.specs.declared.event.What.{What}
 use Rattle.world_config.specs.declared.event.What.TheVariants as code
-use Rattle.world_config.specs.declared.limits.TheConstants.{MOST_EVENTS}
 use Rattle.world_config.specs.KeyTable.{Frame}
 
 -- what an event does: an organism in a cell, cells cleared from the first to the last, or a rate
@@ -39,7 +37,7 @@ what_fits frame (inject cell ls) =
     nat_le cell frame.last_cell
     && (nat_le frame.least_length (length ls) && nat_le (length ls) frame.greatest_length)
 what_fits frame (clear first last) = nat_le first last && nat_le last frame.last_cell
-what_fits frame (rate name ppm) = nat_le ppm MILLION
+what_fits frame (rate name ppm) = nat_le ppm 1000000
 
 -- it happens in one of the updates, and what it does fits
 abbrev pub event_fits : Frame → EventValue → Bool
@@ -48,7 +46,7 @@ event_fits frame event =
 
 -- these events can stand in a configuration with these numbers
 pub record AreEvents (frame : Frame) (events : List EventValue) : Type 0 where
-  pub number : length events ≤ MOST_EVENTS
+  pub number : length events ≤ 1000
   pub fit : AllPass (event_fits frame) events
   pub rising : IsNonDecreasingBy (λ event. event.update) events
 

@@ -1,20 +1,17 @@
 // A configuration, whose type keeps its bounds.
 ghost use Rattle.std.specs.Prelude.{◌≡◌, length};
-ghost use Rattle.genome.specs.declared.genome.TheConstants.{LEAST_LENGTH, GREATEST_LENGTH};
 ghost use Rattle.genome.specs.Genome.{letters};
-ghost use Rattle.random_streams.specs.declared.draws.TheConstants.{GREATEST_SIDE, MILLION};
-ghost use Rattle.world_config.specs.declared.limits.TheConstants.{GREATEST_UPDATES, GREATEST_SEED, GREATEST_AVERAGE, GREATEST_AGE, GREATEST_PERCENT};
 ghost use Rattle.world_config.specs.Bounds.{IsWithin, frame_of, last_cell_of};
 ghost use Rattle.world_config.specs.Events.{AreEvents, event_values};
 
-use crate::events::Events;
+use crate::events::{Events, copy_of};
 use crate::reading::config_in;
 use avida_port::Memory;
 use genome::Genome;
 use std::alloc::Global;
 use toml::Table;
 
-/// What a run is told: a field for each key, which keeps to the key's bounds.
+/// The configuration of a run: a field for each key, whose type keeps the key's bounds.
 #[derive(Drop)]
 pub struct Config {
     pub width: u32,
@@ -40,24 +37,24 @@ pub struct Config {
     pub memory_limit: u32,
     pub ancestor: Genome,
     pub event: Events,
-    pub ghost width_bounds: { IsWithin 1 GREATEST_SIDE width },
-    pub ghost height_bounds: { IsWithin 1 GREATEST_SIDE height },
-    pub ghost updates_bounds: { IsWithin 0 GREATEST_UPDATES updates },
-    pub ghost seed_bounds: { IsWithin 0 GREATEST_SEED seed },
+    pub ghost width_bounds: { IsWithin 1 256 width },
+    pub ghost height_bounds: { IsWithin 1 256 height },
+    pub ghost updates_bounds: { IsWithin 0 1000000 updates },
+    pub ghost seed_bounds: { IsWithin 0 9223372036854775807 seed },
     pub ghost founder_cell_bounds: { IsWithin 0 (last_cell_of width height) founder_cell },
-    pub ghost average_slices_bounds: { IsWithin 1 GREATEST_AVERAGE average_slices },
-    pub ghost age_limit_bounds: { IsWithin 1 GREATEST_AGE age_limit },
-    pub ghost copy_error_bounds: { IsWithin 0 MILLION copy_error },
-    pub ghost divide_insert_bounds: { IsWithin 0 MILLION divide_insert },
-    pub ghost divide_delete_bounds: { IsWithin 0 MILLION divide_delete },
-    pub ghost site_point_bounds: { IsWithin 0 MILLION site_point },
-    pub ghost site_insert_bounds: { IsWithin 0 MILLION site_insert },
-    pub ghost site_delete_bounds: { IsWithin 0 MILLION site_delete },
-    pub ghost executed_percent_bounds: { IsWithin 1 GREATEST_PERCENT executed_percent },
-    pub ghost copied_percent_bounds: { IsWithin 1 GREATEST_PERCENT copied_percent },
-    pub ghost least_length_bounds: { IsWithin LEAST_LENGTH GREATEST_LENGTH least_length },
-    pub ghost greatest_length_bounds: { IsWithin least_length GREATEST_LENGTH greatest_length },
-    pub ghost memory_limit_bounds: { IsWithin greatest_length GREATEST_LENGTH memory_limit },
+    pub ghost average_slices_bounds: { IsWithin 1 1000 average_slices },
+    pub ghost age_limit_bounds: { IsWithin 1 1000 age_limit },
+    pub ghost copy_error_bounds: { IsWithin 0 1000000 copy_error },
+    pub ghost divide_insert_bounds: { IsWithin 0 1000000 divide_insert },
+    pub ghost divide_delete_bounds: { IsWithin 0 1000000 divide_delete },
+    pub ghost site_point_bounds: { IsWithin 0 1000000 site_point },
+    pub ghost site_insert_bounds: { IsWithin 0 1000000 site_insert },
+    pub ghost site_delete_bounds: { IsWithin 0 1000000 site_delete },
+    pub ghost executed_percent_bounds: { IsWithin 1 100 executed_percent },
+    pub ghost copied_percent_bounds: { IsWithin 1 100 copied_percent },
+    pub ghost least_length_bounds: { IsWithin 8 8192 least_length },
+    pub ghost greatest_length_bounds: { IsWithin least_length 8192 greatest_length },
+    pub ghost memory_limit_bounds: { IsWithin greatest_length 8192 memory_limit },
     pub ghost ancestor_bounds: { IsWithin least_length greatest_length (length (letters ancestor)) },
     pub ghost event_bounds: { AreEvents (frame_of width height updates least_length greatest_length)
         (event_values event) },
@@ -69,7 +66,7 @@ impl Config {
     ghost use Rattle.world_config.specs.Config.{config_in};
     ghost use Rattle.world_config.specs.Shown.{values_of};
 
-    /// All defaults, as a table without keys states them.
+    /// The configuration of a document without keys: each key has its default.
     pub fn plain(alloc: Global) -> Result<Config, Memory>
         ensures { IfOk result (λ config. config_in no_members ≡ Ok (values_of config)) }
     {
@@ -81,12 +78,12 @@ impl Config {
 
     /// The same configuration with this seed.
     pub fn with_seed(&self, alloc: Global, seed: u64) -> Result<Config, Memory>
-        requires { seed ≤ GREATEST_SEED }
+        requires { seed ≤ 9223372036854775807 }
         ensures { IfOk result (λ config. values_of config ≡ record (values_of self.now)
             { seed = seed }) }
     {
         let ancestor = self.ancestor.copy(alloc)?;
-        let event = self.event.copy(alloc)?;
+        let event = copy_of(alloc, self.event.as_slice())?;
         Ok(Config {
             width: self.width,
             height: self.height,

@@ -7,7 +7,6 @@ ghost use Rattle.toml.specs.Data.{as_str, get_member, table as table_data};
 ghost use Rattle.toml.specs.View.{items_view, table_view, view};
 ghost use Rattle.genome.specs.Genome.{letters};
 ghost use Rattle.genome.specs.GenomeText.{spelled_by_letters};
-ghost use Rattle.world_config.specs.declared.limits.TheConstants.{MOST_EVENTS};
 ghost use Rattle.world_config.specs.Events.{event_value, event_values, what_value};
 ghost use Rattle.world_config.specs.EventForms.{clear_of, event_of, events_of, genome_from, has_only, inject_of, number_from, rate_of, sized, what_of};
 ghost use Rattle.world_config.specs.Members.{event_refusal, frame_value};
@@ -198,7 +197,7 @@ fn event(alloc: Global, value: &Value, frame: &Frame, least: u32) -> Result<Opti
 
 /// The events that the members are.
 pub(crate) fn events(alloc: Global, members: &[Value], frame: &Frame) -> Result<Events, ConfigStop>
-    requires { length members.now ≤ MOST_EVENTS }
+    requires { length members.now ≤ 1000 }
     ensures value { IfOk result (λ events.
         events_of (frame_value frame.now) (items_view members.now) ≡ Ok (event_values events)) }
     ensures refused { IfErr result (λ stop. stop ≢ ConfigStop.Memory

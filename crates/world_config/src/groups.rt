@@ -1,9 +1,6 @@
 // The numbers and truths of a configuration, in groups of keys that stand together.
 ghost use Rattle.std.specs.Prelude.{◌≡◌, None, Some, IfOk, IfErr, OnOk};
 ghost use Rattle.toml.specs.View.{table_view};
-ghost use Rattle.genome.specs.declared.genome.TheConstants.{LEAST_LENGTH, GREATEST_LENGTH};
-ghost use Rattle.random_streams.specs.declared.draws.TheConstants.{GREATEST_SIDE, MILLION};
-ghost use Rattle.world_config.specs.declared.limits.TheConstants.{GREATEST_UPDATES, GREATEST_SEED, GREATEST_AVERAGE, GREATEST_AGE, GREATEST_PERCENT};
 ghost use Rattle.world_config.specs.Bounds.{IsWithin, last_cell_of};
 
 use crate::key::Key;
@@ -24,10 +21,10 @@ pub(crate) struct Place {
     pub updates: u32,
     pub seed: u64,
     pub founder_cell: u32,
-    ghost width_bounds: { IsWithin 1 GREATEST_SIDE width },
-    ghost height_bounds: { IsWithin 1 GREATEST_SIDE height },
-    ghost updates_bounds: { IsWithin 0 GREATEST_UPDATES updates },
-    ghost seed_bounds: { IsWithin 0 GREATEST_SEED seed },
+    ghost width_bounds: { IsWithin 1 256 width },
+    ghost height_bounds: { IsWithin 1 256 height },
+    ghost updates_bounds: { IsWithin 0 1000000 updates },
+    ghost seed_bounds: { IsWithin 0 9223372036854775807 seed },
     ghost founder_cell_bounds: { IsWithin 0 (last_cell_of width height) founder_cell },
 }
 
@@ -37,8 +34,8 @@ pub(crate) struct Life {
     pub average_slices: u32,
     pub death: bool,
     pub age_limit: u32,
-    ghost average_slices_bounds: { IsWithin 1 GREATEST_AVERAGE average_slices },
-    ghost age_limit_bounds: { IsWithin 1 GREATEST_AGE age_limit },
+    ghost average_slices_bounds: { IsWithin 1 1000 average_slices },
+    ghost age_limit_bounds: { IsWithin 1 1000 age_limit },
 }
 
 /// The six rates of errors.
@@ -50,12 +47,12 @@ pub(crate) struct Errors {
     pub site_point: u32,
     pub site_insert: u32,
     pub site_delete: u32,
-    ghost copy_error_bounds: { IsWithin 0 MILLION copy_error },
-    ghost divide_insert_bounds: { IsWithin 0 MILLION divide_insert },
-    ghost divide_delete_bounds: { IsWithin 0 MILLION divide_delete },
-    ghost site_point_bounds: { IsWithin 0 MILLION site_point },
-    ghost site_insert_bounds: { IsWithin 0 MILLION site_insert },
-    ghost site_delete_bounds: { IsWithin 0 MILLION site_delete },
+    ghost copy_error_bounds: { IsWithin 0 1000000 copy_error },
+    ghost divide_insert_bounds: { IsWithin 0 1000000 divide_insert },
+    ghost divide_delete_bounds: { IsWithin 0 1000000 divide_delete },
+    ghost site_point_bounds: { IsWithin 0 1000000 site_point },
+    ghost site_insert_bounds: { IsWithin 0 1000000 site_insert },
+    ghost site_delete_bounds: { IsWithin 0 1000000 site_delete },
 }
 
 /// What a birth asks.
@@ -65,8 +62,8 @@ pub(crate) struct Divide {
     pub need_alloc: bool,
     pub executed_percent: u32,
     pub copied_percent: u32,
-    ghost executed_percent_bounds: { IsWithin 1 GREATEST_PERCENT executed_percent },
-    ghost copied_percent_bounds: { IsWithin 1 GREATEST_PERCENT copied_percent },
+    ghost executed_percent_bounds: { IsWithin 1 100 executed_percent },
+    ghost copied_percent_bounds: { IsWithin 1 100 copied_percent },
 }
 
 /// The lengths of genomes and of memory.
@@ -75,9 +72,9 @@ pub(crate) struct Lengths {
     pub least_length: u32,
     pub greatest_length: u32,
     pub memory_limit: u32,
-    ghost least_length_bounds: { IsWithin LEAST_LENGTH GREATEST_LENGTH least_length },
-    ghost greatest_length_bounds: { IsWithin least_length GREATEST_LENGTH greatest_length },
-    ghost memory_limit_bounds: { IsWithin greatest_length GREATEST_LENGTH memory_limit },
+    ghost least_length_bounds: { IsWithin 8 8192 least_length },
+    ghost greatest_length_bounds: { IsWithin least_length 8192 greatest_length },
+    ghost memory_limit_bounds: { IsWithin greatest_length 8192 memory_limit },
 }
 
 impl Place {

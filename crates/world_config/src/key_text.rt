@@ -27,6 +27,7 @@ impl KeyText {
         })
     }
 
+    /// The bytes of the key.
     pub fn bytes(&self) -> &[u8]
         ensures { result.now ≡ self.now }
     {

@@ -11,7 +11,6 @@ ghost use Rattle.world_config.specs.Shown.{values_of};
 
 use crate::config::Config;
 use crate::event::{Event, What};
-use crate::key::Key;
 use avida_port::Memory;
 use genome::Genome;
 use mutations::RateName;
@@ -229,7 +228,7 @@ fn table_of(alloc: Global, config: &Config) -> Result<Table, AllocError>
     Ok(table)
 }
 
-/// A document that states the configuration.
+/// Writes a document with every key, which `read` reads as the same configuration.
 pub fn print(alloc: Global, config: &Config) -> Result<String, Memory>
     ensures { IfOk result (λ text. config_of (string_bytes text) ≡ Ok (values_of config.now)) }
 {

@@ -4,7 +4,6 @@ ghost use Rattle.toml.specs.Data.{array, no_items, string};
 ghost use Rattle.toml.specs.View.{items_view, table_view};
 ghost use Rattle.genome.specs.Genome.{letters};
 ghost use Rattle.genome.specs.GenomeText.{spelled_by_letters};
-ghost use Rattle.world_config.specs.declared.limits.TheConstants.{MOST_EVENTS};
 ghost use Rattle.world_config.specs.declared.key.Key.{Key};
 ghost use Rattle.world_config.specs.KeyTable.{default_ancestor, events, genome, keys};
 ghost use Rattle.world_config.specs.Bounds.{IsWithin};
@@ -76,10 +75,10 @@ fn members_in(table: &Table) -> Result<&[Value], ConfigStop>
     ensures value { IfOk result (λ members.
         value_or Key.Event (array no_items) (table_view table.now) ≡ array
         (items_view members.now)) }
-    ensures within { IfOk result (λ members. length members.now ≤ MOST_EVENTS) }
-    ensures accepted { OnOk result (refusal_of (events MOST_EVENTS) Key.Event
+    ensures within { IfOk result (λ members. length members.now ≤ 1000) }
+    ensures accepted { OnOk result (refusal_of (events 1000) Key.Event
         (value_or Key.Event (array no_items) (table_view table.now)) ≡ None) }
-    ensures refused { IfErr result (λ stop. refusal_of (events MOST_EVENTS) Key.Event
+    ensures refused { IfErr result (λ stop. refusal_of (events 1000) Key.Event
         (value_or Key.Event (array no_items) (table_view table.now)) ≡ Some stop) }
 {
     let members = members(table, Key::Event)?;
@@ -164,7 +163,7 @@ pub(crate) fn config_in(alloc: Global, table: &Table) -> Result<Config, ConfigSt
     known_in(alloc, table)
 }
 
-/// The configuration that a document states.
+/// Reads a document as a configuration, or tells the first reason to reject it.
 pub fn read(alloc: Global, bytes: &[u8]) -> Result<Config, ConfigStop>
     ensures ok { IfOk result (λ config. config_of bytes.now ≡ Ok (values_of config)) }
     ensures refused { IfErr result (λ stop. stop ≢ ConfigStop.Memory → config_of bytes.now

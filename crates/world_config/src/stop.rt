@@ -4,22 +4,22 @@ use avida_port::Memory;
 use genome::GenomeStop;
 use std::alloc::AllocError;
 
-/// Why a document is no configuration.
+/// Why a document is rejected as a configuration.
 #[derive(Drop)]
 pub enum ConfigStop {
-    /// Memory was wanting.
+    /// Out of memory: an allocation failed.
     Memory,
     /// The bytes are no TOML document.
     BadToml,
-    /// No row has this key, the least such.
+    /// The document has a key that the table of keys lacks: the least such key in the order of bytes.
     UnknownKey { key: KeyText },
     /// The value is not of the key's kind.
     WrongKind { key: Key },
     /// The value is outside the key's bounds.
     OutOfRange { key: Key, value: i64 },
-    /// The ancestor is no genome by letters.
+    /// The ancestor's text is not a genome by letters.
     BadAncestor { stop: GenomeStop },
-    /// This member of the events, from 1, has no form.
+    /// This member of `event`, counted from 1, is not a valid event.
     BadEvent { nth: u32 },
 }
 

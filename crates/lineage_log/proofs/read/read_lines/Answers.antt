@@ -1,17 +1,15 @@
-use Rattle.std.proofs.Common.{◌≡◌, ◌∙◌, ◌∷◌, ◌++◌, [], ℕ, List, Option, Some, Result, Bor, sym, ap, subst}
-use Rattle.std.specs.Prelude.{◌==◌, option_copied, option_map}
-use Rattle.std.specs.List.{slice_split}
+use Rattle.std.proofs.Common.{◌≡◌, ◌∙◌, ◌∷◌, ◌++◌, [], Some, Result, sym, ap, subst}
+use Rattle.std.specs.Prelude.{option_map}
 use Rattle.std.proofs.lemmas.List.{map-append}
 use Rattle.log_lines.specs.Line.{values_of}
 use Rattle.log_lines.specs.LineReading.{line_of}
-use Rattle.log_lines.specs.Words.{pieces_of}
 use Rattle.lineage_log.specs.Order.{told}
-use Rattle.lineage_log.specs.LogGrammar.{log_of, pieces_log}
+use Rattle.lineage_log.specs.LogGrammar.{log_of}
 use Rattle.lineage_log.specs.Places.{TellsPlace, place_of}
-use Rattle.lineage_log.specs.LogValues.{answer_of, lines_of, with_front}
+use Rattle.lineage_log.specs.LogValues.{answer_of, lines_of}
 use Rattle.lineage_log.specs.declared.place.Place.{Place}
 use Rattle.lineage_log.specs.declared.refusal.Refusal.{Refusal}
-use Rattle.lineage_log.proofs.ReadLemmas.{front_none, bad_line, bad_order, good_line, refused}
+use Rattle.lineage_log.proofs.ReadLemmas.{front_none, next_piece, bad_line, bad_order, good_line, refused}
 use Rattle.lineage_log.proofs.read.read_lines.Goals as goal
 
 pub loop-number-init : goal.loop-number-init
@@ -25,10 +23,7 @@ returns-in_default-2 c =
     let front = lines_of c.loop-number.lines.items in
     let piece = c.split_at.result.0.now in
     let rest = c.in-Some.behind.now in
-    let split : slice_split (λ b. b == 10) c.loop-number.rest.now ≡ piece ∷ slice_split (λ b. b == 10) rest =
-    c.split_at.ensures ∙ ap (λ (o : Option (Bor (List ℕ))). piece ∷ pieces_of 10 (option_copied o)) c.in-Some.is in
-    let start : log_of c.args.bytes.now ≡ with_front front (pieces_log n at (piece ∷ slice_split (λ b. b == 10) rest)) =
-    sym c.loop-number.invariant ∙ ap (λ (ps : List (List ℕ)). with_front front (pieces_log n at ps)) split in
+    let start = next_piece (log_of c.args.bytes.now) front n at c.loop-number.rest.now piece c.split_at.result.1 c.in-Some.behind c.loop-number.invariant c.split_at.ensures c.in-Some.is in
     λ other. ap answer_of (start ∙ bad_line front n at piece rest (sym c.in_ok-line.ensures ∙ ap (option_map values_of) c.in_default-2.is))
 
 pub returns-in-Err : goal.returns-in-Err
@@ -38,10 +33,7 @@ returns-in-Err c =
     let front = lines_of c.loop-number.lines.items in
     let piece = c.split_at.result.0.now in
     let rest = c.in-Some.behind.now in
-    let split : slice_split (λ b. b == 10) c.loop-number.rest.now ≡ piece ∷ slice_split (λ b. b == 10) rest =
-    c.split_at.ensures ∙ ap (λ (o : Option (Bor (List ℕ))). piece ∷ pieces_of 10 (option_copied o)) c.in-Some.is in
-    let start : log_of c.args.bytes.now ≡ with_front front (pieces_log n at (piece ∷ slice_split (λ b. b == 10) rest)) =
-    sym c.loop-number.invariant ∙ ap (λ (ps : List (List ℕ)). with_front front (pieces_log n at ps)) split in
+    let start = next_piece (log_of c.args.bytes.now) front n at c.loop-number.rest.now piece c.split_at.result.1 c.in-Some.behind c.loop-number.invariant c.split_at.ensures c.in-Some.is in
     let one = values_of c.in-Some-2.line in
     let is : line_of piece ≡ Some one = sym c.in_ok-line.ensures ∙ ap (option_map values_of) c.in-Some-2.is in
     let bad = subst (λ (t : Result Place Refusal). TellsPlace t (told at one)) c.in-Err.is c.tell.ensures in
@@ -55,10 +47,7 @@ loop-number-preserved c =
     let front = lines_of c.loop-number.lines.items in
     let piece = c.split_at.result.0.now in
     let rest = c.in-Some.behind.now in
-    let split : slice_split (λ b. b == 10) c.loop-number.rest.now ≡ piece ∷ slice_split (λ b. b == 10) rest =
-    c.split_at.ensures ∙ ap (λ (o : Option (Bor (List ℕ))). piece ∷ pieces_of 10 (option_copied o)) c.in-Some.is in
-    let start : log_of c.args.bytes.now ≡ with_front front (pieces_log n at (piece ∷ slice_split (λ b. b == 10) rest)) =
-    sym c.loop-number.invariant ∙ ap (λ (ps : List (List ℕ)). with_front front (pieces_log n at ps)) split in
+    let start = next_piece (log_of c.args.bytes.now) front n at c.loop-number.rest.now piece c.split_at.result.1 c.in-Some.behind c.loop-number.invariant c.split_at.ensures c.in-Some.is in
     let one = values_of c.in-Some-2.line in
     let is : line_of piece ≡ Some one = sym c.in_ok-line.ensures ∙ ap (option_map values_of) c.in-Some-2.is in
     let good = subst (λ (t : Result Place Refusal). TellsPlace t (told at one)) c.in-Ok.is c.tell.ensures in

@@ -8,4 +8,4 @@ loop-count-preserved c =
     let i = c.loop-count.count-index in
     let within : i < length tasks = omega (arith, c.fits-tasks, c.told-tasks) in
     let more = words_text_more (λ (n : ℕ). decimal n) tasks i 0 within in
-    rw (c.in_ok-number.ensures.ok, c.loop-count.invariant, more, append_assoc)
+    rw (c.in_ok-write_number.ensures.ok, c.loop-count.invariant, more, append_assoc)

@@ -5,7 +5,7 @@ use Rattle.toml.specs.Parse.{parse_document}
 use Rattle.toml.specs.View.{table_view}
 use Rattle.world_config.specs.Printing.{members_for}
 use Rattle.world_config.specs.Shown.{values_of}
-use Rattle.world_config.proofs.ReadBackLemmas.{AreBounded-values, config_in-members, members_depth-for}
+use Rattle.world_config.proofs.ReadBackLemmas.{config_in-members, members_depth-for}
 use Rattle.world_config.proofs.printing.print.Goals as goal
 
 pub returns-in-Ok-table_to_string : goal.returns-in-Ok-table_to_string
@@ -14,4 +14,4 @@ returns-in-Ok-table_to_string c =
     let seen : table_view c.in-Ok.table ≡ members_for v = c.in-Ok.ensures in
     let deep : members_depth (table_view c.in-Ok.table) ≤ 80 = rw seen (members_depth-for v) in
     let back : parse_document (string_bytes c.in-Ok-table_to_string.text) ≡ Some (members_for v) = c.in-Ok-table_to_string.ensures.reads_back deep ∙ ap Some seen in
-    rw (is_utf8-from_IsUtf8 _ (IsUtf8-string_bytes c.in-Ok-table_to_string.text), back) (config_in-members v (AreBounded-values c.args.config.now))
+    rw (is_utf8-from_IsUtf8 _ (IsUtf8-string_bytes c.in-Ok-table_to_string.text), back) (config_in-members c.args.config.now)

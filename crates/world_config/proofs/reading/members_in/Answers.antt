@@ -1,10 +1,9 @@
 use Rattle.std.proofs.Common.{length, arith}
 use Rattle.world_config.specs.declared.key.Key.TheVariants.{Event}
-use Rattle.world_config.specs.declared.limits.TheConstants.{MOST_EVENTS}
 use Rattle.world_config.proofs.RefusalLemmas.{count_of_view, unless_within-none}
 use Rattle.world_config.proofs.reading.members_in.Goals as goal
 
 pub returns-clause-accepted : goal.returns-clause-accepted
 returns-clause-accepted c =
     rw (c.in_ok-members.ensures.value, count_of_view)
-    (unless_within-none Event 0 MOST_EVENTS (length c.in_ok-members.members.now) (omega arith) c.if-members.false)
+    (unless_within-none Event 0 1000 (length c.in_ok-members.members.now) (omega arith) c.if-members.false)

@@ -1,7 +1,7 @@
 use Rattle.std.proofs.Common.{◌≡◌, ◌+◌, ◌-◌, ◌<◌, ◌∷◌, ◌++◌, List, [], ℕ, length, take, drop, decimal, set, arith, rules, append-nil, ap, ◌∙◌}
 use Rattle.std.proofs.lemmas.Fmt.{length-decimal-le}
 use Rattle.std.proofs.lemmas.List.{drop-set, take_all}
-use Rattle.log_lines.proofs.writing.number.Goals as goal
+use Rattle.log_lines.proofs.writing.write_number.Goals as goal
 
 pub write_digits-start-requires : goal.write_digits-start-requires
 write_digits-start-requires c = (omega (arith, length-decimal-le 20 c.args.value (omega arith) (omega arith) c.ranges.value.fits), search rules)
