@@ -1,3 +1,4 @@
+use avida_port::Items;
 use instruction_set::Letter;
 
 /// One change of a text, at a place of the text as it stands then.
@@ -10,3 +11,6 @@ pub enum Change {
     /// The letter at the place goes.
     Delete { at: u32 },
 }
+
+/// Changes of a text, in the order in which they are made.
+pub type Changes = Items<Change>;

@@ -4,7 +4,6 @@
 mod base;
 mod born;
 mod change;
-mod changes;
 mod child;
 mod copying;
 mod deletions;
@@ -22,8 +21,7 @@ mod tests;
 
 pub use base::Base;
 pub use born::Born;
-pub use change::Change;
-pub use changes::Changes;
+pub use change::{Change, Changes};
 pub use child::apply;
 pub use copying::copy_error;
 pub use dividing::{BIRTH_WORDS, divide_errors};
