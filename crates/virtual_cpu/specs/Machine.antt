@@ -8,8 +8,6 @@ use Rattle.virtual_cpu.specs.declared.registers.Registers.{Registers}
 use Rattle.virtual_cpu.specs.declared.heads.Head.{Head}
 use Rattle.virtual_cpu.specs.declared.heads.Head.TheVariants.{Ip}
 use Rattle.virtual_cpu.specs.declared.heads.Heads.{Heads}
-use Rattle.genome.specs.declared.genome.TheConstants.{LEAST_LENGTH, GREATEST_LENGTH}
-use Rattle.label_search.specs.declared.template.TheConstants.{LONGEST_TEMPLATE}
 use Rattle.virtual_cpu.specs.Registers.{with_register}
 use Rattle.virtual_cpu.specs.Heads.{with_head}
 
@@ -58,16 +56,16 @@ pub record IsMachine (m : Machine) : Type 0 where
   pub copied : length m.copied ≡ length m.memory
   pub stacks : length m.stacks ≡ 2
   pub active : m.active < 2
-  pub nops : length m.nops ≤ LONGEST_TEMPLATE
+  pub nops : length m.nops ≤ 10
   pub ip : m.heads.ip < length m.memory
   pub read : m.heads.read < length m.memory
   pub write : m.heads.write < length m.memory
   pub flow : m.heads.flow < length m.memory
-  pub least : LEAST_LENGTH ≤ length m.memory
+  pub least : 8 ≤ length m.memory
   pub greatest : length m.memory ≤ m.limit
   pub growth : length m.memory ≤ (if m.pending then 6 else 2) * m.made
   pub made : m.made ≤ m.limit
-  pub limit : m.limit ≤ GREATEST_LENGTH
+  pub limit : m.limit ≤ 8192
 
 -- the letter at a place; no machine has a place past the end
 abbrev pub letter_at : Machine → ℕ → Letter

@@ -4,15 +4,13 @@ ghost use Rattle.instruction_set.specs.declared.letter.Letter.{Letter};
 ghost use Rattle.virtual_cpu.specs.Machine.{Machine, IsMachine, fresh_machine};
 ghost use Rattle.virtual_cpu.specs.Step.{step, AsksOf, KeepsLimits};
 
-use genome::{GREATEST_LENGTH, LEAST_LENGTH};
-
 /// A step leaves a machine, for the same length of genome and under the same limit; a question that it tells is of
 /// that machine.
 pub fn steps_leave_machines()
     ensures machine { (m : Machine) (input : ℤ) (copy : Option Letter)
         → IsMachine m → IsMachine (step m input copy).0 }
     ensures question { (m : Machine) (input : ℤ) (copy : Option Letter)
-        → IsMachine m → AsksOf (step m input copy).0 (step m input copy).1 }
+        → AsksOf (step m input copy).0 (step m input copy).1 }
     ensures kept { (m : Machine) (input : ℤ) (copy : Option Letter)
         → KeepsLimits m (step m input copy).0 }
 {}
@@ -20,10 +18,10 @@ pub fn steps_leave_machines()
 /// A text that is not too long for its genome and its limit starts a machine.
 pub fn texts_start_machines()
     ensures { (text : List Letter) (made limit : ℕ)
-        → LEAST_LENGTH ≤ length text
+        → 8 ≤ length text
         → length text ≤ limit
         → length text ≤ 2 * made
         → made ≤ limit
-        → limit ≤ GREATEST_LENGTH
+        → limit ≤ 8192
         → IsMachine (fresh_machine text made limit) }
 {}
