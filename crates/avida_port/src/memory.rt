@@ -1,7 +1,7 @@
-// The one answer for want of memory.
+// The one answer when memory runs out.
 use std::alloc::{AllocError, AllocFailed};
 
-/// Memory was wanting.
+/// Out of memory: an allocation failed.
 #[derive(Clone, Copy, Debug, PartialEq, Eq)]
 pub struct Memory;
 
@@ -31,7 +31,7 @@ mod tests {
     }
 
     #[test]
-    fn want_of_memory_in_a_list_comes_up_as_memory(rt: HostRuntime) -> Result<(), Fail> {
+    fn a_list_without_memory_answers_memory(rt: HostRuntime) -> Result<(), Fail> {
         let bytes = pair(rt.alloc());
         assert!(rt; bytes.is_ok());
         if let Ok(bytes) = bytes {

@@ -14,7 +14,7 @@ enum Stream {
     Errors(Stderr),
 }
 
-/// Standard output or standard error. It tells no bytes.
+/// Standard output or standard error. Contracts can't see its bytes.
 #[derive(Drop)]
 pub struct StdSink {
     to: Stream,
@@ -56,7 +56,7 @@ impl StdSink {
 #[derive(Clone, Copy)]
 struct Stopped;
 
-// Writes the whole piece, or a front of it where the stream failed or took nothing.
+// Writes the whole piece, or a prefix of it where the stream failed or took nothing.
 fn write_whole<W: Write>(to: &mut W, piece: &[u8]) -> Result<(), Stopped>
     ensures ok { OnOk result (Appends (W.contents to.old) (W.contents to.new) piece.now) }
     ensures err { OnErr result (AppendsFront (W.contents to.old) (W.contents to.new) piece.now) }

@@ -5,7 +5,7 @@ use crate::{Source, SourceFail};
 use std::io::{Read, Stdin};
 use std::marker::Model;
 
-/// Standard input. It tells no bytes.
+/// Standard input. Contracts can't see its bytes.
 #[derive(Drop)]
 pub struct StdSource {
     from: Stdin,
@@ -22,6 +22,7 @@ impl Model for StdSource {
 }
 
 impl StdSource {
+    /// Standard input, of which no read has failed.
     pub fn new(rt: &HostRuntime) -> StdSource
         ensures { result ≡ 0 }
     {

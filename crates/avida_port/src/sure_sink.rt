@@ -7,7 +7,7 @@ use crate::{Sink, SinkStop};
 use std::alloc::Global;
 use std::marker::Model;
 
-/// A sink that keeps what it was put, and stops only for want of memory.
+/// A sink in memory that fails only when memory runs out.
 #[derive(Drop)]
 pub struct SureSink {
     bytes: Vec<u8>,
@@ -25,6 +25,7 @@ impl Model for SureSink {
 impl SureSink {
     ghost use Rattle.avida_port.specs.Memory.{SureSinkState};
 
+    /// An empty sink.
     pub fn new(alloc: Global) -> SureSink
         ensures { result ≡ record { held = []; wants = 0 } }
     {
@@ -34,6 +35,7 @@ impl SureSink {
         }
     }
 
+    /// What the sink holds.
     pub fn bytes(&self) -> &[u8]
         ensures { result.now ≡ self.now.held }
     {

@@ -1,1 +1,2 @@
 pub mod Letter
+pub mod Defaults

@@ -1,6 +1,7 @@
-// What the look-ups of a letter have to do with one another, and that a letter has an index of its own.
-ghost use Rattle.std.specs.Prelude.{◌≡◌, Decides, List, Some};
-ghost use Rattle.instruction_set.specs.Letter.{index_of, byte_of, name_of, letter_at, letter_of_byte, letter_named, same_letter, same_letters};
+// How the look-ups and the columns of the table hang together.
+ghost use Rattle.std.specs.Prelude.{◌≡◌, Decides, List, Some, true};
+ghost use Rattle.instruction_set.specs.Letter.{index_of, byte_of, class_of, name_of, letter_at, letter_of_byte, letter_named, same_letter, same_letters};
+ghost use Rattle.instruction_set.specs.Defaults.{default_of, is_of_class};
 
 use crate::letter::Letter;
 
@@ -19,4 +20,10 @@ pub fn one_index()
         → Decides (same_letter letter other) (letter ≡ other) }
     ensures list { (letters others : List Letter)
         → Decides (same_letters letters others) (letters ≡ others) }
+{}
+
+/// A letter of the class Register has a register as its default, one of the class Head a head, and
+/// no other letter has a default.
+pub fn defaults_by_class()
+    ensures { (letter : Letter) → is_of_class (default_of letter) (class_of letter) ≡ true }
 {}

@@ -1,5 +1,5 @@
 // The letters of a program, and their table.
-ghost use Rattle.std.specs.Prelude.{◌≡◌, ◌≢◌, ◌↔◌, ◌⊎◌, ◌+◌, ◌<◌, ◌≤◌, Some, IsNone, length, slice_get};
+ghost use Rattle.std.specs.Prelude.{◌≡◌, ◌≢◌, ◌↔◌, ◌⊎◌, ◌<◌, ◌≤◌, Some, IsNone, length, slice_get};
 ghost use Rattle.std.specs.Hash as fed;
 ghost use Rattle.std.specs.Cmp.Rules.{hashing};
 ghost use Rattle.std.proofs.Common.{rules};
@@ -8,13 +8,18 @@ ghost use Rattle.instruction_set.specs.Letter.{index_of, byte_of, class_of, comp
 
 use std::hash::{Hash, Hasher};
 
-/// What the operand of an instruction is.
+/// What an instruction uses of the letters after it.
 #[derive(Clone, Copy, Debug, PartialEq, Eq)]
 pub enum Class {
+    /// The instruction is a nop itself.
     Nop,
+    /// It uses a register, the table's default unless a nop after it names another.
     Register,
+    /// It uses a head, the table's default unless a nop after it names another.
     Head,
+    /// It uses the list of nops after it.
     Template,
+    /// It reads no operand.
     Plain,
 }
 
@@ -51,19 +56,22 @@ pub enum Letter {
 }
 
 impl Letter {
+    /// The row of the letter in the table, from 0.
     pub fn index(self) -> u8
         ensures index { result ≡ index_of self }
-        ensures below { result < LETTER_COUNT }
+        ensures below { result < 26 }
     {
         self as u8
     }
 
+    /// The byte that spells the letter, `a` to `z`.
     pub fn byte(self) -> u8
         ensures { result ≡ byte_of self }
     {
         FIRST_BYTE + self.index()
     }
 
+    /// What the letter reads after it.
     pub fn class(self) -> Class
         ensures { result ≡ class_of self }
     {
@@ -76,6 +84,7 @@ impl Letter {
         }
     }
 
+    /// The complement of a nop. None for every other letter.
     pub fn complement(self) -> Option<Letter>
         ensures complement { result ≡ complement_of self }
         ensures none { IsNone result ↔ (class_of self ≢ Class.Nop) }
@@ -88,6 +97,7 @@ impl Letter {
         }
     }
 
+    /// The name of the letter, as `h-copy`.
     pub fn name(self) -> &'static str
         ensures { result.now ≡ name_of self }
     {
@@ -121,17 +131,18 @@ impl Letter {
         }
     }
 
-    /// The letter of this row of the table.
+    /// The letter of this row of the table, from 0.
     pub fn from_index(index: u8) -> Option<Letter>
         ensures letter { result ≡ letter_at index }
-        ensures none { IsNone result ↔ (LETTER_COUNT ≤ index) }
+        ensures none { IsNone result ↔ (26 ≤ index) }
     {
         row(&LETTERS, index)
     }
 
+    /// The letter that this byte spells.
     pub fn from_byte(byte: u8) -> Option<Letter>
         ensures letter { result ≡ letter_of_byte byte }
-        ensures none { IsNone result ↔ (byte < FIRST_BYTE ⊎ FIRST_BYTE + LETTER_COUNT ≤ byte) }
+        ensures none { IsNone result ↔ (byte < 97 ⊎ 123 ≤ byte) }
     {
         if byte < FIRST_BYTE {
             return None;
@@ -139,6 +150,7 @@ impl Letter {
         Letter::from_index(byte - FIRST_BYTE)
     }
 
+    /// The letter of this name. Capitals count.
     pub fn from_name(name: &[u8]) -> Option<Letter>
         ensures letter { result ≡ letter_named name.now }
         ensures none { IsNone result ↔ ((letter : Letter) → name_of letter ≢ name.now) }
@@ -177,7 +189,7 @@ impl Hash for Letter {
 /// How many letters there are.
 pub const LETTER_COUNT: u8 = 26;
 
-/// The byte of the first letter.
+/// The byte that spells the first letter.
 pub const FIRST_BYTE: u8 = b'a';
 
 /// Every letter, by its index.

@@ -2,10 +2,15 @@
 use Rattle.std.proofs.Common.{◌-◌, suc, true, false, arith, ◌≡◌, ◌∙◌, ap, refl, ℕ, ◌+◌, ◌%◌, ◌<◌, List, [], ◌∷◌, ◌++◌, Bool, length, append-nil, ◌&&◌, map}
 use Rattle.std.specs.Cmp.Lexicographic.{pointwise}
 use Rattle.std.specs.List.{take_while, prefix_len, range_with_len}
+use Rattle.std.specs.Prelude.{unwrap_or}
+use Rattle.std.proofs.lemmas.List.{length-map}
+use Rattle.std.proofs.lemmas.List.Elements.{All-map}
 use Rattle.std.proofs.Math.Nat.{mod-add-mod}
 use Rattle.std.proofs.lemmas.Grind.{common_steps}
 use Rattle.instruction_set.specs.declared.letter.Letter.{Letter}
-use Rattle.label_search.specs.Template.{is_nop, nops_read, letter_after}
+use Rattle.instruction_set.specs.declared.letter.Letter.TheVariants.{NopA, NopB, NopC}
+use Rattle.instruction_set.specs.Letter.{complement_of}
+use Rattle.label_search.specs.Template.{IsTemplate, is_nop, nops_read, complements_of, letter_after}
 
 -- two tests that agree compare lists alike
 pub pointwise_alike : {A : Type 0} (E F : A → A → Bool) → ((a b : A) → E a b ≡ F a b) → (xs ys : List A) → pointwise E xs ys ≡ pointwise F xs ys
@@ -42,3 +47,17 @@ nops-next memory ip counter left e nop =
 pub nops-end : (memory : List Letter) (ip counter : ℕ) → counter < 10 → is_nop (letter_after memory ip (1 + counter)) ≡ false → (nops : List Letter) → nops ++ take_while is_nop (map (letter_after memory ip) (range_with_len (1 + counter) (10 - counter))) ≡ nops
 nops-end memory ip counter h other nops =
     rw (letters_from-next memory ip counter (10 - (counter + 1)) (omega arith), other) (append-nil nops)
+
+-- the complement of a nop is a nop
+is_nop-complement : (letter : Letter) → is_nop letter ≡ true → is_nop (unwrap_or (complement_of letter) letter) ≡ true
+is_nop-complement NopA nop = refl
+is_nop-complement NopB nop = refl
+is_nop-complement NopC nop = refl
+is_nop-complement _ nop = nop
+
+-- the complements of a template are one
+pub IsTemplate-complements : (nops : List Letter) → IsTemplate nops → IsTemplate (complements_of nops)
+IsTemplate-complements nops template = record {
+  few = rw length-map template.few;
+  nops = All-map (λ letter. is_nop letter ≡ true) (λ letter. unwrap_or (complement_of letter) letter) nops (λ k d h. is_nop-complement _ (template.nops k d h));
+}

@@ -1,10 +1,9 @@
 -- Templates and the nops read last (docs/MACHINE.md, "Templates").
-use Rattle.std.specs.Prelude.{map, unwrap_or, ℕ, ◌+◌, ◌-◌, ◌%◌, Bool, true, false, List, [], ◌∷◌, ◌++◌, length, drop, take_while, slice_index_or, if◌then◌else◌}
-use Rattle.std.specs.List.{range_with_len}
+use Rattle.std.specs.Prelude.{map, unwrap_or, ℕ, ◌≤◌, ◌+◌, ◌-◌, ◌%◌, Bool, true, false, List, [], ◌∷◌, ◌++◌, length, drop, take_while, slice_index_or, if◌then◌else◌}
+use Rattle.std.specs.List.{AllPass, range_with_len}
 use Rattle.instruction_set.specs.declared.letter.Letter.{Letter}
 use Rattle.instruction_set.specs.declared.letter.Letter.TheVariants.{NopA, NopB, NopC}
 use Rattle.instruction_set.specs.Letter.{complement_of}
-use Rattle.label_search.specs.declared.template.TheConstants.{LONGEST_TEMPLATE}
 
 -- the letters that stand in a template
 abbrev pub is_nop : Letter → Bool
@@ -13,9 +12,14 @@ is_nop NopB = true
 is_nop NopC = true
 is_nop _ = false
 
+-- at most ten letters, and all of them nops
+pub record IsTemplate (letters : List Letter) : Type 0 where
+  pub few : length letters ≤ 10
+  pub nops : AllPass is_nop letters
+
 -- the last ten of a list
 abbrev pub last_ten : List Letter → List Letter
-last_ten nops = drop (length nops - LONGEST_TEMPLATE) nops
+last_ten nops = drop (length nops - 10) nops
 
 -- the nops read last, once a further letter was read: a letter that is no nop ends the list
 abbrev pub nops_read : List Letter → Letter → List Letter
@@ -31,7 +35,7 @@ letter_after memory place steps = slice_index_or memory ((place + steps) % lengt
 
 -- the ten letters after a place
 abbrev pub letters_after : List Letter → ℕ → List Letter
-letters_after memory place = map (letter_after memory place) (range_with_len 1 LONGEST_TEMPLATE)
+letters_after memory place = map (letter_after memory place) (range_with_len 1 10)
 
 -- the nops after a place up to the first other letter, at most ten
 unfoldable pub template_after : List Letter → ℕ → List Letter

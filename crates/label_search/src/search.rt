@@ -6,7 +6,8 @@ use crate::Template;
 use instruction_set::Letter;
 use instruction_set::laws::one_index;
 
-/// The least place at which the template stands wholly before the end of memory.
+/// The least place at which the whole template stands before the end of memory. None where it
+/// stands nowhere; a match never goes on across the end.
 pub fn find(memory: &[Letter], what: &Template) -> Option<usize>
     requires { 0 < length what.now }
     ensures first { result ≡ first_match memory.now what.now }

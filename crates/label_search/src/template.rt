@@ -3,35 +3,36 @@ ghost use Rattle.std.specs.Prelude.{◌≡◌, ◌+◌, ◌%◌, ◌<◌, ◌≤
 ghost use Rattle.std.specs.Option.{option_copied};
 ghost use Rattle.instruction_set.specs.Letter.{same_letters};
 ghost use Rattle.label_search.specs.Template as spec;
-ghost use Rattle.label_search.specs.Template.{is_nop, nops_read, complements_of};
+ghost use Rattle.label_search.specs.Template.{is_nop, nops_read, complements_of, IsTemplate};
 
 use arrayvec::ArrayVec;
 use instruction_set::Letter;
 use instruction_set::laws::one_index;
 use std::marker::Model;
 
-/// How many nops a template has at most.
+/// The most nops that a template has. Of a longer list the last ones stay.
 pub const LONGEST_TEMPLATE: usize = 10;
 
-/// At most ten nops.
+/// A list of at most ten nops.
 #[derive(Drop)]
 pub struct Template {
     nops: ArrayVec<Letter, LONGEST_TEMPLATE>,
 }
 
 impl Model for Template {
-    ghost use Rattle.std.specs.Prelude.{List, ◌≤◌, length};
+    ghost use Rattle.std.specs.Prelude.{List};
     ghost use Rattle.instruction_set.specs.declared.letter.Letter.{Letter};
-    ghost use Rattle.label_search.specs.declared.template.TheConstants.{LONGEST_TEMPLATE};
+    ghost use Rattle.label_search.specs.Template.{IsTemplate};
 
     ghost Value = { List Letter };
 
     ghost view = { λ template. template.nops.items };
 
-    ghost invariant = { λ template. length template.nops.items ≤ LONGEST_TEMPLATE };
+    ghost invariant = { λ template. IsTemplate template.nops.items };
 }
 
 impl Template {
+    /// An empty list.
     pub fn none() -> Template
         ensures { result ≡ [] }
     {
@@ -40,14 +41,16 @@ impl Template {
         }
     }
 
+    /// How many nops there are.
     pub fn len(&self) -> usize
         ensures value { result ≡ length self.now }
-        ensures few { result ≤ LONGEST_TEMPLATE }
+        ensures few { result ≤ 10 }
+        ensures template { IsTemplate self.now }
     {
         self.nops.len()
     }
 
-    /// None exactly where the place is not below `len`.
+    /// The nop at a place, counted from 0. None exactly where the place is not below `len`.
     pub fn get(&self, at: usize) -> Option<&Letter>
         ensures { option_copied result ≡ slice_get self.now at }
     {
@@ -61,6 +64,7 @@ impl Template {
         self.nops.as_slice()
     }
 
+    /// An equal list. It takes no memory.
     pub fn copy(&self) -> Template
         ensures { result ≡ self.now }
     {
@@ -71,9 +75,11 @@ impl Template {
         copy
     }
 
-    /// A letter that is no nop empties the list. A nop is appended, and of more than ten the last ten stay.
+    /// Reads a letter. A nop is appended, and of eleven nops the first is dropped. Any other letter
+    /// empties the list.
     pub fn note(&mut self, letter: Letter)
-        ensures { self.new ≡ nops_read self.old letter }
+        ensures read { self.new ≡ nops_read self.old letter }
+        ensures template { IsTemplate self.new }
     {
         if !is_nop(letter) {
             self.nops.clear();
@@ -85,6 +91,7 @@ impl Template {
         self.nops.push(letter);
     }
 
+    /// The complement of each nop, in order.
     pub fn complement(&self) -> Template
         ensures nops { result ≡ complements_of self.now }
         ensures len { length result ≡ length self.now }
@@ -96,7 +103,7 @@ impl Template {
         complement
     }
 
-    /// Whether both are one list.
+    /// Whether both lists are equal.
     pub fn equals(&self, other: &Template) -> bool
         ensures value { result ≡ same_letters self.now other.now }
         ensures same { IsTrue result ↔ (self.now ≡ other.now) }
@@ -130,7 +137,8 @@ fn next_place(place: usize, length: usize) -> usize
 pub fn template_after(memory: &[Letter], ip: usize) -> Template
     requires { ip < length memory.now }
     ensures nops { result ≡ spec.template_after memory.now ip }
-    ensures few { length result ≤ LONGEST_TEMPLATE }
+    ensures few { length result ≤ 10 }
+    ensures template { IsTemplate result }
 {
     let mut template = Template::none();
     let mut place = ip;

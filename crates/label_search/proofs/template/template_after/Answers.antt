@@ -1,6 +1,7 @@
 use Rattle.std.proofs.Common.{◌≡◌, ◌∙◌, sym, ap, arith, ◌+◌, ◌-◌, ◌%◌, ◌++◌, [], ◌∷◌, append_assoc, true, false, length, length-append, refl, add-zero}
 use Rattle.std.proofs.Math.Nat.{mod-eq_of_lt}
 use Rattle.std.proofs.lemmas.Grind.{common_steps}
+use Rattle.std.proofs.lemmas.List.Elements.{All-nil}
 use Rattle.label_search.specs.Template.{is_nop, letter_after, template_after}
 use Rattle.label_search.proofs.TemplateLemmas.{nops_read-room, mod-next, nops-next, nops-end}
 use Rattle.label_search.proofs.template.template_after.Goals as goal
@@ -10,6 +11,7 @@ unfolding template_after
 loop-init c = record {
   place = rw add-zero (sym (mod-eq_of_lt c.requires));
   count = grind (arith, common_steps);
+  template = rw c.none-template.ensures (record { few = omega arith; nops = All-nil _ });
   nops = rw c.none-template.ensures refl;
 }
 
@@ -19,6 +21,12 @@ returns-then-not-is_nop-clause-nops c =
     let other : is_nop (letter_after c.args.memory.now c.args.ip (1 + c.loop.counter)) ≡ false = rw (← place) (sym c.is_nop.ensures ∙ c.if-not-is_nop.true) in
     sym (nops-end c.args.memory.now c.args.ip c.loop.counter (omega arith) other c.loop.template) ∙ c.loop.invariant.nops
 
+pub returns-then-not-is_nop-clause-template : goal.returns-then-not-is_nop-clause-template
+returns-then-not-is_nop-clause-template c = c.loop.invariant.template
+
+pub returns-clause-template : goal.returns-clause-template
+returns-clause-template c = c.loop.invariant.template
+
 pub loop-preserved : goal.loop-preserved
 loop-preserved c =
     let next : c.next_place-place.result ≡ (c.args.ip + (c.loop.counter + 1)) % length c.args.memory.now = rw c.loop.invariant.place at c.next_place-place.ensures ∙ mod-next c.args.ip c.loop.counter _ in
@@ -26,9 +34,10 @@ loop-preserved c =
     let letter = letter_after c.args.memory.now c.args.ip (1 + c.loop.counter) in
     let nop : is_nop letter ≡ true = rw (← place) (sym c.is_nop.ensures ∙ c.if-not-is_nop.false) in
     let rest = nops-next c.args.memory.now c.args.ip c.loop.counter (10 - (c.loop.counter + 1)) (omega arith) nop in
-    let noted : c.note.new.self ≡ c.loop.template ++ letter ∷ [] = rw place at c.note.ensures ∙ nops_read-room c.loop.template letter nop (omega arith) in
+    let noted : c.note.new.self ≡ c.loop.template ++ letter ∷ [] = rw place at c.note.ensures.read ∙ nops_read-room c.loop.template letter nop (omega arith) in
     record {
       place = next;
       count = rw (noted, length-append c.loop.template (letter ∷ [])) (omega arith);
+      template = c.note.ensures.template;
       nops = rw (noted, append_assoc) (ap (λ l. c.loop.template ++ l) (sym rest) ∙ c.loop.invariant.nops);
     }

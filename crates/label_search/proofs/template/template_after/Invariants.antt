@@ -1,6 +1,6 @@
 use Rattle.std.proofs.Common.{◌≡◌, ◌+◌, ◌-◌, ◌%◌, ◌++◌, length, map}
 use Rattle.std.specs.List.{take_while, range_with_len}
-use Rattle.label_search.specs.Template.{is_nop, letter_after, template_after}
+use Rattle.label_search.specs.Template.{is_nop, letter_after, template_after, IsTemplate}
 use Rattle.label_search.proofs.template.template_after.Given as goal
 
 -- the nops so far, and those among the letters that are left
@@ -8,5 +8,6 @@ abbrev pub invariant-loop : goal.invariant-loop
 invariant-loop l = record {
   place : l.place ≡ (l.ip + l.counter) % length l.memory;
   count : length l.template ≡ l.counter;
+  template : IsTemplate l.template;
   nops : l.template ++ take_while is_nop (map (letter_after l.memory l.ip) (range_with_len (1 + l.counter) (10 - l.counter))) ≡ template_after l.memory l.ip;
 }
