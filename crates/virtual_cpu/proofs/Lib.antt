@@ -1,3 +1,4 @@
 pub mod MachineLemmas
+pub mod OperandLemmas
 pub mod QuestionLemmas
 pub mod StepLemmas

@@ -10,6 +10,7 @@ pub mod Allocation
 pub mod Copying
 pub mod Divide
 pub mod Effects
+pub mod OperandUse
 pub mod Step
 pub mod View
 pub use Rattle.genome.specs.Genome

@@ -16,7 +16,7 @@ ghost use Rattle.virtual_cpu.specs.Divide.{divide_question, parent_part, child_p
 
 use crate::cut::Cut;
 use crate::heads::{Head, Heads};
-use crate::marks::{count_marks, place_after};
+use crate::marks::{count_marks, place_after, place_of_number};
 use crate::registers::{Register, Registers};
 use crate::reserved::{append_copies, append_letters, letters_with_room, unmarked_with_room};
 use crate::stack::Stack;
@@ -240,7 +240,7 @@ impl Cpu {
     pub(crate) fn move_head(&mut self, head: Head, number: i64)
         ensures { self.new ≡ with_head_at self.old head (place_of_number self.old number) }
     {
-        let place = number.rem_euclid(self.memory.len() as i64) as usize;
+        let place = place_of_number(number, self.memory.len());
         self.heads.set(head, place);
     }
 
@@ -255,7 +255,7 @@ impl Cpu {
     pub(crate) fn move_flow(&mut self, number: i64)
         ensures { self.new ≡ with_flow_at self.old (place_of_number self.old number) }
     {
-        self.heads.flow = number.rem_euclid(self.memory.len() as i64) as usize;
+        self.heads.flow = place_of_number(number, self.memory.len());
     }
 
     /// Moves FLOW to a place.

@@ -1,7 +1,10 @@
-// What each step leaves.
+// What each step leaves, and which operand each letter takes.
 ghost use Rattle.std.specs.Prelude.{ℕ, ℤ, ◌*◌, ◌≤◌, Option, List, length};
 ghost use Rattle.instruction_set.specs.declared.letter.Letter.{Letter};
+ghost use Rattle.instruction_set.specs.Letter.{class_of};
+ghost use Rattle.instruction_set.specs.Defaults.{default_of};
 ghost use Rattle.virtual_cpu.specs.Machine.{Machine, IsMachine, fresh_machine};
+ghost use Rattle.virtual_cpu.specs.OperandUse.{TakesOperand};
 ghost use Rattle.virtual_cpu.specs.Step.{step, AsksOf, KeepsLimits};
 
 /// A step leaves a machine, for the same length of genome and under the same limit; a question that it tells is of
@@ -24,4 +27,10 @@ pub fn texts_start_machines()
         → made ≤ limit
         → limit ≤ 8192
         → IsMachine (fresh_machine text made limit) }
+{}
+
+/// The letters of the classes Register and Head use the modifier, with the default of their row, those of the class
+/// Template use the template, and no other letter uses either.
+pub fn letters_take_their_operands()
+    ensures { (letter : Letter) → TakesOperand (default_of letter) (class_of letter) letter }
 {}
