@@ -298,9 +298,9 @@ lived-ended laws settings are words fits start steps h (Some step) before =
     fewer settings start (step + 1) steps _ (omega arith) (lived-all laws settings are words fits start h (step + 1))
 
 -- the law of one life
-pub lived : LowerLaws → (settings : SettingNumbers) (words : ℕ → ℕ) (start : OrganismState) (steps : ℕ) → ((n : ℕ) → words n < 2 ^ 32) → AreRules settings.rules → IsSoundOrganism start → HasLived settings start steps (life settings words (beginning start) steps).0
+pub lived : LowerLaws → (settings : SettingNumbers) (words : ℕ → ℕ) (start : OrganismState) (steps : ℕ) → AreRules settings.rules → ((n : ℕ) → words n < 2 ^ 32) → IsSoundOrganism start → HasLived settings start steps (life settings words (beginning start) steps).0
 unfolding life death_in
-lived laws settings words start steps fits are h = lived-ended laws settings are words fits start steps h (death_in settings words (beginning start) steps) (λ step found. let lt : step < 0 + steps = found-below (dies_at settings words (beginning start)) 0 steps step found in omega arith)
+lived laws settings words start steps are fits h = lived-ended laws settings are words fits start steps h (death_in settings words (beginning start) steps) (λ step found. let lt : step < 0 + steps = found-below (dies_at settings words (beginning start)) 0 steps step found in omega arith)
 
 -- the law of a new organism
 pub founded : ((text : List Letter) (made limit : ℕ) → 8 ≤ length text → length text ≤ limit → length text ≤ 2 * made → made ≤ limit → limit ≤ 8192 → IsMachine (fresh_machine text made limit)) → (letters : List Letter) (inputs : List ℕ) (merit : ℕ) (credited : List Bool) (limit : ℕ) → IsGenome letters → length letters ≤ limit → limit ≤ 8192 → 1 ≤ merit → merit ≤ 2 ^ 38 → IsSoundOrganism (new_organism letters inputs merit credited limit)

@@ -18,8 +18,8 @@ pub fn limits()
 /// A life leaves a sound organism sound, whatever the words are, and its newborns are made by their records.
 pub fn lives_are_sound()
     ensures { (settings : SettingNumbers) (words : ℕ → ℕ) (start : OrganismState) (steps : ℕ)
-        → ((k : ℕ) → words k < 2 ^ 32)
         → AreRules settings.rules
+        → ((k : ℕ) → words k < 2 ^ 32)
         → IsSoundOrganism start
         → HasLived settings start steps (life settings words (beginning start) steps).0 }
 {
