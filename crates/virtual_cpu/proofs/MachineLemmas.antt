@@ -136,7 +136,7 @@ with_stack : (m : Machine) (numbers : List ℤ) → IsMachine m → length numbe
 with_stack m numbers h ten = with_numbers m m.registers (set m.stacks m.active numbers) m.active h (length-set m.stacks m.active numbers ∙ h.stacks) (All-set (λ stack. length stack ≡ 10) m.stacks m.active numbers ten h.ten) h.active
 
 -- the active stack has ten numbers, and as many after a push or a pop
-active-ten : (m : Machine) → IsMachine m → length (active_stack m) ≡ 10
+pub active-ten : (m : Machine) → IsMachine m → length (active_stack m) ≡ 10
 active-ten m h = h.ten m.active [] (omega (arith, h.stacks, h.active))
 
 pub pushed-ten : (number : ℤ) (stack : List ℤ) → length stack ≡ 10 → length (pushed number stack) ≡ 10
@@ -153,7 +153,7 @@ modifier_of-machine : (nop : Option Letter) (m : Machine) → IsMachine m → Is
 modifier_of-machine (Some nop) m h = next_place m h
 modifier_of-machine None m h = h
 
-on_modifier-machine : (m : Machine) → IsMachine m → IsMachine (on_modifier m)
+pub on_modifier-machine : (m : Machine) → IsMachine m → IsMachine (on_modifier m)
 unfolding on_modifier
 on_modifier-machine m h = modifier_of-machine (modifier_of m) m h
 
@@ -164,7 +164,7 @@ last_of-machine : (nops : List Letter) (m : Machine) → IsMachine m → IsMachi
 last_of-machine [] m h = h
 last_of-machine (nop ∷ nops) m h = ip_moved (on_next_place m) (length nops) (next_place m h)
 
-on_template-machine : (m : Machine) → IsMachine m → IsMachine (on_template m)
+pub on_template-machine : (m : Machine) → IsMachine m → IsMachine (on_template m)
 unfolding on_template
 on_template-machine m h = last_of-machine (template_of m) m h
 

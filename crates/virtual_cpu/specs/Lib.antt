@@ -12,6 +12,7 @@ pub mod Divide
 pub mod Effects
 pub mod OperandUse
 pub mod Step
+pub mod Words
 pub mod View
 pub use Rattle.genome.specs.Genome
 pub use Rattle.label_search.specs.Template
