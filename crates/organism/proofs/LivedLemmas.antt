@@ -1,6 +1,9 @@
 -- What holds of an organism through its life.
 use Rattle.std.proofs.Common.{◌≡◌, refl, sym, ◌∙◌, subst, ℕ, ℤ, zero, suc, ◌+◌, ◌-◌, ◌*◌, ◌<◌, ◌≤◌, ◌^◌, Bool, true, false, cond, Option, Some, None, List, [], ◌∷◌, length, Result, Ok, Err, IsOkAnd, arith, length-append}
+use Rattle.std.specs.Prelude.{FitsSigned, slice_index_or, ◌%◌}
+use Rattle.std.specs.Int.{w32, cast_signed}
 use Rattle.std.specs.List.{All, find, range_with_len}
+use borrow.Author.Differences.{fits_in, read_fits}
 use Rattle.std.proofs.Math.Nat.{mul-le-mul}
 use Rattle.std.proofs.lemmas.List.{length-take-le}
 use Rattle.std.proofs.lemmas.List.Elements.{All-nil, All-push}
@@ -21,6 +24,7 @@ use Rattle.virtual_cpu.specs.declared.did.Did.{Did}
 use Rattle.virtual_cpu.specs.declared.did.Did.TheVariants.{Plain, Copied, Output, Asks, Allocated}
 use Rattle.virtual_cpu.specs.Machine.{Machine, IsMachine, fresh_machine}
 use Rattle.virtual_cpu.specs.Divide.{end_of, parent_part, divide_question}
+use Rattle.virtual_cpu.specs.Words.{HoldsWords}
 use Rattle.virtual_cpu.specs.Step.{step, AsksOf, KeepsLimits}
 use Rattle.organism.specs.declared.outcome.Outcome.{Outcome}
 use Rattle.organism.specs.declared.outcome.Outcome.TheVariants as outcome
@@ -39,6 +43,8 @@ pub record LowerLaws : Type 0 where
   pub asks : (m : Machine) (input : ℤ) (copy : Option Letter) → AsksOf (step m input copy).0 (step m input copy).1
   pub keeps : (m : Machine) (input : ℤ) (copy : Option Letter) → KeepsLimits m (step m input copy).0
   pub starts : (text : List Letter) (made limit : ℕ) → 8 ≤ length text → length text ≤ limit → length text ≤ 2 * made → made ≤ limit → limit ≤ 8192 → IsMachine (fresh_machine text made limit)
+  pub holds : (m : Machine) (input : ℤ) (copy : Option Letter) → IsMachine m → HoldsWords m → FitsSigned w32 input → HoldsWords (step m input copy).0
+  pub begins : (text : List Letter) (made limit : ℕ) → HoldsWords (fresh_machine text made limit)
   pub viable : (ask : DivideAsk) (genome_length : ℕ) (rules : RuleNumbers) → verdict_of ask genome_length rules ≡ verdict.Viable → IsViable ask genome_length rules
   pub bounded : (genome_length executed copied : ℕ) (tasks : List Bool) → genome_length ≤ 8192 → merit_of genome_length executed copied tasks ≤ 2 ^ 38
   pub positive : (genome_length executed copied : ℕ) (tasks : List Bool) → 1 ≤ genome_length → 1 ≤ executed → 1 ≤ copied → 1 ≤ merit_of genome_length executed copied tasks
@@ -69,6 +75,7 @@ done rules o (Some task) h = record {
   sound = record {
     organism = record { made = h.organism.made; read = h.organism.read };
     machine = h.machine;
+    words = h.words;
     genome = h.genome;
     some_merit = h.some_merit;
     merit = h.merit;
@@ -87,6 +94,7 @@ put_out rules o output before h =
     let sound : IsSoundOrganism next = record {
       organism = record { made = h.organism.made; read = omega arith };
       machine = h.machine;
+      words = h.words;
       genome = h.genome;
       some_merit = h.some_merit;
       merit = h.merit;
@@ -112,6 +120,10 @@ followed laws rules are o (Asks ask) before asks h = record {
   asked = judged (IsAsked rules o) (verdict_of ask (length o.genome) rules) ask (λ is_viable. record { lawful = are; question = asks; viable = laws.viable ask (length o.genome) rules is_viable });
 }
 
+-- an input has 32 bits
+cast : (n : ℕ) → FitsSigned w32 (cast_signed w32 n)
+cast n = omega (arith, fits_in, read_fits w32 n)
+
 -- one step, before the renewal
 stepped : LowerLaws → (rules : RuleNumbers) → AreRules rules → (o : OrganismState) (copy : Option Letter) → IsSoundOrganism o → Told rules (record o { age = o.age + 1 }) (life_step o copy rules)
 unfolding life_step
@@ -121,6 +133,7 @@ stepped laws rules are o copy h =
     let sound : IsSoundOrganism (older o machine) = record {
       organism = record { made = kept.made ∙ h.organism.made; read = omega (arith, h.organism.read) };
       machine = laws.steps o.machine (next_input o) copy h.machine;
+      words = laws.holds o.machine (next_input o) copy h.machine h.words (cast (slice_index_or o.inputs (o.read % 3) 0));
       genome = h.genome;
       some_merit = h.some_merit;
       merit = h.merit;
@@ -170,6 +183,7 @@ born_anew laws rules o ask h asked =
     record {
       organism = record { made = h.organism.made; read = omega arith };
       machine = laws.starts (parent_part o.machine.memory ask.read) o.machine.made o.machine.limit (omega (arith, size, w.read_least)) (omega (arith, size, w.read_within, h.machine.greatest)) (omega (arith, size, w.read_most, h.organism.made)) h.machine.made h.machine.limit;
+      words = laws.begins (parent_part o.machine.memory ask.read) o.machine.made o.machine.limit;
       genome = h.genome;
       some_merit = divide_merit laws rules o ask h asked;
       merit = laws.bounded (length o.genome) ask.executed ask.copied o.gestation h.genome.greatest;
@@ -303,11 +317,12 @@ unfolding life death_in
 lived laws settings words start steps are fits h = lived-ended laws settings are words fits start steps h (death_in settings words (beginning start) steps) (λ step found. let lt : step < 0 + steps = found-below (dies_at settings words (beginning start)) 0 steps step found in omega arith)
 
 -- the law of a new organism
-pub founded : ((text : List Letter) (made limit : ℕ) → 8 ≤ length text → length text ≤ limit → length text ≤ 2 * made → made ≤ limit → limit ≤ 8192 → IsMachine (fresh_machine text made limit)) → (letters : List Letter) (inputs : List ℕ) (merit : ℕ) (credited : List Bool) (limit : ℕ) → IsGenome letters → length letters ≤ limit → limit ≤ 8192 → 1 ≤ merit → merit ≤ 2 ^ 38 → IsSoundOrganism (new_organism letters inputs merit credited limit)
+pub founded : ((text : List Letter) (made limit : ℕ) → 8 ≤ length text → length text ≤ limit → length text ≤ 2 * made → made ≤ limit → limit ≤ 8192 → IsMachine (fresh_machine text made limit)) → ((text : List Letter) (made limit : ℕ) → HoldsWords (fresh_machine text made limit)) → (letters : List Letter) (inputs : List ℕ) (merit : ℕ) (credited : List Bool) (limit : ℕ) → IsGenome letters → length letters ≤ limit → limit ≤ 8192 → 1 ≤ merit → merit ≤ 2 ^ 38 → IsSoundOrganism (new_organism letters inputs merit credited limit)
 unfolding new_organism
-founded starts letters inputs merit credited limit genome short few some fair = record {
+founded starts begins letters inputs merit credited limit genome short few some fair = record {
   organism = record { made = refl; read = omega arith };
   machine = starts letters (length letters) limit genome.least short (omega arith) short few;
+  words = begins letters (length letters) limit;
   genome = genome;
   some_merit = some;
   merit = fair;

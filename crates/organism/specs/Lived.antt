@@ -7,15 +7,17 @@ use Rattle.divide_rules.specs.Rules.{RuleNumbers}
 use Rattle.mutations.specs.BirthRecord.{child_of}
 use Rattle.mutations.specs.RecordForm.{HasRecordForm}
 use Rattle.virtual_cpu.specs.Machine.{IsMachine}
+use Rattle.virtual_cpu.specs.Words.{HoldsWords}
 use Rattle.organism.specs.SettingNumbers.{SettingNumbers}
 use Rattle.organism.specs.OrganismState.{OrganismState, IsOrganism}
 use Rattle.organism.specs.Newborns.{NewbornValue}
 use Rattle.organism.specs.UpdateLife.{LifeState}
 
--- an organism with a genome, a machine, and a merit from 1 to the greatest
+-- an organism with a genome, a machine whose numbers have 32 bits, and a merit from 1 to the greatest
 pub record IsSoundOrganism (o : OrganismState) : Type 0 where
   pub organism : IsOrganism o
   pub machine : IsMachine o.machine
+  pub words : HoldsWords o.machine
   pub genome : IsGenome o.genome
   pub some_merit : 1 ≤ o.merit
   pub merit : o.merit ≤ 2 ^ 38

@@ -29,6 +29,7 @@ pub fn lives_are_sound()
     mutations::laws::drawn_records_have_form();
     virtual_cpu::laws::steps_leave_machines();
     virtual_cpu::laws::texts_start_machines();
+    virtual_cpu::laws::machines_hold_words();
 }
 
 /// A new organism that has a merit is sound.
@@ -43,4 +44,5 @@ pub fn new_organisms_are_sound()
         → IsSoundOrganism (new_organism letters inputs merit credited limit) }
 {
     virtual_cpu::laws::texts_start_machines();
+    virtual_cpu::laws::machines_hold_words();
 }
