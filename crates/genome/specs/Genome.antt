@@ -2,9 +2,9 @@
 use Rattle.std.specs.Prelude.{◌≤◌, List, Result, Ok, Err, length, if◌then◌else◌, nat_lt}
 use Rattle.instruction_set.specs.declared.letter.Letter.{Letter}
 use Rattle.genome.specs.declared.genome.Genome.{Genome}
-use Rattle.genome.specs.declared.genome.TheConstants.{LEAST_LENGTH, GREATEST_LENGTH}
 use Rattle.genome.specs.declared.stop.GenomeStop.{GenomeStop}
 use Rattle.genome.specs.declared.stop.GenomeStop.TheVariants.{TooShort, TooLong}
+use Rattle.genome.specs.Lengths.{shortest_genome, longest_genome}
 
 -- the letters of a genome
 abbrev pub letters : Genome → List Letter
@@ -12,12 +12,12 @@ letters genome = genome.letters.items
 
 -- these letters can be a genome
 pub record IsGenome (ls : List Letter) : Type 0 where
-  pub least : LEAST_LENGTH ≤ length ls
-  pub greatest : length ls ≤ GREATEST_LENGTH
+  pub least : shortest_genome ≤ length ls
+  pub greatest : length ls ≤ longest_genome
 
 -- these letters as a genome, or what refuses them
 abbrev pub genome_of : List Letter → Result (List Letter) GenomeStop
 genome_of ls =
-    if nat_lt (length ls) LEAST_LENGTH
+    if nat_lt (length ls) shortest_genome
     then Err (TooShort (length ls))
-    else (if nat_lt GREATEST_LENGTH (length ls) then Err (TooLong (length ls)) else Ok ls)
+    else (if nat_lt longest_genome (length ls) then Err (TooLong (length ls)) else Ok ls)

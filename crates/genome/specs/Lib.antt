@@ -1,2 +1,3 @@
 pub mod Genome
 pub mod GenomeText
+pub mod Lengths

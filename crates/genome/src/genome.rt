@@ -1,35 +1,36 @@
 // A genome: a list of letters within two lengths.
 ghost use Rattle.std.specs.Prelude.{◌≡◌, ◌≢◌, ◌<◌, ◌≤◌, ◌↔◌, ◌⊎◌, length, IfOk, IfErr, Ok, Err};
-ghost use Rattle.genome.specs.declared.genome.TheConstants.{LEAST_LENGTH, GREATEST_LENGTH};
+ghost use Rattle.genome.specs.Lengths.{shortest_genome, longest_genome};
 
 use crate::stop::GenomeStop;
 use avida_port::Memory;
 use instruction_set::Letter;
 use std::alloc::Global;
 
-/// The least length of a genome.
+/// The least length of a genome, in letters.
 pub const LEAST_LENGTH: u32 = 8;
 
-/// The greatest length of a genome.
+/// The greatest length of a genome, in letters.
 pub const GREATEST_LENGTH: u32 = 8192;
 
-/// A list of `LEAST_LENGTH` to `GREATEST_LENGTH` letters.
+/// A genome: 8 to 8,192 letters.
 #[derive(Debug, Drop, PartialEq, Eq, PartialOrd, Ord, Hash)]
 pub struct Genome {
     letters: Vec<Letter>,
-    ghost least: { LEAST_LENGTH ≤ length letters.items },
-    ghost greatest: { length letters.items ≤ GREATEST_LENGTH },
+    ghost least: { shortest_genome ≤ length letters.items },
+    ghost greatest: { length letters.items ≤ longest_genome },
 }
 
 impl Genome {
     ghost use Rattle.genome.specs.Genome.{IsGenome, letters, genome_of};
 
-    /// Refuses exactly by the length, before it takes memory.
+    /// The genome of these letters. It rejects exactly the lengths that no genome has, before it
+    /// allocates; else it gives a genome, unless memory runs out.
     pub fn from_letters(alloc: Global, from: &[Letter]) -> Result<Genome, GenomeStop>
         ensures ok { IfOk result (λ genome. letters genome ≡ from.now) }
-        ensures too_short { (length from.now < LEAST_LENGTH) ↔
+        ensures too_short { (length from.now < shortest_genome) ↔
             (result ≡ Err (GenomeStop.TooShort (length from.now))) }
-        ensures too_long { (GREATEST_LENGTH < length from.now) ↔
+        ensures too_long { (longest_genome < length from.now) ↔
             (result ≡ Err (GenomeStop.TooLong (length from.now))) }
         ensures refused { IfErr result (λ s. s ≢ GenomeStop.Memory → genome_of from.now ≡ Err s) }
     {
@@ -40,6 +41,7 @@ impl Genome {
         }
     }
 
+    /// The letters, in order.
     pub fn letters(&self) -> &[Letter]
         ensures letters { result.now ≡ letters self.now }
         ensures is_genome { IsGenome result.now }
@@ -47,14 +49,16 @@ impl Genome {
         self.letters.as_slice()
     }
 
+    /// How many letters there are.
     pub fn len(&self) -> u32
         ensures length { result ≡ length (letters self.now) }
-        ensures least { LEAST_LENGTH ≤ result }
-        ensures greatest { result ≤ GREATEST_LENGTH }
+        ensures least { shortest_genome ≤ result }
+        ensures greatest { result ≤ longest_genome }
     {
         self.letters.len() as u32
     }
 
+    /// An equal genome, or `Memory` when memory runs out.
     pub fn copy(&self, alloc: Global) -> Result<Genome, Memory>
         ensures { IfOk result (λ genome. letters genome ≡ letters self.now) }
     {
@@ -76,8 +80,8 @@ impl Genome {
 
 /// Refuses a length that no genome has.
 pub(crate) fn check_length(len: usize) -> Result<(), GenomeStop>
-    ensures too_short { (len < LEAST_LENGTH) ↔ (result ≡ Err (GenomeStop.TooShort len)) }
-    ensures too_long { (GREATEST_LENGTH < len) ↔ (result ≡ Err (GenomeStop.TooLong len)) }
+    ensures too_short { (len < shortest_genome) ↔ (result ≡ Err (GenomeStop.TooShort len)) }
+    ensures too_long { (longest_genome < len) ↔ (result ≡ Err (GenomeStop.TooLong len)) }
     ensures refused { IfErr result (λ s. s ≡ GenomeStop.TooShort len ⊎ s ≡ GenomeStop.TooLong len) }
 {
     if len < LEAST_LENGTH as usize {

@@ -2,6 +2,7 @@
 #![tactic(auto)]
 
 mod genome;
+pub mod laws;
 mod names;
 mod stop;
 mod text;

@@ -4,7 +4,7 @@ ghost use Rattle.std.specs.List.{position_from, before_first};
 ghost use Rattle.instruction_set.specs.Letter.{letter_named, name_of};
 ghost use Rattle.genome.specs.Genome.{letters};
 ghost use Rattle.genome.specs.GenomeText.{after_blanks, between_blanks, is_bad_line, is_blank, name_lines};
-ghost use Rattle.genome.specs.GenomeText.{names_text_of, spelled_by_names, word_of};
+ghost use Rattle.genome.specs.GenomeText.{names_of, names_text_of, spelled_by_names, word_of};
 
 use crate::genome::Genome;
 use crate::stop::GenomeStop;
@@ -12,12 +12,16 @@ use avida_port::Memory;
 use instruction_set::Letter;
 use std::alloc::{AllocError, Global};
 
-/// A genome spelled by names, a line each.
+/// Reads a genome spelled by names, one a line. Blanks around a name, empty lines and comments from
+/// `#` on are skipped. The first line whose word is no name is told, before anything is allocated;
+/// then the length.
 #[tactic(auto, using(crate::proofs::ListLemmas::counted_from_one))]
 pub fn read_names(alloc: Global, bytes: &[u8]) -> Result<Genome, GenomeStop>
     ensures ok { IfOk result (λ genome. spelled_by_names bytes.now ≡ Ok (letters genome)) }
     ensures refused { IfErr result (λ s. s ≢ GenomeStop.Memory →
         spelled_by_names bytes.now ≡ Err s) }
+    ensures bad_name { IfErr (names_of bytes.now) (λ line.
+        result ≡ Err (GenomeStop.BadName line)) }
 {
     if let Some(at) = first_bad_line(bytes) {
         return Err(GenomeStop::BadName {
@@ -121,7 +125,7 @@ fn is_blank(byte: u8) -> bool
     matches!(byte, b' ' | b'\t' | b'\r')
 }
 
-/// Appends each letter's name and a line end.
+/// Appends each letter's name and a line end. When memory runs out, `out` stays as it was.
 pub fn names_text(genome: &Genome, out: &mut Vec<u8>) -> Result<(), Memory>
     ensures ok { OnOk result (out.new.items ≡ out.old.items ++ names_text_of (letters genome.now)) }
     ensures err { OnErr result (out.new.items ≡ out.old.items) }

@@ -1,14 +1,14 @@
-/// Why letters, or a text, are no genome.
+/// Why letters, or a text, give no genome.
 #[derive(Clone, Copy, Debug, PartialEq, Eq)]
 pub enum GenomeStop {
-    /// Memory was wanting.
+    /// An allocation failed.
     Memory,
     /// The byte at this place, from 0, is no letter.
     BadLetter { at: u64 },
-    /// This line, from 1, is no name.
+    /// The word in this line, from 1, is no instruction's name.
     BadName { line: u64 },
-    /// There are fewer letters than a genome has.
+    /// There are only `len` letters, fewer than a genome has.
     TooShort { len: u64 },
-    /// There are more letters than a genome has.
+    /// There are `len` letters, more than a genome has.
     TooLong { len: u64 },
 }

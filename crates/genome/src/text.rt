@@ -2,7 +2,7 @@
 ghost use Rattle.std.specs.Prelude.{◌≡◌, ◌≢◌, ◌<◌, ◌^◌, ◌++◌, length, IfOk, IfErr, OnOk, OnErr, filter_map};
 ghost use Rattle.instruction_set.specs.Letter.{letter_of_byte};
 ghost use Rattle.genome.specs.Genome.{letters};
-ghost use Rattle.genome.specs.GenomeText.{before_line_end, first_bad_byte, spelled_by_letters, letters_text_of};
+ghost use Rattle.genome.specs.GenomeText.{before_line_end, first_bad_byte, letters_of, spelled_by_letters, letters_text_of};
 
 use crate::genome::Genome;
 use crate::stop::GenomeStop;
@@ -10,11 +10,14 @@ use avida_port::Memory;
 use instruction_set::Letter;
 use std::alloc::{AllocError, Global};
 
-/// A genome spelled by letters.
+/// Reads a genome spelled by letters, a byte each. One line end at the end is allowed. The first
+/// byte that is no letter is told by its place, before anything is allocated; then the length.
 pub fn read_letters(alloc: Global, bytes: &[u8]) -> Result<Genome, GenomeStop>
     ensures ok { IfOk result (λ genome. spelled_by_letters bytes.now ≡ Ok (letters genome)) }
     ensures refused { IfErr result (λ s. s ≢ GenomeStop.Memory →
         spelled_by_letters bytes.now ≡ Err s) }
+    ensures bad_letter { IfErr (letters_of bytes.now) (λ at.
+        result ≡ Err (GenomeStop.BadLetter at)) }
 {
     let text = before_line_end(bytes);
     if let Some(at) = first_bad_byte(text) {
@@ -57,7 +60,7 @@ fn before_line_end(bytes: &[u8]) -> &[u8]
     }
 }
 
-/// Appends the letters' bytes.
+/// Appends the letters' bytes. When memory runs out, `out` stays as it was.
 pub fn letters_text(genome: &Genome, out: &mut Vec<u8>) -> Result<(), Memory>
     ensures ok { OnOk result (out.new.items ≡
         out.old.items ++ letters_text_of (letters genome.now)) }

@@ -1,7 +1,7 @@
 -- Changes of a text (docs/WORLD.md, "Records of birth").
 use Rattle.std.specs.Prelude.{ℕ, ◌+◌, Bool, ◌&&◌, nat_lt, nat_le, if◌then◌else◌, List, [], ◌∷◌, length, slice_set, insert, remove, Result, Ok, Err}
 use Rattle.instruction_set.specs.declared.letter.Letter.{Letter}
-use Rattle.genome.specs.declared.genome.TheConstants.{LEAST_LENGTH, GREATEST_LENGTH}
+use Rattle.genome.specs.Lengths.{shortest_genome, longest_genome}
 use Rattle.mutations.specs.declared.change.Change.{Change}
 use Rattle.mutations.specs.declared.change.Change.TheVariants.{Point, Insert, Delete}
 use Rattle.mutations.specs.declared.stop.ApplyStop.{ApplyStop}
@@ -21,7 +21,7 @@ with_change (Delete at) text = remove text at
 
 -- whether a genome has this length
 abbrev pub is_genome_length : ℕ → Bool
-is_genome_length len = nat_le LEAST_LENGTH len && nat_le len GREATEST_LENGTH
+is_genome_length len = nat_le shortest_genome len && nat_le len longest_genome
 
 -- the text after all changes in turn, numbered from nth, or the first change that is refused
 abbrev pub text_after : ℕ → List Change → List Letter → Result (List Letter) ApplyStop

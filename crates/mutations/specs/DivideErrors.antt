@@ -9,6 +9,10 @@ use Rattle.mutations.specs.declared.change.Change.TheVariants.{Point, Insert, De
 use Rattle.mutations.specs.CopyError.{letter_of_word, error_letter, after_error}
 use Rattle.mutations.specs.Rates.{RateNumbers, LengthRange}
 
+-- more words than any birth takes
+abbrev pub birth_words : ℕ
+birth_words = 65536
+
 -- changes, and the number of the word after those that were taken for them
 pub record Drawn : Type 0 where
   pub changes : List Change

@@ -15,6 +15,7 @@ pub enum Base {
 }
 
 impl Base {
+    /// An equal base, or `Memory` when memory runs out.
     pub fn copy(&self, alloc: Global) -> Result<Base, Memory>
         ensures { IfOk result (λ base. written_in base ≡ written_in self.now) }
     {

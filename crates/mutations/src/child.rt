@@ -10,7 +10,8 @@ use genome::{GREATEST_LENGTH, Genome, GenomeStop, LEAST_LENGTH};
 use instruction_set::Letter;
 use std::alloc::Global;
 
-/// The child: the changes in turn on the base.
+/// The child's genome: the changes are made in turn on the base. The first change that has no place,
+/// or that leaves a length which no genome has, rejects the record and is told by its number.
 pub fn apply(alloc: Global, parent: &Genome, origin: &Origin) -> Result<Genome, ApplyStop>
     ensures ok { IfOk result (λ child.
         child_of (letters parent.now) (record_of origin.now) ≡ Ok (letters child)) }
@@ -42,7 +43,7 @@ fn changed(alloc: Global, base: &[Letter], changes: &[Change]) -> Result<Genome,
     }
 }
 
-/// Makes one change. A refused change leaves the text.
+/// Makes one change. A rejected change leaves the text.
 fn change_text(text: &mut Vec<Letter>, change: Change, nth: u64) -> Result<(), ApplyStop>
     requires { IsGenome text.old.items }
     ensures ok { OnOk result ((rest : List Change) → text_after nth (change ∷ rest) text.old.items

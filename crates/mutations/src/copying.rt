@@ -1,15 +1,16 @@
 // Tests of a rate that may draw a letter.
 ghost use Rattle.std.specs.Prelude.{◌≡◌, ◌+◌, ◌-◌, ◌<◌, ◌≤◌, ◌↔◌, IsNone, IsFalse};
-ghost use Rattle.random_streams.specs.RandomStream.{word_of, next_word, after, hits};
+ghost use Rattle.random_streams.specs.RandomStream.{word_of, next_word, after, hits, word_count, million};
 ghost use Rattle.mutations.specs.CopyError.{letter_of_word, error_letter, after_error};
 
 use crate::Rates;
 use instruction_set::Letter;
-use random_streams::{Draws, MILLION, WORDS};
+use random_streams::Draws;
 
-/// The letter that h-copy writes in place of the one that it read, where its test hits.
+/// Tests for a copy error: the letter that h-copy writes in place of the one that it read, or None
+/// where there is no error. It takes one word, and one more where it hits.
 pub fn copy_error(rates: &Rates, draws: &mut Draws) -> Option<Letter>
-    requires { draws.old.taken < WORDS - 2 }
+    requires { draws.old.taken < word_count - 2 }
     ensures none { IsNone result ↔ IsFalse (hits (next_word draws.old) rates.now.copy) }
     ensures letter { result ≡ error_letter (word_of draws.old) rates.now.copy draws.old.taken }
     ensures taken { draws.new ≡ record draws.old {
@@ -20,8 +21,8 @@ pub fn copy_error(rates: &Rates, draws: &mut Draws) -> Option<Letter>
 }
 
 pub(crate) fn error_letter(rate: u32, draws: &mut Draws) -> Option<Letter>
-    requires rate { rate ≤ MILLION }
-    requires room { draws.old.taken + 2 ≤ WORDS }
+    requires rate { rate ≤ million }
+    requires room { draws.old.taken + 2 ≤ word_count }
     ensures letter { result ≡ error_letter (word_of draws.old) rate draws.old.taken }
     ensures taken { draws.new ≡ record draws.old {
       taken = after_error (word_of draws.old) rate draws.old.taken;
@@ -37,7 +38,7 @@ pub(crate) fn error_letter(rate: u32, draws: &mut Draws) -> Option<Letter>
 /// The letter that the next word draws.
 #[tactic(auto, unfolding(crate::specs::CopyError::letter_of_word))]
 pub(crate) fn drawn_letter(draws: &mut Draws) -> Letter
-    requires { draws.old.taken < WORDS }
+    requires { draws.old.taken < word_count }
     ensures letter { result ≡ letter_of_word (next_word draws.old) }
     ensures taken { draws.new ≡ after 1 draws.old }
 {

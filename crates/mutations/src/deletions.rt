@@ -1,15 +1,15 @@
 // The third part of a divide's errors: deletions.
 ghost use Rattle.std.specs.Prelude.{◌≡◌, ℕ, ◌+◌, ◌-◌, ◌*◌, ◌≤◌, ◌<◌, ◌∷◌, ◌++◌, List, length, IfOk, OnOk};
 ghost use Rattle.instruction_set.specs.declared.letter.Letter.{Letter};
-ghost use Rattle.random_streams.specs.RandomStream.{word_of};
+ghost use Rattle.random_streams.specs.RandomStream.{word_of, word_count, million};
+ghost use Rattle.genome.specs.Lengths.{shortest_genome, longest_genome};
 ghost use Rattle.mutations.specs.DivideErrors.{deletion_at, deletions_from, site_deletions, single_deletion, deletions};
 ghost use Rattle.mutations.specs.Rates.{numbers_of, range_of};
 ghost use Rattle.mutations.specs.Pass.{Makes, Passed};
 
 use crate::{Change, Limits, Rates};
-use genome::{GREATEST_LENGTH, LEAST_LENGTH};
 use instruction_set::Letter;
-use random_streams::{Draws, MILLION, WORDS};
+use random_streams::Draws;
 use std::alloc::{AllocError, Global};
 
 /// The text without its site deletions and the single one.
@@ -23,13 +23,14 @@ pub(crate) fn delete_errors(
 ) -> Result<Vec<Letter>, AllocError>
     requires longest { length text.items ≤ limits.now.greatest }
     requires shortest { limits.now.least ≤ length text.items }
-    requires room { draws.old.taken + length text.items + 2 ≤ WORDS }
+    requires room { draws.old.taken + length text.items + 2 ≤ word_count }
     ensures passed { IfOk result (λ shorter. Passed
         (deletions (word_of draws.old) (numbers_of rates.now) (range_of limits.now)
         (length text.items) draws.old.taken)
         text.items shorter.items changes.old.items changes.new.items draws.old draws.new) }
     ensures at_least { IfOk result (λ shorter. limits.now.least ≤ length shorter.items) }
     ensures at_most { IfOk result (λ shorter. length shorter.items ≤ limits.now.greatest) }
+    ensures stays { draws.new ≡ record draws.old { taken = draws.new.taken } }
     ensures least { OnOk result (draws.old.taken + 1 ≤ draws.new.taken) }
     ensures most { OnOk result (draws.new.taken ≤ draws.old.taken + length text.items + 2) }
 {
@@ -47,16 +48,17 @@ fn delete_once(
     draws: &mut Draws,
     changes: &mut Vec<Change>,
 ) -> Result<(), AllocError>
-    requires rate { rate ≤ MILLION }
-    requires least { LEAST_LENGTH ≤ least }
-    requires longest { length text.old.items ≤ GREATEST_LENGTH }
+    requires rate { rate ≤ million }
+    requires least { shortest_genome ≤ least }
+    requires longest { length text.old.items ≤ longest_genome }
     requires shortest { least ≤ length text.old.items }
-    requires room { draws.old.taken + 2 ≤ WORDS }
+    requires room { draws.old.taken + 2 ≤ word_count }
     ensures passed { OnOk result (Passed
         (single_deletion (word_of draws.old) rate least (length text.old.items) draws.old.taken)
         text.old.items text.new.items changes.old.items changes.new.items draws.old draws.new) }
     ensures at_least { OnOk result (least ≤ length text.new.items) }
     ensures at_most { OnOk result (length text.new.items ≤ length text.old.items) }
+    ensures stays { draws.new ≡ record draws.old { taken = draws.new.taken } }
     ensures least { OnOk result (draws.old.taken + 1 ≤ draws.new.taken) }
     ensures most { OnOk result (draws.new.taken ≤ draws.old.taken + 2) }
 {
@@ -78,11 +80,11 @@ fn delete_at_sites(
     draws: &mut Draws,
     changes: &mut Vec<Change>,
 ) -> Result<Vec<Letter>, AllocError>
-    requires rate { rate ≤ MILLION }
-    requires least { LEAST_LENGTH ≤ least }
-    requires longest { length text.items ≤ GREATEST_LENGTH }
+    requires rate { rate ≤ million }
+    requires least { shortest_genome ≤ least }
+    requires longest { length text.items ≤ longest_genome }
     requires shortest { least ≤ length text.items }
-    requires room { draws.old.taken + length text.items ≤ WORDS }
+    requires room { draws.old.taken + length text.items ≤ word_count }
     ensures passed { IfOk result (λ shorter. Passed
         (site_deletions (word_of draws.old) rate least (length text.items) draws.old.taken)
         text.items shorter.items changes.old.items changes.new.items draws.old draws.new) }
@@ -90,6 +92,7 @@ fn delete_at_sites(
         + length (site_deletions (word_of draws.old) rate least (length text.items)
         draws.old.taken).changes) }
     ensures at_least { IfOk result (λ shorter. least ≤ length shorter.items) }
+    ensures stays { draws.new ≡ record draws.old { taken = draws.new.taken } }
     ensures least { draws.old.taken ≤ draws.new.taken }
     ensures most { draws.new.taken ≤ draws.old.taken + length text.items }
 {
@@ -108,11 +111,11 @@ fn test_sites(
     draws: &mut Draws,
     changes: &mut Vec<Change>,
 ) -> Result<Vec<Letter>, AllocError>
-    requires rate { rate ≤ MILLION }
-    requires least { LEAST_LENGTH ≤ least }
-    requires longest { length text.now ≤ GREATEST_LENGTH }
+    requires rate { rate ≤ million }
+    requires least { shortest_genome ≤ least }
+    requires longest { length text.now ≤ longest_genome }
     requires shortest { least ≤ length text.now }
-    requires room { draws.old.taken + length text.now ≤ WORDS }
+    requires room { draws.old.taken + length text.now ≤ word_count }
     ensures passed { IfOk result (λ shorter. Passed
         (deletions_from (word_of draws.old) rate least 0 (length text.now) draws.old.taken)
         text.now shorter.items changes.old.items changes.new.items draws.old draws.new) }
@@ -120,6 +123,7 @@ fn test_sites(
         + length (deletions_from (word_of draws.old) rate least 0 (length text.now)
         draws.old.taken).changes) }
     ensures within { IfOk result (λ shorter. least ≤ length shorter.items) }
+    ensures stays { draws.new ≡ record draws.old { taken = draws.new.taken } }
     ensures least { draws.old.taken ≤ draws.new.taken }
     ensures most { draws.new.taken ≤ draws.old.taken + length text.now }
 {
@@ -148,12 +152,12 @@ fn test_site(
     draws: &mut Draws,
     changes: &mut Vec<Change>,
 ) -> Result<(), AllocError>
-    requires rate { rate ≤ MILLION }
+    requires rate { rate ≤ million }
     requires some { 0 < left }
-    requires least { LEAST_LENGTH ≤ least }
-    requires longest { length shorter.old.items + left ≤ GREATEST_LENGTH }
+    requires least { shortest_genome ≤ least }
+    requires longest { length shorter.old.items + left ≤ longest_genome }
     requires shortest { least ≤ length shorter.old.items + left }
-    requires room { draws.old.taken + 1 ≤ WORDS }
+    requires room { draws.old.taken + 1 ≤ word_count }
     ensures passed { OnOk result ((rest : List Letter) → length rest + 1 ≡ left → Passed
         (deletion_at (word_of draws.old) rate least (length shorter.old.items + left)
         (length shorter.old.items) draws.old.taken)

@@ -2,7 +2,8 @@
 ghost use Rattle.std.specs.Prelude.{◌≡◌, ◌+◌, ◌-◌, ◌*◌, ◌≤◌, ◌<◌, Ok, [], ◌↔◌, length, IsNone, IfOk, OnOk};
 ghost use Rattle.instruction_set.specs.Letter.{same_letters};
 ghost use Rattle.genome.specs.Genome.{letters};
-ghost use Rattle.random_streams.specs.RandomStream.{word_of};
+ghost use Rattle.random_streams.specs.RandomStream.{word_of, word_count};
+ghost use Rattle.mutations.specs.DivideErrors.{birth_words};
 ghost use Rattle.mutations.specs.Rates.{numbers_of, range_of};
 ghost use Rattle.mutations.specs.BirthRecord.{record_of, child_of, origin_of, after_birth, written_in, written_of, drawn_by_divide};
 ghost use Rattle.mutations.specs.Pass.{Passed};
@@ -12,16 +13,18 @@ use crate::insertions::insert_errors;
 use crate::site_points::{pointed_text, points};
 use crate::{Base, Born, Change, Changes, Limits, Origin, Rates};
 use avida_port::Memory;
-use genome::{GREATEST_LENGTH, Genome, LEAST_LENGTH};
+use genome::Genome;
 use instruction_set::Letter;
 use instruction_set::laws::one_index;
-use random_streams::{Draws, WORDS};
+use random_streams::Draws;
 use std::alloc::{AllocError, Global};
 
-/// More words than any birth takes.
+/// More words than any birth takes. So many must be left in the stream.
 pub const BIRTH_WORDS: u64 = 65_536;
 
-/// The record of a birth and the child that it makes. After `Memory` the words taken are not said.
+/// Draws the errors of a divide: the child and the record of its birth. `clean` and `written` are the
+/// child's part of the clean text and of memory. Where memory runs out, the draws have gone on in the
+/// same stream by a number of words that is not said.
 pub fn divide_errors(
     alloc: Global,
     clean: &Genome,
@@ -34,7 +37,7 @@ pub fn divide_errors(
     requires one_length { length (letters clean.now) ≡ length (letters written.now) }
     requires shortest { limits.now.least ≤ length (letters written.now) }
     requires longest { length (letters written.now) ≤ limits.now.greatest }
-    requires room { draws.old.taken < WORDS - BIRTH_WORDS }
+    requires room { draws.old.taken < word_count - birth_words }
     // The record is the one that the words give.
     ensures origin { IfOk result (λ born. record_of born.origin
         ≡ origin_of (word_of draws.old) draws.old.taken (numbers_of rates.now) (range_of limits.now)
@@ -50,6 +53,7 @@ pub fn divide_errors(
       taken = after_birth (word_of draws.old) draws.old.taken (numbers_of rates.now)
           (range_of limits.now) (letters clean.now) (letters written.now);
     }) }
+    ensures stays { draws.new ≡ record draws.old { taken = draws.new.taken } }
     ensures least { OnOk result (draws.old.taken + 2 ≤ draws.new.taken) }
     ensures most { OnOk result (draws.new.taken
         ≤ draws.old.taken + 6 * length (letters written.now) + 6) }
@@ -109,13 +113,14 @@ fn drawn_child(
     requires one_length { length clean.now ≡ length written.now }
     requires shortest { limits.now.least ≤ length written.now }
     requires longest { length written.now ≤ limits.now.greatest }
-    requires room { draws.old.taken < WORDS - BIRTH_WORDS }
+    requires room { draws.old.taken < word_count - birth_words }
     ensures passed { IfOk result (λ drawn. Passed
         (drawn_by_divide (word_of draws.old) draws.old.taken (numbers_of rates.now)
         (range_of limits.now) clean.now written.now)
         clean.now drawn.0.items [] drawn.1.items draws.old draws.new) }
     ensures shortest { IfOk result (λ drawn. limits.now.least ≤ length drawn.0.items) }
     ensures longest { IfOk result (λ drawn. length drawn.0.items ≤ limits.now.greatest) }
+    ensures stays { draws.new ≡ record draws.old { taken = draws.new.taken } }
     ensures least { OnOk result (draws.old.taken + 2 ≤ draws.new.taken) }
     ensures most { OnOk result (draws.new.taken ≤ draws.old.taken + 6 * length written.now + 6) }
 {

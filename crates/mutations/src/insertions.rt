@@ -1,16 +1,16 @@
 // The second part of a divide's errors: insertions.
 ghost use Rattle.std.specs.Prelude.{◌≡◌, ℕ, ◌+◌, ◌*◌, ◌≤◌, ◌<◌, ◌∷◌, ◌++◌, List, length, IfOk, OnOk};
 ghost use Rattle.instruction_set.specs.declared.letter.Letter.{Letter};
-ghost use Rattle.random_streams.specs.RandomStream.{word_of};
+ghost use Rattle.random_streams.specs.RandomStream.{word_of, word_count, million};
+ghost use Rattle.genome.specs.Lengths.{shortest_genome, longest_genome};
 ghost use Rattle.mutations.specs.DivideErrors.{insertion_at, insertions_from, site_insertions, single_insertion, insertions};
 ghost use Rattle.mutations.specs.Rates.{numbers_of, range_of};
 ghost use Rattle.mutations.specs.Pass.{Makes, Passed};
 
 use crate::copying::drawn_letter;
 use crate::{Change, Limits, Rates};
-use genome::{GREATEST_LENGTH, LEAST_LENGTH};
 use instruction_set::Letter;
-use random_streams::{Draws, MILLION, WORDS};
+use random_streams::Draws;
 use std::alloc::{AllocError, Global};
 
 /// The text with its site insertions and the single one.
@@ -24,7 +24,7 @@ pub(crate) fn insert_errors(
 ) -> Result<Vec<Letter>, AllocError>
     requires longest { length text.items ≤ limits.now.greatest }
     requires shortest { limits.now.least ≤ length text.items }
-    requires room { draws.old.taken + 2 * length text.items + 3 ≤ WORDS }
+    requires room { draws.old.taken + 2 * length text.items + 3 ≤ word_count }
     ensures passed { IfOk result (λ longer. Passed
         (insertions (word_of draws.old) (numbers_of rates.now) (range_of limits.now)
         (length text.items) draws.old.taken)
@@ -34,6 +34,7 @@ pub(crate) fn insert_errors(
         (length text.items) draws.old.taken).changes) }
     ensures within { IfOk result (λ longer. length longer.items ≤ limits.now.greatest) }
     ensures doubled { IfOk result (λ longer. length longer.items ≤ 2 * length text.items + 1) }
+    ensures stays { draws.new ≡ record draws.old { taken = draws.new.taken } }
     ensures least { OnOk result (draws.old.taken + 1 ≤ draws.new.taken) }
     ensures most { OnOk result (draws.new.taken ≤ draws.old.taken + 2 * length text.items + 3) }
 {
@@ -51,11 +52,11 @@ fn insert_once(
     draws: &mut Draws,
     changes: &mut Vec<Change>,
 ) -> Result<(), AllocError>
-    requires rate { rate ≤ MILLION }
-    requires greatest { greatest ≤ GREATEST_LENGTH }
+    requires rate { rate ≤ million }
+    requires greatest { greatest ≤ longest_genome }
     requires longest { length text.old.items ≤ greatest }
-    requires shortest { LEAST_LENGTH ≤ length text.old.items }
-    requires room { draws.old.taken + 3 ≤ WORDS }
+    requires shortest { shortest_genome ≤ length text.old.items }
+    requires room { draws.old.taken + 3 ≤ word_count }
     ensures passed { OnOk result (Passed
         (single_insertion (word_of draws.old) rate greatest (length text.old.items) draws.old.taken)
         text.old.items text.new.items changes.old.items changes.new.items draws.old draws.new) }
@@ -64,6 +65,7 @@ fn insert_once(
         draws.old.taken).changes) }
     ensures within { OnOk result (length text.new.items ≤ greatest) }
     ensures one_more { OnOk result (length text.new.items ≤ length text.old.items + 1) }
+    ensures stays { draws.new ≡ record draws.old { taken = draws.new.taken } }
     ensures least { OnOk result (draws.old.taken + 1 ≤ draws.new.taken) }
     ensures most { OnOk result (draws.new.taken ≤ draws.old.taken + 3) }
 {
@@ -86,11 +88,11 @@ fn insert_at_sites(
     draws: &mut Draws,
     changes: &mut Vec<Change>,
 ) -> Result<Vec<Letter>, AllocError>
-    requires rate { rate ≤ MILLION }
-    requires greatest { greatest ≤ GREATEST_LENGTH }
+    requires rate { rate ≤ million }
+    requires greatest { greatest ≤ longest_genome }
     requires longest { length text.items ≤ greatest }
-    requires shortest { LEAST_LENGTH ≤ length text.items }
-    requires room { draws.old.taken + 2 * length text.items ≤ WORDS }
+    requires shortest { shortest_genome ≤ length text.items }
+    requires room { draws.old.taken + 2 * length text.items ≤ word_count }
     ensures passed { IfOk result (λ longer. Passed
         (site_insertions (word_of draws.old) rate greatest (length text.items) draws.old.taken)
         text.items longer.items changes.old.items changes.new.items draws.old draws.new) }
@@ -99,6 +101,7 @@ fn insert_at_sites(
         draws.old.taken).changes) }
     ensures within { IfOk result (λ longer. length longer.items ≤ greatest) }
     ensures doubled { IfOk result (λ longer. length longer.items ≤ 2 * length text.items) }
+    ensures stays { draws.new ≡ record draws.old { taken = draws.new.taken } }
     ensures least { draws.old.taken ≤ draws.new.taken }
     ensures most { draws.new.taken ≤ draws.old.taken + 2 * length text.items }
 {
@@ -117,11 +120,11 @@ fn test_sites(
     draws: &mut Draws,
     changes: &mut Vec<Change>,
 ) -> Result<Vec<Letter>, AllocError>
-    requires rate { rate ≤ MILLION }
-    requires greatest { greatest ≤ GREATEST_LENGTH }
+    requires rate { rate ≤ million }
+    requires greatest { greatest ≤ longest_genome }
     requires longest { length text.now ≤ greatest }
-    requires shortest { LEAST_LENGTH ≤ length text.now }
-    requires room { draws.old.taken + 2 * length text.now ≤ WORDS }
+    requires shortest { shortest_genome ≤ length text.now }
+    requires room { draws.old.taken + 2 * length text.now ≤ word_count }
     ensures passed { IfOk result (λ longer. Passed
         (insertions_from (word_of draws.old) rate greatest 0 (length text.now) draws.old.taken)
         text.now longer.items changes.old.items changes.new.items draws.old draws.new) }
@@ -130,6 +133,7 @@ fn test_sites(
         draws.old.taken).changes) }
     ensures within { IfOk result (λ longer. length longer.items ≤ greatest) }
     ensures doubled { IfOk result (λ longer. length longer.items ≤ 2 * length text.now) }
+    ensures stays { draws.new ≡ record draws.old { taken = draws.new.taken } }
     ensures least { draws.old.taken ≤ draws.new.taken }
     ensures most { draws.new.taken ≤ draws.old.taken + 2 * length text.now }
 {
@@ -158,11 +162,11 @@ fn test_site(
     draws: &mut Draws,
     changes: &mut Vec<Change>,
 ) -> Result<(), AllocError>
-    requires rate { rate ≤ MILLION }
-    requires greatest { greatest ≤ GREATEST_LENGTH }
+    requires rate { rate ≤ million }
+    requires greatest { greatest ≤ longest_genome }
     requires longest { length longer.old.items + left ≤ greatest }
-    requires shortest { LEAST_LENGTH ≤ length longer.old.items + left }
-    requires room { draws.old.taken + 2 ≤ WORDS }
+    requires shortest { shortest_genome ≤ length longer.old.items + left }
+    requires room { draws.old.taken + 2 ≤ word_count }
     ensures passed { OnOk result ((rest : List Letter) → length rest + 1 ≡ left → Passed
         (insertion_at (word_of draws.old) rate greatest (length longer.old.items + left)
         (length longer.old.items) draws.old.taken)

@@ -1,18 +1,25 @@
 ghost use Rattle.std.specs.Prelude.{◌≡◌, ℕ, ◌<◌, ◌≤◌, ◌^◌, List, length, IsOkAnd};
 ghost use Rattle.instruction_set.specs.declared.letter.Letter.{Letter};
+ghost use Rattle.genome.specs.Lengths.{shortest_genome, longest_genome};
+ghost use Rattle.mutations.specs.DivideErrors.{birth_words};
 ghost use Rattle.mutations.specs.Rates.{RateNumbers, LengthRange};
 ghost use Rattle.mutations.specs.BirthRecord.{child_of, origin_of};
 ghost use Rattle.mutations.specs.RecordForm.{HasRecordForm};
 
-use genome::{GREATEST_LENGTH, LEAST_LENGTH};
+use crate::BIRTH_WORDS;
+
+/// The limit of the code is the written one.
+pub fn limits()
+    ensures birth { BIRTH_WORDS ≡ birth_words }
+{}
 
 /// The record that words give applies, and the child's length is within the limits.
 pub fn drawn_records_apply()
     ensures { (words : ℕ → ℕ) (k : ℕ) (rates : RateNumbers) (limits : LengthRange)
         (clean written parent : List Letter)
         → ((n : ℕ) → words n < 2 ^ 32)
-        → LEAST_LENGTH ≤ limits.least
-        → limits.greatest ≤ GREATEST_LENGTH
+        → shortest_genome ≤ limits.least
+        → limits.greatest ≤ longest_genome
         → length clean ≡ length written
         → limits.least ≤ length written
         → length written ≤ limits.greatest
@@ -27,8 +34,8 @@ pub fn drawn_records_have_form()
     ensures { (words : ℕ → ℕ) (k : ℕ) (rates : RateNumbers) (limits : LengthRange)
         (clean written parent : List Letter)
         → ((n : ℕ) → words n < 2 ^ 32)
-        → LEAST_LENGTH ≤ limits.least
-        → limits.greatest ≤ GREATEST_LENGTH
+        → shortest_genome ≤ limits.least
+        → limits.greatest ≤ longest_genome
         → length clean ≡ length written
         → limits.least ≤ length written
         → length written ≤ limits.greatest

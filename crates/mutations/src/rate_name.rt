@@ -27,7 +27,7 @@ impl RateName {
         }
     }
 
-    /// The rate of this name.
+    /// The rate of this name. None for every other text.
     #[tactic(auto, unfolding(crate::specs::RateNames::rate_named))]
     pub fn from_name(name: &[u8]) -> Option<RateName>
         ensures rate { result ≡ rate_named name.now }

@@ -1,7 +1,7 @@
 // The first part of a divide's errors: letters put in at places, and the points that tell them.
 ghost use Rattle.std.specs.Prelude.{◌≡◌, ◌+◌, ◌*◌, ◌≤◌, length, IfOk, OnOk};
 ghost use Rattle.genome.specs.Genome.{IsGenome};
-ghost use Rattle.random_streams.specs.RandomStream.{word_of};
+ghost use Rattle.random_streams.specs.RandomStream.{word_of, word_count, million};
 ghost use Rattle.mutations.specs.DivideErrors.{site_text, after_sites, pointed_text, after_points, points_from};
 ghost use Rattle.mutations.specs.Pass.{Makes};
 
@@ -9,7 +9,7 @@ use crate::Change;
 use crate::copying::error_letter;
 use instruction_set::Letter;
 use instruction_set::laws::one_index;
-use random_streams::{Draws, MILLION, WORDS};
+use random_streams::Draws;
 use std::alloc::{AllocError, Global};
 
 /// The text with its site points.
@@ -19,14 +19,15 @@ pub(crate) fn pointed_text(
     rate: u32,
     draws: &mut Draws,
 ) -> Result<Vec<Letter>, AllocError>
-    requires rate { rate ≤ MILLION }
-    requires room { draws.old.taken + 2 * length written.now ≤ WORDS }
+    requires rate { rate ≤ million }
+    requires room { draws.old.taken + 2 * length written.now ≤ word_count }
     ensures text { IfOk result (λ text. text.items
         ≡ pointed_text (word_of draws.old) rate draws.old.taken written.now) }
     ensures same_length { IfOk result (λ text. length text.items ≡ length written.now) }
     ensures taken { OnOk result (draws.new ≡ record draws.old {
       taken = after_points (word_of draws.old) rate draws.old.taken (length written.now);
     }) }
+    ensures stays { draws.new ≡ record draws.old { taken = draws.new.taken } }
     ensures least { draws.old.taken ≤ draws.new.taken }
     ensures most { draws.new.taken ≤ draws.old.taken + 2 * length written.now }
 {
@@ -37,8 +38,8 @@ pub(crate) fn pointed_text(
 
 /// Tests each place where the rate is above 0.
 fn point_sites(text: &mut [Letter], rate: u32, draws: &mut Draws)
-    requires rate { rate ≤ MILLION }
-    requires room { draws.old.taken + 2 * length text.old ≤ WORDS }
+    requires rate { rate ≤ million }
+    requires room { draws.old.taken + 2 * length text.old ≤ word_count }
     ensures text { text.new ≡ pointed_text (word_of draws.old) rate draws.old.taken text.old }
     ensures taken { draws.new ≡ record draws.old {
       taken = after_points (word_of draws.old) rate draws.old.taken (length text.old);
@@ -52,8 +53,8 @@ fn point_sites(text: &mut [Letter], rate: u32, draws: &mut Draws)
 }
 
 fn test_sites(text: &mut [Letter], rate: u32, draws: &mut Draws)
-    requires rate { rate ≤ MILLION }
-    requires room { draws.old.taken + 2 * length text.old ≤ WORDS }
+    requires rate { rate ≤ million }
+    requires room { draws.old.taken + 2 * length text.old ≤ word_count }
     ensures text { text.new ≡ site_text (word_of draws.old) rate draws.old.taken text.old }
     ensures taken { draws.new ≡ record draws.old {
       taken = after_sites (word_of draws.old) rate draws.old.taken (length text.old);

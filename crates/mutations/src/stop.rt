@@ -1,7 +1,7 @@
-/// Why a record does not apply.
+/// Why a record can't be applied to a parent's genome.
 #[derive(Clone, Copy, Debug, PartialEq, Eq)]
 pub enum ApplyStop {
-    /// Memory was wanting.
+    /// An allocation failed.
     Memory,
     /// The change of this number, from 1, has no place in the text.
     Place { nth: u64 },

@@ -43,7 +43,8 @@ fn is_plain(text: &[u8]) -> bool
     }
 }
 
-/// The number from `least` to `greatest` that the text spells.
+/// The number that the text spells in decimal digits, with no sign and no leading zero. None for
+/// every other text, and for a number outside `least` to `greatest`.
 pub fn number(least: u64, greatest: u64, text: &[u8]) -> Option<u64>
     ensures number { result ≡ number_of least greatest text.now }
     ensures bound { IfSome result (λ n. n ≤ greatest) }
@@ -63,7 +64,7 @@ pub fn number(least: u64, greatest: u64, text: &[u8]) -> Option<u64>
     }
 }
 
-/// A number below 2 ^ 32, from `least` to `greatest`, that the text spells.
+/// As `number`, for numbers below 2^32.
 pub fn small_number(least: u32, greatest: u32, text: &[u8]) -> Option<u32>
     ensures number { result ≡ number_of least greatest text.now }
 {

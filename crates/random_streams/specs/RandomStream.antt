@@ -2,9 +2,24 @@
 use Rattle.std.specs.Prelude.{ℕ, ◌+◌, ◌*◌, ◌/◌, ◌^◌, Bool, List, ◌++◌, nat_lt, replicate}
 use Rattle.std.specs.Int.{w64, to_le_bytes}
 use Rattle.rand_chacha.specs.ChaCha.{ChaCha, word_at, key_of}
-use Rattle.random_streams.specs.declared.draws.TheConstants.{MILLION}
 use Rattle.random_streams.specs.declared.purpose.Purpose.{Purpose}
 use Rattle.random_streams.specs.declared.purpose.Purpose.TheVariants.{Run, Place}
+
+-- the greatest width and the greatest height of a world
+abbrev pub greatest_side : ℕ
+greatest_side = 256
+
+-- cells are numbered below this
+abbrev pub cell_count : ℕ
+cell_count = 65536
+
+-- the words of a stream are numbered below this
+abbrev pub word_count : ℕ
+word_count = 2 ^ 48
+
+-- the greatest rate, in parts per million
+abbrev pub million : ℕ
+million = 1000000
 
 -- the number of a purpose
 abbrev pub purpose_number : Purpose → ℕ
@@ -30,7 +45,7 @@ scaled word n = word * n / 2 ^ 32
 
 -- whether a word hits at a rate in parts per million
 abbrev pub hits : ℕ → ℕ → Bool
-hits word rate = nat_lt (scaled word MILLION) rate
+hits word rate = nat_lt (scaled word 1000000) rate
 
 -- a stream, and how many of its words were taken
 pub record Stream : Type 0 where

@@ -1,5 +1,5 @@
 ghost use Rattle.std.specs.Prelude.{◌≡◌, ℕ, ◌+◌, ◌*◌, ◌<◌, ◌≤◌};
-ghost use Rattle.random_streams.specs.RandomStream.{key_bytes, first_of, next_word, after, scaled, hits};
+ghost use Rattle.random_streams.specs.RandomStream.{key_bytes, first_of, next_word, after, scaled, hits, cell_count, word_count, million};
 
 use crate::Purpose;
 use rand_chacha::ChaCha8Rng;
@@ -10,13 +10,13 @@ use std::marker::Model;
 /// The greatest width and the greatest height of a world.
 pub const GREATEST_SIDE: u32 = 256;
 
-/// Cells are numbered below this.
+/// How many cells the greatest world has. Cells are numbered from 0.
 pub const CELLS: u32 = GREATEST_SIDE * GREATEST_SIDE;
 
-/// A stream gives the words whose numbers are below this.
+/// How many words a stream gives. They are numbered from 0.
 pub const WORDS: u64 = 1 << 48;
 
-/// The greatest rate, which counts in parts per million.
+/// The greatest rate. Rates count in parts per million.
 pub const MILLION: u32 = 1_000_000;
 
 /// A numbered stream of words, read from its word 0 on.
@@ -48,10 +48,11 @@ impl Model for Draws {
 }
 
 impl Draws {
-    /// The stream before its word 0. No word is computed yet.
+    /// The stream before its word 0. No word is computed yet. Each seed, update, cell and purpose has
+    /// a stream of its own.
     #[tactic(auto, unfolding(crate::specs::RandomStream::generator_at))]
     pub fn start(seed: u64, update: u32, cell: u32, purpose: Purpose) -> Draws
-        requires { cell < CELLS }
+        requires { cell < cell_count }
         ensures { result ≡ first_of seed update cell purpose }
     {
         let mut generator = ChaCha8Rng::from_seed(key(seed));
@@ -78,7 +79,7 @@ impl Draws {
     #[inline]
     #[tactic(auto, unfolding(crate::specs::RandomStream::draw, crate::specs::RandomStream::generator_at))]
     pub fn word(&mut self) -> u32
-        requires { self.old.taken < WORDS }
+        requires { self.old.taken < word_count }
         ensures word { result ≡ next_word self.old }
         ensures takes_one { self.new ≡ after 1 self.old }
     {
@@ -91,7 +92,7 @@ impl Draws {
     #[inline]
     pub fn below(&mut self, n: u32) -> u32
         requires some { 1 ≤ n }
-        requires room { self.old.taken < WORDS }
+        requires room { self.old.taken < word_count }
         ensures value { result ≡ scaled (next_word self.old) n }
         ensures in_range { result < n }
         ensures takes_one { self.new ≡ after 1 self.old }
@@ -103,8 +104,8 @@ impl Draws {
     /// Whether the next word hits at this rate in parts per million.
     #[inline]
     pub fn hits(&mut self, ppm: u32) -> bool
-        requires rate { ppm ≤ MILLION }
-        requires room { self.old.taken < WORDS }
+        requires rate { ppm ≤ million }
+        requires room { self.old.taken < word_count }
         ensures hit { result ≡ hits (next_word self.old) ppm }
         ensures takes_one { self.new ≡ after 1 self.old }
     {

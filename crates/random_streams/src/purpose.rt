@@ -4,7 +4,9 @@ ghost use Rattle.random_streams.specs.RandomStream.{purpose_number};
 /// What the words of a stream are for.
 #[derive(Clone, Copy, Debug, PartialEq, Eq)]
 pub enum Purpose {
+    /// The life of an update: errors of copying and of a divide.
     Run,
+    /// Where a child is placed, and its inputs.
     Place,
 }
 
