@@ -1,19 +1,19 @@
 -- The placing of newborns, one after another (docs/WORLD.md, "Placing births").
-use Rattle.std.specs.Prelude.{ℕ, ◌+◌, ◌*◌, Bool, ◌==◌, ◌&&◌, nat_lt, if◌then◌else◌, List, [], ◌∷◌, ◌++◌, length, Option, None, Some, is_none, filter, count_by, fold, slice_index_or, slice_set}
+use Rattle.std.specs.Prelude.{◌≡◌, ℕ, ◌+◌, ◌*◌, ◌<◌, ◌^◌, All, Bool, ◌==◌, ◌&&◌, nat_lt, if◌then◌else◌, List, [], ◌∷◌, ◌++◌, length, Option, None, Some, is_none, filter, count_by, fold, slice_index_or, slice_set}
+use Rattle.std.specs.List.Sorted.{IsNonDecreasing}
 use Rattle.logic_tasks.specs.Inputs.{inputs_of}
 use Rattle.random_streams.specs.declared.purpose.Purpose.TheVariants.{Place}
 use Rattle.random_streams.specs.RandomStream.{Stream, draw, scaled}
-use Rattle.birth_board.specs.declared.torus.Torus.{Torus}
 use Rattle.birth_board.specs.declared.season.Season.{Season}
 use Rattle.birth_board.specs.declared.placing.Placing.{Placing}
-use Rattle.birth_board.specs.Torus.{neighbours_of}
+use Rattle.birth_board.specs.Torus.{TorusNumbers, cells_of, neighbours_of}
 
 -- nothing stands in the cell
 abbrev pub is_free : List (Option ℕ) → ℕ → Bool
 is_free occupants cell = is_none (slice_index_or occupants cell None)
 
 -- the cells among which the word chooses: the empty neighbours where these are preferred and there are any, else all eight
-abbrev pub choices_of : Torus → Bool → List (Option ℕ) → ℕ → List ℕ
+abbrev pub choices_of : TorusNumbers → Bool → List (Option ℕ) → ℕ → List ℕ
 choices_of torus prefer_empty occupants parent =
     let free = filter (is_free occupants) (neighbours_of torus parent) in
     if prefer_empty && nat_lt 0 (length free) then free else neighbours_of torus parent
@@ -23,7 +23,7 @@ abbrev pub chosen_from : List ℕ → ℕ → ℕ
 chosen_from cells word = slice_index_or cells (scaled word (length cells)) 0
 
 -- the cell that a word chooses for a newborn
-unfoldable pub chosen_cell : Torus → Bool → List (Option ℕ) → ℕ → ℕ → ℕ
+unfoldable pub chosen_cell : TorusNumbers → Bool → List (Option ℕ) → ℕ → ℕ → ℕ
 chosen_cell torus prefer_empty occupants parent word =
     chosen_from (choices_of torus prefer_empty occupants parent) word
 
@@ -48,7 +48,7 @@ words_of season cell nth =
     ∷ []
 
 -- the first word chooses the cell, the others make the inputs
-unfoldable pub placing_of : Torus → Bool → List (Option ℕ) → ℕ → ℕ → List ℕ → Placing
+unfoldable pub placing_of : TorusNumbers → Bool → List (Option ℕ) → ℕ → ℕ → List ℕ → Placing
 placing_of torus prefer_empty occupants id parent words =
     let cell = chosen_cell torus prefer_empty occupants parent (slice_index_or words 0 0) in
     record {
@@ -66,14 +66,14 @@ pub record Board : Type 0 where
   pub parents : List ℕ
 
 -- the placing of the next newborn, of a parent in this cell
-abbrev pub next_placing : Torus → Season → Board → ℕ → Placing
+abbrev pub next_placing : TorusNumbers → Season → Board → ℕ → Placing
 next_placing torus season board parent =
     let nth = count_by (λ cell. cell == parent) board.parents in
     placing_of torus season.prefer_empty board.occupants (season.next_id + length board.parents)
     parent (words_of season parent nth)
 
 -- the board once that newborn is placed
-unfoldable pub next_board : Torus → Season → Board → ℕ → Board
+unfoldable pub next_board : TorusNumbers → Season → Board → ℕ → Board
 next_board torus season board parent =
     let placing = next_placing torus season board parent in
     record {
@@ -83,7 +83,29 @@ next_board torus season board parent =
     }
 
 -- the board once the newborns of these parents are placed, one after another
-unfoldable pub placements_of : Torus → List ℕ → List (Option ℕ) → Season → Board
+unfoldable pub placements_of : TorusNumbers → List ℕ → List (Option ℕ) → Season → Board
 placements_of torus parents occupants season =
     fold (next_board torus season) (record { occupants = occupants; placings = []; parents = [] })
     parents
+
+-- what a placing needs: a slot for each cell, parents that stand in the torus, in the order of their cells, and ids that fit 63 bits
+pub record CanPlace (torus : TorusNumbers) (parents : List ℕ) (occupants : List (Option ℕ))
+    (season : Season) : Type 0 where
+  pub cells : length occupants ≡ cells_of torus
+  pub in_torus : All (λ cell. cell < cells_of torus) parents
+  pub rising : IsNonDecreasing parents
+  pub few : length parents < 2 ^ 32
+  pub ids : season.next_id + length parents < 2 ^ 63
+
+-- what a placing leaves: the definition's placings, one a parent, each in the torus
+pub record ArePlaced (torus : TorusNumbers) (parents : List ℕ) (standing : List (Option ℕ))
+    (season : Season) (placed : List Placing) : Type 0 where
+  pub placings : placed ≡ (placements_of torus parents standing season).placings
+  pub count : length placed ≡ length parents
+  pub in_torus : All (λ placing. placing.cell < cells_of torus) placed
+
+-- and the definition's occupants, a slot for each cell
+pub record AreSettled (torus : TorusNumbers) (parents : List ℕ) (standing : List (Option ℕ))
+    (season : Season) (settled : List (Option ℕ)) : Type 0 where
+  pub occupants : settled ≡ (placements_of torus parents standing season).occupants
+  pub cells : length settled ≡ cells_of torus

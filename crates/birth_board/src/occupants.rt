@@ -1,5 +1,5 @@
 ghost use Rattle.std.specs.Prelude.{◌≡◌, ◌<◌, IfOk, None, length, replicate, slice_index_or, slice_set};
-ghost use Rattle.birth_board.specs.Torus.{cells_of};
+ghost use Rattle.birth_board.specs.Torus.{torus_numbers, cells_of};
 
 use crate::Torus;
 use avida_port::Memory;
@@ -22,7 +22,7 @@ impl Model for Occupants {
 
 impl Occupants {
     pub fn empty(alloc: Global, torus: &Torus) -> Result<Occupants, Memory>
-        ensures { IfOk result (λ occupants. occupants ≡ replicate (cells_of torus.now) None) }
+        ensures { IfOk result (λ occupants. occupants ≡ replicate (cells_of (torus_numbers torus.now)) None) }
     {
         let cells = torus.width as usize * torus.height as usize;
         Ok(Occupants {

@@ -1,62 +1,16 @@
-ghost use Rattle.std.specs.Prelude.{◌≡◌, ◌<◌, ◌≤◌, ◌++◌, All, IfOk, OnOk, length, replicate, slice_get};
+ghost use Rattle.std.specs.Prelude.{◌≡◌, ◌<◌, ◌≤◌, ◌++◌, All, IfOk, OnOk, length, replicate};
 ghost use Rattle.std.specs.List.Sorted.{IsNonDecreasing};
-ghost use Rattle.std.specs.Option.{option_copied};
 ghost use Rattle.birth_board.specs.Parents.{parents_of};
 
-use avida_port::Memory;
-use random_streams::CELLS;
+use avida_port::{Items, Memory};
 use std::alloc::Global;
-use std::marker::Model;
 
 /// The cells of parents, one for each newborn.
-#[derive(Debug, Drop)]
-pub struct Parents {
-    cells: Vec<u32>,
-}
-
-impl Model for Parents {
-    ghost use Rattle.std.specs.Prelude.{List, ℕ};
-
-    ghost Value = { List ℕ };
-
-    ghost view = { λ a. a.cells.items };
-}
-
-impl Parents {
-    pub fn from_vec(cells: Vec<u32>) -> Parents
-        ensures { result ≡ cells.items }
-    {
-        Parents { cells }
-    }
-
-    pub fn into_vec(self) -> Vec<u32>
-        ensures { result.items ≡ self }
-    {
-        self.cells
-    }
-
-    pub fn len(&self) -> usize
-        ensures { result ≡ length self.now }
-    {
-        self.cells.len()
-    }
-
-    pub fn get(&self, at: usize) -> Option<&u32>
-        ensures { option_copied result ≡ slice_get self.now at }
-    {
-        self.cells.get(at)
-    }
-
-    pub(crate) fn cells(&self) -> &[u32]
-        ensures { result.now ≡ self.now }
-    {
-        self.cells.as_slice()
-    }
-}
+pub type Parents = Items<u32>;
 
 /// Each cell stands as often as it is counted, in the order of the cells.
 pub fn gather(alloc: Global, counts: &[u32]) -> Result<Parents, Memory>
-    requires { length counts.now ≤ CELLS }
+    requires { length counts.now ≤ 65536 }
     ensures parents { IfOk result (λ parents. parents ≡ parents_of counts.now) }
     ensures rising { IfOk result (λ parents. IsNonDecreasing parents) }
     ensures counted { IfOk result (λ parents. All (λ cell. cell < length counts.now) parents) }
@@ -65,7 +19,7 @@ pub fn gather(alloc: Global, counts: &[u32]) -> Result<Parents, Memory>
     for (cell, count) in counts.iter().enumerate() {
         append(&mut cells, cell as u32, *count)?;
     }
-    Ok(Parents { cells })
+    Ok(Parents::from_vec(cells))
 }
 
 /// Appends a cell so many times.

@@ -1,6 +1,5 @@
 // The torus of cells.
 ghost use Rattle.std.specs.Prelude.{◌≤◌};
-ghost use Rattle.random_streams.specs.declared.draws.TheConstants.{GREATEST_SIDE};
 
 /// Cells in rows; each side meets the side opposite.
 #[derive(Clone, Copy, Debug, PartialEq, Eq)]
@@ -9,6 +8,6 @@ pub struct Torus {
     pub height: u32,
     ghost has_columns: { 1 ≤ width },
     ghost has_rows: { 1 ≤ height },
-    ghost few_columns: { width ≤ GREATEST_SIDE },
-    ghost few_rows: { height ≤ GREATEST_SIDE },
+    ghost few_columns: { width ≤ 256 },
+    ghost few_rows: { height ≤ 256 },
 }

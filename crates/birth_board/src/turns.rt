@@ -1,15 +1,14 @@
 // The placing of newborns, one after another.
 ghost use Rattle.std.specs.Prelude.{◌≡◌, ◌+◌, ◌*◌, ◌<◌, ◌≤◌, ◌^◌, ◌∷◌, [], ◌==◌, if◌then◌else◌, All, IfOk, OnOk, OnErr, Some, None, filter, is_none, length, slice_index_or, slice_set, vec_capacity};
-ghost use Rattle.std.specs.List.Sorted.{IsNonDecreasing};
 ghost use Rattle.random_streams.specs.RandomStream.{word_of, after};
-ghost use Rattle.birth_board.specs.Torus.{cells_of, neighbours_of};
-ghost use Rattle.birth_board.specs.Placement.{is_free, chosen_from, chosen_cell, placing_of, place_stream, placements_of};
+ghost use Rattle.birth_board.specs.Torus.{torus_numbers, cells_of};
+ghost use Rattle.birth_board.specs.Placement.{is_free, chosen_from, chosen_cell, placing_of, place_stream, CanPlace, ArePlaced, AreSettled};
 
 use crate::{Occupants, Parents, Placing, Placings, Season, Torus, neighbours};
 use arrayvec::ArrayVec;
 use avida_port::Memory;
 use logic_tasks::Inputs;
-use random_streams::{CELLS, Draws, Purpose, scaled};
+use random_streams::{Draws, Purpose, scaled};
 use std::alloc::Global;
 
 /// The stream of the cell whose newborns are placed.
@@ -27,23 +26,15 @@ pub fn place(
     occupants: &mut Occupants,
     season: &Season,
 ) -> Result<Placings, Memory>
-    requires cells { length occupants.old ≡ cells_of torus.now }
-    requires in_torus { All (λ cell. cell < cells_of torus.now) parents.now }
-    requires rising { IsNonDecreasing parents.now }
-    requires few { length parents.now < 2 ^ 32 }
-    requires ids { season.now.next_id + length parents.now < 2 ^ 63 }
-    ensures placings { IfOk result (λ placings.
-        placings ≡ (placements_of torus.now parents.now occupants.old season.now).placings) }
-    ensures occupants { OnOk result (occupants.new
-        ≡ (placements_of torus.now parents.now occupants.old season.now).occupants) }
+    requires { CanPlace (torus_numbers torus.now) parents.now occupants.old season.now }
+    ensures placings { IfOk result
+        (ArePlaced (torus_numbers torus.now) parents.now occupants.old season.now) }
+    ensures occupants { OnOk result (AreSettled (torus_numbers torus.now) parents.now
+        occupants.old season.now occupants.new) }
     ensures err { OnErr result (occupants.new ≡ occupants.old) }
-    ensures count { IfOk result (λ placings. length placings ≡ length parents.now) }
-    ensures in_torus { IfOk result
-        (λ placings. All (λ placing. placing.cell < cells_of torus.now) placings) }
-    ensures cells { length occupants.new ≡ cells_of torus.now }
 {
     let mut placings = Vec::with_capacity(alloc, parents.len())?;
-    place_all(torus, parents.cells(), occupants, season, &mut placings);
+    place_all(torus, parents.as_slice(), occupants, season, &mut placings);
     Ok(Placings::from_vec(placings))
 }
 
@@ -55,20 +46,13 @@ fn place_all(
     season: &Season,
     placings: &mut Vec<Placing>,
 )
-    requires cells { length occupants.old ≡ cells_of torus.now }
-    requires in_torus { All (λ cell. cell < cells_of torus.now) parents.now }
-    requires rising { IsNonDecreasing parents.now }
-    requires few { length parents.now < 2 ^ 32 }
-    requires ids { season.now.next_id + length parents.now < 2 ^ 63 }
+    requires can { CanPlace (torus_numbers torus.now) parents.now occupants.old season.now }
     requires none { placings.old.items ≡ [] }
     requires room { length parents.now ≤ vec_capacity placings.old }
-    ensures placings { placings.new.items
-        ≡ (placements_of torus.now parents.now occupants.old season.now).placings }
-    ensures occupants { occupants.new
-        ≡ (placements_of torus.now parents.now occupants.old season.now).occupants }
-    ensures count { length placings.new.items ≡ length parents.now }
-    ensures in_torus { All (λ placing. placing.cell < cells_of torus.now) placings.new.items }
-    ensures cells { length occupants.new ≡ cells_of torus.now }
+    ensures placings { ArePlaced (torus_numbers torus.now) parents.now occupants.old season.now
+        placings.new.items }
+    ensures occupants { AreSettled (torus_numbers torus.now) parents.now occupants.old season.now
+        occupants.new }
 {
     let mut id = season.next_id;
     let mut turn = Turn {
@@ -92,7 +76,7 @@ fn place_all(
 
 /// The stream of this cell: a cell that comes again goes on in its own.
 fn turn_to(turn: Turn, cell: u32, season: &Season) -> Turn
-    requires cell { cell < CELLS }
+    requires cell { cell < 65536 }
     requires stream { turn.draws ≡ place_stream season.now turn.cell turn.draws.taken }
     ensures cell { result.cell ≡ cell }
     ensures draws { result.draws
@@ -117,15 +101,15 @@ fn place_one(
     id: u64,
     draws: &mut Draws,
 ) -> Placing
-    requires cells { length occupants.old ≡ cells_of torus.now }
-    requires parent { parent < cells_of torus.now }
+    requires cells { length occupants.old ≡ cells_of (torus_numbers torus.now) }
+    requires parent { parent < cells_of (torus_numbers torus.now) }
     requires room { draws.old.taken + 4 < 2 ^ 48 }
-    ensures placing { result ≡ placing_of torus.now prefer_empty occupants.old id parent
+    ensures placing { result ≡ placing_of (torus_numbers torus.now) prefer_empty occupants.old id parent
         (word_of draws.old draws.old.taken ∷ word_of draws.old (draws.old.taken + 1)
         ∷ word_of draws.old (draws.old.taken + 2) ∷ word_of draws.old (draws.old.taken + 3) ∷ []) }
-    ensures in_torus { result.cell < cells_of torus.now }
+    ensures in_torus { result.cell < cells_of (torus_numbers torus.now) }
     ensures occupants { occupants.new ≡ slice_set occupants.old result.cell (Some result.id) }
-    ensures cells { length occupants.new ≡ cells_of torus.now }
+    ensures cells { length occupants.new ≡ cells_of (torus_numbers torus.now) }
     ensures draws { draws.new ≡ after 4 draws.old }
 {
     let cell = choose(torus, occupants, prefer_empty, parent, draws.word());
@@ -145,10 +129,10 @@ fn place_one(
 /// The cell that a word chooses among the neighbours, or among the empty ones where these are preferred.
 #[tactic(auto, unfolding(crate::specs::Placement::chosen_cell))]
 fn choose(torus: &Torus, occupants: &Occupants, prefer_empty: bool, parent: u32, word: u32) -> u32
-    requires cells { length occupants.now ≡ cells_of torus.now }
-    requires parent { parent < cells_of torus.now }
-    ensures value { result ≡ chosen_cell torus.now prefer_empty occupants.now parent word }
-    ensures in_torus { result < cells_of torus.now }
+    requires cells { length occupants.now ≡ cells_of (torus_numbers torus.now) }
+    requires parent { parent < cells_of (torus_numbers torus.now) }
+    ensures value { result ≡ chosen_cell (torus_numbers torus.now) prefer_empty occupants.now parent word }
+    ensures in_torus { result < cells_of (torus_numbers torus.now) }
 {
     let around = neighbours(torus, parent);
     let free = free_among(&around, occupants);

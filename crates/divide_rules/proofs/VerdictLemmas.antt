@@ -2,14 +2,14 @@
 use Rattle.std.proofs.Common.{◌≡◌, refl, ℕ, ◌*◌, ◌≤◌, ◌<◌, Bool, true, false, not, cond, ◌&&◌, leb, ltb, Option, None, Some, arith}
 use Rattle.std.proofs.lemmas.Bool.Decides.{nat_tests}
 use Rattle.divide_rules.specs.declared.ask.DivideAsk.{DivideAsk}
-use Rattle.divide_rules.specs.declared.limits.DivideRules.{DivideRules}
+use Rattle.divide_rules.specs.Rules.{RuleNumbers}
 use Rattle.divide_rules.specs.declared.rule.Rule.{Rule}
 use Rattle.divide_rules.specs.declared.rule.Rule.TheVariants.{V1, V2, V3, V4, V5, V6}
 use Rattle.divide_rules.specs.declared.verdict.Verdict.TheVariants.{Viable}
 use Rattle.divide_rules.specs.Viability.{least_part, greatest_part, child_length, executed_share, copied_share, holds, first_broken, verdict_by, verdict_of, IsViable}
 
 -- a verdict that names no rule
-unbroken : (broken : Option Rule) (ask : DivideAsk) (genome_length : ℕ) (rules : DivideRules) → verdict_by broken ask genome_length rules ≡ Viable → broken ≡ None
+unbroken : (broken : Option Rule) (ask : DivideAsk) (genome_length : ℕ) (rules : RuleNumbers) → verdict_by broken ask genome_length rules ≡ Viable → broken ≡ None
 unbroken None ask genome_length rules viable = refl
 unbroken (Some rule) ask genome_length rules viable = absurd cc
 
@@ -29,7 +29,7 @@ within : (number most : ℕ) → leb number most ≡ true → number ≤ most
 within number most le = grind (arith, nat_tests)
 
 -- all six rules hold
-pub viable : (ask : DivideAsk) (genome_length : ℕ) (rules : DivideRules) → verdict_of ask genome_length rules ≡ Viable → IsViable ask genome_length rules
+pub viable : (ask : DivideAsk) (genome_length : ℕ) (rules : RuleNumbers) → verdict_of ask genome_length rules ≡ Viable → IsViable ask genome_length rules
 unfolding verdict_of
 viable ask genome_length rules is_viable =
     let none : first_broken ask genome_length rules ≡ None = unbroken (first_broken ask genome_length rules) ask genome_length rules is_viable in

@@ -1,2 +1,3 @@
 pub mod RuleName
+pub mod Rules
 pub mod Viability

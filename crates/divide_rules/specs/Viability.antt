@@ -1,7 +1,7 @@
 -- The rules of a divide and their verdict (docs/MACHINE.md, "The rules of a divide").
 use Rattle.std.specs.Prelude.{IsTrue, ℕ, ◌+◌, ◌-◌, ◌*◌, ◌/◌, ◌<◌, ◌≤◌, Bool, ◌||◌, ◌&&◌, not, nat_lt, nat_le, min, max, List, [], ◌∷◌, Option, None, Some, find, if◌then◌else◌}
 use Rattle.divide_rules.specs.declared.ask.DivideAsk.{DivideAsk}
-use Rattle.divide_rules.specs.declared.limits.DivideRules.{DivideRules}
+use Rattle.divide_rules.specs.Rules.{RuleNumbers}
 use Rattle.divide_rules.specs.declared.rule.Rule.{Rule}
 use Rattle.divide_rules.specs.declared.rule.Rule.TheVariants.{V1, V2, V3, V4, V5, V6}
 use Rattle.divide_rules.specs.declared.verdict.Verdict.{Verdict}
@@ -12,11 +12,11 @@ abbrev pub all_rules : List Rule
 all_rules = V1 ∷ V2 ∷ V3 ∷ V4 ∷ V5 ∷ V6 ∷ []
 
 -- half the parent's genome, rounded up, but no less than the world allows
-abbrev pub least_part : ℕ → DivideRules → ℕ
+abbrev pub least_part : ℕ → RuleNumbers → ℕ
 least_part genome_length rules = max rules.least ((genome_length + 1) / 2)
 
 -- twice the parent's genome, but no more than the world allows
-abbrev pub greatest_part : ℕ → DivideRules → ℕ
+abbrev pub greatest_part : ℕ → RuleNumbers → ℕ
 greatest_part genome_length rules = min rules.greatest (2 * genome_length)
 
 -- the length of the child's part
@@ -24,15 +24,15 @@ abbrev pub child_length : DivideAsk → ℕ
 child_length ask = ask.end - ask.read
 
 -- a hundred times the places of the parent's part that have to be executed
-abbrev pub executed_share : DivideAsk → DivideRules → ℕ
+abbrev pub executed_share : DivideAsk → RuleNumbers → ℕ
 executed_share ask rules = rules.executed_percent * ask.read
 
 -- a hundred times the places of the child's part that have to be copied
-abbrev pub copied_share : DivideAsk → DivideRules → ℕ
+abbrev pub copied_share : DivideAsk → RuleNumbers → ℕ
 copied_share ask rules = rules.copied_percent * child_length ask
 
 -- whether a rule holds
-abbrev pub holds : Rule → DivideAsk → ℕ → DivideRules → Bool
+abbrev pub holds : Rule → DivideAsk → ℕ → RuleNumbers → Bool
 holds V1 ask genome_length rules = ask.allocated || not rules.need_alloc
 holds V2 ask genome_length rules =
     nat_le (least_part genome_length rules) ask.read
@@ -54,7 +54,7 @@ found_of V5 ask = ask.executed
 found_of V6 ask = ask.copied
 
 -- the end of the allowed lengths that a length has passed
-abbrev pub bound_passed : ℕ → ℕ → DivideRules → ℕ
+abbrev pub bound_passed : ℕ → ℕ → RuleNumbers → ℕ
 bound_passed part genome_length rules =
     if nat_lt part (least_part genome_length rules)
     then least_part genome_length rules
@@ -65,7 +65,7 @@ abbrev pub hundredth : ℕ → ℕ
 hundredth share = (share + 99) / 100
 
 -- the bound that a broken rule names
-abbrev pub bound_of : Rule → DivideAsk → ℕ → DivideRules → ℕ
+abbrev pub bound_of : Rule → DivideAsk → ℕ → RuleNumbers → ℕ
 bound_of V1 ask genome_length rules = 1
 bound_of V2 ask genome_length rules = bound_passed ask.read genome_length rules
 bound_of V3 ask genome_length rules = ask.read + 1
@@ -74,23 +74,23 @@ bound_of V5 ask genome_length rules = hundredth (executed_share ask rules)
 bound_of V6 ask genome_length rules = hundredth (copied_share ask rules)
 
 -- the first rule that does not hold
-abbrev pub first_broken : DivideAsk → ℕ → DivideRules → Option Rule
+abbrev pub first_broken : DivideAsk → ℕ → RuleNumbers → Option Rule
 first_broken ask genome_length rules =
     find (λ rule. not (holds rule ask genome_length rules)) all_rules
 
 -- a rule that is broken is named with its two numbers
-abbrev pub verdict_by : Option Rule → DivideAsk → ℕ → DivideRules → Verdict
+abbrev pub verdict_by : Option Rule → DivideAsk → ℕ → RuleNumbers → Verdict
 verdict_by None ask genome_length rules = Viable
 verdict_by (Some rule) ask genome_length rules =
     Broken rule (found_of rule ask) (bound_of rule ask genome_length rules)
 
 -- the verdict on a divide of a parent whose genome has this length
-unfoldable pub verdict_of : DivideAsk → ℕ → DivideRules → Verdict
+unfoldable pub verdict_of : DivideAsk → ℕ → RuleNumbers → Verdict
 verdict_of ask genome_length rules =
     verdict_by (first_broken ask genome_length rules) ask genome_length rules
 
 -- all six rules hold
-pub record IsViable (ask : DivideAsk) (genome_length : ℕ) (rules : DivideRules) : Type 0 where
+pub record IsViable (ask : DivideAsk) (genome_length : ℕ) (rules : RuleNumbers) : Type 0 where
   pub allocated : IsTrue (ask.allocated || not rules.need_alloc)
   pub parent_not_short : least_part genome_length rules ≤ ask.read
   pub parent_not_long : ask.read ≤ greatest_part genome_length rules

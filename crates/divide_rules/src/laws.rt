@@ -2,11 +2,27 @@ ghost use Rattle.std.specs.Prelude.{◌≡◌, ℕ};
 ghost use Rattle.divide_rules.specs.declared.ask.DivideAsk.{DivideAsk};
 ghost use Rattle.divide_rules.specs.declared.limits.DivideRules.{DivideRules};
 ghost use Rattle.divide_rules.specs.declared.verdict.Verdict.TheVariants.{Viable};
+ghost use Rattle.divide_rules.specs.Rules.{RuleNumbers, AreRules, rule_numbers};
 ghost use Rattle.divide_rules.specs.Viability.{verdict_of, IsViable};
 
-/// A divide that breaks no rule keeps all six, whatever the length of the genome.
+use crate::limits::{GREATEST_LENGTH, GREATEST_PERCENT, LEAST_LENGTH, LEAST_PERCENT};
+
+/// The code's limits are the numbers that the definitions state.
+pub fn limits()
+    ensures least_length { LEAST_LENGTH ≡ 8 }
+    ensures greatest_length { GREATEST_LENGTH ≡ 8192 }
+    ensures least_percent { LEAST_PERCENT ≡ 1 }
+    ensures greatest_percent { GREATEST_PERCENT ≡ 100 }
+{}
+
+/// Rules keep the limits.
+pub fn rules_keep_the_limits()
+    ensures { (rules : DivideRules) → AreRules (rule_numbers rules) }
+{}
+
+/// A divide that breaks no rule keeps all six, whatever the length of the genome and whatever the rules.
 pub fn viable_divides_keep_the_rules()
-    ensures { (ask : DivideAsk) (genome_length : ℕ) (rules : DivideRules)
+    ensures { (ask : DivideAsk) (genome_length : ℕ) (rules : RuleNumbers)
         → verdict_of ask genome_length rules ≡ Viable
         → IsViable ask genome_length rules }
 {}

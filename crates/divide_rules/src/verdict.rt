@@ -1,8 +1,9 @@
 // The answer to the question of a divide.
-ghost use Rattle.std.specs.Prelude.{◌≡◌, ◌≤◌, ◌↔◌};
+ghost use Rattle.std.specs.Prelude.{◌≡◌, ◌*◌, ◌≤◌, ◌↔◌};
+ghost use Rattle.divide_rules.specs.Rules.{rule_numbers};
 ghost use Rattle.divide_rules.specs.Viability.{verdict_of, IsViable};
 
-use crate::{DivideAsk, DivideRules, GREATEST_LENGTH, LEAST_LENGTH, Rule};
+use crate::{DivideAsk, DivideRules, Rule};
 
 /// Whether a divide keeps every rule, or which one it breaks first: what was found, and the bound that it missed.
 #[derive(Clone, Copy, Debug, PartialEq, Eq)]
@@ -13,10 +14,10 @@ pub enum Verdict {
 
 #[tactic(auto, unfolding(crate::specs::Viability::verdict_of))]
 pub fn judge(ask: &DivideAsk, genome_len: u32, rules: &DivideRules) -> Verdict
-    requires long_enough { LEAST_LENGTH ≤ genome_len }
-    requires short_enough { genome_len ≤ GREATEST_LENGTH }
-    ensures verdict { result ≡ verdict_of ask.now genome_len rules.now }
-    ensures viable { (result ≡ Verdict.Viable) ↔ IsViable ask.now genome_len rules.now }
+    requires long_enough { 8 ≤ genome_len }
+    requires short_enough { genome_len ≤ 8192 }
+    ensures verdict { result ≡ verdict_of ask.now genome_len (rule_numbers rules.now) }
+    ensures viable { (result ≡ Verdict.Viable) ↔ IsViable ask.now genome_len (rule_numbers rules.now) }
 {
     if rules.need_alloc && !ask.allocated {
         return broken(Rule::V1, 0, 1);
@@ -40,14 +41,21 @@ pub fn judge(ask: &DivideAsk, genome_len: u32, rules: &DivideRules) -> Verdict
         return broken(Rule::V4, child, greatest);
     }
     let executed = rules.executed_percent * ask.read;
-    if 100 * ask.executed < executed {
+    if hundredfold(ask.executed) < u64::from(executed) {
         return broken(Rule::V5, ask.executed, executed.div_ceil(100));
     }
     let copied = rules.copied_percent * child;
-    if 100 * ask.copied < copied {
+    if hundredfold(ask.copied) < u64::from(copied) {
         return broken(Rule::V6, ask.copied, copied.div_ceil(100));
     }
     Verdict::Viable
+}
+
+/// A count is any number, so a hundred times it needs more bits.
+fn hundredfold(count: u32) -> u64
+    ensures { result ≡ 100 * count }
+{
+    100 * u64::from(count)
 }
 
 fn broken(rule: Rule, found: u32, bound: u32) -> Verdict
@@ -63,10 +71,10 @@ mod tests {
     fn ask(allocated: bool, read: u32, end: u32, executed: u32, copied: u32) -> DivideAsk {
         DivideAsk {
             allocated,
-            read: read.min(GREATEST_LENGTH),
-            end: end.min(GREATEST_LENGTH),
-            executed: executed.min(GREATEST_LENGTH),
-            copied: copied.min(GREATEST_LENGTH),
+            read,
+            end,
+            executed,
+            copied,
         }
     }
 
@@ -81,9 +89,9 @@ mod tests {
     }
 
     fn rules_on_lengths(least: u32, greatest: u32) -> DivideRules
-        requires long_enough { LEAST_LENGTH ≤ least }
+        requires long_enough { 8 ≤ least }
         requires ordered { least ≤ greatest }
-        requires short_enough { greatest ≤ GREATEST_LENGTH }
+        requires short_enough { greatest ≤ 8192 }
     {
         DivideRules {
             least,

@@ -1,12 +1,11 @@
 -- Sets of tasks as numbers: task number p of the table, from 1, has the value 2^(p - 1) (docs/FORMATS.md, "Saved worlds").
 use Rattle.std.specs.Prelude.{ℕ, ◌+◌, ◌*◌, Bool, List, [], ◌∷◌, map, if◌then◌else◌}
 use Rattle.std.specs.List.{range_with_len}
-use Rattle.logic_tasks.specs.declared.task.TheConstants.{TASK_COUNT}
 use Rattle.logic_tasks.specs.LogicTasks.{has_bit}
 
 -- the set that a number stands for
 unfoldable pub tasks_of : ℕ → List Bool
-tasks_of bits = map (has_bit bits) (range_with_len 0 TASK_COUNT)
+tasks_of bits = map (has_bit bits) (range_with_len 0 9)
 
 -- the number of a set
 abbrev pub number_of : List Bool → ℕ

@@ -1,12 +1,11 @@
 -- Sets of tasks: a list that tells of each task of the table whether the set has it (docs/MACHINE.md, "The tasks").
 use Rattle.std.specs.Prelude.{Bool, true, false, List, replicate, slice_index_or, slice_set}
 use Rattle.logic_tasks.specs.declared.task.Task.{Task}
-use Rattle.logic_tasks.specs.declared.task.TheConstants.{TASK_COUNT}
 use Rattle.logic_tasks.specs.LogicTasks.{place_of}
 
 -- the empty set
 abbrev pub no_tasks : List Bool
-no_tasks = replicate TASK_COUNT false
+no_tasks = replicate 9 false
 
 -- whether a set has a task
 abbrev pub has_task : List Bool → Task → Bool

@@ -1,14 +1,12 @@
-ghost use Rattle.std.specs.Prelude.{◌≡◌, ℕ, ◌*◌, ◌≤◌, Bool, List, sum, length};
+ghost use Rattle.std.specs.Prelude.{◌≡◌, ℕ, ◌*◌, ◌≤◌, ◌^◌, Bool, List, sum, length};
 ghost use Rattle.merit_slices.specs.Merit.{merit_of};
 ghost use Rattle.merit_slices.specs.Slices.{living_in, slices_of};
-
-use crate::merits::{GREATEST_LENGTH, GREATEST_MERIT};
 
 /// The merit of a genome's length is within the greatest, and at least 1 where no number is 0.
 pub fn merits_are_bounded()
     ensures bounded { (genome_length executed copied : ℕ) (tasks : List Bool)
-        → genome_length ≤ GREATEST_LENGTH
-        → merit_of genome_length executed copied tasks ≤ GREATEST_MERIT }
+        → genome_length ≤ 8192
+        → merit_of genome_length executed copied tasks ≤ 2 ^ 38 }
     ensures positive { (genome_length executed copied : ℕ) (tasks : List Bool)
         → 1 ≤ genome_length
         → 1 ≤ executed

@@ -5,5 +5,5 @@ pub mod laws;
 mod merits;
 mod slices;
 
-pub use merits::{GREATEST_MERIT, merit};
-pub use slices::{GREATEST_AVERAGE, GREATEST_WORLD, share};
+pub use merits::merit;
+pub use slices::share;

@@ -1,22 +1,14 @@
 // The merit of a divide.
-ghost use Rattle.std.specs.Prelude.{◌≡◌, ◌≤◌};
+ghost use Rattle.std.specs.Prelude.{◌≡◌, ◌≤◌, ◌^◌};
 ghost use Rattle.merit_slices.specs.Merit.{exponent_of, exponent_in, exponent_sum, merit_of};
 
 use logic_tasks::{TASKS, Task, Tasks};
 
-/// The length of the longest genome.
-pub const GREATEST_LENGTH: u32 = 8192;
-
-/// The merit of the longest genome with every task.
-pub const GREATEST_MERIT: u64 = 1 << 38;
-
 /// The least of the three numbers, doubled as often as the tasks say.
 pub fn merit(length: u32, executed: u32, copied: u32, tasks: Tasks) -> u64
-    requires length { length ≤ GREATEST_LENGTH }
-    requires executed { executed ≤ GREATEST_LENGTH }
-    requires copied { copied ≤ GREATEST_LENGTH }
+    requires { length ≤ 8192 }
     ensures merit { result ≡ merit_of length executed copied tasks }
-    ensures bounded { result ≤ GREATEST_MERIT }
+    ensures bounded { result ≤ 2 ^ 38 }
     ensures positive { 1 ≤ length → 1 ≤ executed → 1 ≤ copied → 1 ≤ result }
 {
     let least = length.min(executed).min(copied);
@@ -81,11 +73,10 @@ mod tests {
             (100, 97, 100, none.with(Task::Equ), 3104),
             (8, 8, 0, all, 0),
             (8192, 8192, 8192, all, 274877906944),
+            (8192, u32::MAX, u32::MAX, all, 274877906944),
         ];
         for (length, executed, copied, tasks, expected) in cases {
-            assert!(rt; length <= GREATEST_LENGTH);
-            assert!(rt; executed <= GREATEST_LENGTH);
-            assert!(rt; copied <= GREATEST_LENGTH);
+            assert!(rt; length <= 8192);
             assert_eq!(rt;
                 merit(length, executed, copied, tasks),
                 expected,

@@ -2,19 +2,13 @@
 ghost use Rattle.std.specs.Prelude.{◌≡◌, ◌+◌, ◌*◌, ◌<◌, ◌≤◌, ◌^◌, ℕ, sum, length, slice_index_or};
 ghost use Rattle.merit_slices.specs.Slices.{living_in, quota, shares_of, slices_of};
 
-/// The greatest average of slices.
-pub const GREATEST_AVERAGE: u32 = 1000;
-
-/// The number of cells of the greatest world.
-pub const GREATEST_WORLD: usize = 65536;
-
 /// Each cell gets the difference of two quotients, so that all cells together get all steps.
 #[tactic(auto, unfolding(crate::specs::Slices::slices_of))]
 pub fn share(merits: &[u64], average: u32, out: &mut [u64])
     requires same_length { length out.old ≡ length merits.now }
-    requires cells { length merits.now ≤ GREATEST_WORLD }
+    requires cells { length merits.now ≤ 65536 }
     requires sum { sum merits.now < 2 ^ 55 }
-    requires average { average ≤ GREATEST_AVERAGE }
+    requires average { average ≤ 1000 }
     ensures slices { out.new ≡ slices_of merits.now average }
     ensures few { (cell : ℕ) → slice_index_or out.new cell 0 < 2 ^ 27 }
     ensures total { sum out.new ≤ average * length merits.now }

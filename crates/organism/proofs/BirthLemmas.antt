@@ -3,9 +3,8 @@ use Rattle.std.proofs.Common.{◌≡◌, ℕ, ◌-◌, ◌≤◌, List, length, 
 use Rattle.instruction_set.specs.declared.letter.Letter.{Letter}
 use Rattle.divide_rules.specs.declared.ask.DivideAsk.{DivideAsk}
 use Rattle.mutations.specs.BirthRecord.{BirthRecord, child_of, origin_of, after_birth}
-use Rattle.mutations.specs.Rates.{numbers_of}
 use Rattle.virtual_cpu.specs.Divide.{child_part}
-use Rattle.organism.specs.declared.settings.Settings.{Settings}
+use Rattle.organism.specs.SettingNumbers.{SettingNumbers}
 use Rattle.organism.specs.OrganismState.{OrganismState}
 use Rattle.organism.specs.UpdateLife.{clean_text, written_text, child_range, birth_record, after_child, letters_made, child_letters}
 
@@ -25,21 +24,21 @@ OnOk-map P Q f (Ok a) h = f h
 OnOk-map P Q f (Err e) h = tt
 
 -- the record that two texts and a genome have, which are those of the divide
-pub birth_record-of : (settings : Settings) (words : ℕ → ℕ) (k : ℕ) (o : OrganismState) (ask : DivideAsk) (clean written parent : List Letter) → clean ≡ clean_text o ask → written ≡ written_text o ask → parent ≡ o.genome → origin_of words k (numbers_of settings.rates) (child_range settings.rules) clean written parent ≡ birth_record settings words k o ask
+pub birth_record-of : (settings : SettingNumbers) (words : ℕ → ℕ) (k : ℕ) (o : OrganismState) (ask : DivideAsk) (clean written parent : List Letter) → clean ≡ clean_text o ask → written ≡ written_text o ask → parent ≡ o.genome → origin_of words k settings.rates (child_range settings.rules) clean written parent ≡ birth_record settings words k o ask
 unfolding birth_record
 birth_record-of settings words k o ask clean written parent same_clean same_written same_parent =
-    let origin : List Letter → List Letter → List Letter → BirthRecord = origin_of words k (numbers_of settings.rates) (child_range settings.rules) in
+    let origin : List Letter → List Letter → List Letter → BirthRecord = origin_of words k settings.rates (child_range settings.rules) in
     ap (λ x. origin x written parent) same_clean ∙ ap (λ x. origin (clean_text o ask) x parent) same_written ∙ ap (λ x. origin (clean_text o ask) (written_text o ask) x) same_parent
 
 -- the number of the word after those of the birth
-pub after_child-of : (settings : Settings) (words : ℕ → ℕ) (k : ℕ) (o : OrganismState) (ask : DivideAsk) (clean written : List Letter) → clean ≡ clean_text o ask → written ≡ written_text o ask → after_birth words k (numbers_of settings.rates) (child_range settings.rules) clean written ≡ after_child settings words k o ask
+pub after_child-of : (settings : SettingNumbers) (words : ℕ → ℕ) (k : ℕ) (o : OrganismState) (ask : DivideAsk) (clean written : List Letter) → clean ≡ clean_text o ask → written ≡ written_text o ask → after_birth words k settings.rates (child_range settings.rules) clean written ≡ after_child settings words k o ask
 unfolding after_child
 after_child-of settings words k o ask clean written same_clean same_written =
-    let after : List Letter → List Letter → ℕ = after_birth words k (numbers_of settings.rates) (child_range settings.rules) in
+    let after : List Letter → List Letter → ℕ = after_birth words k settings.rates (child_range settings.rules) in
     ap (λ x. after x written) same_clean ∙ ap (λ x. after (clean_text o ask) x) same_written
 
 -- the letters that the record makes of the parent's genome
-pub child_letters-of : (settings : Settings) (words : ℕ → ℕ) (k : ℕ) (o : OrganismState) (ask : DivideAsk) (parent made : List Letter) (birth : BirthRecord) → parent ≡ o.genome → birth ≡ birth_record settings words k o ask → child_of parent birth ≡ Ok made → made ≡ child_letters settings words k o ask
+pub child_letters-of : (settings : SettingNumbers) (words : ℕ → ℕ) (k : ℕ) (o : OrganismState) (ask : DivideAsk) (parent made : List Letter) (birth : BirthRecord) → parent ≡ o.genome → birth ≡ birth_record settings words k o ask → child_of parent birth ≡ Ok made → made ≡ child_letters settings words k o ask
 unfolding child_letters
 child_letters-of settings words k o ask parent made birth same_parent same_birth makes =
     sym (ap letters_made makes) ∙ ap (λ x. letters_made (child_of x birth)) same_parent ∙ ap (λ x. letters_made (child_of o.genome x)) same_birth

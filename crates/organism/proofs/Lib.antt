@@ -1,3 +1,5 @@
 pub mod BirthLemmas
+pub mod DivideLemmas
+pub mod GoingOnLemmas
 pub mod LivedLemmas
 pub mod UpdateLifeLemmas

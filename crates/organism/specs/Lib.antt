@@ -1,9 +1,11 @@
 pub mod OrganismState
 pub mod View
 pub mod Life
+pub mod SettingNumbers
 pub mod TraceRules
 pub mod TracedStep
 pub mod Newborns
+pub mod GoingOn
 pub mod UpdateLife
 pub mod Lived
 pub use Rattle.genome.specs.Genome

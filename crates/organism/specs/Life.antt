@@ -2,13 +2,12 @@
 use Rattle.std.specs.Prelude.{ℕ, ℤ, ◌+◌, ◌*◌, ◌-◌, ◌≤◌, ◌%◌, Bool, List, Option, Some, None, length, slice_index_or, if◌then◌else◌}
 use Rattle.std.specs.Int.{cast_signed, w32}
 use Rattle.instruction_set.specs.declared.letter.Letter.{Letter}
-use Rattle.genome.specs.declared.genome.TheConstants.{LEAST_LENGTH}
 use Rattle.logic_tasks.specs.declared.task.Task.{Task}
 use Rattle.logic_tasks.specs.LogicTasks.{task_done}
 use Rattle.logic_tasks.specs.TaskSet.{no_tasks, has_task, with_task}
 use Rattle.merit_slices.specs.Merit.{merit_of}
 use Rattle.divide_rules.specs.declared.ask.DivideAsk.{DivideAsk}
-use Rattle.divide_rules.specs.declared.limits.DivideRules.{DivideRules}
+use Rattle.divide_rules.specs.Rules.{RuleNumbers}
 use Rattle.divide_rules.specs.declared.verdict.Verdict.{Verdict}
 use Rattle.divide_rules.specs.declared.verdict.Verdict.TheVariants as verdict
 use Rattle.divide_rules.specs.Viability.{verdict_of}
@@ -57,17 +56,17 @@ outcome_of verdict.Viable ask = outcome.Viable ask
 outcome_of (verdict.Broken rule found bound) ask = outcome.Refused rule found bound
 
 -- after h-divide the rules are tried
-abbrev pub after_question : OrganismState → DivideRules → DivideAsk → Outcome
+abbrev pub after_question : OrganismState → RuleNumbers → DivideAsk → Outcome
 after_question o rules ask = outcome_of (verdict_of ask (length o.genome) rules) ask
 
 -- what follows from what the machine tells
-abbrev pub after_did : OrganismState → DivideRules → Did → OrganismState × Outcome
+abbrev pub after_did : OrganismState → RuleNumbers → Did → OrganismState × Outcome
 after_did o rules (Output value) = after_output o value
 after_did o rules (Asks ask) = (o, after_question o rules ask)
 after_did o rules _ = (o, outcome.Nothing)
 
 -- one step, but for the renewal that a viable divide brings
-unfoldable pub life_step : OrganismState → Option Letter → DivideRules → OrganismState × Outcome
+unfoldable pub life_step : OrganismState → Option Letter → RuleNumbers → OrganismState × Outcome
 life_step o copy rules = after_did (older o (machine_step o copy).0) rules (machine_step o copy).1
 
 -- the merit that a divide gives to parent and child
@@ -87,15 +86,15 @@ renewed o ask = record o {
 
 -- a divide whose two parts are long enough for genomes and lie in memory, the parent's at most twice its genome
 pub record IsDivide (o : OrganismState) (ask : DivideAsk) : Type 0 where
-  pub least_parent : LEAST_LENGTH ≤ ask.read
-  pub least_child : LEAST_LENGTH ≤ ask.end - ask.read
+  pub least_parent : 8 ≤ ask.read
+  pub least_child : 8 ≤ ask.end - ask.read
   pub parent_within : ask.read ≤ length o.machine.memory
   pub child_within : ask.end ≤ length o.machine.memory
   pub clean_within : ask.end ≤ length o.machine.clean
   pub twice_genome : ask.read ≤ 2 * length o.genome
 
 -- the child of a divide has a length that the rules allow
-pub record IsChildOf (rules : DivideRules) (ask : DivideAsk) : Type 0 where
+pub record IsChildOf (rules : RuleNumbers) (ask : DivideAsk) : Type 0 where
   pub least : rules.least ≤ ask.end - ask.read
   pub greatest : ask.end - ask.read ≤ rules.greatest
 

@@ -1,20 +1,14 @@
 -- The newborns of an update (docs/WORLD.md, "The life of one update").
-use Rattle.std.specs.Prelude.{ℕ, ◌≤◌, Bool, List, length}
+use Rattle.std.specs.Prelude.{ℕ, ◌≤◌, ◌^◌, Bool, List, length}
 use Rattle.std.specs.List.{All}
 use Rattle.instruction_set.specs.declared.letter.Letter.{Letter}
 use Rattle.genome.specs.Genome.{letters}
-use Rattle.merit_slices.specs.declared.merits.TheConstants.{GREATEST_MERIT}
 use Rattle.mutations.specs.BirthRecord.{BirthRecord, record_of}
-use Rattle.organism.specs.declared.births.Births.{Births}
 use Rattle.organism.specs.declared.newborn.Newborn.{Newborn}
-
--- the list of newborns
-abbrev pub newborns_in : Births → List Newborn
-newborns_in births = births.items.items
 
 -- no newborn has more than the greatest merit
 abbrev pub MeritsFit : List Newborn → Type 0
-MeritsFit newborns = All (λ newborn. newborn.merit ≤ GREATEST_MERIT) newborns
+MeritsFit newborns = All (λ newborn. newborn.merit ≤ 2 ^ 38) newborns
 
 -- no newborn has a longer genome
 abbrev pub LengthsFit : ℕ → List Newborn → Type 0

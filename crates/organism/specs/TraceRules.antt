@@ -1,35 +1,17 @@
 -- The rules of a divide in a trace (docs/MACHINE.md, "The rules of a divide").
 use Rattle.std.specs.Prelude.{ℕ, true, nat_le, if◌then◌else◌}
-use Rattle.std.proofs.Math.Dec.{lit≤}
-use Rattle.divide_rules.specs.declared.limits.DivideRules.{DivideRules}
-use Rattle.divide_rules.specs.declared.limits.TheConstants.{LEAST_LENGTH, GREATEST_LENGTH}
-use Rattle.organism.specs.declared.trace_rules.TheConstants.{TRACE_LENGTH, TRACE_PERCENT}
+use Rattle.divide_rules.specs.Rules.{RuleNumbers}
 
--- the rules of a genome that is short enough
-abbrev pub short_rules : DivideRules
-short_rules = record {
-  least = LEAST_LENGTH;
-  greatest = TRACE_LENGTH;
-  executed_percent = TRACE_PERCENT;
-  copied_percent = TRACE_PERCENT;
-  need_alloc = true;
-  long_enough = lit≤ tt;
-  ordered = lit≤ tt;
-  short_enough = lit≤ tt;
-  executed_is_asked = lit≤ tt;
-  executed_is_percent = lit≤ tt;
-  copied_is_asked = lit≤ tt;
-  copied_is_percent = lit≤ tt;
-}
-
--- the rules of a longer genome
-abbrev pub long_rules : DivideRules
-long_rules = record short_rules {
-  greatest = GREATEST_LENGTH;
-  ordered = lit≤ tt;
-  short_enough = lit≤ tt;
-}
+-- the greatest length in the trace of a genome: 2048, or 8192 for a longer genome
+abbrev pub trace_greatest : ℕ → ℕ
+trace_greatest genome_length = if nat_le genome_length 2048 then 2048 else 8192
 
 -- the rules in the trace of a genome of this length
-unfoldable pub trace_rules : ℕ → DivideRules
-trace_rules genome_length = if nat_le genome_length TRACE_LENGTH then short_rules else long_rules
+unfoldable pub trace_rules : ℕ → RuleNumbers
+trace_rules genome_length = record {
+  least = 8;
+  greatest = trace_greatest genome_length;
+  executed_percent = 50;
+  copied_percent = 50;
+  need_alloc = true;
+}

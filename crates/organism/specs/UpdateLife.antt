@@ -4,22 +4,22 @@ use Rattle.std.specs.List.{range_with_len}
 use Rattle.instruction_set.specs.declared.letter.Letter.{Letter}
 use Rattle.instruction_set.specs.declared.letter.Letter.TheVariants.{HCopy}
 use Rattle.divide_rules.specs.declared.ask.DivideAsk.{DivideAsk}
-use Rattle.divide_rules.specs.declared.limits.DivideRules.{DivideRules}
+use Rattle.divide_rules.specs.Rules.{RuleNumbers}
 use Rattle.random_streams.specs.RandomStream.{Stream}
 use Rattle.mutations.specs.declared.stop.ApplyStop.{ApplyStop}
 use Rattle.mutations.specs.BirthRecord.{BirthRecord, child_of, origin_of, after_birth}
 use Rattle.mutations.specs.CopyError.{error_letter, after_error}
-use Rattle.mutations.specs.Rates.{LengthRange, numbers_of}
+use Rattle.mutations.specs.Rates.{LengthRange}
 use Rattle.virtual_cpu.specs.Divide.{child_part}
 use Rattle.virtual_cpu.specs.Machine.{letter_under_ip}
-use Rattle.organism.specs.declared.births.Births.{Births}
+use Rattle.organism.specs.declared.newborn.Newborn.{Newborn}
 use Rattle.organism.specs.declared.outcome.Outcome.{Outcome}
 use Rattle.organism.specs.declared.outcome.Outcome.TheVariants as outcome
 use Rattle.organism.specs.declared.ran.Ran.{Ran}
 use Rattle.organism.specs.declared.ran.Ran.TheVariants.{Lives, Died}
-use Rattle.organism.specs.declared.settings.Settings.{Settings}
+use Rattle.organism.specs.SettingNumbers.{SettingNumbers}
 use Rattle.organism.specs.Life.{life_step, divide_merit, renewed}
-use Rattle.organism.specs.Newborns.{NewbornValue, newborns_in, newborn_value}
+use Rattle.organism.specs.Newborns.{NewbornValue, newborn_value}
 use Rattle.organism.specs.OrganismState.{OrganismState}
 
 -- an organism within an update, its newborns so far, and the number of the next word
@@ -29,10 +29,10 @@ pub record LifeState : Type 0 where
   pub next : ℕ
 
 -- the state of an organism, its births and its stream
-abbrev pub life_state : OrganismState → Births → Stream → LifeState
+abbrev pub life_state : OrganismState → List Newborn → Stream → LifeState
 life_state o births stream = record {
   organism = o;
-  newborns = map newborn_value (newborns_in births);
+  newborns = map newborn_value births;
   next = stream.taken;
 }
 
@@ -60,19 +60,19 @@ abbrev pub written_text : OrganismState → DivideAsk → List Letter
 written_text o ask = child_part o.machine.memory ask.read ask.end
 
 -- the lengths in which errors leave a child
-abbrev pub child_range : DivideRules → LengthRange
+abbrev pub child_range : RuleNumbers → LengthRange
 child_range rules = record { least = rules.least; greatest = rules.greatest }
 
 -- the record of a birth, word k being the first
-unfoldable pub birth_record : Settings → (ℕ → ℕ) → ℕ → OrganismState → DivideAsk → BirthRecord
+unfoldable pub birth_record : SettingNumbers → (ℕ → ℕ) → ℕ → OrganismState → DivideAsk → BirthRecord
 birth_record settings words k o ask =
-    origin_of words k (numbers_of settings.rates) (child_range settings.rules) (clean_text o ask)
+    origin_of words k settings.rates (child_range settings.rules) (clean_text o ask)
     (written_text o ask) o.genome
 
 -- the number of the word after those of a birth
-unfoldable pub after_child : Settings → (ℕ → ℕ) → ℕ → OrganismState → DivideAsk → ℕ
+unfoldable pub after_child : SettingNumbers → (ℕ → ℕ) → ℕ → OrganismState → DivideAsk → ℕ
 after_child settings words k o ask =
-    after_birth words k (numbers_of settings.rates) (child_range settings.rules) (clean_text o ask)
+    after_birth words k settings.rates (child_range settings.rules) (clean_text o ask)
     (written_text o ask)
 
 -- the letters of a child; a refused record has none
@@ -81,12 +81,12 @@ letters_made (Ok made) = made
 letters_made (Err stop) = []
 
 -- the letters that its record makes of the parent's genome
-unfoldable pub child_letters : Settings → (ℕ → ℕ) → ℕ → OrganismState → DivideAsk → List Letter
+unfoldable pub child_letters : SettingNumbers → (ℕ → ℕ) → ℕ → OrganismState → DivideAsk → List Letter
 child_letters settings words k o ask =
     letters_made (child_of o.genome (birth_record settings words k o ask))
 
 -- the newborn of a viable divide
-abbrev pub newborn_of : Settings → (ℕ → ℕ) → LifeState → DivideAsk → NewbornValue
+abbrev pub newborn_of : SettingNumbers → (ℕ → ℕ) → LifeState → DivideAsk → NewbornValue
 newborn_of settings words s ask = record {
   nth = length s.newborns;
   genome = child_letters settings words s.next s.organism ask;
@@ -96,7 +96,7 @@ newborn_of settings words s ask = record {
 }
 
 -- a viable divide makes a newborn and renews the parent
-abbrev pub after_outcome : Settings → (ℕ → ℕ) → LifeState → Outcome → LifeState
+abbrev pub after_outcome : SettingNumbers → (ℕ → ℕ) → LifeState → Outcome → LifeState
 after_outcome settings words s (outcome.Viable ask) = record {
   organism = renewed s.organism ask;
   newborns = s.newborns ++ newborn_of settings words s ask ∷ [];
@@ -105,7 +105,7 @@ after_outcome settings words s (outcome.Viable ask) = record {
 after_outcome settings words s _ = s
 
 -- the state after one more step
-unfoldable pub after_step : Settings → (ℕ → ℕ) → LifeState → LifeState
+unfoldable pub after_step : SettingNumbers → (ℕ → ℕ) → LifeState → LifeState
 after_step settings words s =
     let copy = copy_drawn words settings.rates.copy s.next s.organism in
     let stepped = life_step s.organism copy settings.rules in
@@ -113,31 +113,31 @@ after_step settings words s =
     after_outcome settings words (record s { organism = stepped.0; next = next }) stepped.1
 
 -- the state after so many steps
-unfoldable pub state_after : Settings → (ℕ → ℕ) → LifeState → ℕ → LifeState
+unfoldable pub state_after : SettingNumbers → (ℕ → ℕ) → LifeState → ℕ → LifeState
 state_after settings words start zero = start
 state_after settings words start (suc steps) =
     after_step settings words (state_after settings words start steps)
 
 -- whether death is on and the age is at its limit
-abbrev pub is_old : Settings → OrganismState → Bool
+abbrev pub is_old : SettingNumbers → OrganismState → Bool
 is_old settings o = settings.death && (o.age == settings.age_limit * length o.genome)
 
 -- whether it is so after the step with this number from 0
-abbrev pub dies_at : Settings → (ℕ → ℕ) → LifeState → ℕ → Bool
+abbrev pub dies_at : SettingNumbers → (ℕ → ℕ) → LifeState → ℕ → Bool
 dies_at settings words start step =
     is_old settings (state_after settings words start (step + 1)).organism
 
 -- the first of so many steps with which the organism dies
-unfoldable pub death_in : Settings → (ℕ → ℕ) → LifeState → ℕ → Option ℕ
+unfoldable pub death_in : SettingNumbers → (ℕ → ℕ) → LifeState → ℕ → Option ℕ
 death_in settings words start steps = find (dies_at settings words start) (range_with_len 0 steps)
 
 -- a life ends with the step of its death, or with all steps
-abbrev pub ended : Settings → (ℕ → ℕ) → LifeState → ℕ → Option ℕ → LifeState × Ran
+abbrev pub ended : SettingNumbers → (ℕ → ℕ) → LifeState → ℕ → Option ℕ → LifeState × Ran
 ended settings words start steps None = (state_after settings words start steps, Lives)
 ended settings words start steps (Some step) =
     (state_after settings words start (step + 1), Died (step + 1))
 
 -- the life of one update, of at most so many steps
-unfoldable pub life : Settings → (ℕ → ℕ) → LifeState → ℕ → LifeState × Ran
+unfoldable pub life : SettingNumbers → (ℕ → ℕ) → LifeState → ℕ → LifeState × Ran
 life settings words start steps =
     ended settings words start steps (death_in settings words start steps)

@@ -18,7 +18,6 @@ pub use births::Births;
 pub use newborn::Newborn;
 pub use organism::Organism;
 pub use ran::Ran;
-pub use running::{LIFE_STEPS, LIFE_WORDS};
 pub use settings::Settings;
 pub use trace_rules::TRACE_LENGTH;
 pub use traced::{Remark, Traced};

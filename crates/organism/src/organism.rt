@@ -1,11 +1,9 @@
 // An organism: its genome, its machine, and what it has done since its birth or its last viable divide.
 ghost use Rattle.std.specs.Prelude.{◌≡◌, ◌+◌, ◌*◌, ◌-◌, ◌<◌, ◌≤◌, ◌^◌, IfOk, OnOk, length};
-ghost use Rattle.divide_rules.specs.declared.limits.DivideRules.{DivideRules};
+ghost use Rattle.divide_rules.specs.Rules.{RuleNumbers, rule_numbers};
 ghost use Rattle.genome.specs.Genome.{letters};
-ghost use Rattle.genome.specs.declared.genome.TheConstants.{LEAST_LENGTH, GREATEST_LENGTH};
-ghost use Rattle.merit_slices.specs.declared.merits.TheConstants.{GREATEST_MERIT};
 ghost use Rattle.virtual_cpu.specs.Step.{AsksOf};
-ghost use Rattle.virtual_cpu.specs.Divide.{IsQuestionOf};
+ghost use Rattle.virtual_cpu.specs.Divide.{divide_question};
 ghost use Rattle.organism.specs.OrganismState.{new_organism, IsOrganism};
 ghost use Rattle.organism.specs.Life.{newly_done, after_output, after_question, after_did, life_step, renewed, IsDivide, IsChildOf, OnViable};
 ghost use Rattle.organism.specs.TracedStep.{remark_value, traced_value, remark_on, trace_step_of};
@@ -15,7 +13,7 @@ use crate::trace_rules::trace_rules;
 use crate::{Remark, Traced};
 use avida_port::Memory;
 use divide_rules::{DivideAsk, DivideRules, Verdict, judge};
-use genome::{GREATEST_LENGTH, Genome};
+use genome::Genome;
 use instruction_set::Letter;
 use logic_tasks::{Inputs, Task, Tasks, done};
 use merit_slices::merit;
@@ -61,7 +59,7 @@ impl Organism {
         memory_limit: u32,
     ) -> Result<Organism, Memory>
         requires genome_within { length (letters genome.value) ≤ memory_limit }
-        requires greatest { memory_limit ≤ GREATEST_LENGTH }
+        requires greatest { memory_limit ≤ 8192 }
         ensures { IfOk result (λ organism. organism ≡
             new_organism (letters genome.value) inputs merit credited memory_limit) }
     {
@@ -163,9 +161,9 @@ impl Organism {
     #[tactic(auto, unfolding(crate::specs::Life::life_step))]
     pub(crate) fn life_step(&mut self, copy: Option<Letter>, rules: &DivideRules) -> Outcome
         requires { self.old.age < 2 ^ 63 }
-        ensures step { (self.new, result) ≡ life_step self.old copy rules.now }
+        ensures step { (self.new, result) ≡ life_step self.old copy (rule_numbers rules.now) }
         ensures divide { OnViable result (IsDivide self.new) }
-        ensures child { OnViable result (IsChildOf rules.now) }
+        ensures child { OnViable result (IsChildOf (rule_numbers rules.now)) }
         ensures age { self.new.age ≡ self.old.age + 1 }
         ensures merit { self.new.merit ≡ self.old.merit }
     {
@@ -179,9 +177,9 @@ impl Organism {
     fn after_did(&mut self, did: Did, rules: &DivideRules) -> Outcome
         requires read { self.old.read < self.old.age }
         requires question { AsksOf self.old.machine did }
-        ensures step { (self.new, result) ≡ after_did self.old rules.now did }
+        ensures step { (self.new, result) ≡ after_did self.old (rule_numbers rules.now) did }
         ensures divide { OnViable result (IsDivide self.new) }
-        ensures child { OnViable result (IsChildOf rules.now) }
+        ensures child { OnViable result (IsChildOf (rule_numbers rules.now)) }
         ensures age { self.new.age ≡ self.old.age }
         ensures merit { self.new.merit ≡ self.old.merit }
     {
@@ -200,7 +198,7 @@ impl Organism {
         requires { self.old.read < self.old.age }
         ensures step { (self.new, result) ≡ after_output self.old value }
         ensures divide { OnViable result (IsDivide self.new) }
-        ensures child { (rules : DivideRules) → OnViable result (IsChildOf rules) }
+        ensures child { (rules : RuleNumbers) → OnViable result (IsChildOf rules) }
         ensures age { self.new.age ≡ self.old.age }
         ensures merit { self.new.merit ≡ self.old.merit }
     {
@@ -228,10 +226,10 @@ impl Organism {
 
     /// The clause of `length` says that the heads are in memory.
     fn after_question(&self, ask: &DivideAsk, rules: &DivideRules) -> Outcome
-        requires { IsQuestionOf self.now.machine ask.now }
-        ensures outcome { result ≡ after_question self.now rules.now ask.now }
+        requires { ask.now ≡ divide_question self.now.machine }
+        ensures outcome { result ≡ after_question self.now (rule_numbers rules.now) ask.now }
         ensures divide { OnViable result (IsDivide self.now) }
-        ensures child { OnViable result (IsChildOf rules.now) }
+        ensures child { OnViable result (IsChildOf (rule_numbers rules.now)) }
     {
         let _ = self.machine.length();
         match judge(ask, self.genome.len(), rules) {
@@ -245,7 +243,7 @@ impl Organism {
     pub(crate) fn renew(&mut self, ask: &DivideAsk)
         requires { IsDivide self.old ask.now }
         ensures state { self.new ≡ renewed self.old ask.now }
-        ensures merit { self.new.merit ≤ GREATEST_MERIT }
+        ensures merit { self.new.merit ≤ 2 ^ 38 }
     {
         self.merit = merit(self.genome.len(), ask.executed, ask.copied, self.gestation);
         self.credited = self.gestation;

@@ -1,19 +1,20 @@
 // The rules of a divide in a trace.
 ghost use Rattle.std.specs.Prelude.{◌≡◌};
+ghost use Rattle.divide_rules.specs.Rules.{rule_numbers};
 ghost use Rattle.organism.specs.TraceRules.{trace_rules};
 
 use divide_rules::{DivideRules, GREATEST_LENGTH, LEAST_LENGTH};
 
-/// The greatest length in the trace of a genome that is no longer.
+/// The greatest length in a trace, unless the genome itself is longer.
 pub const TRACE_LENGTH: u32 = 2048;
 
-/// The part of a length that a divide asks for in a trace.
+/// The percentage of places that a divide must have executed and copied in a trace.
 pub const TRACE_PERCENT: u32 = 50;
 
 /// The rules in the trace of a genome of this length.
 #[tactic(auto, unfolding(crate::specs::TraceRules::trace_rules))]
 pub(crate) fn trace_rules(genome_length: u32) -> DivideRules
-    ensures { result ≡ trace_rules genome_length }
+    ensures { rule_numbers result ≡ trace_rules genome_length }
 {
     if genome_length <= TRACE_LENGTH {
         DivideRules {

@@ -1,3 +1,5 @@
 pub mod MachineLemmas
+pub mod OperandLemmas
 pub mod QuestionLemmas
 pub mod StepLemmas
+pub mod WordLemmas

@@ -1,8 +1,9 @@
 -- Each step leaves a machine.
-use Rattle.std.proofs.Common.{◌≡◌, refl, sym, ◌∙◌, ap, subst, ℕ, ℤ, pos, negsuc, ◌+◌, ◌-◌, ◌*◌, ◌<◌, ◌≤◌, ◌%◌, Bool, true, false, cond, ltb, Option, Some, None, unwrap_or, List, [], ◌∷◌, ◌++◌, length, set, replicate, arith, length-set, length-append, length-drop}
+use Rattle.std.proofs.Common.{◌≡◌, refl, sym, ◌∙◌, ap, subst, ℕ, ℤ, pos, negsuc, ◌+◌, ◌-◌, ◌*◌, ◌<◌, ◌≤◌, ◌%◌, Bool, true, false, cond, ltb, Option, Some, None, unwrap_or, List, [], ◌∷◌, ◌++◌, length, set, replicate, drop, All, arith, length-set, length-append, length-drop, length-take}
 use Rattle.std.specs.Int.{int_rem_euclid}
 use Rattle.std.specs.Int.RustNames.{unsigned_abs}
 use Rattle.std.proofs.lemmas.List.{length-replicate}
+use Rattle.std.proofs.lemmas.List.Elements.{All-nil, All-push, All-set, All-drop, All-replicate}
 use Rattle.instruction_set.specs.declared.letter.Letter.{Letter}
 use Rattle.instruction_set.specs.declared.letter.Letter.TheVariants.{NopA, NopB, NopC, IfNEqu, IfLess, IfLabel, MovHead, JmpHead, GetHead, SetFlow, ShiftR, ShiftL, Inc, Dec, Push, Pop, SwapStk, Swap, Add, Sub, Nand, HCopy, HAlloc, HDivide, Io, HSearch}
 use Rattle.label_search.specs.Template.{is_nop, last_ten}
@@ -10,9 +11,10 @@ use Rattle.virtual_cpu.specs.declared.registers.Registers.{Registers}
 use Rattle.virtual_cpu.specs.declared.heads.Head.{Head}
 use Rattle.virtual_cpu.specs.declared.heads.Head.TheVariants.{Ip, Read, Write}
 use Rattle.virtual_cpu.specs.declared.heads.Heads.{Heads}
+use Rattle.virtual_cpu.specs.Stack.{pushed, popped}
 use Rattle.virtual_cpu.specs.Machine.{Machine, IsMachine, fresh_machine, letter_at, place_after, place_of_number, with_ip_marked, with_head_at, with_flow_at, with_ip_advanced}
 use Rattle.virtual_cpu.specs.Operands.{modifier_of, on_next_place, on_modifier, on_modifier_of, template_of, on_template, on_last_of, with_ip_moved}
-use Rattle.virtual_cpu.specs.RegisterEffects.{value, next, skipping_if, with_active_stack, with_picked, after_if_n_equ, after_if_less, after_set_flow, after_shift_r, after_shift_l, after_inc, after_dec, after_push, after_pop, after_swap_stk, after_swap, after_add, after_sub, after_nand, after_io}
+use Rattle.virtual_cpu.specs.RegisterEffects.{picked, value, next, skipping_if, active_stack, with_active_stack, with_picked, after_if_n_equ, after_if_less, after_set_flow, after_shift_r, after_shift_l, after_inc, after_dec, after_push, after_pop, after_swap_stk, after_swap, after_add, after_sub, after_nand, after_io}
 use Rattle.virtual_cpu.specs.HeadEffects.{head, after_mov_head, after_jmp_head, after_get_head}
 use Rattle.virtual_cpu.specs.TemplateEffects.{after_if_label, after_h_search, with_search, with_match, with_search_for}
 use Rattle.virtual_cpu.specs.Copying.{after_h_copy}
@@ -26,8 +28,9 @@ fresh text made limit least within twice room greatest = record {
   executed = length-replicate (length text) false;
   copied = length-replicate (length text) false;
   stacks = refl;
+  ten = All-replicate (λ stack. length stack ≡ 10) 2 (replicate 10 (pos 0)) refl;
   active = omega arith;
-  nops = omega arith;
+  template = record { few = omega arith; nops = All-nil (λ letter. is_nop letter ≡ true) };
   ip = omega arith;
   read = omega arith;
   write = omega arith;
@@ -46,8 +49,9 @@ with_heads m heads h ip read write flow = record {
   executed = h.executed;
   copied = h.copied;
   stacks = h.stacks;
+  ten = h.ten;
   active = h.active;
-  nops = h.nops;
+  template = h.template;
   ip = ip;
   read = read;
   write = write;
@@ -60,14 +64,15 @@ with_heads m heads h ip read write flow = record {
 }
 
 -- other registers, other numbers on two stacks, and one of the two active
-with_numbers : (m : Machine) (registers : Registers) (stacks : List (List ℤ)) (active : ℕ) → IsMachine m → length stacks ≡ 2 → active < 2 → IsMachine (record m { registers = registers; stacks = stacks; active = active })
-with_numbers m registers stacks active h two one_of = record {
+with_numbers : (m : Machine) (registers : Registers) (stacks : List (List ℤ)) (active : ℕ) → IsMachine m → length stacks ≡ 2 → All (λ stack. length stack ≡ 10) stacks → active < 2 → IsMachine (record m { registers = registers; stacks = stacks; active = active })
+with_numbers m registers stacks active h two ten one_of = record {
   clean = h.clean;
   executed = h.executed;
   copied = h.copied;
   stacks = two;
+  ten = ten;
   active = one_of;
-  nops = h.nops;
+  template = h.template;
   ip = h.ip;
   read = h.read;
   write = h.write;
@@ -86,8 +91,9 @@ marked m h = record {
   executed = length-set m.executed m.heads.ip true ∙ h.executed;
   copied = h.copied;
   stacks = h.stacks;
+  ten = h.ten;
   active = h.active;
-  nops = h.nops;
+  template = h.template;
   ip = h.ip;
   read = h.read;
   write = h.write;
@@ -124,10 +130,20 @@ advanced : (m : Machine) → IsMachine m → IsMachine (with_ip_advanced m)
 advanced m h = head_at m Ip (place_after m m.heads.ip) h (rem-within m (m.heads.ip + 1) h)
 
 with_registers : (m : Machine) (registers : Registers) → IsMachine m → IsMachine (record m { registers = registers })
-with_registers m registers h = with_numbers m registers m.stacks m.active h h.stacks h.active
+with_registers m registers h = with_numbers m registers m.stacks m.active h h.stacks h.ten h.active
 
-with_stack : (m : Machine) (numbers : List ℤ) → IsMachine m → IsMachine (with_active_stack m numbers)
-with_stack m numbers h = with_numbers m m.registers (set m.stacks m.active numbers) m.active h (length-set m.stacks m.active numbers ∙ h.stacks) h.active
+with_stack : (m : Machine) (numbers : List ℤ) → IsMachine m → length numbers ≡ 10 → IsMachine (with_active_stack m numbers)
+with_stack m numbers h ten = with_numbers m m.registers (set m.stacks m.active numbers) m.active h (length-set m.stacks m.active numbers ∙ h.stacks) (All-set (λ stack. length stack ≡ 10) m.stacks m.active numbers ten h.ten) h.active
+
+-- the active stack has ten numbers, and as many after a push or a pop
+pub active-ten : (m : Machine) → IsMachine m → length (active_stack m) ≡ 10
+active-ten m h = h.ten m.active [] (omega (arith, h.stacks, h.active))
+
+pub pushed-ten : (number : ℤ) (stack : List ℤ) → length stack ≡ 10 → length (pushed number stack) ≡ 10
+pushed-ten number stack ten = omega (arith, length-take 9 stack)
+
+pub popped-ten : (stack : List ℤ) → length stack ≡ 10 → length (popped stack) ≡ 10
+popped-ten stack ten = omega (arith, length-append (drop 1 stack) (pos 0 ∷ []), length-drop 1 stack)
 
 -- IP on a modifier or a template
 next_place : (m : Machine) → IsMachine m → IsMachine (on_next_place m)
@@ -137,7 +153,7 @@ modifier_of-machine : (nop : Option Letter) (m : Machine) → IsMachine m → Is
 modifier_of-machine (Some nop) m h = next_place m h
 modifier_of-machine None m h = h
 
-on_modifier-machine : (m : Machine) → IsMachine m → IsMachine (on_modifier m)
+pub on_modifier-machine : (m : Machine) → IsMachine m → IsMachine (on_modifier m)
 unfolding on_modifier
 on_modifier-machine m h = modifier_of-machine (modifier_of m) m h
 
@@ -148,7 +164,7 @@ last_of-machine : (nops : List Letter) (m : Machine) → IsMachine m → IsMachi
 last_of-machine [] m h = h
 last_of-machine (nop ∷ nops) m h = ip_moved (on_next_place m) (length nops) (next_place m h)
 
-on_template-machine : (m : Machine) → IsMachine m → IsMachine (on_template m)
+pub on_template-machine : (m : Machine) → IsMachine m → IsMachine (on_template m)
 unfolding on_template
 on_template-machine m h = last_of-machine (template_of m) m h
 
@@ -190,15 +206,15 @@ dec m h = picked-machine m _ h
 
 push : (m : Machine) → IsMachine m → IsMachine (after_push m)
 unfolding after_push
-push m h = with_stack (on_modifier m) _ (on_modifier-machine m h)
+push m h = let n = on_modifier-machine m h in with_stack (on_modifier m) _ n (pushed-ten (value m (picked m)) _ (active-ten (on_modifier m) n))
 
 pop : (m : Machine) → IsMachine m → IsMachine (after_pop m)
 unfolding after_pop
-pop m h = with_registers (with_active_stack (on_modifier m) _) _ (with_stack (on_modifier m) _ (on_modifier-machine m h))
+pop m h = let n = on_modifier-machine m h in with_registers (with_active_stack (on_modifier m) _) _ (with_stack (on_modifier m) _ n (popped-ten _ (active-ten (on_modifier m) n)))
 
 swap_stk : (m : Machine) → IsMachine m → IsMachine (after_swap_stk m)
 unfolding after_swap_stk
-swap_stk m h = with_numbers m m.registers m.stacks (1 - m.active) h h.stacks (omega arith)
+swap_stk m h = with_numbers m m.registers m.stacks (1 - m.active) h h.stacks h.ten (omega arith)
 
 swap : (m : Machine) → IsMachine m → IsMachine (after_swap m)
 unfolding after_swap
@@ -258,6 +274,11 @@ few-nops : (nop : Bool) (nops : List Letter) → length (cond nop (last_ten nops
 few-nops true nops = omega (arith, length-drop (length nops - 10) nops)
 few-nops false nops = omega arith
 
+-- a further letter leaves nops alone
+only-nops : (nop : Bool) (nops : List Letter) (letter : Letter) → is_nop letter ≡ nop → All (λ l. is_nop l ≡ true) nops → All (λ l. is_nop l ≡ true) (cond nop (last_ten (nops ++ letter ∷ [])) [])
+only-nops true nops letter is are = All-drop (λ l. is_nop l ≡ true) _ (nops ++ letter ∷ []) (All-push (λ l. is_nop l ≡ true) nops letter are is)
+only-nops false nops letter is are = All-nil (λ l. is_nop l ≡ true)
+
 -- h-copy
 h_copy : (m : Machine) (copy : Option Letter) → IsMachine m → IsMachine (after_h_copy m copy)
 unfolding after_h_copy
@@ -270,8 +291,12 @@ h_copy m copy h =
       executed = h.executed ∙ sym size;
       copied = length-set m.copied m.heads.write true ∙ h.copied ∙ sym size;
       stacks = h.stacks;
+      ten = h.ten;
       active = h.active;
-      nops = few-nops (is_nop read) (m.nops ++ read ∷ []);
+      template = record {
+        few = few-nops (is_nop read) (m.nops ++ read ∷ []);
+        nops = only-nops (is_nop read) m.nops read refl h.template.nops;
+      };
       ip = rest m.heads.ip h.ip;
       read = rest _ (rem-within m (m.heads.read + 1) h);
       write = rest _ (rem-within m (m.heads.write + 1) h);
@@ -306,8 +331,9 @@ allocated m can h =
       executed = longer m.executed extra false ∙ ap (λ n. n + extra) h.executed ∙ sym size;
       copied = longer m.copied extra false ∙ ap (λ n. n + extra) h.copied ∙ sym size;
       stacks = h.stacks;
+      ten = h.ten;
       active = h.active;
-      nops = h.nops;
+      template = h.template;
       ip = rest m.heads.ip h.ip;
       read = rest m.heads.read h.read;
       write = rest m.heads.write h.write;

@@ -1,8 +1,6 @@
 -- The two parts of a divide, and what the rules are asked (docs/MACHINE.md, "h-divide").
-use Rattle.std.specs.Prelude.{◌≡◌, ℕ, ◌-◌, Bool, List, count_by, take, drop, min, if◌then◌else◌, length, ◌==◌}
-use Rattle.std.proofs.Math.Nat.{min-le_right}
+use Rattle.std.specs.Prelude.{ℕ, ◌-◌, Bool, List, count_by, take, drop, if◌then◌else◌, length, ◌==◌}
 use Rattle.divide_rules.specs.declared.ask.DivideAsk.{DivideAsk}
-use Rattle.divide_rules.specs.declared.limits.TheConstants.{GREATEST_LENGTH}
 use Rattle.virtual_cpu.specs.Machine.{Machine}
 
 -- the end of the child's part
@@ -21,28 +19,12 @@ child_part places read end = take (end - read) (drop read places)
 abbrev pub count_of : List Bool → ℕ
 count_of places = count_by (λ is_in. is_in) places
 
--- a number of a question, which no machine has above the greatest length
-abbrev pub bounded : ℕ → ℕ
-bounded number = min number GREATEST_LENGTH
-
 -- what h-divide asks of the rules
 unfoldable pub divide_question : Machine → DivideAsk
 divide_question m = record {
   allocated = m.pending;
-  read = bounded m.heads.read;
-  end = bounded (end_of m);
-  executed = bounded (count_of (parent_part m.executed m.heads.read));
-  copied = bounded (count_of (child_part m.copied m.heads.read (end_of m)));
-  read_in_range = min-le_right _ _;
-  end_in_range = min-le_right _ _;
-  executed_in_range = min-le_right _ _;
-  copied_in_range = min-le_right _ _;
+  read = m.heads.read;
+  end = end_of m;
+  executed = count_of (parent_part m.executed m.heads.read);
+  copied = count_of (child_part m.copied m.heads.read (end_of m));
 }
-
--- what a question says of the machine that asks it
-pub record IsQuestionOf (m : Machine) (ask : DivideAsk) : Type 0 where
-  pub allocated : ask.allocated ≡ m.pending
-  pub read : ask.read ≡ m.heads.read
-  pub end : ask.end ≡ end_of m
-  pub executed : ask.executed ≡ count_of (parent_part m.executed m.heads.read)
-  pub copied : ask.copied ≡ count_of (child_part m.copied m.heads.read (end_of m))

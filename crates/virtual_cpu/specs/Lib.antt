@@ -10,7 +10,9 @@ pub mod Allocation
 pub mod Copying
 pub mod Divide
 pub mod Effects
+pub mod OperandUse
 pub mod Step
+pub mod Words
 pub mod View
 pub use Rattle.genome.specs.Genome
 pub use Rattle.label_search.specs.Template

@@ -1,5 +1,5 @@
 -- The machine, as contracts see it (docs/MACHINE.md, "The machine").
-use Rattle.std.specs.Prelude.{◌≡◌, ℕ, ℤ, pos, ◌+◌, ◌*◌, ◌<◌, ◌≤◌, ◌%◌, Bool, true, false, List, [], length, replicate, slice_index_or, slice_set, unsigned_abs, if◌then◌else◌}
+use Rattle.std.specs.Prelude.{◌≡◌, ℕ, ℤ, pos, ◌+◌, ◌*◌, ◌<◌, ◌≤◌, ◌%◌, Bool, true, false, All, List, [], length, replicate, slice_index_or, slice_set, unsigned_abs, if◌then◌else◌}
 use Rattle.std.specs.Int.{int_rem_euclid}
 use Rattle.instruction_set.specs.declared.letter.Letter.{Letter}
 use Rattle.instruction_set.specs.declared.letter.Letter.TheVariants.{NopA}
@@ -8,8 +8,7 @@ use Rattle.virtual_cpu.specs.declared.registers.Registers.{Registers}
 use Rattle.virtual_cpu.specs.declared.heads.Head.{Head}
 use Rattle.virtual_cpu.specs.declared.heads.Head.TheVariants.{Ip}
 use Rattle.virtual_cpu.specs.declared.heads.Heads.{Heads}
-use Rattle.genome.specs.declared.genome.TheConstants.{LEAST_LENGTH, GREATEST_LENGTH}
-use Rattle.label_search.specs.declared.template.TheConstants.{LONGEST_TEMPLATE}
+use Rattle.label_search.specs.Template.{IsTemplate}
 use Rattle.virtual_cpu.specs.Registers.{with_register}
 use Rattle.virtual_cpu.specs.Heads.{with_head}
 
@@ -57,17 +56,18 @@ pub record IsMachine (m : Machine) : Type 0 where
   pub executed : length m.executed ≡ length m.memory
   pub copied : length m.copied ≡ length m.memory
   pub stacks : length m.stacks ≡ 2
+  pub ten : All (λ stack. length stack ≡ 10) m.stacks
   pub active : m.active < 2
-  pub nops : length m.nops ≤ LONGEST_TEMPLATE
+  pub template : IsTemplate m.nops
   pub ip : m.heads.ip < length m.memory
   pub read : m.heads.read < length m.memory
   pub write : m.heads.write < length m.memory
   pub flow : m.heads.flow < length m.memory
-  pub least : LEAST_LENGTH ≤ length m.memory
+  pub least : 8 ≤ length m.memory
   pub greatest : length m.memory ≤ m.limit
   pub growth : length m.memory ≤ (if m.pending then 6 else 2) * m.made
   pub made : m.made ≤ m.limit
-  pub limit : m.limit ≤ GREATEST_LENGTH
+  pub limit : m.limit ≤ 8192
 
 -- the letter at a place; no machine has a place past the end
 abbrev pub letter_at : Machine → ℕ → Letter

@@ -5,15 +5,15 @@ use Rattle.virtual_cpu.specs.declared.did.Did.{Did}
 use Rattle.virtual_cpu.specs.declared.did.Did.TheVariants.{Asks}
 use Rattle.virtual_cpu.specs.Machine.{Machine, letter_under_ip, with_ip_marked}
 use Rattle.virtual_cpu.specs.Effects.{effect_of}
-use Rattle.virtual_cpu.specs.Divide.{IsQuestionOf}
+use Rattle.virtual_cpu.specs.Divide.{divide_question}
 
 -- the place of IP is marked, and the letter there has its effect
 unfoldable pub step : Machine → ℤ → Option Letter → Machine × Did
 step m input copy = effect_of (letter_under_ip m) (with_ip_marked m) input copy
 
--- a question that is told is the question of this machine
+-- a question that is told is that of this machine
 abbrev pub AsksOf : Machine → Did → Type 0
-AsksOf m (Asks ask) = IsQuestionOf m ask
+AsksOf m (Asks ask) = ask ≡ divide_question m
 AsksOf m _ = Unit {0}
 
 -- what no step changes

@@ -12,19 +12,19 @@ ghost use Rattle.virtual_cpu.specs.Operands.{on_modifier, register_picked, head_
 ghost use Rattle.virtual_cpu.specs.RegisterEffects.{active_stack, with_active_stack};
 ghost use Rattle.virtual_cpu.specs.Copying.{after_h_copy};
 ghost use Rattle.virtual_cpu.specs.Allocation.{can_allocate, with_allocation};
-ghost use Rattle.virtual_cpu.specs.Divide.{divide_question, parent_part, child_part, IsQuestionOf};
+ghost use Rattle.virtual_cpu.specs.Divide.{divide_question, parent_part, child_part};
 
 use crate::cut::Cut;
 use crate::heads::{Head, Heads};
-use crate::marks::{count_marks, place_after};
+use crate::marks::{count_marks, place_after, place_of_number};
 use crate::registers::{Register, Registers};
 use crate::reserved::{append_copies, append_letters, letters_with_room, unmarked_with_room};
 use crate::stack::Stack;
 use avida_port::Memory;
 use divide_rules::DivideAsk;
-use genome::{GREATEST_LENGTH, Genome, LEAST_LENGTH};
+use genome::Genome;
 use instruction_set::Letter;
-use label_search::{LONGEST_TEMPLATE, Template};
+use label_search::Template;
 use std::alloc::Global;
 use std::marker::Model;
 
@@ -61,7 +61,7 @@ impl Cpu {
     /// The machine at its start, with room for all that it may grow to.
     pub fn new(alloc: Global, genome: &Genome, memory_limit: u32) -> Result<Cpu, Memory>
         requires genome_within { length (letters genome.now) ≤ memory_limit }
-        requires greatest { memory_limit ≤ GREATEST_LENGTH }
+        requires greatest { memory_limit ≤ 8192 }
         ensures { IfOk result (λ cpu. let text = letters genome.now in
             cpu ≡ fresh_machine text (length text) memory_limit) }
     {
@@ -90,7 +90,7 @@ impl Cpu {
 
     /// Keeps the first letters, and begins anew on them.
     pub fn reset(&mut self, keep: u32)
-        requires least { LEAST_LENGTH ≤ keep }
+        requires least { 8 ≤ keep }
         requires within { keep ≤ length self.old.memory }
         requires twice_made { keep ≤ 2 * self.old.made }
         ensures { let kept = parent_part self.old.memory keep in
@@ -115,7 +115,7 @@ impl Cpu {
 
     /// The child's part of the clean text and of memory.
     pub fn cut(&self, alloc: Global, ask: &DivideAsk) -> Result<Cut, Memory>
-        requires least { LEAST_LENGTH ≤ ask.now.end - ask.now.read }
+        requires least { 8 ≤ ask.now.end - ask.now.read }
         requires within { ask.now.end ≤ length self.now.memory }
         ensures clean { IfOk result (λ cut. letters cut.clean ≡
             child_part self.now.clean ask.now.read ask.now.end) }
@@ -217,7 +217,7 @@ impl Cpu {
     pub(crate) fn read_template(&mut self) -> Template
         ensures read { result ≡ template_of self.old }
         ensures moved { self.new ≡ on_template self.old }
-        ensures few { length result ≤ LONGEST_TEMPLATE }
+        ensures few { length result ≤ 10 }
     {
         let template = label_search::template_after(self.memory.as_slice(), self.heads.ip);
         let count = template.len();
@@ -231,7 +231,7 @@ impl Cpu {
 
     pub(crate) fn head(&self, head: Head) -> usize
         ensures place { result ≡ place_of self.now.heads head }
-        ensures within { result < GREATEST_LENGTH }
+        ensures within { result < 8192 }
     {
         self.heads.get(head)
     }
@@ -240,7 +240,7 @@ impl Cpu {
     pub(crate) fn move_head(&mut self, head: Head, number: i64)
         ensures { self.new ≡ with_head_at self.old head (place_of_number self.old number) }
     {
-        let place = number.rem_euclid(self.memory.len() as i64) as usize;
+        let place = place_of_number(number, self.memory.len());
         self.heads.set(head, place);
     }
 
@@ -255,7 +255,7 @@ impl Cpu {
     pub(crate) fn move_flow(&mut self, number: i64)
         ensures { self.new ≡ with_flow_at self.old (place_of_number self.old number) }
     {
-        self.heads.flow = number.rem_euclid(self.memory.len() as i64) as usize;
+        self.heads.flow = place_of_number(number, self.memory.len());
     }
 
     /// Moves FLOW to a place.
@@ -367,8 +367,7 @@ impl Cpu {
     /// What a divide asks of the rules.
     #[tactic(auto, unfolding(crate::specs::Divide::divide_question))]
     pub(crate) fn question(&self) -> DivideAsk
-        ensures question { result ≡ divide_question self.now }
-        ensures numbers { IsQuestionOf self.now result }
+        ensures { result ≡ divide_question self.now }
     {
         let read = self.heads.read;
         let end = if self.heads.write == 0 {

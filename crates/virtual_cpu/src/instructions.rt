@@ -15,7 +15,6 @@ use crate::did::Did;
 use crate::heads::Head;
 use crate::registers::Register;
 use instruction_set::Letter;
-use label_search::LONGEST_TEMPLATE;
 
 impl Cpu {
     fn go_on(&mut self) -> Did
@@ -234,6 +233,7 @@ impl Cpu {
         Did::Allocated
     }
 
+    #[tactic(auto, unfolding(crate::specs::Divide::divide_question))]
     fn h_divide(&mut self) -> Did
         ensures told { (self.new, result) ≡ telling (Asks (divide_question self.old)) self.old }
         ensures question { AsksOf self.new result }
@@ -281,7 +281,7 @@ impl Cpu {
 
     fn end_search(&mut self, flow: usize, bx: i32, cx: usize) -> Did
         requires within { flow < length self.old.memory }
-        requires few { cx ≤ LONGEST_TEMPLATE }
+        requires few { cx ≤ 10 }
         ensures { (self.new, result) ≡ going_on (with_search self.old flow bx cx) }
     {
         self.move_flow_to(flow);

@@ -1,10 +1,13 @@
-// What each step leaves.
-ghost use Rattle.std.specs.Prelude.{ℕ, ℤ, ◌*◌, ◌≤◌, Option, List, length};
+// What each step leaves, and which operand each letter takes.
+ghost use Rattle.std.specs.Prelude.{ℕ, ℤ, ◌*◌, ◌≤◌, Option, List, length, FitsSigned};
+ghost use Rattle.std.specs.Int.{w32};
 ghost use Rattle.instruction_set.specs.declared.letter.Letter.{Letter};
+ghost use Rattle.instruction_set.specs.Letter.{class_of};
+ghost use Rattle.instruction_set.specs.Defaults.{default_of};
 ghost use Rattle.virtual_cpu.specs.Machine.{Machine, IsMachine, fresh_machine};
+ghost use Rattle.virtual_cpu.specs.OperandUse.{TakesOperand};
 ghost use Rattle.virtual_cpu.specs.Step.{step, AsksOf, KeepsLimits};
-
-use genome::{GREATEST_LENGTH, LEAST_LENGTH};
+ghost use Rattle.virtual_cpu.specs.Words.{HoldsWords};
 
 /// A step leaves a machine, for the same length of genome and under the same limit; a question that it tells is of
 /// that machine.
@@ -12,7 +15,7 @@ pub fn steps_leave_machines()
     ensures machine { (m : Machine) (input : ℤ) (copy : Option Letter)
         → IsMachine m → IsMachine (step m input copy).0 }
     ensures question { (m : Machine) (input : ℤ) (copy : Option Letter)
-        → IsMachine m → AsksOf (step m input copy).0 (step m input copy).1 }
+        → AsksOf (step m input copy).0 (step m input copy).1 }
     ensures kept { (m : Machine) (input : ℤ) (copy : Option Letter)
         → KeepsLimits m (step m input copy).0 }
 {}
@@ -20,10 +23,27 @@ pub fn steps_leave_machines()
 /// A text that is not too long for its genome and its limit starts a machine.
 pub fn texts_start_machines()
     ensures { (text : List Letter) (made limit : ℕ)
-        → LEAST_LENGTH ≤ length text
+        → 8 ≤ length text
         → length text ≤ limit
         → length text ≤ 2 * made
         → made ≤ limit
-        → limit ≤ GREATEST_LENGTH
+        → limit ≤ 8192
         → IsMachine (fresh_machine text made limit) }
+{}
+
+/// The registers and the stacks hold numbers of 32 bits at the start and after each step that takes such an input.
+pub fn machines_hold_words()
+    ensures start { (text : List Letter) (made limit : ℕ)
+        → HoldsWords (fresh_machine text made limit) }
+    ensures step { (m : Machine) (input : ℤ) (copy : Option Letter)
+        → IsMachine m
+        → HoldsWords m
+        → FitsSigned w32 input
+        → HoldsWords (step m input copy).0 }
+{}
+
+/// The letters of the classes Register and Head use the modifier, with the default of their row, those of the class
+/// Template use the template, and no other letter uses either.
+pub fn letters_take_their_operands()
+    ensures { (letter : Letter) → TakesOperand (default_of letter) (class_of letter) letter }
 {}

@@ -1,5 +1,6 @@
-// Sets of places, and the place that follows another.
-ghost use Rattle.std.specs.Prelude.{◌≡◌, ◌+◌, ◌<◌, ◌≤◌, ◌%◌, length};
+// Sets of places, and the places of numbers.
+ghost use Rattle.std.specs.Prelude.{◌≡◌, ◌+◌, ◌<◌, ◌≤◌, ◌%◌, length, pos, unsigned_abs};
+ghost use Rattle.std.specs.Int.{int_rem_euclid};
 ghost use Rattle.virtual_cpu.specs.Divide.{count_of};
 
 /// How many places are marked.
@@ -17,4 +18,14 @@ pub(crate) fn place_after(place: usize, length: usize) -> usize
     ensures within { result < length }
 {
     if place + 1 == length { 0 } else { place + 1 }
+}
+
+/// The place of a number, by floor modulo.
+pub(crate) fn place_of_number(number: i64, length: usize) -> usize
+    requires some { 0 < length }
+    requires few { length ≤ 8192 }
+    ensures place { result ≡ unsigned_abs (int_rem_euclid number (pos length)) }
+    ensures within { result < length }
+{
+    number.rem_euclid(length as i64) as usize
 }

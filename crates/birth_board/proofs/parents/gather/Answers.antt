@@ -9,12 +9,12 @@ loop-cell-preserved c = c.in_ok-append.ensures ∙ ap (λ l. l ++ replicate (get
 
 pub returns-clause-parents : goal.returns-clause-parents
 unfolding parents_of
-returns-clause-parents c = c.loop-cell.invariant ∙ ap (parents_below c.args.counts.now) (omega arith)
+returns-clause-parents c = c.from_vec.ensures ∙ c.loop-cell.invariant ∙ ap (parents_below c.args.counts.now) (omega arith)
 
 pub returns-clause-rising : goal.returns-clause-rising
-returns-clause-rising c = subst IsNonDecreasing (sym c.loop-cell.invariant) (parents_below-rise c.args.counts.now c.loop-cell.cell).0
+returns-clause-rising c = subst IsNonDecreasing (sym (c.from_vec.ensures ∙ c.loop-cell.invariant)) (parents_below-rise c.args.counts.now c.loop-cell.cell).0
 
 pub returns-clause-counted : goal.returns-clause-counted
 returns-clause-counted c =
-    let below : All (λ cell. cell < c.loop-cell.cell) c.loop-cell.cells.items = subst (All (λ cell. cell < c.loop-cell.cell)) (sym c.loop-cell.invariant) (parents_below-rise c.args.counts.now c.loop-cell.cell).1 in
+    let below : All (λ cell. cell < c.loop-cell.cell) c.from_vec.result = subst (All (λ cell. cell < c.loop-cell.cell)) (sym (c.from_vec.ensures ∙ c.loop-cell.invariant)) (parents_below-rise c.args.counts.now c.loop-cell.cell).1 in
     λ k d within. omega (arith, below k d within)

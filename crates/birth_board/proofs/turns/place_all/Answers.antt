@@ -4,14 +4,14 @@ use Rattle.std.proofs.lemmas.List.Elements.{All-push, All-same}
 use Rattle.random_streams.specs.RandomStream.{after}
 use Rattle.std.proofs.lemmas.List.Sums.{count_by_more_yes, count_by_more_no}
 use Rattle.birth_board.specs.declared.placing.Placing.{Placing}
-use Rattle.birth_board.specs.Torus.{cells_of}
+use Rattle.birth_board.specs.Torus.{torus_numbers, cells_of}
 use Rattle.birth_board.specs.Placement.{place_stream, placements_of}
 use Rattle.birth_board.proofs.PlacementLemmas.{board_after, board-parents, board_after-more, words-taken, placing-next, next_board-occupants, next_board-placings, eqb-below, eqb-self}
 use Rattle.birth_board.proofs.turns.place_all.Goals as goal
 
 pub loop-parent-preserved : goal.loop-parent-preserved
 loop-parent-preserved c =
-    let torus = c.args.torus.now in
+    let torus = torus_numbers c.args.torus.now in
     let season = c.args.season.now in
     let parents = c.args.parents.now in
     let i = c.loop-parent.parent-index in
@@ -35,7 +35,7 @@ loop-parent-preserved c =
       later = λ q above.
           let below : parent < q = omega arith in
           count_by_more_no (λ p. p == q) parents i 0 within (eqb-below parent q below) ∙ c.loop-parent.invariant.later q (omega arith);
-      order = λ k low high. omega (arith, c.requires.rising i k 0 (omega arith) high);
+      order = λ k low high. omega (arith, c.requires.can.rising i k 0 (omega arith) high);
       id = omega arith;
       occupants = next_board-occupants torus season board parent c.loop-parent.occupants c.place_one-placing.new.occupants c.place_one-placing.result c.loop-parent.invariant.occupants placed c.place_one-placing.ensures.occupants ∙ ap (λ b. b.occupants) (sym more);
       placings = next_board-placings torus season board parent c.loop-parent.placings.items c.push_reserved.new.self.items c.place_one-placing.result c.loop-parent.invariant.placings placed c.push_reserved.ensures.items ∙ ap (λ b. b.placings) (sym more);
@@ -48,11 +48,20 @@ loop-parent-preserved c =
 pub returns-clause-placings : goal.returns-clause-placings
 unfolding placements_of
 returns-clause-placings c =
+    let torus = torus_numbers c.args.torus.now in
     let all : take c.loop-parent.parent-index c.args.parents.now ≡ c.args.parents.now = take_all c.loop-parent.parent-index c.args.parents.now (omega arith) in
-    c.loop-parent.invariant.placings ∙ ap (λ parents. (board_after c.args.torus.now c.args.season.now c.args.occupants.now parents).placings) all
+    record {
+      placings = c.loop-parent.invariant.placings ∙ ap (λ parents. (board_after torus c.args.season.now c.args.occupants.now parents).placings) all;
+      count = omega arith;
+      in_torus = c.loop-parent.invariant.in_torus;
+    }
 
 pub returns-clause-occupants : goal.returns-clause-occupants
 unfolding placements_of
 returns-clause-occupants c =
+    let torus = torus_numbers c.args.torus.now in
     let all : take c.loop-parent.parent-index c.args.parents.now ≡ c.args.parents.now = take_all c.loop-parent.parent-index c.args.parents.now (omega arith) in
-    c.loop-parent.invariant.occupants ∙ ap (λ parents. (board_after c.args.torus.now c.args.season.now c.args.occupants.now parents).occupants) all
+    record {
+      occupants = c.loop-parent.invariant.occupants ∙ ap (λ parents. (board_after torus c.args.season.now c.args.occupants.now parents).occupants) all;
+      cells = c.loop-parent.invariant.cells;
+    }

@@ -1,5 +1,5 @@
 use Rattle.std.proofs.Common.{◌≡◌, ℕ, ◌+◌, ◌*◌, ◌<◌, ◌≤◌, ◌==◌, length, take, count_by, slice_index_or, vec_capacity, All}
-use Rattle.birth_board.specs.Torus.{cells_of}
+use Rattle.birth_board.specs.Torus.{torus_numbers, cells_of}
 use Rattle.birth_board.specs.Placement.{place_stream}
 use Rattle.birth_board.proofs.PlacementLemmas.{board_after}
 use Rattle.birth_board.proofs.turns.place_all.Given as goal
@@ -11,10 +11,10 @@ invariant-loop-parent l = record {
   later : (q : ℕ) → l.turn.cell < q → count_by (λ p. p == q) (take l.parent-index l.parents) ≡ 0;
   order : (k : ℕ) → l.parent-index ≤ k → k < length l.parents → l.turn.cell ≤ slice_index_or l.parents k 0;
   id : l.id ≡ l.season.next_id + l.parent-index;
-  occupants : l.occupants ≡ (board_after l.torus l.season l.fn.occupants (take l.parent-index l.parents)).occupants;
-  placings : l.placings.items ≡ (board_after l.torus l.season l.fn.occupants (take l.parent-index l.parents)).placings;
+  occupants : l.occupants ≡ (board_after (torus_numbers l.torus) l.season l.fn.occupants (take l.parent-index l.parents)).occupants;
+  placings : l.placings.items ≡ (board_after (torus_numbers l.torus) l.season l.fn.occupants (take l.parent-index l.parents)).placings;
   count : length l.placings.items ≡ l.parent-index;
   room : length l.parents ≤ vec_capacity l.placings;
-  cells : length l.occupants ≡ cells_of l.torus;
-  in_torus : All (λ placing. placing.cell < cells_of l.torus) l.placings.items;
+  cells : length l.occupants ≡ cells_of (torus_numbers l.torus);
+  in_torus : All (λ placing. placing.cell < cells_of (torus_numbers l.torus)) l.placings.items;
 }

@@ -11,7 +11,7 @@ returns-clause-machine c = λ m input copy h. effect (letter_under_ip m) (with_i
 
 pub returns-clause-question : goal.returns-clause-question
 unfolding step
-returns-clause-question c = λ m input copy h. effect-asks (letter_under_ip m) (with_ip_marked m) input copy (marked m h)
+returns-clause-question c = λ m input copy. effect-asks (letter_under_ip m) (with_ip_marked m) input copy
 
 pub returns-clause-kept : goal.returns-clause-kept
 unfolding step

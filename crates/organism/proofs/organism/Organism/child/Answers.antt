@@ -2,6 +2,7 @@ use Rattle.std.proofs.Common.{length, sym, ◌≡◌, ℕ, ap, ◌∙◌}
 use Rattle.genome.specs.Genome.{letters}
 use Rattle.random_streams.specs.RandomStream.{word_of}
 use Rattle.organism.specs.OrganismState.{OrganismState}
+use Rattle.organism.specs.SettingNumbers.{setting_numbers}
 use Rattle.organism.specs.UpdateLife.{clean_text, written_text}
 use Rattle.organism.proofs.BirthLemmas.{IfOk-map, IfOk-map2, OnOk-map, birth_record-of, after_child-of, child_letters-of, child_part-length}
 use Rattle.organism.proofs.organism.Organism.child.Goals as goal
@@ -25,12 +26,12 @@ parent c = ap letters c.deref.ensures ∙ ap (λ (o : OrganismState). o.genome) 
 
 pub returns-clause-origin : goal.returns-clause-origin
 returns-clause-origin c =
-    IfOk-map _ _ (λ born h. h ∙ birth_record-of c.args.settings.now (word_of c.args.draws.now) c.args.draws.now.taken c.args.self.now c.args.ask.now _ _ _ (clean c) (written c) (parent c)) c.divide_errors.result c.divide_errors.ensures.origin
+    IfOk-map _ _ (λ born h. h ∙ birth_record-of (setting_numbers c.args.settings.now) (word_of c.args.draws.now) c.args.draws.now.taken c.args.self.now c.args.ask.now _ _ _ (clean c) (written c) (parent c)) c.divide_errors.result c.divide_errors.ensures.origin
 
 pub returns-clause-genome : goal.returns-clause-genome
 returns-clause-genome c =
-    IfOk-map2 _ _ _ (λ born origin child. child_letters-of c.args.settings.now (word_of c.args.draws.now) c.args.draws.now.taken c.args.self.now c.args.ask.now _ _ _ (parent c) origin child) c.divide_errors.result (returns-clause-origin c) c.divide_errors.ensures.child
+    IfOk-map2 _ _ _ (λ born origin child. child_letters-of (setting_numbers c.args.settings.now) (word_of c.args.draws.now) c.args.draws.now.taken c.args.self.now c.args.ask.now _ _ _ (parent c) origin child) c.divide_errors.result (returns-clause-origin c) c.divide_errors.ensures.child
 
 pub returns-clause-stream : goal.returns-clause-stream
 returns-clause-stream c =
-    OnOk-map _ _ (λ h. h ∙ ap (λ (n : ℕ). record c.args.draws.now { taken = n }) (after_child-of c.args.settings.now (word_of c.args.draws.now) c.args.draws.now.taken c.args.self.now c.args.ask.now _ _ (clean c) (written c))) c.divide_errors.result c.divide_errors.ensures.taken
+    OnOk-map _ _ (λ h. h ∙ ap (λ (n : ℕ). record c.args.draws.now { taken = n }) (after_child-of (setting_numbers c.args.settings.now) (word_of c.args.draws.now) c.args.draws.now.taken c.args.self.now c.args.ask.now _ _ (clean c) (written c))) c.divide_errors.result c.divide_errors.ensures.taken

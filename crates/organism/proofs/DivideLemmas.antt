@@ -1,0 +1,37 @@
+-- A viable divide of an organism.
+use Rattle.std.proofs.Common.{◌≡◌, ℕ, ◌≤◌, Bool, true, false, cond, eqb, length, ap, arith}
+use Rattle.divide_rules.specs.declared.ask.DivideAsk.{DivideAsk}
+use Rattle.divide_rules.specs.Rules.{RuleNumbers}
+use Rattle.divide_rules.specs.Viability.{IsViable}
+use Rattle.virtual_cpu.specs.Machine.{Machine, IsMachine}
+use Rattle.virtual_cpu.specs.Divide.{end_of, divide_question}
+use Rattle.organism.specs.OrganismState.{OrganismState}
+use Rattle.organism.specs.Life.{IsDivide}
+
+-- where the parts of a question end
+pub question-read : (m : Machine) (ask : DivideAsk) → ask ≡ divide_question m → ask.read ≡ m.heads.read
+unfolding divide_question
+question-read m ask is = ap (λ (a : DivideAsk). a.read) is
+
+pub question-end : (m : Machine) (ask : DivideAsk) → ask ≡ divide_question m → ask.end ≡ end_of m
+unfolding divide_question
+question-end m ask is = ap (λ (a : DivideAsk). a.end) is
+
+either-le : (test : Bool) (one other most : ℕ) → one ≤ most → other ≤ most → cond test one other ≤ most
+either-le true one other most first second = first
+either-le false one other most first second = second
+
+-- the child's part ends in memory
+pub end-within : (m : Machine) → IsMachine m → end_of m ≤ length m.memory
+end-within m h = either-le (eqb m.heads.write 0) (length m.memory) m.heads.write (length m.memory) (omega arith) (omega (arith, h.write))
+
+-- a divide that breaks no rule is a divide of this organism
+pub viable-divide : (o : OrganismState) (ask : DivideAsk) (genome_length : ℕ) (rules : RuleNumbers) → IsMachine o.machine → genome_length ≡ length o.genome → 8 ≤ rules.least → ask ≡ divide_question o.machine → IsViable ask genome_length rules → IsDivide o ask
+viable-divide o ask genome_length rules h long least asked viable = record {
+  least_parent = omega (arith, least, viable.parent_not_short);
+  least_child = omega (arith, least, viable.child_not_short);
+  parent_within = omega (arith, question-read o.machine ask asked, h.read);
+  child_within = omega (arith, question-end o.machine ask asked, end-within o.machine h);
+  clean_within = omega (arith, question-end o.machine ask asked, end-within o.machine h, h.clean);
+  twice_genome = omega (arith, viable.parent_not_long, long);
+}
