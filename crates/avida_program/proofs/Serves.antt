@@ -1,26 +1,31 @@
 -- From what the work leaves by its outcome to what `serve` promises by its status.
-use Rattle.std.proofs.Common.{◌≡◌, ◌≢◌, ℕ, List, Option, Result, sym, subst, refl, inl, inr}
-use Rattle.avida_port.specs.Ports.{SourceState, SinkState}
+use Rattle.std.proofs.Common.{◌≡◌, ◌≢◌, ℕ, List, Option, None, Some, Result, sym, ap, subst, refl, inl, inr}
+use Rattle.lineage_log.specs.Replay.{replay_of}
+use Rattle.world_rules.specs.WorldRun.{residents_of_world}
 use Rattle.world_config.specs.Values.{ConfigValues}
-use Rattle.world_core.specs.WorldValue.{WorldValue}
+use Rattle.world_core.specs.WorldValue.{WorldValue, world_in}
+use Rattle.avida_port.specs.Ports.{SinkState}
 use Rattle.avida_program.proofs.PutLemmas.{nothing_gained}
+use Rattle.avida_program.specs.declared.command.Command.{Command}
+use Rattle.avida_program.specs.declared.command.Command.TheVariants.{Trace, Run, Lineage, Replay, Upgrade}
 use Rattle.avida_program.specs.declared.status.Status.TheVariants as status
 use Rattle.avida_program.specs.declared.outcome.Outcome.{Outcome}
 use Rattle.avida_program.specs.declared.outcome.Outcome.TheVariants as outcome
 use Rattle.avida_program.specs.declared.refusal.Refusal.{Refusal}
 use Rattle.avida_program.specs.Input.{IsInputWith, configuration_of, lineage_input_of}
 use Rattle.avida_program.specs.Status.{status_of, told_by}
-use Rattle.avida_program.specs.Changes.{Change, Stays, TellsOf, GainedFront}
-use Rattle.avida_program.specs.Commands.{ServesInput, ServesLineage, ServesRun}
-use Rattle.avida_program.specs.Outcomes.{Descends, LeavesFinal, LeavesLast, LeavesWorld, ReadsInput, Runs}
+use Rattle.avida_program.specs.Changes.{Call, Change, GainedFront, GainedText, SinkFailed, SourceFailed, Stays, TellsOf, Work, work_of}
+use Rattle.avida_program.specs.Commands.{GainedLogOf, Serves, ServesCommand, ServesInput, ServesLineage, ServesNothing, ServesRun, final_world, run_text}
+use Rattle.avida_program.specs.Outcomes.{CarriesOut, Descends, DoesNothing, LeavesFinal, LeavesLast, LeavesWorld, Obeys, ReadsInput, Runs}
 
--- nothing is a front of every text
+-- nothing is a prefix of every text
 pub stays_front : (sink : Change SinkState) (text : List ℕ) → Stays sink → GainedFront sink text
 stays_front sink text e = nothing_gained sink.before sink.after text e
 
-pub serves_input : {A : Type 0} (read : Result A Refusal) (text_of : A → List ℕ) (source : Change SourceState) (out watch err : Change SinkState) (told : Outcome)
-    → Stays watch → ReadsInput read text_of source out told → TellsOf err told → ServesInput read text_of source out watch err (status_of told)
-serves_input read text_of source out watch err outcome.Done w h t = record {
+-- what is read and written, by the status
+serves_input : {A : Type 0} (read : Result A Refusal) (text_of : A → List ℕ) (call : Call) (told : Outcome)
+    → Stays call.watch → ReadsInput read text_of (work_of call) told → TellsOf call.err told → ServesInput read text_of call (status_of told)
+serves_input read text_of call outcome.Done w h t = record {
   read_whole = λ e. h.0;
   text = λ e. h.1;
   bad_words = λ e. cc;
@@ -35,8 +40,8 @@ serves_input read text_of source out watch err outcome.Done w h t = record {
   tells = t;
   complete = λ input is read_well put_well. inl refl;
 }
-serves_input read text_of source out watch err outcome.BadWords w h t = absurd h
-serves_input read text_of source out watch err (outcome.BadInput why) w h t = record {
+serves_input read text_of call outcome.BadWords w h t = absurd h
+serves_input read text_of call (outcome.BadInput why) w h t = record {
   read_whole = λ e. absurd (cc);
   text = λ e. absurd (cc);
   bad_words = λ e. cc;
@@ -48,10 +53,10 @@ serves_input read text_of source out watch err (outcome.BadInput why) w h t = re
   nothing_refused = λ other is. h.0;
   front = elim [ inl p ↦ absurd (cc) | inr p ↦ absurd (cc) ];
   watch_stays = w;
-  tells = subst (λ seen. TellsOf err (told_by seen status.BadInput)) (sym h.1) t;
+  tells = subst (λ seen. TellsOf call.err (told_by seen status.BadInput)) (sym h.1) t;
   complete = λ input is read_well put_well. absurd (cc (is, h.1));
 }
-serves_input read text_of source out watch err outcome.ReadFault w h t = record {
+serves_input read text_of call outcome.ReadFault w h t = record {
   read_whole = λ e. absurd (cc);
   text = λ e. absurd (cc);
   bad_words = λ e. cc;
@@ -66,7 +71,7 @@ serves_input read text_of source out watch err outcome.ReadFault w h t = record 
   tells = t;
   complete = λ input is read_well put_well. absurd (read_well h.1);
 }
-serves_input read text_of source out watch err outcome.WriteFault w h t = record {
+serves_input read text_of call outcome.WriteFault w h t = record {
   read_whole = λ e. absurd (cc);
   text = λ e. absurd (cc);
   bad_words = λ e. cc;
@@ -78,12 +83,12 @@ serves_input read text_of source out watch err outcome.WriteFault w h t = record
   nothing_refused = λ why is. absurd (cc (is, h.1.1));
   front = λ e input is.
       let same : h.1.0 ≡ input = cc (is, h.1.1) in
-      subst (λ seen. GainedFront out (text_of seen)) same h.1.2;
+      subst (λ seen. GainedFront call.out (text_of seen)) same h.1.2;
   watch_stays = w;
   tells = t;
   complete = λ input is read_well put_well. absurd (put_well h.0);
 }
-serves_input read text_of source out watch err outcome.NoMemory w h t = record {
+serves_input read text_of call outcome.NoMemory w h t = record {
   read_whole = λ e. absurd (cc);
   text = λ e. absurd (cc);
   bad_words = λ e. cc;
@@ -94,10 +99,10 @@ serves_input read text_of source out watch err outcome.NoMemory w h t = record {
   nothing = elim [ inl p ↦ absurd (cc) | inr p ↦ absurd (cc) ];
   nothing_refused = λ why is. elim h [ inl stays ↦ stays | inr wrote ↦ absurd (cc (is, wrote.1)) ];
   front = λ e input is. elim h [
-    | inl stays ↦ stays_front out (text_of input) stays
+    | inl stays ↦ stays_front call.out (text_of input) stays
     | inr wrote ↦
         let same : wrote.0 ≡ input = cc (is, wrote.1) in
-        subst (λ seen. GainedFront out (text_of seen)) same wrote.2
+        subst (λ seen. GainedFront call.out (text_of seen)) same wrote.2
   ];
   watch_stays = w;
   tells = t;
@@ -115,32 +120,130 @@ left_by read Leaves last outcome.WriteFault h e = absurd (cc)
 left_by read Leaves last outcome.NoMemory h e = absurd (cc)
 
 -- what was there stays in every other case
-kept_by : (read : Result ConfigValues Refusal) (Leaves : Change (Option WorldValue) → ConfigValues → Type 0) (last : Change (Option WorldValue)) (told : Outcome)
-    → LeavesLast read Leaves last told → status_of told ≢ status.Done → Stays last
-kept_by read Leaves last outcome.Done h n = absurd (n refl)
-kept_by read Leaves last outcome.BadWords h n = h
-kept_by read Leaves last (outcome.BadInput why) h n = h
-kept_by read Leaves last outcome.ReadFault h n = h
-kept_by read Leaves last outcome.WriteFault h n = h
-kept_by read Leaves last outcome.NoMemory h n = h
+kept_by : (last : Change (Option WorldValue)) (told : Outcome) → (told ≢ outcome.Done → Stays last) → status_of told ≢ status.Done → Stays last
+kept_by last told kept other = kept (λ is. other (ap status_of is))
 
-pub serves_run : (bytes : List ℕ) (source : Change SourceState) (out watch err : Change SinkState) (last : Change (Option WorldValue)) (told : Outcome)
-    → Stays watch → Runs bytes source out last told → TellsOf err told → ServesRun bytes source out watch err last (status_of told)
-serves_run bytes source out watch err last told w h t = record {
-  serves = serves_input _ _ source out watch err told w h.reads t;
+-- the log that a sink gained, and the world that is left
+gained_log : (out : Change SinkState) (last : Change (Option WorldValue)) (config : ConfigValues) (world : WorldValue)
+    → GainedText out (run_text config) → LeavesWorld last config → last.after ≡ Some world → GainedLogOf out world
+gained_log out last config world gained left is =
+    let same : final_world config ≡ world = cc (left.world, is) in
+    record {
+      text = run_text config;
+      gained = gained;
+      lines = left.replays.lines;
+      reads = left.replays.good;
+      replays = subst (λ w. replay_of left.replays.lines ≡ residents_of_world (world_in w)) same left.replays.replays;
+    }
+
+-- what `out` gained in a run that came to its end is the log of who lives in the world that is left
+log_of_run : (bytes : List ℕ) (call : Call) (told : Outcome) → Runs bytes (work_of call) told → status_of told ≡ status.Done
+    → (world : WorldValue) → call.last.after ≡ Some world → GainedLogOf call.out world
+log_of_run bytes call outcome.Done ran e world is =
+    let wrote = ran.reads.1 in
+    let left = ran.leaves in
+    let same : wrote.0 ≡ left.0 = cc (wrote.1, left.1) in
+    gained_log call.out call.last left.0 world (subst (λ c. GainedText call.out (run_text c)) same wrote.2) left.2 is
+log_of_run bytes call outcome.BadWords ran e world is = absurd (cc)
+log_of_run bytes call (outcome.BadInput why) ran e world is = absurd (cc)
+log_of_run bytes call outcome.ReadFault ran e world is = absurd (cc)
+log_of_run bytes call outcome.WriteFault ran e world is = absurd (cc)
+log_of_run bytes call outcome.NoMemory ran e world is = absurd (cc)
+
+serves_run : (bytes : List ℕ) (call : Call) (told : Outcome) → Stays call.watch → (told ≢ outcome.Done → Stays call.last)
+    → Runs bytes (work_of call) told → TellsOf call.err told → ServesRun bytes call (status_of told)
+serves_run bytes call told watch kept ran tells = record {
+  serves = serves_input _ _ call told watch ran.reads tells;
   last_world = λ e.
-      let left : IsInputWith (configuration_of bytes) (LeavesWorld last) = left_by (configuration_of bytes) LeavesWorld last told h.leaves e in
+      let left : IsInputWith (configuration_of bytes) (LeavesWorld call.last) = left_by (configuration_of bytes) LeavesWorld call.last told ran.leaves e in
       (left.0, left.1, left.2.world);
-  replays = λ e.
-      let left : IsInputWith (configuration_of bytes) (LeavesWorld last) = left_by (configuration_of bytes) LeavesWorld last told h.leaves e in
-      (left.0, left.1, left.2.replays);
-  last_stays = λ e. kept_by (configuration_of bytes) LeavesWorld last told h.leaves e;
+  replays = λ e world is. log_of_run bytes call told ran e world is;
+  last_stays = λ e. kept_by call.last told kept e;
 }
 
-pub serves_lineage : (cell : ℕ) (bytes : List ℕ) (source : Change SourceState) (out watch err : Change SinkState) (last : Change (Option WorldValue)) (told : Outcome)
-    → Stays watch → Descends cell bytes source out last told → TellsOf err told → ServesLineage cell bytes source out watch err last (status_of told)
-serves_lineage cell bytes source out watch err last told w h t = record {
-  serves = serves_input _ _ source out watch err told w h.reads t;
-  last_world = λ e. left_by (lineage_input_of cell bytes) LeavesFinal last told h.leaves e;
-  last_stays = λ e. kept_by (lineage_input_of cell bytes) LeavesFinal last told h.leaves e;
+serves_lineage : (cell : ℕ) (bytes : List ℕ) (call : Call) (told : Outcome) → Stays call.watch → (told ≢ outcome.Done → Stays call.last)
+    → Descends cell bytes (work_of call) told → TellsOf call.err told → ServesLineage cell bytes call (status_of told)
+serves_lineage cell bytes call told watch kept ran tells = record {
+  serves = serves_input _ _ call told watch ran.reads tells;
+  last_world = λ e. left_by (lineage_input_of cell bytes) LeavesFinal call.last told ran.leaves e;
+  last_stays = λ e. kept_by call.last told kept e;
 }
+
+-- each command's row
+serves_command : (command : Command) (call : Call) (told : Outcome)
+    → CarriesOut command (work_of call) told → TellsOf call.err told → ServesCommand command call (status_of told)
+serves_command (Trace steps spelling) call told did tells = λ bytes is. record {
+  serves = serves_input _ _ call told did.watch_stays (did.does bytes is).reads tells;
+  last_stays = (did.does bytes is).last_stays;
+}
+serves_command (Run workers) call told did tells = λ bytes is.
+    serves_run bytes call told did.watch_stays did.last_stays (did.does bytes is) tells
+serves_command (Lineage cell workers) call told did tells = λ bytes is.
+    serves_lineage cell bytes call told did.watch_stays did.last_stays (did.does bytes is) tells
+serves_command Replay call told did tells = λ bytes is. record {
+  serves = serves_input _ _ call told did.watch_stays (did.does bytes is).reads tells;
+  last_stays = (did.does bytes is).last_stays;
+}
+serves_command Upgrade call told did tells = λ bytes is. record {
+  serves = serves_input _ _ call told did.watch_stays (did.does bytes is).reads tells;
+  last_stays = (did.does bytes is).last_stays;
+}
+
+-- words that give no command
+serves_nothing : (call : Call) (told : Outcome) → DoesNothing (work_of call) told → TellsOf call.err told → ServesNothing call (status_of told)
+serves_nothing call outcome.BadWords did tells = record {
+  refused = inl refl;
+  source_stays = did.source_stays;
+  out_stays = did.out_stays;
+  watch_stays = did.watch_stays;
+  last_stays = did.last_stays;
+  tells = tells;
+}
+serves_nothing call outcome.NoMemory did tells = record {
+  refused = inr refl;
+  source_stays = did.source_stays;
+  out_stays = did.out_stays;
+  watch_stays = did.watch_stays;
+  last_stays = did.last_stays;
+  tells = tells;
+}
+serves_nothing call outcome.Done did tells = absurd (elim did.refused [ inl p ↦ cc | inr p ↦ cc ])
+serves_nothing call (outcome.BadInput why) did tells = absurd (elim did.refused [ inl p ↦ cc | inr p ↦ cc ])
+serves_nothing call outcome.ReadFault did tells = absurd (elim did.refused [ inl p ↦ cc | inr p ↦ cc ])
+serves_nothing call outcome.WriteFault did tells = absurd (elim did.refused [ inl p ↦ cc | inr p ↦ cc ])
+
+-- a call, by the command that the words give
+pub serves : (command : Option Command) (call : Call) (told : Outcome)
+    → Obeys command (work_of call) told → TellsOf call.err told → Serves command call (status_of told)
+serves None call told did tells = serves_nothing call told did tells
+serves (Some command) call told did tells = serves_command command call told did tells
+
+-- a status of a fault tells of that fault
+told_read_fault : (told : Outcome) → status_of told ≡ status.ReadFault → told ≡ outcome.ReadFault
+told_read_fault outcome.Done e = absurd (cc)
+told_read_fault outcome.BadWords e = absurd (cc)
+told_read_fault (outcome.BadInput why) e = absurd (cc)
+told_read_fault outcome.ReadFault e = refl
+told_read_fault outcome.WriteFault e = absurd (cc)
+told_read_fault outcome.NoMemory e = absurd (cc)
+
+told_write_fault : (told : Outcome) → status_of told ≡ status.WriteFault → told ≡ outcome.WriteFault
+told_write_fault outcome.Done e = absurd (cc)
+told_write_fault outcome.BadWords e = absurd (cc)
+told_write_fault (outcome.BadInput why) e = absurd (cc)
+told_write_fault outcome.ReadFault e = absurd (cc)
+told_write_fault outcome.WriteFault e = refl
+told_write_fault outcome.NoMemory e = absurd (cc)
+
+-- the causes, whatever the command
+pub source_failed : (command : Option Command) (work : Work) (told : Outcome) → Obeys command work told → status_of told ≡ status.ReadFault → SourceFailed work.source
+source_failed None work told did e = absurd (elim did.refused [ inl p ↦ cc (ap status_of p) | inr p ↦ cc (ap status_of p) ])
+source_failed (Some command) work told did e = did.read_fault (told_read_fault told e)
+
+pub out_failed : (command : Option Command) (work : Work) (told : Outcome) → Obeys command work told → status_of told ≡ status.WriteFault → SinkFailed work.out
+out_failed None work told did e = absurd (elim did.refused [ inl p ↦ cc (ap status_of p) | inr p ↦ cc (ap status_of p) ])
+out_failed (Some command) work told did e = did.write_fault (told_write_fault told e)
+
+pub last_kept : (command : Option Command) (work : Work) (told : Outcome) → Obeys command work told → status_of told ≢ status.Done → Stays work.last
+last_kept None work told did other = did.last_stays
+last_kept (Some command) work told did other = kept_by work.last told did.last_stays other

@@ -1,7 +1,8 @@
--- What a call changes of its source and its sinks (docs/FORMATS.md, "Statuses and fault lines").
-use Rattle.std.specs.Prelude.{◌≡◌, ◌≢◌, ◌⊎◌, ℕ, List}
+-- How a call changes its source, its sinks and the last world (docs/FORMATS.md, "Statuses and fault lines").
+use Rattle.std.specs.Prelude.{◌≡◌, ◌≢◌, ◌⊎◌, ℕ, List, Option, Some}
 use Rattle.avida_port.specs.Faults.{Rose}
 use Rattle.avida_port.specs.Ports.{SourceState, SinkState, Gained, GainedPrefix}
+use Rattle.world_core.specs.WorldValue.{WorldValue}
 use Rattle.avida_program.specs.declared.outcome.Outcome.{Outcome}
 use Rattle.avida_program.specs.declared.outcome.Outcome.TheVariants as outcome
 use Rattle.avida_program.specs.Status.{fault_line}
@@ -15,9 +16,41 @@ pub record Change (A : Type 0) : Type 0 where
 abbrev pub change : {A : Type 0} → A → A → Change A
 change before after = record { before = before; after = after }
 
+-- a value that a call leaves as it is
+abbrev pub unchanged : {A : Type 0} → A → Change A
+unchanged value = change value value
+
+-- what a call of the program finds and leaves
+pub record Call : Type 0 where
+  pub source : Change SourceState
+  pub out : Change SinkState
+  pub watch : Change SinkState
+  pub err : Change SinkState
+  pub last : Change (Option WorldValue)
+
+-- what a command finds and leaves before its fault line is told
+pub record Work : Type 0 where
+  pub source : Change SourceState
+  pub out : Change SinkState
+  pub watch : Change SinkState
+  pub last : Change (Option WorldValue)
+
+-- a call without its fault line
+abbrev pub work_of : Call → Work
+work_of call = record {
+  source = call.source;
+  out = call.out;
+  watch = call.watch;
+  last = call.last;
+}
+
 -- nothing of it was changed
 abbrev pub Stays : {A : Type 0} → Change A → Type 0
 Stays c = c.after ≡ c.before
+
+-- this holds of the bytes of the source, where it tells them
+abbrev pub OnBytes : Change SourceState → (List ℕ → Type 0) → Type 0
+OnBytes source P = (bytes : List ℕ) → source.before.left ≡ Some bytes → P bytes
 
 -- the faults of a source rose
 abbrev pub SourceFailed : Change SourceState → Type 0
@@ -35,7 +68,7 @@ SinkStopped sink = SinkFailed sink ⊎ Rose sink.before.wants sink.after.wants
 abbrev pub GainedText : Change SinkState → List ℕ → Type 0
 GainedText sink text = Gained sink.before sink.after text
 
--- a front of this text came behind what the sink held
+-- a prefix of this text came behind what the sink held
 abbrev pub GainedFront : Change SinkState → List ℕ → Type 0
 GainedFront sink text = GainedPrefix sink.before sink.after text
 
@@ -43,7 +76,7 @@ GainedFront sink text = GainedPrefix sink.before sink.after text
 pub record TellsOf (err : Change SinkState) (told : Outcome) : Type 0 where
   -- nothing where all is done
   pub done : told ≡ outcome.Done → Stays err
-  -- else a front of the line
+  -- else a prefix of the line
   pub front : told ≢ outcome.Done → GainedFront err (fault_line told)
-  -- and the whole line where no put to `err` has failed or wanted memory
+  -- and the whole line where no put to `err` has failed or run out of memory
   pub whole : told ≢ outcome.Done → ¬ SinkStopped err → GainedText err (fault_line told)

@@ -3,7 +3,6 @@ use Rattle.std.specs.Prelude.{Bool, ℕ, List, [], ◌∷◌, Option, Some, None
 use Rattle.std.specs.Str.{bytes_eq}
 use Rattle.command_line.specs.Commands as told
 use Rattle.command_line.specs.declared.run.Run.{Run as RunWords}
-use Rattle.command_line.specs.declared.workers.TheConstants.{LEAST_WORKERS, MOST_WORKERS}
 use Rattle.avida_program.specs.declared.command.Command.{Command}
 use Rattle.avida_program.specs.declared.command.Command.TheVariants.{Trace, Run, Lineage, Replay, Upgrade}
 use Rattle.avida_program.specs.declared.command.Spelling.{Spelling}
@@ -53,7 +52,7 @@ command_of (name ∷ words) = command_named name words
 -- a command that runs a world has from 1 to 64 workers
 abbrev pub HasWorkers : Command → Type 0
 HasWorkers (Trace steps spelling) = ⊤
-HasWorkers (Run workers) = (LEAST_WORKERS ≤ workers) × (workers ≤ MOST_WORKERS)
-HasWorkers (Lineage cell workers) = (LEAST_WORKERS ≤ workers) × (workers ≤ MOST_WORKERS)
+HasWorkers (Run workers) = (1 ≤ workers) × (workers ≤ 64)
+HasWorkers (Lineage cell workers) = (1 ≤ workers) × (workers ≤ 64)
 HasWorkers Replay = ⊤
 HasWorkers Upgrade = ⊤

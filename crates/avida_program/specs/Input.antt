@@ -8,8 +8,6 @@ use Rattle.lineage_log.specs.LogGrammar.{log_of}
 use Rattle.lineage_log.specs.LogValues.{answer_of}
 use Rattle.world_config.specs.Config.{config_of}
 use Rattle.world_config.specs.Values.{ConfigValues}
-use Rattle.avida_port.specs.declared.reading.TheConstants.{LONGEST_INPUT}
-use Rattle.avida_program.specs.declared.input.TheConstants.{INPUT_LIMIT}
 use Rattle.avida_program.specs.declared.command.Spelling.{Spelling}
 use Rattle.avida_program.specs.declared.command.Spelling.TheVariants.{Letters, Names}
 use Rattle.avida_program.specs.declared.refusal.Refusal.{Refusal}
@@ -36,11 +34,11 @@ genome_spelled Names bytes = spelled_by_names bytes
 -- the genome of an input, or why it is refused
 abbrev pub genome_of : Spelling → List ℕ → Result (List Letter) Refusal
 genome_of spelling bytes =
-    within INPUT_LIMIT bytes (refused_as Genome (genome_spelled spelling bytes))
+    within 1048576 bytes (refused_as Genome (genome_spelled spelling bytes))
 
 -- the configuration of an input, or why it is refused
 abbrev pub configuration_of : List ℕ → Result ConfigValues Refusal
-configuration_of bytes = within INPUT_LIMIT bytes (refused_as Config (config_of bytes))
+configuration_of bytes = within 1048576 bytes (refused_as Config (config_of bytes))
 
 -- a configuration, unless this cell is not in its world; what refuses the configuration comes first
 abbrev pub with_cell : ℕ → Result ConfigValues Refusal → Result ConfigValues Refusal
@@ -54,4 +52,4 @@ lineage_input_of cell bytes = with_cell cell (configuration_of bytes)
 
 -- the lines of an input that is a log, or why it is refused
 abbrev pub log_input_of : List ℕ → Result (List Line) Refusal
-log_input_of bytes = within LONGEST_INPUT bytes (refused_as Log (answer_of (log_of bytes)))
+log_input_of bytes = within 536870912 bytes (refused_as Log (answer_of (log_of bytes)))

@@ -1,27 +1,24 @@
 -- What the work below `serve` leaves, by the outcome (docs/FORMATS.md, "Statuses and fault lines").
-use Rattle.std.specs.Prelude.{◌≡◌, ◌<◌, ◌⊎◌, ⊤, ℕ, List, length, Option, Some, Result, Ok, Err, OnOk, IfErr}
-use Rattle.avida_port.specs.Ports.{SourceState, SinkState, AtEnd, CountsClimb, Gained}
+use Rattle.std.specs.Prelude.{◌≡◌, ◌≢◌, ◌<◌, ◌⊎◌, ⊤, ℕ, List, [], length, Option, None, Some, Result, Ok, Err, OnOk, IfErr}
+use Rattle.avida_port.specs.Ports.{SinkState, CountsClimb, Gained}
 use Rattle.avida_port.specs.declared.sink.SinkStop.{SinkStop}
 use Rattle.avida_port.specs.declared.sink.SinkStop.TheVariants.{Fault, Memory}
+use Rattle.avida_port.specs.Ports.{SourceState}
 use Rattle.world_config.specs.Values.{ConfigValues}
 use Rattle.world_core.specs.WorldValue.{WorldValue}
 use Rattle.world_rules.specs.Laws.{ReplaysToLiving}
-use Rattle.avida_program.specs.declared.command.Spelling.{Spelling}
+use Rattle.avida_program.specs.declared.command.Command.{Command}
+use Rattle.avida_program.specs.declared.command.Command.TheVariants.{Trace, Run, Lineage, Replay, Upgrade}
 use Rattle.avida_program.specs.declared.outcome.Outcome.{Outcome}
 use Rattle.avida_program.specs.declared.outcome.Outcome.TheVariants as outcome
 use Rattle.avida_program.specs.declared.refusal.Refusal.{Refusal}
 use Rattle.avida_program.specs.declared.refusal.Refusal.TheVariants.{TooLong}
-use Rattle.avida_program.specs.Input.{IsInputWith, configuration_of, genome_of, lineage_input_of}
+use Rattle.avida_program.specs.Input.{IsInputWith, configuration_of, genome_of, lineage_input_of, log_input_of}
 use Rattle.avida_program.specs.PathText.{path_text}
+use Rattle.avida_program.specs.ReplayText.{replay_text}
 use Rattle.avida_program.specs.TraceText.{trace_text}
-use Rattle.avida_program.specs.Changes.{Change, Stays, SourceFailed, SinkFailed, GainedText, GainedFront, change}
-use Rattle.avida_program.specs.Commands.{final_world, run_text}
-
--- a fault is told only where its count rose
-pub record HasCauses (source : Change SourceState) (out : Change SinkState)
-    (told : Outcome) : Type 0 where
-  pub read_fault : told ≡ outcome.ReadFault → SourceFailed source
-  pub write_fault : told ≡ outcome.WriteFault → SinkFailed out
+use Rattle.avida_program.specs.Changes.{Change, OnBytes, Stays, SourceFailed, SinkFailed, GainedText, GainedFront, Work, change}
+use Rattle.avida_program.specs.Commands.{final_world, run_text, upgrade_text}
 
 -- how a call ends whose put stopped so
 abbrev pub stopped_by : SinkStop → Outcome
@@ -43,7 +40,7 @@ StopsReading limit source outcome.ReadFault = SourceFailed source
 StopsReading limit source outcome.WriteFault = ⊥
 StopsReading limit source outcome.NoMemory = ⊤
 
--- how bytes that were read give no input: it is refused, or memory is wanting
+-- how bytes that were read give no input: it is refused, or memory runs out
 abbrev pub RefusesInput : {A : Type 0} → Result A Refusal → Outcome → Type 0
 RefusesInput read outcome.Done = ⊥
 RefusesInput read outcome.BadWords = ⊥
@@ -73,28 +70,17 @@ pub record WritesAll {T : Type 0} (before after : SinkState) (text : List ℕ)
   pub err : IfErr result (StopsWithin text (change before after))
   pub counts : CountsClimb before after
 
--- no command
-abbrev pub ReadsNothing : Change SourceState → Change SinkState → Outcome → Type 0
-ReadsNothing source out told =
-    ((told ≡ outcome.BadWords) ⊎ (told ≡ outcome.NoMemory)) × Stays source × Stays out
-
 -- a command that reads this input, or refuses it, and writes this text of it
-abbrev pub ReadsInput : {A : Type 0} → Result A Refusal → (A → List ℕ)
-    → Change SourceState → Change SinkState → Outcome → Type 0
-ReadsInput read text_of source out outcome.Done =
-    AtEnd source.after × IsInputWith read (λ input. GainedText out (text_of input))
-ReadsInput read text_of source out outcome.BadWords = ⊥
-ReadsInput read text_of source out (outcome.BadInput why) = Stays out × (read ≡ Err why)
-ReadsInput read text_of source out outcome.ReadFault = Stays out × SourceFailed source
-ReadsInput read text_of source out outcome.WriteFault =
-    SinkFailed out × IsInputWith read (λ input. GainedFront out (text_of input))
-ReadsInput read text_of source out outcome.NoMemory =
-    Stays out ⊎ IsInputWith read (λ input. GainedFront out (text_of input))
-
--- `trace` on these bytes
-abbrev pub Traces : ℕ → Spelling → List ℕ → Change SourceState → Change SinkState → Outcome → Type 0
-Traces steps spelling bytes source out told =
-    ReadsInput (genome_of spelling bytes) (λ genome. trace_text genome steps) source out told
+abbrev pub ReadsInput : {A : Type 0} → Result A Refusal → (A → List ℕ) → Work → Outcome → Type 0
+ReadsInput read text_of work outcome.Done = (work.source.after.left ≡ Some [])
+    × IsInputWith read (λ input. GainedText work.out (text_of input))
+ReadsInput read text_of work outcome.BadWords = ⊥
+ReadsInput read text_of work (outcome.BadInput why) = Stays work.out × (read ≡ Err why)
+ReadsInput read text_of work outcome.ReadFault = Stays work.out × SourceFailed work.source
+ReadsInput read text_of work outcome.WriteFault =
+    SinkFailed work.out × IsInputWith read (λ input. GainedFront work.out (text_of input))
+ReadsInput read text_of work outcome.NoMemory =
+    Stays work.out ⊎ IsInputWith read (λ input. GainedFront work.out (text_of input))
 
 -- a run that came to its end leaves its last world, and its log replays to who lives there
 pub record LeavesWorld (last : Change (Option WorldValue)) (config : ConfigValues) : Type 0 where
@@ -109,18 +95,56 @@ LeavesLast read Leaves last outcome.Done = IsInputWith read (Leaves last)
 LeavesLast read Leaves last told = Stays last
 
 -- `run` on these bytes
-pub record Runs (bytes : List ℕ) (source : Change SourceState) (out : Change SinkState)
-    (last : Change (Option WorldValue)) (told : Outcome) : Type 0 where
-  pub reads : ReadsInput (configuration_of bytes) run_text source out told
-  pub leaves : LeavesLast (configuration_of bytes) LeavesWorld last told
+pub record Runs (bytes : List ℕ) (work : Work) (told : Outcome) : Type 0 where
+  pub reads : ReadsInput (configuration_of bytes) run_text work told
+  pub leaves : LeavesLast (configuration_of bytes) LeavesWorld work.last told
 
 -- a configuration's last world is left
 abbrev pub LeavesFinal : Change (Option WorldValue) → ConfigValues → Type 0
 LeavesFinal last config = last.after ≡ Some (final_world config)
 
 -- `lineage` of a cell on these bytes
-pub record Descends (cell : ℕ) (bytes : List ℕ) (source : Change SourceState)
-    (out : Change SinkState) (last : Change (Option WorldValue)) (told : Outcome) : Type 0 where
-  pub reads : ReadsInput (lineage_input_of cell bytes) (λ config. path_text config cell)
-      source out told
-  pub leaves : LeavesLast (lineage_input_of cell bytes) LeavesFinal last told
+pub record Descends (cell : ℕ) (bytes : List ℕ) (work : Work) (told : Outcome) : Type 0 where
+  pub reads : ReadsInput (lineage_input_of cell bytes) (λ config. path_text config cell) work told
+  pub leaves : LeavesLast (lineage_input_of cell bytes) LeavesFinal work.last told
+
+-- a command that reads this input, writes this text of it, and leaves no world
+pub record ReadsAndWrites {A : Type 0} (read : Result A Refusal) (text_of : A → List ℕ)
+    (work : Work) (told : Outcome) : Type 0 where
+  pub reads : ReadsInput read text_of work told
+  pub last_stays : Stays work.last
+
+-- what each command reads, writes and leaves
+abbrev pub Does : Command → Work → Outcome → Type 0
+Does (Trace steps spelling) work told = OnBytes work.source (λ bytes.
+    ReadsAndWrites (genome_of spelling bytes) (λ genome. trace_text genome steps) work told)
+Does (Run workers) work told = OnBytes work.source (λ bytes. Runs bytes work told)
+Does (Lineage cell workers) work told = OnBytes work.source (λ bytes. Descends cell bytes work told)
+Does Replay work told =
+    OnBytes work.source (λ bytes. ReadsAndWrites (log_input_of bytes) replay_text work told)
+Does Upgrade work told =
+    OnBytes work.source (λ bytes. ReadsAndWrites (log_input_of bytes) upgrade_text work told)
+
+-- a command is carried out, and ends so
+pub record CarriesOut (command : Command) (work : Work) (told : Outcome) : Type 0 where
+  -- these hold also where the streams tell no bytes
+  pub words : told ≢ outcome.BadWords
+  pub read_fault : told ≡ outcome.ReadFault → SourceFailed work.source
+  pub write_fault : told ≡ outcome.WriteFault → SinkFailed work.out
+  pub watch_stays : Stays work.watch
+  pub last_stays : told ≢ outcome.Done → Stays work.last
+  -- the command's own row
+  pub does : Does command work told
+
+-- no command
+pub record DoesNothing (work : Work) (told : Outcome) : Type 0 where
+  pub refused : (told ≡ outcome.BadWords) ⊎ (told ≡ outcome.NoMemory)
+  pub source_stays : Stays work.source
+  pub out_stays : Stays work.out
+  pub watch_stays : Stays work.watch
+  pub last_stays : Stays work.last
+
+-- what the words give is carried out, and ends so
+abbrev pub Obeys : Option Command → Work → Outcome → Type 0
+Obeys None work told = DoesNothing work told
+Obeys (Some command) work told = CarriesOut command work told

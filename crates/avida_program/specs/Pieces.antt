@@ -3,7 +3,7 @@ use Rattle.std.specs.Prelude.{◌≡◌, ◌++◌, ℕ, List, Result, OnOk, OnEr
 use Rattle.avida_port.specs.Ports.{SinkState, Puts}
 use Rattle.avida_port.specs.declared.sink.SinkStop.{SinkStop}
 
--- a text goes behind what is held: all is put but what is held now, or a front is put
+-- a text goes behind what is held: all is put but what is held now, or a prefix is put
 pub record Writes (before after : SinkState) (old new text : List ℕ)
     (result : Result (Unit {0}) SinkStop) : Type 0 where
   pub ok : OnOk result

@@ -7,7 +7,6 @@ use Rattle.avida_program.specs.declared.outcome.Outcome.{Outcome}
 use Rattle.avida_program.specs.declared.outcome.Outcome.TheVariants as outcome
 use Rattle.avida_program.specs.declared.refusal.Refusal.{Refusal}
 use Rattle.avida_program.specs.declared.refusal.Refusal.TheVariants.{TooLong, Genome, Config, Log, Cell}
-use Rattle.avida_program.specs.declared.fault_line.TheConstants.{SHOWN_BYTES}
 use Rattle.genome.specs.declared.stop.GenomeStop.{GenomeStop}
 use Rattle.genome.specs.declared.stop.GenomeStop.TheVariants as stop
 use Rattle.lineage_log.specs.declared.log_stop.LogStop.{LogStop}
@@ -49,7 +48,7 @@ abbrev pub told_by_words : Status → Outcome
 told_by_words status.NoMemory = outcome.NoMemory
 told_by_words _ = outcome.BadWords
 
--- why letters, or a text, are no genome; want of memory refuses no input
+-- why letters, or a text, are no genome; running out of memory refuses no input
 abbrev pub genome_reason : GenomeStop → List ℕ
 genome_reason stop.Memory = []
 genome_reason (stop.BadLetter place) = codes "letter at " ++ decimal place
@@ -61,11 +60,11 @@ genome_reason (stop.TooLong letters) = codes "long " ++ decimal letters
 abbrev pub shown_byte : ℕ → ℕ
 shown_byte byte = if nat_le 0x21 byte && nat_le byte 0x7E then byte else 63
 
--- the front of a key as a line shows it
+-- the prefix of a key as a line shows it
 abbrev pub shown_key : List ℕ → List ℕ
-shown_key key = map shown_byte (take SHOWN_BYTES key)
+shown_key key = map shown_byte (take 64 key)
 
--- why a document is no configuration; want of memory refuses no input
+-- why a document is no configuration; running out of memory refuses no input
 abbrev pub config_reason : ConfigStop → List ℕ
 config_reason config.Memory = []
 config_reason config.BadToml = codes "toml"
@@ -76,7 +75,7 @@ config_reason (config.OutOfRange key value) =
 config_reason (config.BadAncestor why) = codes "ancestor " ++ genome_reason why
 config_reason (config.BadEvent nth) = codes "event " ++ decimal nth
 
--- which line is faulty, and how; want of memory refuses no input
+-- which line is faulty, and how; running out of memory refuses no input
 abbrev pub log_reason : LogStop → List ℕ
 log_reason log.Memory = []
 log_reason (log.BadLine line) = codes "line " ++ decimal line

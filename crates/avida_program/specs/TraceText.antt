@@ -7,8 +7,6 @@ use Rattle.instruction_set.specs.Letter.{byte_of, name_of}
 use Rattle.logic_tasks.specs.LogicTasks as tasks
 use Rattle.logic_tasks.specs.TaskSet.{no_tasks}
 use Rattle.divide_rules.specs.RuleName.{rule_name_of}
-use Rattle.genome.specs.declared.genome.TheConstants.{GREATEST_LENGTH}
-use Rattle.organism.specs.declared.trace_rules.TheConstants.{TRACE_LENGTH}
 use Rattle.organism.specs.OrganismState.{OrganismState, new_organism}
 use Rattle.organism.specs.TracedStep.{TracedStep, TracedRemark, nothing, task, refused, divide, trace_step_of}
 
@@ -42,7 +40,7 @@ trace_line number step = step_text number step ++ remark_text step.remark ++ cod
 
 -- the memory limit of a trace, by the length of its genome
 abbrev pub trace_limit : ℕ → ℕ
-trace_limit letters = if nat_le letters TRACE_LENGTH then TRACE_LENGTH else GREATEST_LENGTH
+trace_limit letters = if nat_le letters 2048 then 2048 else 8192
 
 -- the inputs of a trace
 abbrev pub trace_inputs : List ℕ

@@ -6,13 +6,14 @@ ghost use Rattle.avida_program.specs.CommandLine.{HasWorkers, bare_command, comm
 use command_line::{Refused, read_lineage, read_nothing, read_run, read_trace};
 use std::alloc::Global;
 
-/// How a genome is written.
+/// How a genome is written: by letters or by names.
 #[derive(Clone, Copy, Debug, PartialEq, Eq)]
 pub enum Spelling {
     Letters,
     Names,
 }
 
+/// What a command line asks for.
 #[derive(Clone, Copy, Debug, PartialEq, Eq)]
 pub enum Command {
     Trace { steps: u32, spelling: Spelling },
@@ -105,7 +106,8 @@ fn read_named(alloc: Global, name: &str, words: &[String]) -> Result<Command, Re
     }
 }
 
-/// The command that the words give.
+/// Reads a command line. `BadWords` means that the words give no command, and `Memory` that an
+/// allocation failed.
 pub fn read_words(alloc: Global, words: &[String]) -> Result<Command, Refused>
     ensures command { MatchResult result
         (λ command. command_of (map string_bytes words.now) ≡ Some command)

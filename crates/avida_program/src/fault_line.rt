@@ -12,10 +12,10 @@ use genome::GenomeStop;
 use lineage_log::LogStop;
 use world_config::{ConfigStop, Key};
 
-/// No fault line is longer.
+/// A fault line has at most this many bytes.
 pub const LONGEST_LINE: usize = 96;
 
-/// How many bytes of a key a line shows at most.
+/// A fault line shows at most this many bytes of an unknown key.
 pub const SHOWN_BYTES: usize = 64;
 
 type Line = ArrayVec<u8, LONGEST_LINE>;
@@ -62,7 +62,7 @@ fn push_shown(line: &mut Line, bytes: &[u8])
 fn push_unknown(line: &mut Line, key: &[u8])
     requires { array_vec_len line.old ≤ 28 }
     ensures items { line.new.items ≡ line.old.items ++ shown_key key.now }
-    ensures len { array_vec_len line.new ≤ array_vec_len line.old + SHOWN_BYTES }
+    ensures len { array_vec_len line.new ≤ array_vec_len line.old + 64 }
 {
     push_shown(line, &key[..SHOWN_BYTES.min(key.len())]);
 }
@@ -164,6 +164,7 @@ fn push_reason(line: &mut Line, refusal: &Refusal)
     }
 }
 
+/// The fault line of an outcome; `Done` has none.
 pub fn line_of(outcome: &Outcome) -> Line
     ensures { result.items ≡ fault_line outcome.now }
 {

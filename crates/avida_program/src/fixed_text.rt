@@ -5,6 +5,7 @@ ghost use Rattle.arrayvec.specs.ArrayVec.{array_vec_len};
 
 use arrayvec::ArrayVec;
 
+/// Appends a text.
 pub fn push_text<const N: usize>(held: &mut ArrayVec<u8, N>, text: &str)
     requires { array_vec_len held.old + length text.now ≤ N }
     ensures items { held.new.items ≡ held.old.items ++ text.now }
@@ -13,6 +14,7 @@ pub fn push_text<const N: usize>(held: &mut ArrayVec<u8, N>, text: &str)
     let _ = held.try_extend_from_slice(text.as_bytes());
 }
 
+/// Appends a number in decimal.
 pub fn push_natural<const N: usize>(held: &mut ArrayVec<u8, N>, number: u64)
     requires { array_vec_len held.old + 20 ≤ N }
     ensures items { held.new.items ≡ held.old.items ++ decimal number }
@@ -22,6 +24,7 @@ pub fn push_natural<const N: usize>(held: &mut ArrayVec<u8, N>, number: u64)
     push_text(held, digits.format(number));
 }
 
+/// Appends a signed number in decimal.
 pub fn push_integer<const N: usize>(held: &mut ArrayVec<u8, N>, number: i32)
     requires { array_vec_len held.old + 11 ≤ N }
     ensures items { held.new.items ≡ held.old.items ++ signed_decimal number }

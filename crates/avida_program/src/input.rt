@@ -1,6 +1,6 @@
 // What a command reads.
-ghost use Rattle.std.specs.Prelude.{◌≡◌, ◌≢◌, ◌≤◌, ◌<◌, ◌*◌, length, IfOk, IfErr, OnOk, Ok, Err};
-ghost use Rattle.avida_port.specs.Ports.{IsAllOf, AtEnd};
+ghost use Rattle.std.specs.Prelude.{◌≡◌, ◌≢◌, ◌≤◌, ◌<◌, ◌*◌, ℕ, List, [], length, Some, IfOk, IfErr, OnOk, Ok, Err};
+ghost use Rattle.avida_port.specs.Ports.{IsAllOf};
 ghost use Rattle.genome.specs.Genome.{letters};
 ghost use Rattle.world_config.specs.Shown.{values_of};
 ghost use Rattle.avida_program.specs.Changes.{change};
@@ -14,19 +14,20 @@ use lineage_log::{Log, LogStop, read_log};
 use std::alloc::Global;
 use world_config::{Config, ConfigStop};
 
-/// The greatest number of bytes of a genome's or a configuration's text.
+/// A genome or a configuration with more bytes is rejected as too long.
 pub const INPUT_LIMIT: usize = 1_048_576;
 
-/// All bytes of a source, where they are within the limit.
+/// Reads a source to its end. More bytes than the limit are rejected with `TooLong`.
 pub fn read_bytes<S: Source>(
     alloc: Global,
     source: &mut S,
     limit: usize,
 ) -> Result<Vec<u8>, Outcome>
-    requires { limit ≤ LONGEST_INPUT }
+    requires { limit ≤ 536870912 }
     ensures within { IfOk result (λ bytes. length bytes.items ≤ limit) }
     ensures all { IfOk result (λ bytes. IsAllOf (S.seen source.old) bytes.items) }
-    ensures end { OnOk result (AtEnd (S.seen source.new)) }
+    ensures end { OnOk result ((left : List ℕ)
+        → (S.seen source.old).left ≡ Some left → (S.seen source.new).left ≡ Some []) }
     ensures stopped { IfErr result
         (StopsReading limit (change (S.seen source.old) (S.seen source.new))) }
 {
@@ -49,9 +50,9 @@ fn read_spelled(alloc: Global, spelling: Spelling, bytes: &[u8]) -> Result<Genom
     }
 }
 
-/// The genome of bytes within the limit, which are dropped.
+/// Reads a genome from the bytes and drops them.
 pub fn read_genome(alloc: Global, spelling: Spelling, bytes: Vec<u8>) -> Result<Genome, Outcome>
-    requires { length bytes.items ≤ INPUT_LIMIT }
+    requires { length bytes.items ≤ 1048576 }
     ensures ok { IfOk result (λ genome. genome_of spelling bytes.items ≡ Ok (letters genome)) }
     ensures refused { IfErr result (RefusesInput (genome_of spelling bytes.items)) }
 {
@@ -62,9 +63,9 @@ pub fn read_genome(alloc: Global, spelling: Spelling, bytes: Vec<u8>) -> Result<
     }
 }
 
-/// The configuration of bytes within the limit, which are dropped.
+/// Reads a configuration from the bytes and drops them.
 pub fn read_config(alloc: Global, bytes: Vec<u8>) -> Result<Config, Outcome>
-    requires { length bytes.items ≤ INPUT_LIMIT }
+    requires { length bytes.items ≤ 1048576 }
     ensures ok { IfOk result (λ config. configuration_of bytes.items ≡ Ok (values_of config)) }
     ensures refused { IfErr result (RefusesInput (configuration_of bytes.items)) }
 {
@@ -75,17 +76,14 @@ pub fn read_config(alloc: Global, bytes: Vec<u8>) -> Result<Config, Outcome>
     }
 }
 
-/// The configuration of bytes within the limit, which are dropped, with this cell in its world.
+/// Reads a configuration from the bytes and drops them. A cell outside its world is rejected.
 pub fn read_config_with(alloc: Global, bytes: Vec<u8>, cell: u32) -> Result<Config, Outcome>
-    requires { length bytes.items ≤ INPUT_LIMIT }
+    requires { length bytes.items ≤ 1048576 }
     ensures ok { IfOk result (λ config. lineage_input_of cell bytes.items ≡ Ok (values_of config)) }
     ensures cell { IfOk result (λ config. cell < config.width * config.height) }
     ensures refused { IfErr result (RefusesInput (lineage_input_of cell bytes.items)) }
 {
-    let config = match read_config(alloc, bytes) {
-        Ok(config) => config,
-        Err(outcome) => return Err(outcome),
-    };
+    let config = read_config(alloc, bytes)?;
     if cell < config.width * config.height {
         Ok(config)
     } else {
@@ -93,9 +91,9 @@ pub fn read_config_with(alloc: Global, bytes: Vec<u8>, cell: u32) -> Result<Conf
     }
 }
 
-/// The log of bytes within the limit, which are dropped.
+/// Reads a log from the bytes and drops them.
 pub fn read_lines(alloc: Global, bytes: Vec<u8>) -> Result<Log, Outcome>
-    requires { length bytes.items ≤ LONGEST_INPUT }
+    requires { length bytes.items ≤ 536870912 }
     ensures ok { IfOk result (λ log. log_input_of bytes.items ≡ Ok log) }
     ensures refused { IfErr result (RefusesInput (log_input_of bytes.items)) }
 {

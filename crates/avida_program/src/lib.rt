@@ -5,6 +5,7 @@ mod command;
 mod fault_line;
 mod fixed_text;
 mod input;
+pub mod laws;
 mod lineage;
 mod outcome;
 mod piece;

@@ -1,13 +1,14 @@
 // The command `lineage`.
-ghost use Rattle.std.specs.Prelude.{◌≡◌, ◌≢◌, ◌≤◌, ◌<◌, ◌*◌, ◌++◌, ℕ, List, Some, IfOk, IfErr, OnOk, flat_map, option_map};
+ghost use Rattle.std.specs.Prelude.{◌≡◌, ◌≤◌, ◌<◌, ◌*◌, ◌++◌, IfOk, IfErr, OnOk, flat_map, option_map};
+ghost use Rattle.avida_port.specs.Ports.{SinkState};
 ghost use Rattle.mutations.specs.BirthRecord.{record_of};
 ghost use Rattle.world_config.specs.Shown.{values_of};
 ghost use Rattle.world_core.specs.WorldValue.{world_in};
-ghost use Rattle.world_core.specs.declared.world.TheConstants.{MOST_WORKERS};
 ghost use Rattle.world_rules.specs.Descent.{line_in};
-ghost use Rattle.avida_program.specs.Changes.{GainedText, Stays, change};
+ghost use Rattle.avida_program.specs.declared.command.Command.TheVariants.{Lineage};
+ghost use Rattle.avida_program.specs.Changes.{GainedText, change, unchanged};
 ghost use Rattle.avida_program.specs.Commands.{final_world};
-ghost use Rattle.avida_program.specs.Outcomes.{Descends, HasCauses, StopsWithin, WritesText};
+ghost use Rattle.avida_program.specs.Outcomes.{CarriesOut, StopsWithin, WritesText};
 ghost use Rattle.avida_program.specs.PathText.{origin_text, parent_text, path_line, path_lines, path_text, place_text};
 ghost use Rattle.avida_program.specs.TraceText.{spaced};
 
@@ -134,7 +135,7 @@ fn run_and_write<O: Sink, G: Gate + Sync>(
     out: &mut O,
     gate: &G,
 ) -> Result<World, Outcome>
-    requires workers { (1 ≤ workers) × (workers ≤ MOST_WORKERS) }
+    requires workers { (1 ≤ workers) × (workers ≤ 64) }
     requires cell { cell < config.width * config.height }
     ensures world { IfOk result (λ world. world ≡ final_world (values_of config)) }
     ensures ok { OnOk result (GainedText (change (O.seen out.old) (O.seen out.new))
@@ -149,7 +150,8 @@ fn run_and_write<O: Sink, G: Gate + Sync>(
     }
 }
 
-/// Reads a configuration, runs it to its end, and writes the line of descent of who stands in the cell; the last world is left only where all is done.
+/// Reads a configuration, runs it to its end, and writes the line of descent of the organism in the
+/// cell. On `Done` the last world is left in `last`, and otherwise `last` stays as it was.
 pub fn lineage<S: Source, O: Sink, G: Gate + Sync>(
     alloc: Global,
     cell: u32,
@@ -159,14 +161,13 @@ pub fn lineage<S: Source, O: Sink, G: Gate + Sync>(
     last: &mut Option<World>,
     gate: &G,
 ) -> Outcome
-    requires { (1 ≤ workers) × (workers ≤ MOST_WORKERS) }
-    ensures causes { HasCauses (change (S.seen source.old) (S.seen source.new))
-        (change (O.seen out.old) (O.seen out.new)) result }
-    ensures words { result ≢ Outcome.BadWords }
-    ensures last_stays { result ≢ Outcome.Done → Stays (change last.old last.new) }
-    ensures told { (bytes : List ℕ) → (S.seen source.old).left ≡ Some bytes
-        → Descends cell bytes (change (S.seen source.old) (S.seen source.new))
-        (change (O.seen out.old) (O.seen out.new)) (change last.old last.new) result }
+    requires { (1 ≤ workers) × (workers ≤ 64) }
+    ensures { (watch : SinkState) → CarriesOut (Lineage cell workers) (record {
+      source = change (S.seen source.old) (S.seen source.new);
+      out = change (O.seen out.old) (O.seen out.new);
+      watch = unchanged watch;
+      last = change last.old last.new;
+    }) result }
 {
     let bytes = match read_bytes(alloc, source, INPUT_LIMIT) {
         Ok(bytes) => bytes,

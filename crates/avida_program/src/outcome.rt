@@ -6,6 +6,7 @@ ghost use Rattle.avida_program.specs.Status.{status_of};
 use crate::{Refusal, Status};
 use avida_port::{Memory, SinkStop};
 
+/// How a call ends: its status, and for a rejected input the reason.
 #[derive(Drop)]
 pub enum Outcome {
     Done,
@@ -17,6 +18,7 @@ pub enum Outcome {
 }
 
 impl Outcome {
+    /// The outcome without the reason.
     pub fn status(&self) -> Status
         ensures { result ≡ status_of self.now }
     {
@@ -56,7 +58,7 @@ impl From<SinkStop> for Outcome {
     }
 }
 
-/// How a call ends whose puts ended so.
+/// The outcome of a call whose last writes gave this result.
 pub fn ended(puts: Result<(), SinkStop>) -> Outcome
     ensures { result ≡ outcome_of puts }
 {

@@ -8,9 +8,10 @@ use arrayvec::ArrayVec;
 use avida_port::{Sink, SinkStop};
 use instruction_set::Letter;
 
-/// No put of a trace is longer.
+/// A piece of output has at most this many bytes.
 pub const PIECE_SIZE: usize = 8192;
 
+/// Output that is collected before it is written.
 pub type Piece = ArrayVec<u8, PIECE_SIZE>;
 
 /// Puts the piece, and begins a new one.
@@ -24,7 +25,7 @@ fn put_piece<O: Sink>(piece: &mut Piece, out: &mut O) -> Result<(), SinkStop>
     Ok(())
 }
 
-/// Puts the piece where it has no room for so many bytes.
+/// Writes the piece if it has no room for this many more bytes.
 pub fn make_room<O: Sink>(piece: &mut Piece, bytes: usize, out: &mut O) -> Result<(), SinkStop>
     requires { bytes ≤ PIECE_SIZE }
     ensures writes { Writes (O.seen out.old) (O.seen out.new)
@@ -37,6 +38,7 @@ pub fn make_room<O: Sink>(piece: &mut Piece, bytes: usize, out: &mut O) -> Resul
     put_piece(piece, out)
 }
 
+/// Adds a byte to the piece.
 pub fn write_byte<O: Sink>(piece: &mut Piece, byte: u8, out: &mut O) -> Result<(), SinkStop>
     ensures { Writes (O.seen out.old) (O.seen out.new)
         piece.old.items piece.new.items (byte ∷ []) result }
@@ -46,7 +48,7 @@ pub fn write_byte<O: Sink>(piece: &mut Piece, byte: u8, out: &mut O) -> Result<(
     Ok(())
 }
 
-/// Letters may be longer than a piece.
+/// Adds letters to the piece. They may be longer than one piece.
 pub fn write_letters<O: Sink>(
     piece: &mut Piece,
     letters: &[Letter],
@@ -71,7 +73,7 @@ fn write_bytes<O: Sink>(piece: &mut Piece, text: &[u8], out: &mut O) -> Result<(
     Ok(())
 }
 
-/// A text that fits a piece is not cut.
+/// Adds a text to the piece. A text that fits into one piece isn't cut.
 pub fn write_text<O: Sink>(piece: &mut Piece, text: &[u8], out: &mut O) -> Result<(), SinkStop>
     ensures { Writes (O.seen out.old) (O.seen out.new)
         piece.old.items piece.new.items text.now result }

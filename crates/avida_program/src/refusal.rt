@@ -4,12 +4,14 @@ use genome::GenomeStop;
 use lineage_log::LogStop;
 use world_config::ConfigStop;
 
+/// Why an input is rejected.
 #[derive(Drop)]
 pub enum Refusal {
+    /// More bytes than the limit.
     TooLong,
     Genome(GenomeStop),
     Config(ConfigStop),
     Log(LogStop),
-    /// This cell is not in the world.
+    /// This cell is outside the world.
     Cell(u32),
 }

@@ -1,9 +1,11 @@
 // The command `replay`.
-ghost use Rattle.std.specs.Prelude.{◌≡◌, ◌≢◌, ◌+◌, ◌++◌, ◌≤◌, ℕ, List, Some, flat_map, codes, decimal};
+ghost use Rattle.std.specs.Prelude.{◌≡◌, ◌+◌, ◌++◌, ◌≤◌, Option, flat_map, codes, decimal};
 ghost use Rattle.arrayvec.specs.ArrayVec.{array_vec_len};
-ghost use Rattle.avida_program.specs.Changes.{change};
-ghost use Rattle.avida_program.specs.Input.{log_input_of};
-ghost use Rattle.avida_program.specs.Outcomes.{HasCauses, ReadsInput, WritesText};
+ghost use Rattle.avida_port.specs.Ports.{SinkState};
+ghost use Rattle.world_core.specs.WorldValue.{WorldValue};
+ghost use Rattle.avida_program.specs.declared.command.Command.TheVariants.{Replay};
+ghost use Rattle.avida_program.specs.Changes.{change, unchanged};
+ghost use Rattle.avida_program.specs.Outcomes.{CarriesOut, WritesText};
 ghost use Rattle.avida_program.specs.Pieces.{Writes};
 ghost use Rattle.avida_program.specs.ReplayText.{replay_text, resident_line};
 
@@ -65,15 +67,14 @@ fn write_replayed<O: Sink>(alloc: Global, log: &Log, out: &mut O) -> Outcome
     }
 }
 
-/// Reads a log, and writes who lives at its end.
+/// Reads a log, and writes a line for each organism that lives at its end.
 pub fn replay<S: Source, O: Sink>(alloc: Global, source: &mut S, out: &mut O) -> Outcome
-    ensures causes { HasCauses (change (S.seen source.old) (S.seen source.new))
-        (change (O.seen out.old) (O.seen out.new)) result }
-    ensures words { result ≢ Outcome.BadWords }
-    ensures told { (bytes : List ℕ) → (S.seen source.old).left ≡ Some bytes
-        → ReadsInput (log_input_of bytes) replay_text
-        (change (S.seen source.old) (S.seen source.new))
-        (change (O.seen out.old) (O.seen out.new)) result }
+    ensures { (watch : SinkState) (last : Option WorldValue) → CarriesOut Replay (record {
+      source = change (S.seen source.old) (S.seen source.new);
+      out = change (O.seen out.old) (O.seen out.new);
+      watch = unchanged watch;
+      last = unchanged last;
+    }) result }
 {
     let bytes = match read_bytes(alloc, source, LONGEST_INPUT) {
         Ok(bytes) => bytes,

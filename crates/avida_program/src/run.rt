@@ -1,14 +1,13 @@
 // The command `run`.
-ghost use Rattle.std.specs.Prelude.{◌≡◌, ◌≢◌, ◌≤◌, ◌<◌, ◌+◌, ℕ, List, Ok, Some, IfOk, OnOk, MatchResult};
+ghost use Rattle.std.specs.Prelude.{◌≡◌, ◌≤◌, ◌<◌, ◌+◌, Some, IfOk, MatchResult};
+ghost use Rattle.avida_port.specs.Ports.{SinkState};
 ghost use Rattle.world_config.specs.Shown.{values_of};
-ghost use Rattle.world_config.specs.declared.limits.TheConstants.{GREATEST_UPDATES};
-ghost use Rattle.world_core.specs.declared.world.TheConstants.{MOST_WORKERS};
-ghost use Rattle.world_core.specs.WorldValue.{WorldValue};
 ghost use Rattle.world_rules.specs.Laws.{ReplaysToLiving};
-ghost use Rattle.world_rules.specs.LogText.{head_text, update_text, updates_text, end_text, log_text};
-ghost use Rattle.avida_program.specs.Changes.{Stays, change};
+ghost use Rattle.world_rules.specs.LogText.{head_text, update_text, updates_text, end_text};
+ghost use Rattle.avida_program.specs.declared.command.Command.TheVariants.{Run};
+ghost use Rattle.avida_program.specs.Changes.{change, unchanged};
 ghost use Rattle.avida_program.specs.Commands.{final_world, run_text};
-ghost use Rattle.avida_program.specs.Outcomes.{HasCauses, Runs, WritesAll};
+ghost use Rattle.avida_program.specs.Outcomes.{CarriesOut, WritesAll};
 
 use crate::input::{read_bytes, read_config};
 use crate::{INPUT_LIMIT, Outcome};
@@ -41,7 +40,7 @@ fn write_update<O: Sink, G: Gate + Sync>(
     out: &mut O,
     gate: &G,
 ) -> Result<World, Outcome>
-    requires { world.update < GREATEST_UPDATES }
+    requires { world.update < 1000000 }
     ensures world { IfOk result (λ next. next ≡ record world { update = world.update + 1 }) }
     ensures text { WritesAll (O.seen out.old) (O.seen out.new)
         (update_text world.config (world.update + 1)) result }
@@ -60,7 +59,7 @@ fn write_updates<O: Sink, G: Gate + Sync>(
     gate: &G,
 ) -> Result<World, Outcome>
     requires new { world.update ≡ 0 }
-    requires updates { updates ≤ GREATEST_UPDATES }
+    requires updates { updates ≤ 1000000 }
     ensures world { IfOk result (λ after. after ≡ record world { update = updates }) }
     ensures text { WritesAll (O.seen out.old) (O.seen out.new)
         (updates_text world.config updates) result }
@@ -79,7 +78,7 @@ fn write_log<O: Sink, G: Gate + Sync>(
     out: &mut O,
     gate: &G,
 ) -> Result<World, Outcome>
-    requires workers { (1 ≤ workers) × (workers ≤ MOST_WORKERS) }
+    requires workers { (1 ≤ workers) × (workers ≤ 64) }
     ensures world { IfOk result (λ world. world ≡ final_world (values_of config)) }
     ensures text { WritesAll (O.seen out.old) (O.seen out.new) (run_text (values_of config)) result }
     ensures replays { ReplaysToLiving (values_of config) config.updates }
@@ -95,7 +94,7 @@ fn write_log<O: Sink, G: Gate + Sync>(
 
 /// One update, whose text is dropped.
 fn pass_update<G: Gate + Sync>(alloc: Global, world: World, gate: &G) -> Result<World, Memory>
-    requires { world.update < GREATEST_UPDATES }
+    requires { world.update < 1000000 }
     ensures { IfOk result (λ next. next ≡ record world { update = world.update + 1 }) }
 {
     let (next, _text) = world.advance(alloc, gate)?;
@@ -110,7 +109,7 @@ fn pass_updates<G: Gate + Sync>(
     gate: &G,
 ) -> Result<World, Memory>
     requires new { world.update ≡ 0 }
-    requires updates { updates ≤ GREATEST_UPDATES }
+    requires updates { updates ≤ 1000000 }
     ensures { IfOk result (λ after. after ≡ record world { update = updates }) }
 {
     for _ in 0..updates {
@@ -119,14 +118,14 @@ fn pass_updates<G: Gate + Sync>(
     Ok(world)
 }
 
-/// The world after a configuration's last update.
+/// Runs a configuration to its last update, and gives the world then.
 pub fn run_to_end<G: Gate + Sync>(
     alloc: Global,
     config: Config,
     workers: u32,
     gate: &G,
 ) -> Result<World, Memory>
-    requires workers { (1 ≤ workers) × (workers ≤ MOST_WORKERS) }
+    requires workers { (1 ≤ workers) × (workers ≤ 64) }
     ensures { IfOk result (λ world. world ≡ final_world (values_of config)) }
 {
     let updates = config.updates;
@@ -134,7 +133,7 @@ pub fn run_to_end<G: Gate + Sync>(
     pass_updates(alloc, world, updates, gate)
 }
 
-/// Leaves the world of a run that came to its end.
+/// Stores the world of a run that came to its end in `last`.
 pub fn leave(run: Result<World, Outcome>, last: &mut Option<World>) -> Outcome
     ensures { MatchResult run (λ world. (result ≡ Outcome.Done) × (last.new ≡ Some world))
         (λ told. (result ≡ told) × (last.new ≡ last.old)) }
@@ -148,7 +147,8 @@ pub fn leave(run: Result<World, Outcome>, last: &mut Option<World>) -> Outcome
     }
 }
 
-/// Reads a configuration, and writes the log of its run; the last world is left only where all is done.
+/// Reads a configuration, and writes the log of its run. On `Done` the last world is left in `last`,
+/// and otherwise `last` stays as it was.
 pub fn run<S: Source, O: Sink, G: Gate + Sync>(
     alloc: Global,
     workers: u32,
@@ -157,14 +157,13 @@ pub fn run<S: Source, O: Sink, G: Gate + Sync>(
     last: &mut Option<World>,
     gate: &G,
 ) -> Outcome
-    requires { (1 ≤ workers) × (workers ≤ MOST_WORKERS) }
-    ensures causes { HasCauses (change (S.seen source.old) (S.seen source.new))
-        (change (O.seen out.old) (O.seen out.new)) result }
-    ensures words { result ≢ Outcome.BadWords }
-    ensures last_stays { result ≢ Outcome.Done → Stays (change last.old last.new) }
-    ensures told { (bytes : List ℕ) → (S.seen source.old).left ≡ Some bytes
-        → Runs bytes (change (S.seen source.old) (S.seen source.new))
-        (change (O.seen out.old) (O.seen out.new)) (change last.old last.new) result }
+    requires { (1 ≤ workers) × (workers ≤ 64) }
+    ensures { (watch : SinkState) → CarriesOut (Run workers) (record {
+      source = change (S.seen source.old) (S.seen source.new);
+      out = change (O.seen out.old) (O.seen out.new);
+      watch = unchanged watch;
+      last = change last.old last.new;
+    }) result }
 {
     let bytes = match read_bytes(alloc, source, INPUT_LIMIT) {
         Ok(bytes) => bytes,

@@ -1,13 +1,11 @@
 // The whole program.
-ghost use Rattle.std.specs.Prelude.{◌≡◌, ◌≢◌, ℕ, List, Some, None, map, string_bytes};
-ghost use Rattle.avida_program.specs.CommandLine.{command_of};
-ghost use Rattle.avida_program.specs.Changes.{change, Stays, TellsOf, SourceFailed, SinkFailed};
-ghost use Rattle.avida_program.specs.Commands.{ServesLineage, ServesNothing, ServesReplay, ServesRun, ServesTrace, ServesUpgrade, upgrade_text};
-ghost use Rattle.avida_program.specs.Input.{log_input_of};
-ghost use Rattle.avida_program.specs.Outcomes.{Descends, HasCauses, ReadsInput, ReadsNothing, Runs, Traces};
-ghost use Rattle.avida_program.specs.ReplayText.{replay_text};
-ghost use Rattle.avida_program.specs.declared.command.Command.TheVariants.{Lineage, Replay, Run, Trace, Upgrade};
-ghost use Rattle.avida_program.specs.declared.command.Spelling.{Spelling};
+ghost use Rattle.std.specs.Prelude.{◌≡◌, ◌≢◌, Some, None, map, string_bytes};
+ghost use Rattle.avida_port.specs.Faults.{Rose};
+ghost use Rattle.avida_port.specs.Ports.{SinkState};
+ghost use Rattle.avida_program.specs.CommandLine.{HasWorkers, command_of};
+ghost use Rattle.avida_program.specs.Changes.{TellsOf, change, unchanged};
+ghost use Rattle.avida_program.specs.Commands.{Serves};
+ghost use Rattle.avida_program.specs.Outcomes.{CarriesOut, Obeys};
 
 use crate::command::{Command, read_words};
 use crate::fault_line::line_of;
@@ -22,7 +20,7 @@ use command_line::Refused;
 use std::alloc::Global;
 use world_core::World;
 
-/// The line of an outcome goes to `err`, and a failure there changes nothing.
+/// Writes the fault line to `err`. A failure there changes no status.
 fn tell<E: Sink>(err: &mut E, outcome: &Outcome)
     ensures { TellsOf (change (E.seen err.old) (E.seen err.new)) outcome.now }
 {
@@ -33,8 +31,36 @@ fn tell<E: Sink>(err: &mut E, outcome: &Outcome)
     let _ = err.put(line.as_slice());
 }
 
-/// Carries out the command that the words give.
+/// Calls the function of the command.
 fn carry_out<S: Source, O: Sink, G: Gate + Sync>(
+    alloc: Global,
+    command: Command,
+    source: &mut S,
+    out: &mut O,
+    last: &mut Option<World>,
+    gate: &G,
+) -> Outcome
+    requires { HasWorkers command }
+    ensures { (watch : SinkState) → CarriesOut command (record {
+      source = change (S.seen source.old) (S.seen source.new);
+      out = change (O.seen out.old) (O.seen out.new);
+      watch = unchanged watch;
+      last = change last.old last.new;
+    }) result }
+{
+    match command {
+        Command::Trace { steps, spelling } => trace(alloc, steps, spelling, source, out),
+        Command::Run { workers } => run(alloc, workers, source, out, last, gate),
+        Command::Lineage { cell, workers } => {
+            lineage(alloc, cell, workers, source, out, last, gate)
+        }
+        Command::Replay => replay(alloc, source, out),
+        Command::Upgrade => upgrade(alloc, source, out),
+    }
+}
+
+/// Carries out the command that the words give.
+fn obey<S: Source, O: Sink, G: Gate + Sync>(
     alloc: Global,
     words: &[String],
     source: &mut S,
@@ -42,53 +68,22 @@ fn carry_out<S: Source, O: Sink, G: Gate + Sync>(
     last: &mut Option<World>,
     gate: &G,
 ) -> Outcome
-    ensures causes { HasCauses (change (S.seen source.old) (S.seen source.new))
-        (change (O.seen out.old) (O.seen out.new)) result }
     ensures bad_words { result ≡ Outcome.BadWords → command_of (map string_bytes words.now) ≡ None }
-    ensures last_stays { result ≢ Outcome.Done → Stays (change last.old last.new) }
-    ensures no_command { command_of (map string_bytes words.now) ≡ None
-        → ReadsNothing (change (S.seen source.old) (S.seen source.new))
-        (change (O.seen out.old) (O.seen out.new)) result }
-    ensures trace { (steps : ℕ) (spelling : Spelling)
-        → command_of (map string_bytes words.now) ≡ Some (Trace steps spelling)
-        → (bytes : List ℕ) → (S.seen source.old).left ≡ Some bytes
-        → Traces steps spelling bytes (change (S.seen source.old) (S.seen source.new))
-        (change (O.seen out.old) (O.seen out.new)) result × Stays (change last.old last.new) }
-    ensures run { (workers : ℕ)
-        → command_of (map string_bytes words.now) ≡ Some (Run workers)
-        → (bytes : List ℕ) → (S.seen source.old).left ≡ Some bytes
-        → Runs bytes (change (S.seen source.old) (S.seen source.new))
-        (change (O.seen out.old) (O.seen out.new)) (change last.old last.new) result }
-    ensures lineage { (cell workers : ℕ)
-        → command_of (map string_bytes words.now) ≡ Some (Lineage cell workers)
-        → (bytes : List ℕ) → (S.seen source.old).left ≡ Some bytes
-        → Descends cell bytes (change (S.seen source.old) (S.seen source.new))
-        (change (O.seen out.old) (O.seen out.new)) (change last.old last.new) result }
-    ensures replay { command_of (map string_bytes words.now) ≡ Some Replay
-        → (bytes : List ℕ) → (S.seen source.old).left ≡ Some bytes
-        → ReadsInput (log_input_of bytes) replay_text
-        (change (S.seen source.old) (S.seen source.new))
-        (change (O.seen out.old) (O.seen out.new)) result × Stays (change last.old last.new) }
-    ensures upgrade { command_of (map string_bytes words.now) ≡ Some Upgrade
-        → (bytes : List ℕ) → (S.seen source.old).left ≡ Some bytes
-        → ReadsInput (log_input_of bytes) upgrade_text
-        (change (S.seen source.old) (S.seen source.new))
-        (change (O.seen out.old) (O.seen out.new)) result × Stays (change last.old last.new) }
+    ensures obeys { (watch : SinkState) → Obeys (command_of (map string_bytes words.now)) (record {
+      source = change (S.seen source.old) (S.seen source.new);
+      out = change (O.seen out.old) (O.seen out.new);
+      watch = unchanged watch;
+      last = change last.old last.new;
+    }) result }
 {
     match read_words(alloc, words) {
-        Ok(Command::Trace { steps, spelling }) => trace(alloc, steps, spelling, source, out),
-        Ok(Command::Run { workers }) => run(alloc, workers, source, out, last, gate),
-        Ok(Command::Lineage { cell, workers }) => {
-            lineage(alloc, cell, workers, source, out, last, gate)
-        }
-        Ok(Command::Replay) => replay(alloc, source, out),
-        Ok(Command::Upgrade) => upgrade(alloc, source, out),
+        Ok(command) => carry_out(alloc, command, source, out, last, gate),
         Err(Refused::BadWords) => Outcome::BadWords,
         Err(Refused::Memory) => Outcome::NoMemory,
     }
 }
 
-/// All that the program does: the words say what, and the status how it ended.
+/// All that the program does. The words say which command runs, and the status says how it ended.
 pub fn serve<S: Source, O: Sink + Send, W: Sink + Send, E: Sink, G: Gate + Sync>(
     alloc: Global,
     words: &[String],
@@ -99,50 +94,25 @@ pub fn serve<S: Source, O: Sink + Send, W: Sink + Send, E: Sink, G: Gate + Sync>
     last: &mut Option<World>,
     gate: &G,
 ) -> Status
-    // The causes stand also where the source and the sinks tell no bytes.
+    // These hold also where the source and the sinks tell no bytes.
     ensures read_fault { result ≡ Status.ReadFault
-        → SourceFailed (change (S.seen source.old) (S.seen source.new)) }
+        → Rose (S.seen source.old).faults (S.seen source.new).faults }
     ensures write_fault { result ≡ Status.WriteFault
-        → SinkFailed (change (O.seen out.old) (O.seen out.new)) }
+        → Rose (O.seen out.old).faults (O.seen out.new).faults }
     ensures bad_words { result ≡ Status.BadWords → command_of (map string_bytes words.now) ≡ None }
-    ensures watch_stays { Stays (change (W.seen watch.old) (W.seen watch.new)) }
-    ensures last_stays { result ≢ Status.Done → Stays (change last.old last.new) }
+    ensures watch_stays { W.seen watch.new ≡ W.seen watch.old }
+    ensures last_stays { result ≢ Status.Done → last.new ≡ last.old }
 
-    // What each command does.
-    ensures no_command { command_of (map string_bytes words.now) ≡ None
-        → ServesNothing (change (S.seen source.old) (S.seen source.new))
-        (change (O.seen out.old) (O.seen out.new)) (change (W.seen watch.old) (W.seen watch.new))
-        (change (E.seen err.old) (E.seen err.new)) (change last.old last.new) result }
-    ensures trace { (steps : ℕ) (spelling : Spelling)
-        → command_of (map string_bytes words.now) ≡ Some (Trace steps spelling)
-        → (bytes : List ℕ) → (S.seen source.old).left ≡ Some bytes
-        → ServesTrace steps spelling bytes (change (S.seen source.old) (S.seen source.new))
-        (change (O.seen out.old) (O.seen out.new)) (change (W.seen watch.old) (W.seen watch.new))
-        (change (E.seen err.old) (E.seen err.new)) (change last.old last.new) result }
-    ensures run { (workers : ℕ)
-        → command_of (map string_bytes words.now) ≡ Some (Run workers)
-        → (bytes : List ℕ) → (S.seen source.old).left ≡ Some bytes
-        → ServesRun bytes (change (S.seen source.old) (S.seen source.new))
-        (change (O.seen out.old) (O.seen out.new)) (change (W.seen watch.old) (W.seen watch.new))
-        (change (E.seen err.old) (E.seen err.new)) (change last.old last.new) result }
-    ensures lineage { (cell workers : ℕ)
-        → command_of (map string_bytes words.now) ≡ Some (Lineage cell workers)
-        → (bytes : List ℕ) → (S.seen source.old).left ≡ Some bytes
-        → ServesLineage cell bytes (change (S.seen source.old) (S.seen source.new))
-        (change (O.seen out.old) (O.seen out.new)) (change (W.seen watch.old) (W.seen watch.new))
-        (change (E.seen err.old) (E.seen err.new)) (change last.old last.new) result }
-    ensures replay { command_of (map string_bytes words.now) ≡ Some Replay
-        → (bytes : List ℕ) → (S.seen source.old).left ≡ Some bytes
-        → ServesReplay bytes (change (S.seen source.old) (S.seen source.new))
-        (change (O.seen out.old) (O.seen out.new)) (change (W.seen watch.old) (W.seen watch.new))
-        (change (E.seen err.old) (E.seen err.new)) (change last.old last.new) result }
-    ensures upgrade { command_of (map string_bytes words.now) ≡ Some Upgrade
-        → (bytes : List ℕ) → (S.seen source.old).left ≡ Some bytes
-        → ServesUpgrade bytes (change (S.seen source.old) (S.seen source.new))
-        (change (O.seen out.old) (O.seen out.new)) (change (W.seen watch.old) (W.seen watch.new))
-        (change (E.seen err.old) (E.seen err.new)) (change last.old last.new) result }
+    // What the command did, by its row.
+    ensures serves { Serves (command_of (map string_bytes words.now)) (record {
+      source = change (S.seen source.old) (S.seen source.new);
+      out = change (O.seen out.old) (O.seen out.new);
+      watch = change (W.seen watch.old) (W.seen watch.new);
+      err = change (E.seen err.old) (E.seen err.new);
+      last = change last.old last.new;
+    }) result }
 {
-    let outcome = carry_out(alloc, words, source, out, last, gate);
+    let outcome = obey(alloc, words, source, out, last, gate);
     tell(err, &outcome);
     outcome.status()
 }

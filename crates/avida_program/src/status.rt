@@ -2,6 +2,7 @@
 ghost use Rattle.std.specs.Prelude.{◌≡◌};
 ghost use Rattle.avida_program.specs.Status.{number_of_status};
 
+/// How a call of the program ended.
 #[derive(Clone, Copy, Debug, PartialEq, Eq)]
 pub enum Status {
     Done,
@@ -13,6 +14,7 @@ pub enum Status {
 }
 
 impl Status {
+    /// The exit status of the process.
     pub fn number(self) -> u8
         ensures { result ≡ number_of_status self }
     {

@@ -1,8 +1,11 @@
 // The command `trace`.
-ghost use Rattle.std.specs.Prelude.{◌≡◌, ◌≢◌, ℕ, List, Some, length, IfOk};
+ghost use Rattle.std.specs.Prelude.{◌≡◌, Option, length, IfOk};
+ghost use Rattle.avida_port.specs.Ports.{SinkState};
 ghost use Rattle.genome.specs.Genome.{letters};
-ghost use Rattle.avida_program.specs.Changes.{change};
-ghost use Rattle.avida_program.specs.Outcomes.{HasCauses, Traces, WritesText};
+ghost use Rattle.world_core.specs.WorldValue.{WorldValue};
+ghost use Rattle.avida_program.specs.declared.command.Command.TheVariants.{Trace};
+ghost use Rattle.avida_program.specs.Changes.{change, unchanged};
+ghost use Rattle.avida_program.specs.Outcomes.{CarriesOut, WritesText};
 ghost use Rattle.avida_program.specs.TraceText.{lines_of, trace_limit, trace_text, traced_organism};
 
 use crate::input::{read_bytes, read_genome};
@@ -77,7 +80,7 @@ fn write_trace<O: Sink>(alloc: Global, genome: Genome, steps: u32, out: &mut O) 
     }
 }
 
-/// Reads a genome, and writes what its organism does in so many steps.
+/// Reads a genome, and writes a line for each of its organism's first `steps` steps.
 pub fn trace<S: Source, O: Sink>(
     alloc: Global,
     steps: u32,
@@ -85,12 +88,13 @@ pub fn trace<S: Source, O: Sink>(
     source: &mut S,
     out: &mut O,
 ) -> Outcome
-    ensures causes { HasCauses (change (S.seen source.old) (S.seen source.new))
-        (change (O.seen out.old) (O.seen out.new)) result }
-    ensures words { result ≢ Outcome.BadWords }
-    ensures told { (bytes : List ℕ) → (S.seen source.old).left ≡ Some bytes
-        → Traces steps spelling bytes (change (S.seen source.old) (S.seen source.new))
-        (change (O.seen out.old) (O.seen out.new)) result }
+    ensures { (watch : SinkState) (last : Option WorldValue)
+        → CarriesOut (Trace steps spelling) (record {
+          source = change (S.seen source.old) (S.seen source.new);
+          out = change (O.seen out.old) (O.seen out.new);
+          watch = unchanged watch;
+          last = unchanged last;
+        }) result }
 {
     let bytes = match read_bytes(alloc, source, INPUT_LIMIT) {
         Ok(bytes) => bytes,

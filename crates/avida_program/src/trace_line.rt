@@ -114,7 +114,7 @@ fn write_remark<O: Sink>(piece: &mut Piece, remark: &Remark, out: &mut O) -> Res
     }
 }
 
-/// The line of a step, behind what the piece holds.
+/// Adds the line of a step to the piece.
 pub fn write_line<O: Sink>(
     piece: &mut Piece,
     number: u32,

@@ -1,12 +1,14 @@
 // The command `upgrade`.
-ghost use Rattle.std.specs.Prelude.{◌≡◌, ◌≢◌, ℕ, List, Some};
+ghost use Rattle.std.specs.Prelude.{Option};
 ghost use Rattle.lineage_log.specs.LogGrammar.{lines_text};
 ghost use Rattle.lineage_log.specs.LogValues.{lines_of};
 ghost use Rattle.lineage_log.specs.Upgrade.{upgraded};
-ghost use Rattle.avida_program.specs.Changes.{change};
+ghost use Rattle.avida_port.specs.Ports.{SinkState};
+ghost use Rattle.world_core.specs.WorldValue.{WorldValue};
+ghost use Rattle.avida_program.specs.declared.command.Command.TheVariants.{Upgrade};
+ghost use Rattle.avida_program.specs.Changes.{change, unchanged};
 ghost use Rattle.avida_program.specs.Commands.{upgrade_text};
-ghost use Rattle.avida_program.specs.Input.{log_input_of};
-ghost use Rattle.avida_program.specs.Outcomes.{HasCauses, ReadsInput, WritesText};
+ghost use Rattle.avida_program.specs.Outcomes.{CarriesOut, WritesText};
 
 use crate::Outcome;
 use crate::input::{read_bytes, read_lines};
@@ -42,15 +44,14 @@ fn write_upgraded<O: Sink>(alloc: Global, mut log: Log, out: &mut O) -> Outcome
     write_lines(alloc, &lines, out)
 }
 
-/// Reads a log, and writes its lines with the last version.
+/// Reads a log, and writes its lines in the newest version of the format.
 pub fn upgrade<S: Source, O: Sink>(alloc: Global, source: &mut S, out: &mut O) -> Outcome
-    ensures causes { HasCauses (change (S.seen source.old) (S.seen source.new))
-        (change (O.seen out.old) (O.seen out.new)) result }
-    ensures words { result ≢ Outcome.BadWords }
-    ensures told { (bytes : List ℕ) → (S.seen source.old).left ≡ Some bytes
-        → ReadsInput (log_input_of bytes) upgrade_text
-        (change (S.seen source.old) (S.seen source.new))
-        (change (O.seen out.old) (O.seen out.new)) result }
+    ensures { (watch : SinkState) (last : Option WorldValue) → CarriesOut Upgrade (record {
+      source = change (S.seen source.old) (S.seen source.new);
+      out = change (O.seen out.old) (O.seen out.new);
+      watch = unchanged watch;
+      last = unchanged last;
+    }) result }
 {
     let bytes = match read_bytes(alloc, source, LONGEST_INPUT) {
         Ok(bytes) => bytes,

@@ -12,12 +12,8 @@ use Rattle.command_line.specs.Commands.{bare_form, lineage_form, lineage_of, run
 use Rattle.command_line.specs.Parsers.{app_by, lineage_texts, told_in, trace_texts}
 use Rattle.command_line.specs.Refusals.{IsRefusedBy, Refuses}
 use Rattle.command_line.specs.declared.lineage.Lineage.{Lineage}
-use Rattle.command_line.specs.declared.lineage.TheConstants.{MOST_CELL}
 use Rattle.command_line.specs.declared.run.Run.{Run}
-use Rattle.command_line.specs.declared.run.TheConstants.{MOST_LOOKS}
 use Rattle.command_line.specs.declared.trace.Trace.{Trace}
-use Rattle.command_line.specs.declared.trace.TheConstants.{MOST_STEPS}
-use Rattle.command_line.specs.declared.workers.TheConstants.{LEAST_WORKERS, MOST_WORKERS}
 use Rattle.command_line.specs.declared.refused.Refused.{Refused}
 use Rattle.command_line.specs.declared.refused.Refused.TheVariants.{BadWords}
 use Rattle.command_line.proofs.DashedValues.{IsOf}
@@ -88,7 +84,7 @@ module _ (no_minus : (least greatest : ℕ) (text : Text) → number_of least gr
       go : (ps : List Text) (vs : List (Option Text)) (fs : List Bool) → length ps ≡ 1 → length vs ≡ 0 → (list_any begins_dashed ps || list_any is_dashed vs) ≡ true
           → trace_of (record { positionals = ps; values = vs; flags = fs }) ≡ None
       go (p ∷ []) [] fs n m d = elim (cases_Bool (begins_dashed p)) [
-        | inl a ↦ rw (dashed_number 0 MOST_STEPS p a) refl
+        | inl a ↦ rw (dashed_number 0 1000000 p a) refl
         | inr a ↦ absurd (false≢true (rw a at d))
       ]
       go [] vs fs n m d = absurd (omega arith)
@@ -103,14 +99,14 @@ module _ (no_minus : (least greatest : ℕ) (text : Text) → number_of least gr
     where
       no_looks : (watch : Option Text) (workers : ℕ) → is_dashed watch ≡ true → run_with watch workers ≡ None
       no_looks None workers d = absurd (false≢true d)
-      no_looks (Some text) workers d = rw (dashed_number 0 MOST_LOOKS text d) refl
+      no_looks (Some text) workers d = rw (dashed_number 0 1000000 text d) refl
 
       go : (ps : List Text) (vs : List (Option Text)) (fs : List Bool) → length ps ≡ 0 → length vs ≡ 2 → (list_any begins_dashed ps || list_any is_dashed vs) ≡ true
           → run_of (record { positionals = ps; values = vs; flags = fs }) ≡ None
       go [] (w ∷ t ∷ []) fs n m d = elim (cases_Bool (is_dashed w)) [
-        | inl a ↦ ap (option_and_then (run_with t)) (dashed_text LEAST_WORKERS MOST_WORKERS w a)
+        | inl a ↦ ap (option_and_then (run_with t)) (dashed_text 1 64 w a)
         | inr a ↦ elim (cases_Bool (is_dashed t)) [
-          | inl b ↦ none_after (run_with t) (option_and_then (number_of LEAST_WORKERS MOST_WORKERS) w) (λ workers. no_looks t workers b)
+          | inl b ↦ none_after (run_with t) (option_and_then (number_of 1 64) w) (λ workers. no_looks t workers b)
           | inr b ↦ absurd (false≢true (rw (a, b) at d))
         ]
       ]
@@ -128,10 +124,10 @@ module _ (no_minus : (least greatest : ℕ) (text : Text) → number_of least gr
       go : (ps : List Text) (vs : List (Option Text)) (fs : List Bool) → length ps ≡ 1 → length vs ≡ 1 → (list_any begins_dashed ps || list_any is_dashed vs) ≡ true
           → lineage_of (record { positionals = ps; values = vs; flags = fs }) ≡ None
       go (p ∷ []) (w ∷ []) fs n m d = elim (cases_Bool (begins_dashed p)) [
-        | inl a ↦ rw (dashed_number 0 MOST_CELL p a) refl
+        | inl a ↦ rw (dashed_number 0 65535 p a) refl
         | inr a ↦ elim (cases_Bool (is_dashed w)) [
-          | inl b ↦ none_after (λ cell. option_map (λ workers. record { cell = cell; workers = workers }) (option_and_then (number_of LEAST_WORKERS MOST_WORKERS) w))
-              (number_of 0 MOST_CELL p) (λ cell. ap (option_map (λ workers. record { cell = cell; workers = workers })) (dashed_text LEAST_WORKERS MOST_WORKERS w b))
+          | inl b ↦ none_after (λ cell. option_map (λ workers. record { cell = cell; workers = workers }) (option_and_then (number_of 1 64) w))
+              (number_of 0 65535 p) (λ cell. ap (option_map (λ workers. record { cell = cell; workers = workers })) (dashed_text 1 64 w b))
           | inr b ↦ absurd (false≢true (rw (a, b) at d))
         ]
       ]

@@ -4,12 +4,8 @@ use Rattle.command_line.specs.Form.{Form, Told, Valued}
 use Rattle.command_line.specs.Words.{is_set, told_by}
 use Rattle.numerals.specs.Numeral.{number_of}
 use Rattle.command_line.specs.declared.run.Run.{Run}
-use Rattle.command_line.specs.declared.run.TheConstants.{MOST_LOOKS}
 use Rattle.command_line.specs.declared.lineage.Lineage.{Lineage}
-use Rattle.command_line.specs.declared.lineage.TheConstants.{MOST_CELL}
-use Rattle.command_line.specs.declared.workers.TheConstants.{LEAST_WORKERS, MOST_WORKERS}
 use Rattle.command_line.specs.declared.trace.Trace.{Trace}
-use Rattle.command_line.specs.declared.trace.TheConstants.{MOST_STEPS}
 
 -- `trace steps [--org]`
 abbrev pub trace_form : Form
@@ -43,12 +39,12 @@ number_at least greatest place told =
 -- `trace` with the steps that the positional spells
 abbrev pub trace_of : Told → Option Trace
 trace_of told = option_map (λ steps. record { steps = steps; org = is_set told.flags 0 })
-    (number_at 0 MOST_STEPS 0 told)
+    (number_at 0 1000000 0 told)
 
 -- the looks that the value spells, where there is a value
 abbrev pub looks_of : Option (List ℕ) → Option (Option ℕ)
 looks_of None = Some None
-looks_of (Some value) = option_map (λ looks. Some looks) (number_of 0 MOST_LOOKS value)
+looks_of (Some value) = option_map (λ looks. Some looks) (number_of 0 1000000 value)
 
 -- the value of the option at this place
 abbrev pub value_at : ℕ → Told → Option (List ℕ)
@@ -57,7 +53,7 @@ value_at place told = option_and_then (λ value. value) (slice_get told.values p
 -- the workers that the value at this place spells
 abbrev pub workers_at : ℕ → Told → Option ℕ
 workers_at place told =
-    option_and_then (number_of LEAST_WORKERS MOST_WORKERS) (value_at place told)
+    option_and_then (number_of 1 64) (value_at place told)
 
 -- `run` with so many workers and this watch
 abbrev pub run_with : Option (List ℕ) → ℕ → Option Run
@@ -72,7 +68,7 @@ run_of told = option_and_then (run_with (value_at 1 told)) (workers_at 0 told)
 abbrev pub lineage_of : Told → Option Lineage
 lineage_of told = option_and_then (λ cell.
     option_map (λ workers. record { cell = cell; workers = workers }) (workers_at 0 told))
-    (number_at 0 MOST_CELL 0 told)
+    (number_at 0 65535 0 told)
 
 -- what the words after the name tell `trace`
 abbrev pub trace_told : List (List ℕ) → Option Trace

@@ -4,8 +4,10 @@ ghost use Rattle.command_line.specs.Form.{Form, IsSimple};
 ghost use Rattle.command_line.specs.Parsers.{parsed_by};
 ghost use Rattle.command_line.specs.Words.{told_by, undashed};
 
-/// What the parser makes of the words of a command is what they tell by its form, read from left
-/// to right, for every form; of a positional or a value that begins with `-` it says nothing.
+use crate::{LEAST_WORKERS, MOST_CELL, MOST_LOOKS, MOST_STEPS, MOST_WORKERS};
+
+/// For every form, the parser's result is the one that the form gives when the words are read from
+/// left to right. The law doesn't cover a positional or a value that begins with `-`.
 pub fn words_are_read_by_their_form()
     ensures { (name : List ℕ) (form : Form) (positionals : List (List ℕ)) (words : List (List ℕ))
         → IsSimple form positionals → 0 < length words
@@ -13,11 +15,20 @@ pub fn words_are_read_by_their_form()
         ≡ option_and_then undashed (told_by form (drop 1 words)) }
 {}
 
-/// A form of an option, a flag and two positionals is one of these.
+/// The law covers a form with an option, a flag and two positionals.
 pub fn an_option_a_flag_and_two_positionals_are_simple()
     ensures { IsSimple (record {
       options = record { name = codes "workers"; default = Some (codes "1") } ∷ [];
       flags = codes "quiet" ∷ [];
       positionals = 2;
     }) (codes "count" ∷ codes "first" ∷ []) }
+{}
+
+/// The limits of the numbers on a command line.
+pub fn limits()
+    ensures least_workers { LEAST_WORKERS ≡ 1 }
+    ensures most_workers { MOST_WORKERS ≡ 64 }
+    ensures most_steps { MOST_STEPS ≡ 1000000 }
+    ensures most_cell { MOST_CELL ≡ 65535 }
+    ensures most_looks { MOST_LOOKS ≡ 1000000 }
 {}

@@ -13,10 +13,10 @@ use clap::{Arg, ArgMatches, Command};
 use numerals::laws::one_spelling;
 use std::alloc::{AllocError, Global};
 
-/// The greatest number of a cell.
+/// The greatest cell that `lineage` accepts.
 pub const MOST_CELL: u32 = 65_535;
 
-/// What `lineage` is told: the cell whose line of descent is wanted, and the workers.
+/// The values of `lineage`: the cell whose line of descent is asked for, and the number of workers.
 #[derive(Clone, Copy, Debug, PartialEq, Eq)]
 pub struct Lineage {
     pub cell: u32,
@@ -45,7 +45,7 @@ fn in_matches(matches: &ArgMatches<'_>) -> Option<Lineage>
     Some(Lineage { cell, workers })
 }
 
-/// What the words after the name tell `lineage`; the first word is the name.
+/// Reads the words of `lineage`. The first word is the name of the command.
 pub fn read_lineage(alloc: Global, words: &[String]) -> Result<Lineage, Refused>
     requires { 0 < length words.now }
     ensures { MatchResult result

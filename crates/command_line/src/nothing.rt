@@ -16,7 +16,8 @@ fn command<'a>(alloc: Global) -> Command<'a>
     Command::new(alloc, "bare").disable_help_flag(true)
 }
 
-/// That no words stand after the name of a command that takes none; the first word is the name.
+/// Reads the words of a command that has no arguments. The first word is the name, and only `--`
+/// may follow it.
 pub fn read_nothing(alloc: Global, words: &[String]) -> Result<(), Refused>
     requires { 0 < length words.now }
     ensures { MatchResult result

@@ -6,7 +6,7 @@ ghost use Rattle.command_line.specs.Refusals.{IsRefusedBy};
 use crate::refused::{Refused, refused_by};
 use clap::{ArgMatches, Command};
 
-/// The matches of a simple command, or the refusal for one of the faults that the words have.
+/// The matches of a simple command, or a fault of the words.
 pub(crate) fn matches<'a>(
     command: Command<'a>,
     words: &'a [String],

@@ -4,12 +4,12 @@ ghost use Rattle.command_line.specs.Refusals.{refused_by};
 
 use clap::error::ErrorKind;
 
-/// Why words give no command.
+/// Why a command line gives no command.
 #[derive(Clone, Copy, Debug, PartialEq, Eq)]
 pub enum Refused {
-    /// No memory was found.
+    /// Out of memory.
     Memory,
-    /// The words are no command's.
+    /// The command line is invalid.
     BadWords,
 }
 

@@ -13,10 +13,10 @@ use clap::{Arg, ArgMatches, Command};
 use numerals::laws::one_spelling;
 use std::alloc::{AllocError, Global};
 
-/// The greatest number of looks of a watcher.
+/// The greatest number of looks that `run --watch` accepts.
 pub const MOST_LOOKS: u32 = 1_000_000;
 
-/// What `run` is told: its workers, and the looks of its watcher where it has one.
+/// The values of `run`: the number of workers, and of the watcher's looks if there is one.
 #[derive(Clone, Copy, Debug, PartialEq, Eq)]
 pub struct Run {
     pub workers: u32,
@@ -62,7 +62,7 @@ fn in_matches(matches: &ArgMatches<'_>) -> Option<Run>
     with_watch(workers, matches.get_str("watch"))
 }
 
-/// What the words after the name tell `run`; the first word is the name.
+/// Reads the words of `run`. The first word is the name of the command.
 pub fn read_run(alloc: Global, words: &[String]) -> Result<Run, Refused>
     requires { 0 < length words.now }
     ensures { MatchResult result

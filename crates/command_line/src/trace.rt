@@ -12,10 +12,10 @@ use clap::{Arg, ArgAction, ArgMatches, Command};
 use numerals::laws::one_spelling;
 use std::alloc::{AllocError, Global};
 
-/// The greatest number of steps of a trace.
+/// The greatest number of steps that `trace` accepts.
 pub const MOST_STEPS: u32 = 1_000_000;
 
-/// What `trace` is told: the number of its steps, and whether the genome is written by names.
+/// The values of `trace`: the number of steps, and whether the genome is written by names.
 #[derive(Clone, Copy, Debug, PartialEq, Eq)]
 pub struct Trace {
     pub steps: u32,
@@ -53,7 +53,7 @@ fn in_matches(matches: &ArgMatches<'_>) -> Option<Trace>
     Some(Trace { steps, org })
 }
 
-/// What the words after the name tell `trace`; the first word is the name.
+/// Reads the words of `trace`. The first word is the name of the command.
 pub fn read_trace(alloc: Global, words: &[String]) -> Result<Trace, Refused>
     requires { 0 < length words.now }
     ensures { MatchResult result

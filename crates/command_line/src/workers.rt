@@ -6,14 +6,14 @@ ghost use Rattle.numerals.specs.Numeral.{number_of};
 use crate::numbers::number_in;
 use clap::ArgMatches;
 
-/// The least number of workers.
+/// The least number of workers that a command accepts.
 pub const LEAST_WORKERS: u32 = 1;
 
-/// The greatest number of workers.
+/// The greatest number of workers that a command accepts.
 pub const MOST_WORKERS: u32 = 64;
 
 pub(crate) fn workers_in(matches: &ArgMatches<'_>) -> Option<u32>
-    ensures { result ≡ option_and_then (number_of LEAST_WORKERS MOST_WORKERS)
+    ensures { result ≡ option_and_then (number_of 1 64)
         (first_of (codes "workers") (rows_of (found_of matches.now))) }
 {
     number_in(LEAST_WORKERS, MOST_WORKERS, matches.get_str("workers")?)

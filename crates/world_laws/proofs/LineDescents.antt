@@ -1,16 +1,16 @@
 -- Each of a line of descent but the first is made of the one before it.
 use Rattle.std.proofs.Common.{◌≡◌, ℕ, zero, suc, ◌<◌, List, [], ◌∷◌, ◌++◌, map, Option, Some, None, refl, sym, ap, subst, ◌∙◌, arith}
 use Rattle.std.specs.Prelude.{slice_get, option_map, IfSome}
-use Rattle.std.proofs.lemmas.Option.{slice_get-map}
+use Rattle.std.proofs.lemmas.Option.{get_or_from_slice_get, slice_get-map}
 use Rattle.instruction_set.specs.declared.letter.Letter.{Letter}
 use Rattle.lineage_log.specs.Links.{Link}
 use Rattle.world_config.specs.Values.{ConfigValues}
-use Rattle.world_rules.specs.World.{Occupant, World, id_at}
+use Rattle.world_rules.specs.World.{Occupant, World, id_at, id_of}
 use Rattle.world_rules.specs.WorldRun.{world_after}
 use Rattle.world_rules.specs.Descent.{line_of, line_of_parent, lines_of, line_in, IsBelow, AreNumbered, IsNumberedWorld}
-use Rattle.world_laws.specs.Heredity.{IsChildOf, ComesFrom, AreDescended, IsDescent}
+use Rattle.world_laws.specs.Heredity.{IsChildOf, ComesFrom, AreDescended, IsDescent, IsLastOfLine}
 use Rattle.world_laws.proofs.Mirror.{written}
-use Rattle.world_laws.proofs.Scenes.{Known, who_stands}
+use Rattle.world_laws.proofs.Scenes.{Known, Stands, who_stands}
 use Rattle.world_laws.proofs.LivesLemmas.{LifeLaws}
 use Rattle.world_laws.proofs.Configs.{IsConfig}
 use Rattle.world_laws.proofs.Wholes.{run_after}
@@ -49,9 +49,10 @@ module _ (laws : LineLaws) (everyone : List Link) (are : AreNumbered everyone) (
   descent_of : (id : ℕ) (link : Link) → slice_get everyone id ≡ Some link → IsDescent (line_of everyone id)
   descent_of id link e = let low : id < suc id = omega arith in descent_below (suc id) id link low e
 
-written_there : (slot : Option Link) (letters : List Letter) → option_map written slot ≡ Some (Some letters) → (link : Link) × (slot ≡ Some link)
+-- a link that was written, with its genome
+written_there : (slot : Option Link) (letters : List Letter) → option_map written slot ≡ Some (Some letters) → (link : Link) × (slot ≡ Some link) × (link.genome ≡ letters)
 written_there None letters e = absurd cc
-written_there (Some link) letters e = (link, refl)
+written_there (Some link) letters e = (link, refl, cc)
 
 descent_in : (laws : LineLaws) (w : World) → AreNumbered w.everyone → AreDescended w.everyone → Known (map written w.everyone) w.cells → (cell : ℕ) (slot : Option ℕ) → id_at w.cells cell ≡ slot → IfSome (option_map (line_of w.everyone) slot) IsDescent
 descent_in laws w are descended known cell None e = tt
@@ -68,3 +69,23 @@ unfolding line_in
 line_descends laws lives config fit n cell =
     let w = world_after config n in
     descent_in laws w (laws.numbered config n).everyone (descended_after lives config fit n) (run_after lives config fit n).world.kept cell (id_at w.cells cell) refl
+
+last_in : (laws : LineLaws) (w : World) → AreNumbered w.everyone → Known (map written w.everyone) w.cells → (cell : ℕ) (o : Occupant) → Stands w.cells cell o → IsLastOfLine w cell o
+unfolding line_in
+last_in laws w are known cell o stands =
+    let wrote = sym (slice_get-map written w.everyone o.id) ∙ known cell o stands in
+    let found = written_there (slice_get w.everyone o.id) o.organism.genome wrote in
+    let line = laws.line w.everyone o.id found.0 are found.1 in
+    let here : id_at w.cells cell ≡ Some o.id = ap id_of (get_or_from_slice_get w.cells cell (Some o) None stands) in
+    record {
+      last = found.0;
+      recorded = found.1;
+      genome = found.2;
+      before = line_of_parent (lines_of w.everyone) found.0.parent;
+      line = ap (option_map (line_of w.everyone)) here ∙ ap Some line;
+    }
+
+-- who stands in a cell of a run's world
+pub line_ends : (laws : LineLaws) (lives : LifeLaws) (config : ConfigValues) → IsConfig config → (n cell : ℕ) (o : Occupant) → Stands (world_after config n).cells cell o → IsLastOfLine (world_after config n) cell o
+line_ends laws lives config fit n cell o stands =
+    last_in laws (world_after config n) (laws.numbered config n).everyone (run_after lives config fit n).world.kept cell o stands

@@ -7,7 +7,7 @@ ghost use Rattle.world_rules.specs.Laws.{ReplaysToLiving};
 ghost use Rattle.world_rules.specs.Lives.{merit_in};
 ghost use Rattle.world_rules.specs.World.{Occupant};
 ghost use Rattle.world_rules.specs.WorldRun.{world_after};
-ghost use Rattle.world_laws.specs.Heredity.{AreDescended, IsDescent};
+ghost use Rattle.world_laws.specs.Heredity.{AreDescended, IsDescent, IsLastOfLine};
 
 use world_config::Config;
 
@@ -28,6 +28,21 @@ pub fn genomes_come_from_parents(config: &Config, updates: u32)
     ensures everyone { AreDescended (world_after (values_of config.now) updates).everyone }
     ensures line { (cell : ℕ)
         → IfSome (line_in (world_after (values_of config.now) updates) cell) IsDescent }
+{
+    merit_slices::laws::slices_are_few();
+    organism::laws::lives_are_sound();
+    organism::laws::new_organisms_are_sound();
+    random_streams::laws::words_fit();
+    world_rules::laws::ids_are_places();
+    world_rules::laws::lines_come_from_parents();
+}
+
+/// Whoever stands in a cell has the genome of the record of its id, and the line of descent of that
+/// cell ends with this record.
+pub fn lines_end_with_who_stands(config: &Config, updates: u32)
+    ensures { (cell : ℕ) (occupant : Occupant)
+        → slice_get (world_after (values_of config.now) updates).cells cell ≡ Some (Some occupant)
+        → IsLastOfLine (world_after (values_of config.now) updates) cell occupant }
 {
     merit_slices::laws::slices_are_few();
     organism::laws::lives_are_sound();

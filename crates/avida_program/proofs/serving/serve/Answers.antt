@@ -1,31 +1,18 @@
-use Rattle.std.proofs.Common.{refl}
-use Rattle.avida_program.proofs.Serves.{serves_input, serves_lineage, serves_run}
+use Rattle.avida_program.proofs.Serves.{last_kept, out_failed, serves, source_failed}
 use Rattle.avida_program.proofs.serving.serve.Goals as goal
 
-pub returns-clause-trace : goal.returns-clause-trace
-returns-clause-trace g c steps spelling is bytes told =
-    let did = c.carry_out-outcome.ensures.trace steps spelling is bytes told in
-    rw c.status.ensures
-    (record { serves = serves_input _ _ _ _ _ _ c.carry_out-outcome.result refl did.0 c.tell.ensures; last_stays = did.1 })
+pub returns-clause-read_fault : goal.returns-clause-read_fault
+returns-clause-read_fault g c =
+    rw c.status.ensures (source_failed _ _ c.obey-outcome.result (c.obey-outcome.ensures.obeys (g.W.Sink.seen c.args.watch.now)))
 
-pub returns-clause-run : goal.returns-clause-run
-returns-clause-run g c workers is bytes told =
-    rw c.status.ensures
-    (serves_run bytes _ _ _ _ _ c.carry_out-outcome.result refl (c.carry_out-outcome.ensures.run workers is bytes told) c.tell.ensures)
+pub returns-clause-write_fault : goal.returns-clause-write_fault
+returns-clause-write_fault g c =
+    rw c.status.ensures (out_failed _ _ c.obey-outcome.result (c.obey-outcome.ensures.obeys (g.W.Sink.seen c.args.watch.now)))
 
-pub returns-clause-lineage : goal.returns-clause-lineage
-returns-clause-lineage g c cell workers is bytes told =
-    rw c.status.ensures
-    (serves_lineage cell bytes _ _ _ _ _ c.carry_out-outcome.result refl (c.carry_out-outcome.ensures.lineage cell workers is bytes told) c.tell.ensures)
+pub returns-clause-last_stays : goal.returns-clause-last_stays
+returns-clause-last_stays g c =
+    rw c.status.ensures (last_kept _ _ c.obey-outcome.result (c.obey-outcome.ensures.obeys (g.W.Sink.seen c.args.watch.now)))
 
-pub returns-clause-replay : goal.returns-clause-replay
-returns-clause-replay g c is bytes told =
-    let did = c.carry_out-outcome.ensures.replay is bytes told in
-    rw c.status.ensures
-    (record { serves = serves_input _ _ _ _ _ _ c.carry_out-outcome.result refl did.0 c.tell.ensures; last_stays = did.1 })
-
-pub returns-clause-upgrade : goal.returns-clause-upgrade
-returns-clause-upgrade g c is bytes told =
-    let did = c.carry_out-outcome.ensures.upgrade is bytes told in
-    rw c.status.ensures
-    (record { serves = serves_input _ _ _ _ _ _ c.carry_out-outcome.result refl did.0 c.tell.ensures; last_stays = did.1 })
+pub returns-clause-serves : goal.returns-clause-serves
+returns-clause-serves g c =
+    rw c.status.ensures (serves _ _ c.obey-outcome.result (c.obey-outcome.ensures.obeys _) c.tell.ensures)

@@ -6,15 +6,13 @@ use Rattle.command_line.specs.Commands.{lineage_form, lineage_of}
 use Rattle.numerals.specs.Numeral.{number_of}
 use Rattle.command_line.specs.Parsers.{lineage_texts, told_in}
 use Rattle.command_line.specs.declared.lineage.Lineage.{Lineage}
-use Rattle.command_line.specs.declared.lineage.TheConstants.{MOST_CELL}
-use Rattle.command_line.specs.declared.workers.TheConstants.{LEAST_WORKERS, MOST_WORKERS}
 use Rattle.command_line.proofs.lineage.in_matches.Goals as goal
 
 abbrev with_workers : Option ℕ → ℕ → Option Lineage
 with_workers workers cell = option_map (λ n. record { cell = cell; workers = n }) workers
 
-taken : (rows : List Row) (text : Text) (cell workers : Option ℕ) → Some text ≡ first_of (codes "cell") rows → cell ≡ number_of 0 MOST_CELL text
-    → workers ≡ option_and_then (number_of LEAST_WORKERS MOST_WORKERS) (first_of (codes "workers") rows)
+taken : (rows : List Row) (text : Text) (cell workers : Option ℕ) → Some text ≡ first_of (codes "cell") rows → cell ≡ number_of 0 65535 text
+    → workers ≡ option_and_then (number_of 1 64) (first_of (codes "workers") rows)
     → option_and_then (with_workers workers) cell ≡ option_and_then lineage_of (told_in lineage_form lineage_texts rows)
 taken rows text cell workers read number ways = rw (number, ways, ← read) refl
 
@@ -30,7 +28,7 @@ pub returns-in_err-cell : goal.returns-in_err-cell
 returns-in_err-cell c =
     let f = found_of c.args.matches.now in
     c.from_residual-in_err-cell.ensures ∙ taken (rows_of f) c.in_ok-get_str.field-0.now None
-    (option_and_then (number_of LEAST_WORKERS MOST_WORKERS) (first_of (codes "workers") (rows_of f)))
+    (option_and_then (number_of 1 64) (first_of (codes "workers") (rows_of f)))
     (c.in_ok-get_str.ensures ∙ first_value-rows f (codes "cell")) c.in_err-cell.ensures refl
 
 pub returns : goal.returns

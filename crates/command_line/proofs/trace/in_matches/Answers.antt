@@ -5,11 +5,10 @@ use Rattle.clap.specs.Walk.{Row, Text}
 use Rattle.command_line.specs.Commands.{trace_form, trace_of}
 use Rattle.numerals.specs.Numeral.{number_of}
 use Rattle.command_line.specs.Parsers.{is_given_true, told_in, trace_texts}
-use Rattle.command_line.specs.declared.trace.TheConstants.{MOST_STEPS}
 use Rattle.command_line.proofs.trace.in_matches.Goals as goal
 
 taken : (rows : List Row) (text : Text) (n : Option ℕ) (org : Option Text) (is_org : Bool) → Some text ≡ first_of (codes "steps") rows
-    → n ≡ number_of 0 MOST_STEPS text → org ≡ first_of (codes "org") rows → is_org ≡ is_given_true org
+    → n ≡ number_of 0 1000000 text → org ≡ first_of (codes "org") rows → is_org ≡ is_given_true org
     → option_map (λ steps. record { steps = steps; org = is_org }) n ≡ option_and_then trace_of (told_in trace_form trace_texts rows)
 taken rows text n org is_org read number org_read flag = rw (flag, org_read, number, ← read) refl
 
