@@ -1,5 +1,5 @@
 -- What a walk over the cells has counted, one cell after another.
-use Rattle.std.proofs.Common.{◌≡◌, refl, sym, ◌∙◌, ap, ℕ, ◌+◌, ◌≤◌, ◌<◌, Bool, true, false, cond, not, zero, suc, ◌≢◌, List, [], ◌∷◌, ◌++◌, length, map, set, get_or, get_or-set_same, get_or-set_other, below_more, Option, Some, None, All, is_some, arith}
+use Rattle.std.proofs.Common.{◌^◌, ◌≡◌, refl, sym, ◌∙◌, ap, ℕ, ◌+◌, ◌≤◌, ◌<◌, Bool, true, false, cond, not, zero, suc, ◌≢◌, List, [], ◌∷◌, ◌++◌, length, map, set, get_or, get_or-set_same, get_or-set_other, below_more, Option, Some, None, All, is_some, arith}
 use Rattle.std.specs.Prelude.{slice_index}
 use Rattle.std.specs.Int.{from_bool}
 use Rattle.std.specs.List.{filter, sum_by, count_by}
@@ -14,7 +14,6 @@ use Rattle.logic_tasks.specs.declared.task.Task.{Task}
 use Rattle.logic_tasks.specs.declared.task.Task.TheVariants.{Not}
 use Rattle.logic_tasks.specs.LogicTasks.{all_tasks, place_of}
 use Rattle.logic_tasks.specs.TaskSet.{has_task}
-use Rattle.merit_slices.specs.declared.merits.TheConstants.{GREATEST_MERIT}
 use Rattle.organism.specs.OrganismState.{OrganismState}
 use Rattle.random_streams.specs.declared.draws.TheConstants.{CELLS}
 use Rattle.world_rules.specs.World.{Occupant, id_of, ids_of}
@@ -97,21 +96,21 @@ merits_in (Some o ∷ cells) =
     omega (arith, merits_in cells, sum_by-cons merit_in (Some o) cells, sum_by-cons (λ (o : OrganismState). o.merit) o.organism (organisms_in cells))
 
 -- what was counted in the cells of a world is small
-pub tally-small : (cells : List (Option Occupant)) (tally : Tally) → IsTallyOf cells tally → length cells ≤ CELLS → All (λ slot. merit_in slot ≤ GREATEST_MERIT) cells → IsSmall tally
+pub tally-small : (cells : List (Option Occupant)) (tally : Tally) → IsTallyOf cells tally → length cells ≤ CELLS → All (λ slot. merit_in slot ≤ 2 ^ 38) cells → IsSmall tally
 tally-small cells tally is few merits =
     let P : ℕ → Type 0 = λ count. count ≤ CELLS in
     record {
       living = omega (arith, is.living, count_by-le-length is_some (ids_of cells), length-map cells id_of);
-      merit = omega (arith, is.merit, merits_in cells, sum_by-le merit_in GREATEST_MERIT cells merits);
+      merit = omega (arith, is.merit, merits_in cells, sum_by-le merit_in (2 ^ 38) cells merits);
       tasks = All-same P tally.tasks _ is.tasks (All-map P (credited_with cells) all_tasks (λ k task within. omega (arith, organisms_in-few cells, count_by-le-length (λ o. has_task o.credited (get_or all_tasks k task)) (organisms_in cells))));
     }
 
 -- merits are bounded in a bounded world
-pub merits-bounded : (update : ℕ) (cells : List (Option Occupant)) → AreBounded update cells → All (λ slot. merit_in slot ≤ GREATEST_MERIT) cells
+pub merits-bounded : (update : ℕ) (cells : List (Option Occupant)) → AreBounded update cells → All (λ slot. merit_in slot ≤ 2 ^ 38) cells
 merits-bounded update cells sound =
-    All-weaker (IsBoundedIn update) (λ slot. merit_in slot ≤ GREATEST_MERIT) bounded cells sound
+    All-weaker (IsBoundedIn update) (λ slot. merit_in slot ≤ 2 ^ 38) bounded cells sound
   where
-    bounded : (slot : Option Occupant) → IsBoundedIn update slot → merit_in slot ≤ GREATEST_MERIT
+    bounded : (slot : Option Occupant) → IsBoundedIn update slot → merit_in slot ≤ 2 ^ 38
     bounded None sound = omega arith
     bounded (Some o) sound = sound.merit
 

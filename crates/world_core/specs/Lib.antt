@@ -3,6 +3,7 @@ pub use Rattle.genome.specs.Genome
 pub use Rattle.lineage_log.specs.LogGrammar
 pub use Rattle.mutations.specs.BirthRecord
 pub use Rattle.organism.specs.Newborns
+pub use Rattle.organism.specs.SettingNumbers
 pub use Rattle.organism.specs.UpdateLife
 pub use Rattle.random_streams.specs.RandomStream
 pub use Rattle.world_config.specs.Shown

@@ -1,17 +1,17 @@
 -- What holds of the numbers of every world, so that none leaves its range (docs/WORLD.md, "The end of an update").
 use Rattle.std.specs.Prelude.{ℕ, ◌*◌, ◌<◌, ◌≤◌, ◌^◌, All, Option, None, Some, List, length, map}
 use Rattle.std.specs.List.Sorted.{IsNonDecreasing}
-use Rattle.merit_slices.specs.declared.merits.TheConstants.{GREATEST_MERIT}
+use Rattle.organism.specs.declared.newborn.Newborn.{Newborn}
+use Rattle.organism.specs.Newborns.{MeritsFit, LengthsFit}
 use Rattle.organism.specs.OrganismState.{OrganismState}
-use Rattle.organism.specs.declared.running.TheConstants.{LIFE_STEPS}
 use Rattle.world_config.specs.Values.{ConfigValues}
 use Rattle.world_rules.specs.World.{Occupant}
 use Rattle.world_rules.specs.Update.{Delivery}
 
 -- an organism after so many updates has no greater age and merit
 pub record IsBounded (update : ℕ) (o : OrganismState) : Type 0 where
-  pub age : o.age ≤ LIFE_STEPS * update
-  pub merit : o.merit ≤ GREATEST_MERIT
+  pub age : o.age ≤ 2 ^ 27 * update
+  pub merit : o.merit ≤ 2 ^ 38
 
 -- so has who stands in a cell
 abbrev pub IsBoundedIn : ℕ → Option Occupant → Type 0
@@ -26,10 +26,25 @@ AreBounded update cells = All (IsBoundedIn update) cells
 pub record IsDelivery (config : ConfigValues) (cells : ℕ) (d : Delivery) : Type 0 where
   pub cell : d.cell < cells
   pub genome : length d.newborn.genome ≤ config.greatest_length
-  pub merit : d.newborn.merit ≤ GREATEST_MERIT
+  pub merit : d.newborn.merit ≤ 2 ^ 38
 
 -- the newborns of an update, in the order of their cells
 pub record AreDeliveries (config : ConfigValues) (cells : ℕ) (births : List Delivery) : Type 0 where
   pub each : All (IsDelivery config cells) births
   pub rising : IsNonDecreasing (map (λ d. d.cell) births)
   pub few : length births < 2 ^ 32
+
+-- a life of at most so many steps keeps the bounds of who stands in the cell and of its newborns
+pub record IsBoundedLife (config : ConfigValues) (update steps : ℕ) (slot : Option Occupant)
+    (newborns : List Newborn) : Type 0 where
+  pub cell : IsBoundedIn update slot
+  pub few : length newborns ≤ steps
+  pub merits : MeritsFit newborns
+  pub lengths : LengthsFit config.greatest_length newborns
+
+-- the lives of an update keep the bounds of the cells and of the newborns, and who died is in one of the cells
+pub record AreBoundedLives (config : ConfigValues) (update : ℕ) (left : List (Option Occupant))
+    (born : List Delivery) (died : List ℕ) : Type 0 where
+  pub cells : AreBounded update left
+  pub births : AreDeliveries config (length left) born
+  pub dead : All (λ cell. cell < length left) died

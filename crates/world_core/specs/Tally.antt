@@ -1,5 +1,5 @@
 -- What a walk over the cells counts (docs/WORLD.md, "Statistics").
-use Rattle.std.specs.Prelude.{◌≡◌, ◌*◌, ◌≤◌, All, List, [], ◌∷◌, ◌++◌, Option, map, if◌then◌else◌}
+use Rattle.std.specs.Prelude.{◌≡◌, ◌*◌, ◌≤◌, ◌^◌, All, List, [], ◌∷◌, ◌++◌, Option, map, if◌then◌else◌}
 use Rattle.std.specs.List.{list_any, sum_by}
 use Rattle.std.specs.declared.alloc.Global.{Global}
 use Rattle.std.specs.declared.sync.Arc.{Arc}
@@ -9,8 +9,6 @@ use Rattle.instruction_set.specs.declared.letter.Letter.{Letter}
 use Rattle.instruction_set.specs.Letter.{same_letters}
 use Rattle.lineage_log.specs.Slots.{taken}
 use Rattle.logic_tasks.specs.LogicTasks.{all_tasks}
-use Rattle.merit_slices.specs.declared.merits.TheConstants.{GREATEST_MERIT}
-use Rattle.random_streams.specs.declared.draws.TheConstants.{CELLS}
 use Rattle.world_rules.specs.World.{Occupant, ids_of}
 use Rattle.world_rules.specs.Statistics.{organisms_in, genomes_in, genotypes_of, credited_with}
 use Rattle.world_core.specs.declared.counting.Tally.{Tally}
@@ -33,9 +31,9 @@ pub record IsTallyOf (cells : List (Option Occupant)) (tally : Tally) : Type 0 w
 
 -- it has counted no more cells than a world has
 pub record IsSmall (tally : Tally) : Type 0 where
-  pub living : tally.living ≤ CELLS
-  pub merit : tally.merit ≤ GREATEST_MERIT * CELLS
-  pub tasks : All (λ count. count ≤ CELLS) tally.tasks
+  pub living : tally.living ≤ 65536
+  pub merit : tally.merit ≤ 2 ^ 38 * 65536
+  pub tasks : All (λ count. count ≤ 65536) tally.tasks
 
 -- whatever it has counted before, it has counted this cell too
 abbrev pub CountsOneMore : Tally → Option Occupant → Tally → Type 0

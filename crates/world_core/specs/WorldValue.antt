@@ -3,7 +3,6 @@ use Rattle.std.specs.Prelude.{◌≡◌, ℕ, ◌+◌, ◌*◌, ◌≤◌, ◌^�
 use Rattle.instruction_set.specs.declared.letter.Letter.{Letter}
 use Rattle.log_lines.specs.declared.stats.Stats.{Stats}
 use Rattle.world_config.specs.Values.{ConfigValues}
-use Rattle.world_config.specs.declared.limits.TheConstants.{GREATEST_UPDATES}
 use Rattle.world_rules.specs.World.{World}
 use Rattle.world_rules.specs.Scene.{Scene}
 use Rattle.world_rules.specs.Statistics.{stats_of}
@@ -29,4 +28,4 @@ pub record IsWorldOf (config : ConfigValues) (scene : Scene) (stats : Stats) : T
   pub counts : stats ≡ stats_of config scene.update
   pub size : length scene.cells ≡ config.width * config.height
   pub few : length scene.everyone ≤ 2 ^ 33 * (scene.update + 1)
-  pub updates : scene.update ≤ GREATEST_UPDATES
+  pub updates : scene.update ≤ 1000000

@@ -1,9 +1,8 @@
 // What is counted after an update.
-ghost use Rattle.std.specs.Prelude.{◌≡◌, ◌+◌, ◌≤◌, [], All, IfOk, OnOk, if◌then◌else◌, length, map, slice_index};
+ghost use Rattle.std.specs.Prelude.{◌≡◌, ◌+◌, ◌≤◌, ◌^◌, [], All, IfOk, OnOk, if◌then◌else◌, length, map, slice_index};
 ghost use Rattle.genome.specs.Genome.{letters};
 ghost use Rattle.logic_tasks.specs.LogicTasks.{all_tasks, place_of};
 ghost use Rattle.logic_tasks.specs.TaskSet.{has_task};
-ghost use Rattle.merit_slices.specs.declared.merits.TheConstants.{GREATEST_MERIT};
 ghost use Rattle.world_rules.specs.Lives.{merit_in};
 ghost use Rattle.world_rules.specs.Statistics.{scene_stats};
 ghost use Rattle.world_core.specs.Tally.{IsTallyOf, IsSmall, CountsOneMore, letters_in, with_genome};
@@ -44,7 +43,7 @@ impl Tally {
 
     fn of(alloc: Global, cells: &[Option<Occupant>]) -> Result<Tally, Memory>
         requires few { length cells.now ≤ CELLS }
-        requires merits { All (λ slot. merit_in slot ≤ GREATEST_MERIT) cells.now }
+        requires merits { All (λ slot. merit_in slot ≤ 2 ^ 38) cells.now }
         ensures { IfOk result (IsTallyOf cells.now) }
     {
         let mut tally = Tally::new(alloc);
@@ -57,7 +56,7 @@ impl Tally {
     /// Counts one more cell.
     fn add(&mut self, slot: &Option<Occupant>) -> Result<(), Memory>
         requires room { IsSmall self.old }
-        requires merit { merit_in slot.now ≤ GREATEST_MERIT }
+        requires merit { merit_in slot.now ≤ 2 ^ 38 }
         ensures { OnOk result (CountsOneMore self.old slot.now self.new) }
     {
         one_index();

@@ -18,5 +18,5 @@ mod updating;
 mod world;
 
 pub use log_lines::Stats;
-pub use world::{MOST_WORKERS, World};
+pub use world::World;
 pub use world_laws::laws;

@@ -1,19 +1,19 @@
 // The lives of an update, all from one start.
-ghost use Rattle.std.specs.Prelude.{◌≡◌, ◌+◌, ◌<◌, ◌≤◌, ◌∷◌, ◌++◌, [], ℕ, Some, None, Option, All, OnOk, IfOk, length, map, sum, slice_index_or, if◌then◌else◌};
-ghost use Rattle.merit_slices.specs.declared.merits.TheConstants.{GREATEST_MERIT};
-ghost use Rattle.organism.specs.Newborns.{newborns_in, newborn_value, MeritsFit, LengthsFit};
+ghost use Rattle.std.specs.Prelude.{◌≡◌, ◌+◌, ◌<◌, ◌≤◌, ◌^◌, ◌∷◌, ◌++◌, [], ℕ, Some, None, Option, All, OnOk, IfOk, length, map, sum, slice_index_or, if◌then◌else◌};
+ghost use Rattle.organism.specs.Newborns.{newborn_value};
+ghost use Rattle.organism.specs.SettingNumbers.{setting_numbers};
 ghost use Rattle.world_config.specs.Shown.{values_of};
 ghost use Rattle.world_rules.specs.Lives.{is_death, life_of, lives_of, merit_in, slices_at};
 ghost use Rattle.world_rules.specs.Settings.{settings_at};
 ghost use Rattle.world_rules.specs.Update.{births_by, births_of, deaths_of, delivery_of};
-ghost use Rattle.world_core.specs.Soundness.{AreBounded, AreDeliveries, IsBounded, IsBoundedIn};
+ghost use Rattle.world_core.specs.Soundness.{AreBounded, AreBoundedLives, IsBounded, IsBoundedIn, IsBoundedLife};
 
 use crate::delivery::Delivery;
 use crate::occupant::Occupant;
 use crate::settings::settings_at;
 use avida_port::Memory;
-use merit_slices::{GREATEST_MERIT, share};
-use organism::{Births, LIFE_STEPS, Ran, Settings};
+use merit_slices::share;
+use organism::{Births, Ran, Settings};
 use random_streams::{CELLS, Draws, Purpose};
 use std::alloc::{AllocError, Global};
 use world_config::{Config, GREATEST_UPDATES};
@@ -44,15 +44,12 @@ pub(crate) fn live(
     requires sound { AreBounded update cells.old }
     ensures cells { OnOk result (cells.new
         ≡ map (λ l. l.occupant) (lives_of (values_of config.now) (update + 1) cells.old)) }
-    ensures sound { OnOk result (AreBounded (update + 1) cells.new) }
     ensures births { IfOk result (λ lived. lived.births.items
         ≡ births_of (lives_of (values_of config.now) (update + 1) cells.old)) }
-    ensures deliveries { IfOk result (λ lived.
-        AreDeliveries (values_of config.now) (length cells.old) lived.births.items) }
     ensures dead { IfOk result (λ lived. lived.dead.items
         ≡ deaths_of (lives_of (values_of config.now) (update + 1) cells.old)) }
-    ensures in_world { IfOk result
-        (λ lived. All (λ cell. cell < length cells.old) lived.dead.items) }
+    ensures bounds { IfOk result (λ lived. AreBoundedLives (values_of config.now) (update + 1)
+        cells.new lived.births.items lived.dead.items) }
 {
     let slices = slices_of(alloc, config, cells)?;
     let settings = settings_at(config, update + 1);
@@ -80,12 +77,12 @@ pub(crate) fn live(
 #[tactic(auto, unfolding(world_rules::specs::Lives::slices_at))]
 fn slices_of(alloc: Global, config: &Config, cells: &[Option<Occupant>]) -> Result<Vec<u64>, Memory>
     requires cells { length cells.now ≤ CELLS }
-    requires merits { All (λ slot. merit_in slot ≤ GREATEST_MERIT) cells.now }
+    requires merits { All (λ slot. merit_in slot ≤ 2 ^ 38) cells.now }
     ensures slices { IfOk result
         (λ slices. slices.items ≡ slices_at (values_of config.now) cells.now) }
     ensures few { IfOk result
-        (λ slices. (cell : ℕ) → slice_index_or slices.items cell 0 < LIFE_STEPS) }
-    ensures total { IfOk result (λ slices. sum slices.items < LIFE_STEPS) }
+        (λ slices. (cell : ℕ) → slice_index_or slices.items cell 0 < 2 ^ 27) }
+    ensures total { IfOk result (λ slices. sum slices.items < 2 ^ 27) }
     ensures length { IfOk result (λ slices. length slices.items ≡ length cells.now) }
 {
     let merits = merits_of(alloc, cells)?;
@@ -125,22 +122,20 @@ fn live_in(
     slot: &mut Option<Occupant>,
 ) -> Result<Life, Memory>
     requires cell { cell < CELLS }
-    requires steps { steps < LIFE_STEPS }
+    requires steps { steps < 2 ^ 27 }
     requires update { update < GREATEST_UPDATES }
-    requires settings { settings.now ≡ settings_at (values_of config.now) (update + 1) }
+    requires settings { setting_numbers settings.now
+        ≡ settings_at (values_of config.now) (update + 1) }
     requires sound { IsBoundedIn update slot.old }
     ensures life { IfOk result
         (λ life. life_of (values_of config.now) (update + 1) cell steps slot.old
         ≡ record {
           occupant = slot.new;
           died = life.died;
-          newborns = map newborn_value (newborns_in life.births);
+          newborns = map newborn_value life.births;
         }) }
-    ensures sound { OnOk result (IsBoundedIn (update + 1) slot.new) }
-    ensures few { IfOk result (λ life. length (newborns_in life.births) ≤ steps) }
-    ensures merits { IfOk result (λ life. MeritsFit (newborns_in life.births)) }
-    ensures lengths { IfOk result
-        (λ life. LengthsFit settings.now.rules.greatest (newborns_in life.births)) }
+    ensures bounds { IfOk result (λ life.
+        IsBoundedLife (values_of config.now) (update + 1) steps slot.new life.births) }
 {
     match slot {
         Some(occupant) => live_once(alloc, config, settings, update, cell, steps, occupant),
@@ -162,22 +157,20 @@ fn live_once(
     occupant: &mut Occupant,
 ) -> Result<Life, Memory>
     requires cell { cell < CELLS }
-    requires steps { steps < LIFE_STEPS }
+    requires steps { steps < 2 ^ 27 }
     requires update { update < GREATEST_UPDATES }
-    requires settings { settings.now ≡ settings_at (values_of config.now) (update + 1) }
+    requires settings { setting_numbers settings.now
+        ≡ settings_at (values_of config.now) (update + 1) }
     requires sound { IsBounded update occupant.old.organism }
     ensures life { IfOk result
         (λ life. life_of (values_of config.now) (update + 1) cell steps (Some occupant.old)
         ≡ record {
           occupant = Some occupant.new;
           died = life.died;
-          newborns = map newborn_value (newborns_in life.births);
+          newborns = map newborn_value life.births;
         }) }
-    ensures sound { OnOk result (IsBounded (update + 1) occupant.new.organism) }
-    ensures few { IfOk result (λ life. length (newborns_in life.births) ≤ steps) }
-    ensures merits { IfOk result (λ life. MeritsFit (newborns_in life.births)) }
-    ensures lengths { IfOk result
-        (λ life. LengthsFit settings.now.rules.greatest (newborns_in life.births)) }
+    ensures bounds { IfOk result (λ life.
+        IsBoundedLife (values_of config.now) (update + 1) steps (Some occupant.new) life.births) }
 {
     let mut births = Births::none(alloc);
     let mut draws = Draws::start(config.seed, update + 1, cell, Purpose::Run);
@@ -203,7 +196,7 @@ impl Lived {
     /// What the life of a cell brought.
     fn tell(&mut self, cell: u32, slot: &Option<Occupant>, life: Life) -> Result<(), Memory>
         ensures births { OnOk result (self.new.births.items ≡ self.old.births.items
-            ++ births_by cell (map newborn_value (newborns_in life.births)) slot.now) }
+            ++ births_by cell (map newborn_value life.births) slot.now) }
         ensures dead { OnOk result (self.new.dead.items ≡ self.old.dead.items
             ++ (if life.died then cell ∷ [] else [])) }
     {
@@ -226,7 +219,7 @@ fn deliver(
     births: &mut Vec<Delivery>,
 ) -> Result<(), Memory>
     ensures { OnOk result (births.new.items ≡ births.old.items
-        ++ map (delivery_of cell parent) (map newborn_value (newborns_in newborns))) }
+        ++ map (delivery_of cell parent) (map newborn_value newborns)) }
 {
     for newborn in newborns.into_vec() {
         births.push(Delivery {

@@ -1,6 +1,5 @@
 // A world within an update.
-ghost use Rattle.std.specs.Prelude.{◌≡◌, ◌<◌, ◌≤◌, OnOk, length};
-ghost use Rattle.merit_slices.specs.declared.merits.TheConstants.{GREATEST_MERIT};
+ghost use Rattle.std.specs.Prelude.{◌≡◌, ◌<◌, ◌≤◌, ◌^◌, OnOk, length};
 ghost use Rattle.world_rules.specs.Scene.{next_id, standing_at, with_death, with_newcomer};
 
 use crate::ancestor::Ancestor;
@@ -69,7 +68,7 @@ impl Scene {
     pub(crate) fn come(&mut self, ancestor: Ancestor, organism: Organism) -> Result<(), Memory>
         requires cell { ancestor.cell < length self.old.cells }
         requires age { organism.age ≡ 0 }
-        requires merit { organism.merit ≤ GREATEST_MERIT }
+        requires merit { organism.merit ≤ 2 ^ 38 }
         ensures { OnOk result (self.new ≡ with_newcomer self.old ancestor organism) }
     {
         let cell = ancestor.cell;

@@ -1,7 +1,9 @@
 // What a configuration sets for an update.
 ghost use Rattle.std.specs.Prelude.{◌≡◌, ◌≤◌};
+ghost use Rattle.birth_board.specs.Torus.{torus_numbers};
+ghost use Rattle.divide_rules.specs.Rules.{rule_numbers};
 ghost use Rattle.mutations.specs.Rates.{numbers_of};
-ghost use Rattle.random_streams.specs.declared.draws.TheConstants.{MILLION};
+ghost use Rattle.organism.specs.SettingNumbers.{setting_numbers};
 ghost use Rattle.world_config.specs.Shown.{values_of};
 ghost use Rattle.world_rules.specs.Settings.{first_rates, with_rate, rates_at, rules_of, settings_at, season_at, torus_of};
 
@@ -14,7 +16,7 @@ use world_config::{Config, What};
 /// What a life in an update needs to know of its world.
 #[tactic(auto, unfolding(world_rules::specs::Settings::settings_at))]
 pub(crate) fn settings_at(config: &Config, update: u32) -> Settings
-    ensures { result ≡ settings_at (values_of config.now) update }
+    ensures { setting_numbers result ≡ settings_at (values_of config.now) update }
 {
     Settings {
         rates: rates_at(config, update),
@@ -55,7 +57,7 @@ fn first_rates(config: &Config) -> Rates
 }
 
 fn with_rate(mut rates: Rates, name: RateName, ppm: u32) -> Rates
-    requires { ppm ≤ MILLION }
+    requires { ppm ≤ 1000000 }
     ensures { numbers_of result ≡ with_rate (numbers_of rates) name ppm }
 {
     match name {
@@ -70,7 +72,7 @@ fn with_rate(mut rates: Rates, name: RateName, ppm: u32) -> Rates
 }
 
 fn rules_of(config: &Config) -> DivideRules
-    ensures { result ≡ rules_of (values_of config.now) }
+    ensures { rule_numbers result ≡ rules_of (values_of config.now) }
 {
     DivideRules {
         least: config.least_length,
@@ -83,7 +85,7 @@ fn rules_of(config: &Config) -> DivideRules
 
 /// The torus of the cells.
 pub(crate) fn torus_of(config: &Config) -> Torus
-    ensures { result ≡ torus_of (values_of config.now) }
+    ensures { torus_numbers result ≡ torus_of (values_of config.now) }
 {
     Torus {
         width: config.width,

@@ -20,11 +20,8 @@ use lineage_log::Path;
 use log_lines::{LAST_VERSION, LogLine, Stats, write_line};
 use std::alloc::Global;
 use std::marker::Model;
-use world_config::{Config, GREATEST_UPDATES};
+use world_config::Config;
 use world_rules::laws::ids_are_places;
-
-/// The greatest number of workers.
-pub const MOST_WORKERS: u32 = 64;
 
 /// The world of a configuration after so many updates. Only `found` and `advance` make one.
 #[derive(Drop)]
@@ -49,7 +46,7 @@ impl World {
     /// The world of update 0: the configuration's founder alone.
     #[tactic(auto, unfolding(world_rules::specs::WorldRun::world_after, world_rules::specs::World::first_world, world_rules::specs::Statistics::stats_of))]
     pub fn found(alloc: Global, config: Config, workers: u32) -> Result<World, Memory>
-        requires workers { (1 ≤ workers) × (workers ≤ MOST_WORKERS) }
+        requires workers { (1 ≤ workers) × (workers ≤ 64) }
         ensures { IfOk result (λ world. world ≡ record { config = values_of config; update = 0 }) }
     {
         let _ = workers;
@@ -68,7 +65,7 @@ impl World {
         alloc: Global,
         gate: &G,
     ) -> Result<(World, Vec<u8>), Memory>
-        requires { self.update < GREATEST_UPDATES }
+        requires { self.update < 1000000 }
         ensures world { IfOk result (λ next. next.0 ≡ record self { update = self.update + 1 }) }
         ensures text { IfOk result
             (λ next. next.1.items ≡ update_text self.config (self.update + 1)) }

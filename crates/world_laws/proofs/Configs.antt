@@ -7,11 +7,10 @@ use Rattle.std.proofs.lemmas.List.Sums.{length-filter, count_by-le-length}
 use Rattle.std.proofs.Math.Nat.{mul-le-mul}
 use Rattle.instruction_set.specs.declared.letter.Letter.{Letter}
 use Rattle.genome.specs.Genome.{IsGenome}
-use Rattle.birth_board.specs.Torus.{cells_of}
+use Rattle.divide_rules.specs.Rules.{AreRules}
 use Rattle.world_config.specs.Events.{EventValue, WhatValue, inject, clear, rate}
 use Rattle.world_config.specs.Values.{ConfigValues}
-use Rattle.world_rules.specs.Bounds.{within_bounds}
-use Rattle.world_rules.specs.Settings.{torus_of, rules_of}
+use Rattle.world_rules.specs.Settings.{rules_of}
 use Rattle.world_rules.specs.Update.{events_at}
 use Rattle.world_laws.proofs.Placements.{all_filtered}
 
@@ -39,6 +38,10 @@ pub record IsConfig (config : ConfigValues) : Type 0 where
   pub rows : 1 ≤ config.height
   pub few_rows : config.height ≤ 256
   pub founder : config.founder_cell < size_of config
+  pub executed_asked : 1 ≤ config.executed_percent
+  pub executed_percent : config.executed_percent ≤ 100
+  pub copied_asked : 1 ≤ config.copied_percent
+  pub copied_percent : config.copied_percent ≤ 100
   pub average : config.average_slices ≤ 1000
   pub least : 8 ≤ config.least_length
   pub ordered : config.least_length ≤ config.greatest_length
@@ -73,25 +76,17 @@ module _ (config : ConfigValues) (fit : IsConfig config) where
   pub few_cells : size_of config ≤ 65536
   few_cells = mul-le-mul fit.few_columns fit.few_rows
 
-  -- the torus has them
-  pub torus_size : cells_of (torus_of config) ≡ size_of config
-  torus_size =
-      let a = fit.columns in
-      let b = fit.few_columns in
-      let c = fit.rows in
-      let d = fit.few_rows in
-      let w : within_bounds 1 256 config.width ≡ config.width = omega arith in
-      let h : within_bounds 1 256 config.height ≡ config.height = omega arith in
-      ap (λ n. n * within_bounds 1 256 config.height) w ∙ ap (λ n. config.width * n) h
-
-  -- the greatest length is within the limit of memory
-  pub greatest_fits : (rules_of config).greatest ≤ config.memory_limit
-  greatest_fits =
-      let a = fit.least in
-      let b = fit.ordered in
-      let c = fit.room in
-      let d = fit.greatest in
-      omega arith
+  -- the rules are those of a divide
+  pub rules_are : AreRules (rules_of config)
+  rules_are = record {
+    long_enough = fit.least;
+    ordered = fit.ordered;
+    short_enough = omega (arith, fit.room, fit.greatest);
+    executed_is_asked = fit.executed_asked;
+    executed_is_percent = fit.executed_percent;
+    copied_is_asked = fit.copied_asked;
+    copied_is_percent = fit.copied_percent;
+  }
 
   pub genome_fits : (letters : List Letter) → config.least_length ≤ length letters → length letters ≤ config.greatest_length → IsGenome letters
   genome_fits letters h k =

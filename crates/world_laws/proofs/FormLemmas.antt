@@ -1,5 +1,5 @@
 -- The parts of a line have the forms that a log asks for.
-use Rattle.std.proofs.Common.{◌≡◌, ℕ, suc, ◌*◌, ◌<◌, ◌≤◌, true, List, [], ◌∷◌, map, length, Option, Some, None, refl, ap, arith, sum_by}
+use Rattle.std.proofs.Common.{◌≡◌, ℕ, suc, ◌*◌, ◌^◌, ◌<◌, ◌≤◌, true, List, [], ◌∷◌, map, length, Option, Some, None, refl, ap, arith, sum_by}
 use Rattle.std.specs.Prelude.{not, is_some}
 use Rattle.std.specs.List.{AllByRecursion, cons_option}
 use Rattle.std.proofs.lemmas.Bool.Decides.{nat_tests}
@@ -12,7 +12,6 @@ use Rattle.genome.specs.Genome.{IsGenome}
 use Rattle.logic_tasks.specs.declared.task.Task.{Task}
 use Rattle.logic_tasks.specs.LogicTasks.{all_tasks}
 use Rattle.logic_tasks.specs.TaskSet.{has_task}
-use Rattle.merit_slices.specs.declared.merits.TheConstants.{GREATEST_MERIT}
 use Rattle.mutations.specs.Change.{is_genome_length}
 use Rattle.mutations.specs.BirthRecord.{BirthRecord}
 use Rattle.mutations.specs.RecordForm.{HasRecordForm, FitsBase}
@@ -60,18 +59,18 @@ genotypes_of_few : (genomes : List (List Letter)) → length (genotypes_of genom
 genotypes_of_few [] = omega arith
 genotypes_of_few (genome ∷ genomes) = omega (arith, filter_few (λ other. not (same_letters genome other)) (genotypes_of genomes), genotypes_of_few genomes)
 
-merits_first : (slot : Option Occupant) (os : List OrganismState) → ((o : Occupant) → slot ≡ Some o → o.organism.merit ≤ GREATEST_MERIT) → AllByRecursion (λ (o : OrganismState). o.merit ≤ GREATEST_MERIT) os → AllByRecursion (λ (o : OrganismState). o.merit ≤ GREATEST_MERIT) (cons_option (organism_in slot) os)
+merits_first : (slot : Option Occupant) (os : List OrganismState) → ((o : Occupant) → slot ≡ Some o → o.organism.merit ≤ 2 ^ 38) → AllByRecursion (λ (o : OrganismState). o.merit ≤ 2 ^ 38) os → AllByRecursion (λ (o : OrganismState). o.merit ≤ 2 ^ 38) (cons_option (organism_in slot) os)
 merits_first None os first rest = rest
 merits_first (Some o) os first rest = (first o refl, rest)
 
-merits_fit : (cells : List (Option Occupant)) → Each IsSoundOrganism cells → AllByRecursion (λ (o : OrganismState). o.merit ≤ GREATEST_MERIT) (organisms_in cells)
+merits_fit : (cells : List (Option Occupant)) → Each IsSoundOrganism cells → AllByRecursion (λ (o : OrganismState). o.merit ≤ 2 ^ 38) (organisms_in cells)
 merits_fit [] sound = tt
 merits_fit (slot ∷ cells) sound =
     merits_first slot (organisms_in cells) (λ o e. (sound 0 o (ap Some e)).merit) (merits_fit cells (λ cell o h. sound (suc cell) o h))
 
 -- the merits together
-merits_sum : (cells : List (Option Occupant)) → Each IsSoundOrganism cells → sum_by (λ (o : OrganismState). o.merit) (organisms_in cells) ≤ length (organisms_in cells) * GREATEST_MERIT
-merits_sum cells sound = sum_by-le (λ (o : OrganismState). o.merit) GREATEST_MERIT (organisms_in cells) (All-from_recursion (λ (o : OrganismState). o.merit ≤ GREATEST_MERIT) (organisms_in cells) (merits_fit cells sound))
+merits_sum : (cells : List (Option Occupant)) → Each IsSoundOrganism cells → sum_by (λ (o : OrganismState). o.merit) (organisms_in cells) ≤ length (organisms_in cells) * 2 ^ 38
+merits_sum cells sound = sum_by-le (λ (o : OrganismState). o.merit) (2 ^ 38) (organisms_in cells) (All-from_recursion (λ (o : OrganismState). o.merit ≤ 2 ^ 38) (organisms_in cells) (merits_fit cells sound))
 
 tasks_form : (cells : List (Option Occupant)) (tasks : List Task) → length (organisms_in cells) ≤ 65536 → AllByRecursion large.Fits (map (credited_with cells) tasks)
 tasks_form cells [] few = tt

@@ -4,14 +4,13 @@ use Rattle.std.specs.Prelude.{slice_index_or, sum}
 use Rattle.std.specs.List.{AllByRecursion, range_with_len}
 use Rattle.std.proofs.lemmas.List.Elements.{recursion_from_All}
 use Rattle.instruction_set.specs.declared.letter.Letter.{Letter}
-use Rattle.genome.specs.declared.genome.TheConstants.{GREATEST_LENGTH}
+use Rattle.divide_rules.specs.Rules.{AreRules}
 use Rattle.genome.specs.Genome.{IsGenome}
-use Rattle.merit_slices.specs.declared.merits.TheConstants.{GREATEST_MERIT}
 use Rattle.merit_slices.specs.Slices.{slices_of}
 use Rattle.random_streams.specs.declared.purpose.Purpose.{Purpose}
 use Rattle.random_streams.specs.declared.purpose.Purpose.TheVariants.{Run}
 use Rattle.random_streams.specs.RandomStream.{draw}
-use Rattle.organism.specs.declared.settings.Settings.{Settings}
+use Rattle.organism.specs.SettingNumbers.{SettingNumbers}
 use Rattle.organism.specs.Newborns.{NewbornValue}
 use Rattle.organism.specs.OrganismState.{OrganismState, new_organism}
 use Rattle.organism.specs.UpdateLife.{life}
@@ -25,9 +24,9 @@ use Rattle.world_laws.proofs.Scenes.{Each}
 
 -- what the crates below prove of one life, of words, of new organisms and of slices
 pub record LifeLaws : Type 0 where
-  pub lives : (settings : Settings) (words : ℕ → ℕ) (start : OrganismState) (steps : ℕ) → ((k : ℕ) → words k < 2 ^ 32) → IsSoundOrganism start → HasLived settings start steps (life settings words (beginning start) steps).0
+  pub lives : (settings : SettingNumbers) (words : ℕ → ℕ) (start : OrganismState) (steps : ℕ) → AreRules settings.rules → ((k : ℕ) → words k < 2 ^ 32) → IsSoundOrganism start → HasLived settings start steps (life settings words (beginning start) steps).0
   pub words : (seed update cell : ℕ) (purpose : Purpose) (k : ℕ) → draw seed update cell purpose k < 2 ^ 32
-  pub new : (letters : List Letter) (inputs : List ℕ) (merit : ℕ) (credited : List Bool) (limit : ℕ) → IsGenome letters → length letters ≤ limit → limit ≤ GREATEST_LENGTH → 1 ≤ merit → merit ≤ GREATEST_MERIT → IsSoundOrganism (new_organism letters inputs merit credited limit)
+  pub new : (letters : List Letter) (inputs : List ℕ) (merit : ℕ) (credited : List Bool) (limit : ℕ) → IsGenome letters → length letters ≤ limit → limit ≤ 8192 → 1 ≤ merit → merit ≤ 2 ^ 38 → IsSoundOrganism (new_organism letters inputs merit credited limit)
   pub slices : (merits : List ℕ) (average : ℕ) → sum (slices_of merits average) ≤ average * length merits
 
 -- a newborn as its parent's genome and the configuration's rules want it
@@ -50,12 +49,12 @@ IsLife config steps None l = (l.occupant ≡ None) × (length l.newborns ≤ ste
 IsLife config steps (Some o) l = IsLifeOf config steps o l
 
 -- one life, by the laws
-life_is : (laws : LifeLaws) (config : ConfigValues) (update cell steps : ℕ) (slot : Option Occupant) → ((o : Occupant) → slot ≡ Some o → IsSoundOrganism o.organism) → IsLife config steps slot (life_of config update cell steps slot)
+life_is : (laws : LifeLaws) (config : ConfigValues) → AreRules (rules_of config) → (update cell steps : ℕ) (slot : Option Occupant) → ((o : Occupant) → slot ≡ Some o → IsSoundOrganism o.organism) → IsLife config steps slot (life_of config update cell steps slot)
 unfolding life_of settings_at
-life_is laws config update cell steps None sound = (refl, omega arith)
-life_is laws config update cell steps (Some o) sound =
+life_is laws config are update cell steps None sound = (refl, omega arith)
+life_is laws config are update cell steps (Some o) sound =
     let settings = settings_at config update in
-    let lived = laws.lives settings (draw config.seed update cell Run) o.organism steps (laws.words config.seed update cell Run) (sound o refl) in
+    let lived = laws.lives settings (draw config.seed update cell Run) o.organism steps are (laws.words config.seed update cell Run) (sound o refl) in
     let ended = life settings (draw config.seed update cell Run) (beginning o.organism) steps in
     record {
       who = record { id = o.id; organism = ended.0.organism };
@@ -85,10 +84,10 @@ lives_beside config steps run from (slot ∷ cells) each =
     )
 
 -- the lives of an update
-pub lives_are : (laws : LifeLaws) (config : ConfigValues) (update : ℕ) (cells : List (Option Occupant)) → Each IsSoundOrganism cells → AreLives config (slice_at config cells) 0 cells (lives_of config update cells)
+pub lives_are : (laws : LifeLaws) (config : ConfigValues) → AreRules (rules_of config) → (update : ℕ) (cells : List (Option Occupant)) → Each IsSoundOrganism cells → AreLives config (slice_at config cells) 0 cells (lives_of config update cells)
 unfolding lives_of
-lives_are laws config update cells sound =
+lives_are laws config are update cells sound =
     lives_beside config (slice_at config cells) (life_at config update cells) 0 cells (λ i h.
     let at : 0 + i ≡ i = omega arith in
     subst (λ n. IsLife config (slice_at config cells n) (slice_index_or cells i None) (life_at config update cells n)) (sym at)
-    (life_is laws config update i (slice_at config cells i) (slice_index_or cells i None) (λ o e. sound i o (got_some cells i o e))))
+    (life_is laws config are update i (slice_at config cells i) (slice_index_or cells i None) (λ o e. sound i o (got_some cells i o e))))

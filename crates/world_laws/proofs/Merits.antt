@@ -4,7 +4,6 @@ use Rattle.std.specs.List.{AllByRecursion}
 use Rattle.std.proofs.lemmas.List.{length-map}
 use Rattle.std.proofs.lemmas.List.Sums.{sum_by-le}
 use Rattle.std.proofs.lemmas.List.Elements.{All-from_recursion}
-use Rattle.merit_slices.specs.declared.merits.TheConstants.{GREATEST_MERIT}
 use Rattle.organism.specs.Lived.{IsSoundOrganism}
 use Rattle.world_config.specs.Values.{ConfigValues}
 use Rattle.world_rules.specs.World.{Occupant}
@@ -16,16 +15,16 @@ use Rattle.world_laws.proofs.Configs.{IsConfig, few_cells}
 use Rattle.world_laws.proofs.Wholes.{run_after}
 
 -- no cell has more than the greatest merit
-merit_few : (slot : Option Occupant) → ((o : Occupant) → slot ≡ Some o → IsSoundOrganism o.organism) → merit_in slot ≤ GREATEST_MERIT
+merit_few : (slot : Option Occupant) → ((o : Occupant) → slot ≡ Some o → IsSoundOrganism o.organism) → merit_in slot ≤ 2 ^ 38
 merit_few None sound = omega arith
 merit_few (Some o) sound = (sound o refl).merit
 
-merits_fit : (cells : List (Option Occupant)) → Each IsSoundOrganism cells → AllByRecursion (λ merit. merit ≤ GREATEST_MERIT) (map merit_in cells)
+merits_fit : (cells : List (Option Occupant)) → Each IsSoundOrganism cells → AllByRecursion (λ merit. merit ≤ 2 ^ 38) (map merit_in cells)
 merits_fit [] sound = tt
 merits_fit (slot ∷ cells) sound = (merit_few slot (λ o e. sound 0 o (ap Some e)), merits_fit cells (λ cell o h. sound (suc cell) o h))
 
-merits_few : (cells : List (Option Occupant)) → Each IsSoundOrganism cells → sum (map merit_in cells) ≤ length (map merit_in cells) * GREATEST_MERIT
-merits_few cells sound = sum_by-le (λ merit. merit) GREATEST_MERIT (map merit_in cells) (All-from_recursion (λ merit. merit ≤ GREATEST_MERIT) (map merit_in cells) (merits_fit cells sound))
+merits_few : (cells : List (Option Occupant)) → Each IsSoundOrganism cells → sum (map merit_in cells) ≤ length (map merit_in cells) * 2 ^ 38
+merits_few cells sound = sum_by-le (λ merit. merit) (2 ^ 38) (map merit_in cells) (All-from_recursion (λ merit. merit ≤ 2 ^ 38) (map merit_in cells) (merits_fit cells sound))
 
 -- the merits of a world of a run
 pub merits_after : LifeLaws → (config : ConfigValues) → IsConfig config → (n : ℕ) → sum (map merit_in (world_after config n).cells) ≤ 2 ^ 54

@@ -5,12 +5,11 @@ use Rattle.std.specs.List.{AllByRecursion}
 use Rattle.std.proofs.Math.Nat.{mul-le-mul_left, div-lt_iff_lt-mul}
 use Rattle.birth_board.specs.declared.placing.Placing.{Placing}
 use Rattle.birth_board.specs.declared.season.Season.{Season}
-use Rattle.birth_board.specs.declared.torus.Torus.{Torus}
-use Rattle.birth_board.specs.Torus.{cells_of, column_of, row_of, west_of, east_of, north_of, south_of, around, neighbours_of}
+use Rattle.birth_board.specs.Torus.{TorusNumbers, cells_of, column_of, row_of, west_of, east_of, north_of, south_of, around, neighbours_of}
 use Rattle.birth_board.specs.Placement.{Board, is_free, choices_of, chosen_cell, placing_of, next_placing, next_board, placements_of}
 
 -- in the torus
-abbrev pub IsCell : Torus → ℕ → Type 0
+abbrev pub IsCell : TorusNumbers → ℕ → Type 0
 IsCell torus cell = cell < cells_of torus
 
 -- a column and a row make a cell
@@ -26,10 +25,18 @@ row_in width height cell some h =
     let turned : cell < height * width = omega (arith, h) in
     (div-lt_iff_lt-mul {k = width} {x = cell} {y = height} wide).1 turned
 
-around_in : (torus : Torus) (column row : ℕ) → column < torus.width → row < torus.height → AllByRecursion (IsCell torus) (around torus column row)
-around_in torus column row c r =
-    let some : 1 ≤ torus.width = torus.has_columns in
-    let rows : 1 ≤ torus.height = torus.has_rows in
+-- a torus with a cell has a column
+wide : (width height cell : ℕ) → cell < width * height → 1 ≤ width
+wide zero height cell h = omega (arith, h)
+wide (suc width) height cell h = omega arith
+
+-- and a row
+tall : (width height cell : ℕ) → cell < width * height → 1 ≤ height
+tall width zero cell h = omega (arith, h)
+tall width (suc height) cell h = omega arith
+
+around_in : (torus : TorusNumbers) (column row : ℕ) → 1 ≤ torus.width → 1 ≤ torus.height → column < torus.width → row < torus.height → AllByRecursion (IsCell torus) (around torus column row)
+around_in torus column row some rows c r =
     let west : west_of torus column < torus.width = omega (arith, some) in
     let east : east_of torus column < torus.width = omega (arith, some) in
     let north : north_of torus row < torus.height = omega (arith, rows) in
@@ -37,12 +44,13 @@ around_in torus column row c r =
     let at = in_row torus.width torus.height in
     (at _ _ west north, (at _ _ c north, (at _ _ east north, (at _ _ west r, (at _ _ east r, (at _ _ west south, (at _ _ c south, (at _ _ east south, tt))))))))
 
-neighbours_in : (torus : Torus) (cell : ℕ) → IsCell torus cell → AllByRecursion (IsCell torus) (neighbours_of torus cell)
+neighbours_in : (torus : TorusNumbers) (cell : ℕ) → IsCell torus cell → AllByRecursion (IsCell torus) (neighbours_of torus cell)
 unfolding neighbours_of
 neighbours_in torus cell h =
-    let some : 1 ≤ torus.width = torus.has_columns in
+    let some = wide torus.width torus.height cell h in
+    let rows = tall torus.width torus.height cell h in
     let column : column_of torus cell < torus.width = omega (arith, some) in
-    around_in torus (column_of torus cell) (row_of torus cell) column (row_in torus.width torus.height cell some h)
+    around_in torus (column_of torus cell) (row_of torus cell) some rows column (row_in torus.width torus.height cell some h)
 
 filter_step : {X : Type 0} (P : X → Type 0) (b : Bool) (x : X) (xs : List X) → P x → AllByRecursion P xs → AllByRecursion P (cond b (x ∷ xs) xs)
 filter_step P true x xs h all = (h, all)
@@ -69,7 +77,7 @@ all_append P [] ys h k = k
 all_append P (x ∷ xs) ys h k = (h.0, all_append P xs ys h.1 k)
 
 -- a chosen cell lies in the torus
-chosen_in : (torus : Torus) (prefer : Bool) (occupants : List (Option ℕ)) (parent word : ℕ) → IsCell torus parent → IsCell torus (chosen_cell torus prefer occupants parent word)
+chosen_in : (torus : TorusNumbers) (prefer : Bool) (occupants : List (Option ℕ)) (parent word : ℕ) → IsCell torus parent → IsCell torus (chosen_cell torus prefer occupants parent word)
 unfolding chosen_cell
 chosen_in torus prefer occupants parent word h =
     let near = neighbours_in torus parent h in
@@ -79,15 +87,15 @@ chosen_in torus prefer occupants parent word h =
     (all_or (IsCell torus) _ (filter (is_free occupants) (neighbours_of torus parent)) (neighbours_of torus parent) free near)
 
 -- in the torus, as a placing
-abbrev pub PlacedIn : Torus → Placing → Type 0
+abbrev pub PlacedIn : TorusNumbers → Placing → Type 0
 PlacedIn torus placing = IsCell torus placing.cell
 
-placing_in : (torus : Torus) (season : Season) (board : Board) (parent : ℕ) → IsCell torus parent → PlacedIn torus (next_placing torus season board parent)
+placing_in : (torus : TorusNumbers) (season : Season) (board : Board) (parent : ℕ) → IsCell torus parent → PlacedIn torus (next_placing torus season board parent)
 unfolding placing_of
 placing_in torus season board parent h = chosen_in torus season.prefer_empty board.occupants parent _ h
 
 -- the placings of a board once the newborns of these parents are placed
-placed_in : (torus : Torus) (season : Season) (board : Board) (parents : List ℕ) → AllByRecursion (IsCell torus) parents → AllByRecursion (PlacedIn torus) board.placings
+placed_in : (torus : TorusNumbers) (season : Season) (board : Board) (parents : List ℕ) → AllByRecursion (IsCell torus) parents → AllByRecursion (PlacedIn torus) board.placings
     → AllByRecursion (PlacedIn torus) (fold (next_board torus season) board parents).placings
 unfolding next_board
 placed_in torus season board [] cells before = before
@@ -95,17 +103,17 @@ placed_in torus season board (parent ∷ parents) cells before =
     placed_in torus season (next_board torus season board parent) parents cells.1
     (all_append (PlacedIn torus) board.placings (next_placing torus season board parent ∷ []) before (placing_in torus season board parent cells.0, tt))
 
-placed_number : (torus : Torus) (season : Season) (board : Board) (parents : List ℕ) → length (fold (next_board torus season) board parents).placings ≡ length board.placings + length parents
+placed_number : (torus : TorusNumbers) (season : Season) (board : Board) (parents : List ℕ) → length (fold (next_board torus season) board parents).placings ≡ length board.placings + length parents
 unfolding next_board
 placed_number torus season board [] = omega arith
 placed_number torus season board (parent ∷ parents) =
     omega (arith, placed_number torus season (next_board torus season board parent) parents, length-append board.placings (next_placing torus season board parent ∷ []))
 
-pub placements_in : (torus : Torus) (parents : List ℕ) (occupants : List (Option ℕ)) (season : Season) → AllByRecursion (IsCell torus) parents → AllByRecursion (PlacedIn torus) (placements_of torus parents occupants season).placings
+pub placements_in : (torus : TorusNumbers) (parents : List ℕ) (occupants : List (Option ℕ)) (season : Season) → AllByRecursion (IsCell torus) parents → AllByRecursion (PlacedIn torus) (placements_of torus parents occupants season).placings
 unfolding placements_of
 placements_in torus parents occupants season cells = placed_in torus season (record { occupants = occupants; placings = []; parents = [] }) parents cells tt
 
-pub placements_number : (torus : Torus) (parents : List ℕ) (occupants : List (Option ℕ)) (season : Season) → length (placements_of torus parents occupants season).placings ≡ length parents
+pub placements_number : (torus : TorusNumbers) (parents : List ℕ) (occupants : List (Option ℕ)) (season : Season) → length (placements_of torus parents occupants season).placings ≡ length parents
 unfolding placements_of
 placements_number torus parents occupants season =
     let empty : Board = record { occupants = occupants; placings = []; parents = [] } in

@@ -26,7 +26,7 @@ use Rattle.world_laws.proofs.Updates.{IsWorld, people_after, world_left, scene_b
 use Rattle.world_laws.proofs.Placements.{placements_in, placements_number}
 use Rattle.world_laws.proofs.LivesLemmas.{LifeLaws, AreLives, lives_are}
 use Rattle.world_laws.proofs.FolkLemmas.{IsDelivery, left_by, folk_kept, sound_kept, births_lawful, births_few, entries_few, turns_lawful}
-use Rattle.world_laws.proofs.Configs.{IsConfig, filter_few, size_of, FitsWhat, FitsPlaced, events_fit, events_few, few_cells, torus_size}
+use Rattle.world_laws.proofs.Configs.{IsConfig, filter_few, size_of, FitsWhat, FitsPlaced, events_fit, events_few, few_cells, rules_are}
 use Rattle.world_laws.proofs.Sounds.{Goes, goes_on, goes_more, goes_deaths, goes_births, goes_events}
 
 cells_in : (config : ConfigValues) (size : ℕ) (start : People) (births : List Delivery) → AllByRecursion (IsDelivery config size start) births → AllByRecursion (λ cell. cell < size) (map (λ b. b.cell) births)
@@ -50,7 +50,7 @@ pub record IsRun (config : ConfigValues) (n : ℕ) (start : People) (w : World) 
 
 module _ (laws : LifeLaws) (config : ConfigValues) (fit : IsConfig config) (n : ℕ) (start : People) (w : World) (is : IsRun config n start w) where
   pub lives_lawful : AreLives config (slice_at config w.cells) 0 w.cells (lives_after config w)
-  lives_lawful = lives_are laws config (w.update + 1) w.cells is.sound
+  lives_lawful = lives_are laws config (rules_are config fit) (w.update + 1) w.cells is.sound
 
   -- the scene as the lives have ended
   abbrev pub ended : Scene
@@ -67,9 +67,7 @@ module _ (laws : LifeLaws) (config : ConfigValues) (fit : IsConfig config) (n : 
   placed_lawful scene =
       let births = births_of (lives_after config w) in
       let cells = cells_in config (size_of config) start births deliveries_lawful in
-      let all = subst (λ size. AllByRecursion (λ cell. cell < size) (map (λ b. b.cell) births)) (sym (torus_size config fit)) cells in
-      subst (λ size. AllByRecursion (λ (p : Placing). p.cell < size) (placings_of config scene births)) (torus_size config fit)
-      (placements_in (torus_of config) (map (λ b. b.cell) births) (ids_of scene.cells) (season_at config scene.update (next_id scene)) all)
+      placements_in (torus_of config) (map (λ b. b.cell) births) (ids_of scene.cells) (season_at config scene.update (next_id scene)) cells
 
   pub placed_all : (scene : Scene) → length (placings_of config scene (births_of (lives_after config w))) ≡ length (births_of (lives_after config w))
   unfolding placings_of

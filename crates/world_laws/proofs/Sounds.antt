@@ -21,7 +21,7 @@ use Rattle.world_laws.proofs.Mirror.{People}
 use Rattle.world_laws.proofs.Scenes.{Each, stands_before, stands_with}
 use Rattle.world_laws.proofs.LivesLemmas.{LifeLaws}
 use Rattle.world_laws.proofs.FolkLemmas.{IsDelivery}
-use Rattle.world_laws.proofs.Configs.{IsConfig, few_cells, FitsWhat, FitsPlaced, greatest_fits, genome_fits}
+use Rattle.world_laws.proofs.Configs.{IsConfig, few_cells, FitsWhat, FitsPlaced, genome_fits}
 
 -- what holds as an update ends: organisms are sound, and so many came and died at most
 pub record Goes (scene next : Scene) (count deaths : ℕ) : Type 0 where
@@ -82,8 +82,8 @@ module _ (laws : LifeLaws) (config : ConfigValues) (fit : IsConfig config) where
   sound_newborn size start b placing is =
       let least : (rules_of config).least ≤ length b.newborn.genome = is.born.least in
       let greatest : length b.newborn.genome ≤ (rules_of config).greatest = is.born.greatest in
-      let low = (rules_of config).long_enough in
-      let high = greatest_fits config fit in
+      let low = fit.least in
+      let high = fit.room in
       let top = fit.greatest in
       let genome : IsGenome b.newborn.genome = record { least = omega (arith, least, low); greatest = omega (arith, greatest, high, top) } in
       laws.new b.newborn.genome placing.inputs b.newborn.merit b.newborn.credited config.memory_limit genome (omega (arith, greatest, high)) (omega (arith, top)) is.born.some_merit is.born.merit

@@ -5,8 +5,7 @@ use Rattle.logic_tasks.specs.Inputs.{inputs_of}
 use Rattle.random_streams.specs.RandomStream.{scaled}
 use Rattle.birth_board.specs.declared.placing.Placing.{Placing}
 use Rattle.birth_board.specs.declared.season.Season.{Season}
-use Rattle.birth_board.specs.declared.torus.Torus.{Torus}
-use Rattle.birth_board.specs.Torus.{neighbours_of}
+use Rattle.birth_board.specs.Torus.{TorusNumbers, neighbours_of}
 use Rattle.birth_board.specs.Placement.{Board, chosen_cell, placing_of, words_of, next_board, placements_of}
 use Rattle.world_rules.specs.Settings.{torus_of, season_at}
 use Rattle.world_rules.specs.TinyWorlds.{tiny}
@@ -27,7 +26,7 @@ zero_at (suc (suc (suc (suc (suc (suc (suc zero))))))) = refl
 zero_at (suc (suc (suc (suc (suc (suc (suc (suc k)))))))) = refl
 
 -- the torus of one cell
-abbrev torus : Torus
+abbrev torus : TorusNumbers
 torus = torus_of (tiny [])
 
 -- the season of its update 1

@@ -5,8 +5,6 @@ pub use Rattle.log_lines.specs.LineText
 pub use Rattle.organism.specs.UpdateLife
 pub use Rattle.world_config.specs.Values
 pub mod World
-pub mod Bounds
-pub mod BoundsLaws
 pub mod Settings
 pub mod Lives
 pub mod Scene

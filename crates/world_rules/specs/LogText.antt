@@ -3,7 +3,6 @@ use Rattle.std.specs.Prelude.{ℕ, zero, suc, ◌+◌, List, [], ◌∷◌, ◌+
 use Rattle.std.specs.List.{filter_map, flat_map, scan}
 use Rattle.birth_board.specs.declared.placing.Placing.{Placing}
 use Rattle.lineage_log.specs.LogGrammar.{lines_text}
-use Rattle.log_lines.specs.declared.log_line.TheConstants.{LAST_VERSION}
 use Rattle.log_lines.specs.Line.{Line, Start, Death, Birth, Injected, Cleared, Rate, Count, End}
 use Rattle.log_lines.specs.LineText.{line_text}
 use Rattle.world_config.specs.Events.{EventValue, WhatValue, inject, clear, rate}
@@ -74,7 +73,7 @@ update_lines config w =
 
 -- the first line of a run's log
 abbrev pub head_line : ConfigValues → Line
-head_line config = Start LAST_VERSION config.width config.height config.founder_cell config.ancestor
+head_line config = Start 2 config.width config.height config.founder_cell config.ancestor
 
 -- the text of the first line
 unfoldable pub head_text : ConfigValues → List ℕ

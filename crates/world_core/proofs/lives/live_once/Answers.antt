@@ -1,10 +1,15 @@
-use Rattle.std.proofs.Common.{◌≡◌, ◌+◌, map, ap}
+use Rattle.std.proofs.Common.{◌≡◌, ◌+◌, ◌^◌, ◌≤◌, length, map, ap, sym, subst, arith}
+use Rattle.std.proofs.lemmas.List.Elements.{All-nil}
+use Rattle.genome.specs.Genome.{letters}
 use Rattle.random_streams.specs.RandomStream.{word_of}
 use Rattle.organism.specs.Lived.{beginning}
-use Rattle.organism.specs.Newborns.{newborn_value}
+use Rattle.organism.specs.declared.newborn.Newborn.{Newborn}
+use Rattle.organism.specs.Newborns.{newborn_value, MeritsFit, LengthsFit}
+use Rattle.organism.specs.SettingNumbers.{setting_numbers}
 use Rattle.organism.specs.UpdateLife.{life_state}
 use Rattle.world_config.specs.Shown.{values_of}
-use Rattle.world_core.proofs.LifeLemmas.{life_of-run}
+use Rattle.world_rules.specs.World.{Occupant}
+use Rattle.world_core.proofs.LifeLemmas.{life_of-run, greatest_of}
 use Rattle.world_core.proofs.lives.live_once.Goals as goal
 
 pub returns-clause-life : goal.returns-clause-life
@@ -15,4 +20,20 @@ returns-clause-life c =
       newborns = map newborn_value (c.none-births.ensures i);
       next = (c.start-draws.ensures i).taken;
     } in
-    rw (← c.occupant.view_is) (life_of-run (values_of c.args.config.now) (c.args.update + 1) c.args.cell c.args.steps _ c.args.settings.now (word_of c.start-draws.result) _ (life_state c.run.new.self c.run.new.births c.run.new.draws) c.in_ok-ran.ran c.is_death.result c.requires.settings (ap word_of c.start-draws.ensures) begins c.in_ok-ran.ensures.life c.is_death.ensures)
+    rw (← c.occupant.view_is) (life_of-run (values_of c.args.config.now) (c.args.update + 1) c.args.cell c.args.steps _ (setting_numbers c.args.settings.now) (word_of c.start-draws.result) _ (life_state c.run.new.self c.run.new.births c.run.new.draws) c.in_ok-ran.ran c.is_death.result c.requires.settings (ap word_of c.start-draws.ensures) begins c.in_ok-ran.ensures.life c.is_death.ensures)
+
+pub returns-clause-bounds : goal.returns-clause-bounds
+returns-clause-bounds c =
+    let config = values_of c.args.config.now in
+    let settings = setting_numbers c.args.settings.now in
+    let goes = c.in_ok-ran.ensures.bounds in
+    let none = c.none-births.ensures in
+    let age = ap (λ (o : Occupant). o.organism.age) c.occupant.view_is in
+    let merit : c.occupant.inside.organism.merit ≤ 2 ^ 38 = omega (arith, ap (λ (o : Occupant). o.organism.merit) c.occupant.view_is, c.requires.sound.merit) in
+    let greatest = greatest_of config (c.args.update + 1) settings c.requires.settings in
+    record {
+      cell = record { age = omega (arith, goes.age, age, c.requires.sound.age, c.requires.steps); merit = goes.merit merit };
+      few = omega (arith, goes.births, ap length none);
+      merits = goes.merits (subst MeritsFit (sym none) (All-nil (λ (b : Newborn). b.merit ≤ 2 ^ 38)));
+      lengths = subst (λ g. LengthsFit g c.run.new.births) greatest (goes.lengths (subst (LengthsFit settings.rules.greatest) (sym none) (All-nil (λ (b : Newborn). length (letters b.genome) ≤ settings.rules.greatest))));
+    }

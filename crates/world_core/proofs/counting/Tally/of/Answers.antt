@@ -1,7 +1,6 @@
-use Rattle.std.proofs.Common.{◌≤◌, ◌∷◌, ◌++◌, [], ap, subst, sym, ◌∙◌, arith, take}
+use Rattle.std.proofs.Common.{◌^◌, ◌≤◌, ◌∷◌, ◌++◌, [], ap, subst, sym, ◌∙◌, arith, take}
 use Rattle.std.proofs.lemmas.List.{take_more, take_all, length-take}
 use Rattle.std.proofs.lemmas.List.Elements.{All-take}
-use Rattle.merit_slices.specs.declared.merits.TheConstants.{GREATEST_MERIT}
 use Rattle.world_rules.specs.Lives.{merit_in}
 use Rattle.world_core.specs.Tally.{IsTallyOf}
 use Rattle.world_core.proofs.CountLemmas.{tally-small}
@@ -11,7 +10,7 @@ pub add-requires-clause-room : goal.add-requires-clause-room
 add-requires-clause-room c =
     let cells = c.args.cells.now in
     let at = c.loop-slot.slot-index in
-    tally-small (take at cells) c.loop-slot.tally c.loop-slot.invariant (omega (arith, length-take at cells)) (All-take (λ slot. merit_in slot ≤ GREATEST_MERIT) at cells c.requires.merits)
+    tally-small (take at cells) c.loop-slot.tally c.loop-slot.invariant (omega (arith, length-take at cells)) (All-take (λ slot. merit_in slot ≤ 2 ^ 38) at cells c.requires.merits)
 
 pub loop-slot-preserved : goal.loop-slot-preserved
 loop-slot-preserved c =
