@@ -15,8 +15,9 @@ use Rattle.avida_program.specs.declared.refusal.Refusal.{Refusal}
 use Rattle.avida_program.specs.Input.{IsInputWith, configuration_of, lineage_input_of}
 use Rattle.avida_program.specs.Status.{status_of, told_by}
 use Rattle.avida_program.specs.Changes.{Call, Change, GainedFront, GainedText, SinkFailed, SourceFailed, Stays, TellsOf, Work, work_of}
-use Rattle.avida_program.specs.Commands.{GainedLogOf, Serves, ServesCommand, ServesInput, ServesLineage, ServesNothing, ServesRun, final_world, run_text}
-use Rattle.avida_program.specs.Outcomes.{CarriesOut, Descends, DoesNothing, LeavesFinal, LeavesLast, LeavesWorld, Obeys, ReadsInput, Runs}
+use Rattle.avida_program.specs.Commands.{Serves, ServesCommand, ServesInput, ServesLineage, ServesNothing, ServesRun}
+use Rattle.avida_program.specs.RunText.{GainedLogOf, final_world, run_text}
+use Rattle.avida_program.specs.Work.{CarriesOut, Descends, DoesNothing, LeavesFinal, LeavesLast, LeavesWorld, Obeys, ReadsInput, Runs}
 
 -- nothing is a prefix of every text
 pub stays_front : (sink : Change SinkState) (text : List ℕ) → Stays sink → GainedFront sink text

@@ -1,4 +1,4 @@
--- How a call changes its source, its sinks and the last world (docs/FORMATS.md, "Statuses and fault lines").
+-- What a call changes (docs/FORMATS.md, "Statuses and fault lines").
 use Rattle.std.specs.Prelude.{◌≡◌, ◌≢◌, ◌⊎◌, ℕ, List, Option, Some}
 use Rattle.avida_port.specs.Faults.{Rose}
 use Rattle.avida_port.specs.Ports.{SourceState, SinkState, Gained, GainedPrefix}

@@ -1,25 +1,18 @@
 -- What `serve` promises of each command: a record a command, with a field for each sentence
 -- (docs/FORMATS.md, "The command line" and "Statuses and fault lines").
 use Rattle.std.specs.Prelude.{◌≡◌, ◌≢◌, ◌⊎◌, ℕ, List, [], Option, None, Some, Result, Ok, Err}
-use Rattle.log_lines.specs.Line.{Line}
-use Rattle.lineage_log.specs.LogGrammar.{lines_text, log_of}
-use Rattle.lineage_log.specs.Replay.{replay_of}
-use Rattle.lineage_log.specs.Upgrade.{upgraded}
-use Rattle.world_config.specs.Values.{ConfigValues}
-use Rattle.world_rules.specs.LogText.{log_text}
-use Rattle.world_rules.specs.WorldRun.{residents_of_world}
-use Rattle.world_core.specs.WorldValue.{WorldValue, world_in}
-use Rattle.avida_port.specs.Ports.{SinkState}
+use Rattle.world_core.specs.WorldValue.{WorldValue}
 use Rattle.avida_program.specs.declared.command.Command.{Command}
 use Rattle.avida_program.specs.declared.command.Command.TheVariants.{Trace, Run, Lineage, Replay, Upgrade}
 use Rattle.avida_program.specs.declared.command.Spelling.{Spelling}
 use Rattle.avida_program.specs.declared.status.Status.{Status}
 use Rattle.avida_program.specs.declared.status.Status.TheVariants as status
 use Rattle.avida_program.specs.declared.refusal.Refusal.{Refusal}
-use Rattle.avida_program.specs.Changes.{Call, Change, OnBytes, Stays, SourceFailed, SinkFailed, GainedText, GainedFront, TellsOf}
+use Rattle.avida_program.specs.Changes.{Call, OnBytes, Stays, SourceFailed, SinkFailed, GainedText, GainedFront, TellsOf}
 use Rattle.avida_program.specs.Input.{IsInputWith, configuration_of, genome_of, lineage_input_of, log_input_of}
 use Rattle.avida_program.specs.PathText.{path_text}
-use Rattle.avida_program.specs.ReplayText.{replay_text}
+use Rattle.avida_program.specs.ReplayText.{replay_text, upgrade_text}
+use Rattle.avida_program.specs.RunText.{GainedLogOf, final_world, run_text}
 use Rattle.avida_program.specs.Status.{told_by, told_by_words}
 use Rattle.avida_program.specs.TraceText.{trace_text}
 
@@ -66,22 +59,6 @@ pub record ServesTrace (steps : ℕ) (spelling : Spelling) (bytes : List ℕ)
   pub serves : ServesInput (genome_of spelling bytes) (λ genome. trace_text genome steps) call s
   pub last_stays : Stays call.last
 
--- the log of a configuration's run
-abbrev pub run_text : ConfigValues → List ℕ
-run_text config = log_text config config.updates
-
--- the world after a configuration's last update
-abbrev pub final_world : ConfigValues → WorldValue
-final_world config = record { config = config; update = config.updates }
-
--- what the sink gained reads as a log, which replays to who lives in this world
-pub record GainedLogOf (sink : Change SinkState) (world : WorldValue) : Type 0 where
-  pub text : List ℕ
-  pub gained : GainedText sink text
-  pub lines : List Line
-  pub reads : log_of text ≡ Ok lines
-  pub replays : replay_of lines ≡ residents_of_world (world_in world)
-
 -- `run` without a watcher, on a source that tells these bytes
 pub record ServesRun (bytes : List ℕ) (call : Call) (s : Status) : Type 0 where
   -- what is read and written, and why the run ends
@@ -109,10 +86,6 @@ pub record ServesLineage (cell : ℕ) (bytes : List ℕ) (call : Call) (s : Stat
 pub record ServesReplay (bytes : List ℕ) (call : Call) (s : Status) : Type 0 where
   pub serves : ServesInput (log_input_of bytes) replay_text call s
   pub last_stays : Stays call.last
-
--- the lines of a log with the last version
-abbrev pub upgrade_text : List Line → List ℕ
-upgrade_text lines = lines_text (upgraded lines)
 
 -- `upgrade`, on a source that tells these bytes
 pub record ServesUpgrade (bytes : List ℕ) (call : Call) (s : Status) : Type 0 where

@@ -8,3 +8,5 @@ pub mod ReplayText
 pub mod Changes
 pub mod Commands
 pub mod Outcomes
+pub mod RunText
+pub mod Work

@@ -7,10 +7,11 @@ ghost use Rattle.world_core.specs.WorldValue.{world_in};
 ghost use Rattle.world_rules.specs.Descent.{line_in};
 ghost use Rattle.avida_program.specs.declared.command.Command.TheVariants.{Lineage};
 ghost use Rattle.avida_program.specs.Changes.{GainedText, change, unchanged};
-ghost use Rattle.avida_program.specs.Commands.{final_world};
-ghost use Rattle.avida_program.specs.Outcomes.{CarriesOut, StopsWithin, WritesText};
+ghost use Rattle.avida_program.specs.Outcomes.{StopsWithin, WritesText};
 ghost use Rattle.avida_program.specs.PathText.{origin_text, parent_text, path_line, path_lines, path_text, place_text};
+ghost use Rattle.avida_program.specs.RunText.{final_world};
 ghost use Rattle.avida_program.specs.TraceText.{spaced};
+ghost use Rattle.avida_program.specs.Work.{CarriesOut};
 
 use crate::input::{read_bytes, read_config_with};
 use crate::outcome::ended;

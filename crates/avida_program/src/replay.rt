@@ -5,9 +5,10 @@ ghost use Rattle.avida_port.specs.Ports.{SinkState};
 ghost use Rattle.world_core.specs.WorldValue.{WorldValue};
 ghost use Rattle.avida_program.specs.declared.command.Command.TheVariants.{Replay};
 ghost use Rattle.avida_program.specs.Changes.{change, unchanged};
-ghost use Rattle.avida_program.specs.Outcomes.{CarriesOut, WritesText};
+ghost use Rattle.avida_program.specs.Outcomes.{WritesText};
 ghost use Rattle.avida_program.specs.Pieces.{Writes};
 ghost use Rattle.avida_program.specs.ReplayText.{replay_text, resident_line};
+ghost use Rattle.avida_program.specs.Work.{CarriesOut};
 
 use crate::Outcome;
 use crate::fixed_text::push_natural;

@@ -6,8 +6,9 @@ ghost use Rattle.world_rules.specs.Laws.{ReplaysToLiving};
 ghost use Rattle.world_rules.specs.LogText.{head_text, update_text, updates_text, end_text};
 ghost use Rattle.avida_program.specs.declared.command.Command.TheVariants.{Run};
 ghost use Rattle.avida_program.specs.Changes.{change, unchanged};
-ghost use Rattle.avida_program.specs.Commands.{final_world, run_text};
-ghost use Rattle.avida_program.specs.Outcomes.{CarriesOut, WritesAll};
+ghost use Rattle.avida_program.specs.Outcomes.{WritesAll};
+ghost use Rattle.avida_program.specs.RunText.{final_world, run_text};
+ghost use Rattle.avida_program.specs.Work.{CarriesOut};
 
 use crate::input::{read_bytes, read_config};
 use crate::{INPUT_LIMIT, Outcome};
@@ -80,7 +81,8 @@ fn write_log<O: Sink, G: Gate + Sync>(
 ) -> Result<World, Outcome>
     requires workers { (1 ≤ workers) × (workers ≤ 64) }
     ensures world { IfOk result (λ world. world ≡ final_world (values_of config)) }
-    ensures text { WritesAll (O.seen out.old) (O.seen out.new) (run_text (values_of config)) result }
+    ensures text { WritesAll (O.seen out.old) (O.seen out.new)
+        (run_text (values_of config)) result }
     ensures replays { ReplaysToLiving (values_of config) config.updates }
 {
     let updates = config.updates;
@@ -147,8 +149,8 @@ pub fn leave(run: Result<World, Outcome>, last: &mut Option<World>) -> Outcome
     }
 }
 
-/// Reads a configuration, and writes the log of its run. On `Done` the last world is left in `last`,
-/// and otherwise `last` stays as it was.
+/// Reads a configuration, and writes the log of its run. On `Done` the last world is left in
+/// `last`, and otherwise `last` stays as it was.
 pub fn run<S: Source, O: Sink, G: Gate + Sync>(
     alloc: Global,
     workers: u32,

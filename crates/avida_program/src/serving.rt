@@ -5,7 +5,7 @@ ghost use Rattle.avida_port.specs.Ports.{SinkState};
 ghost use Rattle.avida_program.specs.CommandLine.{HasWorkers, command_of};
 ghost use Rattle.avida_program.specs.Changes.{TellsOf, change, unchanged};
 ghost use Rattle.avida_program.specs.Commands.{Serves};
-ghost use Rattle.avida_program.specs.Outcomes.{CarriesOut, Obeys};
+ghost use Rattle.avida_program.specs.Work.{CarriesOut, Obeys};
 
 use crate::command::{Command, read_words};
 use crate::fault_line::line_of;

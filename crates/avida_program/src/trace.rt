@@ -5,8 +5,9 @@ ghost use Rattle.genome.specs.Genome.{letters};
 ghost use Rattle.world_core.specs.WorldValue.{WorldValue};
 ghost use Rattle.avida_program.specs.declared.command.Command.TheVariants.{Trace};
 ghost use Rattle.avida_program.specs.Changes.{change, unchanged};
-ghost use Rattle.avida_program.specs.Outcomes.{CarriesOut, WritesText};
+ghost use Rattle.avida_program.specs.Outcomes.{WritesText};
 ghost use Rattle.avida_program.specs.TraceText.{lines_of, trace_limit, trace_text, traced_organism};
+ghost use Rattle.avida_program.specs.Work.{CarriesOut};
 
 use crate::input::{read_bytes, read_genome};
 use crate::outcome::ended;

@@ -7,8 +7,9 @@ ghost use Rattle.avida_port.specs.Ports.{SinkState};
 ghost use Rattle.world_core.specs.WorldValue.{WorldValue};
 ghost use Rattle.avida_program.specs.declared.command.Command.TheVariants.{Upgrade};
 ghost use Rattle.avida_program.specs.Changes.{change, unchanged};
-ghost use Rattle.avida_program.specs.Commands.{upgrade_text};
-ghost use Rattle.avida_program.specs.Outcomes.{CarriesOut, WritesText};
+ghost use Rattle.avida_program.specs.Outcomes.{WritesText};
+ghost use Rattle.avida_program.specs.ReplayText.{upgrade_text};
+ghost use Rattle.avida_program.specs.Work.{CarriesOut};
 
 use crate::Outcome;
 use crate::input::{read_bytes, read_lines};

@@ -1,0 +1,95 @@
+-- What each command's function leaves, by the outcome (docs/FORMATS.md, "Statuses and fault lines").
+use Rattle.std.specs.Prelude.{◌≡◌, ◌≢◌, ◌⊎◌, ℕ, List, [], Option, None, Some, Result, Ok, Err}
+use Rattle.world_config.specs.Values.{ConfigValues}
+use Rattle.world_core.specs.WorldValue.{WorldValue}
+use Rattle.world_rules.specs.Laws.{ReplaysToLiving}
+use Rattle.avida_program.specs.declared.command.Command.{Command}
+use Rattle.avida_program.specs.declared.command.Command.TheVariants.{Trace, Run, Lineage, Replay, Upgrade}
+use Rattle.avida_program.specs.declared.outcome.Outcome.{Outcome}
+use Rattle.avida_program.specs.declared.outcome.Outcome.TheVariants as outcome
+use Rattle.avida_program.specs.declared.refusal.Refusal.{Refusal}
+use Rattle.avida_program.specs.Changes.{Change, OnBytes, Stays, SourceFailed, SinkFailed, GainedText, GainedFront, Work}
+use Rattle.avida_program.specs.Input.{IsInputWith, configuration_of, genome_of, lineage_input_of, log_input_of}
+use Rattle.avida_program.specs.PathText.{path_text}
+use Rattle.avida_program.specs.ReplayText.{replay_text, upgrade_text}
+use Rattle.avida_program.specs.RunText.{final_world, run_text}
+use Rattle.avida_program.specs.TraceText.{trace_text}
+
+-- a command that reads this input, or refuses it, and writes this text of it
+abbrev pub ReadsInput : {A : Type 0} → Result A Refusal → (A → List ℕ) → Work → Outcome → Type 0
+ReadsInput read text_of work outcome.Done = (work.source.after.left ≡ Some [])
+    × IsInputWith read (λ input. GainedText work.out (text_of input))
+ReadsInput read text_of work outcome.BadWords = ⊥
+ReadsInput read text_of work (outcome.BadInput why) = Stays work.out × (read ≡ Err why)
+ReadsInput read text_of work outcome.ReadFault = Stays work.out × SourceFailed work.source
+ReadsInput read text_of work outcome.WriteFault =
+    SinkFailed work.out × IsInputWith read (λ input. GainedFront work.out (text_of input))
+ReadsInput read text_of work outcome.NoMemory =
+    Stays work.out ⊎ IsInputWith read (λ input. GainedFront work.out (text_of input))
+
+-- a run that came to its end leaves its last world, and its log replays to who lives there
+pub record LeavesWorld (last : Change (Option WorldValue)) (config : ConfigValues) : Type 0 where
+  pub world : last.after ≡ Some (final_world config)
+  pub replays : ReplaysToLiving config config.updates
+
+-- where all is done this holds of the input and the last world, and else what was there stays
+abbrev pub LeavesLast : Result ConfigValues Refusal
+    → (Change (Option WorldValue) → ConfigValues → Type 0)
+    → Change (Option WorldValue) → Outcome → Type 0
+LeavesLast read Leaves last outcome.Done = IsInputWith read (Leaves last)
+LeavesLast read Leaves last told = Stays last
+
+-- `run` on these bytes
+pub record Runs (bytes : List ℕ) (work : Work) (told : Outcome) : Type 0 where
+  pub reads : ReadsInput (configuration_of bytes) run_text work told
+  pub leaves : LeavesLast (configuration_of bytes) LeavesWorld work.last told
+
+-- a configuration's last world is left
+abbrev pub LeavesFinal : Change (Option WorldValue) → ConfigValues → Type 0
+LeavesFinal last config = last.after ≡ Some (final_world config)
+
+-- `lineage` of a cell on these bytes
+pub record Descends (cell : ℕ) (bytes : List ℕ) (work : Work) (told : Outcome) : Type 0 where
+  pub reads : ReadsInput (lineage_input_of cell bytes) (λ config. path_text config cell) work told
+  pub leaves : LeavesLast (lineage_input_of cell bytes) LeavesFinal work.last told
+
+-- a command that reads this input, writes this text of it, and leaves no world
+pub record ReadsAndWrites {A : Type 0} (read : Result A Refusal) (text_of : A → List ℕ)
+    (work : Work) (told : Outcome) : Type 0 where
+  pub reads : ReadsInput read text_of work told
+  pub last_stays : Stays work.last
+
+-- what each command reads, writes and leaves
+abbrev pub Does : Command → Work → Outcome → Type 0
+Does (Trace steps spelling) work told = OnBytes work.source (λ bytes.
+    ReadsAndWrites (genome_of spelling bytes) (λ genome. trace_text genome steps) work told)
+Does (Run workers) work told = OnBytes work.source (λ bytes. Runs bytes work told)
+Does (Lineage cell workers) work told = OnBytes work.source (λ bytes. Descends cell bytes work told)
+Does Replay work told =
+    OnBytes work.source (λ bytes. ReadsAndWrites (log_input_of bytes) replay_text work told)
+Does Upgrade work told =
+    OnBytes work.source (λ bytes. ReadsAndWrites (log_input_of bytes) upgrade_text work told)
+
+-- a command is carried out, and ends so
+pub record CarriesOut (command : Command) (work : Work) (told : Outcome) : Type 0 where
+  -- these hold also where the streams tell no bytes
+  pub words : told ≢ outcome.BadWords
+  pub read_fault : told ≡ outcome.ReadFault → SourceFailed work.source
+  pub write_fault : told ≡ outcome.WriteFault → SinkFailed work.out
+  pub watch_stays : Stays work.watch
+  pub last_stays : told ≢ outcome.Done → Stays work.last
+  -- the command's own row
+  pub does : Does command work told
+
+-- no command
+pub record DoesNothing (work : Work) (told : Outcome) : Type 0 where
+  pub refused : (told ≡ outcome.BadWords) ⊎ (told ≡ outcome.NoMemory)
+  pub source_stays : Stays work.source
+  pub out_stays : Stays work.out
+  pub watch_stays : Stays work.watch
+  pub last_stays : Stays work.last
+
+-- what the words give is carried out, and ends so
+abbrev pub Obeys : Option Command → Work → Outcome → Type 0
+Obeys None work told = DoesNothing work told
+Obeys (Some command) work told = CarriesOut command work told
