@@ -10,7 +10,6 @@ ghost use Rattle.avida_program.specs.Changes.{GainedText, change, unchanged};
 ghost use Rattle.avida_program.specs.Outcomes.{StopsWithin, WritesText};
 ghost use Rattle.avida_program.specs.PathText.{origin_text, parent_text, path_line, path_lines, path_text, place_text};
 ghost use Rattle.avida_program.specs.RunText.{final_world};
-ghost use Rattle.avida_program.specs.TraceText.{spaced};
 ghost use Rattle.avida_program.specs.Work.{CarriesOut};
 
 use crate::input::{read_bytes, read_config_with};
@@ -21,27 +20,17 @@ use crate::{INPUT_LIMIT, Outcome};
 use avida_port::{Gate, Memory, Sink, Source};
 use genome::letters_text;
 use lineage_log::{Link, Path};
-use log_lines::write_record;
+use log_lines::{write_number, write_record};
 use mutations::Origin;
 use std::alloc::Global;
 use world_config::Config;
 use world_core::World;
 
-/// A number with a space before it.
-fn add_number(text: &mut Vec<u8>, number: u64) -> Result<(), Memory>
-    ensures { OnOk result (text.new.items ≡ text.old.items ++ spaced number) }
-{
-    let mut digits = itoa::Buffer::new();
-    text.push(b' ')?;
-    text.extend_from_slice(digits.format(number).as_bytes())?;
-    Ok(())
-}
-
 fn add_parent(text: &mut Vec<u8>, parent: Option<u64>) -> Result<(), Memory>
     ensures { OnOk result (text.new.items ≡ text.old.items ++ parent_text parent) }
 {
     match parent {
-        Some(id) => add_number(text, id),
+        Some(id) => write_number(b' ', id, text),
         None => {
             text.extend_from_slice(b" -")?;
             Ok(())
@@ -66,10 +55,10 @@ fn add_place(text: &mut Vec<u8>, link: &Link) -> Result<(), Memory>
     ensures { OnOk result (text.new.items ≡ text.old.items ++ place_text link.now) }
 {
     text.push(b'P')?;
-    add_number(text, link.id)?;
+    write_number(b' ', link.id, text)?;
     add_parent(text, link.parent)?;
-    add_number(text, u64::from(link.update))?;
-    add_number(text, u64::from(link.cell))
+    write_number(b' ', u64::from(link.update), text)?;
+    write_number(b' ', u64::from(link.cell), text)
 }
 
 /// Appends the line of one of a line of descent.

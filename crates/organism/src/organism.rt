@@ -173,7 +173,7 @@ impl Organism {
         self.after_did(did, rules)
     }
 
-    /// What follows from what the machine tells.
+    /// What follows from the answer of the machine's step.
     fn after_did(&mut self, did: Did, rules: &DivideRules) -> Outcome
         requires read { self.old.read < self.old.age }
         requires question { AsksOf self.old.machine did }

@@ -1,6 +1,6 @@
 use divide_rules::DivideAsk;
 
-/// What a step tells.
+/// The answer of a step.
 #[derive(Clone, Copy, Debug, PartialEq, Eq)]
 pub enum Did {
     Plain,
