@@ -16,6 +16,9 @@ TOP = Path(__file__).resolve().parent.parent
 
 TASKS = ("NOT", "NAND", "AND", "ORN", "OR", "ANDN", "NOR", "XOR", "EQU")
 
+# Nine colours that stand apart also for who can't tell red from green.
+COLOURS = ("#999999", "#56B4E9", "#0072B2", "#44AA99", "#117733", "#8C564B", "#E69F00", "#D55E00", "#AA3377")
+
 # The instructions in the order of their letters, a to z.
 INSTRUCTIONS = (
     "nop-A nop-B nop-C if-n-equ if-less if-label mov-head jmp-head get-head set-flow shift-r shift-l inc dec "
@@ -82,6 +85,9 @@ class Update(NamedTuple):
             raise ValueError(fields)
         return cls(*numbers[:6], tuple(numbers[6:]))
 
+    def mean_merit(self):
+        return self.merit / self.living if self.living else None
+
 
 def lines_of(path):
     """The numbers and the fields of a log's lines. A last piece without an end isn't a line."""
@@ -115,6 +121,23 @@ def updates_of(path):
     return found
 
 
+def first_updates(updates):
+    """For each task the first update in which its count is above 0, or None."""
+    return [next((update.number for update in updates if update.tasks[at]), None) for at in range(len(TASKS))]
+
+
+def thinned(updates, most):
+    """The updates in so many groups at most, each of the same size, and that size."""
+    size = -(-len(updates) // most)
+    return [updates[at : at + size] for at in range(0, len(updates), size)], size
+
+
+def mean_of(group, value):
+    """The mean of a value over those updates of a group that have one, or None."""
+    found = [number for number in map(value, group) if number is not None]
+    return sum(found) / len(found) if found else None
+
+
 class World:
     """Who lives after each update of a log: the id in each cell, and the genome of each id."""
 
@@ -126,7 +149,7 @@ class World:
         # Of each id that lives, and of each that died in this update, since a child may still name it.
         self.parents = {0: None}
         self.gone = []
-        self.births, self.update = [], None
+        self.births, self.update = [0], None
 
     def settle(self, cell, over, id, parent, genome):
         if (over == "-") != (self.cells[cell] is None):
@@ -193,6 +216,8 @@ class Births:
             with open(path, "rb") as file:
                 for number, line in enumerate(file, 1):
                     mark = line[:1]
+                    if not line.endswith(b"\n") and number > 1:
+                        break
                     if mark in (b"B", b"I") or number == 1:
                         self.add(number, mark, line, place)
                     place += len(line)
@@ -210,7 +235,7 @@ class Births:
                 id = int(line.split(b" ", 2)[1])
         except ValueError:
             id = -1
-        if id != len(self.parents) or parent >= id or not line.endswith(b"\n"):
+        if id != len(self.parents) or parent >= id:
             raise faulty(self.path, number)
         self.parents.append(parent)
         self.places.append(place)
