@@ -1,9 +1,11 @@
-//! Tests of the program from above, and what those of other crates share.
+//! Tests of the program from above: streams that fail, and the world that a run leaves.
 #![tactic(auto)]
 
+#[cfg(test)]
+mod left_worlds;
 pub mod one_cell;
+#[cfg(test)]
+mod run_faults;
 pub mod served;
 #[cfg(test)]
 mod trace_faults;
-#[cfg(test)]
-mod trace_rows;
