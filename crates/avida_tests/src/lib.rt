@@ -3,9 +3,11 @@
 
 #[cfg(test)]
 mod left_worlds;
-pub mod one_cell;
+#[cfg(test)]
+mod one_cell;
 #[cfg(test)]
 mod run_faults;
-pub mod served;
+#[cfg(test)]
+mod served;
 #[cfg(test)]
 mod trace_faults;
