@@ -1,9 +1,13 @@
-//! Tests of the program from above, and what those of other crates share.
+//! Tests of the program from above: streams that fail, and the world that a run leaves.
 #![tactic(auto)]
 
-pub mod one_cell;
-pub mod served;
+#[cfg(test)]
+mod left_worlds;
+#[cfg(test)]
+mod one_cell;
+#[cfg(test)]
+mod run_faults;
+#[cfg(test)]
+mod served;
 #[cfg(test)]
 mod trace_faults;
-#[cfg(test)]
-mod trace_rows;

@@ -75,19 +75,3 @@ pub fn serve_with(
 pub fn serve_on(alloc: Global, words: &str, bytes: &[u8]) -> Result<Served, AllocError> {
     serve_with(alloc, words, bytes, NO_FAULTS)
 }
-
-/// The line of this number, from 1, without its end.
-pub fn line_at(text: &[u8], number: usize) -> Option<&[u8]> {
-    text.split(|byte| *byte == b'\n')
-        .nth(number.saturating_sub(1))
-}
-
-/// A genome that copies itself as the default ancestor does, with so many letters between its ends.
-pub fn copying_genome(alloc: Global, between: usize) -> Result<Vec<u8>, AllocError> {
-    let mut letters = Vec::from_slice(alloc, b"wzcag")?;
-    for _ in 0..between {
-        letters.push(b'c')?;
-    }
-    letters.extend_from_slice(b"zvfcaxgab")?;
-    Ok(letters)
-}

@@ -1,8 +1,8 @@
 // Reads and puts of `run` and `replay` that fail, one after another.
+use crate::one_cell::{CONFIG, front_of, log_of};
+use crate::served::{Faults, NO_FAULTS, Served, serve_with};
 use avida_port::Failing;
 use avida_program::Status;
-use avida_tests::one_cell::{CONFIG, front_of, log_of};
-use avida_tests::served::{Faults, NO_FAULTS, Served, serve_with};
 use std::alloc::{AllocError, Global};
 use std::test::Fail;
 

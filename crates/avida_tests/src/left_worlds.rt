@@ -1,0 +1,171 @@
+// The world that a command leaves.
+use crate::served::serve_on;
+use genome::letters_text;
+use std::alloc::Global;
+use std::test::Fail;
+use world_core::World;
+
+/// Words and an input, with the world that is left: its cells, its counts, and who lives where.
+const WORLDS: &str = "run
+=>
+updates = 0
+=>
+3600 cells
+U 0 1 0 0 1 100 0 0 0 0 0 0 0 0 0
+0 wzcagcccccccccccccccccccccccccccccccccccccccccccccccccccccccccccccccccccccccccccccccccccccczvfcaxgab
+---
+run --workers 64
+=>
+width = 1
+height = 1
+updates = 13
+copy_error = 0
+divide_insert = 0
+divide_delete = 0
+=>
+1 cells
+U 13 1 1 1 1 97 0 0 0 0 0 0 0 0 0
+0 wzcagcccccccccccccccccccccccccccccccccccccccccccccccccccccccccccccccccccccccccccccccccccccczvfcaxgab
+---
+lineage 0
+=>
+width = 1
+height = 1
+updates = 13
+copy_error = 0
+divide_insert = 0
+divide_delete = 0
+=>
+1 cells
+U 13 1 1 1 1 97 0 0 0 0 0 0 0 0 0
+0 wzcagcccccccccccccccccccccccccccccccccccccccccccccccccccccccccccccccccccccccccccccccccccccczvfcaxgab
+---
+run
+=>
+width = 1
+height = 1
+updates = 10
+age_limit = 1
+ancestor = \"aaaaaaaaaaaaaaaaaaaaaaaaaaaaaaaaaaaaaaaaaaaaaaaaaaaaaaaaaaaaaaaaaaaaaaaaaaaaaaaaaaaaaaaaaaaaaaaaaaaa\"
+=>
+1 cells
+U 10 0 0 0 0 0 0 0 0 0 0 0 0 0 0
+---
+run --workers 2
+=>
+width = 2
+height = 1
+updates = 2
+event = [{ kind = \"inject\", update = 1, cell = 1, letters = \"aaaaaaaa\" }]
+=>
+2 cells
+U 2 2 0 0 2 108 0 0 0 0 0 0 0 0 0
+0 wzcagcccccccccccccccccccccccccccccccccccccccccccccccccccccccccccccccccccccccccccccccccccccczvfcaxgab
+1 aaaaaaaa
+---
+run
+=>
+width = 1
+height = 1
+updates = 2
+copy_error = 0
+divide_insert = 0
+divide_delete = 0
+event = [{ kind = \"clear\", update = 1, first = 0, last = 0 }]
+=>
+1 cells
+U 2 0 0 0 0 0 0 0 0 0 0 0 0 0 0
+---
+run
+=>
+width = 0
+=>
+no world
+---
+run --workers 65
+=>
+width = 1
+height = 1
+updates = 13
+copy_error = 0
+divide_insert = 0
+divide_delete = 0
+=>
+no world
+---
+lineage 1
+=>
+width = 1
+height = 1
+updates = 13
+copy_error = 0
+divide_insert = 0
+divide_delete = 0
+=>
+no world
+---
+replay
+=>
+L 2 1 1 0 aaaaaaaa
+E 0
+=>
+no world
+---
+trace 1
+=>
+mmmmmmmm
+=>
+no world
+";
+
+/// The world as a text, with its counts in the order of the log.
+fn text_of(alloc: Global, world: &World) -> Result<Vec<u8>, Fail> {
+    let stats = world.stats();
+    let counts = format!(in alloc;
+        "{} cells\nU {} {} {} {} {} {}",
+        world.cells(),
+        stats.update,
+        stats.living,
+        stats.births,
+        stats.deaths,
+        stats.genotypes,
+        stats.merit
+    )?;
+    let mut text = counts.as_bytes().to_vec(alloc)?;
+    for count in &stats.tasks {
+        text.extend_from_slice(format!(in alloc; " {count}")?.as_bytes())?;
+    }
+    text.push(b'\n')?;
+    for cell in 0..world.cells() {
+        if let Some(genome) = world.genome_at(cell) {
+            text.extend_from_slice(format!(in alloc; "{cell} ")?.as_bytes())?;
+            if letters_text(genome, &mut text).is_err() {
+                return Err("memory".into());
+            }
+            text.push(b'\n')?;
+        }
+    }
+    Ok(text)
+}
+
+#[test]
+fn run_and_lineage_leave_the_world_after_the_last_update(rt: HostRuntime) -> Result<(), Fail> {
+    let alloc = rt.alloc();
+    for case in WORLDS.split("---\n") {
+        let (words, rest) = case.split_once("\n=>\n").ok_or("no input")?;
+        let (input, wanted) = rest.split_once("=>\n").ok_or("no world")?;
+        let served = serve_on(alloc, words, input.as_bytes())?;
+        match &served.last {
+            Some(world) => {
+                assert_eq!(rt;
+                    text_of(alloc, world)?.as_slice(),
+                    wanted.as_bytes(),
+                    "{case}"
+                );
+                assert_eq!(rt; world.update(), world.stats().update, "{case}");
+            }
+            None => assert_eq!(rt; wanted, "no world\n", "{case}"),
+        }
+    }
+    Ok(())
+}
