@@ -88,7 +88,8 @@ placements_of torus parents occupants season =
     fold (next_board torus season) (record { occupants = occupants; placings = []; parents = [] })
     parents
 
--- what a placing needs: a slot for each cell, parents that stand in the torus, in the order of their cells, and ids that fit 63 bits
+-- what a placing needs: a slot for each cell, parents in the torus in the order of their cells,
+-- and ids that fit 63 bits
 pub record CanPlace (torus : TorusNumbers) (parents : List ℕ) (occupants : List (Option ℕ))
     (season : Season) : Type 0 where
   pub cells : length occupants ≡ cells_of torus

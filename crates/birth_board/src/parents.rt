@@ -8,7 +8,7 @@ use std::alloc::Global;
 /// The cells of parents, one for each newborn.
 pub type Parents = Items<u32>;
 
-/// Each cell stands as often as it is counted, in the order of the cells.
+/// Lists each cell as often as `counts` says, in the order of the cells.
 pub fn gather(alloc: Global, counts: &[u32]) -> Result<Parents, Memory>
     requires { length counts.now ≤ 65536 }
     ensures parents { IfOk result (λ parents. parents ≡ parents_of counts.now) }

@@ -1,7 +1,7 @@
 // The torus of cells.
 ghost use Rattle.std.specs.Prelude.{◌≤◌};
 
-/// Cells in rows; each side meets the side opposite.
+/// A grid of cells whose opposite sides are joined.
 #[derive(Clone, Copy, Debug, PartialEq, Eq)]
 pub struct Torus {
     pub width: u32,

@@ -18,7 +18,7 @@ struct Turn {
     draws: Draws,
 }
 
-/// Places a newborn for each parent in turn. After `Memory` the occupants stay.
+/// Places one newborn for each parent, in order. If memory runs out, the occupants are unchanged.
 pub fn place(
     alloc: Global,
     torus: &Torus,

@@ -8,7 +8,7 @@ use std::marker::Model;
 /// How many inputs an organism has.
 pub const INPUT_COUNT: usize = 3;
 
-/// Three inputs, which differ in their top bytes: together these have each row of a truth table.
+/// Three inputs with fixed, different top bytes, whose bits together cover each row of a truth table.
 #[derive(Clone, Copy, Debug, PartialEq, Eq)]
 pub struct Inputs {
     words: [u32; INPUT_COUNT],

@@ -4,7 +4,7 @@ ghost use Rattle.merit_slices.specs.Merit.{exponent_of, exponent_in, exponent_su
 
 use logic_tasks::{TASKS, Task, Tasks};
 
-/// The least of the three numbers, doubled as often as the tasks say.
+/// The merit of a divide: the smallest of the three numbers, doubled as often as the tasks say.
 pub fn merit(length: u32, executed: u32, copied: u32, tasks: Tasks) -> u64
     requires { length ≤ 8192 }
     ensures merit { result ≡ merit_of length executed copied tasks }

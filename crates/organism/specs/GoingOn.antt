@@ -12,10 +12,12 @@ pub record LifeNow : Type 0 where
   pub births : List Newborn
   pub draws : Stream
 
+-- a life of these parts
 abbrev pub life_now : OrganismState → List Newborn → Stream → LifeNow
 life_now o births draws = record { organism = o; births = births; draws = draws }
 
--- at most so many steps more of age, so many newborns more and so many words more; merits and lengths stay within their bounds
+-- at most so many steps more of age, so many newborns more and so many words more; merits and
+-- lengths stay within their bounds
 pub record GoesOn (settings : SettingNumbers) (steps children words : ℕ)
     (old new : LifeNow) : Type 0 where
   pub age : new.organism.age ≤ old.organism.age + steps

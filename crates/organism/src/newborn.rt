@@ -2,10 +2,10 @@ use genome::Genome;
 use logic_tasks::Tasks;
 use mutations::Origin;
 
-/// A child that was born and not yet placed.
+/// A child that has no cell yet.
 #[derive(Debug, Drop)]
 pub struct Newborn {
-    /// From 0 within the update of one organism.
+    /// Its number among the newborns of its parent in this update, from 0.
     pub nth: u32,
     pub genome: Genome,
     pub origin: Origin,

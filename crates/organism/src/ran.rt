@@ -2,6 +2,6 @@
 #[derive(Clone, Copy, Debug, PartialEq, Eq)]
 pub enum Ran {
     Lives,
-    /// The organism came to its age limit with this step of the update, counted from 1.
+    /// The organism reached its age limit with this step of the update, counted from 1.
     Died { after: u64 },
 }

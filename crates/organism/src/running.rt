@@ -19,7 +19,8 @@ use random_streams::Draws;
 use std::alloc::Global;
 
 impl Organism {
-    /// The life of one update. After `Memory` drop the organism, and the births with it.
+    /// Runs the organism for one update, at most `slices` steps. If memory runs out, drop the organism and
+    /// its births.
     #[tactic(auto, unfolding(crate::specs::UpdateLife::life))]
     pub fn run(
         &mut self,

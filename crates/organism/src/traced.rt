@@ -3,6 +3,7 @@ use genome::Genome;
 use instruction_set::Letter;
 use logic_tasks::Task;
 
+/// What a step of a trace did besides the machine's change.
 #[derive(Debug, Drop, PartialEq, Eq)]
 pub enum Remark {
     Nothing,
@@ -20,6 +21,7 @@ pub enum Remark {
     },
 }
 
+/// One step of a trace: the place and the letter before it, and the registers after it.
 #[derive(Debug, Drop, PartialEq, Eq)]
 pub struct Traced {
     pub place: u32,

@@ -13,7 +13,7 @@ use Rattle.virtual_cpu.specs.Machine.{Machine}
 use Rattle.virtual_cpu.specs.Operands.{register_picked, head_picked, on_modifier, template_of, on_template}
 use Rattle.virtual_cpu.specs.Effects.{effect_of}
 
--- a letter acts, with IP on the modifier, on the register that the modifier picks or else on this one
+-- a letter acts, with IP on the modifier, on the register that the modifier picks, else on this one
 pub record TakesRegister (letter : Letter) (default : Register) : Type 0 where
   pub act : Machine → Register → ℤ → Machine × Did
   pub is : (m : Machine) (input : ℤ) (copy : Option Letter)

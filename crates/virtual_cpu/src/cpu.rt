@@ -58,7 +58,7 @@ impl Model for Cpu {
 }
 
 impl Cpu {
-    /// The machine at its start, with room for all that it may grow to.
+    /// A machine at its start. It reserves all the memory that it can grow to, so no step allocates.
     pub fn new(alloc: Global, genome: &Genome, memory_limit: u32) -> Result<Cpu, Memory>
         requires genome_within { length (letters genome.now) ≤ memory_limit }
         requires greatest { memory_limit ≤ 8192 }
@@ -88,7 +88,7 @@ impl Cpu {
         })
     }
 
-    /// Keeps the first letters, and begins anew on them.
+    /// Cuts memory to its first `keep` letters and restarts the machine on them.
     pub fn reset(&mut self, keep: u32)
         requires least { 8 ≤ keep }
         requires within { keep ≤ length self.old.memory }
@@ -113,7 +113,7 @@ impl Cpu {
         self.pending = false;
     }
 
-    /// The child's part of the clean text and of memory.
+    /// Copies the child's part of the clean text and of memory.
     pub fn cut(&self, alloc: Global, ask: &DivideAsk) -> Result<Cut, Memory>
         requires least { 8 ≤ ask.now.end - ask.now.read }
         requires within { ask.now.end ≤ length self.now.memory }
