@@ -1,5 +1,6 @@
 pub mod BirthRecord
 pub mod Change
+pub mod ChildTexts
 pub mod CopyError
 pub mod DivideErrors
 pub mod Pass

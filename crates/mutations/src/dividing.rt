@@ -3,6 +3,7 @@ ghost use Rattle.std.specs.Prelude.{◌≡◌, ◌+◌, ◌-◌, ◌*◌, ◌≤
 ghost use Rattle.instruction_set.specs.Letter.{same_letters};
 ghost use Rattle.genome.specs.Genome.{letters};
 ghost use Rattle.random_streams.specs.RandomStream.{word_of, word_count};
+ghost use Rattle.mutations.specs.ChildTexts.{AreTextsOfChild, IsLengthWithin, TakesWordsOfBirth};
 ghost use Rattle.mutations.specs.DivideErrors.{birth_words};
 ghost use Rattle.mutations.specs.Rates.{numbers_of, range_of};
 ghost use Rattle.mutations.specs.BirthRecord.{record_of, child_of, origin_of, after_birth, written_in, written_of, drawn_by_divide};
@@ -34,9 +35,7 @@ pub fn divide_errors(
     limits: &Limits,
     draws: &mut Draws,
 ) -> Result<Born, Memory>
-    requires one_length { length (letters clean.now) ≡ length (letters written.now) }
-    requires shortest { limits.now.least ≤ length (letters written.now) }
-    requires longest { length (letters written.now) ≤ limits.now.greatest }
+    requires texts { AreTextsOfChild (range_of limits.now) (letters clean.now) (letters written.now) }
     requires room { draws.old.taken < word_count - birth_words }
     // The record is the one that the words give.
     ensures origin { IfOk result (λ born. record_of born.origin
@@ -47,16 +46,11 @@ pub fn divide_errors(
     // The genome is the one that the record makes.
     ensures child { IfOk result (λ born.
         child_of (letters parent.now) (record_of born.origin) ≡ Ok (letters born.genome)) }
-    ensures shortest { IfOk result (λ born. limits.now.least ≤ length (letters born.genome)) }
-    ensures longest { IfOk result (λ born. length (letters born.genome) ≤ limits.now.greatest) }
-    ensures taken { OnOk result (draws.new ≡ record draws.old {
-      taken = after_birth (word_of draws.old) draws.old.taken (numbers_of rates.now)
-          (range_of limits.now) (letters clean.now) (letters written.now);
-    }) }
+    ensures length { IfOk result
+        (λ born. IsLengthWithin (range_of limits.now) (letters born.genome)) }
+    ensures taken { OnOk result (TakesWordsOfBirth draws.old (numbers_of rates.now)
+        (range_of limits.now) (letters clean.now) (letters written.now) draws.new) }
     ensures stays { draws.new ≡ record draws.old { taken = draws.new.taken } }
-    ensures least { OnOk result (draws.old.taken + 2 ≤ draws.new.taken) }
-    ensures most { OnOk result (draws.new.taken
-        ≤ draws.old.taken + 6 * length (letters written.now) + 6) }
 {
     one_index();
     let drawn = drawn_child(

@@ -23,6 +23,13 @@ pub OnOk-map : {A : Type 0} {E : Type 0} (P Q : Type 0) → (P → Q) → (r : R
 OnOk-map P Q f (Ok a) h = f h
 OnOk-map P Q f (Err e) h = tt
 
+-- the same where the fact comes first
+pub OnOk-then : {A : Type 0} {E : Type 0} (P Q : Type 0) (r : Result A E) → OnOk r P → (P → Q) → OnOk r Q
+OnOk-then P Q r h f = OnOk-map P Q f r h
+
+pub IfOk-then : {A : Type 0} {E : Type 0} (P Q : A → Type 0) (r : Result A E) → IfOk r P → ((a : A) → P a → Q a) → IfOk r Q
+IfOk-then P Q r h f = IfOk-map P Q f r h
+
 -- the record that two texts and a genome have, which are those of the divide
 pub birth_record-of : (settings : SettingNumbers) (words : ℕ → ℕ) (k : ℕ) (o : OrganismState) (ask : DivideAsk) (clean written parent : List Letter) → clean ≡ clean_text o ask → written ≡ written_text o ask → parent ≡ o.genome → origin_of words k settings.rates (child_range settings.rules) clean written parent ≡ birth_record settings words k o ask
 unfolding birth_record
