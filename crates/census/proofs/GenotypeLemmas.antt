@@ -24,7 +24,7 @@ count_under-le-living genotypes key =
 
 -- what is under a key is counted
 pub count_under-some : (genotypes : List (ℕ × GenotypeCount)) (key : ℕ) → AreGenotypes genotypes → IsSome (genotype_at genotypes key) → 0 < count_under genotypes key
-count_under-some genotypes key are some = by (genotype_at genotypes key) (are.some key) some where
+count_under-some genotypes key are some = by (genotype_at genotypes key) (are.counted key) some where
   by : (found : Option GenotypeCount) → ((g : GenotypeCount) → found ≡ Some g → 0 < g.count) → IsSome found → 0 < unwrap_or (option_map (λ (g : GenotypeCount). g.count) found) 0
   by None counted none = cc
   by (Some g) counted is = counted g refl
@@ -33,13 +33,13 @@ count_under-some genotypes key are some = by (genotype_at genotypes key) (are.so
 pub AreGenotypes-set : (before after : List (ℕ × GenotypeCount)) (key : ℕ) (new : GenotypeCount) → AreGenotypes before → IsStrictlySortedBy nat_cmp (keys_of after) → ((other : ℕ) → genotype_at after other ≡ cond (is_at (nat_cmp key) other) (Some new) (genotype_at before other)) → 0 < new.count → ((other : ℕ) (g : GenotypeCount) → genotype_at before other ≡ Some g → g.genome ≡ new.genome → other ≡ key) → AreGenotypes after
 AreGenotypes-set before after key new are ordered updates counted one_key = record {
   in_order = ordered;
-  some = λ other g is. some other g (is_at (nat_cmp key) other) (sym (updates other) ∙ is);
+  counted = λ other g is. counted_at other g (is_at (nat_cmp key) other) (sym (updates other) ∙ is);
   one_key = λ q r g h is has same. one (is_at (nat_cmp key) q) (is_at (nat_cmp key) r) q r g h refl refl (sym (updates q) ∙ is) (sym (updates r) ∙ has) same;
 }
   where
-    some : (other : ℕ) (g : GenotypeCount) (b : Bool) → cond b (Some new) (genotype_at before other) ≡ Some g → 0 < g.count
-    some other g true is = let same : new ≡ g = cc in subst (λ (g : GenotypeCount). 0 < g.count) same counted
-    some other g false is = are.some other g is
+    counted_at : (other : ℕ) (g : GenotypeCount) (b : Bool) → cond b (Some new) (genotype_at before other) ≡ Some g → 0 < g.count
+    counted_at other g true is = let same : new ≡ g = cc in subst (λ (g : GenotypeCount). 0 < g.count) same counted
+    counted_at other g false is = are.counted other g is
 
     one : (a b : Bool) (q r : ℕ) (g h : GenotypeCount) → is_at (nat_cmp key) q ≡ a → is_at (nat_cmp key) r ≡ b → cond a (Some new) (genotype_at before q) ≡ Some g → cond b (Some new) (genotype_at before r) ≡ Some h → g.genome ≡ h.genome → q ≡ r
     one true true q r g h p s is has same = tied key q p ∙ sym (tied key r s)
@@ -55,7 +55,7 @@ AreGenotypes-set before after key new are ordered updates counted one_key = reco
 pub AreGenotypes-removed : (before after : List (ℕ × GenotypeCount)) (key : ℕ) → AreGenotypes before → IsStrictlySortedBy nat_cmp (keys_of after) → ((other : ℕ) → genotype_at after other ≡ cond (is_at (nat_cmp key) other) None (genotype_at before other)) → AreGenotypes after
 AreGenotypes-removed before after key are ordered updates = record {
   in_order = ordered;
-  some = λ other g is. are.some other g (was other g is);
+  counted = λ other g is. are.counted other g (was other g is);
   one_key = λ q r g h is has same. are.one_key q r g h (was q g is) (was r h has) same;
 }
   where

@@ -24,7 +24,8 @@ genome_under genotypes key =
 -- one organism more has the genome under a key, which may be new
 abbrev pub with_one : List (ℕ × GenotypeCount) → ℕ → List Letter → List (ℕ × GenotypeCount)
 with_one genotypes key genome =
-    insert_entry nat_cmp genotypes key (record { genome = genome; count = count_under genotypes key + 1 })
+    insert_entry nat_cmp genotypes key
+    (record { genome = genome; count = count_under genotypes key + 1 })
 
 -- what is under a key once an organism goes, where others stay
 abbrev pub lowered : List (ℕ × GenotypeCount) → ℕ → GenotypeCount
