@@ -16,7 +16,7 @@ fn genome_of(alloc: Global, letters: &[u8]) -> Result<Arc<Genome, Global>, Fail>
 }
 
 #[test]
-fn one_organism_comes_and_goes(rt: HostRuntime) -> Result<(), Fail> {
+fn organisms_come_and_go(rt: HostRuntime) -> Result<(), Fail> {
     let alloc = rt.alloc();
     let genome = genome_of(alloc, b"mmmmmmmm")?;
     let credited = Tasks::none().with(Task::Equ);
@@ -29,6 +29,11 @@ fn one_organism_comes_and_goes(rt: HostRuntime) -> Result<(), Fail> {
     let found = census.dominant()?.ok_or("nothing is dominant")?;
     assert_eq!(rt; found.count, 1);
     assert!(rt; found.genome == genome);
+    census.add(7, &genome, 2, Tasks::none())?;
+    assert_eq!(rt; census.living(), 2);
+    assert_eq!(rt; census.genotypes(), 1);
+    census.remove(7, 2, Tasks::none());
+    assert_eq!(rt; census.living(), 1);
     census.remove(7, 8, credited);
     assert_eq!(rt; census.living(), 0);
     assert_eq!(rt; census.genotypes(), 0);
