@@ -1,0 +1,4 @@
+pub mod DominanceLemmas
+pub mod GenotypeLemmas
+pub mod LetterLemmas
+pub mod TaskLemmas

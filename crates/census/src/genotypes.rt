@@ -1,0 +1,109 @@
+// The genotypes by their keys.
+ghost use Rattle.std.specs.Prelude.{◌≡◌, ◌+◌, ◌<◌, ◌^◌, ℕ, IsSome, OnErr, OnOk, Some, if◌then◌else◌};
+ghost use Rattle.std.specs.BTreeMap.{is_at, values};
+ghost use Rattle.std.specs.List.{best_of};
+ghost use Rattle.std.specs.List.Sorted.{IsStrictlySortedBy};
+ghost use Rattle.std.specs.Map.{keys_of, set_value};
+ghost use Rattle.std.specs.Option.{option_copied};
+ghost use Rattle.std.specs.Ordering.{nat_cmp};
+ghost use Rattle.genome.specs.Genome.{letters};
+ghost use Rattle.census.specs.Counts.{GenotypeCount, AreGenotypes, genotype_at, living_of};
+ghost use Rattle.census.specs.Changes.{count_under, lowered, with_one, without_one};
+ghost use Rattle.census.specs.Dominance.{outranks, dominant_among};
+
+use crate::genotype::Genotype;
+use avida_port::Memory;
+use genome::Genome;
+use std::alloc::Global;
+use std::collections::BTreeMap;
+use std::collections::btree_map::Values;
+use std::sync::Arc;
+
+pub(crate) type Genotypes = BTreeMap<u64, Genotype>;
+
+/// How many organisms are counted under a key.
+pub(crate) fn count_under(genotypes: &Genotypes, key: u64) -> u64
+    ensures { result ≡ count_under genotypes.now.entries key }
+{
+    match genotypes.get(&key) {
+        Some(genotype) => genotype.count(),
+        None => 0,
+    }
+}
+
+/// Counts one organism more. If memory runs out, nothing changes.
+pub(crate) fn raise(
+    genotypes: &mut Genotypes,
+    key: u64,
+    genome: &Arc<Genome, Global>,
+) -> Result<(), Memory>
+    requires genotypes { AreGenotypes genotypes.old.entries }
+    requires one_key { (other : ℕ) (genotype : GenotypeCount)
+        → genotype_at genotypes.old.entries other ≡ Some genotype
+        → genotype.genome ≡ letters genome.now.value → other ≡ key }
+    requires room { living_of genotypes.old.entries < 2 ^ 32 }
+    ensures ok { OnOk result (genotypes.new.entries
+        ≡ with_one genotypes.old.entries key (letters genome.now.value)) }
+    ensures living { OnOk result (living_of genotypes.new.entries
+        ≡ living_of genotypes.old.entries + 1) }
+    ensures err { OnErr result (genotypes.new.entries ≡ genotypes.old.entries) }
+    ensures genotypes { AreGenotypes genotypes.new.entries }
+{
+    let count = count_under(genotypes, key) + 1;
+    let genome = Arc::try_clone(genome)?;
+    genotypes.insert(key, Genotype::new(genome, count))?;
+    Ok(())
+}
+
+/// Counts one organism fewer. With its last organism a genotype goes.
+pub(crate) fn lower(genotypes: &mut Genotypes, key: u64)
+    requires genotypes { AreGenotypes genotypes.old.entries }
+    requires counted { IsSome (genotype_at genotypes.old.entries key) }
+    ensures value { genotypes.new.entries ≡ without_one genotypes.old.entries key }
+    ensures living { living_of genotypes.new.entries + 1 ≡ living_of genotypes.old.entries }
+    ensures genotypes { AreGenotypes genotypes.new.entries }
+{
+    if 1 < count_under(genotypes, key) {
+        lower_count(genotypes, key);
+    } else {
+        genotypes.remove(&key);
+    }
+}
+
+/// Lowers the count under a key, which stays.
+fn lower_count(genotypes: &mut Genotypes, key: u64)
+    requires { 0 < count_under genotypes.old.entries key }
+    ensures entries { genotypes.new.entries ≡ set_value (is_at (nat_cmp key)) genotypes.old.entries
+        (lowered genotypes.old.entries key) }
+    ensures updates { (other : ℕ) → genotype_at genotypes.new.entries other
+        ≡ (if is_at (nat_cmp key) other then Some (lowered genotypes.old.entries key)
+        else genotype_at genotypes.old.entries other) }
+    ensures ordered { IsStrictlySortedBy nat_cmp (keys_of genotypes.new.entries) }
+{
+    let Some(genotype) = genotypes.get_mut(&key) else {
+        return;
+    };
+    genotype.lower();
+}
+
+/// The genotype before which no other comes.
+pub(crate) fn dominant(genotypes: &Genotypes) -> Option<&Genotype>
+    ensures { option_copied result ≡ dominant_among (values genotypes.now) }
+{
+    let mut rest = genotypes.values();
+    let first = rest.next()?;
+    Some(best_of(first, rest))
+}
+
+/// The first of these before which none of the others comes.
+fn best_of<'a>(first: &'a Genotype, rest: Values<'a, u64, Genotype>) -> &'a Genotype
+    ensures { result.now ≡ best_of outranks first.now rest.entry }
+{
+    let mut best = first;
+    for genotype in rest {
+        if genotype.outranks(best) {
+            best = genotype;
+        }
+    }
+    best
+}

@@ -1,0 +1,14 @@
+//! What is counted of the living, changed by one organism at a time.
+#![tactic(auto)]
+
+mod census;
+mod dominant;
+mod genotype;
+mod genotypes;
+mod task_counts;
+
+pub use census::Census;
+pub use dominant::Dominant;
+
+#[cfg(test)]
+mod tests;

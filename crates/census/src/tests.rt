@@ -1,0 +1,66 @@
+use crate::Census;
+use crate::genotype::Genotype;
+use crate::genotypes::{Genotypes, dominant};
+use genome::{Genome, read_letters};
+use logic_tasks::{Task, Tasks};
+use std::alloc::Global;
+use std::collections::BTreeMap;
+use std::sync::Arc;
+use std::test::Fail;
+
+fn genome_of(alloc: Global, letters: &[u8]) -> Result<Arc<Genome, Global>, Fail> {
+    match read_letters(alloc, letters) {
+        Ok(genome) => Ok(Arc::new(alloc, genome)?),
+        Err(_) => Err("no genome".into()),
+    }
+}
+
+#[test]
+fn organisms_come_and_go(rt: HostRuntime) -> Result<(), Fail> {
+    let alloc = rt.alloc();
+    let genome = genome_of(alloc, b"mmmmmmmm")?;
+    let credited = Tasks::none().with(Task::Equ);
+    let mut census = Census::start(alloc);
+    census.add(7, &genome, 8, credited)?;
+    assert_eq!(rt; census.living(), 1);
+    assert_eq!(rt; census.genotypes(), 1);
+    assert_eq!(rt; census.merit(), 8);
+    assert_eq!(rt; census.tasks(), [0, 0, 0, 0, 0, 0, 0, 0, 1]);
+    let found = census.dominant()?.ok_or("nothing is dominant")?;
+    assert_eq!(rt; found.count, 1);
+    assert!(rt; found.genome == genome);
+    census.add(7, &genome, 2, Tasks::none())?;
+    assert_eq!(rt; census.living(), 2);
+    assert_eq!(rt; census.genotypes(), 1);
+    census.remove(7, 2, Tasks::none());
+    assert_eq!(rt; census.living(), 1);
+    census.remove(7, 8, credited);
+    assert_eq!(rt; census.living(), 0);
+    assert_eq!(rt; census.genotypes(), 0);
+    assert_eq!(rt; census.merit(), 0);
+    assert_eq!(rt; census.tasks(), [0; 9]);
+    assert!(rt; census.dominant()?.is_none());
+    Ok(())
+}
+
+#[test]
+fn the_least_of_the_most_frequent_is_dominant(rt: HostRuntime) -> Result<(), Fail> {
+    let alloc = rt.alloc();
+    let mut genotypes: Genotypes = BTreeMap::new(alloc);
+    let cases: [(u64, &[u8], u64, &[u8]); 5] = [
+        (4, b"mmmmmmmm", 2, b"mmmmmmmm"),
+        (1, b"zzzzzzzz", 1, b"mmmmmmmm"),
+        (9, b"mmmmmmma", 2, b"mmmmmmma"),
+        (2, b"aaaaaaaa", 1, b"mmmmmmma"),
+        (7, b"ccccccccc", 3, b"ccccccccc"),
+    ];
+    for (key, letters, count, expected) in cases {
+        let genotype = Genotype::new(genome_of(alloc, letters)?, count);
+        genotypes.insert(key, genotype)?;
+        let found = dominant(&genotypes).ok_or("nothing is dominant")?;
+        let found = found.dominant()?;
+        let expected = genome_of(alloc, expected)?;
+        assert!(rt; found.genome == expected, "at {key}");
+    }
+    Ok(())
+}
