@@ -4,11 +4,17 @@ The forms are those of docs/FORMATS.md. A tool trusts a log's order, which the p
 """
 
 import argparse
+import gzip
+import io
 import os
 import re
+import shutil
 import subprocess
 import sys
+import tempfile
+import zlib
 from array import array
+from contextlib import contextmanager
 from pathlib import Path
 from typing import NamedTuple
 
@@ -89,11 +95,38 @@ class Update(NamedTuple):
         return self.merit / self.living if self.living else None
 
 
+@contextmanager
+def opened(path):
+    """The bytes of a log. Those of a file whose name ends in .gz are compressed."""
+    try:
+        file = gzip.open(path) if str(path).endswith(".gz") else open(path, "rb")
+    except OSError as error:
+        raise Fault(f"{path}: {error.strerror}") from None
+    with file:
+        try:
+            yield file
+        except (EOFError, zlib.error, gzip.BadGzipFile):
+            raise Fault(f"{path}: its compressed bytes are cut or damaged") from None
+
+
+@contextmanager
+def opened_plain(path):
+    """The same as a file of its own, which the program can read."""
+    with opened(path) as file:
+        if not isinstance(file, gzip.GzipFile):
+            yield file
+            return
+        with tempfile.TemporaryFile() as plain:
+            shutil.copyfileobj(file, plain)
+            plain.seek(0)
+            yield plain
+
+
 def lines_of(path):
     """The numbers and the fields of a log's lines. A last piece without an end isn't a line."""
     try:
-        with open(path, encoding="ascii", newline="\n") as file:
-            for number, line in enumerate(file, 1):
+        with opened(path) as file:
+            for number, line in enumerate(io.TextIOWrapper(file, encoding="ascii", newline="\n"), 1):
                 fields = line[:-1].split(" ")
                 if number == 1 and (fields[0] != "L" or len(fields) != 6):
                     raise Fault(f"{path}: this isn't a log: its first line doesn't begin with L")
@@ -101,8 +134,6 @@ def lines_of(path):
                     yield number, fields
     except UnicodeDecodeError:
         raise Fault(f"{path}: this isn't a log: it has bytes outside ASCII") from None
-    except OSError as error:
-        raise Fault(f"{path}: {error.strerror}") from None
 
 
 def faulty(path, number):
@@ -212,17 +243,14 @@ class Births:
     def __init__(self, path):
         self.path, self.parents, self.places = path, array("q"), array("q")
         place = 0
-        try:
-            with open(path, "rb") as file:
-                for number, line in enumerate(file, 1):
-                    mark = line[:1]
-                    if not line.endswith(b"\n") and number > 1:
-                        break
-                    if mark in (b"B", b"I") or number == 1:
-                        self.add(number, mark, line, place)
-                    place += len(line)
-        except OSError as error:
-            raise Fault(f"{path}: {error.strerror}") from None
+        with opened(path) as file:
+            for number, line in enumerate(file, 1):
+                mark = line[:1]
+                if not line.endswith(b"\n") and number > 1:
+                    break
+                if mark in (b"B", b"I") or number == 1:
+                    self.add(number, mark, line, place)
+                place += len(line)
 
     def add(self, number, mark, line, place):
         id, parent = 0, -1
@@ -252,7 +280,7 @@ class Births:
     def line_to(self, id):
         """The same, each with its parent, update, cell, base, changes and genome, as the command lineage writes them."""
         genome = None
-        with open(self.path, "rb") as file:
+        with opened(self.path) as file:
             for each in self.ids_to(id):
                 file.seek(self.places[each])
                 fields = file.readline().decode("ascii").split()
@@ -269,7 +297,9 @@ class Births:
 
 
 def program():
-    """The built program."""
+    """The built program, or the one that the environment names in AVIDA."""
+    if os.environ.get("AVIDA"):
+        return os.environ["AVIDA"]
     built = subprocess.run([TOP / "tools" / "built-program"], stdout=subprocess.PIPE, text=True)
     if built.returncode:
         sys.exit(built.returncode)
