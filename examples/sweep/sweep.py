@@ -319,18 +319,19 @@ def row_of(each):
     births = sum(int(row[COUNTS.index("births")]) for row in counts)
     mean = f"{merit / living:.6g}" if living else "-"
     of_line = (line[-1].split()[1], len(line)) if line else ("-", "-")
-    return (each.setting, each.seed, len(counts), births, living, genotypes, mean, *(row[1] for row in tasks), *of_line)
+    return (each.setting, each.seed, len(counts), births, living, genotypes, mean, *(row[1] for row in tasks), tasks[-1][2], *of_line)
 
 
-RUNS = ("setting", "seed", "updates", "births", "living", "genotypes", "mean_merit", *COUNTS[6:], "equ_organism", "its_line")
-SETTINGS = ("setting", "seeds", *COUNTS[6:], "equ_earliest", "in_seed", "equ_median")
+RUNS = ("setting", "seed", "updates", "births", "living", "genotypes", "mean_merit", *COUNTS[6:], "equ_at_end", "equ_organism", "its_line")
+SETTINGS = ("setting", "seeds", *COUNTS[6:], "equ_at_end", "equ_earliest", "in_seed", "equ_median")
 
 
 def row_of_setting(name, rows):
-    """In how many seeds each task came, and when EQU came."""
+    """In how many seeds each task came, in how many EQU is done at the end, and when it came."""
     firsts = [[int(row[RUNS.index(task)]) for row in rows if row[RUNS.index(task)] != "-"] for task in COUNTS[6:]]
     equ = min(((int(row[RUNS.index("equ")]), row[1]) for row in rows if row[RUNS.index("equ")] != "-"), default=("-", "-"))
-    return (name, len(rows), *map(len, firsts), *equ, f"{statistics.median(firsts[-1]):g}" if firsts[-1] else "-")
+    at_end = sum(int(row[RUNS.index("equ_at_end")]) > 0 for row in rows)
+    return (name, len(rows), *map(len, firsts), at_end, *equ, f"{statistics.median(firsts[-1]):g}" if firsts[-1] else "-")
 
 
 def summary(path):
