@@ -74,14 +74,18 @@ class Run(NamedTuple):
     def is_finished(self):
         return all((self.folder / name).exists() for name in TABLES)
 
-    def fault(self):
-        """Why the run isn't finished, in a line."""
-        for name in ("fault.txt", "slurm.txt"):
-            try:
-                return (self.folder / name).read_text().strip().splitlines()[-1]
-            except (OSError, IndexError):
-                pass
-        return "it was stopped"
+    def fault(self, begun):
+        """Why the run isn't finished, in a line: what its step wrote, or Slurm, since the call began."""
+        fault, job = (self.lines_since(begun, name) for name in ("fault.txt", "slurm.txt"))
+        told = fault or [line for line in job if line.startswith("slurmstepd")]
+        if told:
+            return told[-1]
+        return f"it was stopped; its job says more in {self.folder / 'slurm.txt'}" if job else "it was stopped"
+
+    def lines_since(self, begun, name):
+        path = self.folder / name
+        is_new = path.exists() and path.stat().st_mtime >= begun
+        return path.read_text(errors="replace").splitlines() if is_new else []
 
 
 TABLES = ("counts.tsv", "tasks.tsv", "line.txt")
@@ -323,6 +327,8 @@ def row_of(each):
 
 
 RUNS = ("setting", "seed", "updates", "births", "living", "genotypes", "mean_merit", *COUNTS[6:], "equ_at_end", "equ_organism", "its_line")
+SHARE_KEY = "set rmargin at screen 0.88\nunset key"
+MERIT_KEY = "set key left top vertical Left reverse samplen 1.4 spacing 1"
 SETTINGS = ("setting", "seeds", *COUNTS[6:], "equ_at_end", "equ_earliest", "in_seed", "equ_median")
 
 
@@ -354,9 +360,10 @@ def summary(path):
                 merits.append((name, update, *spread_of(found)))
     write_table(folder / "shares.tsv", ("setting", "update", *COUNTS[6:]), shares)
     write_table(folder / "merits.tsv", ("setting", "update", "least", "lower_quartile", "median", "upper_quartile", "greatest"), merits)
-    if shares:
-        draw(folder / "shares.svg", settings, shares, share_panel, "key at screen 0.87, 0.95 left top vertical Left reverse")
-        draw(folder / "merits.svg", settings, merits, merit_panel, "key at graph 0.02, 0.97 left top vertical Left reverse")
+    if merits:
+        draw(folder / "shares.svg", settings, shares, share_panel, SHARE_KEY)
+        bounds = min(float(row[2]) for row in merits), max(float(row[6]) for row in merits)
+        draw(folder / "merits.svg", settings, merits, merit_panel, f"{MERIT_KEY}\nset yrange [{bounds[0] / 2:g}:{bounds[1] * 2:g}]")
     write_table(folder / "settings.tsv", SETTINGS, settings)
     write_table(folder / "runs.tsv", RUNS, rows)
     left_out = len(runs) - len(finished)
@@ -366,13 +373,15 @@ def summary(path):
 
 def share_panel(name, seeds, is_first, points):
     """The commands and the points of a setting's panel: the share of seeds that have each task."""
-    plots = ", ".join(
-        f"'-' using 1:2 with lines lw 1.8 lc rgb '{colour}' {f'title {task!r}' if is_first else 'notitle'}"
-        for task, colour in zip(TASKS, COLOURS)
+    plots = ", ".join(f"'-' using 1:2 with lines lw 1.8 lc rgb '{colour}'" for colour in COLOURS)
+    # gnuplot breaks a key that is higher than its panel.
+    names = "".join(
+        f"set label {at + 1} '— {task}' at graph 1.02, {1 - 0.125 * at} tc rgb '{colour}'\n" for at, (task, colour) in enumerate(zip(TASKS, COLOURS))
     )
     lines = [[f"{row[1]} {row[2 + at]}\n" for row in points] for at in range(len(TASKS))]
     title = f"{name}: the share of {seeds} seeds that have each task" if seeds > 1 else f"{name}: one seed"
-    return f"set title '{title}'\nset yrange [0:1.02]\nplot {plots}\n" + "".join("".join(each) + "e\n" for each in lines)
+    begun = f"{names if is_first else 'unset label'}\nset title '{title}'\nset yrange [0:1.02]\nplot {plots}\n"
+    return begun + "".join("".join(each) + "e\n" for each in lines)
 
 
 def merit_panel(name, seeds, is_first, points):
@@ -387,7 +396,7 @@ def merit_panel(name, seeds, is_first, points):
     lines = [[f"{row[1]} {row[low]} {row[high]}\n" for row in points] for low, high in ((2, 6), (3, 5), (4, 4))]
     title = f"{name}: mean merit of {seeds} seeds" if seeds > 1 else f"{name}: mean merit of one seed"
     return (
-        f"set title '{title}'\nset logscale y\nset yrange [*:*]\nset format y '10^{{%L}}'\n"
+        f"set title '{title}'\nset logscale y\nset format y '10^{{%L}}'\n"
         f"plot {plots}\n" + "".join("".join(each) + "e\n" for each in lines)
     )
 
@@ -399,8 +408,8 @@ def draw(path, settings, points, panel, key):
     parts = [
         f"set terminal svg size 900,{60 + 240 * len(settings)} font 'Helvetica,13' background rgb 'white'\n"
         f"set output {json.dumps(str(part))}\nset multiplot layout {len(settings)},1\nset border 3 lc rgb '#666666'\n"
-        "set tics nomirror tc rgb '#333333'\nset grid ytics lc rgb '#e4e4e4' lt 1\nset lmargin 9\nset rmargin at screen 0.86\n"
-        f"set xrange [0:{last}]\nset {key} samplen 1.4 spacing 1.1\n"
+        "set tics nomirror tc rgb '#333333'\nset grid ytics lc rgb '#e4e4e4' lt 1\nset lmargin 9\n"
+        f"set xrange [0:{last}]\n{key}\n"
     ]
     for at, (name, seeds, *_) in enumerate(settings):
         if at == len(settings) - 1:
@@ -414,9 +423,9 @@ def draw(path, settings, points, panel, key):
     os.replace(part, path)
 
 
-def unfinished(runs):
+def unfinished(runs, begun):
     """Names each run that isn't finished, and why."""
-    named = [f"sweep: {each.name()}: {each.fault()}" for each in runs if not each.is_finished()]
+    named = [f"sweep: {each.name()}: {each.fault(begun)}" for each in runs if not each.is_finished()]
     return "\n".join([*named, f"sweep: {len(named)} of {len(runs)} runs aren't finished; the same command again runs these alone"])
 
 
