@@ -87,24 +87,3 @@ impl<T: Copy> Items<T> {
         })
     }
 }
-
-#[cfg(test)]
-mod tests {
-    use super::*;
-    use std::test::Fail;
-
-    #[test]
-    fn a_list_gives_its_items_by_place(rt: HostRuntime) -> Result<(), Fail> {
-        let alloc = rt.alloc();
-        let mut items = Items::none(alloc);
-        items.push(7u32)?;
-        items.push(9)?;
-        assert_eq!(rt; items.len(), 2);
-        assert_eq!(rt; items.get(1), Some(&9));
-        assert_eq!(rt; items.get(2), None);
-        let copy = items.copy(alloc)?;
-        assert_eq!(rt; copy.as_slice(), [7, 9].as_slice());
-        assert_eq!(rt; Items::from_vec(items.into_vec()).len(), 2);
-        Ok(())
-    }
-}

@@ -95,16 +95,3 @@ impl Sink for StdSink {
         }
     }
 }
-
-#[cfg(test)]
-mod tests {
-    use super::*;
-    use std::test::Fail;
-
-    #[test]
-    fn both_standard_streams_take_a_line(rt: HostRuntime) -> Result<(), Fail> {
-        assert_eq!(rt; StdSink::out(&rt).put(b"out\n"), Ok(()));
-        assert_eq!(rt; StdSink::err(&rt).put(b"err\n"), Ok(()));
-        Ok(())
-    }
-}

@@ -48,17 +48,3 @@ impl Source for StdSource {
         }
     }
 }
-
-#[cfg(test)]
-mod tests {
-    use super::*;
-    use std::test::Fail;
-
-    #[test]
-    fn standard_input_at_its_end_gives_nothing(rt: HostRuntime) -> Result<(), Fail> {
-        let mut source = StdSource::new(&rt);
-        let mut room = [0u8; 4];
-        assert_eq!(rt; source.fill(&mut room), Ok(0));
-        Ok(())
-    }
-}

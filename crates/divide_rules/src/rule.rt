@@ -27,23 +27,3 @@ impl Rule {
         }
     }
 }
-
-#[cfg(test)]
-mod tests {
-    use super::*;
-
-    #[test]
-    fn the_rules_are_printed_by_number(rt: HostRuntime) {
-        let names = [
-            (Rule::V1, "V1"),
-            (Rule::V2, "V2"),
-            (Rule::V3, "V3"),
-            (Rule::V4, "V4"),
-            (Rule::V5, "V5"),
-            (Rule::V6, "V6"),
-        ];
-        for (rule, name) in names {
-            assert_eq!(rt; rule.name(), name);
-        }
-    }
-}

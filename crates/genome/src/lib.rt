@@ -11,6 +11,3 @@ pub use genome::{GREATEST_LENGTH, Genome, LEAST_LENGTH};
 pub use names::{names_text, read_names};
 pub use stop::GenomeStop;
 pub use text::{letters_text, read_letters};
-
-#[cfg(test)]
-mod tests;

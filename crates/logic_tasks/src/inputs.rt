@@ -56,19 +56,3 @@ impl Inputs {
         &self.words[..read.min(3) as usize]
     }
 }
-
-#[cfg(test)]
-mod tests {
-    use super::*;
-
-    #[test]
-    fn three_inputs_come_round(rt: HostRuntime) {
-        let inputs = Inputs::of([0x0F0F_0F0F, 0x3333_3333, 0x5555_5555]);
-        assert_eq!(rt; inputs.value(0), 252645135);
-        assert_eq!(rt; inputs.value(1), 858993459);
-        assert_eq!(rt; inputs.value(2), 1431655765);
-        assert_eq!(rt; inputs.value(3), 252645135);
-        assert_eq!(rt; inputs.value(u64::MAX), 252645135);
-        assert_eq!(rt; Inputs::of([u32::MAX; 3]).value(1), 0x33FF_FFFF);
-    }
-}

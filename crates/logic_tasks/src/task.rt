@@ -73,19 +73,3 @@ impl Task {
         }
     }
 }
-
-#[cfg(test)]
-mod tests {
-    use super::*;
-
-    #[test]
-    fn the_tasks_stand_in_the_order_of_the_table(rt: HostRuntime) {
-        let names = [
-            "NOT", "NAND", "AND", "ORN", "OR", "ANDN", "NOR", "XOR", "EQU",
-        ];
-        for (place, task) in TASKS.iter().enumerate() {
-            assert_eq!(rt; task.place(), place);
-            assert_eq!(rt; Some(&task.name()), names.get(place));
-        }
-    }
-}

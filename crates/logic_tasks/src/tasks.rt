@@ -66,25 +66,3 @@ impl PartialEq for Tasks {
 impl Eq for Tasks {
     ghost laws = { Prim.search (comparing, rules) };
 }
-
-#[cfg(test)]
-mod tests {
-    use super::*;
-
-    #[test]
-    fn a_set_has_what_was_put_in(rt: HostRuntime) {
-        let tasks = Tasks::none().with(Task::Xor).with(Task::Not);
-        let cases = [
-            (Task::Not, true),
-            (Task::Nand, false),
-            (Task::Nor, false),
-            (Task::Xor, true),
-            (Task::Equ, false),
-        ];
-        for (task, expected) in cases {
-            assert_eq!(rt; tasks.has(task), expected, "at {task:?}");
-            assert!(rt; !Tasks::none().has(task));
-        }
-        assert!(rt; tasks.with(Task::Xor) == tasks);
-    }
-}

@@ -16,8 +16,6 @@ mod rate_name;
 mod rates;
 mod site_points;
 mod stop;
-#[cfg(test)]
-mod tests;
 
 pub use base::Base;
 pub use born::Born;

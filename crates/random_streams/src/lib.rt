@@ -4,8 +4,6 @@
 mod draws;
 pub mod laws;
 mod purpose;
-#[cfg(test)]
-mod tests;
 
 pub use draws::{CELLS, Draws, GREATEST_SIDE, MILLION, WORDS, scaled};
 pub use purpose::Purpose;

@@ -27,6 +27,3 @@ pub use limits::{
 pub use printing::print;
 pub use reading::read;
 pub use stop::ConfigStop;
-
-#[cfg(test)]
-mod tests;

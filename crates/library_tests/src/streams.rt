@@ -1,4 +1,5 @@
-use crate::{Draws, MILLION, Purpose, WORDS, scaled};
+// The words of random streams.
+use random_streams::{Draws, MILLION, Purpose, WORDS, scaled};
 
 /// A word of a stream by its number.
 fn word_number(seed: u64, update: u32, cell: u16, purpose: Purpose, number: u32) -> u32 {

@@ -1,7 +1,8 @@
-use crate::{Config, ConfigStop, print, read};
+// Configurations, read and printed.
 use genome::GenomeStop;
 use std::alloc::Global;
 use std::test::Fail;
+use world_config::{Config, ConfigStop, print, read};
 
 /// Documents, each with what it is answered on a line of its own, and parted by empty lines.
 const CASES: &str = "worldx = 1

@@ -1,10 +1,11 @@
+// The changes of a birth.
 ghost use Rattle.std.specs.Prelude.{◌≡◌, ◌≤◌};
 
-use crate::{
-    ApplyStop, Base, Born, Change, Changes, Limits, Origin, Rates, apply, copy_error, divide_errors,
-};
 use genome::{GREATEST_LENGTH, Genome, LEAST_LENGTH, read_letters};
 use instruction_set::Letter;
+use mutations::{
+    ApplyStop, Base, Born, Change, Changes, Limits, Origin, Rates, apply, copy_error, divide_errors,
+};
 use random_streams::{Draws, MILLION, Purpose};
 use std::alloc::{AllocError, Global};
 

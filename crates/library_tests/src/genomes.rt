@@ -1,4 +1,5 @@
-use crate::{
+// Genomes, read and written.
+use genome::{
     GREATEST_LENGTH, Genome, GenomeStop, letters_text, names_text, read_letters, read_names,
 };
 use instruction_set::Letter;
