@@ -6,3 +6,4 @@ pub mod LineLaws
 pub mod WordLemmas
 pub mod TimesLemmas
 pub mod GenomeLemmas
+mod FrontLemmas

@@ -3,6 +3,7 @@ use Rattle.std.proofs.Common.{◌≡◌, ℕ, suc, ◌+◌, ◌<◌, Bool, true,
 use Rattle.std.specs.Prelude.{option_and_then, option_map, ◌==◌}
 use Rattle.std.proofs.lemmas.Bool.Decides.{nat_tests}
 use Rattle.log_lines.specs.Fields.{each}
+use Rattle.log_lines.specs.Rows.{read_last}
 use Rattle.log_lines.specs.Words.{read_first}
 
 -- some words were read, as these numbers, and the others are left
@@ -88,3 +89,8 @@ pub read_too_many : (read : List ℕ → Option ℕ) (n : ℕ) (words left : Lis
 read_too_many read n words left front has long some =
     let other : (length words == n) ≡ false = grind (arith, nat_tests, has.count) in
     rw other refl
+
+-- the first word is not the last one
+pub first_not_last : (read : List ℕ → Option ℕ) (words behind : List (List ℕ)) (n : ℕ) → Some (n, behind) ≡ read_first read words → 0 < length behind → None ≡ read_last read words
+first_not_last read words [] n is some = absurd (omega (arith, some))
+first_not_last read words (word ∷ behind) n is some = let parts = first_parts read words (word ∷ behind) n is in sym (ap (read_last read) parts.1)

@@ -1,5 +1,5 @@
 -- The first piece of a rest.
-use Rattle.std.proofs.Common.{◌≡◌, ℕ, suc, ◌+◌, ◌<◌, false, List, [], ◌∷◌, ◌++◌, length, get_or, take, drop, refl, sym, ap, ◌∙◌, arith, add-one, drop-cons, get_or-take, length-take, Option, None, inl, inr, eq-eqb}
+use Rattle.std.proofs.Common.{◌≡◌, ℕ, suc, ◌+◌, ◌<◌, ◌≤◌, true, false, List, [], ◌∷◌, ◌++◌, length, get_or, take, drop, refl, sym, ap, ◌∙◌, arith, add-one, drop-cons, get_or-take, length-take, Option, None, inl, inr, eq-eqb}
 use Rattle.std.specs.Prelude.{◌==◌, All}
 use Rattle.std.specs.List.{slice_split, onto_first}
 use Rattle.std.proofs.lemmas.Bool.{cases_Bool}
@@ -48,4 +48,11 @@ split_some part [] = omega arith
 split_some part (b ∷ bs) = elim (cases_Bool (b == part)) [
   | inl is ↦ rw is (omega arith)
   | inr not ↦ rw not (onto_some b (slice_split (λ b. b == part) bs))
+]
+
+-- no byte of the first places passes the test
+pub free_of : (part : ℕ) (rest : List ℕ) (n : ℕ) → ((k : ℕ) → 0 ≤ k → k < n → ((get_or rest k 0 == part) ≡ true → ⊥)) → IsFree part rest n
+free_of part rest n apart k low = elim (cases_Bool (get_or rest k 0 == part)) [
+  | inl is ↦ absurd (apart k (omega arith) low is)
+  | inr isnt ↦ isnt
 ]

@@ -1,5 +1,5 @@
 -- Reading word by word, from a rest of a text (docs/FORMATS.md, "The log").
-use Rattle.std.specs.Prelude.{ℕ, List, [], ◌∷◌, ◌++◌, Option, Some, None, ◌==◌, option_map}
+use Rattle.std.specs.Prelude.{ℕ, List, [], ◌∷◌, ◌++◌, Option, Some, None, ◌==◌, if◌then◌else◌, option_map}
 use Rattle.std.specs.List.{slice_split}
 use Rattle.instruction_set.specs.declared.letter.Letter.{Letter}
 use Rattle.mutations.specs.declared.change.Change.{Change}
@@ -14,6 +14,11 @@ pieces_of byte (Some rest) = slice_split (λ b. b == byte) rest
 -- the words of what is left of a line
 abbrev pub words_of : Option (List ℕ) → List (List ℕ)
 words_of rest = pieces_of 32 rest
+
+-- what is left of a line behind a word that this follows, where the word ends there
+abbrev pub after_word : List ℕ → Option (Option (List ℕ))
+after_word [] = Some None
+after_word (b ∷ bs) = if b == 32 then Some (Some bs) else None
 
 -- the first word read, and the words behind it
 abbrev pub read_first :

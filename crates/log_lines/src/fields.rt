@@ -6,7 +6,7 @@ ghost use Rattle.mutations.specs.BirthRecord.{written_in};
 ghost use Rattle.mutations.specs.Change.{is_genome_length};
 ghost use Rattle.log_lines.specs.Fields.{each, genome_of, list_of, or_sign};
 ghost use Rattle.mutations.specs.RecordForm.{in_order, may_follow};
-ghost use Rattle.log_lines.specs.Kinds.{base_field, change, changes_field, large, over_field, read_change, read_lettered};
+ghost use Rattle.log_lines.specs.Kinds.{base_field, change, changes_field, read_change, read_lettered};
 ghost use Rattle.log_lines.specs.Words.{ToChange, pieces_of};
 
 use crate::words::split_at;
@@ -14,7 +14,7 @@ use avida_port::Memory;
 use genome::{GREATEST_LENGTH, Genome, GenomeStop, LEAST_LENGTH};
 use instruction_set::Letter;
 use mutations::{Base, Change, Changes};
-use numerals::{number, small_number};
+use numerals::small_number;
 use std::alloc::Global;
 
 /// The letters of a word, where each byte is one.
@@ -62,19 +62,6 @@ fn genome_from(alloc: Global, letters: &[Letter]) -> Result<Option<Genome>, Memo
         Ok(genome) => Ok(Some(genome)),
         Err(GenomeStop::Memory) => Err(Memory),
         Err(_) => Ok(None),
-    }
-}
-
-/// An id, or a dash for none.
-pub fn over(word: &[u8]) -> Option<Option<u64>>
-    ensures { result ≡ over_field.read word.now }
-{
-    match word {
-        [b'-'] => Some(None),
-        _ => match number(0, u64::MAX, word) {
-            Some(value) => Some(Some(value)),
-            None => None,
-        },
     }
 }
 

@@ -1,5 +1,5 @@
 // Reads the line that a text has.
-ghost use Rattle.std.specs.Prelude.{◌≡◌, Some, IfOk, length, option_copied, option_map};
+ghost use Rattle.std.specs.Prelude.{◌≡◌, ◌∷◌, [], Some, IfOk, length, option_copied, option_map};
 ghost use Rattle.genome.specs.Genome as genome_spec;
 ghost use Rattle.mutations.specs.BirthRecord.{written_in};
 ghost use Rattle.log_lines.specs.Fields as fields_spec;
@@ -11,10 +11,10 @@ ghost use Rattle.log_lines.specs.Line.{values_of};
 ghost use Rattle.log_lines.specs.LineText.{birth_row, count_row, counted, death_row, injected_row, rate_row, record_row, start_row};
 ghost use Rattle.log_lines.specs.LineReading.{birth_of, injected_of, line_of, rate_of, read_form, start_of};
 
-use crate::fields::{base, changes, genome, over};
+use crate::fields::{base, changes, genome};
 use crate::log_line::{LAST_VERSION, LogLine};
 use crate::stats::Stats;
-use crate::words::{large_first, last_word, small_first, small_last, split_at};
+use crate::words::{after_word, large_first, last_word, small_first, small_last, split_at};
 use avida_port::Memory;
 use genome::Genome;
 use mutations::{Base, Changes, Origin, RateName};
@@ -48,14 +48,30 @@ fn over_first<'a>(rest: Option<&'a [u8]>) -> Option<(Option<u64>, Option<&'a [u8
         ≡ read_first over_field.read (words_of (option_copied rest.entry)) }
 {
     match rest {
-        Some(bytes) => {
-            let (word, others) = split_at(bytes, b' ');
-            match over(word) {
-                Some(value) => Some((value, others)),
-                None => None,
+        Some(bytes) => over_in(bytes),
+        None => None,
+    }
+}
+
+fn over_in(bytes: &[u8]) -> Option<(Option<u64>, Option<&[u8]>)>
+    ensures { option_map (λ p. (p.0, words_of (option_copied p.1))) result
+        ≡ read_first over_field.read (words_of (Some bytes.now)) }
+{
+    match bytes {
+        [first, behind @ ..] => {
+            if *first == b'-' {
+                match after_word(behind) {
+                    Some(others) => Some((None, others)),
+                    None => None,
+                }
+            } else {
+                match large_first(Some(bytes)) {
+                    Some((id, others)) => Some((Some(id), others)),
+                    None => None,
+                }
             }
         }
-        None => None,
+        [] => None,
     }
 }
 
@@ -75,6 +91,7 @@ fn rate_first<'a>(rest: Option<&'a [u8]>) -> Option<(RateName, Option<&'a [u8]>)
     }
 }
 
+#[inline(never)]
 fn read_start(alloc: Global, rest: Option<&[u8]>) -> Result<Option<LogLine>, Memory>
     ensures { IfOk result (λ found. option_map values_of found
         ≡ option_map start_of (start_row.read (words_of (option_copied rest.entry)))) }
@@ -111,6 +128,7 @@ struct Death {
     cell: u32,
 }
 
+#[inline(never)]
 fn read_death(rest: Option<&[u8]>) -> Option<Death>
     ensures { option_map (λ d. (d.id, (d.update, d.cell))) result
         ≡ death_row.read (words_of (option_copied rest.entry)) }
@@ -156,6 +174,7 @@ fn origin_last(alloc: Global, rest: Option<&[u8]>) -> Result<Option<Origin>, Mem
     }
 }
 
+#[inline(never)]
 fn read_birth(alloc: Global, rest: Option<&[u8]>) -> Result<Option<LogLine>, Memory>
     ensures { IfOk result (λ found. option_map values_of found
         ≡ option_map birth_of (birth_row.read (words_of (option_copied rest.entry)))) }
@@ -188,6 +207,7 @@ fn read_birth(alloc: Global, rest: Option<&[u8]>) -> Result<Option<LogLine>, Mem
     }
 }
 
+#[inline(never)]
 fn read_injected(alloc: Global, rest: Option<&[u8]>) -> Result<Option<LogLine>, Memory>
     ensures { IfOk result (λ found. option_map values_of found
         ≡ option_map injected_of (injected_row.read (words_of (option_copied rest.entry)))) }
@@ -216,6 +236,7 @@ fn read_injected(alloc: Global, rest: Option<&[u8]>) -> Result<Option<LogLine>, 
     }
 }
 
+#[inline(never)]
 fn read_rate(rest: Option<&[u8]>) -> Option<LogLine>
     ensures { option_map values_of result
         ≡ option_map rate_of (rate_row.read (words_of (option_copied rest.entry))) }
@@ -243,6 +264,7 @@ fn tasks_last(rest: Option<&[u8]>) -> Option<[u64; 9]>
     }
 }
 
+#[inline(never)]
 fn read_stats(rest: Option<&[u8]>) -> Option<Stats>
     ensures { option_map counted result ≡ count_row.read (words_of (option_copied rest.entry)) }
 {
@@ -264,57 +286,50 @@ fn read_stats(rest: Option<&[u8]>) -> Option<Stats>
     })
 }
 
-fn read_form(alloc: Global, mark: &[u8], rest: Option<&[u8]>) -> Result<Option<LogLine>, Memory>
+fn read_form(alloc: Global, mark: u8, rest: Option<&[u8]>) -> Result<Option<LogLine>, Memory>
     ensures { IfOk result (λ found. option_map values_of found
-        ≡ read_form mark.now (words_of (option_copied rest.entry))) }
+        ≡ read_form (mark ∷ []) (words_of (option_copied rest.entry))) }
 {
-    if mark == b"L".as_slice() {
-        return read_start(alloc, rest);
-    }
-    if mark == b"D".as_slice() {
-        return match read_death(rest) {
+    match mark {
+        b'L' => read_start(alloc, rest),
+        b'D' => match read_death(rest) {
             Some(Death { id, update, cell }) => Ok(Some(LogLine::Death { id, update, cell })),
             None => Ok(None),
-        };
-    }
-    if mark == b"B".as_slice() {
-        return read_birth(alloc, rest);
-    }
-    if mark == b"I".as_slice() {
-        return read_injected(alloc, rest);
-    }
-    if mark == b"X".as_slice() {
-        return match read_death(rest) {
+        },
+        b'B' => read_birth(alloc, rest),
+        b'I' => read_injected(alloc, rest),
+        b'X' => match read_death(rest) {
             Some(Death { id, update, cell }) => Ok(Some(LogLine::Cleared { id, update, cell })),
             None => Ok(None),
-        };
-    }
-    if mark == b"R".as_slice() {
-        return Ok(read_rate(rest));
-    }
-    if mark == b"U".as_slice() {
-        return match read_stats(rest) {
+        },
+        b'R' => Ok(read_rate(rest)),
+        b'U' => match read_stats(rest) {
             Some(stats) => Ok(Some(LogLine::Count(stats))),
             None => Ok(None),
-        };
-    }
-    if mark == b"E".as_slice() {
-        return match small_last(rest, 0, u32::MAX) {
+        },
+        b'E' => match small_last(rest, 0, u32::MAX) {
             Some(updates) => Ok(Some(LogLine::End { updates })),
             None => Ok(None),
-        };
+        },
+        _ => Ok(None),
     }
-    Ok(None)
 }
 
 /// Reads the text of a line, which stands before its newline. None exactly where the text has none
 /// of the eight forms.
-#[tactic(auto, unfolding(crate::specs::LineReading::line_of))]
 pub fn read_line(alloc: Global, text: &[u8]) -> Result<Option<LogLine>, Memory>
     ensures { IfOk result (λ found. option_map values_of found ≡ line_of text.now) }
 {
-    let (mark, rest) = split_at(text, b' ');
-    read_form(alloc, mark, rest)
+    match text {
+        [mark, part, rest @ ..] => {
+            if *part == b' ' && *mark != b' ' {
+                read_form(alloc, *mark, Some(rest))
+            } else {
+                Ok(None)
+            }
+        }
+        _ => Ok(None),
+    }
 }
 
 #[cfg(test)]

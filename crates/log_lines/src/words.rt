@@ -1,24 +1,40 @@
 // Reads the words of a line, from what is left of it.
-ghost use Rattle.std.specs.Prelude.{◌≡◌, ◌∷◌, ◌==◌, Some, option_copied, option_map};
+ghost use Rattle.std.specs.Prelude.{◌≡◌, ◌<◌, ◌∷◌, ◌==◌, Some, IfSome, length, option_copied, option_map};
 ghost use Rattle.std.specs.List.{slice_split};
 ghost use Rattle.numerals.specs.Numeral.{number_of};
 ghost use Rattle.log_lines.specs.Rows.{read_last};
-ghost use Rattle.log_lines.specs.Words.{pieces_of, read_first, words_of};
+ghost use Rattle.log_lines.specs.Words.{after_word, pieces_of, read_first, words_of};
 
-use numerals::{number, small_number};
+use memchr::memchr;
+use numerals::{leading_number, leading_small_number};
 
 /// The piece before the next byte `part`, and what follows that byte. Without such a byte the piece
 /// is all of `rest`, and nothing follows it.
 pub fn split_at(rest: &[u8], part: u8) -> (&[u8], Option<&[u8]>)
-    ensures { slice_split (λ b. b == part) rest.now
+    ensures pieces { slice_split (λ b. b == part) rest.now
         ≡ result.0.now ∷ pieces_of part (option_copied result.1) }
+    ensures shorter { IfSome result.1 (λ behind. length behind.now < length rest.now) }
 {
-    for (at, byte) in rest.iter().enumerate() {
-        if *byte == part {
-            return (&rest[..at], Some(&rest[at + 1..]));
+    match memchr(part, rest) {
+        Some(at) => (&rest[..at], Some(&rest[at + 1..])),
+        None => (rest, None),
+    }
+}
+
+/// What is left of the line behind a word that `rest` follows. None where the word goes on.
+pub fn after_word(rest: &[u8]) -> Option<Option<&[u8]>>
+    ensures { option_map option_copied result ≡ after_word rest.now }
+{
+    match rest {
+        [] => Some(None),
+        [byte, others @ ..] => {
+            if *byte == b' ' {
+                Some(Some(others))
+            } else {
+                None
+            }
         }
     }
-    (rest, None)
 }
 
 /// A number below 2 ^ 64, and what is left of the line.
@@ -27,13 +43,13 @@ pub fn large_first<'a>(rest: Option<&'a [u8]>) -> Option<(u64, Option<&'a [u8]>)
         ≡ read_first (number_of 0 18446744073709551615) (words_of (option_copied rest.entry)) }
 {
     match rest {
-        Some(bytes) => {
-            let (word, others) = split_at(bytes, b' ');
-            match number(0, u64::MAX, word) {
-                Some(value) => Some((value, others)),
+        Some(bytes) => match leading_number(0, u64::MAX, bytes) {
+            Some((value, len)) => match after_word(&bytes[len..]) {
+                Some(others) => Some((value, others)),
                 None => None,
-            }
-        }
+            },
+            None => None,
+        },
         None => None,
     }
 }
@@ -48,13 +64,13 @@ pub fn small_first<'a>(
         ≡ read_first (number_of least greatest) (words_of (option_copied rest.entry)) }
 {
     match rest {
-        Some(bytes) => {
-            let (word, others) = split_at(bytes, b' ');
-            match small_number(least, greatest, word) {
-                Some(value) => Some((value, others)),
+        Some(bytes) => match leading_small_number(least, greatest, bytes) {
+            Some((value, len)) => match after_word(&bytes[len..]) {
+                Some(others) => Some((value, others)),
                 None => None,
-            }
-        }
+            },
+            None => None,
+        },
         None => None,
     }
 }
@@ -77,10 +93,10 @@ pub fn last_word<'a>(rest: Option<&'a [u8]>) -> Option<&'a [u8]>
 pub fn small_last(rest: Option<&[u8]>, least: u32, greatest: u32) -> Option<u32>
     ensures { result ≡ read_last (number_of least greatest) (words_of (option_copied rest.entry)) }
 {
-    match rest {
-        Some(bytes) => match split_at(bytes, b' ') {
-            (word, None) => small_number(least, greatest, word),
-            (_, Some(_)) => None,
+    match small_first(rest, least, greatest) {
+        Some((value, others)) => match others {
+            None => Some(value),
+            Some(_) => None,
         },
         None => None,
     }

@@ -1,41 +1,42 @@
 -- Digits read one by one.
-use Rattle.std.proofs.Common.{◌≡◌, ℕ, suc, ◌+◌, ◌-◌, ◌*◌, ◌<◌, ◌≤◌, Bool, true, false, List, [], ◌∷◌, ◌++◌, length, get_or, take, drop, refl, sym, ap, ◌∙◌, arith, drop-cons, inl, inr, not, Some, None}
+use Rattle.std.proofs.Common.{◌≡◌, cond, ℕ, suc, ◌+◌, ◌-◌, ◌*◌, ◌<◌, ◌≤◌, Bool, true, false, List, [], ◌∷◌, ◌++◌, length, get_or, take, drop, refl, sym, ap, subst, ◌∙◌, arith, inl, inr, not, Some, None}
 use Rattle.std.specs.Prelude.{◌&&◌, ◌==◌, nat_le}
-use Rattle.numerals.specs.Numeral.{is_numeral, number_of}
+use Rattle.numerals.specs.Numeral.{digits_len, is_numeral, leading_digits, number_of}
 use Rattle.std.specs.Char.{digit_value, is_ascii_digit}
 use Rattle.std.specs.Str.{all_ascii_digits}
 use Rattle.std.specs.Str.Parse.{digits_value, digits_value_after}
 use Rattle.std.proofs.lemmas.Bool.Decides.{nat_tests}
-use Rattle.std.proofs.lemmas.Bool.{cases_Bool, and_parts, leb-true}
-use Rattle.std.proofs.lemmas.List.{take-append-drop, take_more}
+use Rattle.std.proofs.lemmas.Bool.{cases_Bool, cases_lt, and_parts, leb-true}
+use Rattle.std.proofs.lemmas.List.{take-append-drop, take-take, take_all}
+use Rattle.std.proofs.lemmas.List.Sums.{prefix_len-le-length, prefix_len_passes, prefix_len_stops}
 use Rattle.std.proofs.lemmas.Int.Digits.{digits_value_more}
 use Rattle.std.proofs.lemmas.Str.{digit_value_digit}
 
-all_append : (a b : List ℕ) → all_ascii_digits (a ++ b) ≡ (all_ascii_digits a && all_ascii_digits b)
-all_append [] b = refl
-all_append (c ∷ a) b = elim (cases_Bool (is_ascii_digit c)) [
-  | inl is ↦ rw (is, all_append a b) refl
-  | inr not ↦ rw not refl
-]
+-- ---- the digits in front of a text
 
-at_place : (text : List ℕ) (i : ℕ) → i < length text → text ≡ take i text ++ get_or text i 0 ∷ drop (suc i) text
-at_place text i h = sym (take-append-drop i text) ∙ ap (λ (l : List ℕ). take i text ++ l) (drop-cons text i 0 h)
+pub digits_more : (text : List ℕ) (i : ℕ) → i ≤ digits_len text → i < length text → 48 ≤ get_or text i 0 → get_or text i 0 ≤ 57 → i + 1 ≤ digits_len text
+digits_more text i far h low high =
+    let n = digits_len text in
+    let digit : is_ascii_digit (get_or text i 0) ≡ true = grind (arith, nat_tests) in
+    elim (cases_lt i n) [
+      | inl more ↦ omega arith
+      | inr stop ↦
+          let e : n ≡ i = omega arith in
+          let within : n < length text = omega arith in
+          let not : is_ascii_digit (get_or text i 0) ≡ false = subst (λ (k : ℕ). is_ascii_digit (get_or text k 0) ≡ false) e (prefix_len_stops is_ascii_digit text 0 within) in
+          absurd cc
+    ]
 
-pub digits_on : (text : List ℕ) (i : ℕ) → i < length text → all_ascii_digits (take i text) ≡ true → 48 ≤ get_or text i 0 → get_or text i 0 ≤ 57 → all_ascii_digits (take (i + 1) text) ≡ true
-digits_on text i h all low high =
-    let c = get_or text i 0 in
-    let digit : is_ascii_digit c ≡ true = grind (arith, nat_tests) in
-    rw (take_more text i 0 h, all_append (take i text) (c ∷ []), all, digit) refl
+pub digits_stop : (text : List ℕ) (i : ℕ) → i ≤ digits_len text → is_ascii_digit (get_or text i 0) ≡ false → digits_len text ≡ i
+digits_stop text i far not =
+    let n = digits_len text in
+    elim (cases_lt i n) [
+      | inl more ↦ let is = prefix_len_passes is_ascii_digit text i 0 more in absurd cc
+      | inr stop ↦ omega arith
+    ]
 
-and_false : (b : Bool) → (b && (false && false)) ≡ false
-and_false true = refl
-and_false false = refl
-
-pub not_digits : (text : List ℕ) (i : ℕ) → i < length text → is_ascii_digit (get_or text i 0) ≡ false → all_ascii_digits text ≡ false
-not_digits text i h not =
-    let c = get_or text i 0 in
-    ap all_ascii_digits (at_place text i h) ∙ all_append (take i text) (c ∷ drop (suc i) text)
-    ∙ ap (λ (b : Bool). all_ascii_digits (take i text) && (b && all_ascii_digits (drop (suc i) text))) not ∙ and_false (all_ascii_digits (take i text))
+pub front_value : (text : List ℕ) (i value : ℕ) → digits_len text ≡ i → value ≡ digits_value 10 (take i text) → value ≡ digits_value 10 (leading_digits text)
+front_value text i value is value_is = value_is ∙ ap (λ (k : ℕ). digits_value 10 (take k text)) (sym is)
 
 pub value_on : (text : List ℕ) (i value : ℕ) → i < length text → value ≡ digits_value 10 (take i text) → 48 ≤ get_or text i 0 → get_or text i 0 ≤ 57 → digits_value 10 (take (i + 1) text) ≡ value * 10 + (get_or text i 0 - 48)
 value_on text i value h is low high =
@@ -54,6 +55,12 @@ value_grows text i =
     let parts : digits_value 10 text ≡ digits_value_after 10 (digits_value 10 (take i text)) (drop i text) =
     ap (λ (l : List ℕ). digits_value 10 l) (sym (take-append-drop i text)) ∙ after_append 0 (take i text) (drop i text) in
     omega (arith, parts, after_more (digits_value 10 (take i text)) (drop i text))
+
+pub front_grows : (text : List ℕ) (i : ℕ) → i ≤ digits_len text → digits_value 10 (take i text) ≤ digits_value 10 (leading_digits text)
+front_grows text i far =
+    let n = digits_len text in
+    let front : take i (take n text) ≡ take i text = take-take i n text far in
+    omega (arith, value_grows (take n text) i, ap (λ (l : List ℕ). digits_value 10 l) front)
 
 -- ---- numbers with one spelling
 
@@ -79,3 +86,59 @@ number_not least greatest text never =
           absurd (never (digits_of_numeral text one.0) one.0 (leb-true least (digits_value 10 text) two.1) (leb-true (digits_value 10 text) greatest one.1))
       | inr some ↦ rw some refl
     ]
+
+-- ---- the number in front of a text
+
+take_one : (n c : ℕ) (cs : List ℕ) → take (1 + n) (c ∷ cs) ≡ c ∷ take n cs
+take_one n c cs = let e : 1 + n ≡ suc n = omega arith in ap (λ (k : ℕ). take k (c ∷ cs)) e
+
+all_front : (b : Bool) (n c : ℕ) (cs : List ℕ) → is_ascii_digit c ≡ b → all_ascii_digits (take n cs) ≡ true → all_ascii_digits (take (cond b (1 + n) 0) (c ∷ cs)) ≡ true
+all_front true n c cs is all = rw (take_one n c cs, is, all) refl
+all_front false n c cs is all = refl
+
+all_leading : (text : List ℕ) → all_ascii_digits (leading_digits text) ≡ true
+all_leading [] = refl
+all_leading (c ∷ cs) = all_front (is_ascii_digit c) (digits_len cs) c cs refl (all_leading cs)
+
+and_true : (b : Bool) → b ≡ (b && true)
+and_true true = refl
+and_true false = refl
+
+plain_from : (c d k : ℕ) (cs : List ℕ) → all_ascii_digits (take (suc (suc k)) (c ∷ d ∷ cs)) ≡ true → not (c == 48) ≡ is_numeral (take (suc (suc k)) (c ∷ d ∷ cs))
+plain_from c d k cs all = and_true (not (c == 48)) ∙ ap (λ (b : Bool). not (c == 48) && b) (sym all)
+
+pub plain_is : (text : List ℕ) → 1 < digits_len text → not (get_or text 0 0 == 48) ≡ is_numeral (leading_digits text)
+plain_is [] more = absurd (omega (arith, more))
+plain_is (c ∷ []) more = absurd (omega (arith, more, prefix_len-le-length is_ascii_digit (c ∷ [])))
+plain_is (c ∷ d ∷ cs) more =
+    let n = digits_len (c ∷ d ∷ cs) in
+    let e : n ≡ suc (suc (n - 2)) = omega arith in
+    let all = subst (λ (k : ℕ). all_ascii_digits (take k (c ∷ d ∷ cs)) ≡ true) e (all_leading (c ∷ d ∷ cs)) in
+    plain_from c d (n - 2) cs all ∙ ap (λ (k : ℕ). is_numeral (take k (c ∷ d ∷ cs))) (sym e)
+
+-- ---- the number that is a whole text
+
+whole_length : (text : List ℕ) → all_ascii_digits text ≡ true → digits_len text ≡ length text
+whole_length [] all = refl
+whole_length (c ∷ cs) all =
+    let both = and_parts (is_ascii_digit c) (all_ascii_digits cs) all in
+    let e = whole_length cs both.1 in
+    ap (λ (b : Bool). cond b (1 + digits_len cs) 0) both.0 ∙ omega (arith, e)
+
+all_whole : (text : List ℕ) → digits_len text ≡ length text → leading_digits text ≡ text
+all_whole text is = ap (λ (n : ℕ). take n text) is ∙ take_all (length text) text (omega arith)
+
+-- what the digits in front spell where they are the whole text, and else none
+pub whole_number : (least greatest : ℕ) (text : List ℕ) → digits_len text ≡ length text → number_of least greatest (leading_digits text) ≡ number_of least greatest text
+whole_number least greatest text is = ap (λ (l : List ℕ). number_of least greatest l) (all_whole text is)
+
+pub part_number : (least greatest : ℕ) (text : List ℕ) → (digits_len text ≡ length text → ⊥) → None ≡ number_of least greatest text
+part_number least greatest text part = number_not least greatest text (λ all numeral low high. part (whole_length text all))
+
+pub no_number : (least greatest : ℕ) (text : List ℕ) → None ≡ number_of least greatest (leading_digits text) → None ≡ number_of least greatest text
+no_number least greatest text none = elim (cases_lt (digits_len text) (length text)) [
+  | inl part ↦ part_number least greatest text (λ is. omega (arith, part, is))
+  | inr most ↦
+      let all : digits_len text ≡ length text = omega (arith, most, prefix_len-le-length is_ascii_digit text) in
+      none ∙ whole_number least greatest text all
+]

@@ -1,7 +1,17 @@
 -- Numbers as the log and the command line spell them (docs/FORMATS.md).
-use Rattle.std.specs.Prelude.{ℕ, ◌==◌, ◌&&◌, Bool, false, not, nat_le, if◌then◌else◌, List, [], ◌∷◌, Option, Some, None}
+use Rattle.std.specs.Prelude.{ℕ, ◌==◌, ◌&&◌, Bool, false, not, nat_le, if◌then◌else◌, List, [], ◌∷◌, take_while, Option, Some, None}
+use Rattle.std.specs.Char.{is_ascii_digit}
+use Rattle.std.specs.List.{prefix_len}
 use Rattle.std.specs.Str.{all_ascii_digits}
 use Rattle.std.specs.Str.Parse.{digits_value}
+
+-- how many digits are in front of a text
+abbrev pub digits_len : List ℕ → ℕ
+digits_len text = prefix_len is_ascii_digit text
+
+-- the digits in front of a text
+abbrev pub leading_digits : List ℕ → List ℕ
+leading_digits text = take_while is_ascii_digit text
 
 -- digits without a leading zero, or the one digit 0
 abbrev pub is_numeral : List ℕ → Bool

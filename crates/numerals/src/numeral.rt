@@ -1,46 +1,96 @@
 // Reads numbers, each of which has one spelling.
-ghost use Rattle.std.specs.Prelude.{◌≡◌, ◌≤◌, ◌<◌, ◌^◌, length, true, false, MatchOption, IfSome};
-ghost use Rattle.std.specs.Str.{all_ascii_digits};
+ghost use Rattle.std.specs.Prelude.{◌≡◌, ◌≤◌, ◌<◌, ◌^◌, ◌+◌, ◌*◌, length, true, false, MatchOption, IfSome, option_map};
 ghost use Rattle.std.specs.Str.Parse.{digits_value};
-ghost use Rattle.numerals.specs.Numeral.{is_numeral, number_of};
+ghost use Rattle.numerals.specs.Numeral.{digits_len, is_numeral, leading_digits, number_of};
 
-/// The greatest number that keeps its place when a digit follows.
+/// The greatest number that a digit may follow, if it is below 6.
 const GREATEST_TENTH: u64 = u64::MAX / 10;
 
-/// The number that the digits write, where it fits.
-fn value_of(text: &[u8]) -> Option<u64>
-    ensures { MatchOption result
-        (all_ascii_digits text.now ≡ true → 2 ^ 64 ≤ digits_value 10 text.now)
-        (λ n. (all_ascii_digits text.now ≡ true) × (n ≡ digits_value 10 text.now)) }
+/// The number with a digit more, where it fits.
+fn with_digit(value: u64, digit: u8) -> Option<u64>
+    requires { digit < 10 }
+    ensures { MatchOption result (2 ^ 64 ≤ value * 10 + digit) (λ longer. longer ≡ value * 10 + digit) }
 {
-    let mut value: u64 = 0;
-    for byte in text {
-        let digit = *byte;
-        if digit < b'0' || digit > b'9' {
-            return None;
-        }
-        if value > GREATEST_TENTH {
-            return None;
-        }
-        let high = value * 10;
-        let low = u64::from(digit - b'0');
-        if high > u64::MAX - low {
-            return None;
-        }
-        value = high + low;
+    if value < GREATEST_TENTH {
+        Some(value * 10 + u64::from(digit))
+    } else {
+        with_last_digit(value, digit)
     }
-    Some(value)
 }
 
-/// Whether the text has no needless zero in front.
-fn is_plain(text: &[u8]) -> bool
-    ensures { all_ascii_digits text.now ≡ true → result ≡ is_numeral text.now }
+/// As `with_digit`, where the number may not fit.
+#[cold]
+fn with_last_digit(value: u64, digit: u8) -> Option<u64>
+    requires digit { digit < 10 }
+    requires large { GREATEST_TENTH ≤ value }
+    ensures { MatchOption result (2 ^ 64 ≤ value * 10 + digit) (λ longer. longer ≡ value * 10 + digit) }
 {
-    match text {
-        [] => false,
-        [_] => true,
-        [first, ..] => *first != b'0',
+    if value == GREATEST_TENTH && digit < 6 {
+        Some(value * 10 + u64::from(digit))
+    } else {
+        None
     }
+}
+
+/// The number that the digits in front of the text write, and how many they are, where it fits.
+fn leading_value(text: &[u8]) -> Option<(u64, usize)>
+    ensures { MatchOption result
+        (2 ^ 64 ≤ digits_value 10 (leading_digits text.now))
+        (λ found. (found.0 ≡ digits_value 10 (leading_digits text.now))
+        × (found.1 ≡ digits_len text.now)) }
+{
+    let mut value: u64 = 0;
+    for (at, byte) in text.iter().enumerate() {
+        let digit = *byte;
+        if digit < b'0' || digit > b'9' {
+            return Some((value, at));
+        }
+        match with_digit(value, digit - b'0') {
+            Some(longer) => value = longer,
+            None => return None,
+        }
+    }
+    Some((value, text.len()))
+}
+
+/// Whether so many digits in front of the text have no needless zero in front.
+fn is_plain(text: &[u8], len: usize) -> bool
+    requires { len ≡ digits_len text.now }
+    ensures { result ≡ is_numeral (leading_digits text.now) }
+{
+    match len {
+        0 => false,
+        1 => true,
+        _ => text[0] != b'0',
+    }
+}
+
+/// The number that the digits in front of the text spell, with no leading zero, and how many digits
+/// they are. None where they spell no number, or one outside `least` to `greatest`.
+pub fn leading_number(least: u64, greatest: u64, text: &[u8]) -> Option<(u64, usize)>
+    ensures number { option_map (λ found. found.0) result
+        ≡ number_of least greatest (leading_digits text.now) }
+    ensures len { IfSome result (λ found. found.1 ≡ digits_len text.now) }
+    ensures within { IfSome result (λ found. found.1 ≤ length text.now) }
+    ensures bound { IfSome result (λ found. found.0 ≤ greatest) }
+{
+    let (value, len) = leading_value(text)?;
+    if is_plain(text, len) && least <= value && value <= greatest {
+        Some((value, len))
+    } else {
+        None
+    }
+}
+
+/// As `leading_number`, for numbers below 2^32.
+pub fn leading_small_number(least: u32, greatest: u32, text: &[u8]) -> Option<(u32, usize)>
+    ensures number { option_map (λ found. found.0) result
+        ≡ number_of least greatest (leading_digits text.now) }
+    ensures len { IfSome result (λ found. found.1 ≡ digits_len text.now) }
+    ensures within { IfSome result (λ found. found.1 ≤ length text.now) }
+{
+    let (value, len) = leading_number(u64::from(least), u64::from(greatest), text)?;
+    Some((value as u32, len))
 }
 
 /// The number that the text spells in decimal digits, with no sign and no leading zero. None for
@@ -49,17 +99,8 @@ pub fn number(least: u64, greatest: u64, text: &[u8]) -> Option<u64>
     ensures number { result ≡ number_of least greatest text.now }
     ensures bound { IfSome result (λ n. n ≤ greatest) }
 {
-    if !is_plain(text) {
-        return None;
-    }
-    match value_of(text) {
-        Some(value) => {
-            if least <= value && value <= greatest {
-                Some(value)
-            } else {
-                None
-            }
-        }
+    match leading_number(least, greatest, text) {
+        Some((value, len)) => { if len == text.len() { Some(value) } else { None } }
         None => None,
     }
 }

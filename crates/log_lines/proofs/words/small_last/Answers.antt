@@ -1,17 +1,13 @@
-use Rattle.std.proofs.Common.{◌∙◌, ◌∷◌, ℕ, List, Option, sym, ap}
-use Rattle.std.proofs.Common.{Bor}
+use Rattle.std.proofs.Common.{◌∙◌, List, ℕ, Option, Some, Bor, ap, sym}
 use Rattle.std.specs.Prelude.{option_copied}
 use Rattle.numerals.specs.Numeral.{number_of}
-use Rattle.log_lines.specs.Rows.{read_last}
 use Rattle.log_lines.specs.Words.{words_of}
-use Rattle.log_lines.proofs.WordLemmas.{last_more}
+use Rattle.log_lines.proofs.TimesLemmas.{first_not_last}
+use Rattle.log_lines.proofs.WordLemmas.{split_some}
 use Rattle.log_lines.proofs.words.small_last.Goals as goal
 
-pub returns-in_default-Some : goal.returns-in_default-Some
-returns-in_default-Some c =
-    let read = λ (w : List ℕ). number_of c.args.least c.args.greatest w in
-    let word = c.split_at.result.0.now in
-    sym (ap (λ (o : Option (Bor (List ℕ))). read_last read (words_of (option_copied o))) c.in-Some.is
-    ∙ ap (λ (ws : List (List ℕ)). read_last read ws) c.split_at.ensures
-    ∙ ap (λ (o : Option (Bor (List ℕ))). read_last read (word ∷ words_of (option_copied o))) c.in_default-Some.is-1
-    ∙ last_more read word c.in_default-Some.field-0-1.now)
+pub returns-in-Some-others : goal.returns-in-Some-others
+returns-in-Some-others c =
+    let behind = c.in-Some-others.field-0 in
+    let same = ap (λ (o : Option (Bor (List ℕ))). let pair : ℕ × List (List ℕ) = (c.in-Some.value, words_of (option_copied o)) in Some pair) (sym c.in-Some-others.is) in
+    first_not_last (λ word. number_of c.args.least c.args.greatest word) (words_of (option_copied c.args.rest)) (words_of (Some behind.now)) c.in-Some.value (same ∙ c.in-Some.ensures) (split_some 32 behind.now)
