@@ -3,3 +3,4 @@ pub mod ReadLemmas
 pub mod UpgradeLemmas
 mod StandingLemmas
 pub mod ReplayLemmas
+pub mod LeftLemmas

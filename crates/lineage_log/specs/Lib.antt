@@ -8,10 +8,13 @@ pub mod People
 pub mod Reader
 pub mod Order
 pub mod Readings
+pub mod Children
 pub mod Places
 pub mod LogGrammar
 pub mod LogValues
+pub mod LogReading
 pub mod Upgrade
 pub mod Replay
+pub mod Livings
 pub mod Residents
 pub mod Links

@@ -14,8 +14,14 @@ place_of place.Before = Before
 place_of (place.Within r) = Within (reader_of r)
 place_of (place.After r) = After (reader_of r)
 
+-- the last line has come
+abbrev pub IsAfter : Place → Type 0
+IsAfter Before = ⊥
+IsAfter (Within r) = ⊥
+IsAfter (After r) = Unit {0}
+
 -- what a line did: this place is reached, or why the line is faulty; running out of memory says nothing of it
-abbrev pub TellsPlace : Result code.Place Refusal → Result Place Reason → Type 0
-TellsPlace (Ok next) told = told ≡ Ok (place_of next)
-TellsPlace (Err Memory) told = ⊤
-TellsPlace (Err (Faulty reason)) told = told ≡ Err reason
+abbrev pub TellsPlace : Result (Unit {0}) Refusal → Place → Result Place Reason → Type 0
+TellsPlace (Ok done) next told = told ≡ Ok next
+TellsPlace (Err Memory) next told = ⊤
+TellsPlace (Err (Faulty reason)) next told = told ≡ Err reason

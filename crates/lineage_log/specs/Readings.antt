@@ -1,11 +1,6 @@
 -- What the reader of a log holds, as the definitions see it.
-use Rattle.std.specs.Prelude.{◌≡◌, List, Option, Some, None, Result, Ok, Err, IsErr, ⊤}
-use Rattle.instruction_set.specs.declared.letter.Letter.{Letter}
-use Rattle.genome.specs.declared.genome.Genome.{Genome}
-use Rattle.genome.specs.Genome.{letters}
-use Rattle.mutations.specs.BirthRecord.{BirthRecord, child_of}
+use Rattle.std.specs.Prelude.{◌≡◌, Result, Ok, Err, ⊤}
 use Rattle.lineage_log.specs.declared.reason.Reason.{Reason}
-use Rattle.lineage_log.specs.declared.reason.Reason.TheVariants.{UnknownParent, BadChange}
 use Rattle.lineage_log.specs.declared.refusal.Refusal.{Refusal}
 use Rattle.lineage_log.specs.declared.refusal.Refusal.TheVariants.{Memory, Faulty}
 use Rattle.lineage_log.specs.declared.reader.Reader as code
@@ -36,12 +31,3 @@ abbrev pub TellsReader : Result code.Reader Refusal → Result Place Reason → 
 TellsReader (Ok r) told = told ≡ Ok (Within (reader_of r))
 TellsReader (Err Memory) told = ⊤
 TellsReader (Err (Faulty reason)) told = told ≡ Err reason
-
--- the child of a parent's letters, or why there is none
-abbrev pub MakesChild : Result Genome Refusal → Option (List Letter) → BirthRecord → Type 0
-MakesChild (Ok child) None birth = ⊥
-MakesChild (Ok child) (Some parent) birth = child_of parent birth ≡ Ok (letters child)
-MakesChild (Err Memory) parent birth = ⊤
-MakesChild (Err (Faulty reason)) None birth = reason ≡ UnknownParent
-MakesChild (Err (Faulty reason)) (Some parent) birth =
-    (reason ≡ BadChange) × IsErr (child_of parent birth)

@@ -1,10 +1,12 @@
 //! The log of a run: its lines, its laws and its reader.
 #![tactic(auto)]
 
+mod child;
 pub mod laws;
 mod link;
 mod living;
 mod log;
+mod log_reader;
 mod log_stop;
 mod people;
 mod place;
@@ -23,5 +25,5 @@ pub use log_lines::{LAST_VERSION, LogLine, Stats, read_line, write_line};
 pub use log_stop::LogStop;
 pub use read::read_log;
 pub use reason::Reason;
-pub use residents::replay;
+pub use residents::{living_at_end, replay};
 pub use stage::Stage;

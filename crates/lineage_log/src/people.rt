@@ -7,11 +7,12 @@ use avida_port::Memory;
 use genome::Genome;
 use std::alloc::Global;
 use std::marker::Model;
+use std::rc::Rc;
 
-/// By id the genome of each who is kept.
+/// By id the genome of each who is kept. Who has the parent's genome unchanged shares it.
 #[derive(Drop)]
 pub struct People {
-    genomes: Vec<Option<Genome>>,
+    genomes: Vec<Option<Rc<Genome>>>,
 }
 
 impl Model for People {
@@ -21,7 +22,7 @@ impl Model for People {
 
     ghost Value = { List (Option (List Letter)) };
 
-    ghost view = { λ p. map (λ found. option_map letters found) p.genomes.items };
+    ghost view = { λ p. map (λ found. option_map (λ shared. letters shared.value) found) p.genomes.items };
 }
 
 impl People {
@@ -40,16 +41,16 @@ impl People {
         self.genomes.len()
     }
 
-    pub fn push(&mut self, genome: Genome) -> Result<(), Memory>
-        ensures ok { OnOk result (self.new ≡ self.old ++ Some (letters genome) ∷ []) }
+    pub fn push(&mut self, genome: Rc<Genome>) -> Result<(), Memory>
+        ensures ok { OnOk result (self.new ≡ self.old ++ Some (letters genome.value) ∷ []) }
         ensures err { OnErr result (self.new ≡ self.old) }
     {
         self.genomes.push(Some(genome))?;
         Ok(())
     }
 
-    pub fn get(&self, id: u64) -> Option<&Genome>
-        ensures { option_map (λ found. letters found.now) result
+    pub fn get(&self, id: u64) -> Option<&Rc<Genome>>
+        ensures { option_map (λ found. letters found.now.value) result
             ≡ option_and_then (λ found. found) (slice_get self.now id) }
     {
         match self.genomes.get(id as usize) {

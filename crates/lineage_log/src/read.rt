@@ -1,16 +1,13 @@
-// Reads a log line by line.
+// Reads a log.
 ghost use Rattle.std.specs.Prelude.{◌≡◌, ◌≢◌, Err};
-ghost use Rattle.lineage_log.specs.LogGrammar.{last_piece, log_of};
-ghost use Rattle.lineage_log.specs.Places.{place_of};
-ghost use Rattle.lineage_log.specs.LogValues.{Gives, answer_of, lines_of, stop_of, with_front};
+ghost use Rattle.lineage_log.specs.LogGrammar.{log_of};
+ghost use Rattle.lineage_log.specs.LogValues.{Gives, answer_of};
 
 use crate::laws::read_exactly;
 use crate::log::Log;
+use crate::log_reader::{next_line, reader_of_bytes};
 use crate::log_stop::LogStop;
-use crate::place::{Place, tell};
-use crate::reason::Reason;
-use crate::refusal::Refusal;
-use log_lines::{LogLine, read_line, split_at};
+use log_lines::LogLine;
 use std::alloc::Global;
 
 /// Reads the text of a log, or tells its first faulty line.
@@ -21,60 +18,15 @@ pub fn read_log(alloc: Global, bytes: &[u8]) -> Result<Log, LogStop>
     Ok(Log::from_lines(read_lines(alloc, bytes)?))
 }
 
-fn stop_for(refusal: Refusal, line: u64) -> LogStop
-    ensures { result ≡ stop_of line refusal }
-{
-    match refusal {
-        Refusal::Memory => LogStop::Memory,
-        Refusal::Faulty(Reason::BadOrder) => LogStop::BadOrder { line },
-        Refusal::Faulty(Reason::UnknownParent) => LogStop::UnknownParent { line },
-        Refusal::Faulty(Reason::BadChange) => LogStop::BadChange { line },
-    }
-}
-
 fn read_lines(alloc: Global, bytes: &[u8]) -> Result<Vec<LogLine>, LogStop>
     ensures { Gives result (log_of bytes.now) }
 {
     let mut lines = Vec::new(alloc);
-    let mut place = Place::Before;
-    let mut rest = bytes;
-    for number in 1..u64::MAX {
-        let (piece, others) = split_at(rest, b'\n');
-        let Some(behind) = others else {
-            return finish(lines, place, piece, number);
-        };
-        let Some(line) = read_line(alloc, piece)? else {
-            return Err(LogStop::BadLine { line: number });
-        };
-        match tell(alloc, place, &line) {
-            Err(refusal) => return Err(stop_for(refusal, number)),
-            Ok(next) => {
-                lines.push(line)?;
-                place = next;
-                rest = behind;
-            }
-        }
+    let mut reader = reader_of_bytes(bytes);
+    while let Some(line) = next_line(alloc, &mut reader)? {
+        lines.push(line)?;
     }
-    Err(LogStop::Memory)
-}
-
-/// The answer at the end of the bytes, behind the last newline.
-fn finish(
-    lines: Vec<LogLine>,
-    place: Place,
-    piece: &[u8],
-    number: u64,
-) -> Result<Vec<LogLine>, LogStop>
-    ensures { Gives result (with_front (lines_of lines.items)
-        (last_piece number (place_of place) piece.now)) }
-{
-    if !piece.is_empty() {
-        return Err(LogStop::BadLine { line: number });
-    }
-    match place {
-        Place::After(_) => Ok(lines),
-        _ => Err(LogStop::Unended { line: number }),
-    }
+    Ok(lines)
 }
 
 #[cfg(test)]

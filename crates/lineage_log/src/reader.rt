@@ -7,6 +7,7 @@ ghost use Rattle.lineage_log.specs.Slots.{holds, taken};
 ghost use Rattle.lineage_log.specs.Reader.{is_quiet, may_be_born, may_die, parent_in, with_death, with_newcomer};
 ghost use Rattle.lineage_log.specs.Order.{told_birth, told_cleared, told_count, told_death, told_end, told_injected, told_rate, told_start, may_happen, renewed, told_within, After};
 
+use crate::child::child_of_shared;
 use crate::people::People;
 use crate::reason::Reason;
 use crate::refusal::{OUT_OF_ORDER, Refusal};
@@ -15,8 +16,9 @@ use crate::stage::Stage;
 use avida_port::Memory;
 use genome::Genome;
 use log_lines::{LogLine, Stats};
-use mutations::{ApplyStop, Origin, apply};
+use mutations::Origin;
 use std::alloc::Global;
+use std::rc::Rc;
 
 #[derive(Drop)]
 pub struct Reader {
@@ -62,7 +64,8 @@ fn is_quiet(stage: Stage) -> bool
 }
 
 impl Reader {
-    ghost use Rattle.lineage_log.specs.Readings.{MakesChild, Tells, TellsReader, reader_of};
+    ghost use Rattle.lineage_log.specs.Readings.{Tells, TellsReader, reader_of};
+    ghost use Rattle.lineage_log.specs.Children.{MakesChild};
 
     /// The reader after the first line.
     #[tactic(auto, unfolding(crate::specs::Order::told_start))]
@@ -82,7 +85,7 @@ impl Reader {
         }
         let standing = Slots::with_one(alloc, cells as usize, cell as usize, 0)?;
         let mut people = People::none(alloc);
-        people.push(genome)?;
+        people.push(Rc::new(alloc, genome)?)?;
         Ok(Reader {
             version,
             due: 1,
@@ -128,13 +131,13 @@ impl Reader {
         stage: Stage,
         cell: u32,
         over: Option<u64>,
-        genome: Genome,
+        genome: Rc<Genome>,
         births: u64,
     ) -> Result<(), Memory>
         requires within { cell < length self.old.standing }
         requires few { births ≤ length self.old.people + 1 }
         ensures { OnOk result (reader_of self.new
-            ≡ with_newcomer (reader_of self.old) stage cell over (letters genome) births) }
+            ≡ with_newcomer (reader_of self.old) stage cell over (letters genome.value) births) }
     {
         if let Some(id) = over {
             self.leaving.push(id)?;
@@ -189,8 +192,8 @@ impl Reader {
     }
 
     /// The genome of somebody who lived when the update began.
-    fn parent(&self, id: u64) -> Option<&Genome>
-        ensures { option_map (λ found. letters found.now) result
+    fn parent(&self, id: u64) -> Option<&Rc<Genome>>
+        ensures { option_map (λ found. letters found.now.value) result
             ≡ parent_in (reader_of self.now) id }
     {
         if id < self.newest {
@@ -200,16 +203,12 @@ impl Reader {
         }
     }
 
-    fn child(&self, alloc: Global, parent: u64, origin: &Origin) -> Result<Genome, Refusal>
+    fn child(&self, alloc: Global, parent: u64, origin: &Origin) -> Result<Rc<Genome>, Refusal>
         ensures { MakesChild result (parent_in (reader_of self.now) parent) (record_of origin.now) }
     {
         match self.parent(parent) {
             None => Err(Refusal::Faulty(Reason::UnknownParent)),
-            Some(genome) => match apply(alloc, genome, origin) {
-                Ok(child) => Ok(child),
-                Err(ApplyStop::Memory) => Err(Refusal::Memory),
-                Err(_) => Err(Refusal::Faulty(Reason::BadChange)),
-            },
+            Some(genome) => child_of_shared(alloc, genome, origin),
         }
     }
 
@@ -243,6 +242,7 @@ impl Reader {
     #[tactic(auto, unfolding(crate::specs::Order::told_injected))]
     pub fn injected(
         &mut self,
+        alloc: Global,
         id: u64,
         update: u32,
         cell: u32,
@@ -254,7 +254,13 @@ impl Reader {
     {
         if self.may_happen(update) && self.may_come(id, cell, over) {
             let births = self.births;
-            self.add(Stage::Happening, cell, over, genome, births)?;
+            self.add(
+                Stage::Happening,
+                cell,
+                over,
+                Rc::new(alloc, genome)?,
+                births,
+            )?;
             Ok(())
         } else {
             Err(OUT_OF_ORDER)
@@ -330,7 +336,7 @@ impl Reader {
                 cell,
                 over,
                 genome,
-            } => self.injected(*id, *update, *cell, *over, genome.copy(alloc)?),
+            } => self.injected(alloc, *id, *update, *cell, *over, genome.copy(alloc)?),
             LogLine::Cleared { id, update, cell } => self.cleared(*id, *update, *cell),
             LogLine::Rate { update, .. } => self.rate(*update),
             LogLine::Count(stats) => self.count(stats),

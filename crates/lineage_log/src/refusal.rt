@@ -4,6 +4,7 @@ ghost use Rattle.lineage_log.specs.declared.refusal.Refusal.TheVariants as refus
 
 use crate::reason::Reason;
 use avida_port::Memory;
+use std::alloc::{AllocError, AllocFailed};
 
 /// Out of memory, or the line is faulty.
 #[derive(Clone, Copy)]
@@ -19,6 +20,22 @@ impl From<Memory> for Refusal {
     ghost from_gives = { λ _ made. made ≡ refusal.Memory };
 
     fn from(_memory: Memory) -> Refusal {
+        Refusal::Memory
+    }
+}
+
+impl From<AllocError> for Refusal {
+    ghost from_gives = { λ _ made. made ≡ refusal.Memory };
+
+    fn from(_e: AllocError) -> Refusal {
+        Refusal::Memory
+    }
+}
+
+impl<T: Drop> From<AllocFailed<T>> for Refusal {
+    ghost from_gives = { λ _ made. made ≡ refusal.Memory };
+
+    fn from(_e: AllocFailed<T>) -> Refusal {
         Refusal::Memory
     }
 }

@@ -1,15 +1,19 @@
 // Who lives at the end of a log.
-ghost use Rattle.std.specs.Prelude.{◌≡◌, ◌≤◌, ◌∷◌, [], Some, Ok, IfOk, IsSome, length, option_and_then, slice_get};
-ghost use Rattle.lineage_log.specs.LogGrammar.{IsGoodLog};
+ghost use Rattle.std.specs.Prelude.{◌≡◌, ◌≢◌, ◌≤◌, ◌∷◌, [], Some, Ok, Err, IfOk, IsSome, length, option_and_then, slice_get};
+ghost use Rattle.lineage_log.specs.LogGrammar.{IsGoodLog, log_of};
 ghost use Rattle.lineage_log.specs.LogValues.{lines_of};
 ghost use Rattle.lineage_log.specs.Order.{After, Before, told_all};
 ghost use Rattle.lineage_log.specs.Readings.{reader_of};
+ghost use Rattle.lineage_log.specs.Livings.{LeavesReader, living_of};
 ghost use Rattle.lineage_log.specs.Replay.{replay_of, resident_at, residents_from};
 ghost use Rattle.lineage_log.specs.Residents.{EachIsKept, kept_genomes};
 
+use crate::laws::read_exactly;
 use crate::living::{Living, Livings};
 use crate::log::Log;
-use crate::place::{Place, tell};
+use crate::log_reader::{next_line, reader_of_bytes};
+use crate::log_stop::LogStop;
+use crate::place::{Place, into_reader, tell};
 use crate::reader::Reader;
 use crate::refusal::Refusal;
 use avida_port::Memory;
@@ -31,16 +35,31 @@ fn reader_after(alloc: Global, lines: &[LogLine]) -> Result<Reader, Memory>
 {
     let mut place = Place::Before;
     for line in lines {
-        place = match tell(alloc, place, line) {
-            Ok(next) => next,
+        match tell(alloc, &mut place, line) {
+            Ok(()) => {}
             Err(Refusal::Memory) => return Err(Memory),
             Err(Refusal::Faulty(_)) => unreachable!(),
-        };
+        }
     }
-    match place {
-        Place::After(reader) => Ok(reader),
-        _ => unreachable!(),
-    }
+    Ok(into_reader(place))
+}
+
+/// Replays the bytes of a log, or tells its first faulty line: as `read_log` and then `replay`, but no
+/// line is kept.
+pub fn living_at_end(alloc: Global, bytes: &[u8]) -> Result<Livings, LogStop>
+    ensures { result ≢ Err LogStop.Memory → result ≡ living_of (log_of bytes.now) }
+{
+    read_exactly();
+    let reader = reader_at_end(alloc, bytes)?;
+    Ok(living_in(alloc, &reader)?)
+}
+
+fn reader_at_end(alloc: Global, bytes: &[u8]) -> Result<Reader, LogStop>
+    ensures { LeavesReader result (log_of bytes.now) }
+{
+    let mut log = reader_of_bytes(bytes);
+    while let Some(_line) = next_line(alloc, &mut log)? {}
+    Ok(into_reader(log.place))
 }
 
 fn living_in(alloc: Global, reader: &Reader) -> Result<Livings, Memory>

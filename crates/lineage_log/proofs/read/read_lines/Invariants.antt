@@ -1,10 +1,11 @@
-use Rattle.std.proofs.Common.{◌≡◌}
-use Rattle.std.specs.Prelude.{◌==◌}
-use Rattle.std.specs.List.{slice_split}
-use Rattle.lineage_log.specs.LogGrammar.{log_of, pieces_log}
-use Rattle.lineage_log.specs.Places.{place_of}
+use Rattle.std.proofs.Common.{◌≡◌, length}
+use Rattle.lineage_log.specs.LogGrammar.{log_of}
+use Rattle.lineage_log.specs.LogReading.{left_of}
 use Rattle.lineage_log.specs.LogValues.{lines_of, with_front}
 use Rattle.lineage_log.proofs.read.read_lines.Given as goal
 
-abbrev pub invariant-loop-number : goal.invariant-loop-number
-invariant-loop-number l = with_front (lines_of l.lines.items) (pieces_log l.number (place_of l.place) (slice_split (λ b. b == 10) l.rest)) ≡ log_of l.fn.bytes
+abbrev pub invariant-loop-reader : goal.invariant-loop-reader
+invariant-loop-reader l = with_front (lines_of l.lines.items) (left_of l.reader) ≡ log_of l.fn.bytes
+
+abbrev pub decreases-loop-reader : goal.decreases-loop-reader
+decreases-loop-reader l = length l.reader.rest.now

@@ -1,6 +1,7 @@
-use Rattle.std.proofs.Common.{◌∙◌, List, Option, None, ap, set, option_map}
+use Rattle.std.proofs.Common.{◌∙◌, Global, List, Option, None, ap, set, option_map}
 use Rattle.std.proofs.lemmas.List.{map-set}
 use Rattle.instruction_set.specs.declared.letter.Letter.{Letter}
+use Rattle.std.specs.declared.rc.Rc.{Rc}
 use Rattle.genome.specs.declared.genome.Genome.{Genome}
 use Rattle.genome.specs.Genome.{letters}
 use Rattle.lineage_log.proofs.people.People.forget.Goals.{in-Some-1, in-None-1}
@@ -9,7 +10,7 @@ use Rattle.lineage_log.proofs.people.People.forget.Goals as goal
 pub returns-then-place-len : goal.returns-then-place-len
 returns-then-place-len c =
     let genomes = c.self.inside.genomes.items in
-    let seen = map-set (λ (found : Option Genome). option_map letters found) genomes c.args.id None ∙ ap (λ (l : List (Option (List Letter))). set l c.args.id None) c.self.view_is in
+    let seen = map-set (λ (found : Option (Rc Genome Global)). option_map (λ shared. letters shared.value) found) genomes c.args.id None ∙ ap (λ (l : List (Option (List Letter))). set l c.args.id None) c.self.view_is in
     elim c.match-index_mut.branch [
       | in-Some-1 w ↦ w.self-is ∙ seen
       | in-None-1 w ↦ w.self-is ∙ seen

@@ -1,0 +1,47 @@
+-- Reading a log line by line (docs/FORMATS.md, "The log").
+use Rattle.std.specs.Prelude.{◌≡◌, ◌≢◌, ℕ, ◌<◌, List, [], length, Option, Some, None, Result, Ok, Err, ◌==◌}
+use Rattle.std.specs.List.{slice_split}
+use Rattle.log_lines.specs.Line.{Line, values_of}
+use Rattle.log_lines.specs.declared.log_line.LogLine.{LogLine}
+use Rattle.lineage_log.specs.declared.log_stop.LogStop.{LogStop}
+use Rattle.lineage_log.specs.declared.log_stop.LogStop.TheVariants as stop
+use Rattle.lineage_log.specs.declared.log_reader.LogReader.{LogReader}
+use Rattle.lineage_log.specs.Order.{Place, Before, told}
+use Rattle.lineage_log.specs.LogGrammar.{Fault, pieces_log, with_line}
+use Rattle.lineage_log.specs.LogValues.{answer_of}
+use Rattle.lineage_log.specs.Places.{IsAfter, place_of}
+
+-- what the rest of a log gives
+abbrev pub left_of : LogReader → Result (List Line) Fault
+left_of reader =
+    pieces_log reader.number (place_of reader.place)
+    (slice_split (λ b. b == 10) reader.rest.now)
+
+-- nothing of these bytes is read
+pub record IsAtStart (bytes : List ℕ) (reader : LogReader) : Type 0 where
+  pub rest : reader.rest.now ≡ bytes
+  pub number : reader.number ≡ 1
+  pub place : place_of reader.place ≡ Before
+
+-- one line was read and told, and the others are left
+pub record ReadsLine (line : Line) (before after : LogReader) : Type 0 where
+  pub left : left_of before ≡ with_line line (left_of after)
+  pub told : told (place_of before.place) line ≡ Ok (place_of after.place)
+  pub shorter : length after.rest.now < length before.rest.now
+
+-- the log has its end here
+pub record IsRead (before after : LogReader) : Type 0 where
+  pub left : left_of before ≡ Ok []
+  pub place : place_of after.place ≡ place_of before.place
+  pub whole : IsAfter (place_of after.place)
+
+-- what the next line gives: the line, the end, or why the first faulty line is; running out of memory says nothing of it
+abbrev pub GivesNext : Result (Option LogLine) LogStop → LogReader → LogReader → Type 0
+GivesNext (Ok (Some line)) before after = ReadsLine (values_of line) before after
+GivesNext (Ok None) before after = IsRead before after
+GivesNext (Err e) before after = e ≢ stop.Memory → answer_of (left_of before) ≡ Err e
+
+-- the bytes end here: a whole log ends, or why it doesn't
+abbrev pub EndsAt : Result (Unit {0}) LogStop → Place → Result (List Line) Fault → Type 0
+EndsAt (Ok done) place left = (left ≡ Ok []) × IsAfter place
+EndsAt (Err e) place left = answer_of left ≡ Err e
