@@ -15,6 +15,7 @@ use Rattle.virtual_cpu.specs.declared.did.Did.{Did}
 use Rattle.virtual_cpu.specs.declared.did.Did.TheVariants.{Output, Asks}
 use Rattle.virtual_cpu.specs.Machine.{Machine, fresh_machine}
 use Rattle.virtual_cpu.specs.Divide.{parent_part}
+use Rattle.virtual_cpu.specs.Effects.{effect_of}
 use Rattle.virtual_cpu.specs.Step.{step}
 use Rattle.organism.specs.OrganismState.{OrganismState}
 use Rattle.organism.specs.declared.outcome.Outcome.{Outcome}
@@ -64,6 +65,12 @@ abbrev pub after_did : OrganismState → RuleNumbers → Did → OrganismState �
 after_did o rules (Output value) = after_output o value
 after_did o rules (Asks ask) = (o, after_question o rules ask)
 after_did o rules _ = (o, outcome.Nothing)
+
+-- what the letter that was taken comes to
+unfoldable pub after_letter : OrganismState → Letter → Option Letter → RuleNumbers → OrganismState × Outcome
+after_letter o letter copy rules =
+    let effect = effect_of letter o.machine (next_input o) copy in
+    after_did (older o effect.0) rules effect.1
 
 -- one step, but for the renewal that a viable divide brings
 unfoldable pub life_step : OrganismState → Option Letter → RuleNumbers → OrganismState × Outcome

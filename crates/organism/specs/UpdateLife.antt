@@ -41,15 +41,21 @@ abbrev pub is_copy : Letter → Bool
 is_copy HCopy = true
 is_copy _ = false
 
+-- the letter of a copy error, which only h-copy draws
+abbrev pub copy_of : Letter → (ℕ → ℕ) → ℕ → ℕ → Option Letter
+copy_of letter words rate k = if is_copy letter then error_letter words rate k else None
+
+-- the number of the word after that test
+abbrev pub after_copy_of : Letter → (ℕ → ℕ) → ℕ → ℕ → ℕ
+after_copy_of letter words rate k = if is_copy letter then after_error words rate k else k
+
 -- the letter of a copy error, where the letter under IP is h-copy
 abbrev pub copy_drawn : (ℕ → ℕ) → ℕ → ℕ → OrganismState → Option Letter
-copy_drawn words rate k o =
-    if is_copy (letter_under_ip o.machine) then error_letter words rate k else None
+copy_drawn words rate k o = copy_of (letter_under_ip o.machine) words rate k
 
 -- the number of the word after that test
 abbrev pub after_copy : (ℕ → ℕ) → ℕ → ℕ → OrganismState → ℕ
-after_copy words rate k o =
-    if is_copy (letter_under_ip o.machine) then after_error words rate k else k
+after_copy words rate k o = after_copy_of (letter_under_ip o.machine) words rate k
 
 -- the child's part of the clean text
 abbrev pub clean_text : OrganismState → DivideAsk → List Letter

@@ -2,10 +2,11 @@
 ghost use Rattle.std.specs.Prelude.{◌≡◌, ◌+◌, ◌*◌, ◌-◌, ◌<◌, ◌≤◌, ◌^◌, IfOk, OnOk, length};
 ghost use Rattle.divide_rules.specs.Rules.{RuleNumbers, rule_numbers};
 ghost use Rattle.genome.specs.Genome.{letters};
+ghost use Rattle.virtual_cpu.specs.Machine.{letter_under_ip, with_ip_marked};
 ghost use Rattle.virtual_cpu.specs.Step.{AsksOf};
 ghost use Rattle.virtual_cpu.specs.Divide.{divide_question};
 ghost use Rattle.organism.specs.OrganismState.{new_organism, IsOrganism};
-ghost use Rattle.organism.specs.Life.{newly_done, after_output, after_question, after_did, life_step, renewed, IsDivide, IsChildOf, OnViable};
+ghost use Rattle.organism.specs.Life.{newly_done, after_output, after_question, after_did, after_letter, life_step, renewed, IsDivide, IsChildOf, OnViable};
 ghost use Rattle.organism.specs.TracedStep.{remark_value, traced_value, remark_on, trace_step_of};
 
 use crate::outcome::Outcome;
@@ -20,6 +21,7 @@ use merit_slices::merit;
 use std::alloc::Global;
 use std::marker::Model;
 use std::sync::Arc;
+use virtual_cpu::laws::only_io_takes_an_input;
 use virtual_cpu::{Cpu, Did};
 
 /// An organism, which lives by the steps of its machine.
@@ -158,22 +160,61 @@ impl Organism {
     }
 
     /// One step of the life, but for the renewal that a viable divide brings.
-    #[tactic(auto, unfolding(crate::specs::Life::life_step))]
-    pub(crate) fn life_step(&mut self, copy: Option<Letter>, rules: &DivideRules) -> Outcome
+    #[tactic(auto, unfolding(crate::specs::Life::life_step, crate::specs::Life::after_letter, virtual_cpu::specs::Step::step))]
+    fn life_step(&mut self, copy: Option<Letter>, rules: &DivideRules) -> Outcome
         requires { self.old.age < 2 ^ 63 }
         ensures step { (self.new, result) ≡ life_step self.old copy (rule_numbers rules.now) }
+        ensures divide { OnViable result (IsDivide self.new) }
+        ensures age { self.new.age ≡ self.old.age + 1 }
+    {
+        let letter = self.take();
+        self.perform(letter, copy, rules)
+    }
+
+    /// The machine takes its letter; `perform` does the rest of the step.
+    #[inline(always)]
+    pub(crate) fn take(&mut self) -> Letter
+        ensures letter { result ≡ letter_under_ip self.old.machine }
+        ensures marked { self.new ≡ record self.old { machine = with_ip_marked self.old.machine } }
+    {
+        self.machine.take()
+    }
+
+    /// The letter that was taken has its effect, and what follows from it. Only IO needs its input.
+    #[inline(always)]
+    #[tactic(auto, unfolding(crate::specs::Life::after_letter))]
+    pub(crate) fn perform(
+        &mut self,
+        letter: Letter,
+        copy: Option<Letter>,
+        rules: &DivideRules,
+    ) -> Outcome
+        requires { self.old.age < 2 ^ 63 }
+        ensures step { (self.new, result)
+            ≡ after_letter self.old letter copy (rule_numbers rules.now) }
         ensures divide { OnViable result (IsDivide self.new) }
         ensures child { OnViable result (IsChildOf (rule_numbers rules.now)) }
         ensures age { self.new.age ≡ self.old.age + 1 }
         ensures merit { self.new.merit ≡ self.old.merit }
     {
-        let input = self.inputs.value(self.read);
-        let did = self.machine.step(input, copy);
-        self.age += 1;
-        self.after_did(did, rules)
+        only_io_takes_an_input();
+        match letter {
+            Letter::Io => {
+                let input = self.inputs.value(self.read);
+                let did = self.machine.perform(letter, input, copy);
+                self.age += 1;
+                self.after_did(did, rules)
+            }
+            _ => {
+                let did = self.machine.perform(letter, 0, copy);
+                self.age += 1;
+                self.after_did(did, rules)
+            }
+        }
     }
 
     /// What follows from the answer of the machine's step.
+    #[inline(always)]
     fn after_did(&mut self, did: Did, rules: &DivideRules) -> Outcome
         requires read { self.old.read < self.old.age }
         requires question { AsksOf self.old.machine did }

@@ -7,7 +7,7 @@ ghost use Rattle.random_streams.specs.RandomStream.{word_of};
 ghost use Rattle.organism.specs.Life.{IsDivide, IsChildOf, OnViable};
 ghost use Rattle.organism.specs.GoingOn.{GoesOn, life_now};
 ghost use Rattle.organism.specs.SettingNumbers.{setting_numbers};
-ghost use Rattle.organism.specs.UpdateLife.{life_state, copy_drawn, after_copy, birth_record, child_letters, after_child, after_outcome, after_step, is_old, life};
+ghost use Rattle.organism.specs.UpdateLife.{life_state, copy_of, after_copy_of, birth_record, child_letters, after_child, after_outcome, after_step, is_old, life};
 
 use crate::outcome::Outcome;
 use crate::{Births, Newborn, Organism, Ran, Settings};
@@ -58,7 +58,8 @@ impl Organism {
     }
 
     /// One step, with its copy error and, where it divides, a newborn.
-    #[tactic(auto, unfolding(crate::specs::UpdateLife::after_step))]
+    #[inline(always)]
+    #[tactic(auto, unfolding(crate::specs::UpdateLife::after_step, crate::specs::Life::life_step, crate::specs::Life::after_letter, virtual_cpu::specs::Step::step))]
     fn live(
         &mut self,
         alloc: Global,
@@ -77,28 +78,14 @@ impl Organism {
             (life_now self.old births.old draws.old)
             (life_now self.new births.new draws.new)) }
     {
-        let copy = self.draw_copy(&settings.rates, draws);
-        let outcome = self.life_step(copy, &settings.rules);
+        let letter = self.take();
+        let copy = draw_copy(letter, &settings.rates, draws);
+        let outcome = self.perform(letter, copy, &settings.rules);
         self.follow(alloc, outcome, settings, draws, births)
     }
 
-    /// The letter of a copy error, which only h-copy draws.
-    fn draw_copy(&self, rates: &Rates, draws: &mut Draws) -> Option<Letter>
-        requires { draws.old.taken < 2 ^ 44 }
-        ensures letter { result
-            ≡ copy_drawn (word_of draws.old) rates.now.copy draws.old.taken self.now }
-        ensures stream { draws.new ≡ record draws.old {
-          taken = after_copy (word_of draws.old) rates.now.copy draws.old.taken self.now;
-        } }
-        ensures taken { draws.new.taken ≤ draws.old.taken + 2 }
-    {
-        match self.machine.next() {
-            Letter::HCopy => copy_error(rates, draws),
-            _ => None,
-        }
-    }
-
     /// A viable divide makes a newborn and renews the parent.
+    #[inline(always)]
     fn follow(
         &mut self,
         alloc: Global,
@@ -198,5 +185,21 @@ impl Organism {
             &limits,
             draws,
         )
+    }
+}
+
+/// The letter of a copy error, which only h-copy draws.
+#[inline(always)]
+fn draw_copy(letter: Letter, rates: &Rates, draws: &mut Draws) -> Option<Letter>
+    requires { draws.old.taken < 2 ^ 44 }
+    ensures letter { result ≡ copy_of letter (word_of draws.old) rates.now.copy draws.old.taken }
+    ensures stream { draws.new ≡ record draws.old {
+      taken = after_copy_of letter (word_of draws.old) rates.now.copy draws.old.taken;
+    } }
+    ensures taken { draws.new.taken ≤ draws.old.taken + 2 }
+{
+    match letter {
+        Letter::HCopy => copy_error(rates, draws),
+        _ => None,
     }
 }

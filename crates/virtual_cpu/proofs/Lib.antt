@@ -1,5 +1,9 @@
+pub mod CountLemmas
 pub mod MachineLemmas
+pub mod MarksLemmas
+pub mod OnesLemmas
 pub mod OperandLemmas
+pub mod PackedLemmas
 pub mod QuestionLemmas
 pub mod StepLemmas
 pub mod WordLemmas

@@ -174,12 +174,15 @@ effect_of-keeps Io m input copy = let k = after_io-keeps m input in record { mad
 effect_of-keeps MovHead m input copy = via m (after_mov_head m) _ (after_mov_head-keeps m) (moving-keeps (head m) (after_mov_head m))
 effect_of-keeps HAlloc m input copy = allocating_if-keeps (can_allocate m) m
 
--- a step marks a place, and then a letter has its effect
-pub step_keeps_limits : (m marked n : Machine) (letter : Letter) (input : ℤ) (copy : Option Letter) (did : Did) → marked ≡ with_ip_marked m → (n, did) ≡ effect_of letter marked input copy → KeepsLimits m n
-step_keeps_limits m marked n letter input copy did is_marked is_effect =
-    let P : Machine × Did → Type 0 = λ p. KeepsLimits marked p.0 in
-    let k : KeepsLimits marked n = subst P (sym is_effect) (effect_of-keeps letter marked input copy) in
-    record {
-      made = k.made ∙ ap (λ (x : Machine). x.made) is_marked;
-      limit = k.limit ∙ ap (λ (x : Machine). x.limit) is_marked;
-    }
+-- a letter has its effect
+pub effect_keeps_limits : (m n : Machine) (letter : Letter) (input : ℤ) (copy : Option Letter) (did : Did) → (n, did) ≡ effect_of letter m input copy → KeepsLimits m n
+effect_keeps_limits m n letter input copy did is_effect =
+    let P : Machine × Did → Type 0 = λ p. KeepsLimits m p.0 in
+    subst P (sym is_effect) (effect_of-keeps letter m input copy)
+
+-- a step marks a place, and keeps the limits after that
+pub step_keeps_limits : (m marked n : Machine) → marked ≡ with_ip_marked m → KeepsLimits marked n → KeepsLimits m n
+step_keeps_limits m marked n is_marked k = record {
+  made = k.made ∙ ap (λ (x : Machine). x.made) is_marked;
+  limit = k.limit ∙ ap (λ (x : Machine). x.limit) is_marked;
+}

@@ -2,6 +2,8 @@ pub mod Registers
 pub mod Heads
 pub mod Stack
 pub mod Machine
+pub mod Marks
+pub mod PackedMarks
 pub mod Operands
 pub mod RegisterEffects
 pub mod HeadEffects

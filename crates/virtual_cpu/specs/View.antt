@@ -8,8 +8,8 @@ abbrev pub machine_of : Inside → Machine
 machine_of cpu = record {
   memory = cpu.memory.items;
   clean = cpu.clean.items;
-  executed = cpu.executed.items;
-  copied = cpu.copied.items;
+  executed = cpu.executed.places;
+  copied = cpu.copied.places;
   registers = cpu.registers;
   stacks = cpu.stacks;
   active = cpu.active;
@@ -29,5 +29,5 @@ pub record IsMachineWithRoom (cpu : Inside) : Type 0 where
   pub machine : IsMachine (machine_of cpu)
   pub memory : room_of cpu ≤ vec_capacity cpu.memory
   pub clean : room_of cpu ≤ vec_capacity cpu.clean
-  pub executed : room_of cpu ≤ vec_capacity cpu.executed
-  pub copied : room_of cpu ≤ vec_capacity cpu.copied
+  pub executed : room_of cpu ≤ cpu.executed.room
+  pub copied : room_of cpu ≤ cpu.copied.room

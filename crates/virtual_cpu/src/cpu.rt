@@ -16,9 +16,10 @@ ghost use Rattle.virtual_cpu.specs.Divide.{divide_question, parent_part, child_p
 
 use crate::cut::Cut;
 use crate::heads::{Head, Heads};
-use crate::marks::{count_marks, place_after, place_of_number};
+use crate::packed_marks::PackedMarks;
+use crate::places::{place_after, place_of_number};
 use crate::registers::{Register, Registers};
-use crate::reserved::{append_copies, append_letters, letters_with_room, unmarked_with_room};
+use crate::reserved::{append_copies, append_letters, letters_with_room};
 use crate::stack::Stack;
 use avida_port::Memory;
 use divide_rules::DivideAsk;
@@ -33,8 +34,8 @@ use std::marker::Model;
 pub struct Cpu {
     memory: Vec<Letter>,
     clean: Vec<Letter>,
-    executed: Vec<bool>,
-    copied: Vec<bool>,
+    executed: PackedMarks,
+    copied: PackedMarks,
     registers: Registers,
     stacks: [Stack; 2],
     active: usize,
@@ -70,8 +71,8 @@ impl Cpu {
         let room = (6 * made).min(limit);
         let memory = letters_with_room(alloc, genome.letters(), room)?;
         let clean = letters_with_room(alloc, genome.letters(), room)?;
-        let executed = unmarked_with_room(alloc, made, room)?;
-        let copied = unmarked_with_room(alloc, made, room)?;
+        let executed = PackedMarks::unmarked(alloc, made, room)?;
+        let copied = PackedMarks::unmarked(alloc, made, room)?;
         Ok(Cpu {
             memory,
             clean,
@@ -100,10 +101,8 @@ impl Cpu {
         self.memory.truncate(keep);
         self.clean.clear();
         append_letters(&mut self.clean, self.memory.as_slice());
-        self.executed.clear();
-        append_copies(&mut self.executed, false, keep);
-        self.copied.clear();
-        append_copies(&mut self.copied, false, keep);
+        self.executed.reset(keep);
+        self.copied.reset(keep);
         self.registers = Registers::default();
         let stacks = [Stack::new(), Stack::new()];
         self.stacks = stacks;
@@ -162,7 +161,7 @@ impl Cpu {
     pub(crate) fn mark_executed(&mut self)
         ensures { self.new ≡ with_ip_marked self.old }
     {
-        self.executed[self.heads.ip] = true;
+        self.executed.mark(self.heads.ip);
     }
 
     pub(crate) fn advance(&mut self)
@@ -337,7 +336,7 @@ impl Cpu {
         self.nops.note(read);
         self.memory[self.heads.write] = copy.unwrap_or(read);
         self.clean[self.heads.write] = read;
-        self.copied[self.heads.write] = true;
+        self.copied.mark(self.heads.write);
         self.heads.read = place_after(self.heads.read, self.memory.len());
         self.heads.write = place_after(self.heads.write, self.memory.len());
     }
@@ -358,8 +357,8 @@ impl Cpu {
         let extra = (2 * length).min(self.limit - length);
         append_copies(&mut self.memory, Letter::NopA, extra);
         append_copies(&mut self.clean, Letter::NopA, extra);
-        append_copies(&mut self.executed, false, extra);
-        append_copies(&mut self.copied, false, extra);
+        self.executed.append(extra);
+        self.copied.append(extra);
         self.registers.ax = length as i32;
         self.pending = true;
     }
@@ -375,9 +374,9 @@ impl Cpu {
         } else {
             self.heads.write
         };
-        let executed = count_marks(&self.executed[..read]);
+        let executed = self.executed.count(0, read);
         let copied = if read < end {
-            count_marks(&self.copied[read..end])
+            self.copied.count(read, end)
         } else {
             0
         };

@@ -4,6 +4,7 @@ ghost use Rattle.virtual_cpu.specs.Allocation.{can_allocate, with_allocation};
 ghost use Rattle.virtual_cpu.specs.Copying.{after_h_copy};
 ghost use Rattle.virtual_cpu.specs.Divide.{divide_question};
 ghost use Rattle.virtual_cpu.specs.Effects.{telling, going_on, moving, allocating_if, effect_of};
+ghost use Rattle.virtual_cpu.specs.Machine.{letter_under_ip, with_ip_marked};
 ghost use Rattle.virtual_cpu.specs.HeadEffects.{head, after_mov_head, after_jmp_head, after_get_head};
 ghost use Rattle.virtual_cpu.specs.RegisterEffects.{after_if_n_equ, after_if_less, after_set_flow, after_shift_r, after_shift_l, after_inc, after_dec, after_push, after_pop, after_swap_stk, after_swap, after_add, after_sub, after_nand, after_io, output_of};
 ghost use Rattle.virtual_cpu.specs.Step.{step, AsksOf, KeepsLimits};
@@ -297,12 +298,33 @@ impl Cpu {
         ensures question { AsksOf self.new result }
         ensures kept { KeepsLimits self.old self.new }
     {
-        let letter = self.next();
-        self.mark_executed();
+        let letter = self.take();
         self.perform(letter, input, copy)
     }
 
-    fn perform(&mut self, letter: Letter, input: i32, copy: Option<Letter>) -> Did
+    /// The first half of a step: the place of IP is marked, and the letter there is given.
+    #[inline(always)]
+    pub fn take(&mut self) -> Letter
+        ensures letter { result ≡ letter_under_ip self.old }
+        ensures marked { self.new ≡ with_ip_marked self.old }
+    {
+        let letter = self.next();
+        self.mark_executed();
+        letter
+    }
+
+    /// The second half: the letter that was taken has its effect.
+    #[inline(always)]
+    pub fn perform(&mut self, letter: Letter, input: i32, copy: Option<Letter>) -> Did
+        ensures effect { (self.new, result) ≡ effect_of letter self.old input copy }
+        ensures question { AsksOf self.new result }
+        ensures kept { KeepsLimits self.old self.new }
+    {
+        self.act(letter, input, copy)
+    }
+
+    #[inline(always)]
+    fn act(&mut self, letter: Letter, input: i32, copy: Option<Letter>) -> Did
         ensures effect { (self.new, result) ≡ effect_of letter self.old input copy }
         ensures question { AsksOf self.new result }
     {

@@ -1,9 +1,11 @@
-// What each step leaves, and which operand each letter takes.
-ghost use Rattle.std.specs.Prelude.{ℕ, ℤ, ◌*◌, ◌≤◌, Option, List, length, FitsSigned};
+// What each step leaves, and what each letter takes.
+ghost use Rattle.std.specs.Prelude.{◌≡◌, ◌≢◌, ℕ, ℤ, ◌*◌, ◌≤◌, Option, List, length, FitsSigned};
 ghost use Rattle.std.specs.Int.{w32};
 ghost use Rattle.instruction_set.specs.declared.letter.Letter.{Letter};
+ghost use Rattle.instruction_set.specs.declared.letter.Letter.TheVariants.{Io};
 ghost use Rattle.instruction_set.specs.Letter.{class_of};
 ghost use Rattle.instruction_set.specs.Defaults.{default_of};
+ghost use Rattle.virtual_cpu.specs.Effects.{effect_of};
 ghost use Rattle.virtual_cpu.specs.Machine.{Machine, IsMachine, fresh_machine};
 ghost use Rattle.virtual_cpu.specs.OperandUse.{TakesOperand};
 ghost use Rattle.virtual_cpu.specs.Step.{step, AsksOf, KeepsLimits};
@@ -46,4 +48,11 @@ pub fn machines_hold_words()
 /// Template use the template, and no other letter uses either.
 pub fn letters_take_their_operands()
     ensures { (letter : Letter) → TakesOperand (default_of letter) (class_of letter) letter }
+{}
+
+/// No letter but IO takes an input.
+pub fn only_io_takes_an_input()
+    ensures { (letter : Letter) (m : Machine) (input other : ℤ) (copy : Option Letter)
+        → letter ≢ Io
+        → effect_of letter m input copy ≡ effect_of letter m other copy }
 {}

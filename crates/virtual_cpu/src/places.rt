@@ -1,15 +1,6 @@
-// Sets of places, and the places of numbers.
+// Places of memory, which go on across its end.
 ghost use Rattle.std.specs.Prelude.{◌≡◌, ◌+◌, ◌<◌, ◌≤◌, ◌%◌, length, pos, unsigned_abs};
 ghost use Rattle.std.specs.Int.{int_rem_euclid};
-ghost use Rattle.virtual_cpu.specs.Divide.{count_of};
-
-/// How many places are marked.
-pub(crate) fn count_marks(marks: &[bool]) -> usize
-    ensures count { result ≡ count_of marks.now }
-    ensures bound { result ≤ length marks.now }
-{
-    marks.iter().filter(|mark| **mark).count()
-}
 
 /// The place after another, across the end to place 0.
 pub(crate) fn place_after(place: usize, length: usize) -> usize
