@@ -38,36 +38,3 @@ fn begins_with(letters: &[Letter], what: &[Letter]) -> bool
 {
     letters.starts_with(what)
 }
-
-#[cfg(test)]
-mod tests {
-    use super::*;
-    use Letter::{Inc, NopA, NopB, NopC};
-
-    #[test]
-    fn the_least_place_is_found(rt: HostRuntime) {
-        let mut template = Template::none();
-        template.note(NopA);
-        template.note(NopB);
-        let cases = [
-            ([NopA, NopB, Inc, NopA, NopB], Some(0)),
-            ([Inc, NopA, NopB, NopA, NopB], Some(1)),
-            ([NopA, NopA, NopB, Inc, Inc], Some(1)),
-            ([Inc, Inc, Inc, NopA, NopB], Some(3)),
-            ([NopA, Inc, NopB, NopC, NopB], None),
-        ];
-        for (memory, place) in cases {
-            assert_eq!(rt; find(&memory, &template), place, "at {memory:?}");
-        }
-    }
-
-    #[test]
-    fn a_match_across_the_end_is_none(rt: HostRuntime) {
-        let mut template = Template::none();
-        template.note(NopA);
-        template.note(NopB);
-        assert_eq!(rt; find(&[NopB, Inc, NopA], &template), None);
-        assert_eq!(rt; find(&[NopA], &template), None);
-        assert_eq!(rt; find(&[], &template), None);
-    }
-}

@@ -1,4 +1,4 @@
-//! Tests of the base crates: what they answer, beside values from outside.
+//! Tests of the libraries: what their calls answer, beside values from outside.
 #![tactic(auto)]
 
 #[cfg(test)]
@@ -12,10 +12,22 @@ mod genomes;
 #[cfg(test)]
 mod letters;
 #[cfg(test)]
+mod lines;
+#[cfg(test)]
+mod logs;
+#[cfg(test)]
+mod machines;
+#[cfg(test)]
+mod merits;
+#[cfg(test)]
 mod numbers;
+#[cfg(test)]
+mod organisms;
 #[cfg(test)]
 mod ports;
 #[cfg(test)]
 mod streams;
 #[cfg(test)]
 mod tasks;
+#[cfg(test)]
+mod templates;

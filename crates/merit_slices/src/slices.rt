@@ -57,25 +57,3 @@ fn quotient(steps: u64, part: u64, all: u64) -> u64
 {
     (u128::from(steps) * u128::from(part) / u128::from(all)) as u64
 }
-
-#[cfg(test)]
-mod tests {
-    use super::*;
-
-    #[test]
-    fn slices_are_differences_of_quotients(rt: HostRuntime) {
-        let mut three = [0; 3];
-        share(&[97, 97, 194], 30, &mut three);
-        assert_eq!(rt; three, [22, 23, 45]);
-        let mut one = [0; 1];
-        share(&[97], 30, &mut one);
-        assert_eq!(rt; one, [30]);
-        let mut two = [7; 2];
-        share(&[0, 97], 30, &mut two);
-        assert_eq!(rt; two, [0, 30]);
-        share(&[0, 0], 30, &mut two);
-        assert_eq!(rt; two, [0, 0]);
-        share(&[1 << 54, 1 << 53], 1000, &mut two);
-        assert_eq!(rt; two, [1333, 667]);
-    }
-}

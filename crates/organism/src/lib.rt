@@ -9,8 +9,6 @@ mod outcome;
 mod ran;
 mod running;
 mod settings;
-#[cfg(test)]
-mod tests;
 mod trace_rules;
 mod traced;
 

@@ -12,8 +12,6 @@ mod places;
 mod registers;
 mod reserved;
 mod stack;
-#[cfg(test)]
-mod tests;
 
 pub use cpu::Cpu;
 pub use cut::Cut;

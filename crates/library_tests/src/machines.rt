@@ -1,9 +1,10 @@
-use crate::{Cpu, Cut, Did};
+// Steps of a machine.
 use divide_rules::DivideAsk;
 use genome::{GREATEST_LENGTH, read_letters};
 use std::alloc::Global;
 use std::process::Abort;
 use std::test::Fail;
+use virtual_cpu::{Cpu, Cut, Did};
 
 /// The input that every IO takes.
 const INPUT: i32 = 0x0F0F0F0F;

@@ -1,8 +1,9 @@
-use crate::{Births, Organism, Ran, Remark, Settings, Traced};
+// Lives of an organism, and its traced steps.
 use divide_rules::{DivideRules, Rule};
 use genome::{GREATEST_LENGTH, Genome, read_letters};
 use logic_tasks::{Inputs, Task, Tasks};
 use mutations::{Base, Rates};
+use organism::{Births, Organism, Ran, Remark, Settings, Traced};
 use random_streams::{Draws, Purpose};
 use std::alloc::Global;
 use std::process::Abort;
