@@ -49,7 +49,7 @@ nops-end memory ip counter h other nops =
     rw (letters_from-next memory ip counter (10 - (counter + 1)) (omega arith), other) (append-nil nops)
 
 -- the complement of a nop is a nop
-is_nop-complement : (letter : Letter) → is_nop letter ≡ true → is_nop (unwrap_or (complement_of letter) letter) ≡ true
+pub is_nop-complement : (letter : Letter) → is_nop letter ≡ true → is_nop (unwrap_or (complement_of letter) letter) ≡ true
 is_nop-complement NopA nop = refl
 is_nop-complement NopB nop = refl
 is_nop-complement NopC nop = refl

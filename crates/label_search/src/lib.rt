@@ -5,4 +5,4 @@ mod search;
 mod template;
 
 pub use search::find;
-pub use template::{LONGEST_TEMPLATE, Template, template_after};
+pub use template::{LONGEST_TEMPLATE, Reading, Template, complement_after, template_after};

@@ -18,7 +18,7 @@ pub fn find(memory: &[Letter], what: &Template) -> Option<usize>
     ensures before_end { IfSome result (λ first. first + length what.now ≤ length memory.now) }
 {
     one_index();
-    least_match(memory, what.letters())
+    least_match(memory, what.letters().as_slice())
 }
 
 fn least_match(memory: &[Letter], what: &[Letter]) -> Option<usize>

@@ -6,4 +6,5 @@ pub mod OperandLemmas
 pub mod PackedLemmas
 pub mod QuestionLemmas
 pub mod StepLemmas
+pub mod TemplateLemmas
 pub mod WordLemmas

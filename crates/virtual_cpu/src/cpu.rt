@@ -4,6 +4,7 @@ ghost use Rattle.instruction_set.specs.declared.letter.Letter.{Letter};
 ghost use Rattle.instruction_set.specs.Letter.{same_letters};
 ghost use Rattle.genome.specs.Genome.{letters};
 ghost use Rattle.label_search.specs.Search.{first_match};
+ghost use Rattle.label_search.specs.Template.{complements_of};
 ghost use Rattle.virtual_cpu.specs.Registers.{value_of};
 ghost use Rattle.virtual_cpu.specs.Heads.{place_of};
 ghost use Rattle.virtual_cpu.specs.Stack.{pushed, popped, top_of};
@@ -25,7 +26,7 @@ use avida_port::Memory;
 use divide_rules::DivideAsk;
 use genome::Genome;
 use instruction_set::Letter;
-use label_search::Template;
+use label_search::{Reading, Template, complement_after};
 use std::alloc::Global;
 use std::marker::Model;
 
@@ -211,21 +212,21 @@ impl Cpu {
         picked
     }
 
-    /// Moves IP onto the last nop of the template after it, and marks the first.
+    /// Moves IP onto the last nop of the template after it, marks the first, and gives the complement.
+    #[inline(always)]
     #[tactic(auto, unfolding(crate::specs::Operands::template_of, crate::specs::Operands::on_template))]
-    pub(crate) fn read_template(&mut self) -> Template
-        ensures read { result ≡ template_of self.old }
+    pub(crate) fn read_complement(&mut self) -> Template
+        ensures read { result ≡ complements_of (template_of self.old) }
         ensures moved { self.new ≡ on_template self.old }
         ensures few { length result ≤ 10 }
     {
-        let template = label_search::template_after(self.memory.as_slice(), self.heads.ip);
-        let count = template.len();
-        if count > 0 {
-            self.advance();
-            self.mark_executed();
-            self.heads.ip = (self.heads.ip + (count - 1)) % self.memory.len();
+        let Reading { complement, last } = complement_after(self.memory.as_slice(), self.heads.ip);
+        if !complement.is_empty() {
+            let first = self.place_after_ip();
+            self.executed.mark(first);
+            self.heads.ip = last;
         }
-        template
+        complement
     }
 
     pub(crate) fn head(&self, head: Head) -> usize

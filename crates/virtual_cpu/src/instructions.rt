@@ -51,8 +51,8 @@ impl Cpu {
     fn if_label(&mut self) -> Did
         ensures { (self.new, result) ≡ going_on (after_if_label self.old) }
     {
-        let template = self.read_template();
-        if !self.nops_are(&template.complement()) {
+        let complement = self.read_complement();
+        if !self.nops_are(&complement) {
             self.advance();
         }
         self.go_on()
@@ -261,14 +261,14 @@ impl Cpu {
     fn h_search(&mut self) -> Did
         ensures { (self.new, result) ≡ going_on (after_h_search self.old) }
     {
-        let template = self.read_template();
-        let count = template.len();
+        let complement = self.read_complement();
+        let count = complement.len();
         if count == 0 {
             let next = self.place_after_ip();
             return self.end_search(next, 0, 0);
         }
         let length = self.memory_length();
-        match self.find(&template.complement()) {
+        match self.find(&complement) {
             Some(place) => {
                 let distance = (place + count - 1) as i32 - self.head(Head::Ip) as i32;
                 self.end_search((place + count) % length, distance, count)

@@ -1,0 +1,12 @@
+use Rattle.std.proofs.Common.{◌≡◌, ◌+◌, ◌-◌, ◌%◌, ◌++◌, length, map}
+use Rattle.std.specs.List.{take_while, range_with_len}
+use Rattle.label_search.specs.Template.{is_nop, letter_after, template_after, complements_of, IsTemplate}
+use Rattle.label_search.proofs.template.complement_after.Given as goal
+
+-- the complements so far, and those of the nops among the letters that are left
+abbrev pub invariant-loop : goal.invariant-loop
+invariant-loop l = record {
+  place : l.last ≡ (l.ip + l.counter) % length l.memory;
+  count : length l.complement ≡ l.counter;
+  nops : l.complement ++ complements_of (take_while is_nop (map (letter_after l.memory l.ip) (range_with_len (1 + l.counter) (10 - l.counter)))) ≡ complements_of (template_after l.memory l.ip);
+}
