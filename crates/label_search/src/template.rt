@@ -174,9 +174,7 @@ fn packed_after(packed: u32, letter: Letter) -> u32
 {
     let room = packed % (1 << 18) * 4;
     match letter {
-        Letter::NopA => room + 1,
-        Letter::NopB => room + 2,
-        Letter::NopC => room + 3,
+        Letter::NopA | Letter::NopB | Letter::NopC => room + letter as u32 + 1,
         _ => 0,
     }
 }

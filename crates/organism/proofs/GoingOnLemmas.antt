@@ -1,7 +1,11 @@
 -- A life that goes on by a step.
-use Rattle.std.proofs.Common.{◌≡◌, ℕ, ◌+◌, ◌*◌, ◌≤◌, length, arith, ap, sym, subst}
+use Rattle.std.proofs.Common.{◌&&◌, ◌∙◌, ◌-◌, ◌<◌, ◌^◌, Bool, true, false, cond, refl, ◌≡◌, ℕ, ◌+◌, ◌*◌, ◌≤◌, length, arith, ap, sym, subst}
 use Rattle.organism.specs.Newborns.{MeritsFit, LengthsFit}
 use Rattle.organism.specs.GoingOn.{LifeNow, GoesOn}
+use Rattle.std.specs.Prelude.{◌==◌}
+use Rattle.std.proofs.lemmas.Grind.{common_steps}
+use Rattle.organism.specs.OrganismState.{OrganismState}
+use Rattle.organism.specs.UpdateLife.{is_old, age_of_death}
 use Rattle.organism.specs.SettingNumbers.{SettingNumbers}
 
 -- one step more
@@ -10,18 +14,30 @@ goes_on-more settings steps start now next so_far more = record {
   age = omega (arith, so_far.age, more.age);
   births = omega (arith, so_far.births, more.births);
   taken = omega (arith, so_far.taken, more.taken);
+  genome = more.genome ∙ so_far.genome;
   merit = λ h. more.merit (so_far.merit h);
   merits = λ h. more.merits (so_far.merits h);
   lengths = λ h. more.lengths (so_far.lengths h);
 }
 
 -- a step of an organism, and what follows from it
-pub goes_on-after : (settings : SettingNumbers) (old next new : LifeNow) → next.organism.age ≡ old.organism.age + 1 → next.organism.merit ≡ old.organism.merit → next.draws.taken ≤ old.draws.taken + 2 → next.births ≡ old.births → GoesOn settings 0 1 65534 next new → GoesOn settings 1 1 65536 old new
-goes_on-after settings old next new age merit words births goes = record {
+pub goes_on-after : (settings : SettingNumbers) (old next new : LifeNow) → next.organism.age ≡ old.organism.age + 1 → next.organism.merit ≡ old.organism.merit → next.organism.genome ≡ old.organism.genome → next.draws.taken ≤ old.draws.taken + 2 → next.births ≡ old.births → GoesOn settings 0 1 65534 next new → GoesOn settings 1 1 65536 old new
+goes_on-after settings old next new age merit genome words births goes = record {
   age = omega (arith, goes.age, age);
   births = omega (arith, goes.births, ap length births);
   taken = omega (arith, goes.taken, words);
+  genome = goes.genome ∙ genome;
   merit = λ h. goes.merit (omega (arith, merit, h));
   merits = λ h. goes.merits (subst MeritsFit (sym births) h);
   lengths = λ h. goes.lengths (subst (LengthsFit settings.rules.greatest) (sym births) h);
 }
+
+-- an organism is old just where it has the age of death that it had at the start
+pub old-at : (settings : SettingNumbers) (start now : OrganismState) → now.genome ≡ start.genome → now.age < 2 ^ 64 - 1 → (now.age == age_of_death settings start) ≡ is_old settings now
+old-at settings start now genome young = go settings.death where
+  never : (now.age == 2 ^ 64 - 1) ≡ false
+  never = grind (arith, common_steps)
+
+  go : (death : Bool) → (now.age == cond death (settings.age_limit * length start.genome) (2 ^ 64 - 1)) ≡ (death && (now.age == settings.age_limit * length now.genome))
+  go true = rw genome refl
+  go false = never

@@ -1,5 +1,5 @@
 -- What a life may add within some steps, so that no number leaves its range (docs/WORLD.md, "The life of one update").
-use Rattle.std.specs.Prelude.{ℕ, ◌+◌, ◌≤◌, ◌^◌, List, length}
+use Rattle.std.specs.Prelude.{◌≡◌, ℕ, ◌+◌, ◌≤◌, ◌^◌, List, length}
 use Rattle.random_streams.specs.RandomStream.{Stream}
 use Rattle.organism.specs.declared.newborn.Newborn.{Newborn}
 use Rattle.organism.specs.Newborns.{MeritsFit, LengthsFit}
@@ -16,13 +16,14 @@ pub record LifeNow : Type 0 where
 abbrev pub life_now : OrganismState → List Newborn → Stream → LifeNow
 life_now o births draws = record { organism = o; births = births; draws = draws }
 
--- at most so many steps more of age, so many newborns more and so many words more; merits and
--- lengths stay within their bounds
+-- at most so many steps more of age, so many newborns more and so many words more; the genome stays,
+-- and merits and lengths stay within their bounds
 pub record GoesOn (settings : SettingNumbers) (steps children words : ℕ)
     (old new : LifeNow) : Type 0 where
   pub age : new.organism.age ≤ old.organism.age + steps
   pub births : length new.births ≤ length old.births + children
   pub taken : new.draws.taken ≤ old.draws.taken + words
+  pub genome : new.organism.genome ≡ old.organism.genome
   pub merit : old.organism.merit ≤ 2 ^ 38 → new.organism.merit ≤ 2 ^ 38
   pub merits : MeritsFit old.births → MeritsFit new.births
   pub lengths : LengthsFit settings.rules.greatest old.births

@@ -1,5 +1,5 @@
 -- The life of one update (docs/WORLD.md, "The life of one update").
-use Rattle.std.specs.Prelude.{ℕ, zero, suc, ◌+◌, ◌*◌, Bool, true, false, ◌&&◌, ◌==◌, List, [], ◌∷◌, ◌++◌, Option, None, Some, Result, Ok, Err, length, map, find, if◌then◌else◌}
+use Rattle.std.specs.Prelude.{◌^◌, ◌-◌, ℕ, zero, suc, ◌+◌, ◌*◌, Bool, true, false, ◌&&◌, ◌==◌, List, [], ◌∷◌, ◌++◌, Option, None, Some, Result, Ok, Err, length, map, find, if◌then◌else◌}
 use Rattle.std.specs.List.{range_with_len}
 use Rattle.instruction_set.specs.declared.letter.Letter.{Letter}
 use Rattle.instruction_set.specs.declared.letter.Letter.TheVariants.{HCopy}
@@ -127,6 +127,11 @@ state_after settings words start (suc steps) =
 -- whether death is on and the age is at its limit
 abbrev pub is_old : SettingNumbers → OrganismState → Bool
 is_old settings o = settings.death && (o.age == settings.age_limit * length o.genome)
+
+-- the age at which it dies, or one that no organism reaches
+abbrev pub age_of_death : SettingNumbers → OrganismState → ℕ
+age_of_death settings o =
+    if settings.death then settings.age_limit * length o.genome else 2 ^ 64 - 1
 
 -- whether it is so after the step with this number from 0
 abbrev pub dies_at : SettingNumbers → (ℕ → ℕ) → LifeState → ℕ → Bool

@@ -196,6 +196,7 @@ impl Organism {
         ensures child { OnViable result (IsChildOf (rule_numbers rules.now)) }
         ensures age { self.new.age ≡ self.old.age + 1 }
         ensures merit { self.new.merit ≡ self.old.merit }
+        ensures genome { self.new.genome ≡ self.old.genome }
     {
         only_io_takes_an_input();
         match letter {
@@ -223,6 +224,7 @@ impl Organism {
         ensures child { OnViable result (IsChildOf (rule_numbers rules.now)) }
         ensures age { self.new.age ≡ self.old.age }
         ensures merit { self.new.merit ≡ self.old.merit }
+        ensures genome { self.new.genome ≡ self.old.genome }
     {
         match did {
             Did::Plain => Outcome::Nothing,
@@ -242,6 +244,7 @@ impl Organism {
         ensures child { (rules : RuleNumbers) → OnViable result (IsChildOf rules) }
         ensures age { self.new.age ≡ self.old.age }
         ensures merit { self.new.merit ≡ self.old.merit }
+        ensures genome { self.new.genome ≡ self.old.genome }
     {
         let task = self.newly_done(value);
         self.read += 1;

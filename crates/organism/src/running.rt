@@ -1,5 +1,5 @@
 // The life of one update.
-ghost use Rattle.std.specs.Prelude.{◌≡◌, ◌+◌, ◌*◌, ◌<◌, ◌≤◌, ◌^◌, [], IfOk, OnOk, length};
+ghost use Rattle.std.specs.Prelude.{◌==◌, ◌≡◌, ◌+◌, ◌*◌, ◌<◌, ◌≤◌, ◌^◌, [], IfOk, OnOk, length};
 ghost use Rattle.divide_rules.specs.Rules.{rule_numbers};
 ghost use Rattle.genome.specs.Genome.{letters};
 ghost use Rattle.mutations.specs.BirthRecord.{record_of};
@@ -7,7 +7,7 @@ ghost use Rattle.random_streams.specs.RandomStream.{word_of};
 ghost use Rattle.organism.specs.Life.{IsDivide, IsChildOf, OnViable};
 ghost use Rattle.organism.specs.GoingOn.{GoesOn, life_now};
 ghost use Rattle.organism.specs.SettingNumbers.{setting_numbers};
-ghost use Rattle.organism.specs.UpdateLife.{life_state, copy_of, after_copy_of, birth_record, child_letters, after_child, after_outcome, after_step, is_old, life};
+ghost use Rattle.organism.specs.UpdateLife.{life_state, copy_of, after_copy_of, birth_record, child_letters, after_child, after_outcome, after_step, age_of_death, life};
 
 use crate::outcome::Outcome;
 use crate::{Births, Newborn, Organism, Ran, Settings};
@@ -42,19 +42,32 @@ impl Organism {
             (life_now self.old births.old draws.old)
             (life_now self.new births.new draws.new)) }
     {
+        let death = self.age_of_death(settings);
         for step in 0..slices {
             self.live(alloc, settings, draws, births)?;
-            if self.is_old(settings) {
+            if self.has_age(death) {
                 return Ok(Ran::Died { after: step + 1 });
             }
         }
         Ok(Ran::Lives)
     }
 
-    fn is_old(&self, settings: &Settings) -> bool
-        ensures { result ≡ is_old (setting_numbers settings.now) self.now }
+    /// The age of death, which no step changes. Where no age kills it is one that no organism reaches.
+    fn age_of_death(&self, settings: &Settings) -> u64
+        ensures { result ≡ age_of_death (setting_numbers settings.now) self.now }
     {
-        settings.death && self.age == u64::from(settings.age_limit) * u64::from(self.genome.len())
+        if settings.death {
+            u64::from(settings.age_limit) * u64::from(self.genome.len())
+        } else {
+            u64::MAX
+        }
+    }
+
+    #[inline(always)]
+    fn has_age(&self, age: u64) -> bool
+        ensures { result ≡ (self.now.age == age) }
+    {
+        self.age == age
     }
 
     /// One step, with its copy error and, where it divides, a newborn.

@@ -3,7 +3,7 @@ use Rattle.random_streams.specs.RandomStream.{Stream, word_of}
 use Rattle.organism.specs.declared.ran.Ran.TheVariants.{Died}
 use Rattle.organism.specs.SettingNumbers.{setting_numbers}
 use Rattle.organism.specs.UpdateLife.{LifeState, life_state, state_after, dies_at}
-use Rattle.organism.proofs.GoingOnLemmas.{goes_on-more}
+use Rattle.organism.proofs.GoingOnLemmas.{goes_on-more, old-at}
 use Rattle.organism.proofs.UpdateLifeLemmas.{state_after-zero, state-next, dies-now, search-all, search-next, search-here, life-dies}
 use Rattle.organism.proofs.organism.Organism.run.Goals as goal
 
@@ -15,17 +15,19 @@ loop-step-init c =
       state = sym (state_after-zero (setting_numbers c.args.settings.now) words start);
       search = search-all (setting_numbers c.args.settings.now) words start c.args.slices;
       stream = refl;
-      bounds = record { age = omega arith; births = omega arith; taken = omega arith; merit = λ h. h; merits = λ h. h; lengths = λ h. h };
+      bounds = record { age = omega arith; births = omega arith; taken = omega arith; genome = refl; merit = λ h. h; merits = λ h. h; lengths = λ h. h };
     }
 
 -- the state after the step, by the words of the stream at its start
-pub returns-then-is_old-clause-life : goal.returns-then-is_old-clause-life
-returns-then-is_old-clause-life c =
+pub returns-then-has_age-clause-life : goal.returns-then-has_age-clause-life
+returns-then-has_age-clause-life c =
     let settings = setting_numbers c.args.settings.now in
     let words = word_of c.args.draws.now in
     let start = life_state c.args.self.now c.args.births.now c.args.draws.now in
     let here : life_state c.live.new.self c.live.new.births c.live.new.draws ≡ state_after settings words start (c.loop-step.step + 1) = state-next settings words (word_of c.loop-step.draws) start _ _ c.loop-step.step c.loop-step.invariant.state (ap word_of c.loop-step.invariant.stream) c.in_ok-live.ensures.state in
-    let dies : dies_at settings words start c.loop-step.step ≡ true = dies-now settings words start _ c.loop-step.step true here (sym c.if-is_old.true ∙ c.is_old.ensures) in
+    let bounds = goes_on-more settings c.loop-step.step _ _ _ c.loop-step.invariant.bounds c.in_ok-live.ensures.bounds in
+    let old = rw (← c.age_of_death-death.ensures) at (old-at settings c.args.self.now c.live.new.self bounds.genome (omega (arith, bounds.age, c.requires.age, c.requires.slices))) in
+    let dies : dies_at settings words start c.loop-step.step ≡ true = dies-now settings words start _ c.loop-step.step true here (sym c.if-has_age.true ∙ c.has_age.ensures ∙ old) in
     let first = search-here (dies_at settings words start) c.loop-step.step c.args.slices _ c.loop-step-test.true c.loop-step.invariant.search dies in
     ap (λ (s : LifeState). (s, Died (c.loop-step.step + 1))) here ∙ sym (life-dies settings words start c.args.slices c.loop-step.step first)
 
@@ -35,7 +37,9 @@ loop-step-preserved c =
     let words = word_of c.args.draws.now in
     let start = life_state c.args.self.now c.args.births.now c.args.draws.now in
     let here : life_state c.live.new.self c.live.new.births c.live.new.draws ≡ state_after settings words start (c.loop-step.step + 1) = state-next settings words (word_of c.loop-step.draws) start _ _ c.loop-step.step c.loop-step.invariant.state (ap word_of c.loop-step.invariant.stream) c.in_ok-live.ensures.state in
-    let lives : dies_at settings words start c.loop-step.step ≡ false = dies-now settings words start _ c.loop-step.step false here (sym c.if-is_old.false ∙ c.is_old.ensures) in
+    let bounds = goes_on-more settings c.loop-step.step _ _ _ c.loop-step.invariant.bounds c.in_ok-live.ensures.bounds in
+    let old = rw (← c.age_of_death-death.ensures) at (old-at settings c.args.self.now c.live.new.self bounds.genome (omega (arith, bounds.age, c.requires.age, c.requires.slices))) in
+    let lives : dies_at settings words start c.loop-step.step ≡ false = dies-now settings words start _ c.loop-step.step false here (sym c.if-has_age.false ∙ c.has_age.ensures ∙ old) in
     record {
       state = here;
       search = search-next (dies_at settings words start) c.loop-step.step c.args.slices _ c.loop-step-test.true c.loop-step.invariant.search lives;
