@@ -2,15 +2,16 @@
 ghost use Rattle.std.specs.Prelude.{◌≡◌, ◌≢◌, ◌≤◌, ◌<◌, ◌*◌, ℕ, List, [], length, Some, IfOk, IfErr, OnOk, Ok, Err};
 ghost use Rattle.avida_port.specs.Ports.{IsAllOf};
 ghost use Rattle.genome.specs.Genome.{letters};
+ghost use Rattle.lineage_log.specs.Replay.{replay_of};
 ghost use Rattle.world_config.specs.Shown.{values_of};
 ghost use Rattle.avida_program.specs.Changes.{change};
-ghost use Rattle.avida_program.specs.Input.{configuration_of, genome_of, genome_spelled, lineage_input_of, log_input_of};
+ghost use Rattle.avida_program.specs.Input.{IsInputWith, configuration_of, genome_of, genome_spelled, lineage_input_of, log_input_of};
 ghost use Rattle.avida_program.specs.Outcomes.{RefusesInput, StopsReading};
 
 use crate::{Outcome, Refusal, Spelling};
 use avida_port::{LONGEST_INPUT, ReadStop, Source, read_all};
 use genome::{Genome, GenomeStop, read_letters, read_names};
-use lineage_log::{Log, LogStop, read_log};
+use lineage_log::{Livings, Log, LogStop, living_at_end, read_log};
 use std::alloc::Global;
 use world_config::{Config, ConfigStop};
 
@@ -99,6 +100,20 @@ pub fn read_lines(alloc: Global, bytes: Vec<u8>) -> Result<Log, Outcome>
 {
     match read_log(alloc, bytes.as_slice()) {
         Ok(log) => Ok(log),
+        Err(LogStop::Memory) => Err(Outcome::NoMemory),
+        Err(stop) => Err(Outcome::BadInput(Refusal::Log(stop))),
+    }
+}
+
+/// Replays the log in the bytes and drops them. No line of it is kept.
+pub fn read_livings(alloc: Global, bytes: Vec<u8>) -> Result<Livings, Outcome>
+    requires { length bytes.items ≤ 536870912 }
+    ensures ok { IfOk result (λ livings.
+        IsInputWith (log_input_of bytes.items) (λ lines. livings ≡ replay_of lines)) }
+    ensures refused { IfErr result (RefusesInput (log_input_of bytes.items)) }
+{
+    match living_at_end(alloc, bytes.as_slice()) {
+        Ok(livings) => Ok(livings),
         Err(LogStop::Memory) => Err(Outcome::NoMemory),
         Err(stop) => Err(Outcome::BadInput(Refusal::Log(stop))),
     }

@@ -1,7 +1,9 @@
 // The command `replay`.
-ghost use Rattle.std.specs.Prelude.{◌≡◌, ◌+◌, ◌++◌, ◌≤◌, Option, flat_map, codes, decimal};
+ghost use Rattle.std.specs.Prelude.{◌≡◌, ◌+◌, ◌++◌, ◌≤◌, List, Option, flat_map, codes, decimal};
 ghost use Rattle.arrayvec.specs.ArrayVec.{array_vec_len};
 ghost use Rattle.avida_port.specs.Ports.{SinkState};
+ghost use Rattle.lineage_log.specs.Replay.{replay_of};
+ghost use Rattle.log_lines.specs.Line.{Line};
 ghost use Rattle.world_core.specs.WorldValue.{WorldValue};
 ghost use Rattle.avida_program.specs.declared.command.Command.TheVariants.{Replay};
 ghost use Rattle.avida_program.specs.Changes.{change, unchanged};
@@ -12,11 +14,11 @@ ghost use Rattle.avida_program.specs.Work.{CarriesOut};
 
 use crate::Outcome;
 use crate::fixed_text::push_natural;
-use crate::input::{read_bytes, read_lines};
+use crate::input::{read_bytes, read_livings};
 use crate::outcome::ended;
 use crate::piece::{PIECE_SIZE, Piece, make_room, write_byte, write_letters};
-use avida_port::{LONGEST_INPUT, Memory, Sink, SinkStop, Source};
-use lineage_log::{Living, Log};
+use avida_port::{LONGEST_INPUT, Sink, SinkStop, Source};
+use lineage_log::{Living, Livings};
 use std::alloc::Global;
 
 /// No line is longer before its letters.
@@ -56,16 +58,11 @@ fn write_livings<O: Sink>(livings: &[Living], out: &mut O) -> Outcome
     ended(out.put(piece.as_slice()))
 }
 
-fn write_replayed<O: Sink>(alloc: Global, log: &Log, out: &mut O) -> Outcome
-    ensures { WritesText (replay_text log.now) (change (O.seen out.old) (O.seen out.new)) result }
+fn write_replayed<O: Sink>(livings: Livings, out: &mut O) -> Outcome
+    ensures { (lines : List Line) → livings ≡ replay_of lines
+        → WritesText (replay_text lines) (change (O.seen out.old) (O.seen out.new)) result }
 {
-    match lineage_log::replay(alloc, log) {
-        Ok(livings) => {
-            let livings = livings.into_vec();
-            write_livings(&livings, out)
-        }
-        Err(Memory) => Outcome::NoMemory,
-    }
+    write_livings(livings.as_slice(), out)
 }
 
 /// Reads a log, and writes a line for each organism that lives at its end.
@@ -81,8 +78,8 @@ pub fn replay<S: Source, O: Sink>(alloc: Global, source: &mut S, out: &mut O) ->
         Ok(bytes) => bytes,
         Err(outcome) => return outcome,
     };
-    match read_lines(alloc, bytes) {
-        Ok(log) => write_replayed(alloc, &log, out),
+    match read_livings(alloc, bytes) {
+        Ok(livings) => write_replayed(livings, out),
         Err(outcome) => outcome,
     }
 }
