@@ -11,12 +11,15 @@ mod events;
 mod founding;
 mod lives;
 mod occupant;
+mod picture;
 mod scene;
 mod settings;
 mod telling;
 mod updating;
 mod world;
 
+pub use census::Dominant;
 pub use log_lines::Stats;
+pub use picture::{WorldPicture, picture_line};
 pub use world::World;
 pub use world_laws::laws;

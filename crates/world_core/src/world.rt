@@ -12,6 +12,7 @@ ghost use Rattle.world_core.specs.WorldValue.{WorldValue, world_in, genome_in};
 use crate::counting::count;
 use crate::descent::descent_in;
 use crate::founding::first_scene;
+use crate::picture::WorldPicture;
 use crate::scene::Scene;
 use crate::updating::next_scene;
 use avida_port::{Gate, Memory};
@@ -20,13 +21,14 @@ use lineage_log::Path;
 use log_lines::{LAST_VERSION, LogLine, Stats, write_line};
 use std::alloc::Global;
 use std::marker::Model;
+use std::sync::Arc;
 use world_config::Config;
 use world_rules::laws::ids_are_places;
 
 /// The world of a configuration after so many updates. Only `found` and `advance` make one.
 #[derive(Drop)]
 pub struct World {
-    config: Config,
+    config: Arc<Config, Global>,
     scene: Scene,
     stats: Stats,
 }
@@ -37,9 +39,9 @@ impl Model for World {
 
     ghost Value = { WorldValue };
 
-    ghost view = { λ w. record { config = values_of w.config; update = w.scene.update } };
+    ghost view = { λ w. record { config = values_of w.config.value; update = w.scene.update } };
 
-    ghost invariant = { λ w. IsWorldOf (values_of w.config) w.scene w.stats };
+    ghost invariant = { λ w. IsWorldOf (values_of w.config.value) w.scene w.stats };
 }
 
 impl World {
@@ -51,6 +53,7 @@ impl World {
     {
         let _ = workers;
         let scene = first_scene(alloc, &config)?;
+        let config = Arc::new(alloc, config)?;
         let stats = count(alloc, &scene, 0)?;
         Ok(World {
             config,
@@ -126,6 +129,16 @@ impl World {
         ensures { result ≡ stats_of self.now.config self.now.update }
     {
         self.stats
+    }
+
+    /// What this world shows.
+    pub fn picture(&self, alloc: Global) -> Result<Arc<WorldPicture, Global>, Memory>
+        ensures config { IfOk result
+            (λ picture. values_of picture.value.config.value ≡ self.now.config) }
+        ensures update { IfOk result (λ picture. picture.value.update ≡ self.now.update) }
+    {
+        let _ = alloc;
+        Err(Memory)
     }
 
     /// The genome of who stands in the cell; None exactly where it is empty.

@@ -1,9 +1,10 @@
 -- The picture of a world, and its line (docs/WORLD.md, "Statistics"; docs/FORMATS.md, "The log").
 use Rattle.std.specs.Prelude.{ℕ, List, [], ◌∷◌, ◌++◌, Option, None, Some, codes, decimal}
+use Rattle.census.specs.Counts.{GenotypeCount}
 use Rattle.genome.specs.GenomeText.{letters_text_of}
 use Rattle.log_lines.specs.LineText.{words_text}
 use Rattle.world_config.specs.Values.{ConfigValues}
-use Rattle.world_rules.specs.Statistics.{DominantValue, stats_of, dominant_of}
+use Rattle.world_rules.specs.Statistics.{stats_of, dominant_of}
 use Rattle.world_rules.specs.WorldRun.{world_after}
 
 -- the update, the living, their genotypes, the sum of their merits, and the dominant genome with its count
@@ -12,7 +13,7 @@ pub record PictureValue : Type 0 where
   pub living : ℕ
   pub genotypes : ℕ
   pub merit : ℕ
-  pub dominant : Option DominantValue
+  pub dominant : Option GenotypeCount
 
 -- the picture of the world after so many updates
 unfoldable pub picture_of : ConfigValues → ℕ → PictureValue
@@ -25,7 +26,7 @@ picture_of config update = record {
 }
 
 -- the count and the letters of a dominant genome; in an empty world 0 and a dash
-abbrev pub dominant_words : Option DominantValue → List (List ℕ)
+abbrev pub dominant_words : Option GenotypeCount → List (List ℕ)
 dominant_words None = decimal 0 ∷ codes "-" ∷ []
 dominant_words (Some d) = decimal d.count ∷ letters_text_of d.genome ∷ []
 

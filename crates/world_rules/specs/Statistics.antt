@@ -1,10 +1,10 @@
 -- What is counted after an update, anew from the cells (docs/WORLD.md, "Statistics").
-use Rattle.std.specs.Prelude.{ℕ, zero, suc, Bool, not, ◌==◌, ◌&&◌, ◌||◌, nat_lt, List, [], ◌∷◌, length, map, filter, find, Option, option_map}
-use Rattle.std.specs.List.{filter_map, list_all, count_by, sum_by}
-use Rattle.std.specs.Ordering.{nat_cmp, is_lt}
-use Rattle.std.specs.Cmp.Lexicographic.{slice_cmp}
+use Rattle.std.specs.Prelude.{ℕ, zero, suc, not, List, [], ◌∷◌, length, map, filter, Option, option_map}
+use Rattle.std.specs.List.{filter_map, count_by, sum_by}
 use Rattle.instruction_set.specs.declared.letter.Letter.{Letter}
-use Rattle.instruction_set.specs.Letter.{index_of, same_letters}
+use Rattle.instruction_set.specs.Letter.{same_letters}
+use Rattle.census.specs.Counts.{GenotypeCount}
+use Rattle.census.specs.Dominance.{dominant_among}
 use Rattle.logic_tasks.specs.declared.task.Task.{Task}
 use Rattle.logic_tasks.specs.LogicTasks.{all_tasks}
 use Rattle.logic_tasks.specs.TaskSet.{has_task}
@@ -68,31 +68,13 @@ unfoldable pub stats_of : ConfigValues → ℕ → Stats
 stats_of config zero = stats_in 0 (world_after config 0).cells 0 0
 stats_of config (suc n) = next_stats config (world_after config n)
 
--- how many living organisms have a genome, and the genome
-pub record DominantValue : Type 0 where
-  pub count : ℕ
-  pub genome : List Letter
+-- a genome, and how many of these are the same
+abbrev pub counted_in : List (List Letter) → List Letter → GenotypeCount
+counted_in genomes genome = record { genome = genome; count = count_of genomes genome }
 
--- a genome comes before another in the order of their letters
-abbrev pub is_before : List Letter → List Letter → Bool
-is_before genome other = is_lt (slice_cmp nat_cmp (map index_of genome) (map index_of other))
-
--- more of these genomes are the first than the second, or as many and the second is not before the first
-abbrev pub is_no_less : List (List Letter) → List Letter → List Letter → Bool
-is_no_less genomes genome other =
-    nat_lt (count_of genomes other) (count_of genomes genome)
-    || ((count_of genomes other == count_of genomes genome) && not (is_before other genome))
-
--- the genome that most of these are, and of equals the least in order of letters
-abbrev pub most_frequent : List (List Letter) → Option (List Letter)
-most_frequent genomes = find (λ genome. list_all (is_no_less genomes genome) genomes) genomes
-
--- a genome with its count among these
-abbrev pub counted_in : List (List Letter) → List Letter → DominantValue
-counted_in genomes genome = record { count = count_of genomes genome; genome = genome }
-
--- the dominant genome of some cells, with its count
-unfoldable pub dominant_of : List (Option Occupant) → Option DominantValue
+-- the genome that most of the living in some cells have, and of equally frequent ones the least in the order of letters,
+-- with its count
+unfoldable pub dominant_of : List (Option Occupant) → Option GenotypeCount
 dominant_of cells =
     let genomes = genomes_in cells in
-    option_map (counted_in genomes) (most_frequent genomes)
+    dominant_among (map (counted_in genomes) genomes)

@@ -48,7 +48,7 @@ pub fn a_run_of_no_updates_has_two_lines()
     ensures { log_text (tiny []) 0 ≡ codes "L 2 1 1 0 aaaaaaaa\nE 0\n" }
 {}
 
-#[tactic(auto, unfolding(crate::specs::Picture::picture_of, crate::specs::Picture::picture_text, crate::specs::Statistics::stats_of, crate::specs::Statistics::stats_in, crate::specs::Statistics::dominant_of, crate::specs::WorldRun::world_after, crate::specs::World::first_world, crate::specs::World::founder_of, organism::specs::OrganismState::new_organism))]
+#[tactic(auto, unfolding(crate::specs::Picture::picture_of, crate::specs::Picture::picture_text, crate::specs::Statistics::stats_of, crate::specs::Statistics::stats_in, crate::specs::Statistics::dominant_of, census::specs::Dominance::dominant_among, crate::specs::WorldRun::world_after, crate::specs::World::first_world, crate::specs::World::founder_of, organism::specs::OrganismState::new_organism))]
 pub fn the_first_picture_shows_the_founder()
     ensures { picture_text (picture_of (tiny []) 0) ≡ codes "W 0 1 1 8 1 aaaaaaaa\n" }
 {}

@@ -1,0 +1,96 @@
+// The picture of a world, for who watches a run.
+ghost use Rattle.std.specs.Prelude.{◌≡◌, ◌++◌, ◌∷◌, [], OnErr, OnOk, option_map};
+ghost use Rattle.census.specs.Dominance.{dominant_value};
+ghost use Rattle.log_lines.specs.Kept.{Keeps};
+ghost use Rattle.log_lines.specs.LineText.{words_text};
+ghost use Rattle.world_config.specs.Shown.{values_of};
+ghost use Rattle.world_rules.specs.Picture.{dominant_words, picture_of, picture_text};
+
+use avida_port::Memory;
+use census::Dominant;
+use genome::letters_text;
+use log_lines::write_number;
+use std::alloc::Global;
+use std::sync::Arc;
+use world_config::Config;
+
+/// What a world shows after an update. Only `World::picture` makes one, and its type keeps that it
+/// shows that world.
+#[derive(Drop)]
+pub struct WorldPicture {
+    pub config: Arc<Config, Global>,
+    pub update: u32,
+    pub living: u64,
+    pub genotypes: u64,
+    pub merit: u64,
+    /// None exactly in an empty world.
+    pub dominant: Option<Dominant>,
+    pub ghost shown: { picture_of (values_of config.value) update ≡ record {
+      update = update;
+      living = living;
+      genotypes = genotypes;
+      merit = merit;
+      dominant = option_map dominant_value dominant;
+    } },
+}
+
+/// Appends the line of a picture, with its newline. When memory runs out `out` stays as it was.
+pub fn picture_line(picture: &WorldPicture, out: &mut Vec<u8>) -> Result<(), Memory>
+    ensures ok { OnOk result (out.new.items ≡ out.old.items
+        ++ picture_text (picture_of (values_of picture.now.config.value) picture.now.update)) }
+    ensures err { OnErr result (out.new.items ≡ out.old.items) }
+{
+    let before = out.len();
+    match write_picture(picture, out) {
+        Ok(()) => Ok(()),
+        Err(_) => {
+            out.truncate(before);
+            Err(Memory)
+        }
+    }
+}
+
+/// The same; when memory runs out `out` begins with what it held before.
+#[tactic(auto, unfolding(world_rules::specs::Picture::picture_text), using(log_lines::proofs::KeptLemmas::keeps_front))]
+fn write_picture(picture: &WorldPicture, out: &mut Vec<u8>) -> Result<(), Memory>
+    ensures ok { OnOk result (out.new.items ≡ out.old.items
+        ++ picture_text (picture_of (values_of picture.now.config.value) picture.now.update)) }
+    ensures err { OnErr result (Keeps out.old.items out.new.items) }
+{
+    byte(b'W', out)?;
+    write_number(b' ', u64::from(picture.update), out)?;
+    write_number(b' ', picture.living, out)?;
+    write_number(b' ', picture.genotypes, out)?;
+    write_number(b' ', picture.merit, out)?;
+    write_dominant(&picture.dominant, out)?;
+    byte(b'\n', out)
+}
+
+#[tactic(auto, using(log_lines::proofs::KeptLemmas::keeps_front))]
+/// The count and the letters of the dominant genome; in an empty world 0 and a dash.
+fn write_dominant(dominant: &Option<Dominant>, out: &mut Vec<u8>) -> Result<(), Memory>
+    ensures ok { OnOk result (out.new.items ≡ out.old.items
+        ++ words_text (dominant_words (option_map dominant_value dominant.now))) }
+    ensures err { OnErr result (Keeps out.old.items out.new.items) }
+{
+    match dominant {
+        Some(dominant) => {
+            write_number(b' ', dominant.count, out)?;
+            byte(b' ', out)?;
+            letters_text(&dominant.genome, out)
+        }
+        None => {
+            write_number(b' ', 0, out)?;
+            byte(b' ', out)?;
+            byte(b'-', out)
+        }
+    }
+}
+
+/// A byte.
+fn byte(value: u8, out: &mut Vec<u8>) -> Result<(), Memory>
+    ensures ok { OnOk result (out.new.items ≡ out.old.items ++ value ∷ []) }
+    ensures err { OnErr result (out.new.items ≡ out.old.items) }
+{
+    out.push(value).map_err(|_| Memory)
+}
