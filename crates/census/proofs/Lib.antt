@@ -1,4 +1,5 @@
 pub mod DominanceLemmas
 pub mod GenotypeLemmas
 pub mod LetterLemmas
+pub mod MemberLemmas
 pub mod TaskLemmas

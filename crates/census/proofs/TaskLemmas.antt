@@ -1,13 +1,17 @@
 -- The counts of the tasks, changed one after another.
-use Rattle.std.proofs.Common.{◌≡◌, ◌∙◌, sym, refl, ap, ℕ, zero, suc, ◌+◌, ◌<◌, ◌≤◌, ◌≢◌, Bool, true, false, List, length, map, set, get_or, get_or-set_same, get_or-set_other, below_more, arith}
+use Rattle.std.proofs.Common.{◌≡◌, ◌∙◌, sym, refl, ap, ℕ, zero, suc, ◌+◌, ◌-◌, ◌<◌, ◌≤◌, ◌≢◌, inl, inr, Bool, true, false, List, length, map, set, get_or, get_or-set_same, get_or-set_other, below_more, arith}
 use Rattle.std.specs.Prelude.{slice_index}
 use Rattle.std.specs.Int.{from_bool}
+use Rattle.std.specs.List.{All}
+use Rattle.std.proofs.Math.ListN.{get_or-eq_default}
+use Rattle.std.proofs.lemmas.Bool.{cases_lt}
+use Rattle.std.proofs.lemmas.List.Elements.{All-map}
 use Rattle.std.proofs.lemmas.List.{length-set, ext_get_or, get_or-map}
 use Rattle.logic_tasks.specs.declared.task.Task.{Task}
 use Rattle.logic_tasks.specs.declared.task.Task.TheVariants.{Not}
 use Rattle.logic_tasks.specs.LogicTasks.{all_tasks, place_of}
 use Rattle.logic_tasks.specs.TaskSet.{has_task}
-use Rattle.census.specs.Changes.{AreCounted}
+use Rattle.census.specs.Changes.{AreCounted, tasks_without}
 
 -- the place of a task of the table
 place_of-nth : (k : ℕ) → k < 9 → place_of (get_or all_tasks k Not) ≡ k
@@ -64,3 +68,14 @@ le-counted change before credited after i by within counted has is =
     one_le : (b : Bool) (count : ℕ) → (b ≡ true → 0 < count) → from_bool b ≤ count
     one_le true count some = omega (arith, some refl)
     one_le false count some = omega arith
+
+-- counts that are small stay so where each is one fewer or as it was
+pub fewer-small : (counts : List ℕ) (credited : List Bool) (most : ℕ) → 0 < most → All (λ count. count < most) counts → All (λ count. count < most) (tasks_without counts credited)
+fewer-small counts credited most some small =
+    All-map (λ count. count < most) (changed (λ n by. n - by) counts credited) all_tasks (λ k task within. omega (arith, read (place_of (get_or all_tasks k task))))
+  where
+    read : (place : ℕ) → get_or counts place 0 < most
+    read place = elim (cases_lt place (length counts)) [
+      | inl within ↦ small place 0 within
+      | inr past ↦ omega (arith, some, get_or-eq_default counts 0 past)
+    ]

@@ -1,5 +1,5 @@
 -- How the counts change by one organism (docs/WORLD.md, "Statistics").
-use Rattle.std.specs.Prelude.{◌≡◌, ◌+◌, ◌-◌, ◌<◌, ◌≤◌, ◌^◌, ℕ, Bool, true, List, [], Some, IsSome, All, map, nat_lt, slice_index, if◌then◌else◌}
+use Rattle.std.specs.Prelude.{◌≡◌, ◌+◌, ◌-◌, ◌<◌, ◌≤◌, ◌^◌, ℕ, Bool, true, List, [], Option, None, Some, IsSome, All, map, nat_lt, slice_index, if◌then◌else◌}
 use Rattle.std.specs.BTreeMap.{insert_entry, is_at}
 use Rattle.std.specs.Int.{from_bool}
 use Rattle.std.specs.Map.{remove_entry, set_value}
@@ -39,6 +39,20 @@ without_one genotypes key =
     then set_value (is_at (nat_cmp key)) genotypes (lowered genotypes key)
     else remove_entry (is_at (nat_cmp key)) genotypes
 
+-- what is under a key once one organism more has the genome under another
+abbrev pub genotype_with_one : List (ℕ × GenotypeCount) → ℕ → List Letter → ℕ → Option GenotypeCount
+genotype_with_one genotypes key genome other =
+    if is_at (nat_cmp key) other
+    then Some (record { genome = genome; count = count_under genotypes key + 1 })
+    else genotype_at genotypes other
+
+-- what is under a key once one organism fewer has the genome under another
+abbrev pub genotype_without_one : List (ℕ × GenotypeCount) → ℕ → ℕ → Option GenotypeCount
+genotype_without_one genotypes key other =
+    if is_at (nat_cmp key) other
+    then (if nat_lt 1 (count_under genotypes key) then Some (lowered genotypes key) else None)
+    else genotype_at genotypes other
+
 -- one more has each task of a set
 abbrev pub tasks_with : List ℕ → List Bool → List ℕ
 tasks_with counts credited =
@@ -70,6 +84,13 @@ without_organism counts key merit credited = record {
   tasks = tasks_without counts.tasks credited;
 }
 
+-- an organism that is counted has another merit and credited set
+abbrev pub with_renewal : Counts → ℕ → List Bool → ℕ → List Bool → Counts
+with_renewal counts merit credited next_merit next_credited = record counts {
+  merit = counts.merit - merit + next_merit;
+  tasks = tasks_with (tasks_without counts.tasks credited) next_credited;
+}
+
 -- the key and the genome belong to each other, and the counts have room for one organism more
 pub record CanAdd (counts : Counts) (key : ℕ) (genome : List Letter) (merit : ℕ) : Type 0 where
   pub one_genome : (genotype : GenotypeCount)
@@ -86,3 +107,11 @@ pub record CanRemove (counts : Counts) (key merit : ℕ) (credited : List Bool) 
   pub counted : IsSome (genotype_at counts.genotypes key)
   pub merits : merit ≤ counts.merit
   pub tasks : AreCounted counts.tasks credited
+
+-- an organism with this merit and credited set may be among those that are counted, and the counts
+-- have room for its next merit
+pub record CanRenew (counts : Counts) (merit : ℕ) (credited : List Bool) (next_merit : ℕ) : Type 0 where
+  pub counted : merit ≤ counts.merit
+  pub room : counts.merit + next_merit < 2 ^ 55
+  pub tasks : AreCounted counts.tasks credited
+  pub few : All (λ count. count < 2 ^ 32) counts.tasks

@@ -1,5 +1,5 @@
 -- The dominant genome (docs/WORLD.md, "Statistics").
-use Rattle.std.specs.Prelude.{Bool, not, List, map, find, Option}
+use Rattle.std.specs.Prelude.{Bool, not, List, map, find, Option, Contains}
 use Rattle.std.specs.Cmp.Lexicographic.{slice_cmp}
 use Rattle.std.specs.List.{list_all}
 use Rattle.std.specs.Ordering.{nat_cmp, ordering_then, is_lt}
@@ -28,6 +28,11 @@ outranks genotype other = is_lt (dominance_cmp genotype other)
 unfoldable pub dominant_among : List GenotypeCount → Option GenotypeCount
 dominant_among genotypes =
     find (λ genotype. list_all (λ other. not (outranks other genotype)) genotypes) genotypes
+
+-- each genotype of one list is in the other
+pub record HaveSameMembers (genotypes others : List GenotypeCount) : Type 0 where
+  pub forth : (genotype : GenotypeCount) → Contains genotypes genotype → Contains others genotype
+  pub back : (genotype : GenotypeCount) → Contains others genotype → Contains genotypes genotype
 
 -- a dominant genome with its count
 abbrev pub dominant_value : Dominant → GenotypeCount

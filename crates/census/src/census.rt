@@ -1,10 +1,10 @@
 // A census: what is counted of the living.
-ghost use Rattle.std.specs.Prelude.{◌≡◌, ◌↔◌, [], IfOk, None, Ok, OnErr, OnOk, length, replicate};
+ghost use Rattle.std.specs.Prelude.{◌≡◌, ◌+◌, ◌↔◌, ℕ, [], IfOk, None, Ok, OnErr, OnOk, length, replicate};
 ghost use Rattle.std.specs.Map.{values_of};
 ghost use Rattle.std.specs.Option.{option_map};
 ghost use Rattle.genome.specs.Genome.{letters};
-ghost use Rattle.census.specs.Counts.{AreGenotypes, living_of};
-ghost use Rattle.census.specs.Changes.{CanAdd, CanRemove, with_organism, without_organism};
+ghost use Rattle.census.specs.Counts.{AreGenotypes, genotype_at, living_of};
+ghost use Rattle.census.specs.Changes.{CanAdd, CanRemove, CanRenew, genotype_with_one, genotype_without_one, with_organism, with_renewal, without_organism};
 ghost use Rattle.census.specs.Dominance.{dominant_among, dominant_value};
 
 use crate::Dominant;
@@ -70,6 +70,10 @@ impl Census {
         requires { CanAdd self.old key (letters genome.now.value) merit }
         ensures ok { OnOk result (self.new
             ≡ with_organism self.old key (letters genome.now.value) merit credited) }
+        ensures under { OnOk result ((other : ℕ) → genotype_at self.new.genotypes other
+            ≡ genotype_with_one self.old.genotypes key (letters genome.now.value) other) }
+        ensures living { OnOk result
+            (living_of self.new.genotypes ≡ living_of self.old.genotypes + 1) }
         ensures err { OnErr result (self.new ≡ self.old) }
     {
         raise(&mut self.genotypes, key, genome)?;
@@ -82,12 +86,25 @@ impl Census {
     /// Counts one organism fewer. It takes no memory.
     pub fn remove(&mut self, key: u64, merit: u64, credited: Tasks)
         requires { CanRemove self.old key merit credited }
-        ensures { self.new ≡ without_organism self.old key merit credited }
+        ensures counts { self.new ≡ without_organism self.old key merit credited }
+        ensures under { (other : ℕ) → genotype_at self.new.genotypes other
+            ≡ genotype_without_one self.old.genotypes key other }
+        ensures living { living_of self.new.genotypes + 1 ≡ living_of self.old.genotypes }
     {
         lower(&mut self.genotypes, key);
         self.living -= 1;
         self.merit -= merit;
         lower_tasks(&mut self.tasks, credited);
+    }
+
+    /// An organism that is counted has another merit and credited set. It takes no memory.
+    pub fn renew(&mut self, merit: u64, credited: Tasks, next_merit: u64, next_credited: Tasks)
+        requires { CanRenew self.old merit credited next_merit }
+        ensures { self.new ≡ with_renewal self.old merit credited next_merit next_credited }
+    {
+        self.merit = self.merit - merit + next_merit;
+        lower_tasks(&mut self.tasks, credited);
+        raise_tasks(&mut self.tasks, next_credited);
     }
 
     /// How many organisms are counted.
@@ -125,6 +142,7 @@ impl Census {
         ensures dominant { IfOk result (λ found. option_map dominant_value found
             ≡ dominant_among (values_of self.now.genotypes)) }
         ensures none { (result ≡ Ok None) ↔ (self.now.genotypes ≡ []) }
+        ensures genotypes { AreGenotypes self.now.genotypes }
     {
         match dominant(&self.genotypes) {
             Some(genotype) => Ok(Some(genotype.dominant()?)),

@@ -8,7 +8,7 @@ ghost use Rattle.std.specs.Option.{option_copied};
 ghost use Rattle.std.specs.Ordering.{nat_cmp};
 ghost use Rattle.genome.specs.Genome.{letters};
 ghost use Rattle.census.specs.Counts.{GenotypeCount, AreGenotypes, genotype_at, living_of};
-ghost use Rattle.census.specs.Changes.{count_under, lowered, with_one, without_one};
+ghost use Rattle.census.specs.Changes.{count_under, genotype_with_one, genotype_without_one, lowered, with_one, without_one};
 ghost use Rattle.census.specs.Dominance.{outranks, dominant_among};
 
 use crate::genotype::Genotype;
@@ -44,6 +44,8 @@ pub(crate) fn raise(
     requires room { living_of genotypes.old.entries < 2 ^ 32 }
     ensures ok { OnOk result (genotypes.new.entries
         ≡ with_one genotypes.old.entries key (letters genome.now.value)) }
+    ensures under { OnOk result ((other : ℕ) → genotype_at genotypes.new.entries other
+        ≡ genotype_with_one genotypes.old.entries key (letters genome.now.value) other) }
     ensures living { OnOk result (living_of genotypes.new.entries
         ≡ living_of genotypes.old.entries + 1) }
     ensures err { OnErr result (genotypes.new.entries ≡ genotypes.old.entries) }
@@ -60,6 +62,8 @@ pub(crate) fn lower(genotypes: &mut Genotypes, key: u64)
     requires genotypes { AreGenotypes genotypes.old.entries }
     requires counted { IsSome (genotype_at genotypes.old.entries key) }
     ensures value { genotypes.new.entries ≡ without_one genotypes.old.entries key }
+    ensures under { (other : ℕ) → genotype_at genotypes.new.entries other
+        ≡ genotype_without_one genotypes.old.entries key other }
     ensures living { living_of genotypes.new.entries + 1 ≡ living_of genotypes.old.entries }
     ensures genotypes { AreGenotypes genotypes.new.entries }
 {

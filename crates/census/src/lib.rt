@@ -5,6 +5,7 @@ mod census;
 mod dominant;
 mod genotype;
 mod genotypes;
+pub mod laws;
 mod task_counts;
 
 pub use census::Census;

@@ -32,7 +32,10 @@ fn organisms_come_and_go(rt: HostRuntime) -> Result<(), Fail> {
     census.add(7, &genome, 2, Tasks::none())?;
     assert_eq!(rt; census.living(), 2);
     assert_eq!(rt; census.genotypes(), 1);
-    census.remove(7, 2, Tasks::none());
+    census.renew(2, Tasks::none(), 4, credited);
+    assert_eq!(rt; census.merit(), 12);
+    assert_eq!(rt; census.tasks(), [0, 0, 0, 0, 0, 0, 0, 0, 2]);
+    census.remove(7, 4, credited);
     assert_eq!(rt; census.living(), 1);
     census.remove(7, 8, credited);
     assert_eq!(rt; census.living(), 0);

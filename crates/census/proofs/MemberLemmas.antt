@@ -1,0 +1,128 @@
+-- The dominant genotype of a list is that of each list with the same members.
+use Rattle.std.proofs.Common.{◌≡◌, ◌∙◌, refl, sym, ap, subst, ℕ, zero, suc, ◌+◌, ◌<◌, Bool, true, false, cond, not, List, [], ◌∷◌, length, get_or, Option, Some, None, map, Less, Equal, Greater, arith}
+use Rattle.std.specs.Prelude.{find}
+use Rattle.std.specs.Bool.{Decides}
+use Rattle.std.specs.Cmp.{IsTotalOrder}
+use Rattle.std.specs.Cmp.Lexicographic.{slice_cmp}
+use Rattle.std.specs.FinMap.{nat_cmp-IsAntisymmetric, slice_cmp-IsAntisymmetric}
+use Rattle.std.specs.List.{AllPass, Contains, list_all}
+use Rattle.std.specs.Ordering.{nat_cmp, ordering_then, ordering_reverse, is_lt}
+use Rattle.std.specs.declared.cmp.Ordering.{Ordering}
+use Rattle.std.proofs.lemmas.Bool.Decides.{nat_tests}
+use Rattle.std.proofs.lemmas.List.Elements.{Contains-get_or}
+use Rattle.std.proofs.lemmas.List.{get_or_default}
+use Rattle.std.proofs.lemmas.List.Sums.{AllPass-from_list_all, list_all-from_AllPass}
+use Rattle.instruction_set.specs.declared.letter.Letter.{Letter}
+use Rattle.instruction_set.specs.Letter.{index_of, same_letter}
+use Rattle.census.specs.Counts.{GenotypeCount}
+use Rattle.census.specs.Dominance.{HaveSameMembers, dominance_cmp, dominant_among, letters_cmp, outranks}
+use Rattle.census.proofs.DominanceLemmas.{dominance-total}
+
+-- what is found passes and is among the elements
+found : {X : Type 0} (p : X → Bool) (xs : List X) (a : X) → find p xs ≡ Some a → (p a ≡ true) × Contains xs a
+found p [] a is = cc
+found {X} p (x ∷ xs) a is = by (p x) refl is (found p xs a) where
+  by : (b : Bool) → p x ≡ b → cond b (Some x) (find p xs) ≡ Some a → (find p xs ≡ Some a → (p a ≡ true) × Contains xs a) → (p a ≡ true) × Contains (x ∷ xs) a
+  by true passes is later = let same : x ≡ a = cc in (ap p (sym same) ∙ passes, (0, omega arith, same))
+  by false fails is later = let rest = later is in (rest.0, (suc rest.1.0, omega (arith, rest.1.1), rest.1.2))
+
+-- where an element passes, one is found
+finds : {X : Type 0} (p : X → Bool) (xs : List X) (k : ℕ) (d : X) → k < length xs → p (get_or xs k d) ≡ true → (a : X) × (find p xs ≡ Some a)
+finds p [] k d within passes = absurd (omega (arith, within))
+finds p (x ∷ xs) zero d within passes = (x, rw passes refl)
+finds {X} p (x ∷ xs) (suc k) d within passes = by (p x) refl (finds p xs k d (omega (arith, within)) passes) where
+  by : (b : Bool) → p x ≡ b → (a : X) × (find p xs ≡ Some a) → (a : X) × (find p (x ∷ xs) ≡ Some a)
+  by true here later = (x, rw here refl)
+  by false here later = (later.0, rw here later.1)
+
+-- two letters with one index are one
+abbrev pub OneIndex : Type 0
+OneIndex = (letter other : Letter) → Decides (same_letter letter other) (letter ≡ other)
+
+letters-of_indexes : OneIndex → (ls others : List Letter) → map index_of ls ≡ map index_of others → ls ≡ others
+letters-of_indexes one [] [] same = refl
+letters-of_indexes one [] (b ∷ bs) same = cc
+letters-of_indexes one (a ∷ rest) [] same = cc
+letters-of_indexes one (a ∷ rest) (b ∷ others) same =
+    let index : index_of a ≡ index_of b = cc in
+    let tail : map index_of rest ≡ map index_of others = cc in
+    let test : same_letter a b ≡ true = grind (arith, nat_tests, index) in
+    let first : a ≡ b = (one a b).0 test in
+    let others_are = letters-of_indexes one rest others tail in
+    cc
+
+-- neither of two that tie has more or comes first
+both-tie : (first second : Ordering) → ordering_then first second ≡ Equal → (first ≡ Equal) × (second ≡ Equal)
+both-tie Less second is = cc
+both-tie Equal second is = (refl, is)
+both-tie Greater second is = cc
+
+tied : OneIndex → (a b : GenotypeCount) → dominance_cmp a b ≡ Equal → a ≡ b
+tied one a b tie =
+    let parts = both-tie (nat_cmp b.count a.count) (letters_cmp a.genome b.genome) tie in
+    let count : b.count ≡ a.count = nat_cmp-IsAntisymmetric b.count a.count parts.0 in
+    let genome : a.genome ≡ b.genome = letters-of_indexes one a.genome b.genome (slice_cmp-IsAntisymmetric nat_cmp-IsAntisymmetric (map index_of a.genome) (map index_of b.genome) parts.1) in
+    let same : a.count ≡ b.count = sym count in λ i. record { genome = genome i; count = same i }
+
+-- none of two comes before the other only where they tie
+ties : (forth back : Ordering) → forth ≡ ordering_reverse back → not (is_lt forth) ≡ true → not (is_lt back) ≡ true → forth ≡ Equal
+ties Less back turned a b = cc
+ties Equal back turned a b = refl
+ties Greater Less turned a b = cc
+ties Greater Equal turned a b = cc
+ties Greater Greater turned a b = cc
+
+-- one of some genotypes, before which no other comes
+record IsBest (genotypes : List GenotypeCount) (best : GenotypeCount) : Type 0 where
+  pub among : Contains genotypes best
+  pub before : AllPass (λ other. not (outranks other best)) genotypes
+
+best-one : OneIndex → (genotypes : List GenotypeCount) (a b : GenotypeCount) → IsBest genotypes a → IsBest genotypes b → a ≡ b
+best-one one genotypes a b is has =
+    let test : GenotypeCount → GenotypeCount → Bool = λ best other. not (outranks other best) in
+    let forth : not (outranks a b) ≡ true = ap (test b) (sym has_a) ∙ has.before is.among.0 a is.among.1 in
+    let back : not (outranks b a) ≡ true = ap (test a) (sym has_b) ∙ is.before has.among.0 b has.among.1 in
+    tied one a b (ties (dominance_cmp a b) (dominance_cmp b a) (dominance-total.antisymm a b) forth back)
+  where
+    has_a : get_or genotypes is.among.0 a ≡ a
+    has_a = is.among.2
+
+    has_b : get_or genotypes has.among.0 b ≡ b
+    has_b = has.among.2
+
+-- the dominant one is the best
+best-dominant : (genotypes : List GenotypeCount) (a : GenotypeCount) → dominant_among genotypes ≡ Some a → IsBest genotypes a
+unfolding dominant_among
+best-dominant genotypes a is =
+    let at = found (λ genotype. list_all (λ other. not (outranks other genotype)) genotypes) genotypes a is in
+    record { among = at.1; before = AllPass-from_list_all (λ other. not (outranks other a)) genotypes at.0 }
+
+dominant-best_one : OneIndex → (genotypes : List GenotypeCount) (a : GenotypeCount) → IsBest genotypes a → dominant_among genotypes ≡ Some a
+unfolding dominant_among
+dominant-best_one one genotypes a is =
+    let test : GenotypeCount → Bool = λ genotype. list_all (λ other. not (outranks other genotype)) genotypes in
+    let some = finds test genotypes is.among.0 a is.among.1 (ap test is.among.2 ∙ list_all-from_AllPass (λ other. not (outranks other a)) genotypes is.before) in
+    some.1 ∙ ap Some (best-one one genotypes some.0 a (best-dominant genotypes some.0 some.1) is)
+
+best-same : (genotypes others : List GenotypeCount) (a : GenotypeCount) → HaveSameMembers genotypes others → IsBest genotypes a → IsBest others a
+best-same genotypes others a same is =
+    let test : GenotypeCount → Bool = λ other. not (outranks other a) in
+    record {
+      among = same.forth a is.among;
+      before = λ k d within. (let here = same.back (get_or others k d) (Contains-get_or others k d within) in ap test (sym here.2) ∙ is.before here.0 (get_or others k d) here.1);
+    }
+
+pub dominant-same : OneIndex → (genotypes others : List GenotypeCount) → HaveSameMembers genotypes others → dominant_among genotypes ≡ dominant_among others
+dominant-same one genotypes others same =
+    by (dominant_among genotypes) (dominant_among others) refl refl
+  where
+    turned : HaveSameMembers others genotypes
+    turned = record { forth = same.back; back = same.forth }
+
+    by : (first second : Option GenotypeCount) → dominant_among genotypes ≡ first → dominant_among others ≡ second → first ≡ second
+    by (Some a) second is has =
+        sym (dominant-best_one one others a (best-same genotypes others a same (best-dominant genotypes a is))) ∙ has
+    by None None is has = refl
+    by None (Some b) is has =
+        let found_too = dominant-best_one one genotypes b (best-same others genotypes b turned (best-dominant others b has)) in
+        cc
