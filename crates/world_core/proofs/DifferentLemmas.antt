@@ -1,10 +1,8 @@
--- The different ones of a list, as its members come one after another.
+-- The different ones of a list.
 use Rattle.std.proofs.Common.{◌≡◌, refl, sym, ◌∙◌, ap, Bool, true, false, cond, not, ◌||◌, List, [], ◌∷◌, ◌++◌, map}
 use Rattle.std.specs.Bool.{Decides}
-use Rattle.std.specs.List.{filter, list_any}
-use Rattle.std.proofs.lemmas.Bool.Decides.{same_from_decides}
-use Rattle.std.proofs.lemmas.List.{append-nil, map_push}
-use Rattle.std.proofs.lemmas.List.Elements.{filter-append}
+use Rattle.std.specs.List.{AllByRecursion, IsDistinct, filter, list_any}
+use Rattle.std.proofs.lemmas.List.{map_push}
 
 module _ {A : Type 0} (same : A → A → Bool) (decides : (a b : A) → Decides (same a b) (a ≡ b)) where
   -- the members that this one is not
@@ -15,14 +13,6 @@ module _ {A : Type 0} (same : A → A → Bool) (decides : (a b : A) → Decides
   abbrev pub distinct : List A → List A
   distinct [] = []
   distinct (x ∷ xs) = x ∷ others_of x (distinct xs)
-
-  -- one more stands behind them, unless it is one of them
-  abbrev pub with_one : List A → A → List A
-  with_one xs x = cond (list_any (same x) xs) xs (xs ++ x ∷ [])
-
-  pub same-comm : (x y : A) → same x y ≡ same y x
-  same-comm x y =
-      same_from_decides {P = x ≡ y} (same x y) (same y x) (decides x y) (λ e. sym ((decides y x).0 e), λ e. (decides y x).1 (sym e))
 
   -- who differs from what was taken out is found among the others just as among all
   list_any-step : (x y z : A) (zs : List A) → same x y ≡ false → list_any (same x) (others_of y zs) ≡ list_any (same x) zs → (b : Bool) → same y z ≡ b → list_any (same x) (cond (not b) (z ∷ others_of y zs) (others_of y zs)) ≡ (same x z || list_any (same x) zs)
@@ -37,24 +27,41 @@ module _ {A : Type 0} (same : A → A → Bool) (decides : (a b : A) → Decides
       ap (λ b. list_any (same x) (cond (not b) (z ∷ others_of y zs) (others_of y zs))) refl
       ∙ list_any-step x y z zs differ (list_any-others_of x y differ zs) (same y z) refl
 
-  -- one more behind the first and the others, by whether it is the first, and whether it is among the rest
-  with_one-cases : (y : A) (zs : List A) (x : A) (first among : Bool) → same x y ≡ first → list_any (same x) zs ≡ among → cond (first || list_any (same x) (others_of y zs)) (y ∷ others_of y zs) (y ∷ others_of y zs ++ x ∷ []) ≡ y ∷ others_of y (cond among zs (zs ++ x ∷ []))
-  with_one-cases y zs x true true is found = refl
-  with_one-cases y zs x true false is found =
-      let one : others_of y (x ∷ []) ≡ [] = ap (λ b. cond (not b) (x ∷ []) []) (same-comm y x ∙ is) in
-      ap (λ ys. y ∷ ys) (sym (filter-append (λ z. not (same y z)) zs (x ∷ []) ∙ ap (λ ys. others_of y zs ++ ys) one ∙ append-nil (others_of y zs)))
-  with_one-cases y zs x false true is found =
-      ap (λ b. cond b (y ∷ others_of y zs) (y ∷ others_of y zs ++ x ∷ [])) (list_any-others_of x y is zs ∙ found)
-  with_one-cases y zs x false false is found =
-      let one : others_of y (x ∷ []) ≡ x ∷ [] = ap (λ b. cond (not b) (x ∷ []) []) (same-comm y x ∙ is) in
-      ap (λ b. cond b (y ∷ others_of y zs) (y ∷ others_of y zs ++ x ∷ [])) (list_any-others_of x y is zs ∙ found)
-      ∙ ap (λ ys. y ∷ ys) (sym (filter-append (λ z. not (same y z)) zs (x ∷ []) ∙ ap (λ ys. others_of y zs ++ ys) one))
+  -- who is among the different ones is among all
+  pub list_any-distinct : (x : A) (xs : List A) → list_any (same x) (distinct xs) ≡ list_any (same x) xs
+  list_any-distinct x [] = refl
+  list_any-distinct x (y ∷ ys) = by (same x y) refl (list_any-distinct x ys) where
+    by : (b : Bool) → same x y ≡ b → list_any (same x) (distinct ys) ≡ list_any (same x) ys → (b || list_any (same x) (others_of y (distinct ys))) ≡ (b || list_any (same x) ys)
+    by true is rest = refl
+    by false is rest = list_any-others_of x y is (distinct ys) ∙ rest
 
-  pub distinct_push : (xs : List A) (x : A) → distinct (xs ++ x ∷ []) ≡ with_one (distinct xs) x
-  distinct_push [] x = refl
-  distinct_push (y ∷ ys) x =
-      ap (λ zs. y ∷ others_of y zs) (distinct_push ys x)
-      ∙ sym (with_one-cases y (distinct ys) x (same x y) (list_any (same x) (distinct ys)) refl refl)
+  apart-others : (x : A) (zs : List A) → AllByRecursion (λ z. same x z ≡ false) (others_of x zs)
+  apart-others x [] = tt
+  apart-others x (z ∷ zs) = by (same x z) refl (apart-others x zs) where
+    by : (b : Bool) → same x z ≡ b → AllByRecursion (λ z. same x z ≡ false) (others_of x zs) → AllByRecursion (λ z. same x z ≡ false) (cond (not b) (z ∷ others_of x zs) (others_of x zs))
+    by true is rest = rest
+    by false is rest = (is, rest)
+
+  apart-filter : (p : A → Bool) (x : A) (zs : List A) → AllByRecursion (λ z. same x z ≡ false) zs → AllByRecursion (λ z. same x z ≡ false) (filter p zs)
+  apart-filter p x [] apart = tt
+  apart-filter p x (z ∷ zs) apart = by (p z) (apart-filter p x zs apart.1) where
+    by : (b : Bool) → AllByRecursion (λ z. same x z ≡ false) (filter p zs) → AllByRecursion (λ z. same x z ≡ false) (cond b (z ∷ filter p zs) (filter p zs))
+    by true rest = (apart.0, rest)
+    by false rest = rest
+
+  distinct-filter : (p : A → Bool) (zs : List A) → IsDistinct same zs → IsDistinct same (filter p zs)
+  unfolding IsDistinct
+  distinct-filter p [] once = tt
+  distinct-filter p (z ∷ zs) once = by (p z) (distinct-filter p zs once.1) (apart-filter p z zs once.0) where
+    by : (b : Bool) → IsDistinct same (filter p zs) → AllByRecursion (λ y. same z y ≡ false) (filter p zs) → IsDistinct same (cond b (z ∷ filter p zs) (filter p zs))
+    by true rest apart = (apart, rest)
+    by false rest apart = rest
+
+  -- each of them is there once
+  pub IsDistinct-distinct : (xs : List A) → IsDistinct same (distinct xs)
+  unfolding IsDistinct
+  IsDistinct-distinct [] = tt
+  IsDistinct-distinct (x ∷ xs) = (apart-others x (distinct xs), distinct-filter (λ y. not (same x y)) (distinct xs) (IsDistinct-distinct xs))
 
 -- a test of what is seen of the members
 pub list_any-map : {A B : Type 0} (eq : A → Bool) (same : B → Bool) (see : A → B) → ((a : A) → eq a ≡ same (see a)) → (xs : List A) → list_any eq xs ≡ list_any same (map see xs)

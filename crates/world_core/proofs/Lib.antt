@@ -1,11 +1,15 @@
 pub mod ScanLemmas
 pub mod SoundLemmas
 mod LifeLemmas
+mod LifeCountLemmas
 mod LivesLemmas
 mod SettingsLemmas
 mod UpdateLemmas
 mod WorldLemmas
-mod CountLemmas
+mod StandingLemmas
+mod KeptOfLemmas
+mod StatLemmas
+mod SumLemmas
 mod DescentLemmas
 mod DifferentLemmas
 mod EventLemmas

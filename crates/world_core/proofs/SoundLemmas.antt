@@ -1,5 +1,5 @@
 -- Cells in which each organism is bounded.
-use Rattle.std.proofs.Common.{◌^◌, ◌≡◌, ℕ, ◌≤◌, List, Option, Some, arith}
+use Rattle.std.proofs.Common.{◌^◌, ◌≡◌, refl, ap, ℕ, zero, suc, ◌≤◌, List, [], ◌∷◌, Option, None, Some, arith}
 use Rattle.std.proofs.Math.ListN.{set}
 use Rattle.std.proofs.lemmas.List.Elements.{All-set}
 use Rattle.world_rules.specs.World.{Occupant}
@@ -8,3 +8,13 @@ use Rattle.world_core.specs.Soundness.{AreBounded, IsBoundedIn}
 -- somebody new is bounded in every update
 pub AreBounded-come : (update : ℕ) (cells : List (Option Occupant)) (cell : ℕ) (o : Occupant) → o.organism.age ≡ 0 → o.organism.merit ≤ 2 ^ 38 → AreBounded update cells → AreBounded update (set cells cell (Some o))
 AreBounded-come update cells cell o young fits sound = All-set (IsBoundedIn update) cells cell (Some o) (record { age = omega arith; merit = fits }) sound
+
+-- so is a cell from which somebody went
+pub AreBounded-gone : (update : ℕ) (cells : List (Option Occupant)) (cell : ℕ) → AreBounded update cells → AreBounded update (set cells cell None)
+AreBounded-gone update cells cell sound = All-set (IsBoundedIn update) cells cell None tt sound
+
+-- what is put over something stands there alone
+pub set_over : {X : Type 0} (xs : List X) (i : ℕ) (x y : X) → set (set xs i x) i y ≡ set xs i y
+set_over [] i x y = refl
+set_over (z ∷ zs) zero x y = refl
+set_over (z ∷ zs) (suc i) x y = ap (λ rest. z ∷ rest) (set_over zs i x y)

@@ -18,5 +18,5 @@ pub use Rattle.world_rules.specs.Statistics
 pub use Rattle.world_rules.specs.LogText
 pub mod Soundness
 pub mod WorldValue
-pub mod Tally
+pub mod Population
 pub mod Happening

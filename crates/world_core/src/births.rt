@@ -72,7 +72,7 @@ fn placings_of(
 {
     let torus = torus_of(config);
     let parents = parents_of(alloc, births)?;
-    let mut board = board_of(alloc, &scene.cells)?;
+    let mut board = board_of(alloc, scene.cells.cells())?;
     let season = season_at(config, scene.update, scene.next_id());
     place(alloc, &torus, &parents, &mut board, &season)
 }

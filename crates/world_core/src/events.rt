@@ -180,7 +180,7 @@ fn tell_rate(scene: &Scene, name: RateName, ppm: u32, text: &mut Vec<u8>) -> Res
 #[cfg(test)]
 mod tests {
     use super::*;
-    use crate::counting::count;
+    use crate::population::Population;
     use log_lines::Stats;
     use std::test::Fail;
     use world_config::read;
@@ -189,12 +189,9 @@ mod tests {
     fn empty_scene(alloc: Global) -> Result<Scene, Memory>
         ensures { IfOk result (λ scene. length scene.cells ≡ 2) }
     {
-        let mut cells = Vec::new(alloc);
-        cells.push(None)?;
-        cells.push(None)?;
         Ok(Scene {
             update: 1,
-            cells,
+            cells: Population::none(alloc, 2)?,
             everyone: Vec::new(alloc),
             gone: Vec::new(alloc),
         })
@@ -241,7 +238,7 @@ I 3 1 1 - bbbbbbbbb
             merit: 18,
             tasks: [0; 9],
         };
-        assert_eq!(rt; count(alloc, &scene, 0)?, stats);
+        assert_eq!(rt; scene.stats(0), stats);
         Ok(())
     }
 }

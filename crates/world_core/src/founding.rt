@@ -1,5 +1,5 @@
 // Founders: the configuration's own, and those that events inject.
-ghost use Rattle.std.specs.Prelude.{◌≡◌, ◌+◌, ◌*◌, ◌^◌, ◌<◌, ◌≤◌, [], None, IfOk, length, replicate};
+ghost use Rattle.std.specs.Prelude.{◌≡◌, ◌+◌, ◌*◌, ◌^◌, ◌<◌, ◌≤◌, [], IfOk, length};
 ghost use Rattle.genome.specs.Genome.{letters};
 ghost use Rattle.logic_tasks.specs.Inputs.{inputs_of};
 ghost use Rattle.random_streams.specs.RandomStream.{after};
@@ -8,7 +8,7 @@ ghost use Rattle.world_rules.specs.World.{founder_of, founder_words, first_world
 ghost use Rattle.world_rules.specs.Update.{world_of};
 
 use crate::ancestor::Ancestor;
-use crate::occupant::Occupant;
+use crate::population::Population;
 use crate::scene::Scene;
 use avida_port::Memory;
 use genome::Genome;
@@ -84,7 +84,7 @@ pub(crate) fn first_scene(alloc: Global, config: &Config) -> Result<Scene, Memor
     let organism = founder(alloc, config, cell, 0, genome.clone()?)?;
     let mut scene = Scene {
         update: 0,
-        cells: empty_cells(alloc, config.width * config.height)?,
+        cells: Population::none(alloc, config.width * config.height)?,
         everyone: Vec::new(alloc),
         gone: Vec::new(alloc),
     };
@@ -98,15 +98,4 @@ pub(crate) fn first_scene(alloc: Global, config: &Config) -> Result<Scene, Memor
     };
     scene.come(ancestor, organism)?;
     Ok(scene)
-}
-
-/// So many cells in which nobody stands.
-fn empty_cells(alloc: Global, count: u32) -> Result<Vec<Option<Occupant>>, Memory>
-    ensures { IfOk result (λ cells. cells.items ≡ replicate count None) }
-{
-    let mut cells = Vec::with_capacity(alloc, count as usize)?;
-    for _ in 0..count {
-        cells.push(None)?;
-    }
-    Ok(cells)
 }

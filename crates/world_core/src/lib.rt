@@ -4,14 +4,15 @@
 mod ancestor;
 mod births;
 mod burials;
-mod counting;
 mod delivery;
 mod descent;
 mod events;
 mod founding;
+mod genotypes;
 mod lives;
 mod occupant;
 mod picture;
+mod population;
 mod scene;
 mod settings;
 mod telling;

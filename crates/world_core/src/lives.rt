@@ -1,22 +1,27 @@
 // The lives of an update, all from one start.
 ghost use Rattle.std.specs.Prelude.{◌≡◌, ◌+◌, ◌<◌, ◌≤◌, ◌^◌, ◌∷◌, ◌++◌, [], ℕ, Some, None, Option, All, OnOk, IfOk, length, map, sum, slice_index_or, if◌then◌else◌};
+ghost use Rattle.census.specs.Changes.{CanRenew, with_renewal};
 ghost use Rattle.organism.specs.Newborns.{newborn_value};
 ghost use Rattle.organism.specs.SettingNumbers.{setting_numbers};
 ghost use Rattle.world_config.specs.Shown.{values_of};
 ghost use Rattle.world_rules.specs.Lives.{is_death, life_of, lives_of, merit_in, slices_at};
 ghost use Rattle.world_rules.specs.Settings.{settings_at};
 ghost use Rattle.world_rules.specs.Update.{births_by, births_of, deaths_of, delivery_of};
+ghost use Rattle.world_core.specs.Population.{AreSummedIn, IsCounted, KeepsCount, genomes_of};
 ghost use Rattle.world_core.specs.Soundness.{AreBounded, AreBoundedLives, IsBounded, IsBoundedIn, IsBoundedLife};
 
 use crate::delivery::Delivery;
 use crate::occupant::Occupant;
 use crate::settings::settings_at;
 use avida_port::Memory;
+use census::Census;
 use merit_slices::share;
-use organism::{Births, Ran, Settings};
+use logic_tasks::Tasks;
+use organism::{Births, Organism, Ran, Settings};
 use random_streams::{CELLS, Draws, Purpose};
 use std::alloc::{AllocError, Global};
 use world_config::{Config, GREATEST_UPDATES};
+use world_laws::laws::births_alone_change_merits;
 
 /// What the lives of an update bring: the newborns in order of cell and birth, and the cells whose organism died of age.
 #[derive(Drop)]
@@ -38,10 +43,12 @@ pub(crate) fn live(
     config: &Config,
     update: u32,
     cells: &mut [Option<Occupant>],
+    census: &mut Census,
 ) -> Result<Lived, Memory>
     requires cells { length cells.old ≤ CELLS }
     requires update { update < GREATEST_UPDATES }
     requires sound { AreBounded update cells.old }
+    requires sums { AreSummedIn cells.old census.old.merit census.old.tasks }
     ensures cells { OnOk result (cells.new
         ≡ map (λ l. l.occupant) (lives_of (values_of config.now) (update + 1) cells.old)) }
     ensures births { IfOk result (λ lived. lived.births.items
@@ -50,6 +57,9 @@ pub(crate) fn live(
         ≡ deaths_of (lives_of (values_of config.now) (update + 1) cells.old)) }
     ensures bounds { IfOk result (λ lived. AreBoundedLives (values_of config.now) (update + 1)
         cells.new lived.births.items lived.dead.items) }
+    ensures sums { OnOk result (AreSummedIn cells.new census.new.merit census.new.tasks) }
+    ensures genotypes { OnOk result (census.new.genotypes ≡ census.old.genotypes) }
+    ensures genomes { OnOk result (genomes_of cells.new ≡ genomes_of cells.old) }
 {
     let slices = slices_of(alloc, config, cells)?;
     let settings = settings_at(config, update + 1);
@@ -67,6 +77,7 @@ pub(crate) fn live(
             cell as u32,
             slices[cell],
             slot,
+            census,
         )?;
         lived.tell(cell as u32, slot, life)?;
     }
@@ -120,6 +131,7 @@ fn live_in(
     cell: u32,
     steps: u64,
     slot: &mut Option<Occupant>,
+    census: &mut Census,
 ) -> Result<Life, Memory>
     requires cell { cell < CELLS }
     requires steps { steps < 2 ^ 27 }
@@ -127,6 +139,7 @@ fn live_in(
     requires settings { setting_numbers settings.now
         ≡ settings_at (values_of config.now) (update + 1) }
     requires sound { IsBoundedIn update slot.old }
+    requires counted { IsCounted census.old slot.old }
     ensures life { IfOk result
         (λ life. life_of (values_of config.now) (update + 1) cell steps slot.old
         ≡ record {
@@ -136,9 +149,12 @@ fn live_in(
         }) }
     ensures bounds { IfOk result (λ life.
         IsBoundedLife (values_of config.now) (update + 1) steps slot.new life.births) }
+    ensures counts { OnOk result (KeepsCount slot.old slot.new census.old census.new) }
 {
     match slot {
-        Some(occupant) => live_once(alloc, config, settings, update, cell, steps, occupant),
+        Some(occupant) => {
+            live_once(alloc, config, settings, update, cell, steps, occupant, census)
+        }
         None => Ok(Life {
             died: false,
             births: Births::none(alloc),
@@ -155,6 +171,7 @@ fn live_once(
     cell: u32,
     steps: u64,
     occupant: &mut Occupant,
+    census: &mut Census,
 ) -> Result<Life, Memory>
     requires cell { cell < CELLS }
     requires steps { steps < 2 ^ 27 }
@@ -162,6 +179,7 @@ fn live_once(
     requires settings { setting_numbers settings.now
         ≡ settings_at (values_of config.now) (update + 1) }
     requires sound { IsBounded update occupant.old.organism }
+    requires counted { IsCounted census.old (Some occupant.old) }
     ensures life { IfOk result
         (λ life. life_of (values_of config.now) (update + 1) cell steps (Some occupant.old)
         ≡ record {
@@ -171,16 +189,41 @@ fn live_once(
         }) }
     ensures bounds { IfOk result (λ life.
         IsBoundedLife (values_of config.now) (update + 1) steps (Some occupant.new) life.births) }
+    ensures counts { OnOk result
+        (KeepsCount (Some occupant.old) (Some occupant.new) census.old census.new) }
 {
+    births_alone_change_merits();
+    let merit = occupant.organism.merit();
+    let credited = occupant.organism.credited();
     let mut births = Births::none(alloc);
     let mut draws = Draws::start(config.seed, update + 1, cell, Purpose::Run);
     let ran = occupant
         .organism
         .run(alloc, steps, settings, &mut draws, &mut births)?;
+    count_again(census, merit, credited, &occupant.organism, &births);
     Ok(Life {
         died: is_death(ran),
         births,
     })
+}
+
+/// An organism that bore has another merit and credited set than before.
+fn count_again(
+    census: &mut Census,
+    merit: u64,
+    credited: Tasks,
+    organism: &Organism,
+    births: &Births,
+)
+    requires counted { CanRenew census.old merit credited (2 ^ 38) }
+    requires merit { organism.now.merit ≤ 2 ^ 38 }
+    ensures barren { births.now ≡ [] → census.new ≡ census.old }
+    ensures fertile { 0 < length births.now → census.new
+        ≡ with_renewal census.old merit credited organism.now.merit organism.now.credited }
+{
+    if births.len() > 0 {
+        census.renew(merit, credited, organism.merit(), organism.credited());
+    }
 }
 
 fn is_death(ran: Ran) -> bool

@@ -1,5 +1,5 @@
 // The picture of a world, for who watches a run.
-ghost use Rattle.std.specs.Prelude.{◌≡◌, ◌++◌, ◌∷◌, [], OnErr, OnOk, option_map};
+ghost use Rattle.std.specs.Prelude.{◌≡◌, ◌++◌, ◌∷◌, [], OnErr, OnOk, decimal, option_map};
 ghost use Rattle.census.specs.Dominance.{dominant_value};
 ghost use Rattle.log_lines.specs.Kept.{Keeps};
 ghost use Rattle.log_lines.specs.LineText.{words_text};
@@ -59,15 +59,26 @@ fn write_picture(picture: &WorldPicture, out: &mut Vec<u8>) -> Result<(), Memory
 {
     byte(b'W', out)?;
     write_number(b' ', u64::from(picture.update), out)?;
-    write_number(b' ', picture.living, out)?;
-    write_number(b' ', picture.genotypes, out)?;
-    write_number(b' ', picture.merit, out)?;
+    write_counts(picture, out)?;
     write_dominant(&picture.dominant, out)?;
     byte(b'\n', out)
 }
 
+/// How many live, their genotypes, and the sum of their merits.
 #[tactic(auto, using(log_lines::proofs::KeptLemmas::keeps_front))]
+fn write_counts(picture: &WorldPicture, out: &mut Vec<u8>) -> Result<(), Memory>
+    ensures ok { OnOk result (out.new.items ≡ out.old.items
+        ++ words_text (decimal picture.now.living ∷ decimal picture.now.genotypes
+        ∷ decimal picture.now.merit ∷ [])) }
+    ensures err { OnErr result (Keeps out.old.items out.new.items) }
+{
+    write_number(b' ', picture.living, out)?;
+    write_number(b' ', picture.genotypes, out)?;
+    write_number(b' ', picture.merit, out)
+}
+
 /// The count and the letters of the dominant genome; in an empty world 0 and a dash.
+#[tactic(auto, using(log_lines::proofs::KeptLemmas::keeps_front))]
 fn write_dominant(dominant: &Option<Dominant>, out: &mut Vec<u8>) -> Result<(), Memory>
     ensures ok { OnOk result (out.new.items ≡ out.old.items
         ++ words_text (dominant_words (option_map dominant_value dominant.now))) }
@@ -93,4 +104,26 @@ fn byte(value: u8, out: &mut Vec<u8>) -> Result<(), Memory>
     ensures err { OnErr result (out.new.items ≡ out.old.items) }
 {
     out.push(value).map_err(|_| Memory)
+}
+
+#[cfg(test)]
+mod tests {
+    use super::*;
+    use crate::world::World;
+    use std::test::Fail;
+    use world_config::read;
+
+    #[test]
+    fn the_first_picture_shows_the_founder_alone(rt: HostRuntime) -> Result<(), Fail> {
+        let alloc = rt.alloc();
+        let Ok(config) = read(alloc, b"ancestor = \"aaaaaaaa\"") else {
+            return Err("the configuration is refused".into());
+        };
+        let world = World::found(alloc, config, 1)?;
+        let picture = world.picture(alloc)?;
+        let mut line = Vec::new(alloc);
+        picture_line(&picture, &mut line)?;
+        assert_eq!(rt; line.as_slice(), b"W 0 1 1 8 1 aaaaaaaa\n");
+        Ok(())
+    }
 }

@@ -1,10 +1,13 @@
 // A world within an update.
 ghost use Rattle.std.specs.Prelude.{◌≡◌, ◌<◌, ◌≤◌, ◌^◌, OnOk, length};
 ghost use Rattle.world_rules.specs.Scene.{next_id, standing_at, with_death, with_newcomer};
+ghost use Rattle.world_rules.specs.Statistics.{scene_stats};
 
 use crate::ancestor::Ancestor;
 use crate::occupant::{Occupant, id_of};
+use crate::population::Population;
 use avida_port::Memory;
+use log_lines::Stats;
 use organism::Organism;
 use std::marker::Model;
 
@@ -12,7 +15,7 @@ use std::marker::Model;
 #[derive(Drop)]
 pub(crate) struct Scene {
     pub(crate) update: u32,
-    pub(crate) cells: Vec<Option<Occupant>>,
+    pub(crate) cells: Population,
     pub(crate) everyone: Vec<Ancestor>,
     pub(crate) gone: Vec<u64>,
 }
@@ -25,12 +28,12 @@ impl Model for Scene {
 
     ghost view = { λ s. record {
       update = s.update;
-      cells = s.cells.items;
+      cells = s.cells;
       everyone = s.everyone.items;
       gone = s.gone.items;
     } };
 
-    ghost invariant = { λ s. AreBounded s.update s.cells.items };
+    ghost invariant = { λ s. AreBounded s.update s.cells };
 }
 
 impl Scene {
@@ -45,7 +48,7 @@ impl Scene {
         requires { cell < length self.now.cells }
         ensures { result ≡ standing_at self.now cell }
     {
-        id_of(&self.cells[cell as usize])
+        id_of(&self.cells.cells()[cell as usize])
     }
 
     /// Who stands in the cell dies. After `Memory` drop the scene.
@@ -59,7 +62,7 @@ impl Scene {
         if let Some(id) = self.standing_at(cell) {
             self.gone.push(id)?;
         }
-        self.cells[cell as usize] = None;
+        self.cells.remove(cell);
         Ok(())
     }
 
@@ -76,7 +79,15 @@ impl Scene {
         if let Some(over) = self.standing_at(cell) {
             self.gone.push(over)?;
         }
-        self.cells[cell as usize] = Some(Occupant { id, organism });
+        self.cells.replace(cell, Occupant { id, organism })?;
         self.everyone.push(ancestor).map_err(|_| Memory)
+    }
+
+    /// What is counted at the end of the update, in which so many were born.
+    pub(crate) fn stats(&self, births: u64) -> Stats
+        ensures { result ≡ scene_stats self.now births }
+    {
+        self.cells
+            .stats(self.update, births, self.gone.len() as u64)
     }
 }

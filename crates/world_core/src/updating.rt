@@ -10,9 +10,8 @@ ghost use Rattle.world_core.specs.Soundness.{AreDeliveries};
 
 use crate::births::place_births;
 use crate::burials::bury;
-use crate::counting::count;
 use crate::events::happen;
-use crate::lives::{Lived, live};
+use crate::lives::Lived;
 use crate::scene::Scene;
 use avida_port::Memory;
 use log_lines::{LogLine, Stats, write_line};
@@ -45,7 +44,7 @@ pub(crate) fn next_scene(
     bury(&mut scene, &lived.dead, &mut text)?;
     place_births(alloc, config, &mut scene, lived.births, &mut text)?;
     happen(alloc, config, &mut scene, &mut text)?;
-    let stats = count(alloc, &scene, births)?;
+    let stats = scene.stats(births);
     write_line(&LogLine::Count(stats), &mut text)?;
     Ok((scene, stats, text))
 }
@@ -69,11 +68,11 @@ fn scene_of_lives(alloc: Global, config: &Config, scene: Scene) -> Result<(Scene
 {
     let Scene {
         update,
-        mut cells,
+        cells,
         everyone,
         mut gone,
     } = scene;
-    let lived = live(alloc, config, update, &mut cells)?;
+    let (cells, lived) = cells.live(alloc, config, update)?;
     gone.clear();
     let scene = Scene {
         update: update + 1,

@@ -9,7 +9,6 @@ ghost use Rattle.world_rules.specs.LogText.{head_text, update_text, end_text};
 ghost use Rattle.world_rules.specs.Statistics.{stats_of};
 ghost use Rattle.world_core.specs.WorldValue.{WorldValue, world_in, genome_in};
 
-use crate::counting::count;
 use crate::descent::descent_in;
 use crate::founding::first_scene;
 use crate::picture::WorldPicture;
@@ -54,7 +53,7 @@ impl World {
         let _ = workers;
         let scene = first_scene(alloc, &config)?;
         let config = Arc::new(alloc, config)?;
-        let stats = count(alloc, &scene, 0)?;
+        let stats = scene.stats(0);
         Ok(World {
             config,
             scene,
@@ -132,13 +131,22 @@ impl World {
     }
 
     /// What this world shows.
+    #[tactic(auto, unfolding(world_rules::specs::Picture::picture_of))]
     pub fn picture(&self, alloc: Global) -> Result<Arc<WorldPicture, Global>, Memory>
         ensures config { IfOk result
             (λ picture. values_of picture.value.config.value ≡ self.now.config) }
         ensures update { IfOk result (λ picture. picture.value.update ≡ self.now.update) }
     {
-        let _ = alloc;
-        Err(Memory)
+        let stats = &self.stats;
+        let picture = WorldPicture {
+            config: Arc::try_clone(&self.config)?,
+            update: self.scene.update,
+            living: stats.living,
+            genotypes: stats.genotypes,
+            merit: stats.merit,
+            dominant: self.scene.cells.dominant()?,
+        };
+        Ok(Arc::new(alloc, picture)?)
     }
 
     /// The genome of who stands in the cell; None exactly where it is empty.
@@ -147,7 +155,7 @@ impl World {
         ensures { option_map (λ genome. letters genome.now) result
             ≡ genome_in (world_in self.now) cell }
     {
-        match &self.scene.cells[cell as usize] {
+        match &self.scene.cells.cells()[cell as usize] {
             Some(occupant) => Some(occupant.organism.genome()),
             None => None,
         }

@@ -19,3 +19,4 @@ mod ConfigBounds
 mod Descents
 mod LineDescents
 mod Merits
+pub mod Keepings

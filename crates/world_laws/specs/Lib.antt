@@ -1,2 +1,3 @@
 pub use Rattle.world_rules.specs.Laws
 pub mod Heredity
+pub mod Keeping

@@ -1,12 +1,15 @@
 // Laws of every run (docs/WORLD.md, "Time slices", "The log of a run" and "Lines of descent").
 ghost use Rattle.std.specs.Prelude.{◌≡◌, ℕ, ◌≤◌, ◌^◌, IfSome, Some, map, sum, slice_get};
 ghost use Rattle.organism.specs.Lived.{IsSoundOrganism};
+ghost use Rattle.organism.specs.SettingNumbers.{SettingNumbers};
+ghost use Rattle.organism.specs.UpdateLife.{LifeState, life};
 ghost use Rattle.world_config.specs.Shown.{values_of};
 ghost use Rattle.world_rules.specs.Descent.{line_in};
 ghost use Rattle.world_rules.specs.Laws.{ReplaysToLiving};
 ghost use Rattle.world_rules.specs.Lives.{merit_in};
 ghost use Rattle.world_rules.specs.World.{Occupant};
 ghost use Rattle.world_rules.specs.WorldRun.{world_after};
+ghost use Rattle.world_laws.specs.Keeping.{HasKept};
 ghost use Rattle.world_laws.specs.Heredity.{AreDescended, IsDescent, IsLastOfLine};
 
 use world_config::Config;
@@ -65,3 +68,9 @@ pub fn organisms_are_sound(config: &Config, updates: u32)
     organism::laws::new_organisms_are_sound();
     random_streams::laws::words_fit();
 }
+
+/// A life keeps the genome, and nothing but a birth changes the merit and the credited set.
+pub fn births_alone_change_merits()
+    ensures { (settings : SettingNumbers) (words : ℕ → ℕ) (start : LifeState) (steps : ℕ)
+        → HasKept start (life settings words start steps).0 }
+{}

@@ -22,7 +22,7 @@ place-requires c =
     let each : All (λ (b : Delivery). below b.cell) births = λ k d within. subst (λ (n : ℕ). (get_or births k d).cell < n) same (c.requires.births.each k d within).cell in
     let number : length parents ≡ length births = ap length c.in_ok-parents.ensures ∙ length-map births (λ (b : Delivery). b.cell) in
     record {
-      cells = ap length c.in_ok-board.ensures ∙ length-map c.deref.result.now id_of ∙ ap length c.deref.ensures.value ∙ ap (λ (s : Scene). length s.cells) c.scene.view_is ∙ same;
+      cells = ap length c.in_ok-board.ensures ∙ length-map c.cells.result.now id_of ∙ ap length c.cells.ensures.cells ∙ ap (λ (s : Scene). length s.cells) c.scene.view_is ∙ same;
       in_torus = All-same below parents (map (λ (b : Delivery). b.cell) births) c.in_ok-parents.ensures (All-map below (λ (b : Delivery). b.cell) births each);
       rising = subst IsNonDecreasing (sym c.in_ok-parents.ensures) c.requires.births.rising;
       few = omega (arith, number, c.requires.births.few);

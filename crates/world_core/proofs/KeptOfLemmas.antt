@@ -1,0 +1,95 @@
+-- What is kept of who stands in the cells, as one of them changes.
+use Rattle.std.proofs.Common.{◌≡◌, ◌∙◌, refl, sym, ap, subst, ℕ, zero, suc, ◌∷◌, ◌+◌, ◌<◌, ◌≤◌, ◌^◌, List, [], length, map, set, get_or, Option, Some, None, is_some, replicate, arith}
+use Rattle.std.proofs.lemmas.List.{get_or-map, map-set, length-map, set-get_or}
+use Rattle.std.specs.Prelude.{slice_get}
+use Rattle.std.proofs.lemmas.List.Sums.{count_by-le-length}
+use Rattle.census.specs.Changes.{CanAdd, CanRemove, genotype_with_one, genotype_without_one, with_organism, without_organism}
+use Rattle.census.specs.Counts.{Counts, GenotypeCount, genotype_at, living_of}
+use Rattle.instruction_set.specs.declared.letter.Letter.{Letter}
+use Rattle.world_rules.specs.World.{Occupant}
+use Rattle.world_core.specs.Population.{IsKeptOf, AreCountedIn, AreDifferent, AreSummedIn, genome_of, genomes_of, with_genome}
+use Rattle.world_core.proofs.GenomeLemmas.{OneList}
+use Rattle.world_core.proofs.StandingLemmas.{AreCountedIn-more, AreCountedIn-none, AreCountedIn-put, AreCountedIn-removed, some-counted}
+use Rattle.world_core.proofs.SumLemmas.{AreSummedIn-none, AreSummedIn-put, AreSummedIn-removed, credited-counted, merit-counted, merit-room, tasks-room}
+
+-- where nobody stands no genome does
+nobody : (n : ℕ) → genomes_of (replicate n None) ≡ replicate n None
+nobody zero = refl
+nobody (suc n) = ap (λ slots. None ∷ slots) (nobody n)
+
+-- nobody stands anywhere
+pub IsKeptOf-none : (n : ℕ) (cells : List (Option Occupant)) (genomes : List (List Letter)) (keys : List ℕ) (counts : Counts) → cells ≡ replicate n None → genomes ≡ [] → length keys ≡ n → counts ≡ record { genotypes = []; merit = 0; tasks = replicate 9 0 } → n ≤ 65536 → IsKeptOf cells genomes keys counts
+IsKeptOf-none n cells genomes keys counts empty unnumbered long nothing few =
+    let standing : genomes_of (replicate n None) ≡ replicate n None = nobody n in
+    let start : IsKeptOf (replicate n None) [] keys (record { genotypes = []; merit = 0; tasks = replicate 9 0 }) = record {
+      different = λ number other genome is has. cc;
+      genotypes = subst (λ (s : List (Option (List Letter))). AreCountedIn s [] keys []) (sym standing) (AreCountedIn-none n keys long);
+      sums = AreSummedIn-none n few;
+    } in
+    rw (empty, unnumbered, nothing) start
+
+-- the genome in a cell
+standing-at : (cells : List (Option Occupant)) (cell : ℕ) → cell < length cells → get_or (genomes_of cells) cell None ≡ genome_of (get_or cells cell None)
+standing-at cells cell within = get_or-map genome_of cells cell None None (omega (arith, within, length-map cells genome_of))
+
+module _ (one_list : OneList) (cells : List (Option Occupant)) (genomes : List (List Letter)) (keys : List ℕ) (before after : Counts) (cell : ℕ) (within : cell < length cells) where
+  -- in an empty cell nobody dies
+  pub IsKeptOf-empty : get_or cells cell None ≡ None → IsKeptOf cells genomes keys before → IsKeptOf (set cells cell None) genomes keys before
+  IsKeptOf-empty here kept =
+      let same : set cells cell None ≡ cells = ap (set cells cell) (sym here) ∙ set-get_or cells cell None in
+      subst (λ cells. IsKeptOf cells genomes keys before) (sym same) kept
+
+  module _ (o : Occupant) (kept : IsKeptOf cells genomes keys before) (here : get_or cells cell None ≡ Some o) where
+    stands : get_or (genomes_of cells) cell None ≡ Some o.organism.genome
+    stands = standing-at cells cell within ∙ ap genome_of here
+
+    wide : cell < length (genomes_of cells)
+    wide = omega (arith, within, length-map cells genome_of)
+
+    -- an organism that stands in a cell may go
+    pub can-remove : CanRemove before (get_or keys cell 0) o.organism.merit o.organism.credited
+    can-remove = record {
+      counted = some-counted one_list (genomes_of cells) genomes keys before.genotypes cell o.organism.genome wide stands kept.genotypes;
+      merits = merit-counted cells cell o before.merit before.tasks within here kept.sums;
+      tasks = credited-counted cells cell o before.merit before.tasks within here kept.sums;
+    }
+
+    pub IsKeptOf-removed : after ≡ without_organism before (get_or keys cell 0) o.organism.merit o.organism.credited → ((other : ℕ) → genotype_at after.genotypes other ≡ genotype_without_one before.genotypes (get_or keys cell 0) other) → living_of after.genotypes + 1 ≡ living_of before.genotypes → IsKeptOf (set cells cell None) genomes keys after
+    IsKeptOf-removed is under living = record {
+      different = kept.different;
+      genotypes = subst (λ (s : List (Option (List Letter))). AreCountedIn s genomes keys after.genotypes) (sym (map-set genome_of cells cell None)) (AreCountedIn-removed one_list (genomes_of cells) genomes keys before.genotypes after.genotypes cell o.organism.genome kept.different wide stands kept.genotypes under living);
+      sums = rw is (AreSummedIn-removed cells cell o before.merit before.tasks within here kept.sums);
+    }
+
+  module _ (o : Occupant) (number : ℕ) (different : AreDifferent (with_genome genomes o.organism.genome)) (number_is : slice_get (with_genome genomes o.organism.genome) number ≡ Some o.organism.genome) (empty : get_or cells cell None ≡ None) (fits : o.organism.merit ≤ 2 ^ 38) (kept : IsKeptOf cells genomes keys before) where
+    more : AreCountedIn (genomes_of cells) (with_genome genomes o.organism.genome) keys before.genotypes
+    more = AreCountedIn-more one_list (genomes_of cells) genomes keys before.genotypes o.organism.genome different kept.genotypes
+
+    -- a genome more has a number, and nothing else is kept otherwise
+    pub IsKeptOf-numbered : IsKeptOf cells (with_genome genomes o.organism.genome) keys before
+    IsKeptOf-numbered = record { different = different; genotypes = more; sums = kept.sums }
+
+    -- an organism may come into an empty cell
+    pub can-add : CanAdd before number o.organism.genome o.organism.merit
+    can-add = record {
+      one_genome = λ genotype at. (let some : Some genotype.genome ≡ Some o.organism.genome = sym (more.named number genotype at) ∙ number_is in cc);
+      one_key = λ other genotype at same. different other number o.organism.genome (more.named other genotype at ∙ ap Some same) number_is;
+      living = omega (arith, more.living, kept.sums.few, length-map cells genome_of, count_by-le-length is_some (genomes_of cells));
+      merits = omega (arith, fits, merit-room cells before.merit before.tasks kept.sums);
+      tasks = tasks-room cells before.merit before.tasks kept.sums;
+    }
+
+    pub IsKeptOf-put : after ≡ with_organism before number o.organism.genome o.organism.merit o.organism.credited → ((other : ℕ) → genotype_at after.genotypes other ≡ genotype_with_one before.genotypes number o.organism.genome other) → living_of after.genotypes ≡ living_of before.genotypes + 1 → IsKeptOf (set cells cell (Some o)) (with_genome genomes o.organism.genome) (set keys cell number) after
+    IsKeptOf-put is under living = record {
+      different = different;
+      genotypes = subst (λ (s : List (Option (List Letter))). AreCountedIn s (with_genome genomes o.organism.genome) (set keys cell number) after.genotypes) (sym (map-set genome_of cells cell (Some o))) (AreCountedIn-put one_list (genomes_of cells) (with_genome genomes o.organism.genome) keys before.genotypes after.genotypes cell number o.organism.genome different (omega (arith, within, length-map cells genome_of)) (standing-at cells cell within ∙ ap genome_of empty) number_is more under living);
+      sums = rw is (AreSummedIn-put cells cell o before.merit before.tasks within empty fits kept.sums);
+    }
+
+-- all have lived
+pub IsKeptOf-lived : (cells next : List (Option Occupant)) (genomes : List (List Letter)) (keys : List ℕ) (before after : Counts) → IsKeptOf cells genomes keys before → after.genotypes ≡ before.genotypes → genomes_of next ≡ genomes_of cells → AreSummedIn next after.merit after.tasks → IsKeptOf next genomes keys after
+IsKeptOf-lived cells next genomes keys before after kept same standing sums = record {
+  different = kept.different;
+  genotypes = rw (standing, same) kept.genotypes;
+  sums = sums;
+}

@@ -1,0 +1,81 @@
+-- A life keeps the genome, and changes the merit and the credited set by births alone.
+use Rattle.std.proofs.Common.{◌≡◌, ◌∙◌, refl, ℕ, ℤ, zero, suc, ◌+◌, List, [], ◌∷◌, ◌++◌, Option, Some, None}
+use Rattle.instruction_set.specs.declared.letter.Letter.{Letter}
+use Rattle.divide_rules.specs.Rules.{RuleNumbers}
+use Rattle.logic_tasks.specs.declared.task.Task.{Task}
+use Rattle.virtual_cpu.specs.declared.did.Did.{Did}
+use Rattle.virtual_cpu.specs.declared.did.Did.TheVariants.{Output, Asks}
+use Rattle.organism.specs.declared.outcome.Outcome.{Outcome}
+use Rattle.organism.specs.declared.outcome.Outcome.TheVariants as outcome
+use Rattle.organism.specs.Life.{after_did, after_output, life_step, machine_step, newly_done, older, renewed, with_done}
+use Rattle.organism.specs.OrganismState.{OrganismState}
+use Rattle.organism.specs.SettingNumbers.{SettingNumbers}
+use Rattle.organism.specs.UpdateLife.{LifeState, after_copy, after_outcome, after_step, copy_drawn, death_in, ended, life, state_after}
+use Rattle.world_laws.specs.Keeping.{HasKept}
+
+-- an organism with the genome, the merit and the credited set of another
+record IsAlike (o other : OrganismState) : Type 0 where
+  genome : other.genome ≡ o.genome
+  merit : other.merit ≡ o.merit
+  credited : other.credited ≡ o.credited
+
+done-alike : (o : OrganismState) (task : Option Task) → IsAlike o (with_done o task).0
+done-alike o None = record { genome = refl; merit = refl; credited = refl }
+done-alike o (Some task) = record { genome = refl; merit = refl; credited = refl }
+
+output-alike : (o : OrganismState) (output : ℤ) → IsAlike o (after_output o output).0
+unfolding after_output
+output-alike o output =
+    let read : OrganismState = record o { read = o.read + 1 } in
+    let done = done-alike read (newly_done o output) in
+    record { genome = done.genome; merit = done.merit; credited = done.credited }
+
+did-alike : (o : OrganismState) (rules : RuleNumbers) (did : Did) → IsAlike o (after_did o rules did).0
+did-alike o rules (Output value) = output-alike o value
+did-alike o rules (Asks ask) = record { genome = refl; merit = refl; credited = refl }
+did-alike o rules _ = record { genome = refl; merit = refl; credited = refl }
+
+step-alike : (o : OrganismState) (copy : Option Letter) (rules : RuleNumbers) → IsAlike o (life_step o copy rules).0
+unfolding life_step
+step-alike o copy rules =
+    let aged = older o (machine_step o copy).0 in
+    let did = did-alike aged rules (machine_step o copy).1 in
+    record { genome = did.genome; merit = did.merit; credited = did.credited }
+
+-- a list with one more is not empty
+one-more : {X : Type 0} (xs : List X) (x : X) → xs ++ x ∷ [] ≡ [] → ⊥
+one-more [] x is = absurd (cc)
+one-more (y ∷ ys) x is = absurd (cc)
+
+outcome-kept : (settings : SettingNumbers) (words : ℕ → ℕ) (start now : LifeState) (told : Outcome) → HasKept start now → HasKept start (after_outcome settings words now told)
+unfolding renewed
+outcome-kept settings words start now (outcome.Viable ask) kept = record {
+  genome = kept.genome;
+  merit = λ none. absurd (one-more now.newborns _ none);
+  credited = λ none. absurd (one-more now.newborns _ none);
+}
+outcome-kept settings words start now _ kept = kept
+
+more-kept : (settings : SettingNumbers) (words : ℕ → ℕ) (start now : LifeState) → HasKept start now → HasKept start (after_step settings words now)
+unfolding after_step
+more-kept settings words start now kept =
+    let copy = copy_drawn words settings.rates.copy now.next now.organism in
+    let stepped = life_step now.organism copy settings.rules in
+    let same = step-alike now.organism copy settings.rules in
+    outcome-kept settings words start (record now { organism = stepped.0; next = after_copy words settings.rates.copy now.next now.organism }) stepped.1 (record {
+      genome = same.genome ∙ kept.genome;
+      merit = λ none. same.merit ∙ kept.merit none;
+      credited = λ none. same.credited ∙ kept.credited none;
+    })
+
+steps-kept : (settings : SettingNumbers) (words : ℕ → ℕ) (start : LifeState) (steps : ℕ) → HasKept start (state_after settings words start steps)
+unfolding state_after
+steps-kept settings words start zero = record { genome = refl; merit = λ none. refl; credited = λ none. refl }
+steps-kept settings words start (suc steps) = more-kept settings words start (state_after settings words start steps) (steps-kept settings words start steps)
+
+pub life-kept : (settings : SettingNumbers) (words : ℕ → ℕ) (start : LifeState) (steps : ℕ) → HasKept start (life settings words start steps).0
+unfolding life
+life-kept settings words start steps = by (death_in settings words start steps) where
+  by : (death : Option ℕ) → HasKept start (ended settings words start steps death).0
+  by None = steps-kept settings words start steps
+  by (Some step) = steps-kept settings words start (step + 1)
