@@ -55,5 +55,8 @@ fn quotient(steps: u64, part: u64, all: u64) -> u64
     ensures value { result ≡ quota steps part all }
     ensures bounded { result ≤ steps }
 {
-    (u128::from(steps) * u128::from(part) / u128::from(all)) as u64
+    match steps.checked_mul(part) {
+        Some(product) => product / all,
+        None => (u128::from(steps) * u128::from(part) / u128::from(all)) as u64,
+    }
 }
