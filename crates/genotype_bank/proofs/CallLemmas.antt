@@ -1,0 +1,76 @@
+-- The steps of one interning, put together.
+use Rattle.std.proofs.Common.{◌≡◌, ℕ, List, [], ◌∷◌, ◌++◌, Bool, true, false, refl, sym, ap, ◌∙◌, subst, eq-eqb, ◌||◌, Option}
+use mathlib.Core.List.{IsPrefix}
+use Rattle.std.specs.List.Sorted.{IsPermutation}
+use Rattle.std.proofs.lemmas.List.Sorted.{IsPermutation-refl, IsPermutation-trans, IsPermutation-cons, IsPermutation-middle}
+use Rattle.genotype_bank.proofs.StepLemmas.{has_app, own_if}
+use Rattle.genotype_bank.specs.declared.catalog.Catalog.{Catalog}
+use Rattle.genotype_bank.specs.declared.view.View.{View}
+use Rattle.genotype_bank.specs.declared.view.Entry.{Entry}
+use Rattle.genotype_bank.specs.declared.view.Call.{Call}
+use Rattle.genotype_bank.specs.BankHistory.{entry, is_among, calls_under, genotypes_of, with_call}
+use Rattle.atomic_table.specs.Seated.{TableId}
+use Rattle.genotype_bank.specs.Seats.{MakesCall, SeatValue, all_shares}
+use Rattle.genotype_bank.specs.BankTable.{idle_view, with_ticket, at_turn, genomes_in, last_call, number_of, Seated}
+use Rattle.genotype_bank.proofs.DifferentLemmas.{genotypes_of_push}
+use Rattle.genotype_bank.proofs.GenomeLemmas.{OneList}
+
+pub own_end : (c : List ℕ) (h : List Entry) (e : Entry) → is_among e.seat c ≡ true → calls_under c (h ++ e ∷ []) ≡ calls_under c h ++ e ∷ []
+own_end c [] e is = ap (λ b. own_if b e []) is
+own_end c (x ∷ h) e is = ap (own_if (is_among x.seat c) x) (own_end c h e is) ∙ out (is_among x.seat c)
+  where
+    out : (b : Bool) → own_if b x (calls_under c h ++ e ∷ []) ≡ own_if b x (calls_under c h) ++ e ∷ []
+    out true = refl
+    out false = refl
+
+abbrev pub Grows : View → View → Call → Type 0
+Grows v w call = (n : ℕ) × (h : List Entry) × IsPrefix v.seen h × (w.seen ≡ h ++ entry n call ∷ []) × (calls_under w.carried w.seen ≡ calls_under v.carried v.seen ++ entry n call ∷ [])
+
+grown : (v : View) (j t : ℕ) (history : List Entry) (call : Call) → calls_under (j ∷ v.carried) v.seen ≡ calls_under v.carried v.seen
+    → IsPrefix v.seen history → calls_under (j ∷ v.carried) history ≡ calls_under (j ∷ v.carried) v.seen → Grows v (idle_view v.share (j ∷ v.carried) (history ++ entry j call ∷ [])) call
+grown v j t history call first pre same = (j, history, pre, refl, own_end (j ∷ v.carried) history (entry j call) (ap (λ b. b || is_among j v.carried) (eq-eqb j j refl)) ∙ ap (λ l. l ++ entry j call ∷ []) (same ∙ first))
+
+pub grows : (v : View) (j t : ℕ) (history : List Entry) (call : Call) (c0 c1 : List (ℕ × Option Catalog)) (a b d : Seated) → a ≡ (with_ticket v j t, c0) → b ≡ (at_turn a.0 history, c1) → d ≡ (idle_view b.0.share b.0.carried (b.0.seen ++ entry (number_of b.0) call ∷ []), [])
+    → calls_under (j ∷ v.carried) v.seen ≡ calls_under v.carried v.seen → IsPrefix a.0.seen history → calls_under a.0.carried history ≡ calls_under a.0.carried a.0.seen → Grows v d.0 call
+grows v j t history call c0 c1 a b d e1 e2 e3 first pre same =
+    subst (λ (m : Seated). Grows v m.0 call) (sym e3)
+    (subst (λ (m : Seated). Grows v (idle_view m.0.share m.0.carried (m.0.seen ++ entry (number_of m.0) call ∷ [])) call) (sym e2)
+    (subst (λ (m : Seated). IsPrefix m.0.seen history → calls_under m.0.carried history ≡ calls_under m.0.carried m.0.seen → Grows v (idle_view m.0.share m.0.carried (history ++ entry (number_of m.0) call ∷ [])) call) (sym e1)
+    (λ p s. grown v j t history call first p s) pre same))
+
+-- the calls of two seats that share no number
+pub own_both : (c d : List ℕ) (h : List Entry) → ((n : ℕ) → is_among n c ≡ true → is_among n d ≡ true → ⊥) → IsPermutation (calls_under c h ++ calls_under d h) (calls_under (c ++ d) h)
+own_both c d [] no' = IsPermutation-refl []
+own_both c d (e ∷ es) no' =
+    subst (λ b. IsPermutation (own_if (is_among e.seat c) e (calls_under c es) ++ own_if (is_among e.seat d) e (calls_under d es)) (own_if b e (calls_under (c ++ d) es))) (sym (has_app e.seat c d))
+    (by (own_both c d es no') (is_among e.seat c) (is_among e.seat d) (no' e.seat))
+  where
+    by : IsPermutation (calls_under c es ++ calls_under d es) (calls_under (c ++ d) es) → (a b : Bool) → (a ≡ true → b ≡ true → ⊥) → IsPermutation (own_if a e (calls_under c es) ++ own_if b e (calls_under d es)) (own_if (a || b) e (calls_under (c ++ d) es))
+    by p true true nay = absurd (nay refl refl)
+    by p true false nay = IsPermutation-cons e (calls_under c es ++ calls_under d es) (calls_under (c ++ d) es) p
+    by p false true nay = IsPermutation-trans (calls_under c es ++ e ∷ calls_under d es) (e ∷ (calls_under c es ++ calls_under d es)) (e ∷ calls_under (c ++ d) es) (IsPermutation-middle (calls_under c es) e (calls_under d es)) (IsPermutation-cons e (calls_under c es ++ calls_under d es) (calls_under (c ++ d) es) p)
+    by p false false nay = p
+
+-- a view, as contracts see its seat
+abbrev pub seat_of : TableId → View → SeatValue
+seat_of bank v = record { bank = bank; share = v.share; numbers = v.carried; seen = v.seen }
+
+-- the steps of one call, put together, where a whole seat owned all that it had seen and owns all that it has seen
+pub makes_call : (bank then : TableId) (v w : View) (call : Call) → Grows v w call
+    → (v.share ≡ all_shares → calls_under v.carried v.seen ≡ v.seen) → (v.share ≡ all_shares → calls_under w.carried w.seen ≡ w.seen)
+    → MakesCall (seat_of bank v) (seat_of then w) call
+makes_call bank then v w call g before after = record {
+  number = g.0;
+  others = g.2.0;
+  seen = g.3 ∙ ap (λ h. h ++ entry g.0 call ∷ []) (sym g.2.1);
+  own = g.4;
+  alone = λ whole. sym (after whole) ∙ (g.4 ∙ ap (λ h. h ++ entry g.0 call ∷ []) (before whole));
+}
+
+-- the catalog that a call gives back has the genotypes of the history with this call
+pub known_after : OneList → (before after : Catalog) (m : Seated) (history : List Entry) → genomes_in after ≡ with_call (genomes_in before) (last_call after)
+    → genomes_in before ≡ genotypes_of history → m.0.seen ≡ history
+    → genomes_in after ≡ genotypes_of (m.0.seen ++ entry (number_of m.0) (last_call after) ∷ [])
+known_after one_list before after m history served known seen =
+    served ∙ (ap (λ genomes. with_call genomes (last_call after)) (known ∙ ap genotypes_of (sym seen))
+    ∙ sym (genotypes_of_push one_list m.0.seen (entry (number_of m.0) (last_call after))))

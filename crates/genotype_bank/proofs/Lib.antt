@@ -1,0 +1,5 @@
+pub mod DifferentLemmas
+pub mod GenomeLemmas
+pub mod ViewLemmas
+pub mod StepLemmas
+pub mod CallLemmas

@@ -1,0 +1,13 @@
+use Rattle.std.proofs.Common.{rules, sym, ap, ◌∙◌, ◌++◌, ◌∷◌, []}
+use Rattle.genotype_bank.specs.BankHistory.{entry, genotypes_of}
+use Rattle.genotype_bank.specs.BankTable.{call_in, number_of}
+use Rattle.genotype_bank.proofs.StepLemmas.{releases}
+use Rattle.genotype_bank.proofs.bank.Bank.release.Goals as goal
+
+pub fetch_add-requires : goal.fetch_add-requires
+fetch_add-requires c =
+    let back = c.requires.back in
+    let turn = c.requires.turn in
+    let m = c.args.pass.now.me in
+    (search rules, search rules, releases _ _ _ back.0 back.1 turn.0 turn.1
+        (back.2 ∙ ap (λ call. genotypes_of (m.0.seen ++ entry (number_of m.0) call ∷ [])) (sym (ap call_in back.1))))

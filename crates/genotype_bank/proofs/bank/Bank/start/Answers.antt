@@ -1,0 +1,13 @@
+use Rattle.std.proofs.Common.{sym, ap, ◌∙◌, subst, List, [], ◌∷◌, ◌++◌, Some, None, Option}
+use Rattle.atomic_table.specs.Table.{opening}
+use Rattle.genotype_bank.specs.declared.catalog.Catalog.{Catalog}
+use Rattle.genotype_bank.specs.BankTable.{IsBankTable, first_view}
+use Rattle.genotype_bank.specs.Letters.{letters_in}
+use Rattle.genotype_bank.proofs.StepLemmas.{begins}
+use Rattle.genotype_bank.proofs.bank.Bank.start.Goals as goal
+
+pub new-requires : goal.new-requires
+new-requires c =
+    let d : Catalog = record { genomes = c.new-genomes.result; last = None } in
+    subst (λ (l : List (Option Catalog)). IsBankTable (opening (0 ∷ 0 ∷ []) l first_view)) (sym (c.push_reserved.ensures.items ∙ ap (λ l. l ++ Some d ∷ []) (c.in_ok-slots.ensures.items)))
+    (begins d (ap letters_in c.new-genomes.ensures.empty))

@@ -1,0 +1,60 @@
+-- The calls that a bank has served, and the numbers that genomes have (docs/ARCHITECTURE.md, "The bank of genotypes").
+use Rattle.std.specs.Prelude.{◌≢◌, ◌↔◌, ℕ, ◌==◌, Bool, true, false, not, List, [], ◌∷◌, ◌++◌, Option, None, Some, AllPairs, Contains, filter, filter_map, if◌then◌else◌}
+use Rattle.std.specs.List.{list_any}
+use Rattle.instruction_set.specs.declared.letter.Letter.{Letter}
+use Rattle.instruction_set.specs.Letter.{same_letters}
+use Rattle.genotype_bank.specs.declared.view.Entry.{Entry}
+use Rattle.genotype_bank.specs.declared.view.Call.{Call}
+use Rattle.genotype_bank.specs.declared.view.Call.TheVariants.{Interned, Refused}
+
+-- a call of the seat that drew it under this number
+abbrev pub entry : ℕ → Call → Entry
+entry number call = record { seat = number; call = call }
+
+-- what a call of this genome came to
+abbrev pub call_of : Bool → List Letter → Call
+call_of true genome = Interned genome
+call_of false genome = Refused
+
+-- the genome that a call interned
+abbrev pub genome_of : Call → Option (List Letter)
+genome_of (Interned genome) = Some genome
+genome_of Refused = None
+
+-- the genomes that a history interned, in the order of its calls
+abbrev pub genomes_of : List Entry → List (List Letter)
+genomes_of history = filter_map (λ one. genome_of one.call) history
+
+-- the different ones of some genomes, in order of their first place
+abbrev pub different_of : List (List Letter) → List (List Letter)
+different_of [] = []
+different_of (genome ∷ genomes) =
+    genome ∷ filter (λ other. not (same_letters genome other)) (different_of genomes)
+
+-- the different genomes that a history interned, in order of their first place; a genome's number
+-- is its place among them
+abbrev pub genotypes_of : List Entry → List (List Letter)
+genotypes_of history = different_of (genomes_of history)
+
+-- a number is one of these
+abbrev pub is_among : ℕ → List ℕ → Bool
+is_among number numbers = list_any (λ other. number == other) numbers
+
+-- the calls of a history that were drawn under one of these numbers
+abbrev pub calls_under : List ℕ → List Entry → List Entry
+calls_under numbers history = filter (λ one. is_among one.seat numbers) history
+
+-- a genome stands behind these, unless it is one of them
+abbrev pub with_genome : List (List Letter) → List Letter → List (List Letter)
+with_genome genotypes genome =
+    if list_any (same_letters genome) genotypes then genotypes else genotypes ++ genome ∷ []
+
+-- the genotypes after one more call
+abbrev pub with_call : List (List Letter) → Call → List (List Letter)
+with_call genotypes (Interned genome) = with_genome genotypes genome
+with_call genotypes Refused = genotypes
+
+-- the first list has exactly the members of the second, each once
+pub record HasEachOnce (genotypes genomes : List (List Letter)) : Type 0 where
+  pub members : (genome : List Letter) → Contains genotypes genome ↔ Contains genomes genome
+  pub once : AllPairs (λ one other. one ≢ other) genotypes

@@ -1,0 +1,4 @@
+pub mod BankHistory
+pub mod Letters
+pub mod Seats
+pub mod BankTable

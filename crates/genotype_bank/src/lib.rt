@@ -1,0 +1,19 @@
+//! Genotypes and their numbers, for many threads: each different genome is kept once.
+#![tactic(auto)]
+
+mod bank;
+mod catalog;
+mod crossing;
+mod handle;
+pub mod laws;
+mod rule;
+mod seat;
+mod steps;
+pub mod view;
+
+pub use bank::{Bank, Genomes};
+pub use handle::Handle;
+pub use seat::Seat;
+
+#[cfg(test)]
+mod tests;

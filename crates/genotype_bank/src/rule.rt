@@ -1,0 +1,75 @@
+// The rule of a bank's table, and what each of its steps tells.
+use crate::catalog::Catalog;
+use crate::view::View;
+use atomic_table::{Join, Play, Split, Table, TableRule};
+use std::alloc::Global;
+
+/// The rule that each step keeps.
+pub struct BankRule;
+
+impl TableRule<Option<Catalog>, View, ()> for BankRule {
+    ghost use Rattle.genotype_bank.specs.BankTable.{IsBankTable, first_view};
+
+    ghost holds = { λ _ s. IsBankTable s };
+
+    ghost first = { λ _. first_view };
+}
+
+/// A turn is drawn.
+pub struct Draw;
+
+impl Play<Option<Catalog>, View> for Draw {
+    ghost use Rattle.genotype_bank.specs.BankTable.{HasDrawn};
+
+    ghost then = { HasDrawn };
+}
+
+/// The seat looks whose turn it is.
+pub struct Look;
+
+impl Play<Option<Catalog>, View> for Look {
+    ghost use Rattle.genotype_bank.specs.BankTable.{HasLooked};
+
+    ghost then = { HasLooked };
+}
+
+/// The turn is passed on.
+pub struct Release;
+
+impl Play<Option<Catalog>, View> for Release {
+    ghost use Rattle.genotype_bank.specs.BankTable.{HasReleased};
+
+    ghost then = { HasReleased };
+}
+
+/// A joined seat learns from the seats that it was joined from.
+pub struct Recall;
+
+impl Play<Option<Catalog>, View> for Recall {
+    ghost use Rattle.genotype_bank.specs.BankTable.{HasRecalled};
+
+    ghost then = { HasRecalled };
+}
+
+/// How shares go from seat to seat.
+pub struct Shares;
+
+impl Split<View> for Shares {
+    ghost use Rattle.genotype_bank.specs.BankTable.{kept_half, new_half};
+
+    ghost left = { kept_half };
+
+    ghost right = { new_half };
+}
+
+impl Join<View> for Shares {
+    ghost use Rattle.genotype_bank.specs.BankTable.{joined_view, spent_view};
+
+    ghost both = { joined_view };
+
+    ghost spent = { spent_view };
+}
+
+pub(crate) type BankTable = Table<Option<Catalog>, View, (), BankRule, Global>;
+
+pub(crate) type Pass = atomic_table::Seat<Option<Catalog>, View>;
