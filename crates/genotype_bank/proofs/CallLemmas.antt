@@ -1,5 +1,5 @@
 -- The steps of one interning, put together.
-use Rattle.std.proofs.Common.{◌≡◌, ℕ, List, [], ◌∷◌, ◌++◌, Bool, true, false, refl, sym, ap, ◌∙◌, subst, eq-eqb, ◌||◌, Option}
+use Rattle.std.proofs.Common.{◌≡◌, ℕ, List, [], ◌∷◌, ◌++◌, Bool, true, false, refl, sym, ap, ◌∙◌, subst, eq-eqb, ◌||◌, Option, append_assoc}
 use mathlib.Core.List.{IsPrefix}
 use Rattle.std.specs.List.Sorted.{IsPermutation}
 use Rattle.std.proofs.lemmas.List.Sorted.{IsPermutation-refl, IsPermutation-trans, IsPermutation-cons, IsPermutation-middle}
@@ -11,7 +11,7 @@ use Rattle.genotype_bank.specs.declared.view.Call.{Call}
 use Rattle.genotype_bank.specs.BankHistory.{entry, is_among, calls_under, genotypes_of, with_call}
 use Rattle.atomic_table.specs.Seated.{TableId}
 use Rattle.genotype_bank.specs.Seats.{MakesCall, SeatValue, all_shares}
-use Rattle.genotype_bank.specs.BankTable.{idle_view, with_ticket, at_turn, genomes_in, last_call, number_of, Seated}
+use Rattle.genotype_bank.specs.BankTable.{idle_view, with_ticket, at_turn, genomes_in, last_call, number_of, seat_of, Seated}
 use Rattle.genotype_bank.proofs.DifferentLemmas.{genotypes_of_push}
 use Rattle.genotype_bank.proofs.GenomeLemmas.{OneList}
 
@@ -51,13 +51,9 @@ own_both c d (e ∷ es) no' =
     by p false true nay = IsPermutation-trans (calls_under c es ++ e ∷ calls_under d es) (e ∷ (calls_under c es ++ calls_under d es)) (e ∷ calls_under (c ++ d) es) (IsPermutation-middle (calls_under c es) e (calls_under d es)) (IsPermutation-cons e (calls_under c es ++ calls_under d es) (calls_under (c ++ d) es) p)
     by p false false nay = p
 
--- a view, as contracts see its seat
-abbrev pub seat_of : TableId → View → SeatValue
-seat_of bank v = record { bank = bank; share = v.share; numbers = v.carried; seen = v.seen }
-
 -- the steps of one call, put together, where a whole seat owned all that it had seen and owns all that it has seen
-pub makes_call : (bank then : TableId) (v w : View) (call : Call) → Grows v w call
-    → (v.share ≡ all_shares → calls_under v.carried v.seen ≡ v.seen) → (v.share ≡ all_shares → calls_under w.carried w.seen ≡ w.seen)
+pub makes_call : (bank then : TableId) (v w : Seated) (call : Call) → Grows v.0 w.0 call
+    → (v.0.share ≡ all_shares → calls_under v.0.carried v.0.seen ≡ v.0.seen) → (v.0.share ≡ all_shares → calls_under w.0.carried w.0.seen ≡ w.0.seen)
     → MakesCall (seat_of bank v) (seat_of then w) call
 makes_call bank then v w call g before after = record {
   number = g.0;
@@ -74,3 +70,8 @@ pub known_after : OneList → (before after : Catalog) (m : Seated) (history : L
 known_after one_list before after m history served known seen =
     served ∙ (ap (λ genomes. with_call genomes (last_call after)) (known ∙ ap genotypes_of (sym seen))
     ∙ sym (genotypes_of_push one_list m.0.seen (entry (number_of m.0) (last_call after))))
+
+-- a history begins with what was seen before a call
+pub MakesCall-begins : (before after : SeatValue) (call : Call) → MakesCall before after call → IsPrefix before.seen after.seen
+MakesCall-begins before after call made =
+    (made.others ++ entry made.number call ∷ [], sym (append_assoc before.seen made.others (entry made.number call ∷ [])) ∙ sym made.seen)

@@ -1,6 +1,7 @@
 -- The different ones of some genomes, as they come one after another.
-use Rattle.std.proofs.Common.{◌≡◌, ◌≢◌, ◌⊎◌, refl, sym, ◌∙◌, ap, subst, inl, inr, ⊎_elim, true≢false, arith, ℕ, Bool, true, false, cond, not, ◌||◌, List, [], ◌∷◌, ◌++◌, map, Contains, append-nil, append_assoc, zero, suc, Some, slice_get}
-use Rattle.std.specs.Prelude.{◌↔◌, AllPairs}
+use Rattle.std.proofs.Common.{◌≡◌, ◌≢◌, ◌⊎◌, refl, sym, ◌∙◌, ap, subst, inl, inr, ⊎_elim, true≢false, arith, ℕ, Bool, true, false, cond, not, ◌||◌, List, [], ◌∷◌, ◌++◌, map, Contains, Option, append-nil, append_assoc, zero, suc, Some, slice_get, length, length-append, get_or, ◌+◌, ◌<◌}
+use Rattle.std.specs.Prelude.{◌↔◌, AllPairs, nat_lt}
+use Rattle.std.proofs.lemmas.Bool.{lt-ltb, le-ltb}
 use Rattle.std.specs.Cmp.{IsEquivalence}
 use mathlib.Core.Logic.{dite}
 use native.Mathlib.Decide.{dec_lt}
@@ -9,7 +10,9 @@ use Rattle.std.proofs.lemmas.Bool.Decides.{same_from_decides}
 use Rattle.std.proofs.lemmas.List.{map_push}
 use Rattle.std.proofs.lemmas.Map.Views.{Contains-from_any, list_any-from_Contains}
 use Rattle.std.proofs.lemmas.Option.{slice_get_within, get_or_from_slice_get}
-use Rattle.std.proofs.lemmas.List.Elements.{filter-append, filter_map-append, Contains-get_or}
+use Rattle.std.proofs.lemmas.List.Elements.{filter-append, filter_map-append, Contains-append_left, Contains-get_or, Contains-push, Contains-push_cases}
+use Rattle.std.proofs.lemmas.List.Sorted.{IsPermutation-sym}
+use Rattle.std.specs.List.Sorted.{IsPermutation}
 use Rattle.std.proofs.lemmas.List.Quantifiers.{all_pairs_push}
 use mathlib.Core.List.{IsPrefix}
 use Rattle.instruction_set.specs.declared.letter.Letter.{Letter}
@@ -20,6 +23,7 @@ use Rattle.genotype_bank.specs.declared.view.Call.TheVariants.{Interned, Refused
 use Rattle.genotype_bank.specs.BankHistory.{HasEachOnce, different_of, genome_of, genomes_of, genotypes_of, with_call, with_genome}
 use Rattle.genotype_bank.specs.Seats.{NumbersAgree}
 use Rattle.genotype_bank.proofs.GenomeLemmas.{OneList}
+use Rattle.genotype_bank.proofs.MemberLemmas.{Contains-filter_map_permuted}
 
 abbrev Letters : Type 0
 Letters = List Letter
@@ -180,6 +184,48 @@ module _ (one_list : OneList) where
     once = AreApart-different_of genomes;
   }
 
+  Contains-with_genome : (known : List Letters) (new x : Letters) → Contains known x ⊎ (new ≡ x) → Contains (with_genome known new) x
+  Contains-with_genome known new x h = by (list_any (same_letters new) known) refl
+    where
+      by : (b : Bool) → list_any (same_letters new) known ≡ b → Contains (cond b known (known ++ new ∷ [])) x
+      by true e = ⊎_elim (λ (k : Contains known x). k) (λ (is : new ≡ x). subst (Contains known) is (Contains-from_any (λ a b same. (one_list a b).0 same) new known e)) h
+      by false e = ⊎_elim (λ (k : Contains known x). Contains-append_left known (new ∷ []) x k) (λ (is : new ≡ x). subst (Contains (known ++ new ∷ [])) is (Contains-push known new)) h
+
+  Contains-with_genome_cases : (known : List Letters) (new x : Letters) → Contains (with_genome known new) x → Contains known x ⊎ (new ≡ x)
+  Contains-with_genome_cases known new x = by (list_any (same_letters new) known)
+    where
+      by : (b : Bool) → Contains (cond b known (known ++ new ∷ [])) x → Contains known x ⊎ (new ≡ x)
+      by true h = inl h
+      by false h = Contains-push_cases known new x h
+
+  -- one genome more, which may be known
+  pub HasEachOnce-with_genome : (genotypes genomes : List Letters) (new : Letters) → HasEachOnce genotypes genomes → HasEachOnce (with_genome genotypes new) (genomes ++ new ∷ [])
+  HasEachOnce-with_genome genotypes genomes new each = record {
+    members = λ x. (
+      (λ (h : Contains (with_genome genotypes new) x). ⊎_elim
+          (λ (k : Contains genotypes x). Contains-append_left genomes (new ∷ []) x ((each.members x).0 k))
+          (λ (is : new ≡ x). subst (Contains (genomes ++ new ∷ [])) is (Contains-push genomes new))
+          (Contains-with_genome_cases genotypes new x h)),
+      (λ (h : Contains (genomes ++ new ∷ []) x). Contains-with_genome genotypes new x (⊎_elim
+          (λ (k : Contains genomes x). inl ((each.members x).1 k))
+          (λ (is : new ≡ x). inr is)
+          (Contains-push_cases genomes new x h))),
+    );
+    once = AreApart-with_genome genotypes new each.once;
+  }
+
+  -- the genotypes of a history are the genomes that its calls interned, in whatever order these are told
+  pub HasEachOnce-genotypes_of : (history calls : List Entry) → IsPermutation history calls → HasEachOnce (genotypes_of history) (genomes_of calls)
+  HasEachOnce-genotypes_of history calls same =
+      let each = HasEachOnce-different_of (genomes_of history) in
+      let genome_in : Entry → Option Letters = λ one. genome_of one.call in record {
+        members = λ x. (
+          (λ (h : Contains (genotypes_of history) x). Contains-filter_map_permuted genome_in history calls x same ((each.members x).0 h)),
+          (λ (h : Contains (genomes_of calls) x). (each.members x).1 (Contains-filter_map_permuted genome_in calls history x (IsPermutation-sym history calls same) h)),
+        );
+        once = each.once;
+      }
+
   slice_get-begins : (xs ys : List Letters) (i : ℕ) (x : Letters) → IsPrefix xs ys → slice_get xs i ≡ Some x → slice_get ys i ≡ Some x
   slice_get-begins xs ys i x p e = subst (λ l. slice_get l i ≡ Some x) p.1 (front xs i e)
     where
@@ -187,6 +233,24 @@ module _ (one_list : OneList) where
       front [] i e = absurd (grind (arith, e))
       front (z ∷ zs) zero e = e
       front (z ∷ zs) (suc i) e = front zs i e
+
+  -- how many numbers were given, from the number of the last genome
+  pub length-with_genome : (known : List Letters) (new : Letters) (number : ℕ) → slice_get (with_genome known new) number ≡ Some new → length (with_genome known new) ≡ cond (nat_lt number (length known)) (length known) (number + 1)
+  length-with_genome known new number = by (list_any (same_letters new) known) refl
+    where
+      by : (b : Bool) → list_any (same_letters new) known ≡ b → slice_get (cond b known (known ++ new ∷ [])) number ≡ Some new → length (cond b known (known ++ new ∷ [])) ≡ cond (nat_lt number (length known)) (length known) (number + 1)
+      by true e at = ap (λ b. cond b (length known) (number + 1)) (sym (lt-ltb number (length known) (slice_get_within known number new at)))
+      by false e at = dite (dec_lt number (length known))
+          (λ lt. absurd (true≢false (sym (list_any-from_Contains same_letters-equivalence new known (subst (Contains known) (front at lt) (Contains-get_or known number new lt))) ∙ e)))
+          (λ ge. (let w = slice_get_within (known ++ new ∷ []) number new at in let l = length-append known (new ∷ []) in let same : length (known ++ new ∷ []) ≡ number + 1 = omega arith in same) ∙ ap (λ b. cond b (length known) (number + 1)) (sym (le-ltb number (length known) (omega arith))))
+        where
+          slice_get-front : (xs : List Letters) (i : ℕ) → i < length xs → slice_get (xs ++ new ∷ []) i ≡ slice_get xs i
+          slice_get-front [] i lt = absurd (let z : i < 0 = lt in omega arith)
+          slice_get-front (x ∷ xs) zero lt = refl
+          slice_get-front (x ∷ xs) (suc i) lt = slice_get-front xs i (omega arith)
+
+          front : slice_get (known ++ new ∷ []) number ≡ Some new → number < length known → get_or known number new ≡ new
+          front at lt = get_or_from_slice_get known number new new (sym (slice_get-front known number lt) ∙ at)
 
   one_place : (xs : List Letters) → AreApart xs → (i j : ℕ) (x : Letters) → slice_get xs i ≡ Some x → slice_get xs j ≡ Some x → i ≡ j
   one_place xs apart i j x a b = dite (dec_lt i j)

@@ -16,7 +16,8 @@ use Rattle.genotype_bank.specs.declared.view.Call.{Call}
 use Rattle.genotype_bank.specs.declared.view.Call.TheVariants.{Interned, Refused}
 use Rattle.genotype_bank.specs.BankHistory.{entry, genotypes_of, is_among, calls_under}
 use Rattle.genotype_bank.specs.Letters.{letters_in}
-use Rattle.genotype_bank.specs.Seats.{all_shares}
+use Rattle.atomic_table.specs.Seated.{TableId}
+use Rattle.genotype_bank.specs.Seats.{SeatValue, all_shares}
 
 -- the genomes of a catalog, in the order of their numbers
 abbrev pub genomes_in : Catalog → List (List Letter)
@@ -137,6 +138,19 @@ pub record IsBankTable (s : State (Option Catalog) View) : Type 0 where
 -- a seat's view, and what it has out of the slot
 abbrev pub Seated : Type 0
 Seated = Me (Option Catalog) View
+
+-- what contracts see of a seat
+abbrev pub seat_of : TableId → Seated → SeatValue
+seat_of bank m =
+    record { bank = bank; share = m.0.share; numbers = m.0.carried; seen = m.0.seen }
+
+-- a seat between two calls, which has nothing out
+pub record IsIdleSeat (m : Seated) : Type 0 where
+  pub idle : m ≡ (idle_view m.0.share m.0.carried m.0.seen, [])
+  pub some : 0 < m.0.share
+  pub most : m.0.share ≤ all_shares
+  -- a whole seat made all calls that it has seen
+  pub owns : m.0.share ≡ all_shares → calls_under m.0.carried m.0.seen ≡ m.0.seen
 
 -- a seat with its ticket and, from now on, a number of its own
 abbrev pub with_ticket : View → ℕ → ℕ → View

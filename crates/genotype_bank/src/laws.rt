@@ -1,32 +1,46 @@
 // What the numbers of genomes mean.
-ghost use Rattle.std.specs.Prelude.{◌≡◌, ◌++◌, ◌∷◌, [], List};
+ghost use Rattle.std.specs.Prelude.{◌≡◌, ◌+◌, ◌++◌, ◌∷◌, [], List, Some, if◌then◌else◌, length, nat_lt, slice_get, ℕ};
+ghost use Rattle.std.specs.List.Sorted.{IsPermutation};
 ghost use mathlib.Core.List.{IsPrefix};
-ghost use Rattle.genotype_bank.specs.BankHistory.{HasEachOnce, genomes_of, genotypes_of, with_call};
-ghost use Rattle.genotype_bank.specs.Seats.{NumbersAgree};
+ghost use Rattle.instruction_set.specs.declared.letter.Letter.{Letter};
+ghost use Rattle.genotype_bank.specs.BankHistory.{HasEachOnce, genomes_of, genotypes_of, with_call, with_genome};
+ghost use Rattle.genotype_bank.specs.Seats.{MakesCall, NumbersAgree, SeatValue};
+ghost use Rattle.genotype_bank.specs.declared.view.Call.{Call};
 ghost use Rattle.genotype_bank.specs.declared.view.Entry.{Entry};
 
 use instruction_set::laws::one_index;
 
-/// Numbers that seats of one bank were given are equal exactly where the genomes are.
+/// Numbers that two seats of one bank were given are equal exactly where the genomes are.
 pub fn numbers_agree()
     ensures { NumbersAgree }
 {
     one_index();
 }
 
-/// Each genome that was interned has one number, and no other genome has one.
-pub fn genotypes_are_what_was_interned()
-    ensures { (history : List Entry) → HasEachOnce (genotypes_of history) (genomes_of history) }
+/// A genome that is new gets the next number, and all other numbers stay.
+pub fn calls_number_genotypes()
+    ensures call { (history : List Entry) (last : Entry) →
+        genotypes_of (history ++ last ∷ []) ≡ with_call (genotypes_of history) last.call }
+    ensures stay { (early history : List Entry) →
+        IsPrefix early history → IsPrefix (genotypes_of early) (genotypes_of history) }
+    ensures seen { (before after : SeatValue) (call : Call) →
+        MakesCall before after call → IsPrefix before.seen after.seen }
+    ensures count { (genotypes : List (List Letter)) (genome : List Letter) (number : ℕ) →
+        slice_get (with_genome genotypes genome) number ≡ Some genome →
+        length (with_genome genotypes genome)
+            ≡ (if nat_lt number (length genotypes) then length genotypes else number + 1) }
 {
     one_index();
 }
 
-/// A call leaves the numbers of before; a genome that is new gets the next one.
-pub fn calls_number_genotypes()
-    ensures call { (history : List Entry) (last : Entry) →
-        genotypes_of (history ++ last ∷ []) ≡ with_call (genotypes_of history) last.call }
-    ensures begins { (early history : List Entry) →
-        IsPrefix early history → IsPrefix (genotypes_of early) (genotypes_of history) }
+/// Each genome that was interned has exactly one number, and no other genome has one. The calls may
+/// be told in any order, as those of seats that were joined.
+pub fn genotypes_are_what_was_interned()
+    ensures calls { (history calls : List Entry) → IsPermutation history calls →
+        HasEachOnce (genotypes_of history) (genomes_of calls) }
+    ensures one_more { (genotypes genomes : List (List Letter)) (genome : List Letter) →
+        HasEachOnce genotypes genomes →
+        HasEachOnce (with_genome genotypes genome) (genomes ++ genome ∷ []) }
 {
     one_index();
 }

@@ -14,16 +14,14 @@ pub struct Seat {
 }
 
 impl Model for Seat {
-    ghost use Rattle.std.specs.Prelude.{◌≡◌, ◌<◌, ◌≤◌, []};
-    ghost use Rattle.genotype_bank.specs.BankHistory.{calls_under};
-    ghost use Rattle.genotype_bank.specs.BankTable.{idle_view};
-    ghost use Rattle.genotype_bank.specs.Seats.{SeatValue, all_shares};
+    ghost use Rattle.genotype_bank.specs.BankTable.{IsIdleSeat, seat_of};
+    ghost use Rattle.genotype_bank.specs.Seats.{SeatValue};
 
     ghost Value = { SeatValue };
 
-    ghost view = { λ s. record { bank = s.pass.table_id; share = s.pass.me.0.share; numbers = s.pass.me.0.carried; seen = s.pass.me.0.seen } };
+    ghost view = { λ s. seat_of s.pass.table_id s.pass.me };
 
-    ghost invariant = { λ s. (s.pass.me ≡ (idle_view s.pass.me.0.share s.pass.me.0.carried s.pass.me.0.seen, [])) × (0 < s.pass.me.0.share) × (s.pass.me.0.share ≤ all_shares) × (s.pass.me.0.share ≡ all_shares → calls_under s.pass.me.0.carried s.pass.me.0.seen ≡ s.pass.me.0.seen) };
+    ghost invariant = { λ s. IsIdleSeat s.pass.me };
 }
 
 impl Seat {

@@ -1,6 +1,8 @@
-use Rattle.genotype_bank.specs.BankHistory.{genomes_of}
-use Rattle.genotype_bank.proofs.DifferentLemmas.{HasEachOnce-different_of}
+use Rattle.genotype_bank.proofs.DifferentLemmas.{HasEachOnce-genotypes_of, HasEachOnce-with_genome}
 use Rattle.genotype_bank.proofs.laws.genotypes_are_what_was_interned.Goals as goal
 
-pub returns : goal.returns
-returns c = λ history. HasEachOnce-different_of c.one_index.ensures.list (genomes_of history)
+pub returns-clause-calls : goal.returns-clause-calls
+returns-clause-calls c = HasEachOnce-genotypes_of c.one_index.ensures.list
+
+pub returns-clause-one_more : goal.returns-clause-one_more
+returns-clause-one_more c = HasEachOnce-with_genome c.one_index.ensures.list

@@ -2,10 +2,10 @@ use Rattle.std.proofs.Common.{sym, ap, ◌∙◌, subst, ◌≡◌, ◌∷◌, [
 use Rattle.std.specs.Result.{is_ok}
 use Rattle.genome.specs.Genome.{letters}
 use Rattle.genotype_bank.specs.BankHistory.{entry, call_of, calls_under, genotypes_of}
-use Rattle.genotype_bank.specs.BankTable.{Seated, last_call}
+use Rattle.genotype_bank.specs.BankTable.{Seated, last_call, seat_of}
 use Rattle.genotype_bank.specs.Seats.{MakesCall}
 use Rattle.genotype_bank.specs.declared.view.Call.{Call}
-use Rattle.genotype_bank.proofs.CallLemmas.{grows, known_after, makes_call, seat_of}
+use Rattle.genotype_bank.proofs.CallLemmas.{grows, known_after, makes_call}
 use Rattle.genotype_bank.proofs.DifferentLemmas.{genotypes_of_push}
 use Rattle.genotype_bank.proofs.bank.Bank.intern.Goals as goal
 
@@ -29,10 +29,10 @@ returns-clause-call g c =
     let released = c.release.ensures.released catalog (ap (λ me. me.1) back) in
     let grown = grows v.me.0 drawn.0 drawn.1 served.0 (last_call catalog) _ _ _ _ _ drawn.3 turn released drawn.4 served.3 served.4 in
     let share = ap (λ (me : Seated). me.0.share) turn ∙ ap (λ (me : Seated). me.0.share) drawn.3 in
-    let made = makes_call v.table_id w.table_id v.me.0 w.me.0 (last_call catalog) grown c.seat.invariant.3
+    let made = makes_call v.table_id w.table_id v.me w.me (last_call catalog) grown c.seat.invariant.owns
         (λ whole. subst (λ carried. calls_under carried w.me.0.seen ≡ w.me.0.seen) (sym (ap (λ (me : Seated). me.0.carried) released)) (c.release.ensures.whole (share ∙ whole))) in
-    subst (λ before. MakesCall before (seat_of w.table_id w.me.0) (call_of (is_ok c.serve-result.result) (letters c.args.genome))) c.seat.view_is
-    (subst (λ (call : Call). MakesCall (seat_of v.table_id v.me.0) (seat_of w.table_id w.me.0) call) c.serve-result.ensures.call made)
+    subst (λ before. MakesCall before (seat_of w.table_id w.me) (call_of (is_ok c.serve-result.result) (letters c.args.genome))) c.seat.view_is
+    (subst (λ (call : Call). MakesCall (seat_of v.table_id v.me) (seat_of w.table_id w.me) call) c.serve-result.ensures.call made)
 
 pub returns-clause-number : goal.returns-clause-number
 returns-clause-number g c =

@@ -12,15 +12,15 @@ use Rattle.genotype_bank.proofs.bank.Bank.join.Goals as goal
 
 pub join_seat-requires : goal.join_seat-requires
 join_seat-requires c =
-    let a = c.seat.invariant.0 in
-    let b = c.other.invariant.0 in
-    (search rules, search rules, ap (λ m. m.1) b, search rules, joins _ _ _ _ c.seat.invariant.1 (ap (λ m. m.0.ticket) a) (ap (λ m. m.0.ticket) b) (ap (λ m. m.0.holding) a) (ap (λ m. m.0.holding) b))
+    let a = c.seat.invariant.idle in
+    let b = c.other.invariant.idle in
+    (search rules, search rules, ap (λ m. m.1) b, search rules, joins _ _ _ _ c.seat.invariant.some (ap (λ m. m.0.ticket) a) (ap (λ m. m.0.ticket) b) (ap (λ m. m.0.holding) a) (ap (λ m. m.0.holding) b))
 
 pub load-requires : goal.load-requires
 load-requires c =
     let e = c.join_seat.ensures.2 in
     let s : c.join_seat.new.seat.me.0.share ≡ c.seat.inside.pass.me.0.share + c.other.inside.pass.me.0.share = ap (λ m. m.0.share) e in
-    let p : 0 < c.seat.inside.pass.me.0.share = c.seat.invariant.1 in
+    let p : 0 < c.seat.inside.pass.me.0.share = c.seat.invariant.some in
     (search rules, search rules, recalls _ _ _ (omega arith) (ap (λ m. m.0.ticket) e) (ap (λ m. m.0.holding) e))
 
 pub returns-clause-seen : goal.returns-clause-seen
