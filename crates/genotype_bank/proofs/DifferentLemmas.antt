@@ -1,11 +1,11 @@
 -- The different ones of some genomes, as they come one after another.
 use Rattle.std.proofs.Common.{◌≡◌, ◌≢◌, ◌⊎◌, refl, sym, ◌∙◌, ap, subst, inl, inr, ⊎_elim, true≢false, arith, ℕ, Bool, true, false, cond, not, ◌||◌, List, [], ◌∷◌, ◌++◌, map, Contains, Option, append-nil, append_assoc, zero, suc, Some, slice_get, length, length-append, get_or, ◌+◌, ◌<◌}
-use Rattle.std.specs.Prelude.{◌↔◌, AllPairs, nat_lt}
+use Rattle.std.specs.Prelude.{AllPairs, nat_lt}
 use Rattle.std.proofs.lemmas.Bool.{lt-ltb, le-ltb}
 use Rattle.std.specs.Cmp.{IsEquivalence}
 use mathlib.Core.Logic.{dite}
 use native.Mathlib.Decide.{dec_lt}
-use Rattle.std.specs.List.{filter, filter_map, find, list_any, cons_option}
+use Rattle.std.specs.List.{filter, find, list_any, cons_option}
 use Rattle.std.proofs.lemmas.Bool.Decides.{same_from_decides}
 use Rattle.std.proofs.lemmas.List.{map_push}
 use Rattle.std.proofs.lemmas.Map.Views.{Contains-from_any, list_any-from_Contains}

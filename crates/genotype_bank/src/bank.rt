@@ -66,10 +66,18 @@ impl Bank {
     pub fn split(&self, seat: &mut Seat) -> Seat
         requires bank { seat.old.bank ≡ self.now }
         requires share { 2 ≤ seat.old.share }
-        ensures kept { seat.new ≡ record { bank = seat.old.bank; share = seat.old.share - 1;
-            numbers = seat.old.numbers; seen = seat.old.seen } }
-        ensures new { result ≡ record { bank = seat.old.bank; share = 1;
-            numbers = []; seen = seat.old.seen } }
+        ensures kept { seat.new ≡ record {
+          bank = seat.old.bank;
+          share = seat.old.share - 1;
+          numbers = seat.old.numbers;
+          seen = seat.old.seen;
+        } }
+        ensures new { result ≡ record {
+          bank = seat.old.bank;
+          share = 1;
+          numbers = [];
+          seen = seat.old.seen;
+        } }
     {
         let pass = self.table.shared.split_seat::<Shares>(&mut seat.pass);
         Seat { pass }
@@ -119,8 +127,7 @@ impl Bank {
         let ticket = self.draw(&mut seat.pass);
         let mut catalog = self.wait_for_turn(rt, &mut seat.pass, ticket);
         let result = catalog.serve(alloc, genome);
-        self.give_back(&mut seat.pass, catalog);
-        self.release(&mut seat.pass);
+        self.end_turn(&mut seat.pass, catalog);
         result
     }
 

@@ -49,7 +49,7 @@ fn place(
 ) -> Result<Handle, Memory>
     ensures placed { MatchResult result
         (λ _. letters_in genomes.new.keys
-            ≡ with_genome (letters_in genomes.old.keys) (letters genome.value))
+        ≡ with_genome (letters_in genomes.old.keys) (letters genome.value))
         (λ _. letters_in genomes.new.keys ≡ letters_in genomes.old.keys) }
     ensures genome { IfOk result (λ handle. letters handle.genome.value ≡ letters genome.value) }
     ensures number { IfOk result (λ handle. slice_get (letters_in genomes.new.keys) handle.number
@@ -58,9 +58,9 @@ fn place(
 {
     one_index();
     let _before = genomes.len();
-    if let Some((index, known)) = genomes.get_full(&genome) {
+    if let Some((place, known)) = genomes.get_full(&genome) {
         return Ok(Handle {
-            number: index as u64,
+            number: place as u64,
             genome: Arc::try_clone(known)?,
         });
     }

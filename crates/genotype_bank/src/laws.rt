@@ -28,7 +28,7 @@ pub fn calls_number_genotypes()
     ensures count { (genotypes : List (List Letter)) (genome : List Letter) (number : ℕ) →
         slice_get (with_genome genotypes genome) number ≡ Some genome →
         length (with_genome genotypes genome)
-            ≡ (if nat_lt number (length genotypes) then length genotypes else number + 1) }
+        ≡ (if nat_lt number (length genotypes) then length genotypes else number + 1) }
 {
     one_index();
 }

@@ -23,7 +23,7 @@ impl Bank {
         ensures drawn { (j : ℕ) × (t : ℕ) × (result ≡ t % 2 ^ 64)
             × (pass.new.me ≡ (with_ticket pass.old.me.0 j t, pass.old.me.1))
             × (calls_under (j ∷ pass.old.me.0.carried) pass.old.me.0.seen
-                ≡ calls_under pass.old.me.0.carried pass.old.me.0.seen) }
+            ≡ calls_under pass.old.me.0.carried pass.old.me.0.seen) }
     {
         self.table.shared.fetch_add::<Draw>(pass, 0, 1)
     }
@@ -37,11 +37,11 @@ impl Bank {
         ensures same { (pass.new.table_id ≡ pass.old.table_id) × (pass.new.id ≡ pass.old.id) }
         ensures looked { (t : ℕ) → pass.old.me.0.ticket ≡ Some t →
             ((result ≡ t % 2 ^ 64) × ((history : List Entry) × (catalog : Catalog)
-                × (pass.new.me ≡ (at_turn pass.old.me.0 history, (0, Some catalog) ∷ []))
-                × (genomes_in catalog ≡ genotypes_of history)
-                × IsPrefix pass.old.me.0.seen history
-                × (calls_under pass.old.me.0.carried history
-                    ≡ calls_under pass.old.me.0.carried pass.old.me.0.seen)))
+            × (pass.new.me ≡ (at_turn pass.old.me.0 history, (0, Some catalog) ∷ []))
+            × (genomes_in catalog ≡ genotypes_of history)
+            × IsPrefix pass.old.me.0.seen history
+            × (calls_under pass.old.me.0.carried history
+            ≡ calls_under pass.old.me.0.carried pass.old.me.0.seen)))
             ⊎ ((result ≡ t % 2 ^ 64 → ⊥) × (pass.new.me ≡ pass.old.me)) }
     {
         self.table.shared.load::<Look>(pass, 1)
@@ -69,7 +69,7 @@ impl Bank {
             × (genomes_in result ≡ genotypes_of history)
             × IsPrefix pass.old.me.0.seen history
             × (calls_under pass.old.me.0.carried history
-                ≡ calls_under pass.old.me.0.carried pass.old.me.0.seen) }
+            ≡ calls_under pass.old.me.0.carried pass.old.me.0.seen) }
     {
         for _ in rt.forever() {
             if self.look(pass) == ticket {
@@ -97,15 +97,39 @@ impl Bank {
             × Carries pass.old.me.0 (number_of pass.old.me.0) }
         requires back { (catalog : Catalog) × (pass.old.me.1 ≡ (0, Some catalog) ∷ [])
             × (genomes_in catalog ≡ genotypes_of (pass.old.me.0.seen
-                ++ entry (number_of pass.old.me.0) (last_call catalog) ∷ [])) }
+            ++ entry (number_of pass.old.me.0) (last_call catalog) ∷ [])) }
         ensures same { (pass.new.table_id ≡ pass.old.table_id) × (pass.new.id ≡ pass.old.id) }
         ensures released { (catalog : Catalog) → pass.old.me.1 ≡ (0, Some catalog) ∷ [] →
-            pass.new.me ≡ (idle_view pass.old.me.0.share pass.old.me.0.carried
-                (pass.old.me.0.seen
-                    ++ entry (number_of pass.old.me.0) (last_call catalog) ∷ []), []) }
+            pass.new.me ≡ (
+              idle_view pass.old.me.0.share pass.old.me.0.carried
+                  (pass.old.me.0.seen
+                  ++ entry (number_of pass.old.me.0) (last_call catalog) ∷ []),
+              [],
+            ) }
         ensures whole { pass.old.me.0.share ≡ all_shares →
             calls_under pass.old.me.0.carried pass.new.me.0.seen ≡ pass.new.me.0.seen }
     {
         self.table.shared.fetch_add::<Release>(pass, 1, 1);
+    }
+
+    /// Gives the catalog back, and passes the turn on.
+    pub(crate) fn end_turn(&self, pass: &mut Pass, catalog: Catalog)
+        requires bank { pass.old.table_id ≡ self.now }
+        requires turn { (pass.old.me.1 ≡ (0, None) ∷ []) × (pass.old.me.0.holding ≡ true)
+            × Carries pass.old.me.0 (number_of pass.old.me.0) }
+        requires known { genomes_in catalog ≡ genotypes_of (pass.old.me.0.seen
+            ++ entry (number_of pass.old.me.0) (last_call catalog) ∷ []) }
+        ensures same { (pass.new.table_id ≡ pass.old.table_id) × (pass.new.id ≡ pass.old.id) }
+        ensures ended { pass.new.me ≡ (
+          idle_view pass.old.me.0.share pass.old.me.0.carried
+              (pass.old.me.0.seen
+              ++ entry (number_of pass.old.me.0) (last_call catalog) ∷ []),
+          [],
+        ) }
+        ensures whole { pass.old.me.0.share ≡ all_shares →
+            calls_under pass.old.me.0.carried pass.new.me.0.seen ≡ pass.new.me.0.seen }
+    {
+        self.give_back(pass, catalog);
+        self.release(pass);
     }
 }

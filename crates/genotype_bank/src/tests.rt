@@ -76,6 +76,9 @@ fn threads_that_intern_in_opposite_orders_agree(rt: HostRuntime) -> Result<(), F
     assert_eq!(rt; up.as_slice(), down.as_slice());
     let mut sorted = up;
     sorted.sort()?;
-    assert_eq!(rt; sorted.as_slice(), [0, 1, 2, 3, 4, 5, 6, 7, 8, 9].as_slice());
+    assert_eq!(rt;
+        sorted.as_slice(),
+        [0, 1, 2, 3, 4, 5, 6, 7, 8, 9].as_slice()
+    );
     Ok(())
 }

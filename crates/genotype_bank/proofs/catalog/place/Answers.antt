@@ -22,7 +22,7 @@ returns-in-Some-clause-genome c =
 pub returns-in-Some-clause-number : goal.returns-in-Some-clause-number
 returns-in-Some-clause-number c =
     let one_list = c.one_index.ensures.list in
-    slice_get-map (λ g. letters g.value) c.args.genomes.now.keys c.in-Some.index
+    slice_get-map (λ g. letters g.value) c.args.genomes.now.keys c.in-Some.place
     ∙ ap (option_map (λ g. letters g.value)) c.in-Some.ensures.stored
     ∙ ap Some (found_key _ (λ g. letters g.value) one_list (λ a b. genome_eq one_list a.value b.value) c.args.genomes.now.keys c.args.genome c.in-Some.known.now (sym c.in-Some.ensures.key)).0
 

@@ -8,6 +8,9 @@ pub fetch_add-requires : goal.fetch_add-requires
 fetch_add-requires c =
     let back = c.requires.back in
     let turn = c.requires.turn in
-    let m = c.args.pass.now.me in
-    (search rules, search rules, releases _ _ _ back.0 back.1 turn.0 turn.1
-        (back.2 ∙ ap (λ call. genotypes_of (m.0.seen ++ entry (number_of m.0) call ∷ [])) (sym (ap call_in back.1))))
+    let m = c.args.pass.now.me in (
+      search rules,
+      search rules,
+      releases _ _ _ back.0 back.1 turn.0 turn.1
+          (back.2 ∙ ap (λ call. genotypes_of (m.0.seen ++ entry (number_of m.0) call ∷ [])) (sym (ap call_in back.1))),
+    )
