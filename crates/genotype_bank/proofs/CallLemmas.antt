@@ -3,7 +3,7 @@ use Rattle.std.proofs.Common.{◌≡◌, ℕ, List, [], ◌∷◌, ◌++◌, Boo
 use mathlib.Core.List.{IsPrefix}
 use Rattle.std.specs.List.Sorted.{IsPermutation}
 use Rattle.std.proofs.lemmas.List.Sorted.{IsPermutation-refl, IsPermutation-trans, IsPermutation-cons, IsPermutation-middle}
-use Rattle.genotype_bank.proofs.StepLemmas.{has_app, own_if}
+use Rattle.genotype_bank.proofs.HistoryLemmas.{has_app, own_if}
 use Rattle.genotype_bank.specs.declared.catalog.Catalog.{Catalog}
 use Rattle.genotype_bank.specs.declared.view.View.{View}
 use Rattle.genotype_bank.specs.declared.view.Entry.{Entry}
@@ -11,7 +11,10 @@ use Rattle.genotype_bank.specs.declared.view.Call.{Call}
 use Rattle.genotype_bank.specs.BankHistory.{entry, is_among, calls_under, genotypes_of, with_call}
 use Rattle.atomic_table.specs.Seated.{TableId}
 use Rattle.genotype_bank.specs.Seats.{MakesCall, SeatValue, all_shares}
-use Rattle.genotype_bank.specs.BankTable.{idle_view, with_ticket, at_turn, genomes_in, last_call, number_of, seat_of, Seated}
+use Rattle.genotype_bank.specs.Views.{idle_view}
+use Rattle.genotype_bank.specs.BankSteps.{with_ticket, at_turn, number_of}
+use Rattle.genotype_bank.specs.Catalog.{genomes_in, last_call}
+use Rattle.genotype_bank.specs.BankTable.{seat_of, Seated}
 use Rattle.genotype_bank.proofs.DifferentLemmas.{genotypes_of_push}
 use Rattle.genotype_bank.proofs.GenomeLemmas.{OneList}
 

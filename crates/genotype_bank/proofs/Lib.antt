@@ -2,5 +2,8 @@ pub mod DifferentLemmas
 pub mod GenomeLemmas
 pub mod MemberLemmas
 pub mod ViewLemmas
-pub mod StepLemmas
+pub mod HistoryLemmas
+pub mod TableLemmas
+pub mod SeatLemmas
+pub mod TurnLemmas
 pub mod CallLemmas

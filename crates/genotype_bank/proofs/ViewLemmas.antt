@@ -6,7 +6,7 @@ use native.Mathlib.Decide.{ℕ_discrete}
 use lib.ListN.{get_elem?}
 use Rattle.atomic_table.proofs.Lists.{at_set, at_snoc, set_here, set_else, at_longer}
 use Rattle.genotype_bank.specs.declared.view.View.{View}
-use Rattle.genotype_bank.specs.BankTable.{total, AtMostOne, SomeSeat, NumbersArePlaces, Carries}
+use Rattle.genotype_bank.specs.Views.{total, AtMostOne, SomeSeat, NumbersArePlaces, Carries}
 
 pub within : {A : Type 0} (l : List A) (i : ℕ) (a : A) → get_elem? l i ≡ some a → i < length l
 within [] i a e = absurd (some-ne-none a (sym e))

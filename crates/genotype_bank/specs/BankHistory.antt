@@ -1,4 +1,4 @@
--- The calls that a bank has served, and the numbers that genomes have (docs/ARCHITECTURE.md, "The bank of genotypes").
+-- Calls of a bank, and the numbers of genomes (docs/ARCHITECTURE.md, "The bank of genotypes").
 use Rattle.std.specs.Prelude.{◌≢◌, ◌↔◌, ℕ, ◌==◌, Bool, true, false, not, List, [], ◌∷◌, ◌++◌, Option, None, Some, AllPairs, Contains, filter, filter_map, if◌then◌else◌}
 use Rattle.std.specs.List.{list_any}
 use Rattle.instruction_set.specs.declared.letter.Letter.{Letter}

@@ -1,4 +1,4 @@
--- The letters of genomes that are shared.
+-- The letters of shared genomes (docs/ARCHITECTURE.md, "The bank of genotypes").
 use Rattle.std.specs.Prelude.{List, map}
 use Rattle.std.specs.declared.alloc.Global.{Global}
 use Rattle.std.specs.declared.sync.Arc.{Arc}

@@ -1,4 +1,7 @@
 pub mod BankHistory
 pub mod Letters
 pub mod Seats
+pub mod Catalog
+pub mod Views
 pub mod BankTable
+pub mod BankSteps

@@ -39,7 +39,8 @@ impl Model for Bank {
 
     ghost view = { λ b. b.table.shared.table_id };
 
-    ghost invariant = { λ b. (b.table.shared.table_id.words ≡ 2) × (b.table.shared.table_id.slots ≡ 1) };
+    ghost invariant = { λ b.
+        (b.table.shared.table_id.words ≡ 2) × (b.table.shared.table_id.slots ≡ 1) };
 }
 
 impl Bank {
@@ -61,8 +62,8 @@ impl Bank {
         }
     }
 
-    /// A new seat with a share of 1, which the given seat gives. It has seen what that seat has, and
-    /// has made no calls. It takes no memory.
+    /// A new seat with a share of 1, which the given seat gives. It has seen what that seat has,
+    /// and has made no calls. It takes no memory.
     pub fn split(&self, seat: &mut Seat) -> Seat
         requires bank { seat.old.bank ≡ self.now }
         requires share { 2 ≤ seat.old.share }

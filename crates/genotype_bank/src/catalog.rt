@@ -15,14 +15,14 @@ use std::sync::Arc;
 /// The different genomes in order of first interning, and what the last call came to: the number
 /// that it gave, or none where memory ran out.
 #[derive(Drop)]
-pub struct Catalog {
-    pub genomes: IndexSet<Arc<Genome, Global>>,
-    pub last: Option<usize>,
+pub(crate) struct Catalog {
+    pub(crate) genomes: IndexSet<Arc<Genome, Global>>,
+    pub(crate) last: Option<usize>,
 }
 
 impl Catalog {
     ghost use Rattle.genotype_bank.specs.BankHistory.{with_call, call_of};
-    ghost use Rattle.genotype_bank.specs.BankTable.{genomes_in, last_call};
+    ghost use Rattle.genotype_bank.specs.Catalog.{genomes_in, last_call};
 
     /// Serves one call: a genome that is new stands behind the others.
     pub(crate) fn serve(&mut self, alloc: Global, genome: Genome) -> Result<Handle, Memory>

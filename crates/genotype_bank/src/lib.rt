@@ -9,11 +9,12 @@ pub mod laws;
 mod rule;
 mod seat;
 mod steps;
-pub mod view;
+mod view;
 
 pub use bank::{Bank, Genomes};
 pub use handle::Handle;
 pub use seat::Seat;
+pub use view::{Call, Entry};
 
 #[cfg(test)]
 mod tests;

@@ -5,10 +5,11 @@ use atomic_table::{Join, Play, Split, Table, TableRule};
 use std::alloc::Global;
 
 /// The rule that each step keeps.
-pub struct BankRule;
+pub(crate) struct BankRule;
 
 impl TableRule<Option<Catalog>, View, ()> for BankRule {
-    ghost use Rattle.genotype_bank.specs.BankTable.{IsBankTable, first_view};
+    ghost use Rattle.genotype_bank.specs.BankTable.{IsBankTable};
+    ghost use Rattle.genotype_bank.specs.Views.{first_view};
 
     ghost holds = { λ _ s. IsBankTable s };
 
@@ -16,46 +17,46 @@ impl TableRule<Option<Catalog>, View, ()> for BankRule {
 }
 
 /// A turn is drawn.
-pub struct Draw;
+pub(crate) struct Draw;
 
 impl Play<Option<Catalog>, View> for Draw {
-    ghost use Rattle.genotype_bank.specs.BankTable.{HasDrawn};
+    ghost use Rattle.genotype_bank.specs.BankSteps.{HasDrawn};
 
     ghost then = { HasDrawn };
 }
 
 /// The seat looks whose turn it is.
-pub struct Look;
+pub(crate) struct Look;
 
 impl Play<Option<Catalog>, View> for Look {
-    ghost use Rattle.genotype_bank.specs.BankTable.{HasLooked};
+    ghost use Rattle.genotype_bank.specs.BankSteps.{HasLooked};
 
     ghost then = { HasLooked };
 }
 
 /// The turn is passed on.
-pub struct Release;
+pub(crate) struct Release;
 
 impl Play<Option<Catalog>, View> for Release {
-    ghost use Rattle.genotype_bank.specs.BankTable.{HasReleased};
+    ghost use Rattle.genotype_bank.specs.BankSteps.{HasReleased};
 
     ghost then = { HasReleased };
 }
 
 /// A joined seat learns from the seats that it was joined from.
-pub struct Recall;
+pub(crate) struct Recall;
 
 impl Play<Option<Catalog>, View> for Recall {
-    ghost use Rattle.genotype_bank.specs.BankTable.{HasRecalled};
+    ghost use Rattle.genotype_bank.specs.BankSteps.{HasRecalled};
 
     ghost then = { HasRecalled };
 }
 
 /// How shares go from seat to seat.
-pub struct Shares;
+pub(crate) struct Shares;
 
 impl Split<View> for Shares {
-    ghost use Rattle.genotype_bank.specs.BankTable.{kept_half, new_half};
+    ghost use Rattle.genotype_bank.specs.BankSteps.{kept_half, new_half};
 
     ghost left = { kept_half };
 
@@ -63,7 +64,8 @@ impl Split<View> for Shares {
 }
 
 impl Join<View> for Shares {
-    ghost use Rattle.genotype_bank.specs.BankTable.{joined_view, spent_view};
+    ghost use Rattle.genotype_bank.specs.BankSteps.{joined_view};
+    ghost use Rattle.genotype_bank.specs.Views.{spent_view};
 
     ghost both = { joined_view };
 

@@ -17,13 +17,13 @@ pub struct Entry {
 }
 
 /// The numbers that a seat carried before a join, and the history that it had seen then.
-pub struct Memo {
+pub(crate) struct Memo {
     pub carried: LinkedList<u64>,
     pub seen: LinkedList<Entry>,
 }
 
 /// What a seat knows between two steps.
-pub struct View {
+pub(crate) struct View {
     pub share: u64,
     pub carried: LinkedList<u64>,
     pub seen: LinkedList<Entry>,

@@ -3,9 +3,9 @@ use mathlib.Core.Option.{some-injective}
 use Rattle.genome.specs.Genome.{letters}
 use Rattle.instruction_set.specs.declared.letter.Letter.{Letter}
 use Rattle.genotype_bank.specs.BankHistory.{genotypes_of}
-use Rattle.genotype_bank.specs.BankTable.{genomes_in}
+use Rattle.genotype_bank.specs.Catalog.{genomes_in}
 use Rattle.genotype_bank.specs.declared.catalog.Catalog.{Catalog}
-use Rattle.genotype_bank.proofs.StepLemmas.{closes}
+use Rattle.genotype_bank.proofs.SeatLemmas.{closes}
 use Rattle.genotype_bank.proofs.bank.Bank.close.Goals as goal
 
 abbrev genomes_at : Option Catalog → List (List Letter)

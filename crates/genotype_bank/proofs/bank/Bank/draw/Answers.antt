@@ -1,5 +1,5 @@
 use Rattle.std.proofs.Common.{rules}
-use Rattle.genotype_bank.proofs.StepLemmas.{draws}
+use Rattle.genotype_bank.proofs.TurnLemmas.{draws}
 use Rattle.genotype_bank.proofs.bank.Bank.draw.Goals as goal
 
 pub fetch_add-requires : goal.fetch_add-requires

@@ -2,7 +2,8 @@ use Rattle.std.proofs.Common.{sym, ap, ◌∙◌, subst, ◌≡◌, IfOk, Some, 
 use Rattle.std.specs.Result.{is_ok}
 use Rattle.genome.specs.Genome.{letters}
 use Rattle.genotype_bank.specs.BankHistory.{entry, call_of, calls_under, genotypes_of}
-use Rattle.genotype_bank.specs.BankTable.{Seated, last_call, seat_of}
+use Rattle.genotype_bank.specs.BankTable.{Seated, seat_of}
+use Rattle.genotype_bank.specs.Catalog.{last_call}
 use Rattle.genotype_bank.specs.Seats.{MakesCall}
 use Rattle.genotype_bank.specs.declared.view.Call.{Call}
 use Rattle.genotype_bank.proofs.CallLemmas.{grows, known_after, makes_call}

@@ -5,9 +5,9 @@ use Rattle.genotype_bank.specs.declared.view.Entry.{Entry}
 use Rattle.genotype_bank.specs.BankHistory.{calls_under}
 use Rattle.std.specs.List.Sorted.{IsPermutation}
 use Rattle.genotype_bank.specs.Seats.{own_calls_of}
-use Rattle.genotype_bank.specs.BankTable.{memo_of}
+use Rattle.genotype_bank.specs.BankSteps.{memo_of}
 use Rattle.genotype_bank.proofs.CallLemmas.{own_both}
-use Rattle.genotype_bank.proofs.StepLemmas.{joins, recalls}
+use Rattle.genotype_bank.proofs.SeatLemmas.{joins, recalls}
 use Rattle.genotype_bank.proofs.bank.Bank.join.Goals as goal
 
 pub join_seat-requires : goal.join_seat-requires

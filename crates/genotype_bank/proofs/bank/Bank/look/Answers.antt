@@ -1,5 +1,5 @@
 use Rattle.std.proofs.Common.{rules}
-use Rattle.genotype_bank.proofs.StepLemmas.{serves}
+use Rattle.genotype_bank.proofs.TurnLemmas.{serves}
 use Rattle.genotype_bank.proofs.bank.Bank.look.Goals as goal
 
 pub load-requires : goal.load-requires

@@ -1,7 +1,8 @@
 use Rattle.std.proofs.Common.{rules, sym, ap, ◌∙◌, ◌++◌, ◌∷◌, []}
 use Rattle.genotype_bank.specs.BankHistory.{entry, genotypes_of}
-use Rattle.genotype_bank.specs.BankTable.{call_in, number_of}
-use Rattle.genotype_bank.proofs.StepLemmas.{releases}
+use Rattle.genotype_bank.specs.Catalog.{call_in}
+use Rattle.genotype_bank.specs.BankSteps.{number_of}
+use Rattle.genotype_bank.proofs.TurnLemmas.{releases}
 use Rattle.genotype_bank.proofs.bank.Bank.release.Goals as goal
 
 pub fetch_add-requires : goal.fetch_add-requires
