@@ -42,6 +42,13 @@ impl Log {
         self.lines.as_slice()
     }
 
+    /// The lines are those of a good log.
+    pub fn is_good(&self)
+        ensures { IsGoodLog self.now }
+    {
+        let _lines = self.lines();
+    }
+
     /// The lines, in order. It takes no memory.
     pub fn into_vec(self) -> Vec<LogLine>
         ensures { lines_of result.items ≡ self }
