@@ -8,9 +8,10 @@ use Rattle.clap.specs.Simple.{App, matches_of}
 use Rattle.clap.specs.Faults.{fault_of}
 use Rattle.command_line.specs.Form.{Form, IsSimple, Told}
 use Rattle.command_line.specs.Words.{begins_dashed, has_dashed, is_dashed, told_by}
-use Rattle.command_line.specs.Commands.{bare_form, lineage_form, lineage_of, run_form, run_of, run_with, trace_form, trace_of}
-use Rattle.command_line.specs.Parsers.{app_by, lineage_texts, told_in, trace_texts}
+use Rattle.command_line.specs.Commands.{bare_form, bench_form, bench_of, lineage_form, lineage_of, positional_form, positional_of, run_form, run_of, run_with, trace_form, trace_of}
+use Rattle.command_line.specs.Parsers.{app_by, bench_texts, lineage_texts, told_in, trace_texts}
 use Rattle.command_line.specs.Refusals.{IsRefusedBy, Refuses}
+use Rattle.command_line.specs.declared.bench.Bench.{Bench}
 use Rattle.command_line.specs.declared.lineage.Lineage.{Lineage}
 use Rattle.command_line.specs.declared.run.Run.{Run}
 use Rattle.command_line.specs.declared.trace.Trace.{Trace}
@@ -115,19 +116,18 @@ module _ (no_minus : (least greatest : ℕ) (text : Text) → number_of least gr
       go [] (w ∷ []) fs n m d = absurd (omega arith)
       go [] (w ∷ t ∷ v ∷ vs) fs n m d = absurd (omega arith)
 
-  pub lineage_reads : Reads Lineage (codes "lineage") lineage_form lineage_texts lineage_of
-  lineage_reads = record {
-    simple = record { names = refl; count = refl; few = omega arith };
-    refuses = λ told is d. go told.positionals told.values told.flags is.positionals is.values d;
-  }
+  -- one positional, and the workers
+  positional_refuses : {T : Type 0} (make : ℕ → ℕ → T) (greatest : ℕ) (told : Told) → IsOf positional_form told → has_dashed told ≡ true
+      → positional_of make greatest told ≡ None
+  positional_refuses {T = T} make greatest told is d = go told.positionals told.values told.flags is.positionals is.values d
     where
       go : (ps : List Text) (vs : List (Option Text)) (fs : List Bool) → length ps ≡ 1 → length vs ≡ 1 → (list_any begins_dashed ps || list_any is_dashed vs) ≡ true
-          → lineage_of (record { positionals = ps; values = vs; flags = fs }) ≡ None
+          → positional_of {T = T} make greatest (record { positionals = ps; values = vs; flags = fs }) ≡ None
       go (p ∷ []) (w ∷ []) fs n m d = elim (cases_Bool (begins_dashed p)) [
-        | inl a ↦ rw (dashed_number 0 65535 p a) refl
+        | inl a ↦ rw (dashed_number 0 greatest p a) refl
         | inr a ↦ elim (cases_Bool (is_dashed w)) [
-          | inl b ↦ none_after (λ cell. option_map (λ workers. record { cell = cell; workers = workers }) (option_and_then (number_of 1 64) w))
-              (number_of 0 65535 p) (λ cell. ap (option_map (λ workers. record { cell = cell; workers = workers })) (dashed_text 1 64 w b))
+          | inl b ↦ none_after (λ number. option_map (make number) (option_and_then (number_of 1 64) w))
+              (number_of 0 greatest p) (λ number. ap (option_map (make number)) (dashed_text 1 64 w b))
           | inr b ↦ absurd (false≢true (rw (a, b) at d))
         ]
       ]
@@ -135,3 +135,15 @@ module _ (no_minus : (least greatest : ℕ) (text : Text) → number_of least gr
       go (p ∷ q ∷ ps) vs fs n m d = absurd (omega arith)
       go (p ∷ []) [] fs n m d = absurd (omega arith)
       go (p ∷ []) (w ∷ v ∷ vs) fs n m d = absurd (omega arith)
+
+  pub lineage_reads : Reads Lineage (codes "lineage") lineage_form lineage_texts lineage_of
+  lineage_reads = record {
+    simple = record { names = refl; count = refl; few = omega arith };
+    refuses = positional_refuses (λ cell workers. record { cell = cell; workers = workers }) 65535;
+  }
+
+  pub bench_reads : Reads Bench (codes "bench") bench_form bench_texts bench_of
+  bench_reads = record {
+    simple = record { names = refl; count = refl; few = omega arith };
+    refuses = positional_refuses (λ seed workers. record { seed = seed; workers = workers }) 9223372036854775807;
+  }

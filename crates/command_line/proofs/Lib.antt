@@ -15,3 +15,4 @@ pub mod FormWords
 pub mod FormLaw
 pub mod RefusalLemmas
 pub mod CommandForms
+pub mod PositionalTexts

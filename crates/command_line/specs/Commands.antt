@@ -3,6 +3,7 @@ use Rattle.std.specs.Prelude.{ℕ, List, [], ◌∷◌, Option, Some, None, code
 use Rattle.command_line.specs.Form.{Form, Told, Valued}
 use Rattle.command_line.specs.Words.{is_set, told_by}
 use Rattle.numerals.specs.Numeral.{number_of}
+use Rattle.command_line.specs.declared.bench.Bench.{Bench}
 use Rattle.command_line.specs.declared.run.Run.{Run}
 use Rattle.command_line.specs.declared.lineage.Lineage.{Lineage}
 use Rattle.command_line.specs.declared.trace.Trace.{Trace}
@@ -23,9 +24,17 @@ run_form = record {
   positionals = 0;
 }
 
+-- one positional, and `--workers k`
+abbrev pub positional_form : Form
+positional_form = record { options = workers_option ∷ []; flags = []; positionals = 1 }
+
 -- `lineage cell [--workers k]`
 abbrev pub lineage_form : Form
-lineage_form = record { options = workers_option ∷ []; flags = []; positionals = 1 }
+lineage_form = positional_form
+
+-- `bench seed [--workers k]`
+abbrev pub bench_form : Form
+bench_form = positional_form
 
 -- a command's name alone
 abbrev pub bare_form : Form
@@ -64,11 +73,19 @@ run_with watch workers =
 abbrev pub run_of : Told → Option Run
 run_of told = option_and_then (run_with (value_at 1 told)) (workers_at 0 told)
 
+-- what is made of the number up to this one, and the workers, that the texts spell
+abbrev pub positional_of : {T : Type 0} → (ℕ → ℕ → T) → ℕ → Told → Option T
+positional_of make greatest told = option_and_then (λ number.
+    option_map (make number) (workers_at 0 told)) (number_at 0 greatest 0 told)
+
 -- `lineage` of the cell, with the workers, that its texts spell
 abbrev pub lineage_of : Told → Option Lineage
-lineage_of told = option_and_then (λ cell.
-    option_map (λ workers. record { cell = cell; workers = workers }) (workers_at 0 told))
-    (number_at 0 65535 0 told)
+lineage_of = positional_of (λ cell workers. record { cell = cell; workers = workers }) 65535
+
+-- `bench` of the seed, with the workers, that its texts spell
+abbrev pub bench_of : Told → Option Bench
+bench_of = positional_of (λ seed workers. record { seed = seed; workers = workers })
+    9223372036854775807
 
 -- what the words after the name tell `trace`
 abbrev pub trace_told : List (List ℕ) → Option Trace
@@ -81,6 +98,10 @@ run_told words = option_and_then run_of (told_by run_form words)
 -- what the words after the name tell `lineage`
 abbrev pub lineage_told : List (List ℕ) → Option Lineage
 lineage_told words = option_and_then lineage_of (told_by lineage_form words)
+
+-- what the words after the name tell `bench`
+abbrev pub bench_told : List (List ℕ) → Option Bench
+bench_told words = option_and_then bench_of (told_by bench_form words)
 
 -- what the words after the name tell a command that takes none
 abbrev pub nothing_told : List (List ℕ) → Option (Unit {0})

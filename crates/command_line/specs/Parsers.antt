@@ -9,7 +9,7 @@ use Rattle.clap.specs.Kinds.{Kinds}
 use Rattle.clap.specs.Faults.{fault_of}
 use Rattle.clap.specs.declared.builder.action.ArgAction.TheVariants.{SetTrue}
 use Rattle.command_line.specs.Form.{Form, Told, Valued}
-use Rattle.command_line.specs.Commands.{bare_form, lineage_form, run_form, trace_form}
+use Rattle.command_line.specs.Commands.{bare_form, run_form, trace_form}
 
 -- the rule of an option of a form
 abbrev pub option_rule : Valued → Rule
@@ -45,6 +45,10 @@ trace_texts = codes "steps" ∷ []
 abbrev pub lineage_texts : List (List ℕ)
 lineage_texts = codes "cell" ∷ []
 
+-- the name of the positional of `bench`
+abbrev pub bench_texts : List (List ℕ)
+bench_texts = codes "seed" ∷ []
+
 -- the command that reads the words of `trace`
 abbrev pub trace_app : App
 trace_app = app_by (codes "trace") trace_form trace_texts
@@ -52,10 +56,6 @@ trace_app = app_by (codes "trace") trace_form trace_texts
 -- the command that reads the words of `run`
 abbrev pub run_app : App
 run_app = app_by (codes "run") run_form []
-
--- the command that reads the words of `lineage`
-abbrev pub lineage_app : App
-lineage_app = app_by (codes "lineage") lineage_form lineage_texts
 
 -- the command that reads the words of a name that stands alone
 abbrev pub bare_app : App

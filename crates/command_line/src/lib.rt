@@ -1,6 +1,7 @@
 //! The words of a command line, read by one simple command a name.
 #![tactic(auto)]
 
+mod bench;
 pub mod laws;
 mod lineage;
 mod nothing;
@@ -13,6 +14,7 @@ mod run;
 mod trace;
 mod workers;
 
+pub use bench::{Bench, MOST_SEED, read_bench};
 pub use lineage::{Lineage, MOST_CELL, read_lineage};
 pub use nothing::read_nothing;
 pub use refused::Refused;

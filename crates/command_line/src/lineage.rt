@@ -1,17 +1,17 @@
 // The words of `lineage`.
-ghost use Rattle.std.specs.Prelude.{◌≡◌, ◌<◌, length, Some, MatchResult, IfOk, drop, map, string_bytes, option_and_then};
-ghost use Rattle.clap.specs.Words.{app_of, found_of, rows_of};
+ghost use Rattle.std.specs.Prelude.{◌≡◌, ◌<◌, length, Some, MatchResult, drop, map, string_bytes, option_and_then};
+ghost use Rattle.clap.specs.Words.{found_of, rows_of};
 ghost use Rattle.command_line.specs.Commands.{lineage_form, lineage_of, lineage_told};
-ghost use Rattle.command_line.specs.Parsers.{lineage_app, lineage_texts, told_in};
+ghost use Rattle.command_line.specs.Parsers.{lineage_texts, told_in};
 ghost use Rattle.command_line.specs.Refusals.{Refuses};
 
 use crate::numbers::number_in;
 use crate::parser::matches;
 use crate::refused::Refused;
-use crate::workers::workers_in;
-use clap::{Arg, ArgMatches, Command};
+use crate::workers::{positional_command, workers_in};
+use clap::ArgMatches;
 use numerals::laws::one_spelling;
-use std::alloc::{AllocError, Global};
+use std::alloc::Global;
 
 /// The greatest cell that `lineage` accepts.
 pub const MOST_CELL: u32 = 65_535;
@@ -21,19 +21,6 @@ pub const MOST_CELL: u32 = 65_535;
 pub struct Lineage {
     pub cell: u32,
     pub workers: u32,
-}
-
-fn command<'a>(alloc: Global) -> Result<Command<'a>, AllocError>
-    ensures { IfOk result (λ c. app_of c ≡ lineage_app) }
-{
-    let workers = Arg::new(alloc, "workers")
-        .long("workers")
-        .default_value("1");
-    let cell = Arg::new(alloc, "cell").required(true);
-    Command::new(alloc, "lineage")
-        .disable_help_flag(true)
-        .arg(workers)?
-        .arg(cell)
 }
 
 fn in_matches(matches: &ArgMatches<'_>) -> Option<Lineage>
@@ -53,7 +40,7 @@ pub fn read_lineage(alloc: Global, words: &[String]) -> Result<Lineage, Refused>
         (Refuses (lineage_told (drop 1 (map string_bytes words.now)))) }
 {
     one_spelling();
-    let command = match command(alloc) {
+    let command = match positional_command(alloc, "lineage", "cell") {
         Ok(command) => command,
         Err(_) => return Err(Refused::Memory),
     };

@@ -1,10 +1,13 @@
 // The option `--workers`, which several commands have.
-ghost use Rattle.std.specs.Prelude.{◌≡◌, codes, option_and_then};
-ghost use Rattle.clap.specs.Words.{found_of, rows_of, first_of};
+ghost use Rattle.std.specs.Prelude.{◌≡◌, ◌∷◌, [], IfOk, codes, option_and_then};
+ghost use Rattle.clap.specs.Words.{app_of, found_of, rows_of, first_of};
 ghost use Rattle.numerals.specs.Numeral.{number_of};
+ghost use Rattle.command_line.specs.Commands.{positional_form};
+ghost use Rattle.command_line.specs.Parsers.{app_by};
 
 use crate::numbers::number_in;
-use clap::ArgMatches;
+use clap::{Arg, ArgMatches, Command};
+use std::alloc::{AllocError, Global};
 
 /// The least number of workers that a command accepts.
 pub const LEAST_WORKERS: u32 = 1;
@@ -17,4 +20,23 @@ pub(crate) fn workers_in(matches: &ArgMatches<'_>) -> Option<u32>
         (first_of (codes "workers") (rows_of (found_of matches.now))) }
 {
     number_in(LEAST_WORKERS, MOST_WORKERS, matches.get_str("workers")?)
+}
+
+/// The command of this name with one positional, of this name, and `--workers`.
+pub(crate) fn positional_command<'a>(
+    alloc: Global,
+    name: &'a str,
+    positional: &'a str,
+) -> Result<Command<'a>, AllocError>
+    ensures { IfOk result (λ c. app_of c
+        ≡ app_by name.entry.now positional_form (positional.entry.now ∷ [])) }
+{
+    let workers = Arg::new(alloc, "workers")
+        .long("workers")
+        .default_value("1");
+    let required = Arg::new(alloc, positional).required(true);
+    Command::new(alloc, name)
+        .disable_help_flag(true)
+        .arg(workers)?
+        .arg(required)
 }
