@@ -1,6 +1,10 @@
 pub mod PieceLemmas
 pub mod TraceLemmas
 pub mod ListTexts
+pub mod RangeLemmas
+pub mod WatchLemmas
+pub mod RunEnds
+pub mod BenchLemmas
 pub mod Serves
 pub mod PutLemmas
 pub mod RunLemmas

@@ -1,32 +1,32 @@
 -- From what the work leaves by its outcome to what `serve` promises by its status.
-use Rattle.std.proofs.Common.{◌≡◌, ◌≢◌, ℕ, List, Option, None, Some, Result, sym, ap, subst, refl, inl, inr}
+use Rattle.std.proofs.Common.{◌≡◌, ◌≢◌, ℕ, List, Option, None, Some, IfSome, Result, sym, ap, subst, refl, inl, inr, option_and_then}
 use Rattle.lineage_log.specs.Replay.{replay_of}
 use Rattle.world_rules.specs.WorldRun.{residents_of_world}
 use Rattle.world_config.specs.Values.{ConfigValues}
 use Rattle.world_core.specs.WorldValue.{WorldValue, world_in}
 use Rattle.avida_port.specs.Ports.{SinkState}
-use Rattle.avida_program.proofs.PutLemmas.{nothing_gained}
+use Rattle.avida_program.proofs.WatchLemmas.{no_pictures, stays_front}
 use Rattle.avida_program.specs.declared.command.Command.{Command}
-use Rattle.avida_program.specs.declared.command.Command.TheVariants.{Trace, Run, Lineage, Replay, Upgrade}
+use Rattle.avida_program.specs.declared.command.Command.TheVariants.{Trace, Run, Lineage, Bench, Replay, Upgrade}
 use Rattle.avida_program.specs.declared.status.Status.TheVariants as status
 use Rattle.avida_program.specs.declared.outcome.Outcome.{Outcome}
 use Rattle.avida_program.specs.declared.outcome.Outcome.TheVariants as outcome
 use Rattle.avida_program.specs.declared.refusal.Refusal.{Refusal}
 use Rattle.avida_program.specs.Input.{IsInputWith, configuration_of, lineage_input_of}
 use Rattle.avida_program.specs.Status.{status_of, told_by}
-use Rattle.avida_program.specs.Changes.{Call, Change, GainedFront, GainedText, SinkFailed, SourceFailed, Stays, TellsOf, Work, work_of}
-use Rattle.avida_program.specs.Commands.{Serves, ServesCommand, ServesInput, ServesLineage, ServesNothing, ServesRun}
+use Rattle.avida_program.specs.Changes.{Call, Change, GainedFront, GainedText, PutFailed, SourceFailed, Stays, TellsOf, Work, work_of}
+use Rattle.avida_program.specs.CommandLine.{looks_of}
+use Rattle.avida_program.specs.Commands.{Serves, ServesBench, ServesCommand, ServesLineage, ServesRun, ServesWatcher}
 use Rattle.avida_program.specs.RunText.{GainedLogOf, final_world, run_text}
-use Rattle.avida_program.specs.Work.{CarriesOut, Descends, DoesNothing, LeavesFinal, LeavesLast, LeavesWorld, Obeys, ReadsInput, Runs}
-
--- nothing is a prefix of every text
-pub stays_front : (sink : Change SinkState) (text : List ℕ) → Stays sink → GainedFront sink text
-stays_front sink text e = nothing_gained sink.before sink.after text e
+use Rattle.avida_program.specs.ServesInput.{ServesInput, ServesNothing}
+use Rattle.avida_program.specs.WatchText.{GainedPicturesFront}
+use Rattle.avida_program.specs.Work.{Benches, CarriesOut, Descends, DoesNothing, LeavesFinal, LeavesLast, LeavesWorld, Obeys, ReadsInput, Runs, Watches}
 
 -- what is read and written, by the status
-serves_input : {A : Type 0} (read : Result A Refusal) (text_of : A → List ℕ) (call : Call) (told : Outcome)
-    → Stays call.watch → ReadsInput read text_of (work_of call) told → TellsOf call.err told → ServesInput read text_of call (status_of told)
-serves_input read text_of call outcome.Done w h t = record {
+serves_input : {A : Type 0} (looks : Option ℕ) (read : Result A Refusal) (text_of : A → List ℕ) (call : Call) (told : Outcome)
+    → (looks ≡ None → Stays call.watch) → ReadsInput looks read text_of (work_of call) told → TellsOf call.err told
+    → ServesInput looks read text_of call (status_of told)
+serves_input looks read text_of call outcome.Done w h t = record {
   read_whole = λ e. h.0;
   text = λ e. h.1;
   bad_words = λ e. cc;
@@ -41,8 +41,8 @@ serves_input read text_of call outcome.Done w h t = record {
   tells = t;
   complete = λ input is read_well put_well. inl refl;
 }
-serves_input read text_of call outcome.BadWords w h t = absurd h
-serves_input read text_of call (outcome.BadInput why) w h t = record {
+serves_input looks read text_of call outcome.BadWords w h t = absurd h
+serves_input looks read text_of call (outcome.BadInput why) w h t = record {
   read_whole = λ e. absurd (cc);
   text = λ e. absurd (cc);
   bad_words = λ e. cc;
@@ -57,7 +57,7 @@ serves_input read text_of call (outcome.BadInput why) w h t = record {
   tells = subst (λ seen. TellsOf call.err (told_by seen status.BadInput)) (sym h.1) t;
   complete = λ input is read_well put_well. absurd (cc (is, h.1));
 }
-serves_input read text_of call outcome.ReadFault w h t = record {
+serves_input looks read text_of call outcome.ReadFault w h t = record {
   read_whole = λ e. absurd (cc);
   text = λ e. absurd (cc);
   bad_words = λ e. cc;
@@ -72,7 +72,7 @@ serves_input read text_of call outcome.ReadFault w h t = record {
   tells = t;
   complete = λ input is read_well put_well. absurd (read_well h.1);
 }
-serves_input read text_of call outcome.WriteFault w h t = record {
+serves_input looks read text_of call outcome.WriteFault w h t = record {
   read_whole = λ e. absurd (cc);
   text = λ e. absurd (cc);
   bad_words = λ e. cc;
@@ -89,7 +89,7 @@ serves_input read text_of call outcome.WriteFault w h t = record {
   tells = t;
   complete = λ input is read_well put_well. absurd (put_well h.0);
 }
-serves_input read text_of call outcome.NoMemory w h t = record {
+serves_input looks read text_of call outcome.NoMemory w h t = record {
   read_whole = λ e. absurd (cc);
   text = λ e. absurd (cc);
   bad_words = λ e. cc;
@@ -138,55 +138,152 @@ gained_log out last config world gained left is =
     }
 
 -- what `out` gained in a run that came to its end is the log of who lives in the world that is left
-log_of_run : (bytes : List ℕ) (call : Call) (told : Outcome) → Runs bytes (work_of call) told → status_of told ≡ status.Done
+log_of_run : (looks : Option ℕ) (bytes : List ℕ) (call : Call) (told : Outcome) → Runs looks bytes (work_of call) told → status_of told ≡ status.Done
     → (world : WorldValue) → call.last.after ≡ Some world → GainedLogOf call.out world
-log_of_run bytes call outcome.Done ran e world is =
+log_of_run looks bytes call outcome.Done ran e world is =
     let wrote = ran.reads.1 in
     let left = ran.leaves in
     let same : wrote.0 ≡ left.0 = cc (wrote.1, left.1) in
     gained_log call.out call.last left.0 world (subst (λ c. GainedText call.out (run_text c)) same wrote.2) left.2 is
-log_of_run bytes call outcome.BadWords ran e world is = absurd (cc)
-log_of_run bytes call (outcome.BadInput why) ran e world is = absurd (cc)
-log_of_run bytes call outcome.ReadFault ran e world is = absurd (cc)
-log_of_run bytes call outcome.WriteFault ran e world is = absurd (cc)
-log_of_run bytes call outcome.NoMemory ran e world is = absurd (cc)
+log_of_run looks bytes call outcome.BadWords ran e world is = absurd (cc)
+log_of_run looks bytes call (outcome.BadInput why) ran e world is = absurd (cc)
+log_of_run looks bytes call outcome.ReadFault ran e world is = absurd (cc)
+log_of_run looks bytes call outcome.WriteFault ran e world is = absurd (cc)
+log_of_run looks bytes call outcome.NoMemory ran e world is = absurd (cc)
 
-serves_run : (bytes : List ℕ) (call : Call) (told : Outcome) → Stays call.watch → (told ≢ outcome.Done → Stays call.last)
-    → Runs bytes (work_of call) told → TellsOf call.err told → ServesRun bytes call (status_of told)
-serves_run bytes call told watch kept ran tells = record {
-  serves = serves_input _ _ call told watch ran.reads tells;
+-- the watcher of a run
+serves_watcher : (looks : ℕ) (read : Result ConfigValues Refusal) (call : Call) (told : Outcome)
+    → Watches looks read (work_of call) told → ServesWatcher looks read call (status_of told)
+serves_watcher looks read call outcome.Done h = record {
+  lines = λ e. h;
+  nothing = elim [ inl p ↦ absurd (cc) | inr p ↦ absurd (cc) ];
+  nothing_refused = λ why is. absurd (cc (is, h.1));
+  front = elim [ inl p ↦ absurd (cc) | inr p ↦ absurd (cc) ];
+  whole_log = λ e. absurd (cc);
+}
+serves_watcher looks read call outcome.BadWords h = absurd h
+serves_watcher looks read call (outcome.BadInput why) h = record {
+  lines = λ e. absurd (cc);
+  nothing = λ e. h;
+  nothing_refused = λ other is. h;
+  front = elim [ inl p ↦ absurd (cc) | inr p ↦ absurd (cc) ];
+  whole_log = λ e. absurd (cc);
+}
+serves_watcher looks read call outcome.ReadFault h = record {
+  lines = λ e. absurd (cc);
+  nothing = λ e. h;
+  nothing_refused = λ why is. h;
+  front = elim [ inl p ↦ absurd (cc) | inr p ↦ absurd (cc) ];
+  whole_log = λ e. absurd (cc);
+}
+serves_watcher looks read call outcome.WriteFault h = record {
+  lines = λ e. absurd (cc);
+  nothing = elim [ inl p ↦ absurd (cc) | inr p ↦ absurd (cc) ];
+  nothing_refused = λ why is. absurd (cc (is, h.1));
+  front = λ e config is.
+      let same : h.0 ≡ config = cc (is, h.1) in
+      subst (λ c. GainedPicturesFront looks c call.watch) same h.2.pictures;
+  whole_log = λ e well config is.
+      let same : h.0 ≡ config = cc (is, h.1) in
+      subst (λ c. GainedText call.out (run_text c)) same (h.2.whole_log well);
+}
+serves_watcher looks read call outcome.NoMemory h = record {
+  lines = λ e. absurd (cc);
+  nothing = elim [ inl p ↦ absurd (cc) | inr p ↦ absurd (cc) ];
+  nothing_refused = λ why is. elim h [ inl stays ↦ stays | inr wrote ↦ absurd (cc (is, wrote.1)) ];
+  front = λ e config is. elim h [
+    | inl stays ↦ no_pictures looks config call.watch stays
+    | inr wrote ↦
+        let same : wrote.0 ≡ config = cc (is, wrote.1) in
+        subst (λ c. GainedPicturesFront looks c call.watch) same wrote.2
+  ];
+  whole_log = λ e. absurd (cc);
+}
+
+-- the watcher, where there is one
+serves_watch : (looks : Option ℕ) (read : Result ConfigValues Refusal) (call : Call) (told : Outcome)
+    → IfSome looks (λ n. Watches n read (work_of call) told) → IfSome looks (λ n. ServesWatcher n read call (status_of told))
+serves_watch None read call told h = h
+serves_watch (Some n) read call told h = serves_watcher n read call told h
+
+serves_run : (looks : Option ℕ) (bytes : List ℕ) (call : Call) (told : Outcome) → (looks ≡ None → Stays call.watch) → (told ≢ outcome.Done → Stays call.last)
+    → Runs looks bytes (work_of call) told → TellsOf call.err told → ServesRun looks bytes call (status_of told)
+serves_run looks bytes call told watch kept ran tells = record {
+  serves = serves_input looks _ _ call told watch ran.reads tells;
+  watched = serves_watch looks (configuration_of bytes) call told ran.watches;
   last_world = λ e.
       let left : IsInputWith (configuration_of bytes) (LeavesWorld call.last) = left_by (configuration_of bytes) LeavesWorld call.last told ran.leaves e in
       (left.0, left.1, left.2.world);
-  replays = λ e world is. log_of_run bytes call told ran e world is;
+  replays = λ e world is. log_of_run looks bytes call told ran e world is;
   last_stays = λ e. kept_by call.last told kept e;
 }
 
-serves_lineage : (cell : ℕ) (bytes : List ℕ) (call : Call) (told : Outcome) → Stays call.watch → (told ≢ outcome.Done → Stays call.last)
+serves_lineage : (cell : ℕ) (bytes : List ℕ) (call : Call) (told : Outcome) → ((let none : Option ℕ = None in none ≡ None) → Stays call.watch) → (told ≢ outcome.Done → Stays call.last)
     → Descends cell bytes (work_of call) told → TellsOf call.err told → ServesLineage cell bytes call (status_of told)
 serves_lineage cell bytes call told watch kept ran tells = record {
-  serves = serves_input _ _ call told watch ran.reads tells;
+  serves = serves_input None _ _ call told watch ran.reads tells;
   last_world = λ e. left_by (lineage_input_of cell bytes) LeavesFinal call.last told ran.leaves e;
   last_stays = λ e. kept_by call.last told kept e;
+}
+
+serves_bench : (seed : ℕ) (call : Call) (told : Outcome) → Stays call.watch → (status_of told ≢ status.Done → Stays call.last)
+    → Benches seed (work_of call) told → TellsOf call.err told → ServesBench seed call (status_of told)
+serves_bench seed call outcome.Done watch kept did tells = record {
+  source_stays = did.source_stays;
+  ends = inl refl;
+  text = λ e. did.writes;
+  last_world = λ e. did.leaves refl;
+  front = λ other. absurd (other refl);
+  last_stays = kept;
+  write_fault = λ e. absurd (cc);
+  watch_stays = watch;
+  tells = tells;
+}
+serves_bench seed call outcome.BadWords watch kept did tells = absurd did.writes
+serves_bench seed call (outcome.BadInput why) watch kept did tells = absurd did.writes
+serves_bench seed call outcome.ReadFault watch kept did tells = absurd did.writes
+serves_bench seed call outcome.WriteFault watch kept did tells = record {
+  source_stays = did.source_stays;
+  ends = inr (inl refl);
+  text = λ e. absurd (cc);
+  last_world = λ e. absurd (cc);
+  front = λ other. did.writes.1;
+  last_stays = kept;
+  write_fault = λ e. did.writes.0;
+  watch_stays = watch;
+  tells = tells;
+}
+serves_bench seed call outcome.NoMemory watch kept did tells = record {
+  source_stays = did.source_stays;
+  ends = inr (inr refl);
+  text = λ e. absurd (cc);
+  last_world = λ e. absurd (cc);
+  front = λ other. did.writes;
+  last_stays = kept;
+  write_fault = λ e. absurd (cc);
+  watch_stays = watch;
+  tells = tells;
 }
 
 -- each command's row
 serves_command : (command : Command) (call : Call) (told : Outcome)
     → CarriesOut command (work_of call) told → TellsOf call.err told → ServesCommand command call (status_of told)
 serves_command (Trace steps spelling) call told did tells = λ bytes is. record {
-  serves = serves_input _ _ call told did.watch_stays (did.does bytes is).reads tells;
+  serves = serves_input None _ _ call told did.watch_stays (did.does bytes is).reads tells;
   last_stays = (did.does bytes is).last_stays;
 }
-serves_command (Run workers) call told did tells = λ bytes is.
-    serves_run bytes call told did.watch_stays did.last_stays (did.does bytes is) tells
+serves_command (Run workers looks) call told did tells = λ bytes is.
+    serves_run looks bytes call told did.watch_stays did.last_stays (did.does bytes is) tells
 serves_command (Lineage cell workers) call told did tells = λ bytes is.
     serves_lineage cell bytes call told did.watch_stays did.last_stays (did.does bytes is) tells
+serves_command (Bench seed workers) call told did tells =
+    serves_bench seed call told (did.watch_stays refl) (λ e. kept_by call.last told did.last_stays e) did.does tells
 serves_command Replay call told did tells = λ bytes is. record {
-  serves = serves_input _ _ call told did.watch_stays (did.does bytes is).reads tells;
+  serves = serves_input None _ _ call told did.watch_stays (did.does bytes is).reads tells;
   last_stays = (did.does bytes is).last_stays;
 }
 serves_command Upgrade call told did tells = λ bytes is. record {
-  serves = serves_input _ _ call told did.watch_stays (did.does bytes is).reads tells;
+  serves = serves_input None _ _ call told did.watch_stays (did.does bytes is).reads tells;
   last_stays = (did.does bytes is).last_stays;
 }
 
@@ -241,10 +338,15 @@ pub source_failed : (command : Option Command) (work : Work) (told : Outcome) �
 source_failed None work told did e = absurd (elim did.refused [ inl p ↦ cc (ap status_of p) | inr p ↦ cc (ap status_of p) ])
 source_failed (Some command) work told did e = did.read_fault (told_read_fault told e)
 
-pub out_failed : (command : Option Command) (work : Work) (told : Outcome) → Obeys command work told → status_of told ≡ status.WriteFault → SinkFailed work.out
-out_failed None work told did e = absurd (elim did.refused [ inl p ↦ cc (ap status_of p) | inr p ↦ cc (ap status_of p) ])
-out_failed (Some command) work told did e = did.write_fault (told_write_fault told e)
+pub put_failed : (command : Option Command) (work : Work) (told : Outcome) → Obeys command work told → status_of told ≡ status.WriteFault
+    → PutFailed (option_and_then looks_of command) work.out work.watch
+put_failed None work told did e = absurd (elim did.refused [ inl p ↦ cc (ap status_of p) | inr p ↦ cc (ap status_of p) ])
+put_failed (Some command) work told did e = did.write_fault (told_write_fault told e)
 
 pub last_kept : (command : Option Command) (work : Work) (told : Outcome) → Obeys command work told → status_of told ≢ status.Done → Stays work.last
 last_kept None work told did other = did.last_stays
 last_kept (Some command) work told did other = kept_by work.last told did.last_stays other
+
+pub watch_kept : (command : Option Command) (work : Work) (told : Outcome) → Obeys command work told → option_and_then looks_of command ≡ None → Stays work.watch
+watch_kept None work told did e = did.watch_stays
+watch_kept (Some command) work told did e = did.watch_stays e

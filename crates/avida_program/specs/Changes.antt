@@ -1,5 +1,5 @@
 -- What a call changes (docs/FORMATS.md, "Statuses and fault lines").
-use Rattle.std.specs.Prelude.{◌≡◌, ◌≢◌, ◌⊎◌, ℕ, List, Option, Some}
+use Rattle.std.specs.Prelude.{◌≡◌, ◌≢◌, ◌⊎◌, ℕ, List, Option, None, Some}
 use Rattle.avida_port.specs.Faults.{Rose}
 use Rattle.avida_port.specs.Ports.{SourceState, SinkState, Gained, GainedPrefix}
 use Rattle.world_core.specs.WorldValue.{WorldValue}
@@ -59,6 +59,11 @@ SourceFailed source = Rose source.before.faults source.after.faults
 -- the faults of a sink rose
 abbrev pub SinkFailed : Change SinkState → Type 0
 SinkFailed sink = Rose sink.before.faults sink.after.faults
+
+-- the faults of `out` rose, or, where there is a watcher of so many looks, those of `watch`
+abbrev pub PutFailed : Option ℕ → Change SinkState → Change SinkState → Type 0
+PutFailed None out watch = SinkFailed out
+PutFailed (Some looks) out watch = SinkFailed out ⊎ SinkFailed watch
 
 -- the faults or the wants of a sink rose
 abbrev pub SinkStopped : Change SinkState → Type 0

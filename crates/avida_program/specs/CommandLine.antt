@@ -1,10 +1,9 @@
 -- What words give a command (docs/FORMATS.md, "The command line").
-use Rattle.std.specs.Prelude.{Bool, ℕ, List, [], ◌∷◌, Option, Some, None, ◌≤◌, ⊤, codes, if◌then◌else◌, is_none, option_map, option_and_then}
+use Rattle.std.specs.Prelude.{Bool, ℕ, List, [], ◌∷◌, Option, Some, None, ◌≤◌, ⊤, codes, if◌then◌else◌, option_map, option_and_then}
 use Rattle.std.specs.Str.{bytes_eq}
 use Rattle.command_line.specs.Commands as told
-use Rattle.command_line.specs.declared.run.Run.{Run as RunWords}
 use Rattle.avida_program.specs.declared.command.Command.{Command}
-use Rattle.avida_program.specs.declared.command.Command.TheVariants.{Trace, Run, Lineage, Replay, Upgrade}
+use Rattle.avida_program.specs.declared.command.Command.TheVariants.{Trace, Run, Lineage, Bench, Replay, Upgrade}
 use Rattle.avida_program.specs.declared.command.Spelling.{Spelling}
 use Rattle.avida_program.specs.declared.command.Spelling.TheVariants.{Letters, Names}
 
@@ -17,18 +16,18 @@ abbrev pub trace_command : List (List ℕ) → Option Command
 trace_command words =
     option_map (λ trace. Trace trace.steps (spelling_of trace.org)) (told.trace_told words)
 
--- the workers of a run that nobody watches
-abbrev pub unwatched : RunWords → Option Command
-unwatched run = if is_none run.watch then Some (Run run.workers) else None
-
--- `run` by the words after the name; there is no `--watch` yet
+-- `run` by the words after the name
 abbrev pub run_command : List (List ℕ) → Option Command
-run_command words = option_and_then unwatched (told.run_told words)
+run_command words = option_map (λ run. Run run.workers run.watch) (told.run_told words)
 
 -- `lineage` by the words after the name
 abbrev pub lineage_command : List (List ℕ) → Option Command
 lineage_command words =
     option_map (λ lineage. Lineage lineage.cell lineage.workers) (told.lineage_told words)
+
+-- `bench` by the words after the name
+abbrev pub bench_command : List (List ℕ) → Option Command
+bench_command words = option_map (λ bench. Bench bench.seed bench.workers) (told.bench_told words)
 
 -- a command that takes no words
 abbrev pub bare_command : Command → List (List ℕ) → Option Command
@@ -40,6 +39,7 @@ command_named name words =
     if bytes_eq name (codes "trace") then trace_command words
     else if bytes_eq name (codes "run") then run_command words
     else if bytes_eq name (codes "lineage") then lineage_command words
+    else if bytes_eq name (codes "bench") then bench_command words
     else if bytes_eq name (codes "replay") then bare_command Replay words
     else if bytes_eq name (codes "upgrade") then bare_command Upgrade words
     else None
@@ -49,10 +49,25 @@ abbrev pub command_of : List (List ℕ) → Option Command
 command_of [] = None
 command_of (name ∷ words) = command_named name words
 
--- a command that runs a world has from 1 to 64 workers
-abbrev pub HasWorkers : Command → Type 0
-HasWorkers (Trace steps spelling) = ⊤
-HasWorkers (Run workers) = (1 ≤ workers) × (workers ≤ 64)
-HasWorkers (Lineage cell workers) = (1 ≤ workers) × (workers ≤ 64)
-HasWorkers Replay = ⊤
-HasWorkers Upgrade = ⊤
+-- how often a command's watcher looks, where it has a watcher
+abbrev pub looks_of : Command → Option ℕ
+looks_of (Trace steps spelling) = None
+looks_of (Run workers looks) = looks
+looks_of (Lineage cell workers) = None
+looks_of (Bench seed workers) = None
+looks_of Replay = None
+looks_of Upgrade = None
+
+-- how often a watcher looks, where the words ask for one
+abbrev pub looks_told : List (List ℕ) → Option ℕ
+looks_told words = option_and_then looks_of (command_of words)
+
+-- a command that runs a world has from 1 to 64 workers, and `bench` has a seed of a configuration
+abbrev pub IsInRange : Command → Type 0
+IsInRange (Trace steps spelling) = ⊤
+IsInRange (Run workers looks) = (1 ≤ workers) × (workers ≤ 64)
+IsInRange (Lineage cell workers) = (1 ≤ workers) × (workers ≤ 64)
+IsInRange (Bench seed workers) =
+    (seed ≤ 9223372036854775807) × (1 ≤ workers) × (workers ≤ 64)
+IsInRange Replay = ⊤
+IsInRange Upgrade = ⊤

@@ -6,7 +6,10 @@ pub mod PathText
 pub mod Input
 pub mod ReplayText
 pub mod Changes
+pub mod ServesInput
 pub mod Commands
 pub mod Outcomes
 pub mod RunText
+pub mod WatchText
+pub mod BenchText
 pub mod Work

@@ -1,30 +1,35 @@
 -- What each command's function leaves, by the outcome (docs/FORMATS.md, "Statuses and fault lines").
-use Rattle.std.specs.Prelude.{◌≡◌, ◌≢◌, ◌⊎◌, ℕ, List, [], Option, None, Some, Result, Ok, Err}
+use Rattle.std.specs.Prelude.{◌≡◌, ◌≢◌, ◌⊎◌, ℕ, List, [], Option, None, Some, IfSome, Result, Ok, Err}
 use Rattle.world_config.specs.Values.{ConfigValues}
 use Rattle.world_core.specs.WorldValue.{WorldValue}
 use Rattle.world_rules.specs.Laws.{ReplaysToLiving}
 use Rattle.avida_program.specs.declared.command.Command.{Command}
-use Rattle.avida_program.specs.declared.command.Command.TheVariants.{Trace, Run, Lineage, Replay, Upgrade}
+use Rattle.avida_program.specs.declared.command.Command.TheVariants.{Trace, Run, Lineage, Bench, Replay, Upgrade}
 use Rattle.avida_program.specs.declared.outcome.Outcome.{Outcome}
 use Rattle.avida_program.specs.declared.outcome.Outcome.TheVariants as outcome
 use Rattle.avida_program.specs.declared.refusal.Refusal.{Refusal}
-use Rattle.avida_program.specs.Changes.{Change, OnBytes, Stays, SourceFailed, SinkFailed, GainedText, GainedFront, Work}
+use Rattle.avida_program.specs.BenchText.{bench_config, bench_text}
+use Rattle.avida_program.specs.Changes.{Change, OnBytes, Stays, SourceFailed, SinkFailed, PutFailed, GainedText, GainedFront, Work}
+use Rattle.avida_program.specs.CommandLine.{looks_of}
 use Rattle.avida_program.specs.Input.{IsInputWith, configuration_of, genome_of, lineage_input_of, log_input_of}
+use Rattle.avida_program.specs.Outcomes.{WritesText}
 use Rattle.avida_program.specs.PathText.{path_text}
 use Rattle.avida_program.specs.ReplayText.{replay_text, upgrade_text}
 use Rattle.avida_program.specs.RunText.{final_world, run_text}
 use Rattle.avida_program.specs.TraceText.{trace_text}
+use Rattle.avida_program.specs.WatchText.{GainedPictures, GainedPicturesFront}
 
--- a command that reads this input, or refuses it, and writes this text of it
-abbrev pub ReadsInput : {A : Type 0} → Result A Refusal → (A → List ℕ) → Work → Outcome → Type 0
-ReadsInput read text_of work outcome.Done = (work.source.after.left ≡ Some [])
+-- a command that reads this input, or refuses it, and writes this text of it; it may have a watcher
+abbrev pub ReadsInput : {A : Type 0} →
+    Option ℕ → Result A Refusal → (A → List ℕ) → Work → Outcome → Type 0
+ReadsInput looks read text_of work outcome.Done = (work.source.after.left ≡ Some [])
     × IsInputWith read (λ input. GainedText work.out (text_of input))
-ReadsInput read text_of work outcome.BadWords = ⊥
-ReadsInput read text_of work (outcome.BadInput why) = Stays work.out × (read ≡ Err why)
-ReadsInput read text_of work outcome.ReadFault = Stays work.out × SourceFailed work.source
-ReadsInput read text_of work outcome.WriteFault =
-    SinkFailed work.out × IsInputWith read (λ input. GainedFront work.out (text_of input))
-ReadsInput read text_of work outcome.NoMemory =
+ReadsInput looks read text_of work outcome.BadWords = ⊥
+ReadsInput looks read text_of work (outcome.BadInput why) = Stays work.out × (read ≡ Err why)
+ReadsInput looks read text_of work outcome.ReadFault = Stays work.out × SourceFailed work.source
+ReadsInput looks read text_of work outcome.WriteFault = PutFailed looks work.out work.watch
+    × IsInputWith read (λ input. GainedFront work.out (text_of input))
+ReadsInput looks read text_of work outcome.NoMemory =
     Stays work.out ⊎ IsInputWith read (λ input. GainedFront work.out (text_of input))
 
 -- a run that came to its end leaves its last world, and its log replays to who lives there
@@ -39,9 +44,28 @@ abbrev pub LeavesLast : Result ConfigValues Refusal
 LeavesLast read Leaves last outcome.Done = IsInputWith read (Leaves last)
 LeavesLast read Leaves last told = Stays last
 
--- `run` on these bytes
-pub record Runs (bytes : List ℕ) (work : Work) (told : Outcome) : Type 0 where
-  pub reads : ReadsInput (configuration_of bytes) run_text work told
+-- what a watcher of so many looks leaves where a put failed: pictures or a prefix of their lines,
+-- and the whole log unless a put to `out` failed
+pub record StopsWatched (looks : ℕ) (work : Work) (config : ConfigValues) : Type 0 where
+  pub pictures : GainedPicturesFront looks config work.watch
+  pub whole_log : ¬ SinkFailed work.out → GainedText work.out (run_text config)
+
+-- the watcher of a run, where the configuration is read so
+abbrev pub Watches : ℕ → Result ConfigValues Refusal → Work → Outcome → Type 0
+Watches looks read work outcome.Done =
+    IsInputWith read (λ config. GainedPictures looks config work.watch)
+Watches looks read work outcome.BadWords = ⊥
+Watches looks read work (outcome.BadInput why) = Stays work.watch
+Watches looks read work outcome.ReadFault = Stays work.watch
+Watches looks read work outcome.WriteFault = IsInputWith read (StopsWatched looks work)
+Watches looks read work outcome.NoMemory = Stays work.watch
+    ⊎ IsInputWith read (λ config. GainedPicturesFront looks config work.watch)
+
+-- `run`, perhaps with a watcher, on these bytes
+pub record Runs (looks : Option ℕ) (bytes : List ℕ) (work : Work) (told : Outcome)
+    : Type 0 where
+  pub reads : ReadsInput looks (configuration_of bytes) run_text work told
+  pub watches : IfSome looks (λ n. Watches n (configuration_of bytes) work told)
   pub leaves : LeavesLast (configuration_of bytes) LeavesWorld work.last told
 
 -- a configuration's last world is left
@@ -50,21 +74,29 @@ LeavesFinal last config = last.after ≡ Some (final_world config)
 
 -- `lineage` of a cell on these bytes
 pub record Descends (cell : ℕ) (bytes : List ℕ) (work : Work) (told : Outcome) : Type 0 where
-  pub reads : ReadsInput (lineage_input_of cell bytes) (λ config. path_text config cell) work told
+  pub reads :
+      ReadsInput None (lineage_input_of cell bytes) (λ config. path_text config cell) work told
   pub leaves : LeavesLast (lineage_input_of cell bytes) LeavesFinal work.last told
 
 -- a command that reads this input, writes this text of it, and leaves no world
 pub record ReadsAndWrites {A : Type 0} (read : Result A Refusal) (text_of : A → List ℕ)
     (work : Work) (told : Outcome) : Type 0 where
-  pub reads : ReadsInput read text_of work told
+  pub reads : ReadsInput None read text_of work told
   pub last_stays : Stays work.last
+
+-- `bench` of a seed
+pub record Benches (seed : ℕ) (work : Work) (told : Outcome) : Type 0 where
+  pub source_stays : Stays work.source
+  pub writes : WritesText (bench_text seed) work.out told
+  pub leaves : told ≡ outcome.Done → work.last.after ≡ Some (final_world (bench_config seed))
 
 -- what each command reads, writes and leaves
 abbrev pub Does : Command → Work → Outcome → Type 0
 Does (Trace steps spelling) work told = OnBytes work.source (λ bytes.
     ReadsAndWrites (genome_of spelling bytes) (λ genome. trace_text genome steps) work told)
-Does (Run workers) work told = OnBytes work.source (λ bytes. Runs bytes work told)
+Does (Run workers looks) work told = OnBytes work.source (λ bytes. Runs looks bytes work told)
 Does (Lineage cell workers) work told = OnBytes work.source (λ bytes. Descends cell bytes work told)
+Does (Bench seed workers) work told = Benches seed work told
 Does Replay work told =
     OnBytes work.source (λ bytes. ReadsAndWrites (log_input_of bytes) replay_text work told)
 Does Upgrade work told =
@@ -75,8 +107,8 @@ pub record CarriesOut (command : Command) (work : Work) (told : Outcome) : Type 
   -- these hold also where the streams tell no bytes
   pub words : told ≢ outcome.BadWords
   pub read_fault : told ≡ outcome.ReadFault → SourceFailed work.source
-  pub write_fault : told ≡ outcome.WriteFault → SinkFailed work.out
-  pub watch_stays : Stays work.watch
+  pub write_fault : told ≡ outcome.WriteFault → PutFailed (looks_of command) work.out work.watch
+  pub watch_stays : looks_of command ≡ None → Stays work.watch
   pub last_stays : told ≢ outcome.Done → Stays work.last
   -- the command's own row
   pub does : Does command work told

@@ -1,9 +1,9 @@
 // The words of a command line.
 ghost use Rattle.std.specs.Prelude.{◌≡◌, ◌<◌, Some, MatchResult, IfOk, drop, length, map, string_bytes};
 ghost use Rattle.command_line.specs.Refusals.{Refuses};
-ghost use Rattle.avida_program.specs.CommandLine.{HasWorkers, bare_command, command_named, command_of, lineage_command, run_command, spelling_of, trace_command};
+ghost use Rattle.avida_program.specs.CommandLine.{IsInRange, bare_command, bench_command, command_named, command_of, lineage_command, run_command, spelling_of, trace_command};
 
-use command_line::{Refused, read_lineage, read_nothing, read_run, read_trace};
+use command_line::{Refused, read_bench, read_lineage, read_nothing, read_run, read_trace};
 use std::alloc::Global;
 
 /// How a genome is written: by letters or by names.
@@ -17,8 +17,10 @@ pub enum Spelling {
 #[derive(Clone, Copy, Debug, PartialEq, Eq)]
 pub enum Command {
     Trace { steps: u32, spelling: Spelling },
-    Run { workers: u32 },
+    /// With `looks` there is a watcher, which looks at most so often.
+    Run { workers: u32, looks: Option<u32> },
     Lineage { cell: u32, workers: u32 },
+    Bench { seed: u64, workers: u32 },
     Replay,
     Upgrade,
 }
@@ -46,20 +48,19 @@ fn read_trace_words(alloc: Global, words: &[String]) -> Result<Command, Refused>
     })
 }
 
-/// Nobody can watch a run yet, so the words that ask for it give no command.
+#[tactic(auto, unfolding(numerals::specs::Numeral::number_of))]
 fn read_run_words(alloc: Global, words: &[String]) -> Result<Command, Refused>
     requires { 0 < length words.now }
-    ensures { MatchResult result
+    ensures command { MatchResult result
         (λ command. run_command (drop 1 (map string_bytes words.now)) ≡ Some command)
         (Refuses (run_command (drop 1 (map string_bytes words.now)))) }
+    ensures range { IfOk result IsInRange }
 {
     let run = read_run(alloc, words)?;
-    match run.watch {
-        None => Ok(Command::Run {
-            workers: run.workers,
-        }),
-        Some(_) => Err(Refused::BadWords),
-    }
+    Ok(Command::Run {
+        workers: run.workers,
+        looks: run.watch,
+    })
 }
 
 fn read_lineage_words(alloc: Global, words: &[String]) -> Result<Command, Refused>
@@ -72,6 +73,19 @@ fn read_lineage_words(alloc: Global, words: &[String]) -> Result<Command, Refuse
     Ok(Command::Lineage {
         cell: lineage.cell,
         workers: lineage.workers,
+    })
+}
+
+fn read_bench_words(alloc: Global, words: &[String]) -> Result<Command, Refused>
+    requires { 0 < length words.now }
+    ensures { MatchResult result
+        (λ command. bench_command (drop 1 (map string_bytes words.now)) ≡ Some command)
+        (Refuses (bench_command (drop 1 (map string_bytes words.now)))) }
+{
+    let bench = read_bench(alloc, words)?;
+    Ok(Command::Bench {
+        seed: bench.seed,
+        workers: bench.workers,
     })
 }
 
@@ -94,12 +108,13 @@ fn read_named(alloc: Global, name: &str, words: &[String]) -> Result<Command, Re
     ensures command { MatchResult result
         (λ command. command_named name.now (drop 1 (map string_bytes words.now)) ≡ Some command)
         (Refuses (command_named name.now (drop 1 (map string_bytes words.now)))) }
-    ensures workers { IfOk result HasWorkers }
+    ensures range { IfOk result IsInRange }
 {
     match name {
         "trace" => read_trace_words(alloc, words),
         "run" => read_run_words(alloc, words),
         "lineage" => read_lineage_words(alloc, words),
+        "bench" => read_bench_words(alloc, words),
         "replay" => read_bare_words(alloc, words, Command::Replay),
         "upgrade" => read_bare_words(alloc, words, Command::Upgrade),
         _ => Err(Refused::BadWords),
@@ -112,7 +127,7 @@ pub fn read_words(alloc: Global, words: &[String]) -> Result<Command, Refused>
     ensures command { MatchResult result
         (λ command. command_of (map string_bytes words.now) ≡ Some command)
         (Refuses (command_of (map string_bytes words.now))) }
-    ensures workers { IfOk result HasWorkers }
+    ensures range { IfOk result IsInRange }
 {
     let Some(name) = words.first() else {
         return Err(Refused::BadWords);

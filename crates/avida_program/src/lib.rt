@@ -1,6 +1,7 @@
 //! All that the program does, over any source and sinks.
 #![tactic(auto)]
 
+mod bench;
 mod command;
 mod fault_line;
 mod fixed_text;

@@ -1,13 +1,14 @@
 // The command `run`.
-ghost use Rattle.std.specs.Prelude.{◌≡◌, ◌≤◌, ◌<◌, ◌+◌, Some, IfOk, MatchResult};
-ghost use Rattle.avida_port.specs.Ports.{SinkState};
+ghost use Rattle.std.specs.Prelude.{◌≡◌, ◌≤◌, ◌<◌, ◌+◌, Some, None, IfOk, IfErr, OnOk, IfSome, MatchResult};
 ghost use Rattle.world_config.specs.Shown.{values_of};
 ghost use Rattle.world_rules.specs.Laws.{ReplaysToLiving};
 ghost use Rattle.world_rules.specs.LogText.{head_text, update_text, updates_text, end_text};
+ghost use Rattle.world_rules.specs.Picture.{picture_of, picture_text};
 ghost use Rattle.avida_program.specs.declared.command.Command.TheVariants.{Run};
-ghost use Rattle.avida_program.specs.Changes.{change, unchanged};
-ghost use Rattle.avida_program.specs.Outcomes.{WritesAll};
+ghost use Rattle.avida_program.specs.Changes.{GainedText, change};
+ghost use Rattle.avida_program.specs.Outcomes.{StopsPicture, StopsRun, WritesAll};
 ghost use Rattle.avida_program.specs.RunText.{final_world, run_text};
+ghost use Rattle.avida_program.specs.WatchText.{GainedPictures};
 ghost use Rattle.avida_program.specs.Work.{CarriesOut};
 
 use crate::input::{read_bytes, read_config};
@@ -15,8 +16,8 @@ use crate::{INPUT_LIMIT, Outcome};
 use avida_port::{Gate, Memory, Sink, Source};
 use std::alloc::Global;
 use world_config::Config;
-use world_core::World;
 use world_core::laws::replay_gives_living;
+use world_core::{World, picture_line};
 
 fn write_first<O: Sink>(alloc: Global, world: &World, out: &mut O) -> Result<(), Outcome>
     ensures { WritesAll (O.seen out.old) (O.seen out.new) (head_text world.now.config) result }
@@ -94,6 +95,65 @@ fn write_log<O: Sink, G: Gate + Sync>(
     Ok(world)
 }
 
+/// Writes the line of the picture of a world.
+fn write_picture<W: Sink>(alloc: Global, world: &World, watch: &mut W) -> Result<(), Outcome>
+    ensures { WritesAll (W.seen watch.old) (W.seen watch.new)
+        (picture_text (picture_of world.now.config world.now.update)) result }
+{
+    let picture = world.picture(alloc)?;
+    let mut line = Vec::new(alloc);
+    picture_line(&picture, &mut line)?;
+    watch.put(&line)?;
+    Ok(())
+}
+
+/// Writes the picture of a world where there is a watcher.
+fn write_picture_for<W: Sink>(
+    alloc: Global,
+    looks: Option<u32>,
+    world: &World,
+    watch: &mut W,
+) -> Result<(), Outcome>
+    ensures ok { OnOk result (IfSome looks
+        (λ n. GainedText (change (W.seen watch.old) (W.seen watch.new))
+        (picture_text (picture_of world.now.config world.now.update)))) }
+    ensures err { IfErr result (StopsPicture looks world.now
+        (change (W.seen watch.old) (W.seen watch.new))) }
+    ensures unwatched { looks ≡ None → W.seen watch.new ≡ W.seen watch.old }
+{
+    match looks {
+        Some(_) => write_picture(alloc, world, watch),
+        None => Ok(()),
+    }
+}
+
+/// Runs a configuration to its end, and writes the log. A watcher doesn't work beside the run yet:
+/// it has the last picture alone.
+fn write_run<O: Sink, W: Sink, G: Gate + Sync>(
+    alloc: Global,
+    config: Config,
+    workers: u32,
+    looks: Option<u32>,
+    out: &mut O,
+    watch: &mut W,
+    gate: &G,
+) -> Result<World, Outcome>
+    requires { (1 ≤ workers) × (workers ≤ 64) }
+    ensures world { IfOk result (λ world. world ≡ final_world (values_of config)) }
+    ensures ok { OnOk result (GainedText (change (O.seen out.old) (O.seen out.new))
+        (run_text (values_of config))) }
+    ensures watched { OnOk result (IfSome looks (λ n. GainedPictures n (values_of config)
+        (change (W.seen watch.old) (W.seen watch.new)))) }
+    ensures unwatched { looks ≡ None → W.seen watch.new ≡ W.seen watch.old }
+    ensures err { IfErr result (StopsRun looks (values_of config)
+        (change (O.seen out.old) (O.seen out.new)) (change (W.seen watch.old) (W.seen watch.new))) }
+    ensures replays { ReplaysToLiving (values_of config) config.updates }
+{
+    let world = write_log(alloc, config, workers, out, gate)?;
+    write_picture_for(alloc, looks, &world, watch)?;
+    Ok(world)
+}
+
 /// One update, whose text is dropped.
 fn pass_update<G: Gate + Sync>(alloc: Global, world: World, gate: &G) -> Result<World, Memory>
     requires { world.update < 1000000 }
@@ -149,21 +209,24 @@ pub fn leave(run: Result<World, Outcome>, last: &mut Option<World>) -> Outcome
     }
 }
 
-/// Reads a configuration, and writes the log of its run. On `Done` the last world is left in
-/// `last`, and otherwise `last` stays as it was.
-pub fn run<S: Source, O: Sink, G: Gate + Sync>(
+/// Reads a configuration, and writes the log of its run. With `looks` there is a watcher, which
+/// writes lines of pictures to `watch`. On `Done` the last world is left in `last`, and otherwise
+/// `last` stays as it was.
+pub fn run<S: Source, O: Sink, W: Sink, G: Gate + Sync>(
     alloc: Global,
     workers: u32,
+    looks: Option<u32>,
     source: &mut S,
     out: &mut O,
+    watch: &mut W,
     last: &mut Option<World>,
     gate: &G,
 ) -> Outcome
     requires { (1 ≤ workers) × (workers ≤ 64) }
-    ensures { (watch : SinkState) → CarriesOut (Run workers) (record {
+    ensures { CarriesOut (Run workers looks) (record {
       source = change (S.seen source.old) (S.seen source.new);
       out = change (O.seen out.old) (O.seen out.new);
-      watch = unchanged watch;
+      watch = change (W.seen watch.old) (W.seen watch.new);
       last = change last.old last.new;
     }) result }
 {
@@ -172,7 +235,10 @@ pub fn run<S: Source, O: Sink, G: Gate + Sync>(
         Err(outcome) => return outcome,
     };
     match read_config(alloc, bytes) {
-        Ok(config) => leave(write_log(alloc, config, workers, out, gate), last),
+        Ok(config) => leave(
+            write_run(alloc, config, workers, looks, out, watch, gate),
+            last,
+        ),
         Err(outcome) => outcome,
     }
 }

@@ -1,12 +1,12 @@
 // The whole program.
-ghost use Rattle.std.specs.Prelude.{◌≡◌, ◌≢◌, Some, None, map, string_bytes};
+ghost use Rattle.std.specs.Prelude.{◌≡◌, ◌≢◌, None, map, string_bytes};
 ghost use Rattle.avida_port.specs.Faults.{Rose};
-ghost use Rattle.avida_port.specs.Ports.{SinkState};
-ghost use Rattle.avida_program.specs.CommandLine.{HasWorkers, command_of};
-ghost use Rattle.avida_program.specs.Changes.{TellsOf, change, unchanged};
+ghost use Rattle.avida_program.specs.CommandLine.{IsInRange, command_of, looks_told};
+ghost use Rattle.avida_program.specs.Changes.{PutFailed, TellsOf, change};
 ghost use Rattle.avida_program.specs.Commands.{Serves};
 ghost use Rattle.avida_program.specs.Work.{CarriesOut, Obeys};
 
+use crate::bench::bench;
 use crate::command::{Command, read_words};
 use crate::fault_line::line_of;
 use crate::lineage::lineage;
@@ -32,52 +32,57 @@ fn tell<E: Sink>(err: &mut E, outcome: &Outcome)
 }
 
 /// Calls the function of the command.
-fn carry_out<S: Source, O: Sink, G: Gate + Sync>(
+fn carry_out<S: Source, O: Sink, W: Sink, G: Gate + Sync>(
     alloc: Global,
     command: Command,
     source: &mut S,
     out: &mut O,
+    watch: &mut W,
     last: &mut Option<World>,
     gate: &G,
 ) -> Outcome
-    requires { HasWorkers command }
-    ensures { (watch : SinkState) → CarriesOut command (record {
+    requires { IsInRange command }
+    ensures { CarriesOut command (record {
       source = change (S.seen source.old) (S.seen source.new);
       out = change (O.seen out.old) (O.seen out.new);
-      watch = unchanged watch;
+      watch = change (W.seen watch.old) (W.seen watch.new);
       last = change last.old last.new;
     }) result }
 {
     match command {
         Command::Trace { steps, spelling } => trace(alloc, steps, spelling, source, out),
-        Command::Run { workers } => run(alloc, workers, source, out, last, gate),
+        Command::Run { workers, looks } => {
+            run(alloc, workers, looks, source, out, watch, last, gate)
+        }
         Command::Lineage { cell, workers } => {
             lineage(alloc, cell, workers, source, out, last, gate)
         }
+        Command::Bench { seed, workers } => bench(alloc, seed, workers, out, last, gate),
         Command::Replay => replay(alloc, source, out),
         Command::Upgrade => upgrade(alloc, source, out),
     }
 }
 
 /// Carries out the command that the words give.
-fn obey<S: Source, O: Sink, G: Gate + Sync>(
+fn obey<S: Source, O: Sink, W: Sink, G: Gate + Sync>(
     alloc: Global,
     words: &[String],
     source: &mut S,
     out: &mut O,
+    watch: &mut W,
     last: &mut Option<World>,
     gate: &G,
 ) -> Outcome
     ensures bad_words { result ≡ Outcome.BadWords → command_of (map string_bytes words.now) ≡ None }
-    ensures obeys { (watch : SinkState) → Obeys (command_of (map string_bytes words.now)) (record {
+    ensures obeys { Obeys (command_of (map string_bytes words.now)) (record {
       source = change (S.seen source.old) (S.seen source.new);
       out = change (O.seen out.old) (O.seen out.new);
-      watch = unchanged watch;
+      watch = change (W.seen watch.old) (W.seen watch.new);
       last = change last.old last.new;
     }) result }
 {
     match read_words(alloc, words) {
-        Ok(command) => carry_out(alloc, command, source, out, last, gate),
+        Ok(command) => carry_out(alloc, command, source, out, watch, last, gate),
         Err(Refused::BadWords) => Outcome::BadWords,
         Err(Refused::Memory) => Outcome::NoMemory,
     }
@@ -98,9 +103,11 @@ pub fn serve<S: Source, O: Sink + Send, W: Sink + Send, E: Sink, G: Gate + Sync>
     ensures read_fault { result ≡ Status.ReadFault
         → Rose (S.seen source.old).faults (S.seen source.new).faults }
     ensures write_fault { result ≡ Status.WriteFault
-        → Rose (O.seen out.old).faults (O.seen out.new).faults }
+        → PutFailed (looks_told (map string_bytes words.now))
+        (change (O.seen out.old) (O.seen out.new)) (change (W.seen watch.old) (W.seen watch.new)) }
     ensures bad_words { result ≡ Status.BadWords → command_of (map string_bytes words.now) ≡ None }
-    ensures watch_stays { W.seen watch.new ≡ W.seen watch.old }
+    ensures watch_stays { looks_told (map string_bytes words.now) ≡ None
+        → W.seen watch.new ≡ W.seen watch.old }
     ensures last_stays { result ≢ Status.Done → last.new ≡ last.old }
 
     // What the command did, by its row.
@@ -112,7 +119,7 @@ pub fn serve<S: Source, O: Sink + Send, W: Sink + Send, E: Sink, G: Gate + Sync>
       last = change last.old last.new;
     }) result }
 {
-    let outcome = obey(alloc, words, source, out, last, gate);
+    let outcome = obey(alloc, words, source, out, watch, last, gate);
     tell(err, &outcome);
     outcome.status()
 }

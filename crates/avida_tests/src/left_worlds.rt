@@ -14,7 +14,7 @@ updates = 0
 U 0 1 0 0 1 100 0 0 0 0 0 0 0 0 0
 0 wzcagcccccccccccccccccccccccccccccccccccccccccccccccccccccccccccccccccccccccccccccccccccccczvfcaxgab
 ---
-run --workers 64
+run --watch 0 --workers 64
 =>
 width = 1
 height = 1
@@ -149,7 +149,7 @@ fn text_of(alloc: Global, world: &World) -> Result<Vec<u8>, Fail> {
 }
 
 #[test]
-fn run_and_lineage_leave_the_world_after_the_last_update(rt: HostRuntime) -> Result<(), Fail> {
+fn the_world_after_the_last_update_is_left(rt: HostRuntime) -> Result<(), Fail> {
     let alloc = rt.alloc();
     for case in WORLDS.split("---\n") {
         let (words, rest) = case.split_once("\n=>\n").ok_or("no input")?;
@@ -167,5 +167,15 @@ fn run_and_lineage_leave_the_world_after_the_last_update(rt: HostRuntime) -> Res
             None => assert_eq!(rt; wanted, "no world\n", "{case}"),
         }
     }
+    Ok(())
+}
+
+#[test]
+fn bench_leaves_its_world_after_200_updates(rt: HostRuntime) -> Result<(), Fail> {
+    let alloc = rt.alloc();
+    let served = serve_on(alloc, "bench 7", b"")?;
+    let world = served.last.as_ref().ok_or("no world")?;
+    let text = text_of(alloc, world)?;
+    assert!(rt; text.starts_with(b"3600 cells\nU 200 384 37 17 285 38443 0 0 0 0 0 0 0 0 0\n"));
     Ok(())
 }

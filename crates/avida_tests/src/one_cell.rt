@@ -44,6 +44,11 @@ U 13 1 1 1 1 97 0 0 0 0 0 0 0 0 0
 E 13
 ";
 
+/// The picture of its last update.
+pub const PICTURE: &str =
+    "W 13 1 1 97 1 wzcagcccccccccccccccccccccccccccccccccccccccccccccccccccccccccccccccccccccccccccccccccccccczvfcaxgab
+";
+
 /// What is held where the put of this number fails, taking so many bytes.
 pub fn front_of(alloc: Global, call: u64, takes: usize) -> Result<Vec<u8>, AllocError> {
     let mut held = Vec::new(alloc);

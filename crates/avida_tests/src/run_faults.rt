@@ -1,5 +1,5 @@
 // Reads and puts of `run` and `replay` that fail, one after another.
-use crate::one_cell::{CONFIG, front_of, log_of};
+use crate::one_cell::{CONFIG, PICTURE, front_of, log_of};
 use crate::served::{Faults, NO_FAULTS, Served, serve_with};
 use avida_port::Failing;
 use avida_program::Status;
@@ -90,6 +90,50 @@ fn a_fault_line_of_run_that_fails_changes_no_status(rt: HostRuntime) -> Result<(
     assert_eq!(rt; served.status, Status::WriteFault);
     assert_eq!(rt; served.err.bytes(), b"avida".as_slice());
     assert_eq!(rt; served.out.bytes(), b"L 2 1".as_slice());
+    Ok(())
+}
+
+#[test]
+fn a_watch_that_fails_leaves_the_log_whole(rt: HostRuntime) -> Result<(), Fail> {
+    let alloc = rt.alloc();
+    let whole = log_of(alloc)?;
+    for takes in [0usize, 3, 9000] {
+        let failing = [Failing { call: 1, takes }];
+        let faults = Faults {
+            watch_puts: &failing,
+            ..NO_FAULTS
+        };
+        let served = serve_with(alloc, "run --watch 0", CONFIG.as_bytes(), faults)?;
+        let front = &PICTURE.as_bytes()[..takes.min(PICTURE.len())];
+        assert_eq!(rt; served.status, Status::WriteFault, "of {takes}");
+        assert_eq!(rt; served.out.bytes(), whole.as_slice(), "of {takes}");
+        assert_eq!(rt; served.watch.bytes(), front, "of {takes}");
+        assert_eq!(rt;
+            served.err.bytes(),
+            b"avida: write fault\n".as_slice(),
+            "of {takes}"
+        );
+        assert!(rt; served.last.is_none(), "of {takes}");
+    }
+    Ok(())
+}
+
+#[test]
+fn a_log_that_fails_leaves_no_picture(rt: HostRuntime) -> Result<(), Fail> {
+    let alloc = rt.alloc();
+    let failing = [Failing { call: 2, takes: 0 }];
+    let watching = [Failing { call: 1, takes: 0 }];
+    let faults = Faults {
+        puts: &failing,
+        watch_puts: &watching,
+        ..NO_FAULTS
+    };
+    let served = serve_with(alloc, "run --watch 0", CONFIG.as_bytes(), faults)?;
+    let first = front_of(alloc, 2, 0)?;
+    assert_eq!(rt; served.status, Status::WriteFault);
+    assert_eq!(rt; served.out.bytes(), first.as_slice());
+    assert_eq!(rt; served.watch.bytes(), b"".as_slice());
+    assert_eq!(rt; served.err.bytes(), b"avida: write fault\n".as_slice());
     Ok(())
 }
 

@@ -20,6 +20,7 @@ pub struct Faults<'a> {
     pub piece: usize,
     pub reads: &'a [u64],
     pub puts: &'a [Failing],
+    pub watch_puts: &'a [Failing],
     pub err_puts: &'a [Failing],
 }
 
@@ -27,6 +28,7 @@ pub const NO_FAULTS: Faults<'static> = Faults {
     piece: 2,
     reads: &[],
     puts: &[],
+    watch_puts: &[],
     err_puts: &[],
 };
 
@@ -49,7 +51,7 @@ pub fn serve_with(
         faults.reads.to_vec(alloc)?,
     );
     let mut out = MemSink::new(alloc, faults.puts.to_vec(alloc)?);
-    let mut watch = MemSink::new(alloc, Vec::new(alloc));
+    let mut watch = MemSink::new(alloc, faults.watch_puts.to_vec(alloc)?);
     let mut err = MemSink::new(alloc, faults.err_puts.to_vec(alloc)?);
     let mut last = None;
     let status = serve(

@@ -1,16 +1,19 @@
 use Rattle.avida_program.proofs.serving.carry_out.Goals as goal
 
 pub returns-in-Trace : goal.returns-in-Trace
-returns-in-Trace g c = λ watch. rw c.in-Trace.is (c.trace.ensures watch c.args.last.now)
+returns-in-Trace g c = rw c.in-Trace.is (c.trace.ensures (g.W.Sink.seen c.args.watch.now) c.args.last.now)
 
 pub returns-in-Run : goal.returns-in-Run
-returns-in-Run g c = λ watch. rw c.in-Run.is (c.run.ensures watch)
+returns-in-Run g c = rw c.in-Run.is c.run.ensures
 
 pub returns-in-Lineage : goal.returns-in-Lineage
-returns-in-Lineage g c = λ watch. rw c.in-Lineage.is (c.lineage.ensures watch)
+returns-in-Lineage g c = rw c.in-Lineage.is (c.lineage.ensures (g.W.Sink.seen c.args.watch.now))
+
+pub returns-in-Bench : goal.returns-in-Bench
+returns-in-Bench g c = rw c.in-Bench.is (c.bench.ensures (g.S.Source.seen c.args.source.now) (g.W.Sink.seen c.args.watch.now))
 
 pub returns-in-Replay : goal.returns-in-Replay
-returns-in-Replay g c = λ watch. rw c.in-Replay.is (c.replay.ensures watch c.args.last.now)
+returns-in-Replay g c = rw c.in-Replay.is (c.replay.ensures (g.W.Sink.seen c.args.watch.now) c.args.last.now)
 
 pub returns-in-Upgrade : goal.returns-in-Upgrade
-returns-in-Upgrade g c = λ watch. rw c.in-Upgrade.is (c.upgrade.ensures watch c.args.last.now)
+returns-in-Upgrade g c = rw c.in-Upgrade.is (c.upgrade.ensures (g.W.Sink.seen c.args.watch.now) c.args.last.now)

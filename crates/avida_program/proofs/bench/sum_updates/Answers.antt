@@ -1,0 +1,27 @@
+use Rattle.std.proofs.Common.{◌∙◌, ◌+◌, ap, arith, refl, sym}
+use Rattle.avida_program.proofs.BenchLemmas.{births_next, births_none, bytes_next}
+use Rattle.avida_program.proofs.bench.sum_updates.Goals as goal
+
+pub loop-init : goal.loop-init
+loop-init g c = record {
+  config = refl;
+  update = c.requires.new;
+  births = sym (births_none c.args.world.config);
+  bytes = refl;
+  few_births = omega arith;
+  few_bytes = omega arith;
+}
+
+pub loop-preserved : goal.loop-preserved
+loop-preserved g c =
+    let so = c.loop.invariant in
+    let here = c.in_ok-world.ensures in
+    let start = c.args.world.config in
+    record {
+      config = ap (λ w. w.config) here.world ∙ so.config;
+      update = ap (λ w. w.update) here.world ∙ ap (λ n. n + 1) so.update;
+      births = births_next start c.loop.world.config c.loop.counter c.loop.world.update c.loop.sums.births _ so.births here.births so.config so.update;
+      bytes = bytes_next start c.loop.world.config c.loop.counter c.loop.world.update c.loop.sums.bytes _ so.bytes here.bytes so.config so.update;
+      few_births = omega arith;
+      few_bytes = omega arith;
+    }
