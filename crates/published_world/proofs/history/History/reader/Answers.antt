@@ -1,0 +1,9 @@
+use Rattle.std.proofs.Common.{rules}
+use Rattle.published_world.proofs.RuleLemmas.{tells, learns}
+use Rattle.published_world.proofs.history.History.reader.Goals as goal
+
+pub tell-requires : goal.tell-requires
+tell-requires g c = tells g.P.Picture.number g.P.Picture.of _ _
+
+pub learn-requires-clause-rule : goal.learn-requires-clause-rule
+learn-requires-clause-rule g c = learns g.P.Picture.number g.P.Picture.of _ _ _ _ (search rules)

@@ -1,0 +1,3 @@
+pub mod PublicationHistory
+pub mod Rule
+pub mod Shown

@@ -1,0 +1,165 @@
+// Who publishes.
+ghost use Rattle.std.specs.Prelude.{◌≡◌, ◌≤◌, [], ◌∷◌, ◌++◌, IfOk, OnErr, length, replicate};
+ghost use Rattle.published_world.specs.PublicationHistory.{IsPublication, MayFollow};
+
+use crate::history::History;
+use crate::note::Note;
+use crate::observer::Observer;
+use crate::picture::Picture;
+use crate::shown::Shown;
+use crate::sight::Sight;
+use avida_port::Memory;
+use left_right::Absorb;
+use std::alloc::Global;
+use std::marker::Model;
+use std::mem::replace;
+use std::sync::{Arc, Wait};
+
+/// It publishes. Contracts see it as the history that was published. It is not `Drop`: end it by
+/// `end`.
+pub struct Publisher<P: Picture>
+where
+    Shown<P>: Absorb<Shown<P>, State = (u64, P)>,
+{
+    // It is there between any two calls.
+    history: Option<History<P>>,
+}
+
+impl<P: Picture> Model for Publisher<P>
+where
+    Shown<P>: Absorb<Shown<P>, State = (u64, P)>,
+{
+    ghost use Rattle.std.specs.Prelude.{List, [], IsSome, unwrap_or};
+
+    ghost Value = { List P };
+
+    ghost view = { λ p. unwrap_or p.history [] };
+
+    ghost invariant = { λ p. IsSome p.history };
+}
+
+impl<P: Picture> Publisher<P> {
+    /// Appends a picture, and gives a note of it. It may wait for readers. If memory runs out,
+    /// nothing was published; it does so too while 64 notes are held.
+    pub fn publish<R: Wait>(&mut self, rt: &R, next: Arc<P>) -> Result<Note<P>, Memory>
+        requires { MayFollow P.number P.of self.old next.value }
+        ensures ok { IfOk result (λ _. self.new ≡ self.old ++ next.value ∷ []) }
+        ensures note { IfOk result (λ note. note ≡ self.new) }
+        ensures err { OnErr result (self.new ≡ self.old) }
+    {
+        let Some(history) = self.history.take() else {
+            unreachable!()
+        };
+        let (history, note) = append(rt, history, next);
+        match replace(&mut self.history, Some(history)) {
+            None => note,
+            Some(_) => unreachable!(),
+        }
+    }
+
+    /// Nothing more is published; each observer keeps the picture that it holds. It may wait for
+    /// readers, and takes no memory.
+    pub fn end<R: Wait>(self, rt: &R) {
+        let Publisher { history } = self;
+        if let Some(history) = history {
+            history.end(rt);
+        }
+    }
+}
+
+/// Appends a picture, and gives a note of it.
+fn append<P: Picture, R: Wait>(
+    rt: &R,
+    history: History<P>,
+    next: Arc<P>,
+) -> (History<P>, Result<Note<P>, Memory>)
+    requires { MayFollow P.number P.of history next.value }
+    ensures ok { IfOk result.1 (λ _. result.0 ≡ history ++ next.value ∷ []) }
+    ensures note { IfOk result.1 (λ note. note ≡ result.0) }
+    ensures err { OnErr result.1 (result.0 ≡ history) }
+{
+    let Ok(last) = Arc::try_clone(&next) else {
+        return (history, Err(Memory));
+    };
+    // The note needs a place for its reader.
+    if !history.has_room() {
+        return (history, Err(Memory));
+    }
+    let (mut history, appended) = history.append(rt, next);
+    if appended.is_err() {
+        return (history, Err(Memory));
+    }
+    let sight = history.sight(rt, last);
+    (history, Ok(Note { sight }))
+}
+
+// How many notes may be held at a time, beside the observers.
+const NOTES: usize = 64;
+
+/// A history of one picture, with its publisher and so many observers. It may wait for readers.
+pub fn publication<P: Picture + Send + Sync, R: Wait>(
+    rt: &R,
+    alloc: Global,
+    first: Arc<P>,
+    readers: u32,
+) -> Result<(Publisher<P>, Vec<Observer<P>>), Memory>
+    requires { (1 ≤ readers) × (readers ≤ 64) }
+    ensures publisher { IfOk result (λ made. made.0 ≡ first.value ∷ []) }
+    ensures observers { IfOk result
+        (λ made. made.1.items ≡ replicate readers (first.value ∷ [])) }
+{
+    let next = Arc::try_clone(&first)?;
+    let history = History::new(alloc, &first, readers as usize + NOTES)?;
+    let (mut history, begun) = history.append(rt, next);
+    let observers = match begun {
+        Ok(()) => observers(alloc, &mut history, &first, readers),
+        Err(_) => Err(Memory),
+    };
+    match observers {
+        Ok(observers) => {
+            let publisher = Publisher {
+                history: Some(history),
+            };
+            Ok((publisher, observers))
+        }
+        Err(stop) => {
+            history.end(rt);
+            Err(stop)
+        }
+    }
+}
+
+/// So many observers that have seen the one picture.
+fn observers<P: Picture>(
+    alloc: Global,
+    history: &mut History<P>,
+    first: &Arc<P>,
+    readers: u32,
+) -> Result<Vec<Observer<P>>, Memory>
+    requires { history.old ≡ first.now.value ∷ [] }
+    ensures history { history.new ≡ history.old }
+    ensures observers { IfOk result
+        (λ all. all.items ≡ replicate readers (first.now.value ∷ [])) }
+{
+    let mut all = Vec::new(alloc);
+    for _ in 0..readers {
+        all.push(observer(history, first)?)?;
+    }
+    Ok(all)
+}
+
+/// An observer that has seen the one picture.
+fn observer<P: Picture>(history: &mut History<P>, first: &Arc<P>) -> Result<Observer<P>, Memory>
+    requires { history.old ≡ first.now.value ∷ [] }
+    ensures history { history.new ≡ history.old }
+    ensures observer { IfOk result (λ observer. observer ≡ first.now.value ∷ []) }
+{
+    let last = Shown {
+        picture: Arc::try_clone(first)?,
+        count: 1,
+    };
+    let Some(reader) = history.reader() else {
+        return Err(Memory);
+    };
+    Ok(Observer::new(Sight::new(last, reader)))
+}
