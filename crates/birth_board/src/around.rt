@@ -45,31 +45,3 @@ fn cell_at(torus: &Torus, column: u32, row: u32) -> u32
 {
     row * torus.width + column
 }
-
-#[cfg(test)]
-mod tests {
-    use super::*;
-
-    #[test]
-    fn the_neighbours_of_a_corner_lie_across_the_sides(rt: HostRuntime) {
-        let wide = Torus {
-            width: 60,
-            height: 60,
-        };
-        let row = Torus {
-            width: 2,
-            height: 1,
-        };
-        let single = Torus {
-            width: 1,
-            height: 1,
-        };
-        assert_eq!(rt;
-            neighbours(&wide, 0),
-            [3599, 3540, 3541, 59, 1, 119, 60, 61]
-        );
-        assert_eq!(rt; neighbours(&wide, 61), [0, 1, 2, 60, 62, 120, 121, 122]);
-        assert_eq!(rt; neighbours(&row, 0), [1, 0, 1, 1, 1, 1, 0, 1]);
-        assert_eq!(rt; neighbours(&single, 0), [0; 8]);
-    }
-}

@@ -31,19 +31,3 @@ fn append(cells: &mut Vec<u32>, cell: u32, count: u32) -> Result<(), Memory>
     }
     Ok(())
 }
-
-#[cfg(test)]
-mod tests {
-    use super::*;
-    use std::test::Fail;
-
-    #[test]
-    fn each_cell_stands_as_often_as_it_is_counted(rt: HostRuntime) -> Result<(), Fail> {
-        let parents = gather(rt.alloc(), &[2, 0, 1])?;
-        assert_eq!(rt; parents.len(), 3);
-        assert_eq!(rt; parents.get(2), Some(&2));
-        assert_eq!(rt; parents.get(3), None);
-        assert_eq!(rt; parents.into_vec().as_slice(), [0, 0, 2].as_slice());
-        Ok(())
-    }
-}

@@ -10,6 +10,3 @@ mod task_counts;
 
 pub use census::Census;
 pub use dominant::Dominant;
-
-#[cfg(test)]
-mod tests;

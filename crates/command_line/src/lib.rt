@@ -8,8 +8,6 @@ mod nothing;
 mod numbers;
 mod parser;
 mod refused;
-#[cfg(test)]
-mod rows;
 mod run;
 mod trace;
 mod workers;

@@ -15,6 +15,3 @@ pub use bank::{Bank, Genomes};
 pub use handle::Handle;
 pub use seat::Seat;
 pub use view::{Call, Entry};
-
-#[cfg(test)]
-mod tests;

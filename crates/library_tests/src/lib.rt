@@ -2,9 +2,15 @@
 #![tactic(auto)]
 
 #[cfg(test)]
+mod banks;
+#[cfg(test)]
 mod births;
 #[cfg(test)]
+mod boards;
+#[cfg(test)]
 mod configurations;
+#[cfg(test)]
+mod counts;
 #[cfg(test)]
 mod divides;
 #[cfg(test)]
@@ -26,8 +32,12 @@ mod organisms;
 #[cfg(test)]
 mod ports;
 #[cfg(test)]
+mod publications;
+#[cfg(test)]
 mod streams;
 #[cfg(test)]
 mod tasks;
 #[cfg(test)]
 mod templates;
+#[cfg(test)]
+mod trees;

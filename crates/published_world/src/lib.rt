@@ -18,6 +18,3 @@ pub use note::Note;
 pub use observer::Observer;
 pub use picture::Picture;
 pub use publisher::{Publisher, publication};
-
-#[cfg(test)]
-mod tests;

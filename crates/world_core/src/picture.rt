@@ -105,25 +105,3 @@ fn byte(value: u8, out: &mut Vec<u8>) -> Result<(), Memory>
 {
     out.push(value).map_err(|_| Memory)
 }
-
-#[cfg(test)]
-mod tests {
-    use super::*;
-    use crate::world::World;
-    use std::test::Fail;
-    use world_config::read;
-
-    #[test]
-    fn the_first_picture_shows_the_founder_alone(rt: HostRuntime) -> Result<(), Fail> {
-        let alloc = rt.alloc();
-        let Ok(config) = read(alloc, b"ancestor = \"aaaaaaaa\"") else {
-            return Err("the configuration is refused".into());
-        };
-        let world = World::found(alloc, config, 1)?;
-        let picture = world.picture(alloc)?;
-        let mut line = Vec::new(alloc);
-        picture_line(&picture, &mut line)?;
-        assert_eq!(rt; line.as_slice(), b"W 0 1 1 8 1 aaaaaaaa\n");
-        Ok(())
-    }
-}

@@ -1,8 +1,9 @@
+// Pictures, and observers that look at them.
 ghost use Rattle.std.specs.Prelude.{◌≡◌, ◌+◌, ◌<◌, ◌^◌, [], ◌∷◌, IfOk, OnErr, OnOk, Some};
 ghost use Rattle.published_world.specs.PublicationHistory.{last_of};
 
-use crate::{Note, Observer, Picture, Publisher, publication};
 use avida_port::Memory;
+use published_world::{Note, Observer, Picture, Publisher, publication};
 use std::alloc::Global;
 use std::sync::{Arc, Wait};
 use std::test::Fail;

@@ -1,10 +1,8 @@
-use crate::Census;
-use crate::genotype::Genotype;
-use crate::genotypes::{Genotypes, dominant};
+// Kept counts.
+use census::Census;
 use genome::{Genome, read_letters};
 use logic_tasks::{Task, Tasks};
 use std::alloc::Global;
-use std::collections::BTreeMap;
 use std::sync::Arc;
 use std::test::Fail;
 
@@ -49,21 +47,20 @@ fn organisms_come_and_go(rt: HostRuntime) -> Result<(), Fail> {
 #[test]
 fn the_least_of_the_most_frequent_is_dominant(rt: HostRuntime) -> Result<(), Fail> {
     let alloc = rt.alloc();
-    let mut genotypes: Genotypes = BTreeMap::new(alloc);
-    let cases: [(u64, &[u8], u64, &[u8]); 5] = [
-        (4, b"mmmmmmmm", 2, b"mmmmmmmm"),
+    let mut census = Census::start(alloc);
+    let cases: [(u64, &[u8], u64, &[u8]); 6] = [
+        (4, b"mmmmmmmm", 1, b"mmmmmmmm"),
         (1, b"zzzzzzzz", 1, b"mmmmmmmm"),
-        (9, b"mmmmmmma", 2, b"mmmmmmma"),
-        (2, b"aaaaaaaa", 1, b"mmmmmmma"),
-        (7, b"ccccccccc", 3, b"ccccccccc"),
+        (9, b"mmmmmmma", 1, b"mmmmmmma"),
+        (2, b"aaaaaaaa", 1, b"aaaaaaaa"),
+        (7, b"ccccccccc", 1, b"aaaaaaaa"),
+        (7, b"ccccccccc", 2, b"ccccccccc"),
     ];
     for (key, letters, count, expected) in cases {
-        let genotype = Genotype::new(genome_of(alloc, letters)?, count);
-        genotypes.insert(key, genotype)?;
-        let found = dominant(&genotypes).ok_or("nothing is dominant")?;
-        let found = found.dominant()?;
-        let expected = genome_of(alloc, expected)?;
-        assert!(rt; found.genome == expected, "at {key}");
+        census.add(key, &genome_of(alloc, letters)?, 8, Tasks::none())?;
+        let found = census.dominant()?.ok_or("nothing is dominant")?;
+        assert_eq!(rt; found.count, count, "at {key}");
+        assert!(rt; found.genome == genome_of(alloc, expected)?, "at {key}");
     }
     Ok(())
 }

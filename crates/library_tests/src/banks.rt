@@ -1,8 +1,9 @@
+// Numbers of genomes, by one thread and by two.
 ghost use Rattle.std.specs.Prelude.{◌≡◌, IfOk};
 
-use crate::{Bank, Seat};
 use avida_port::Memory;
 use genome::{Genome, read_letters};
+use genotype_bank::{Bank, Seat};
 use std::alloc::Global;
 use std::sync::Wait;
 use std::test::Fail;

@@ -1,0 +1,109 @@
+// Where newborns are placed.
+use birth_board::{Occupants, Parents, Season, Torus, gather, neighbours, place};
+use std::test::Fail;
+
+#[test]
+fn the_neighbours_of_a_corner_lie_across_the_sides(rt: HostRuntime) {
+    let wide = Torus {
+        width: 60,
+        height: 60,
+    };
+    let row = Torus {
+        width: 2,
+        height: 1,
+    };
+    let single = Torus {
+        width: 1,
+        height: 1,
+    };
+    assert_eq!(rt;
+        neighbours(&wide, 0),
+        [3599, 3540, 3541, 59, 1, 119, 60, 61]
+    );
+    assert_eq!(rt; neighbours(&wide, 61), [0, 1, 2, 60, 62, 120, 121, 122]);
+    assert_eq!(rt; neighbours(&row, 0), [1, 0, 1, 1, 1, 1, 0, 1]);
+    assert_eq!(rt; neighbours(&single, 0), [0; 8]);
+}
+
+#[test]
+fn each_cell_stands_as_often_as_it_is_counted(rt: HostRuntime) -> Result<(), Fail> {
+    let parents = gather(rt.alloc(), &[2, 0, 1])?;
+    assert_eq!(rt; parents.len(), 3);
+    assert_eq!(rt; parents.get(2), Some(&2));
+    assert_eq!(rt; parents.get(3), None);
+    assert_eq!(rt; parents.into_vec().as_slice(), [0, 0, 2].as_slice());
+    Ok(())
+}
+
+const SEASON: Season = Season {
+    seed: 1,
+    update: 7,
+    prefer_empty: true,
+    next_id: 1,
+};
+
+#[test]
+fn newborns_replace_one_another_in_a_single_cell(rt: HostRuntime) -> Result<(), Fail> {
+    let alloc = rt.alloc();
+    let torus = Torus {
+        width: 1,
+        height: 1,
+    };
+    for (standing, first_over) in [(Some(0), Some(0)), (None, None)] {
+        let parents = gather(alloc, &[2])?;
+        let mut occupants = Occupants::empty(alloc, &torus)?;
+        occupants.set(0, standing);
+        assert_eq!(rt; parents.len(), 2);
+        let placings = place(alloc, &torus, &parents, &mut occupants, &SEASON)?;
+        assert_eq!(rt; placings.len(), 2);
+        for (nth, id, over) in [(0, 1, first_over), (1, 2, Some(1))] {
+            let placing = placings.get(nth).ok_or("no placing")?;
+            assert_eq!(rt; placing.cell, 0);
+            assert_eq!(rt; placing.id, id);
+            assert_eq!(rt; placing.over, over);
+        }
+        assert_eq!(rt; occupants.at(0), Some(2));
+    }
+    Ok(())
+}
+
+#[test]
+fn an_empty_neighbour_is_preferred(rt: HostRuntime) -> Result<(), Fail> {
+    let alloc = rt.alloc();
+    let torus = Torus {
+        width: 2,
+        height: 1,
+    };
+    let parents = gather(alloc, &[1])?;
+    let mut occupants = Occupants::empty(alloc, &torus)?;
+    occupants.set(0, Some(0));
+    assert_eq!(rt; parents.len(), 1);
+    let placings = place(alloc, &torus, &parents, &mut occupants, &SEASON)?.into_vec();
+    assert_eq!(rt; placings.len(), 1);
+    assert_eq!(rt; placings[0].id, 1);
+    assert_eq!(rt; placings[0].cell, 1);
+    assert_eq!(rt; placings[0].over, None);
+    Ok(())
+}
+
+// The words of this stream are 0x9b682df2, 0xd21186f8, 0x6d39f1d6 and 0x3062481c.
+#[test]
+fn the_stream_of_the_parents_cell_chooses_the_cell_and_the_inputs(
+    rt: HostRuntime,
+) -> Result<(), Fail> {
+    let alloc = rt.alloc();
+    let torus = Torus {
+        width: 60,
+        height: 60,
+    };
+    let parents = Parents::from_vec([1805].to_vec(alloc)?);
+    let mut occupants = Occupants::empty(alloc, &torus)?;
+    let placings = place(alloc, &torus, &parents, &mut occupants, &SEASON)?;
+    let placing = placings.get(0).ok_or("no placing")?;
+    assert_eq!(rt; (placing.id, placing.cell), (1, 1806));
+    assert_eq!(rt; placing.inputs.value(0), 0x0F11_86F8);
+    assert_eq!(rt; placing.inputs.value(1), 0x3339_F1D6);
+    assert_eq!(rt; placing.inputs.value(2), 0x5562_481C);
+    assert_eq!(rt; occupants.at(1806), Some(1));
+    Ok(())
+}
