@@ -127,6 +127,8 @@ impl Organism {
         }
     }
 
+    #[cold]
+    #[inline(never)]
     #[tactic(auto, unfolding(crate::specs::Life::renewed))]
     fn bear(
         &mut self,

@@ -349,6 +349,7 @@ impl Cpu {
         !self.pending && self.memory.len() < self.limit
     }
 
+    #[inline(never)]
     #[tactic(auto, unfolding(crate::specs::Allocation::with_allocation))]
     pub(crate) fn allocate(&mut self)
         requires { can_allocate self.old ≡ true }
