@@ -1,10 +1,10 @@
 -- What is kept of who stands in the cells, as one of them changes.
-use Rattle.std.proofs.Common.{◌≡◌, ◌∙◌, refl, sym, ap, subst, ℕ, zero, suc, ◌∷◌, ◌+◌, ◌<◌, ◌≤◌, ◌^◌, List, [], length, map, set, get_or, Option, Some, None, is_some, replicate, arith}
+use Rattle.std.proofs.Common.{◌≡◌, ◌∙◌, refl, sym, ap, subst, ℕ, zero, suc, ◌∷◌, ◌+◌, ◌<◌, ◌≤◌, ◌^◌, List, [], length, set, get_or, Option, Some, None, is_some, replicate, arith}
 use Rattle.std.proofs.lemmas.List.{get_or-map, map-set, length-map, set-get_or}
 use Rattle.std.specs.Prelude.{slice_get}
 use Rattle.std.proofs.lemmas.List.Sums.{count_by-le-length}
 use Rattle.census.specs.Changes.{CanAdd, CanRemove, genotype_with_one, genotype_without_one, with_organism, without_organism}
-use Rattle.census.specs.Counts.{Counts, GenotypeCount, genotype_at, living_of}
+use Rattle.census.specs.Counts.{Counts, genotype_at, living_of}
 use Rattle.instruction_set.specs.declared.letter.Letter.{Letter}
 use Rattle.world_rules.specs.World.{Occupant}
 use Rattle.world_core.specs.Population.{IsKeptOf, AreCountedIn, AreDifferent, AreSummedIn, genome_of, genomes_of, with_genome}

@@ -1,5 +1,5 @@
 -- What is counted of an organism that has lived.
-use Rattle.std.proofs.Common.{◌≡◌, ◌∙◌, refl, sym, ap, List, [], ◌∷◌, length, map, Option, Some, ◌<◌, ◌≤◌, ◌^◌, arith}
+use Rattle.std.proofs.Common.{◌≡◌, ◌∙◌, refl, sym, ap, List, [], ◌∷◌, length, map, Some, ◌<◌, ◌≤◌, ◌^◌, arith}
 use Rattle.census.specs.Changes.{with_renewal}
 use Rattle.census.specs.Counts.{Counts}
 use Rattle.logic_tasks.specs.TaskSet.{has_task}

@@ -1,9 +1,8 @@
 -- The genotypes that are counted, as one cell changes.
-use Rattle.std.proofs.Common.{◌≡◌, ◌∙◌, refl, sym, ap, subst, ℕ, zero, suc, ◌||◌, ◌+◌, ◌-◌, ◌<◌, ◌≤◌, ◌≢◌, ◌⊎◌, Bool, true, false, cond, List, [], ◌∷◌, ◌++◌, length, set, get_or, get_or-set_same, get_or-set_other, Option, Some, None, is_some, replicate, lt-ltb, le-ltb, arith, rules, inl, inr}
+use Rattle.std.proofs.Common.{◌≡◌, ◌∙◌, refl, sym, ap, subst, ℕ, zero, suc, ◌||◌, ◌+◌, ◌<◌, ◌≤◌, ◌≢◌, ◌⊎◌, Bool, true, false, cond, List, [], ◌∷◌, ◌++◌, length, set, get_or, get_or-set_same, get_or-set_other, Option, Some, None, is_some, replicate, arith, rules, inl, inr}
 use Rattle.std.specs.Prelude.{IsSome, nat_lt, slice_get}
 use Rattle.std.specs.BTreeMap.{is_at}
-use Rattle.std.specs.Bool.{Decides}
-use Rattle.std.specs.List.{sum_by, count_by, list_any}
+use Rattle.std.specs.List.{count_by, list_any}
 use Rattle.std.specs.Option.{option_map, unwrap_or}
 use Rattle.std.specs.Ordering.{nat_cmp, is_eq}
 use Rattle.std.proofs.lemmas.Bool.{cases_lt}
@@ -11,11 +10,11 @@ use Rattle.std.proofs.lemmas.Bool.Decides.{nat_tests}
 use Rattle.std.proofs.lemmas.Cmp.{tied_itself, nat_cmp_total}
 use Rattle.std.proofs.lemmas.List.{length-set, length-replicate, get_or-replicate}
 use Rattle.std.proofs.lemmas.List.Folds.{sum_by-replicate}
-use Rattle.std.proofs.lemmas.List.Sums.{sum_by-cons, sum_by-set, get_or-le-sum_by, count_by-le-length}
+use Rattle.std.proofs.lemmas.List.Sums.{sum_by-cons, sum_by-set, get_or-le-sum_by}
 use Rattle.std.proofs.lemmas.Map.Lookups.{exact_unsigned}
 use Rattle.std.proofs.lemmas.Map.Views.{tells_apart}
 use Rattle.std.proofs.Math.ListN.{get_or-eq_default}
-use Rattle.census.specs.Counts.{Counts, GenotypeCount, genotype_at, living_of}
+use Rattle.census.specs.Counts.{GenotypeCount, genotype_at, living_of}
 use Rattle.census.specs.Changes.{count_under, genome_under, lowered, genotype_with_one, genotype_without_one}
 use Rattle.instruction_set.specs.declared.letter.Letter.{Letter}
 use Rattle.instruction_set.specs.Letter.{same_letters}
@@ -32,9 +31,9 @@ read-set : {X : Type 0} (xs : List X) (i k : ℕ) (x d : X) → i < length xs �
 read-set xs i k x d within = elim (cases_lt k i) [
   | inl below ↦ let other : k ≢ i = omega arith in inr (other, get_or-set_other xs i k x d other)
   | inr above ↦ elim (cases_lt i k) [
-      | inl beyond ↦ let other : k ≢ i = omega arith in inr (other, get_or-set_other xs i k x d other)
-      | inr most ↦ let same : k ≡ i = omega arith in inl (same, ap (λ n. get_or (set xs i x) n d) same ∙ get_or-set_same xs i x d within)
-    ]
+    | inl beyond ↦ let other : k ≢ i = omega arith in inr (other, get_or-set_other xs i k x d other)
+    | inr most ↦ let same : k ≡ i = omega arith in inl (same, ap (λ n. get_or (set xs i x) n d) same ∙ get_or-set_same xs i x d within)
+  ]
 ]
 
 at_itself : (key : ℕ) → is_at (nat_cmp key) key ≡ true
@@ -267,11 +266,11 @@ module _ (one_list : OneList) where
     by true found = different
     by false missing = λ number other g is has. elim (pushed genomes number g is) [
       | inl first ↦ elim (pushed genomes other g has) [
-          | inl second ↦ different number other g first second
-          | inr second ↦ absurd (clash (list_any (same_letters new) genomes) (absent genomes number (first ∙ ap Some (sym second.1))) missing)
-        ]
+        | inl second ↦ different number other g first second
+        | inr second ↦ absurd (clash (list_any (same_letters new) genomes) (absent genomes number (first ∙ ap Some (sym second.1))) missing)
+      ]
       | inr first ↦ elim (pushed genomes other g has) [
-          | inl second ↦ absurd (clash (list_any (same_letters new) genomes) (absent genomes other (second ∙ ap Some (sym first.1))) missing)
-          | inr second ↦ first.0 ∙ sym second.0
-        ]
+        | inl second ↦ absurd (clash (list_any (same_letters new) genomes) (absent genomes other (second ∙ ap Some (sym first.1))) missing)
+        | inr second ↦ first.0 ∙ sym second.0
+      ]
     ]

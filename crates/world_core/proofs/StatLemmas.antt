@@ -1,7 +1,6 @@
 -- What is kept of who stands in the cells shows what is counted of them anew.
-use Rattle.std.proofs.Common.{◌≡◌, ◌∙◌, refl, sym, ap, subst, ℕ, zero, suc, ◌||◌, ◌+◌, ◌<◌, ◌≤◌, Bool, true, false, cond, not, List, [], ◌∷◌, length, map, filter, get_or, Option, Some, None, is_some, arith}
+use Rattle.std.proofs.Common.{◌≡◌, ◌∙◌, refl, sym, ap, ℕ, zero, suc, ◌+◌, ◌<◌, Bool, true, false, not, List, [], ◌∷◌, length, map, filter, get_or, Option, Some, None, is_some, arith}
 use Rattle.std.specs.Prelude.{slice_get}
-use Rattle.std.specs.BTreeMap.{is_at}
 use Rattle.std.specs.Cmp.{IsEquivalence}
 use Rattle.std.specs.List.{Contains, IsDistinct, list_any, sum_by, count_by}
 use Rattle.std.specs.Map.{keys_of, values_of}
@@ -17,22 +16,21 @@ use Rattle.std.proofs.lemmas.Map.Lookups.{exact_unsigned}
 use Rattle.std.proofs.lemmas.Map.Made.{Contains-from_values_of, Contains-values_of, length-from_same_keys}
 use Rattle.std.proofs.lemmas.Map.Views.{Contains-from_lookup, lookup-from_Contains, list_any-from_Contains, Contains-from_any, tells_apart}
 use Rattle.census.specs.Changes.{count_under}
-use Rattle.census.specs.Counts.{AreGenotypes, Counts, GenotypeCount, genotype_at, living_of}
+use Rattle.census.specs.Counts.{AreGenotypes, GenotypeCount, genotype_at}
 use Rattle.census.specs.Dominance.{HaveSameMembers}
 use Rattle.instruction_set.specs.declared.letter.Letter.{Letter}
 use Rattle.instruction_set.specs.Letter.{same_letters}
 use Rattle.lineage_log.specs.Slots.{taken}
 use Rattle.logic_tasks.specs.declared.task.Task.{Task}
-use Rattle.logic_tasks.specs.LogicTasks.{all_tasks}
 use Rattle.logic_tasks.specs.TaskSet.{has_task}
 use Rattle.organism.specs.OrganismState.{OrganismState}
-use Rattle.world_rules.specs.World.{Occupant, id_of, ids_of}
+use Rattle.world_rules.specs.World.{Occupant, ids_of}
 use Rattle.world_rules.specs.Lives.{merit_in}
 use Rattle.world_rules.specs.Statistics.{counted_in, count_of, credited_with, genomes_in, genotypes_of, organisms_in}
-use Rattle.world_core.specs.Population.{AreCountedIn, genome_of, genomes_of, is_credited, is_genome}
+use Rattle.world_core.specs.Population.{AreCountedIn, genomes_of, is_credited, is_genome}
 use Rattle.world_core.proofs.DifferentLemmas.{IsDistinct-distinct, distinct, list_any-distinct}
 use Rattle.world_core.proofs.GenomeLemmas.{OneList}
-use Rattle.world_core.proofs.StandingLemmas.{cells_of, genome-under}
+use Rattle.world_core.proofs.StandingLemmas.{cells_of}
 use Rattle.world_core.proofs.SumLemmas.{cells_with, one}
 
 -- the cells where somebody stands
@@ -128,15 +126,15 @@ module _ (one_list : OneList) where
     pub same-members : HaveSameMembers (values_of genotypes) (map (counted_in (genomes_in cells)) (genomes_in cells))
     same-members = record {
       forth = λ genotype has. (let entry = Contains-from_values_of genotypes genotype has in
-      let at = lookup-from_Contains (eq_by_cmp_equiv nat_cmp_total) entry.0 genotype genotypes key-distinct entry.1 in
-      let is = counted-is entry.0 genotype at in
-      let among = counted-among (genomes_in cells) genotype.genome (omega (arith, are.counted entry.0 genotype at, ap (λ (g : GenotypeCount). g.count) is)) in
-      (among.0, omega (arith, among.1, length-map (genomes_in cells) (counted_in (genomes_in cells))), get_or-map (counted_in (genomes_in cells)) (genomes_in cells) among.0 genotype.genome genotype among.1 ∙ ap (counted_in (genomes_in cells)) among.2 ∙ sym is));
+          let at = lookup-from_Contains (eq_by_cmp_equiv nat_cmp_total) entry.0 genotype genotypes key-distinct entry.1 in
+          let is = counted-is entry.0 genotype at in
+          let among = counted-among (genomes_in cells) genotype.genome (omega (arith, are.counted entry.0 genotype at, ap (λ (g : GenotypeCount). g.count) is)) in
+          (among.0, omega (arith, among.1, length-map (genomes_in cells) (counted_in (genomes_in cells))), get_or-map (counted_in (genomes_in cells)) (genomes_in cells) among.0 genotype.genome genotype among.1 ∙ ap (counted_in (genomes_in cells)) among.2 ∙ sym is));
       back = λ genotype has. (let within : has.0 < length (genomes_in cells) = omega (arith, has.1, length-map (genomes_in cells) (counted_in (genomes_in cells))) in
-      let genome : List Letter = get_or (genomes_in cells) has.0 genotype.genome in
-      let counted = is-counted genome (Contains-get_or (genomes_in cells) has.0 genotype.genome within) in
-      let is : counted_in (genomes_in cells) genome ≡ genotype = sym (get_or-map (counted_in (genomes_in cells)) (genomes_in cells) has.0 genotype.genome genotype within) ∙ has.2 in
-      Contains-values_of genotypes counted.0 genotype (Contains-from_lookup (tells_apart exact_unsigned) counted.0 genotype genotypes (counted.1 ∙ ap Some is)));
+          let genome : List Letter = get_or (genomes_in cells) has.0 genotype.genome in
+          let counted = is-counted genome (Contains-get_or (genomes_in cells) has.0 genotype.genome within) in
+          let is : counted_in (genomes_in cells) genome ≡ genotype = sym (get_or-map (counted_in (genomes_in cells)) (genomes_in cells) has.0 genotype.genome genotype within) ∙ has.2 in
+          Contains-values_of genotypes counted.0 genotype (Contains-from_lookup (tells_apart exact_unsigned) counted.0 genotype genotypes (counted.1 ∙ ap Some is)));
     }
 
     -- their genomes

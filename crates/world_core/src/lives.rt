@@ -15,8 +15,8 @@ use crate::occupant::Occupant;
 use crate::settings::settings_at;
 use avida_port::Memory;
 use census::Census;
-use merit_slices::share;
 use logic_tasks::Tasks;
+use merit_slices::share;
 use organism::{Births, Organism, Ran, Settings};
 use random_streams::{CELLS, Draws, Purpose};
 use std::alloc::{AllocError, Global};
@@ -153,7 +153,9 @@ fn live_in(
 {
     match slot {
         Some(occupant) => {
-            live_once(alloc, config, settings, update, cell, steps, occupant, census)
+            live_once(
+                alloc, config, settings, update, cell, steps, occupant, census,
+            )
         }
         None => Ok(Life {
             died: false,

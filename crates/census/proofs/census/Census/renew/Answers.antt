@@ -1,4 +1,4 @@
-use Rattle.std.proofs.Common.{◌^◌, ◌<◌, sym, ap, arith, ◌∙◌}
+use Rattle.std.proofs.Common.{◌^◌, ◌<◌, ap, arith}
 use Rattle.std.proofs.lemmas.List.Elements.{All-same}
 use Rattle.census.specs.Changes.{tasks_without}
 use Rattle.census.specs.Counts.{Counts}

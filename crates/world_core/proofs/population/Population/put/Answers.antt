@@ -1,8 +1,8 @@
-use Rattle.std.proofs.Common.{◌≡◌, ◌∙◌, ap, sym, subst, get_or, None, Some, List, length, ◌<◌}
+use Rattle.std.proofs.Common.{◌≡◌, ◌∙◌, ap, subst, get_or, None, Some, length, ◌<◌}
 use Rattle.std.specs.Prelude.{slice_get}
-use Rattle.census.specs.Changes.{CanAdd, genotype_with_one, with_organism}
+use Rattle.census.specs.Changes.{genotype_with_one, with_organism}
 use Rattle.world_rules.specs.World.{Occupant}
-use Rattle.world_core.specs.Population.{AreDifferent, IsKeptOf, with_genome}
+use Rattle.world_core.specs.Population.{AreDifferent, with_genome}
 use Rattle.world_core.proofs.KeptOfLemmas.{IsKeptOf-numbered, IsKeptOf-put, can-add}
 use Rattle.world_core.proofs.population.Population.put.Goals as goal
 

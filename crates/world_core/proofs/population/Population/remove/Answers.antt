@@ -1,8 +1,8 @@
-use Rattle.std.proofs.Common.{◌≡◌, ◌∙◌, ap, sym, get_or, None, Some, List, length, ◌<◌, arith}
+use Rattle.std.proofs.Common.{◌≡◌, ◌∙◌, ap, sym, get_or, None, Some, length, ◌<◌, arith}
 use Rattle.std.proofs.lemmas.List.{get_or_read, get_or_default, length-map}
-use Rattle.census.specs.Changes.{CanRemove, genotype_without_one, without_organism}
+use Rattle.census.specs.Changes.{genotype_without_one, without_organism}
 use Rattle.world_rules.specs.World.{Occupant}
-use Rattle.world_core.specs.Population.{IsKeptOf, genome_of}
+use Rattle.world_core.specs.Population.{genome_of}
 use Rattle.world_core.proofs.KeptOfLemmas.{IsKeptOf-empty, IsKeptOf-removed, can-remove}
 use Rattle.world_core.proofs.population.Population.remove.Goals.{in-Some, in_default}
 use Rattle.world_core.proofs.population.Population.remove.Goals as goal

@@ -1,9 +1,7 @@
-use Rattle.std.proofs.Common.{◌≡◌, ◌∙◌, ap, sym, List, length, map, Option}
-use Rattle.std.specs.List.{sum_by}
-use Rattle.lineage_log.specs.Slots.{taken}
+use Rattle.std.proofs.Common.{◌∙◌, ap, List, Option}
 use Rattle.logic_tasks.specs.LogicTasks.{all_tasks}
-use Rattle.world_rules.specs.World.{Occupant, ids_of}
-use Rattle.world_rules.specs.Statistics.{credited_with, genomes_in, genotypes_of, organisms_in, stats_in}
+use Rattle.world_rules.specs.World.{Occupant}
+use Rattle.world_rules.specs.Statistics.{credited_with, stats_in}
 use Rattle.world_core.proofs.StatLemmas.{living-in, merits-in, credited-in, genotype-number}
 use Rattle.world_core.proofs.SumLemmas.{cells_with, map_alike}
 use Rattle.world_core.proofs.population.Population.stats.Goals as goal
