@@ -126,6 +126,7 @@ fn a_log_of_few_letters_is_read_or_refused_at_its_line(rt: HostRuntime) -> Resul
         ),
     ] {
         assert_eq!(rt; read_log(alloc, text.as_bytes()).err(), stop, "{text}");
+        assert_eq!(rt; living_at_end(alloc, text.as_bytes()).err(), stop, "{text}");
     }
     Ok(())
 }
