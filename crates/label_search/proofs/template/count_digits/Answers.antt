@@ -1,5 +1,4 @@
-use Rattle.std.proofs.Common.{arith, ◌≡◌, ◌∙◌, sym, ◌-◌, length}
-use Rattle.label_search.specs.PackedTemplate.{newest_first}
+use Rattle.std.proofs.Common.{arith, ◌≡◌, ◌-◌}
 use Rattle.label_search.proofs.PackedLemmas.{count-none, none-left, count-more}
 use Rattle.label_search.proofs.template.count_digits.Goals as goal
 
