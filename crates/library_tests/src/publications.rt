@@ -76,6 +76,22 @@ fn look_around_a_note<R: Wait>(
 }
 
 #[test]
+fn a_look_reads_what_was_published_last(rt: HostRuntime) -> Result<(), Fail> {
+    let alloc = rt.alloc();
+    let (mut publisher, mut observers) = publication(&rt, alloc, picture(alloc, 0)?, 1)?;
+    let published = publish(&rt, alloc, &mut publisher, 1).is_ok();
+    let seen = observers.pop().map(number_seen);
+    publisher.end(&rt);
+    assert!(rt; published);
+    assert_eq!(rt; seen, Some(Ok(1)));
+    Ok(())
+}
+
+fn number_seen(mut observer: Observer<Numbered>) -> Result<u64, Memory> {
+    Ok(observer.look()?.number())
+}
+
+#[test]
 fn sixty_four_notes_are_held_and_a_refusal_changes_nothing(rt: HostRuntime) -> Result<(), Fail> {
     let alloc = rt.alloc();
     let (mut publisher, mut observers) = publication(&rt, alloc, picture(alloc, 0)?, 64)?;
