@@ -1,13 +1,15 @@
 -- How the texts of a run add up.
 use Rattle.std.proofs.Common.{◌≡◌, ◌≤◌, ◌+◌, ◌-◌, ℕ, zero, suc, List, [], ◌++◌, Result, Ok, Err, refl, sym, ap, ◌∙◌, append_assoc, append-nil, add-zero, add-one, arith, subst}
-use Rattle.avida_port.specs.Ports.{SinkState, CountsClimb, Gained}
+use Rattle.avida_port.specs.Ports.{SinkState, CountsClimb, Gained, GainedPrefix, Puts}
+use Rattle.avida_port.specs.declared.sink.SinkStop.{SinkStop}
+use Rattle.avida_port.specs.declared.sink.SinkStop.TheVariants.{Fault, Memory}
 use Rattle.world_config.specs.Values.{ConfigValues}
 use Rattle.world_rules.specs.LogText.{head_text, update_text, updates_text, end_text, log_text}
 use Rattle.avida_program.specs.declared.outcome.Outcome.{Outcome}
 use Rattle.avida_program.specs.declared.outcome.Outcome.TheVariants as outcome
 use Rattle.avida_program.specs.Changes.{change}
-use Rattle.avida_program.specs.Outcomes.{StopsWithin, WritesAll}
-use Rattle.avida_program.proofs.PutLemmas.{append_known-nothing, front_short, front_then, gained_then, rose_later}
+use Rattle.avida_program.specs.Outcomes.{StopsWithin, WritesAll, stopped_by}
+use Rattle.avida_program.proofs.PutLemmas.{append_known-nothing, front_short, front_then, gained_then, nothing_gained, rose_later}
 
 stops_then : (a b c : SinkState) (xs ys : List ℕ) (told : Outcome) → Gained a b xs → CountsClimb a b
     → StopsWithin ys (change b c) told → StopsWithin (xs ++ ys) (change a c) told
@@ -34,6 +36,20 @@ writes_nothing a = record {
   err = tt;
   counts = record { faults = omega arith; wants = omega arith };
 }
+
+-- memory ran out before anything was written
+pub nothing_written : {T : Type 0} (a : SinkState) (text : List ℕ) → WritesAll {T = T} a a text (Err outcome.NoMemory)
+nothing_written a text = record {
+  ok = tt;
+  err = nothing_gained a a text refl;
+  counts = record { faults = omega arith; wants = omega arith };
+}
+
+-- the put of a text stopped
+pub put_stopped : {T : Type 0} {a b : SinkState} {text : List ℕ} {stop : SinkStop} (whole : List ℕ)
+    → Puts {T = T} a b text (Err stop) → text ≡ whole → StopsWithin whole (change a b) (stopped_by stop)
+put_stopped {a = a} {b = b} {stop = Fault} whole p same = (p.fault refl, subst (GainedPrefix a b) same p.err)
+put_stopped {a = a} {b = b} {stop = Memory} whole p same = subst (GainedPrefix a b) same p.err
 
 -- a text, and a text after it
 pub writes_then : {T U : Type 0} {a b c : SinkState} {xs : List ℕ} {u : U} {r : Result T Outcome} (ys : List ℕ)
