@@ -1,4 +1,5 @@
 pub mod BirthLemmas
+pub mod DidLemmas
 pub mod DivideLemmas
 pub mod GoingOnLemmas
 pub mod LivedLemmas

@@ -1,6 +1,7 @@
 // An organism: its genome, its machine, and what it has done since its birth or its last viable divide.
-ghost use Rattle.std.specs.Prelude.{◌≡◌, ◌+◌, ◌*◌, ◌-◌, ◌<◌, ◌≤◌, ◌^◌, IfOk, OnOk, length};
+ghost use Rattle.std.specs.Prelude.{◌≡◌, ◌≢◌, ◌+◌, ◌*◌, ◌-◌, ◌<◌, ◌≤◌, ◌^◌, IfOk, OnOk, length};
 ghost use Rattle.divide_rules.specs.Rules.{RuleNumbers, rule_numbers};
+ghost use Rattle.instruction_set.specs.declared.letter.Letter.TheVariants.{HDivide, Io};
 ghost use Rattle.genome.specs.Genome.{letters};
 ghost use Rattle.virtual_cpu.specs.Machine.{letter_under_ip, with_ip_marked};
 ghost use Rattle.virtual_cpu.specs.Step.{AsksOf};
@@ -21,7 +22,7 @@ use merit_slices::merit;
 use std::alloc::Global;
 use std::marker::Model;
 use std::sync::Arc;
-use virtual_cpu::laws::only_io_takes_an_input;
+use virtual_cpu::laws::{few_letters_tell, only_io_takes_an_input};
 use virtual_cpu::{Cpu, Did};
 
 /// An organism, which lives by the steps of its machine.
@@ -180,7 +181,7 @@ impl Organism {
         self.machine.take()
     }
 
-    /// The letter that was taken has its effect, and what follows from it. Only IO needs its input.
+    /// The letter that was taken has its effect, and what follows from it.
     #[inline(always)]
     #[tactic(auto, unfolding(crate::specs::Life::after_letter))]
     pub(crate) fn perform(
@@ -198,24 +199,58 @@ impl Organism {
         ensures merit { self.new.merit ≡ self.old.merit }
         ensures genome { self.new.genome ≡ self.old.genome }
     {
-        only_io_takes_an_input();
         match letter {
-            Letter::Io => {
-                let input = self.inputs.value(self.read);
-                let did = self.machine.perform(letter, input, copy);
-                self.age += 1;
-                self.after_did(did, rules)
-            }
+            Letter::Io | Letter::HDivide => self.perform_telling(letter, copy, rules),
             _ => {
-                let did = self.machine.perform(letter, 0, copy);
-                self.age += 1;
-                self.after_did(did, rules)
+                self.perform_quietly(letter, copy);
+                Outcome::Nothing
             }
         }
     }
 
-    /// What follows from the answer of the machine's step.
+    /// The letter that was taken has its effect, and nothing follows from it.
     #[inline(always)]
+    #[tactic(auto, unfolding(crate::specs::Life::after_letter), using(crate::proofs::DidLemmas::nothing_follows))]
+    fn perform_quietly(&mut self, letter: Letter, copy: Option<Letter>)
+        requires age { self.old.age < 2 ^ 63 }
+        requires quiet { (letter ≢ Io) × (letter ≢ HDivide) }
+        ensures step { (rules : RuleNumbers)
+            → (self.new, Outcome.Nothing) ≡ after_letter self.old letter copy rules }
+        ensures age { self.new.age ≡ self.old.age + 1 }
+        ensures merit { self.new.merit ≡ self.old.merit }
+        ensures genome { self.new.genome ≡ self.old.genome }
+    {
+        only_io_takes_an_input();
+        few_letters_tell();
+        let _ = self.machine.perform(letter, 0, copy);
+        self.age += 1;
+    }
+
+    /// The letter that was taken has its effect, and what follows from the machine's answer. IO takes the next input.
+    #[inline(never)]
+    #[tactic(auto, unfolding(crate::specs::Life::after_letter))]
+    fn perform_telling(
+        &mut self,
+        letter: Letter,
+        copy: Option<Letter>,
+        rules: &DivideRules,
+    ) -> Outcome
+        requires { self.old.age < 2 ^ 63 }
+        ensures step { (self.new, result)
+            ≡ after_letter self.old letter copy (rule_numbers rules.now) }
+        ensures divide { OnViable result (IsDivide self.new) }
+        ensures child { OnViable result (IsChildOf (rule_numbers rules.now)) }
+        ensures age { self.new.age ≡ self.old.age + 1 }
+        ensures merit { self.new.merit ≡ self.old.merit }
+        ensures genome { self.new.genome ≡ self.old.genome }
+    {
+        let input = self.inputs.value(self.read);
+        let did = self.machine.perform(letter, input, copy);
+        self.age += 1;
+        self.after_did(did, rules)
+    }
+
+    /// What follows from the answer of the machine's step.
     fn after_did(&mut self, did: Did, rules: &DivideRules) -> Outcome
         requires read { self.old.read < self.old.age }
         requires question { AsksOf self.old.machine did }

@@ -2,7 +2,7 @@
 use Rattle.std.specs.Prelude.{◌≡◌, ℤ, Option}
 use Rattle.instruction_set.specs.declared.letter.Letter.{Letter}
 use Rattle.virtual_cpu.specs.declared.did.Did.{Did}
-use Rattle.virtual_cpu.specs.declared.did.Did.TheVariants.{Asks}
+use Rattle.virtual_cpu.specs.declared.did.Did.TheVariants.{Plain, Copied, Output, Asks, Allocated}
 use Rattle.virtual_cpu.specs.Machine.{Machine, letter_under_ip, with_ip_marked}
 use Rattle.virtual_cpu.specs.Effects.{effect_of}
 use Rattle.virtual_cpu.specs.Divide.{divide_question}
@@ -15,6 +15,14 @@ step m input copy = effect_of (letter_under_ip m) (with_ip_marked m) input copy
 abbrev pub AsksOf : Machine → Did → Type 0
 AsksOf m (Asks ask) = ask ≡ divide_question m
 AsksOf m _ = Unit {0}
+
+-- nothing is put out and nothing is asked
+abbrev pub TellsNothing : Did → Type 0
+TellsNothing Plain = Unit {0}
+TellsNothing Copied = Unit {0}
+TellsNothing Allocated = Unit {0}
+TellsNothing (Output value) = ⊥
+TellsNothing (Asks ask) = ⊥
 
 -- what no step changes
 pub record KeepsLimits (old new : Machine) : Type 0 where

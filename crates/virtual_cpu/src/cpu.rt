@@ -333,13 +333,15 @@ impl Cpu {
     pub(crate) fn copy_letter(&mut self, copy: Option<Letter>)
         ensures { self.new ≡ after_h_copy self.old copy }
     {
-        let read = self.memory[self.heads.read];
+        let from = self.heads.read;
+        let to = self.heads.write;
+        let read = self.memory[from];
         self.nops.note(read);
-        self.memory[self.heads.write] = copy.unwrap_or(read);
-        self.clean[self.heads.write] = read;
-        self.copied.mark(self.heads.write);
-        self.heads.read = place_after(self.heads.read, self.memory.len());
-        self.heads.write = place_after(self.heads.write, self.memory.len());
+        self.memory[to] = copy.unwrap_or(read);
+        self.clean[to] = read;
+        self.copied.mark(to);
+        self.heads.read = place_after(from, self.memory.len());
+        self.heads.write = place_after(to, self.memory.len());
     }
 
     /// Whether no allocation is pending and memory is below its limit.

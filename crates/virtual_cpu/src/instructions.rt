@@ -4,7 +4,7 @@ ghost use Rattle.virtual_cpu.specs.Allocation.{can_allocate, with_allocation};
 ghost use Rattle.virtual_cpu.specs.Copying.{after_h_copy};
 ghost use Rattle.virtual_cpu.specs.Divide.{divide_question};
 ghost use Rattle.virtual_cpu.specs.Effects.{telling, going_on, moving, allocating_if, effect_of};
-ghost use Rattle.virtual_cpu.specs.Machine.{letter_under_ip, with_ip_marked};
+ghost use Rattle.virtual_cpu.specs.Machine.{letter_under_ip, with_ip_advanced, with_ip_marked};
 ghost use Rattle.virtual_cpu.specs.HeadEffects.{head, after_mov_head, after_jmp_head, after_get_head};
 ghost use Rattle.virtual_cpu.specs.RegisterEffects.{after_if_n_equ, after_if_less, after_set_flow, after_shift_r, after_shift_l, after_inc, after_dec, after_push, after_pop, after_swap_stk, after_swap, after_add, after_sub, after_nand, after_io, output_of};
 ghost use Rattle.virtual_cpu.specs.Step.{step, AsksOf, KeepsLimits};
@@ -47,15 +47,16 @@ impl Cpu {
         self.go_on()
     }
 
+    #[inline(never)]
     #[tactic(auto, unfolding(crate::specs::TemplateEffects::after_if_label))]
-    fn if_label(&mut self) -> Did
-        ensures { (self.new, result) ≡ going_on (after_if_label self.old) }
+    fn if_label(&mut self)
+        ensures { self.new ≡ with_ip_advanced (after_if_label self.old) }
     {
         let complement = self.read_complement();
         if !self.nops_are(&complement) {
             self.advance();
         }
-        self.go_on()
+        self.advance();
     }
 
     #[tactic(auto, unfolding(crate::specs::HeadEffects::after_mov_head))]
@@ -257,9 +258,10 @@ impl Cpu {
         Did::Output { value }
     }
 
+    #[inline(never)]
     #[tactic(auto, unfolding(crate::specs::TemplateEffects::after_h_search))]
-    fn h_search(&mut self) -> Did
-        ensures { (self.new, result) ≡ going_on (after_h_search self.old) }
+    fn h_search(&mut self)
+        ensures { self.new ≡ with_ip_advanced (after_h_search self.old) }
     {
         let complement = self.read_complement();
         let count = complement.len();
@@ -280,15 +282,15 @@ impl Cpu {
         }
     }
 
-    fn end_search(&mut self, flow: usize, bx: i32, cx: usize) -> Did
+    fn end_search(&mut self, flow: usize, bx: i32, cx: usize)
         requires within { flow < length self.old.memory }
         requires few { cx ≤ 10 }
-        ensures { (self.new, result) ≡ going_on (with_search self.old flow bx cx) }
+        ensures { self.new ≡ with_ip_advanced (with_search self.old flow bx cx) }
     {
         self.move_flow_to(flow);
         self.set_register(Register::Bx, bx);
         self.set_register(Register::Cx, cx as i32);
-        self.go_on()
+        self.advance();
     }
 
     /// One instruction. `input` is taken only by IO, `copy` only by h-copy.
@@ -334,7 +336,10 @@ impl Cpu {
             Letter::NopC => self.go_on(),
             Letter::IfNEqu => self.if_n_equ(),
             Letter::IfLess => self.if_less(),
-            Letter::IfLabel => self.if_label(),
+            Letter::IfLabel => {
+                self.if_label();
+                Did::Plain
+            }
             Letter::MovHead => self.mov_head(),
             Letter::JmpHead => self.jmp_head(),
             Letter::GetHead => self.get_head(),
@@ -354,7 +359,10 @@ impl Cpu {
             Letter::HAlloc => self.h_alloc(),
             Letter::HDivide => self.h_divide(),
             Letter::Io => self.io(input),
-            Letter::HSearch => self.h_search(),
+            Letter::HSearch => {
+                self.h_search();
+                Did::Plain
+            }
         }
     }
 }

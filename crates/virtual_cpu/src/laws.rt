@@ -2,13 +2,13 @@
 ghost use Rattle.std.specs.Prelude.{◌≡◌, ◌≢◌, ℕ, ℤ, ◌*◌, ◌≤◌, Option, List, length, FitsSigned};
 ghost use Rattle.std.specs.Int.{w32};
 ghost use Rattle.instruction_set.specs.declared.letter.Letter.{Letter};
-ghost use Rattle.instruction_set.specs.declared.letter.Letter.TheVariants.{Io};
+ghost use Rattle.instruction_set.specs.declared.letter.Letter.TheVariants.{HDivide, Io};
 ghost use Rattle.instruction_set.specs.Letter.{class_of};
 ghost use Rattle.instruction_set.specs.Defaults.{default_of};
 ghost use Rattle.virtual_cpu.specs.Effects.{effect_of};
 ghost use Rattle.virtual_cpu.specs.Machine.{Machine, IsMachine, fresh_machine};
 ghost use Rattle.virtual_cpu.specs.OperandUse.{TakesOperand};
-ghost use Rattle.virtual_cpu.specs.Step.{step, AsksOf, KeepsLimits};
+ghost use Rattle.virtual_cpu.specs.Step.{step, AsksOf, KeepsLimits, TellsNothing};
 ghost use Rattle.virtual_cpu.specs.Words.{HoldsWords};
 
 /// A step leaves a machine, for the same length of genome and under the same limit; a question that it tells is of
@@ -48,6 +48,14 @@ pub fn machines_hold_words()
 /// Template use the template, and no other letter uses either.
 pub fn letters_take_their_operands()
     ensures { (letter : Letter) → TakesOperand (default_of letter) (class_of letter) letter }
+{}
+
+/// No letter but IO and h-divide tells what the life goes on with.
+pub fn few_letters_tell()
+    ensures { (letter : Letter) (m : Machine) (input : ℤ) (copy : Option Letter)
+        → letter ≢ Io
+        → letter ≢ HDivide
+        → TellsNothing (effect_of letter m input copy).1 }
 {}
 
 /// No letter but IO takes an input.

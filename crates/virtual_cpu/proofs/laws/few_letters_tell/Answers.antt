@@ -1,0 +1,31 @@
+use Rattle.std.proofs.Common.{◌≢◌, refl, ℤ, Bool, true, false, Option}
+use Rattle.instruction_set.specs.declared.letter.Letter.{Letter}
+use Rattle.instruction_set.specs.declared.letter.Letter.TheVariants.{NopA, NopB, NopC, IfNEqu, IfLess, IfLabel, MovHead, JmpHead, GetHead, SetFlow, ShiftR, ShiftL, Inc, Dec, Push, Pop, SwapStk, Swap, Add, Sub, Nand, HCopy, HAlloc, HDivide, Io, HSearch}
+use Rattle.virtual_cpu.specs.declared.heads.Head.{Head}
+use Rattle.virtual_cpu.specs.declared.heads.Head.TheVariants.{Ip, Read, Write}
+use Rattle.virtual_cpu.specs.Allocation.{can_allocate}
+use Rattle.virtual_cpu.specs.Effects.{allocating_if, effect_of, moving}
+use Rattle.virtual_cpu.specs.HeadEffects.{head, after_mov_head}
+use Rattle.virtual_cpu.specs.Machine.{Machine}
+use Rattle.virtual_cpu.specs.Step.{TellsNothing}
+use Rattle.virtual_cpu.proofs.laws.few_letters_tell.Goals as goal
+
+moved : (which : Head) (m : Machine) → TellsNothing (moving which m).1
+moved Ip m = tt
+moved Read m = tt
+moved Write m = tt
+
+allocated : (can : Bool) (m : Machine) → TellsNothing (allocating_if can m).1
+allocated true m = tt
+allocated false m = tt
+
+quiet : (letter : Letter) (m : Machine) (input : ℤ) (copy : Option Letter)
+    → letter ≢ Io → letter ≢ HDivide → TellsNothing (effect_of letter m input copy).1
+quiet Io m input copy io divide = absurd (io refl)
+quiet HDivide m input copy io divide = absurd (divide refl)
+quiet MovHead m input copy io divide = moved (head m) (after_mov_head m)
+quiet HAlloc m input copy io divide = allocated (can_allocate m) m
+quiet _ m input copy io divide = tt
+
+pub returns : goal.returns
+returns c = quiet
