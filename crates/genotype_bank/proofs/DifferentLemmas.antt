@@ -111,28 +111,32 @@ module _ (one_list : OneList) where
       by (Interned genome) = different_of_push (genomes_of history) genome
       by Refused = ap different_of (append-nil (genomes_of history))
 
-  with_call-begins : (genotypes : List Letters) (call : Call) → IsPrefix genotypes (with_call genotypes call)
-  with_call-begins genotypes (Interned genome) = by (list_any (same_letters genome) genotypes)
+  with_genome-begins : (genotypes : List Letters) (genome : Letters) → IsPrefix genotypes (with_genome genotypes genome)
+  with_genome-begins genotypes genome = by (list_any (same_letters genome) genotypes)
     where
       by : (b : Bool) → IsPrefix genotypes (cond b genotypes (genotypes ++ genome ∷ []))
       by true = ([], append-nil genotypes)
       by false = (genome ∷ [], refl)
-  with_call-begins genotypes Refused = ([], append-nil genotypes)
 
   IsPrefix-trans : (xs ys zs : List Letters) → IsPrefix xs ys → IsPrefix ys zs → IsPrefix xs zs
   IsPrefix-trans xs ys zs a b = (a.0 ++ b.0, sym (append_assoc xs a.0 b.0) ∙ (ap (λ l. l ++ b.0) a.1 ∙ b.1))
 
-  genotypes_of-longer : (history rest : List Entry) → IsPrefix (genotypes_of history) (genotypes_of (history ++ rest))
-  genotypes_of-longer history [] = ([], append-nil (genotypes_of history) ∙ ap genotypes_of (sym (append-nil history)))
-  genotypes_of-longer history (one ∷ rest) =
-      let first = subst (IsPrefix (genotypes_of history)) (sym (genotypes_of_push history one)) (with_call-begins (genotypes_of history) one.call) in
-      let then = genotypes_of-longer (history ++ one ∷ []) rest in
-      IsPrefix-trans (genotypes_of history) (genotypes_of (history ++ one ∷ [])) (genotypes_of (history ++ one ∷ rest)) first
-      (subst (λ h. IsPrefix (genotypes_of (history ++ one ∷ [])) (genotypes_of h)) (append_assoc history (one ∷ []) rest) then)
+  different_of-longer : (xs ys : List Letters) → IsPrefix (different_of xs) (different_of (xs ++ ys))
+  different_of-longer xs [] = ([], append-nil (different_of xs) ∙ ap different_of (sym (append-nil xs)))
+  different_of-longer xs (y ∷ ys) =
+      let first = subst (IsPrefix (different_of xs)) (sym (different_of_push xs y)) (with_genome-begins (different_of xs) y) in
+      let then = different_of-longer (xs ++ y ∷ []) ys in
+      IsPrefix-trans (different_of xs) (different_of (xs ++ y ∷ [])) (different_of (xs ++ y ∷ ys)) first
+      (subst (λ l. IsPrefix (different_of (xs ++ y ∷ [])) (different_of l)) (append_assoc xs (y ∷ []) ys) then)
+
+  -- the different ones of a front of some genomes come first
+  pub different_of-begins : (first genomes : List Letters) → IsPrefix first genomes → IsPrefix (different_of first) (different_of genomes)
+  different_of-begins first genomes p = subst (λ l. IsPrefix (different_of first) (different_of l)) p.1 (different_of-longer first p.0)
 
   -- numbers stay as a history goes on
   pub genotypes_of-begins : (early history : List Entry) → IsPrefix early history → IsPrefix (genotypes_of early) (genotypes_of history)
-  genotypes_of-begins early history p = subst (λ h. IsPrefix (genotypes_of early) (genotypes_of h)) p.1 (genotypes_of-longer early p.0)
+  genotypes_of-begins early history p =
+      different_of-begins (genomes_of early) (genomes_of history) (genomes_of p.0, sym (filter_map-append (λ (one : Entry). genome_of one.call) early p.0) ∙ ap genomes_of p.1)
 
   same_letters-equivalence : IsEquivalence same_letters
   same_letters-equivalence = record {

@@ -3,7 +3,7 @@ ghost use Rattle.std.specs.Prelude.{◌≡◌, ◌+◌, ◌++◌, ◌∷◌, [],
 ghost use Rattle.std.specs.List.Sorted.{IsPermutation};
 ghost use mathlib.Core.List.{IsPrefix};
 ghost use Rattle.instruction_set.specs.declared.letter.Letter.{Letter};
-ghost use Rattle.genotype_bank.specs.BankHistory.{HasEachOnce, genomes_of, genotypes_of, with_call, with_genome};
+ghost use Rattle.genotype_bank.specs.BankHistory.{HasEachOnce, different_of, genomes_of, genotypes_of, with_call, with_genome};
 ghost use Rattle.genotype_bank.specs.Seats.{MakesCall, NumbersAgree, SeatValue};
 ghost use Rattle.genotype_bank.specs.declared.view.Call.{Call};
 ghost use Rattle.genotype_bank.specs.declared.view.Entry.{Entry};
@@ -23,6 +23,8 @@ pub fn calls_number_genotypes()
         genotypes_of (history ++ last ∷ []) ≡ with_call (genotypes_of history) last.call }
     ensures stay { (early history : List Entry) →
         IsPrefix early history → IsPrefix (genotypes_of early) (genotypes_of history) }
+    ensures fronts { (first genomes : List (List Letter)) →
+        IsPrefix first genomes → IsPrefix (different_of first) (different_of genomes) }
     ensures seen { (before after : SeatValue) (call : Call) →
         MakesCall before after call → IsPrefix before.seen after.seen }
     ensures count { (genotypes : List (List Letter)) (genome : List Letter) (number : ℕ) →
@@ -36,6 +38,7 @@ pub fn calls_number_genotypes()
 /// Each genome that was interned has exactly one number, and no other genome has one. The calls may
 /// be told in any order, as those of seats that were joined.
 pub fn genotypes_are_what_was_interned()
+    ensures each { (genomes : List (List Letter)) → HasEachOnce (different_of genomes) genomes }
     ensures calls { (history calls : List Entry) → IsPermutation history calls →
         HasEachOnce (genotypes_of history) (genomes_of calls) }
     ensures one_more { (genotypes genomes : List (List Letter)) (genome : List Letter) →
