@@ -32,6 +32,7 @@ fn main(rt: HostRuntime) -> ExitCode {
     let mut err = StdSink::err(&rt);
     let mut last = None;
     let status = serve(
+        &rt,
         rt.alloc(),
         &words,
         &mut source,

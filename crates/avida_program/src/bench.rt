@@ -18,6 +18,7 @@ use crate::run::leave;
 use avida_port::{Gate, Memory, Sink};
 use log_lines::{LogLine, Stats, write_line};
 use std::alloc::Global;
+use std::sync::Wait;
 use world_config::Config;
 use world_core::World;
 
@@ -43,7 +44,8 @@ fn config_with(alloc: Global, seed: u64) -> Result<Config, Memory>
 }
 
 /// One update, whose text is counted and dropped.
-fn sum_update<G: Gate + Sync>(
+fn sum_update<R: Wait, G: Gate + Sync>(
+    rt: &R,
     alloc: Global,
     world: World,
     sums: Sums,
@@ -60,14 +62,15 @@ fn sum_update<G: Gate + Sync>(
     ensures few_births { IfOk result (λ next. next.1.births ≤ sums.births + 2 ^ 64) }
     ensures few_bytes { IfOk result (λ next. next.1.bytes ≤ sums.bytes + 2 ^ 64) }
 {
-    let (next, text) = world.advance(alloc, gate)?;
+    let (next, text) = world.advance(rt, alloc, gate)?;
     let births = sums.births + u128::from(next.stats().births);
     let bytes = sums.bytes + text.len() as u128;
     Ok((next, Sums { births, bytes }))
 }
 
 /// The updates of a new world, whose texts are counted and dropped.
-fn sum_updates<G: Gate + Sync>(
+fn sum_updates<R: Wait, G: Gate + Sync>(
+    rt: &R,
     alloc: Global,
     mut world: World,
     updates: u32,
@@ -86,14 +89,15 @@ fn sum_updates<G: Gate + Sync>(
         bytes: 0,
     };
     for _ in 0..updates {
-        (world, sums) = sum_update(alloc, world, sums, gate)?;
+        (world, sums) = sum_update(rt, alloc, world, sums, gate)?;
     }
     Ok((world, sums))
 }
 
 /// Runs a configuration to its end. The sums are its births and the bytes of its whole log.
 #[tactic(auto, using(crate::proofs::BenchLemmas::log_bytes))]
-fn run_and_sum<G: Gate + Sync>(
+fn run_and_sum<R: Wait, G: Gate + Sync>(
+    rt: &R,
     alloc: Global,
     config: Config,
     workers: u32,
@@ -106,9 +110,9 @@ fn run_and_sum<G: Gate + Sync>(
     ensures bytes { IfOk result (λ ran. ran.1.bytes ≡ length (run_text (values_of config))) }
 {
     let updates = config.updates;
-    let world = World::found(alloc, config, workers)?;
+    let world = World::found(rt, alloc, config, workers)?;
     let first = world.first_line(alloc)?;
-    let (world, sums) = sum_updates(alloc, world, updates, gate)?;
+    let (world, sums) = sum_updates(rt, alloc, world, updates, gate)?;
     let last = world.last_line(alloc)?;
     let bytes = first.len() as u128 + sums.bytes + last.len() as u128;
     Ok((world, Sums { bytes, ..sums }))
@@ -141,7 +145,8 @@ fn lines_of(alloc: Global, stats: Stats, sums: Sums) -> Result<Vec<u8>, Memory>
 
 /// Runs a configuration to its end, and gives the last world and the three lines.
 #[tactic(auto, unfolding(crate::specs::BenchText::sums_text))]
-fn run_and_tell<G: Gate + Sync>(
+fn run_and_tell<R: Wait, G: Gate + Sync>(
+    rt: &R,
     alloc: Global,
     config: Config,
     workers: u32,
@@ -151,13 +156,14 @@ fn run_and_tell<G: Gate + Sync>(
     ensures world { IfOk result (λ ran. ran.0 ≡ final_world (values_of config)) }
     ensures text { IfOk result (λ ran. ran.1.items ≡ sums_text (values_of config)) }
 {
-    let (world, sums) = run_and_sum(alloc, config, workers, gate)?;
+    let (world, sums) = run_and_sum(rt, alloc, config, workers, gate)?;
     let text = lines_of(alloc, world.stats(), sums)?;
     Ok((world, text))
 }
 
 /// Runs the world of a seed, and writes the three lines.
-fn write_bench<O: Sink, G: Gate + Sync>(
+fn write_bench<R: Wait, O: Sink, G: Gate + Sync>(
+    rt: &R,
     alloc: Global,
     seed: u64,
     workers: u32,
@@ -173,7 +179,7 @@ fn write_bench<O: Sink, G: Gate + Sync>(
         (change (O.seen out.old) (O.seen out.new))) }
 {
     let config = config_with(alloc, seed)?;
-    let (world, text) = run_and_tell(alloc, config, workers, gate)?;
+    let (world, text) = run_and_tell(rt, alloc, config, workers, gate)?;
     out.put(&text)?;
     Ok(world)
 }
@@ -181,7 +187,8 @@ fn write_bench<O: Sink, G: Gate + Sync>(
 /// Runs the default configuration with this seed for 200 updates, and writes what is counted after
 /// the last one, its births and the length of its log. On `Done` the last world is left in `last`,
 /// and otherwise `last` stays as it was.
-pub fn bench<O: Sink, G: Gate + Sync>(
+pub fn bench<R: Wait, O: Sink, G: Gate + Sync>(
+    rt: &R,
     alloc: Global,
     seed: u64,
     workers: u32,
@@ -199,5 +206,5 @@ pub fn bench<O: Sink, G: Gate + Sync>(
           last = change last.old last.new;
         }) result }
 {
-    leave(write_bench(alloc, seed, workers, out, gate), last)
+    leave(write_bench(rt, alloc, seed, workers, out, gate), last)
 }

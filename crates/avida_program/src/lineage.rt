@@ -23,6 +23,7 @@ use lineage_log::{Link, Path};
 use log_lines::{write_number, write_record};
 use mutations::Origin;
 use std::alloc::Global;
+use std::sync::Wait;
 use world_config::Config;
 use world_core::World;
 
@@ -117,7 +118,8 @@ fn write_descent<O: Sink>(alloc: Global, world: &World, cell: u32, out: &mut O) 
 }
 
 /// Runs a configuration to its end, and writes the line of descent of who stands in the cell then.
-fn run_and_write<O: Sink, G: Gate + Sync>(
+fn run_and_write<R: Wait, O: Sink, G: Gate + Sync>(
+    rt: &R,
     alloc: Global,
     config: Config,
     cell: u32,
@@ -133,7 +135,7 @@ fn run_and_write<O: Sink, G: Gate + Sync>(
     ensures err { IfErr result (StopsWithin (path_text (values_of config) cell)
         (change (O.seen out.old) (O.seen out.new))) }
 {
-    let world = run_to_end(alloc, config, workers, gate)?;
+    let world = run_to_end(rt, alloc, config, workers, gate)?;
     match write_descent(alloc, &world, cell, out) {
         Outcome::Done => Ok(world),
         stopped => Err(stopped),
@@ -142,7 +144,8 @@ fn run_and_write<O: Sink, G: Gate + Sync>(
 
 /// Reads a configuration, runs it to its end, and writes the line of descent of the organism in the
 /// cell. On `Done` the last world is left in `last`, and otherwise `last` stays as it was.
-pub fn lineage<S: Source, O: Sink, G: Gate + Sync>(
+pub fn lineage<R: Wait, S: Source, O: Sink, G: Gate + Sync>(
+    rt: &R,
     alloc: Global,
     cell: u32,
     workers: u32,
@@ -164,7 +167,10 @@ pub fn lineage<S: Source, O: Sink, G: Gate + Sync>(
         Err(outcome) => return outcome,
     };
     match read_config_with(alloc, bytes, cell) {
-        Ok(config) => leave(run_and_write(alloc, config, cell, workers, out, gate), last),
+        Ok(config) => leave(
+            run_and_write(rt, alloc, config, cell, workers, out, gate),
+            last,
+        ),
         Err(outcome) => outcome,
     }
 }

@@ -15,6 +15,7 @@ use crate::input::{read_bytes, read_config};
 use crate::{INPUT_LIMIT, Outcome};
 use avida_port::{Gate, Memory, Sink, Source};
 use std::alloc::Global;
+use std::sync::Wait;
 use world_config::Config;
 use world_core::laws::replay_gives_living;
 use world_core::{World, picture_line};
@@ -36,7 +37,8 @@ fn write_last<O: Sink>(alloc: Global, world: &World, out: &mut O) -> Result<(), 
 }
 
 /// One update, whose text is put whole.
-fn write_update<O: Sink, G: Gate + Sync>(
+fn write_update<R: Wait, O: Sink, G: Gate + Sync>(
+    rt: &R,
     alloc: Global,
     world: World,
     out: &mut O,
@@ -47,13 +49,14 @@ fn write_update<O: Sink, G: Gate + Sync>(
     ensures text { WritesAll (O.seen out.old) (O.seen out.new)
         (update_text world.config (world.update + 1)) result }
 {
-    let (next, text) = world.advance(alloc, gate)?;
+    let (next, text) = world.advance(rt, alloc, gate)?;
     out.put(&text)?;
     Ok(next)
 }
 
 /// The updates of a new world, with their texts.
-fn write_updates<O: Sink, G: Gate + Sync>(
+fn write_updates<R: Wait, O: Sink, G: Gate + Sync>(
+    rt: &R,
     alloc: Global,
     mut world: World,
     updates: u32,
@@ -67,13 +70,14 @@ fn write_updates<O: Sink, G: Gate + Sync>(
         (updates_text world.config updates) result }
 {
     for _ in 0..updates {
-        world = write_update(alloc, world, out, gate)?;
+        world = write_update(rt, alloc, world, out, gate)?;
     }
     Ok(world)
 }
 
 /// Runs a configuration to its end, and writes the log.
-fn write_log<O: Sink, G: Gate + Sync>(
+fn write_log<R: Wait, O: Sink, G: Gate + Sync>(
+    rt: &R,
     alloc: Global,
     config: Config,
     workers: u32,
@@ -88,9 +92,9 @@ fn write_log<O: Sink, G: Gate + Sync>(
 {
     let updates = config.updates;
     replay_gives_living(&config, updates);
-    let world = World::found(alloc, config, workers)?;
+    let world = World::found(rt, alloc, config, workers)?;
     write_first(alloc, &world, out)?;
-    let world = write_updates(alloc, world, updates, out, gate)?;
+    let world = write_updates(rt, alloc, world, updates, out, gate)?;
     write_last(alloc, &world, out)?;
     Ok(world)
 }
@@ -129,7 +133,8 @@ fn write_picture_for<W: Sink>(
 
 /// Runs a configuration to its end, and writes the log. A watcher doesn't work beside the run yet:
 /// it has the last picture alone.
-fn write_run<O: Sink, W: Sink, G: Gate + Sync>(
+fn write_run<R: Wait, O: Sink, W: Sink, G: Gate + Sync>(
+    rt: &R,
     alloc: Global,
     config: Config,
     workers: u32,
@@ -149,22 +154,28 @@ fn write_run<O: Sink, W: Sink, G: Gate + Sync>(
         (change (O.seen out.old) (O.seen out.new)) (change (W.seen watch.old) (W.seen watch.new))) }
     ensures replays { ReplaysToLiving (values_of config) config.updates }
 {
-    let world = write_log(alloc, config, workers, out, gate)?;
+    let world = write_log(rt, alloc, config, workers, out, gate)?;
     write_picture_for(alloc, looks, &world, watch)?;
     Ok(world)
 }
 
 /// One update, whose text is dropped.
-fn pass_update<G: Gate + Sync>(alloc: Global, world: World, gate: &G) -> Result<World, Memory>
+fn pass_update<R: Wait, G: Gate + Sync>(
+    rt: &R,
+    alloc: Global,
+    world: World,
+    gate: &G,
+) -> Result<World, Memory>
     requires { world.update < 1000000 }
     ensures { IfOk result (λ next. next ≡ record world { update = world.update + 1 }) }
 {
-    let (next, _text) = world.advance(alloc, gate)?;
+    let (next, _text) = world.advance(rt, alloc, gate)?;
     Ok(next)
 }
 
 /// The updates of a new world, without their texts.
-fn pass_updates<G: Gate + Sync>(
+fn pass_updates<R: Wait, G: Gate + Sync>(
+    rt: &R,
     alloc: Global,
     mut world: World,
     updates: u32,
@@ -175,13 +186,14 @@ fn pass_updates<G: Gate + Sync>(
     ensures { IfOk result (λ after. after ≡ record world { update = updates }) }
 {
     for _ in 0..updates {
-        world = pass_update(alloc, world, gate)?;
+        world = pass_update(rt, alloc, world, gate)?;
     }
     Ok(world)
 }
 
 /// Runs a configuration to its last update, and gives the world then.
-pub fn run_to_end<G: Gate + Sync>(
+pub fn run_to_end<R: Wait, G: Gate + Sync>(
+    rt: &R,
     alloc: Global,
     config: Config,
     workers: u32,
@@ -191,8 +203,8 @@ pub fn run_to_end<G: Gate + Sync>(
     ensures { IfOk result (λ world. world ≡ final_world (values_of config)) }
 {
     let updates = config.updates;
-    let world = World::found(alloc, config, workers)?;
-    pass_updates(alloc, world, updates, gate)
+    let world = World::found(rt, alloc, config, workers)?;
+    pass_updates(rt, alloc, world, updates, gate)
 }
 
 /// Stores the world of a run that came to its end in `last`.
@@ -212,7 +224,8 @@ pub fn leave(run: Result<World, Outcome>, last: &mut Option<World>) -> Outcome
 /// Reads a configuration, and writes the log of its run. With `looks` there is a watcher, which
 /// writes lines of pictures to `watch`. On `Done` the last world is left in `last`, and otherwise
 /// `last` stays as it was.
-pub fn run<S: Source, O: Sink, W: Sink, G: Gate + Sync>(
+pub fn run<R: Wait, S: Source, O: Sink, W: Sink, G: Gate + Sync>(
+    rt: &R,
     alloc: Global,
     workers: u32,
     looks: Option<u32>,
@@ -236,7 +249,7 @@ pub fn run<S: Source, O: Sink, W: Sink, G: Gate + Sync>(
     };
     match read_config(alloc, bytes) {
         Ok(config) => leave(
-            write_run(alloc, config, workers, looks, out, watch, gate),
+            write_run(rt, alloc, config, workers, looks, out, watch, gate),
             last,
         ),
         Err(outcome) => outcome,

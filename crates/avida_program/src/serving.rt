@@ -18,6 +18,7 @@ use crate::{Outcome, Status};
 use avida_port::{Gate, Sink, Source};
 use command_line::Refused;
 use std::alloc::Global;
+use std::sync::Wait;
 use world_core::World;
 
 /// Writes the fault line to `err`. A failure there changes no status.
@@ -32,7 +33,8 @@ fn tell<E: Sink>(err: &mut E, outcome: &Outcome)
 }
 
 /// Calls the function of the command.
-fn carry_out<S: Source, O: Sink, W: Sink, G: Gate + Sync>(
+fn carry_out<R: Wait, S: Source, O: Sink, W: Sink, G: Gate + Sync>(
+    rt: &R,
     alloc: Global,
     command: Command,
     source: &mut S,
@@ -52,19 +54,20 @@ fn carry_out<S: Source, O: Sink, W: Sink, G: Gate + Sync>(
     match command {
         Command::Trace { steps, spelling } => trace(alloc, steps, spelling, source, out),
         Command::Run { workers, looks } => {
-            run(alloc, workers, looks, source, out, watch, last, gate)
+            run(rt, alloc, workers, looks, source, out, watch, last, gate)
         }
         Command::Lineage { cell, workers } => {
-            lineage(alloc, cell, workers, source, out, last, gate)
+            lineage(rt, alloc, cell, workers, source, out, last, gate)
         }
-        Command::Bench { seed, workers } => bench(alloc, seed, workers, out, last, gate),
+        Command::Bench { seed, workers } => bench(rt, alloc, seed, workers, out, last, gate),
         Command::Replay => replay(alloc, source, out),
         Command::Upgrade => upgrade(alloc, source, out),
     }
 }
 
 /// Carries out the command that the words give.
-fn obey<S: Source, O: Sink, W: Sink, G: Gate + Sync>(
+fn obey<R: Wait, S: Source, O: Sink, W: Sink, G: Gate + Sync>(
+    rt: &R,
     alloc: Global,
     words: &[String],
     source: &mut S,
@@ -82,14 +85,17 @@ fn obey<S: Source, O: Sink, W: Sink, G: Gate + Sync>(
     }) result }
 {
     match read_words(alloc, words) {
-        Ok(command) => carry_out(alloc, command, source, out, watch, last, gate),
+        Ok(command) => carry_out(rt, alloc, command, source, out, watch, last, gate),
         Err(Refused::BadWords) => Outcome::BadWords,
         Err(Refused::Memory) => Outcome::NoMemory,
     }
 }
 
 /// All that the program does. The words say which command runs, and the status says how it ended.
-pub fn serve<S: Source, O: Sink + Send, W: Sink + Send, E: Sink, G: Gate + Sync>(
+/// It may wait, since a world interns genomes. The functions of `trace`, `replay` and `upgrade` aren't
+/// handed `rt`, so these commands return.
+pub fn serve<R: Wait, S: Source, O: Sink + Send, W: Sink + Send, E: Sink, G: Gate + Sync>(
+    rt: &R,
     alloc: Global,
     words: &[String],
     source: &mut S,
@@ -119,7 +125,7 @@ pub fn serve<S: Source, O: Sink + Send, W: Sink + Send, E: Sink, G: Gate + Sync>
       last = change last.old last.new;
     }) result }
 {
-    let outcome = obey(alloc, words, source, out, watch, last, gate);
+    let outcome = obey(rt, alloc, words, source, out, watch, last, gate);
     tell(err, &outcome);
     outcome.status()
 }

@@ -5,14 +5,16 @@ use std::alloc::Global;
 use std::test::Fail;
 use world_core::World;
 
-/// Words and an input, with the world that is left: its cells, its counts, and who lives where.
+/// Words and an input, with the world that is left: its cells, its counts, the length of its bank, and
+/// who lives where, with the genome's number.
 const WORLDS: &str = "run
 =>
 updates = 0
 =>
 3600 cells
 U 0 1 0 0 1 100 0 0 0 0 0 0 0 0 0
-0 wzcagcccccccccccccccccccccccccccccccccccccccccccccccccccccccccccccccccccccccccccccccccccccczvfcaxgab
+bank of 1
+0 0 wzcagcccccccccccccccccccccccccccccccccccccccccccccccccccccccccccccccccccccccccccccccccccccczvfcaxgab
 ---
 run --watch 0 --workers 64
 =>
@@ -25,7 +27,8 @@ divide_delete = 0
 =>
 1 cells
 U 13 1 1 1 1 97 0 0 0 0 0 0 0 0 0
-0 wzcagcccccccccccccccccccccccccccccccccccccccccccccccccccccccccccccccccccccccccccccccccccccczvfcaxgab
+bank of 1
+0 0 wzcagcccccccccccccccccccccccccccccccccccccccccccccccccccccccccccccccccccccccccccccccccccccczvfcaxgab
 ---
 lineage 0
 =>
@@ -38,7 +41,8 @@ divide_delete = 0
 =>
 1 cells
 U 13 1 1 1 1 97 0 0 0 0 0 0 0 0 0
-0 wzcagcccccccccccccccccccccccccccccccccccccccccccccccccccccccccccccccccccccccccccccccccccccczvfcaxgab
+bank of 1
+0 0 wzcagcccccccccccccccccccccccccccccccccccccccccccccccccccccccccccccccccccccccccccccccccccccczvfcaxgab
 ---
 run
 =>
@@ -50,6 +54,7 @@ ancestor = \"aaaaaaaaaaaaaaaaaaaaaaaaaaaaaaaaaaaaaaaaaaaaaaaaaaaaaaaaaaaaaaaaaaa
 =>
 1 cells
 U 10 0 0 0 0 0 0 0 0 0 0 0 0 0 0
+bank of 1
 ---
 run --workers 2
 =>
@@ -60,8 +65,9 @@ event = [{ kind = \"inject\", update = 1, cell = 1, letters = \"aaaaaaaa\" }]
 =>
 2 cells
 U 2 2 0 0 2 108 0 0 0 0 0 0 0 0 0
-0 wzcagcccccccccccccccccccccccccccccccccccccccccccccccccccccccccccccccccccccccccccccccccccccczvfcaxgab
-1 aaaaaaaa
+bank of 2
+0 0 wzcagcccccccccccccccccccccccccccccccccccccccccccccccccccccccccccccccccccccccccccccccccccccczvfcaxgab
+1 1 aaaaaaaa
 ---
 run
 =>
@@ -75,6 +81,7 @@ event = [{ kind = \"clear\", update = 1, first = 0, last = 0 }]
 =>
 1 cells
 U 2 0 0 0 0 0 0 0 0 0 0 0 0 0 0
+bank of 1
 ---
 run
 =>
@@ -135,10 +142,11 @@ fn text_of(alloc: Global, world: &World) -> Result<Vec<u8>, Fail> {
     for count in &stats.tasks {
         text.extend_from_slice(format!(in alloc; " {count}")?.as_bytes())?;
     }
-    text.push(b'\n')?;
+    text.extend_from_slice(format!(in alloc; "\nbank of {}\n", world.bank_len())?.as_bytes())?;
     for cell in 0..world.cells() {
         if let Some(genome) = world.genome_at(cell) {
-            text.extend_from_slice(format!(in alloc; "{cell} ")?.as_bytes())?;
+            let number = world.handle_at(cell).ok_or("no number")?;
+            text.extend_from_slice(format!(in alloc; "{cell} {number} ")?.as_bytes())?;
             if letters_text(genome, &mut text).is_err() {
                 return Err("memory".into());
             }
@@ -154,7 +162,7 @@ fn the_world_after_the_last_update_is_left(rt: HostRuntime) -> Result<(), Fail> 
     for case in WORLDS.split("---\n") {
         let (words, rest) = case.split_once("\n=>\n").ok_or("no input")?;
         let (input, wanted) = rest.split_once("=>\n").ok_or("no world")?;
-        let served = serve_on(alloc, words, input.as_bytes())?;
+        let served = serve_on(&rt, alloc, words, input.as_bytes())?;
         match &served.last {
             Some(world) => {
                 assert_eq!(rt;
@@ -173,9 +181,10 @@ fn the_world_after_the_last_update_is_left(rt: HostRuntime) -> Result<(), Fail> 
 #[test]
 fn bench_leaves_its_world_after_200_updates(rt: HostRuntime) -> Result<(), Fail> {
     let alloc = rt.alloc();
-    let served = serve_on(alloc, "bench 7", b"")?;
+    let served = serve_on(&rt, alloc, "bench 7", b"")?;
     let world = served.last.as_ref().ok_or("no world")?;
     let text = text_of(alloc, world)?;
-    assert!(rt; text.starts_with(b"3600 cells\nU 200 384 37 17 285 38443 0 0 0 0 0 0 0 0 0\n"));
+    let front = b"3600 cells\nU 200 384 37 17 285 38443 0 0 0 0 0 0 0 0 0\nbank of 658\n0 594 ";
+    assert!(rt; text.starts_with(front));
     Ok(())
 }

@@ -4,10 +4,11 @@ use crate::served::{Faults, NO_FAULTS, Served, serve_with};
 use avida_port::Failing;
 use avida_program::Status;
 use std::alloc::{AllocError, Global};
+use std::sync::Wait;
 use std::test::Fail;
 
-fn served_with(alloc: Global, faults: Faults) -> Result<Served, AllocError> {
-    serve_with(alloc, "run", CONFIG.as_bytes(), faults)
+fn served_with<R: Wait>(rt: &R, alloc: Global, faults: Faults) -> Result<Served, AllocError> {
+    serve_with(rt, alloc, "run", CONFIG.as_bytes(), faults)
 }
 
 #[test]
@@ -18,7 +19,7 @@ fn each_read_of_a_configuration_that_fails_is_told(rt: HostRuntime) -> Result<()
             reads: &[call],
             ..NO_FAULTS
         };
-        let served = served_with(rt.alloc(), faults)?;
+        let served = served_with(&rt, rt.alloc(), faults)?;
         assert_eq!(rt; served.status, Status::ReadFault, "at {call}");
         assert_eq!(rt;
             served.err.bytes(),
@@ -41,7 +42,7 @@ fn each_put_of_a_log_that_fails_leaves_a_front(rt: HostRuntime) -> Result<(), Fa
                 puts: &failing,
                 ..NO_FAULTS
             };
-            let served = served_with(alloc, faults)?;
+            let served = served_with(&rt, alloc, faults)?;
             let front = front_of(alloc, call, takes)?;
             assert_eq!(rt; served.status, Status::WriteFault, "at {call}, {takes}");
             assert_eq!(rt;
@@ -65,7 +66,7 @@ fn a_log_has_a_put_for_its_first_line_each_update_and_its_last_line(
         puts: &failing,
         ..NO_FAULTS
     };
-    let served = served_with(rt.alloc(), faults)?;
+    let served = served_with(&rt, rt.alloc(), faults)?;
     let whole = log_of(rt.alloc())?;
     assert_eq!(rt; served.status, Status::Done);
     assert_eq!(rt; served.out.bytes(), whole.as_slice());
@@ -79,14 +80,14 @@ fn a_fault_line_of_run_that_fails_changes_no_status(rt: HostRuntime) -> Result<(
         err_puts: &failing,
         ..NO_FAULTS
     };
-    let served = served_with(rt.alloc(), told)?;
+    let served = served_with(&rt, rt.alloc(), told)?;
     assert_eq!(rt; served.status, Status::Done);
     assert_eq!(rt; served.err.bytes(), b"".as_slice());
     let faults = Faults {
         puts: &failing,
         ..told
     };
-    let served = served_with(rt.alloc(), faults)?;
+    let served = served_with(&rt, rt.alloc(), faults)?;
     assert_eq!(rt; served.status, Status::WriteFault);
     assert_eq!(rt; served.err.bytes(), b"avida".as_slice());
     assert_eq!(rt; served.out.bytes(), b"L 2 1".as_slice());
@@ -103,7 +104,7 @@ fn a_watch_that_fails_leaves_the_log_whole(rt: HostRuntime) -> Result<(), Fail> 
             watch_puts: &failing,
             ..NO_FAULTS
         };
-        let served = serve_with(alloc, "run --watch 0", CONFIG.as_bytes(), faults)?;
+        let served = serve_with(&rt, alloc, "run --watch 0", CONFIG.as_bytes(), faults)?;
         let front = &PICTURE.as_bytes()[..takes.min(PICTURE.len())];
         assert_eq!(rt; served.status, Status::WriteFault, "of {takes}");
         assert_eq!(rt; served.out.bytes(), whole.as_slice(), "of {takes}");
@@ -128,7 +129,7 @@ fn a_log_that_fails_leaves_no_picture(rt: HostRuntime) -> Result<(), Fail> {
         watch_puts: &watching,
         ..NO_FAULTS
     };
-    let served = serve_with(alloc, "run --watch 0", CONFIG.as_bytes(), faults)?;
+    let served = serve_with(&rt, alloc, "run --watch 0", CONFIG.as_bytes(), faults)?;
     let first = front_of(alloc, 2, 0)?;
     assert_eq!(rt; served.status, Status::WriteFault);
     assert_eq!(rt; served.out.bytes(), first.as_slice());
@@ -145,7 +146,7 @@ fn a_put_of_a_replay_that_fails_leaves_a_front(rt: HostRuntime) -> Result<(), Fa
         puts: &failing,
         ..NO_FAULTS
     };
-    let served = serve_with(alloc, "replay", &log_of(alloc)?, faults)?;
+    let served = serve_with(&rt, alloc, "replay", &log_of(alloc)?, faults)?;
     assert_eq!(rt; served.status, Status::WriteFault);
     assert_eq!(rt; served.err.bytes(), b"avida: write fault\n".as_slice());
     assert_eq!(rt; served.out.bytes(), b"0 1 ".as_slice());

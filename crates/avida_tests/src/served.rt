@@ -2,6 +2,7 @@
 use avida_port::{Failing, MemSink, MemSource, NoGate};
 use avida_program::{Status, serve};
 use std::alloc::{AllocError, Global};
+use std::sync::Wait;
 use world_core::World;
 
 /// What a call answered and left.
@@ -33,7 +34,8 @@ pub const NO_FAULTS: Faults<'static> = Faults {
 };
 
 /// Serves the words, which spaces part, on these bytes.
-pub fn serve_with(
+pub fn serve_with<R: Wait>(
+    rt: &R,
     alloc: Global,
     words: &str,
     bytes: &[u8],
@@ -55,6 +57,7 @@ pub fn serve_with(
     let mut err = MemSink::new(alloc, faults.err_puts.to_vec(alloc)?);
     let mut last = None;
     let status = serve(
+        rt,
         alloc,
         &texts,
         &mut source,
@@ -74,6 +77,11 @@ pub fn serve_with(
 }
 
 /// The same where nothing fails.
-pub fn serve_on(alloc: Global, words: &str, bytes: &[u8]) -> Result<Served, AllocError> {
-    serve_with(alloc, words, bytes, NO_FAULTS)
+pub fn serve_on<R: Wait>(
+    rt: &R,
+    alloc: Global,
+    words: &str,
+    bytes: &[u8],
+) -> Result<Served, AllocError> {
+    serve_with(rt, alloc, words, bytes, NO_FAULTS)
 }

@@ -12,7 +12,7 @@ fn each_read_that_fails_is_told(rt: HostRuntime) -> Result<(), Fail> {
             reads: &[call],
             ..NO_FAULTS
         };
-        let served = serve_with(rt.alloc(), "trace 3", b"mmmmmmmm", faults)?;
+        let served = serve_with(&rt, rt.alloc(), "trace 3", b"mmmmmmmm", faults)?;
         assert_eq!(rt; served.status, Status::ReadFault, "at {call}");
         assert_eq!(rt; served.out.bytes(), b"".as_slice(), "at {call}");
         assert_eq!(rt;
@@ -25,7 +25,7 @@ fn each_read_that_fails_is_told(rt: HostRuntime) -> Result<(), Fail> {
         reads: &[6],
         ..NO_FAULTS
     };
-    let served = serve_with(rt.alloc(), "trace 3", b"mmmmmmmm", faults)?;
+    let served = serve_with(&rt, rt.alloc(), "trace 3", b"mmmmmmmm", faults)?;
     assert_eq!(rt; served.status, Status::Done);
     Ok(())
 }
@@ -33,7 +33,7 @@ fn each_read_that_fails_is_told(rt: HostRuntime) -> Result<(), Fail> {
 #[test]
 fn each_put_that_fails_leaves_a_front(rt: HostRuntime) -> Result<(), Fail> {
     let alloc = rt.alloc();
-    let whole = serve_on(alloc, "trace 1000", b"mmmmmmmm")?;
+    let whole = serve_on(&rt, alloc, "trace 1000", b"mmmmmmmm")?;
     // 1,000 lines of at most 20 bytes are three puts of at most 8 KiB.
     for call in 1..4u64 {
         for takes in [0usize, 3, 9000] {
@@ -42,7 +42,7 @@ fn each_put_that_fails_leaves_a_front(rt: HostRuntime) -> Result<(), Fail> {
                 puts: &failing,
                 ..NO_FAULTS
             };
-            let served = serve_with(alloc, "trace 1000", b"mmmmmmmm", faults)?;
+            let served = serve_with(&rt, alloc, "trace 1000", b"mmmmmmmm", faults)?;
             let held = served.out.bytes();
             assert_eq!(rt; served.status, Status::WriteFault, "at {call}, {takes}");
             assert!(rt; whole.out.bytes().starts_with(held), "at {call}, {takes}");
@@ -63,7 +63,7 @@ fn each_put_that_fails_leaves_a_front(rt: HostRuntime) -> Result<(), Fail> {
         puts: &failing,
         ..NO_FAULTS
     };
-    let served = serve_with(alloc, "trace 1000", b"mmmmmmmm", faults)?;
+    let served = serve_with(&rt, alloc, "trace 1000", b"mmmmmmmm", faults)?;
     assert_eq!(rt; served.status, Status::Done);
     assert_eq!(rt; served.out.bytes(), whole.out.bytes());
     Ok(())
@@ -76,7 +76,7 @@ fn a_fault_line_that_fails_changes_no_status(rt: HostRuntime) -> Result<(), Fail
         err_puts: &failing,
         ..NO_FAULTS
     };
-    let served = serve_with(rt.alloc(), "trace 1", b"mmm", faults)?;
+    let served = serve_with(&rt, rt.alloc(), "trace 1", b"mmm", faults)?;
     assert_eq!(rt; served.status, Status::BadInput);
     assert_eq!(rt; served.err.bytes(), b"avida".as_slice());
     assert_eq!(rt; served.out.bytes(), b"".as_slice());

@@ -1,15 +1,15 @@
 -- What is kept of who stands in the cells, as one of them changes.
-use Rattle.std.proofs.Common.{◌≡◌, ◌∙◌, refl, sym, ap, subst, ℕ, zero, suc, ◌∷◌, ◌+◌, ◌<◌, ◌≤◌, ◌^◌, List, [], length, set, get_or, Option, Some, None, is_some, replicate, arith}
+use Rattle.std.proofs.Common.{◌≡◌, ◌∙◌, refl, sym, ap, subst, Result, Ok, Err, OnOk, ℕ, zero, suc, ◌∷◌, ◌+◌, ◌<◌, ◌≤◌, ◌^◌, List, [], length, set, get_or, Option, Some, None, is_some, replicate, arith}
 use Rattle.std.proofs.lemmas.List.{get_or-map, map-set, length-map, set-get_or}
-use Rattle.std.specs.Prelude.{slice_get}
+use Rattle.std.specs.Prelude.{OnErr, slice_get}
 use Rattle.std.proofs.lemmas.List.Sums.{count_by-le-length}
 use Rattle.census.specs.Changes.{CanAdd, CanRemove, genotype_with_one, genotype_without_one, with_organism, without_organism}
 use Rattle.census.specs.Counts.{Counts, genotype_at, living_of}
 use Rattle.instruction_set.specs.declared.letter.Letter.{Letter}
 use Rattle.world_rules.specs.World.{Occupant}
-use Rattle.world_core.specs.Population.{IsKeptOf, AreCountedIn, AreDifferent, AreSummedIn, genome_of, genomes_of, with_genome}
-use Rattle.world_core.proofs.GenomeLemmas.{OneList}
-use Rattle.world_core.proofs.StandingLemmas.{AreCountedIn-more, AreCountedIn-none, AreCountedIn-put, AreCountedIn-removed, some-counted}
+use Rattle.genotype_bank.specs.BankHistory.{different_of, with_genome}
+use Rattle.world_core.specs.Population.{IsKeptOf, AreCountedIn, AreDifferent, AreSummedIn, genome_of, genomes_of}
+use Rattle.world_core.proofs.StandingLemmas.{OneList, AreCountedIn-more, AreCountedIn-none, AreCountedIn-put, AreCountedIn-removed, some-counted}
 use Rattle.world_core.proofs.SumLemmas.{AreSummedIn-none, AreSummedIn-put, AreSummedIn-removed, credited-counted, merit-counted, merit-room, tasks-room}
 
 -- where nobody stands no genome does
@@ -31,6 +31,11 @@ IsKeptOf-none n cells genomes keys counts empty unnumbered long nothing few =
 -- the genome in a cell
 standing-at : (cells : List (Option Occupant)) (cell : ℕ) → cell < length cells → get_or (genomes_of cells) cell None ≡ genome_of (get_or cells cell None)
 standing-at cells cell within = get_or-map genome_of cells cell None None (omega (arith, within, length-map cells genome_of))
+
+-- the key of a cell is the number of the genome that stands there
+pub key-is : (cells : List (Option Occupant)) (genomes : List (List Letter)) (keys : List ℕ) (counts : Counts) (cell : ℕ) (o : Occupant) → cell < length cells → get_or cells cell None ≡ Some o → IsKeptOf cells genomes keys counts → slice_get genomes (get_or keys cell 0) ≡ Some o.organism.genome
+key-is cells genomes keys counts cell o within here kept =
+    kept.genotypes.keyed cell o.organism.genome (standing-at cells cell within ∙ ap genome_of here)
 
 module _ (one_list : OneList) (cells : List (Option Occupant)) (genomes : List (List Letter)) (keys : List ℕ) (before after : Counts) (cell : ℕ) (within : cell < length cells) where
   -- in an empty cell nobody dies
@@ -61,30 +66,35 @@ module _ (one_list : OneList) (cells : List (Option Occupant)) (genomes : List (
       sums = rw is (AreSummedIn-removed cells cell o before.merit before.tasks within here kept.sums);
     }
 
-  module _ (o : Occupant) (number : ℕ) (different : AreDifferent (with_genome genomes o.organism.genome)) (number_is : slice_get (with_genome genomes o.organism.genome) number ≡ Some o.organism.genome) (empty : get_or cells cell None ≡ None) (fits : o.organism.merit ≤ 2 ^ 38) (kept : IsKeptOf cells genomes keys before) where
-    more : AreCountedIn (genomes_of cells) (with_genome genomes o.organism.genome) keys before.genotypes
-    more = AreCountedIn-more one_list (genomes_of cells) genomes keys before.genotypes o.organism.genome different kept.genotypes
-
-    -- a genome more has a number, and nothing else is kept otherwise
-    pub IsKeptOf-numbered : IsKeptOf cells (with_genome genomes o.organism.genome) keys before
-    IsKeptOf-numbered = record { different = different; genotypes = more; sums = kept.sums }
-
+  module _ (o : Occupant) (number : ℕ) (number_is : slice_get genomes number ≡ Some o.organism.genome) (empty : get_or cells cell None ≡ None) (fits : o.organism.merit ≤ 2 ^ 38) (kept : IsKeptOf cells genomes keys before) where
     -- an organism may come into an empty cell
     pub can-add : CanAdd before number o.organism.genome o.organism.merit
     can-add = record {
-      one_genome = λ genotype at. (let some : Some genotype.genome ≡ Some o.organism.genome = sym (more.named number genotype at) ∙ number_is in cc);
-      one_key = λ other genotype at same. different other number o.organism.genome (more.named other genotype at ∙ ap Some same) number_is;
-      living = omega (arith, more.living, kept.sums.few, length-map cells genome_of, count_by-le-length is_some (genomes_of cells));
+      one_genome = λ genotype at. (let some : Some genotype.genome ≡ Some o.organism.genome = sym (kept.genotypes.named number genotype at) ∙ number_is in cc);
+      one_key = λ other genotype at same. kept.different other number o.organism.genome (kept.genotypes.named other genotype at ∙ ap Some same) number_is;
+      living = omega (arith, kept.genotypes.living, kept.sums.few, length-map cells genome_of, count_by-le-length is_some (genomes_of cells));
       merits = omega (arith, fits, merit-room cells before.merit before.tasks kept.sums);
       tasks = tasks-room cells before.merit before.tasks kept.sums;
     }
 
-    pub IsKeptOf-put : after ≡ with_organism before number o.organism.genome o.organism.merit o.organism.credited → ((other : ℕ) → genotype_at after.genotypes other ≡ genotype_with_one before.genotypes number o.organism.genome other) → living_of after.genotypes ≡ living_of before.genotypes + 1 → IsKeptOf (set cells cell (Some o)) (with_genome genomes o.organism.genome) (set keys cell number) after
+    pub IsKeptOf-put : after ≡ with_organism before number o.organism.genome o.organism.merit o.organism.credited → ((other : ℕ) → genotype_at after.genotypes other ≡ genotype_with_one before.genotypes number o.organism.genome other) → living_of after.genotypes ≡ living_of before.genotypes + 1 → IsKeptOf (set cells cell (Some o)) genomes (set keys cell number) after
     IsKeptOf-put is under living = record {
-      different = different;
-      genotypes = subst (λ (s : List (Option (List Letter))). AreCountedIn s (with_genome genomes o.organism.genome) (set keys cell number) after.genotypes) (sym (map-set genome_of cells cell (Some o))) (AreCountedIn-put one_list (genomes_of cells) (with_genome genomes o.organism.genome) keys before.genotypes after.genotypes cell number o.organism.genome different (omega (arith, within, length-map cells genome_of)) (standing-at cells cell within ∙ ap genome_of empty) number_is more under living);
+      different = kept.different;
+      genotypes = subst (λ (s : List (Option (List Letter))). AreCountedIn s genomes (set keys cell number) after.genotypes) (sym (map-set genome_of cells cell (Some o))) (AreCountedIn-put one_list (genomes_of cells) genomes keys before.genotypes after.genotypes cell number o.organism.genome kept.different (omega (arith, within, length-map cells genome_of)) (standing-at cells cell within ∙ ap genome_of empty) number_is kept.genotypes under living);
       sums = rw is (AreSummedIn-put cells cell o before.merit before.tasks within empty fits kept.sums);
     }
+
+-- a genome more has a number, or none where memory ran out, and nothing else is kept otherwise
+pub IsKeptOf-interned : {T E : Type 0} → OneList → (cells : List (Option Occupant)) (before after : List (List Letter)) (keys : List ℕ) (counts : Counts) (new : List Letter) (result : Result T E) → OnOk result (different_of after ≡ with_genome (different_of before) new) → OnErr result (after ≡ before) → AreDifferent (different_of after) → IsKeptOf cells (different_of before) keys counts → IsKeptOf cells (different_of after) keys counts
+IsKeptOf-interned one_list cells before after keys counts new (Ok value) more same different kept =
+    let apart : AreDifferent (with_genome (different_of before) new) = subst AreDifferent more different in
+    subst (λ (gs : List (List Letter)). IsKeptOf cells gs keys counts) (sym more) (record {
+      different = apart;
+      genotypes = AreCountedIn-more one_list (genomes_of cells) (different_of before) keys counts.genotypes new apart kept.genotypes;
+      sums = kept.sums;
+    })
+IsKeptOf-interned one_list cells before after keys counts new (Err error) more same different kept =
+    subst (λ (gs : List (List Letter)). IsKeptOf cells (different_of gs) keys counts) (sym same) kept
 
 -- all have lived
 pub IsKeptOf-lived : (cells next : List (Option Occupant)) (genomes : List (List Letter)) (keys : List ℕ) (before after : Counts) → IsKeptOf cells genomes keys before → after.genotypes ≡ before.genotypes → genomes_of next ≡ genomes_of cells → AreSummedIn next after.merit after.tasks → IsKeptOf next genomes keys after

@@ -11,6 +11,6 @@ mod KeptOfLemmas
 mod StatLemmas
 mod SumLemmas
 mod DescentLemmas
-mod DifferentLemmas
 mod EventLemmas
-mod GenomeLemmas
+mod GenotypeLemmas
+mod BankLemmas

@@ -1,6 +1,7 @@
 -- The genotypes that are counted, as one cell changes.
-use Rattle.std.proofs.Common.{◌≡◌, ◌∙◌, refl, sym, ap, subst, ℕ, zero, suc, ◌||◌, ◌+◌, ◌<◌, ◌≤◌, ◌≢◌, ◌⊎◌, Bool, true, false, cond, List, [], ◌∷◌, ◌++◌, length, set, get_or, get_or-set_same, get_or-set_other, Option, Some, None, is_some, replicate, arith, rules, inl, inr}
+use Rattle.std.proofs.Common.{◌≡◌, ◌∙◌, refl, sym, ap, subst, ℕ, zero, suc, ◌+◌, ◌<◌, ◌≤◌, ◌≢◌, ◌⊎◌, Bool, true, false, cond, List, [], ◌∷◌, ◌++◌, length, set, get_or, get_or-set_same, get_or-set_other, Option, Some, None, is_some, replicate, arith, rules, inl, inr}
 use Rattle.std.specs.Prelude.{IsSome, nat_lt, slice_get}
+use Rattle.std.specs.Bool.{Decides}
 use Rattle.std.specs.BTreeMap.{is_at}
 use Rattle.std.specs.List.{count_by, list_any}
 use Rattle.std.specs.Option.{option_map, unwrap_or}
@@ -18,9 +19,13 @@ use Rattle.census.specs.Counts.{GenotypeCount, genotype_at, living_of}
 use Rattle.census.specs.Changes.{count_under, genome_under, lowered, genotype_with_one, genotype_without_one}
 use Rattle.instruction_set.specs.declared.letter.Letter.{Letter}
 use Rattle.instruction_set.specs.Letter.{same_letters}
-use Rattle.world_core.specs.Population.{AreCountedIn, AreDifferent, is_genome, with_genome}
-use Rattle.world_core.proofs.GenomeLemmas.{OneList}
+use Rattle.genotype_bank.specs.BankHistory.{with_genome}
+use Rattle.world_core.specs.Population.{AreCountedIn, AreDifferent, is_genome}
 use Rattle.world_core.proofs.SumLemmas.{one}
+
+-- the test of two lists of letters tells which are one list
+abbrev pub OneList : Type 0
+OneList = (one other : List Letter) → Decides (same_letters one other) (one ≡ other)
 
 -- the cells in which a genome stands
 abbrev pub cells_of : List (Option (List Letter)) → List Letter → ℕ
@@ -238,39 +243,3 @@ module _ (one_list : OneList) where
       by : (found : Option GenotypeCount) → 0 < unwrap_or (option_map (λ (g : GenotypeCount). g.count) found) 0 → IsSome found
       by None some = absurd (omega (arith, some))
       by (Some g) some = search rules
-
-  -- a new genome stands behind others, and each still stands once
-  pub different-more : (genomes : List (List Letter)) (new : List Letter) → AreDifferent genomes → AreDifferent (with_genome genomes new)
-  different-more genomes new different = by (list_any (same_letters new) genomes) refl where
-    absent : (xs : List (List Letter)) (k : ℕ) → slice_get xs k ≡ Some new → list_any (same_letters new) xs ≡ true
-    absent [] k is = cc
-    absent (x ∷ xs) zero is =
-        let same : new ≡ x = cc in
-        ap (λ b. b || list_any (same_letters new) xs) ((one_list new x).1 same)
-    absent (x ∷ xs) (suc k) is = ap (λ b. same_letters new x || b) (absent xs k is) ∙ or_true (same_letters new x)
-      where
-        or_true : (b : Bool) → (b || true) ≡ true
-        or_true true = refl
-        or_true false = refl
-
-    pushed : (xs : List (List Letter)) (k : ℕ) (g : List Letter) → slice_get (xs ++ new ∷ []) k ≡ Some g → (slice_get xs k ≡ Some g) ⊎ ((k ≡ length xs) × (new ≡ g))
-    pushed [] zero g is = inr (refl, cc)
-    pushed [] (suc k) g is = cc
-    pushed (x ∷ xs) zero g is = inl is
-    pushed (x ∷ xs) (suc k) g is = elim (pushed xs k g is) [ inl front ↦ inl front | inr last ↦ inr (ap suc last.0, last.1) ]
-
-    clash : (b : Bool) → b ≡ true → b ≡ false → ⊥
-    clash b holds fails = cc
-
-    by : (b : Bool) → list_any (same_letters new) genomes ≡ b → AreDifferent (cond b genomes (genomes ++ new ∷ []))
-    by true found = different
-    by false missing = λ number other g is has. elim (pushed genomes number g is) [
-      | inl first ↦ elim (pushed genomes other g has) [
-        | inl second ↦ different number other g first second
-        | inr second ↦ absurd (clash (list_any (same_letters new) genomes) (absent genomes number (first ∙ ap Some (sym second.1))) missing)
-      ]
-      | inr first ↦ elim (pushed genomes other g has) [
-        | inl second ↦ absurd (clash (list_any (same_letters new) genomes) (absent genomes other (second ∙ ap Some (sym first.1))) missing)
-        | inr second ↦ first.0 ∙ sym second.0
-      ]
-    ]

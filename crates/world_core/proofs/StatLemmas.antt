@@ -18,6 +18,7 @@ use Rattle.std.proofs.lemmas.Map.Views.{Contains-from_lookup, lookup-from_Contai
 use Rattle.census.specs.Changes.{count_under}
 use Rattle.census.specs.Counts.{AreGenotypes, GenotypeCount, genotype_at}
 use Rattle.census.specs.Dominance.{HaveSameMembers}
+use Rattle.genotype_bank.specs.BankHistory.{HasEachOnce, different_of}
 use Rattle.instruction_set.specs.declared.letter.Letter.{Letter}
 use Rattle.instruction_set.specs.Letter.{same_letters}
 use Rattle.lineage_log.specs.Slots.{taken}
@@ -28,9 +29,7 @@ use Rattle.world_rules.specs.World.{Occupant, ids_of}
 use Rattle.world_rules.specs.Lives.{merit_in}
 use Rattle.world_rules.specs.Statistics.{counted_in, count_of, credited_with, genomes_in, genotypes_of, organisms_in}
 use Rattle.world_core.specs.Population.{AreCountedIn, genomes_of, is_credited, is_genome}
-use Rattle.world_core.proofs.DifferentLemmas.{IsDistinct-distinct, distinct, list_any-distinct}
-use Rattle.world_core.proofs.GenomeLemmas.{OneList}
-use Rattle.world_core.proofs.StandingLemmas.{cells_of}
+use Rattle.world_core.proofs.StandingLemmas.{OneList, cells_of}
 use Rattle.world_core.proofs.SumLemmas.{cells_with, one}
 
 -- the cells where somebody stands
@@ -172,16 +171,26 @@ module _ (one_list : OneList) where
     both false true forth back = back refl
     both false false forth back = refl
 
-    genotypes_of-is : (gs : List (List Letter)) → genotypes_of gs ≡ distinct same_letters one_list gs
+    genotypes_of-is : (gs : List (List Letter)) → genotypes_of gs ≡ different_of gs
     genotypes_of-is [] = refl
     genotypes_of-is (g ∷ gs) = ap (λ rest. g ∷ filter (λ other. not (same_letters g other)) rest) (genotypes_of-is gs)
 
+    -- the different genomes of the living stand apart
+    different-distinct : HasEachOnce (different_of (genomes_in cells)) (genomes_in cells) → IsDistinct same_letters (different_of (genomes_in cells))
+    different-distinct each =
+        IsDistinct-from_apart same_letters (different_of (genomes_in cells)) (λ i j d upward within. apart i j d upward within (same_letters (get_or (different_of (genomes_in cells)) i d) (get_or (different_of (genomes_in cells)) j d)) refl)
+      where
+        apart : (i j : ℕ) (d : List Letter) → i < j → j < length (different_of (genomes_in cells)) → (b : Bool) → same_letters (get_or (different_of (genomes_in cells)) i d) (get_or (different_of (genomes_in cells)) j d) ≡ b → b ≡ false
+        apart i j d upward within false is = refl
+        apart i j d upward within true is =
+            absurd (each.once i j d upward within ((one_list (get_or (different_of (genomes_in cells)) i d) (get_or (different_of (genomes_in cells)) j d)).0 is))
+
     -- as many keys as there are different genomes
-    pub genotype-number : length genotypes ≡ length (genotypes_of (genomes_in cells))
-    genotype-number =
+    pub genotype-number : HasEachOnce (different_of (genomes_in cells)) (genomes_in cells) → length genotypes ≡ length (genotypes_of (genomes_in cells))
+    genotype-number each =
         let decided : (x y : List Letter) → same_letters x y ≡ true → x ≡ y = λ x y. (one_list x y).0 in
         sym shown-long
-        ∙ length-from_same_keys letters-equal shown (distinct same_letters one_list (genomes_in cells)) shown-distinct (IsDistinct-distinct same_letters one_list (genomes_in cells))
+        ∙ length-from_same_keys letters-equal shown (different_of (genomes_in cells)) shown-distinct (different-distinct each)
         (λ q. both (list_any (same_letters q) shown) (list_any (same_letters q) (genomes_in cells))
         (λ found. (let has = Contains-from_any decided q shown found in
         let within : has.0 < length genotypes = omega (arith, has.1, shown-long) in
@@ -195,5 +204,7 @@ module _ (one_list : OneList) where
         let counted = is-counted q has in
         let entry = Contains-values_of genotypes counted.0 (counted_in (genomes_in cells) q) (Contains-from_lookup (tells_apart exact_unsigned) counted.0 (counted_in (genomes_in cells) q) genotypes counted.1) in
         list_any-from_Contains letters-equal q shown (entry.0, omega (arith, entry.1, length-map (values_of genotypes) (λ (g : GenotypeCount). g.genome)), get_or-map (λ (g : GenotypeCount). g.genome) (values_of genotypes) entry.0 (counted_in (genomes_in cells) q) q entry.1 ∙ ap (λ (g : GenotypeCount). g.genome) entry.2)))
-        ∙ sym (list_any-distinct same_letters one_list q (genomes_in cells)))
+        ∙ both (list_any (same_letters q) (genomes_in cells)) (list_any (same_letters q) (different_of (genomes_in cells)))
+        (λ found. list_any-from_Contains letters-equal q (different_of (genomes_in cells)) ((each.members q).1 (Contains-from_any decided q (genomes_in cells) found)))
+        (λ found. list_any-from_Contains letters-equal q (genomes_in cells) ((each.members q).0 (Contains-from_any decided q (different_of (genomes_in cells)) found))))
         ∙ ap length (sym (genotypes_of-is (genomes_in cells)))

@@ -15,7 +15,7 @@ use Rattle.world_core.specs.WorldValue.{IsWorldOf}
 one_more : (n : ℕ) → n + 1 ≡ suc n
 one_more n = omega arith
 
-world_after-more : (config : ConfigValues) (n : ℕ) → world_after config (n + 1) ≡ next_world config (world_after config n)
+pub world_after-more : (config : ConfigValues) (n : ℕ) → world_after config (n + 1) ≡ next_world config (world_after config n)
 unfolding world_after
 world_after-more config n = rw one_more refl
 

@@ -1,5 +1,6 @@
 pub use Rattle.birth_board.specs.Placement
 pub use Rattle.genome.specs.Genome
+pub use Rattle.genotype_bank.specs.BankHistory
 pub use Rattle.lineage_log.specs.LogGrammar
 pub use Rattle.mutations.specs.BirthRecord
 pub use Rattle.organism.specs.Newborns
@@ -18,5 +19,6 @@ pub use Rattle.world_rules.specs.Statistics
 pub use Rattle.world_rules.specs.LogText
 pub mod Soundness
 pub mod WorldValue
+pub mod Genotypes
 pub mod Population
 pub mod Happening

@@ -1,12 +1,8 @@
 -- What is kept of the living beside their cells (docs/WORLD.md, "Statistics").
-use Rattle.std.specs.Prelude.{◌≡◌, ℕ, ◌<◌, ◌≤◌, ◌^◌, Bool, false, All, List, [], ◌∷◌, ◌++◌, length, map, Option, None, Some, option_map, count_by, is_some, slice_get, slice_index, slice_index_or, slice_set, if◌then◌else◌}
-use Rattle.std.specs.List.{list_any, sum_by}
-use Rattle.std.specs.declared.alloc.Global.{Global}
-use Rattle.std.specs.declared.sync.Arc.{Arc}
+use Rattle.std.specs.Prelude.{◌≡◌, ℕ, ◌<◌, ◌≤◌, ◌^◌, Bool, false, All, List, length, map, Option, None, Some, option_map, count_by, is_some, slice_get, slice_index, slice_index_or, slice_set}
+use Rattle.std.specs.List.{sum_by}
 use Rattle.census.specs.Changes.{CanRenew, count_under}
 use Rattle.census.specs.Counts.{Counts, GenotypeCount, genotype_at, living_of}
-use Rattle.genome.specs.Genome.{letters}
-use Rattle.genome.specs.declared.genome.Genome.{Genome}
 use Rattle.instruction_set.specs.declared.letter.Letter.{Letter}
 use Rattle.instruction_set.specs.Letter.{same_letters}
 use Rattle.logic_tasks.specs.declared.task.Task.{Task}
@@ -15,14 +11,10 @@ use Rattle.logic_tasks.specs.TaskSet.{has_task}
 use Rattle.world_rules.specs.World.{Occupant}
 use Rattle.world_rules.specs.Lives.{merit_in}
 
--- the letters of these genomes
-abbrev pub letters_in : List (Arc Genome Global) → List (List Letter)
-letters_in genomes = map (λ genome. letters genome.value) genomes
-
--- a genome stands behind these, unless it is one of them
-abbrev pub with_genome : List (List Letter) → List Letter → List (List Letter)
-with_genome genomes genome =
-    if list_any (same_letters genome) genomes then genomes else genomes ++ genome ∷ []
+-- who stands in each cell, and the genomes that the bank has interned, in order
+pub record PopulationValue : Type 0 where
+  pub cells : List (Option Occupant)
+  pub interned : List (List Letter)
 
 -- each of these genomes stands once, so that its place is its number
 abbrev pub AreDifferent : List (List Letter) → Type 0

@@ -1,12 +1,15 @@
 -- What holds of the numbers of every world, so that none leaves its range (docs/WORLD.md, "The end of an update").
-use Rattle.std.specs.Prelude.{ℕ, ◌*◌, ◌<◌, ◌≤◌, ◌^◌, All, Option, None, Some, List, length, map}
+use Rattle.std.specs.Prelude.{◌≡◌, ℕ, ◌*◌, ◌<◌, ◌≤◌, ◌^◌, All, Option, None, Some, List, length, map}
 use Rattle.std.specs.List.Sorted.{IsNonDecreasing}
+use Rattle.lineage_log.specs.Links.{Link}
 use Rattle.organism.specs.declared.newborn.Newborn.{Newborn}
 use Rattle.organism.specs.Newborns.{MeritsFit, LengthsFit}
 use Rattle.organism.specs.OrganismState.{OrganismState}
 use Rattle.world_config.specs.Values.{ConfigValues}
 use Rattle.world_rules.specs.World.{Occupant}
 use Rattle.world_rules.specs.Update.{Delivery}
+use Rattle.world_core.specs.Genotypes.{genomes_ever}
+use Rattle.world_core.specs.Population.{PopulationValue}
 
 -- an organism after so many updates has no greater age and merit
 pub record IsBounded (update : ℕ) (o : OrganismState) : Type 0 where
@@ -21,6 +24,11 @@ IsBoundedIn update (Some o) = IsBounded update o.organism
 -- so has who stands in each cell
 abbrev pub AreBounded : ℕ → List (Option Occupant) → Type 0
 AreBounded update cells = All (IsBoundedIn update) cells
+
+-- the organisms of a scene are bounded, and the genomes of all that were ever in the world are what was interned, by id
+pub record IsSound (update : ℕ) (population : PopulationValue) (everyone : List Link) : Type 0 where
+  pub bounds : AreBounded update population.cells
+  pub genomes : population.interned ≡ genomes_ever everyone
 
 -- a newborn of a cell of the world, which fits its machine
 pub record IsDelivery (config : ConfigValues) (cells : ℕ) (d : Delivery) : Type 0 where

@@ -11,7 +11,6 @@ ghost use Rattle.world_rules.specs.Update.{placings_of, with_newborn, after_birt
 ghost use Rattle.world_rules.specs.World.{ids_of};
 ghost use Rattle.world_core.specs.Soundness.{IsDelivery, AreDeliveries};
 
-use crate::ancestor::Ancestor;
 use crate::delivery::Delivery;
 use crate::occupant::{Occupant, id_of};
 use crate::scene::Scene;
@@ -23,11 +22,12 @@ use log_lines::LogLine;
 use mutations::Origin;
 use organism::{Newborn, Organism};
 use std::alloc::Global;
-use std::sync::Arc;
+use std::sync::Wait;
 use world_config::Config;
 
 /// Places the newborns, with a line for each. After `Memory` drop the scene.
-pub(crate) fn place_births(
+pub(crate) fn place_births<R: Wait>(
+    rt: &R,
     alloc: Global,
     config: &Config,
     scene: &mut Scene,
@@ -48,7 +48,7 @@ pub(crate) fn place_births(
 {
     let placings = placings_of(alloc, config, scene, &births)?;
     for (birth, placing) in births.into_iter().zip(placings.into_vec()) {
-        settle(alloc, config, scene, birth, &placing, text)?;
+        settle(rt, alloc, config, scene, birth, &placing, text)?;
     }
     Ok(())
 }
@@ -95,7 +95,8 @@ fn board_of(alloc: Global, cells: &[Option<Occupant>]) -> Result<Occupants, Memo
 
 /// A newborn stands in the cell of its placing, with the next id, and has its line.
 #[tactic(auto, unfolding(world_rules::specs::Update::with_newborn, world_rules::specs::Scene::with_newcomer, organism::specs::OrganismState::new_organism))]
-fn settle(
+fn settle<R: Wait>(
+    rt: &R,
     alloc: Global,
     config: &Config,
     scene: &mut Scene,
@@ -127,24 +128,16 @@ fn settle(
     } = newborn;
     let cell = placing.cell;
     let origin = tell_birth(scene, parent, cell, origin, text)?;
-    let genome = Arc::new(alloc, genome)?;
+    let handle = scene.enroll(rt, alloc, Some(parent), cell, Some(origin), genome)?;
     let organism = Organism::found(
         alloc,
-        genome.clone()?,
+        handle.genome,
         placing.inputs,
         merit,
         credited,
         config.memory_limit,
     )?;
-    let ancestor = Ancestor {
-        id,
-        parent: Some(parent),
-        update: scene.update,
-        cell,
-        origin: Some(origin),
-        genome,
-    };
-    scene.come(ancestor, organism)
+    scene.come(id, cell, handle.number, organism)
 }
 
 /// Writes the line of a birth, and gives its record back.

@@ -11,8 +11,7 @@ ghost use Rattle.world_rules.specs.Scene.{cells_from, with_deaths};
 ghost use Rattle.world_rules.specs.Update.{after_events, after_what};
 ghost use Rattle.world_core.specs.Happening.{CanHappen};
 
-use crate::ancestor::Ancestor;
-use crate::founding::founder;
+use crate::founding::found_in;
 use crate::scene::Scene;
 use crate::telling::tell;
 use avida_port::Memory;
@@ -21,11 +20,12 @@ use log_lines::{LogLine, write_line};
 use mutations::RateName;
 use random_streams::CELLS;
 use std::alloc::Global;
-use std::sync::Arc;
+use std::sync::Wait;
 use world_config::{Config, MOST_EVENTS, What};
 
 /// The events of the scene's update in order, with their lines. After `Memory` drop the scene.
-pub(crate) fn happen(
+pub(crate) fn happen<R: Wait>(
+    rt: &R,
     alloc: Global,
     config: &Config,
     scene: &mut Scene,
@@ -42,14 +42,15 @@ pub(crate) fn happen(
     let update = scene.update;
     for (at, event) in config.event.as_slice().iter().enumerate() {
         if event.update == update {
-            occur(alloc, config, scene, at as u32 + 1, &event.what, text)?;
+            occur(rt, alloc, config, scene, at as u32 + 1, &event.what, text)?;
         }
     }
     Ok(())
 }
 
 /// What an event does, given its place in the list from 1, with its lines.
-fn occur(
+fn occur<R: Wait>(
+    rt: &R,
     alloc: Global,
     config: &Config,
     scene: &mut Scene,
@@ -69,15 +70,15 @@ fn occur(
     ensures everyone { OnOk result (length scene.new.everyone ≤ length scene.old.everyone + 1) }
 {
     match what {
-        What::Inject { cell, genome } => inject(alloc, config, scene, nth, *cell, genome, text),
+        What::Inject { cell, genome } => inject(rt, alloc, config, scene, nth, *cell, genome, text),
         What::Clear { first, last } => clear(scene, *first, *last, text),
         What::Rate { name, ppm } => tell_rate(scene, *name, *ppm, text),
     }
 }
 
 /// An organism of this genome stands in the cell, and who stood there dies.
-#[tactic(auto, unfolding(world_rules::specs::Scene::with_newcomer, world_rules::specs::World::founder_of, organism::specs::OrganismState::new_organism))]
-fn inject(
+fn inject<R: Wait>(
+    rt: &R,
     alloc: Global,
     config: &Config,
     scene: &mut Scene,
@@ -98,17 +99,7 @@ fn inject(
     ensures everyone { OnOk result (length scene.new.everyone ≡ length scene.old.everyone + 1) }
 {
     let genome = tell_injection(scene, cell, genome.copy(alloc)?, text)?;
-    let genome = Arc::new(alloc, genome)?;
-    let organism = founder(alloc, config, cell, nth, genome.clone()?)?;
-    let ancestor = Ancestor {
-        id: scene.next_id(),
-        parent: None,
-        update: scene.update,
-        cell,
-        origin: None,
-        genome,
-    };
-    scene.come(ancestor, organism)
+    found_in(rt, alloc, config, scene, nth, cell, genome)
 }
 
 /// The line of an injection; the genome comes back from it.

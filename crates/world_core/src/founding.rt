@@ -1,13 +1,13 @@
 // Founders: the configuration's own, and those that events inject.
-ghost use Rattle.std.specs.Prelude.{◌≡◌, ◌+◌, ◌*◌, ◌^◌, ◌<◌, ◌≤◌, [], IfOk, length};
+ghost use Rattle.std.specs.Prelude.{◌≡◌, ◌+◌, ◌*◌, ◌^◌, ◌<◌, ◌≤◌, [], IfOk, OnOk, length};
 ghost use Rattle.genome.specs.Genome.{letters};
 ghost use Rattle.logic_tasks.specs.Inputs.{inputs_of};
 ghost use Rattle.random_streams.specs.RandomStream.{after};
 ghost use Rattle.world_config.specs.Shown.{values_of};
-ghost use Rattle.world_rules.specs.World.{founder_of, founder_words, first_world};
+ghost use Rattle.world_rules.specs.Scene.{next_id, with_newcomer};
+ghost use Rattle.world_rules.specs.World.{founder_link, founder_of, founder_words, first_world};
 ghost use Rattle.world_rules.specs.Update.{world_of};
 
-use crate::ancestor::Ancestor;
 use crate::population::Population;
 use crate::scene::Scene;
 use avida_port::Memory;
@@ -16,12 +16,12 @@ use logic_tasks::{Inputs, Tasks};
 use organism::Organism;
 use random_streams::{CELLS, Draws, Purpose};
 use std::alloc::Global;
-use std::sync::Arc;
+use std::sync::{Arc, Wait};
 use world_config::{Config, MOST_EVENTS};
 
 /// Founder number `nth` of a run, in this cell.
 #[tactic(auto, unfolding(world_rules::specs::World::founder_of))]
-pub(crate) fn founder(
+fn founder(
     alloc: Global,
     config: &Config,
     cell: u32,
@@ -70,32 +70,58 @@ fn pass_over(draws: &mut Draws, words: u32)
     }
 }
 
+/// Founder number `nth` of a run stands in the cell, and who stood there dies. After `Memory` drop the
+/// scene.
+#[tactic(auto, unfolding(world_rules::specs::Scene::with_newcomer, world_rules::specs::World::founder_of, organism::specs::OrganismState::new_organism))]
+pub(crate) fn found_in<R: Wait>(
+    rt: &R,
+    alloc: Global,
+    config: &Config,
+    scene: &mut Scene,
+    nth: u32,
+    cell: u32,
+    genome: Genome,
+) -> Result<(), Memory>
+    requires cells { length scene.old.cells ≤ CELLS }
+    requires cell { cell < length scene.old.cells }
+    requires nth { nth ≤ MOST_EVENTS }
+    requires genome { length (letters genome) ≤ config.now.greatest_length }
+    ensures scene { OnOk result (scene.new ≡ with_newcomer scene.old
+        (founder_link (next_id scene.old) scene.old.update cell (letters genome))
+        (founder_of (values_of config.now) cell nth (letters genome))) }
+    ensures size { OnOk result (length scene.new.cells ≡ length scene.old.cells) }
+    ensures everyone { OnOk result (length scene.new.everyone ≡ length scene.old.everyone + 1) }
+{
+    let id = scene.next_id();
+    let handle = scene.enroll(rt, alloc, None, cell, None, genome)?;
+    let organism = founder(alloc, config, cell, nth, handle.genome)?;
+    scene.come(id, cell, handle.number, organism)
+}
+
 /// The scene of update 0: the configuration's founder alone.
-#[tactic(auto, unfolding(world_rules::specs::World::first_world, world_rules::specs::World::founder_of, world_rules::specs::Scene::with_newcomer, organism::specs::OrganismState::new_organism))]
-pub(crate) fn first_scene(alloc: Global, config: &Config) -> Result<Scene, Memory>
+#[tactic(auto, unfolding(world_rules::specs::World::first_world, world_rules::specs::Scene::with_newcomer))]
+pub(crate) fn first_scene<R: Wait>(rt: &R, alloc: Global, config: &Config) -> Result<Scene, Memory>
     ensures world { IfOk result (λ scene. world_of scene ≡ first_world (values_of config.now)) }
     ensures size { IfOk result
         (λ scene. length scene.cells ≡ config.now.width * config.now.height) }
     ensures nobody { IfOk result (λ scene. scene.gone ≡ []) }
     ensures one { IfOk result (λ scene. length scene.everyone ≡ 1) }
 {
-    let genome = Arc::new(alloc, config.ancestor.copy(alloc)?)?;
-    let cell = config.founder_cell;
-    let organism = founder(alloc, config, cell, 0, genome.clone()?)?;
+    let genome = config.ancestor.copy(alloc)?;
     let mut scene = Scene {
         update: 0,
         cells: Population::none(alloc, config.width * config.height)?,
         everyone: Vec::new(alloc),
         gone: Vec::new(alloc),
     };
-    let ancestor = Ancestor {
-        id: 0,
-        parent: None,
-        update: 0,
-        cell,
-        origin: None,
+    found_in(
+        rt,
+        alloc,
+        config,
+        &mut scene,
+        0,
+        config.founder_cell,
         genome,
-    };
-    scene.come(ancestor, organism)?;
+    )?;
     Ok(scene)
 }

@@ -1,20 +1,23 @@
-// The numbers of genomes.
-ghost use Rattle.std.specs.Prelude.{◌≡◌, [], Some, IfOk, OnErr, OnOk, slice_get};
+// The numbers of genotypes.
+ghost use Rattle.std.specs.Prelude.{◌≡◌, ◌+◌, ◌<◌, ◌^◌, ◌++◌, ◌∷◌, [], Some, IfOk, OnErr, OnOk, length, slice_get, nat_lt, if◌then◌else◌};
 ghost use Rattle.genome.specs.Genome.{letters};
-ghost use Rattle.world_core.specs.Population.{AreDifferent, with_genome};
+ghost use Rattle.genotype_bank.specs.BankHistory.{different_of, with_genome};
+ghost use Rattle.world_core.specs.Population.{AreDifferent};
 
 use avida_port::Memory;
 use genome::Genome;
-use indexmap::IndexSet;
-use instruction_set::laws::one_index;
+use genotype_bank::laws::{calls_number_genotypes, numbers_agree};
+use genotype_bank::{Bank, Handle, Seat};
 use std::alloc::Global;
 use std::marker::Model;
-use std::sync::Arc;
+use std::sync::Wait;
 
-/// The different genomes that were ever numbered, in order. The number of a genome is its place among them.
+/// A bank with its one seat, which is whole. Contracts see the genomes that were interned, in order.
 #[derive(Drop)]
 pub(crate) struct Genotypes {
-    genomes: IndexSet<Arc<Genome, Global>>,
+    bank: Bank,
+    seat: Seat,
+    len: u64,
 }
 
 impl Model for Genotypes {
@@ -23,34 +26,61 @@ impl Model for Genotypes {
 
     ghost Value = { List (List Letter) };
 
-    ghost use Rattle.world_core.specs.Population.{AreDifferent, letters_in};
+    ghost use Rattle.std.specs.Prelude.{◌≡◌, length};
+    ghost use Rattle.genotype_bank.specs.BankHistory.{genomes_of, genotypes_of};
+    ghost use Rattle.genotype_bank.specs.Seats.{all_shares};
 
-    ghost view = { λ g. letters_in g.genomes.keys };
+    ghost view = { λ g. genomes_of g.seat.seen };
 
-    ghost invariant = { λ g. AreDifferent (letters_in g.genomes.keys) };
+    ghost invariant = { λ g. (g.seat.bank ≡ g.bank) × (g.seat.share ≡ all_shares)
+        × (g.len ≡ length (genotypes_of g.seat.seen)) };
 }
 
 impl Genotypes {
-    /// No genome has a number yet.
-    pub(crate) fn none(alloc: Global) -> Genotypes
-        ensures { result ≡ [] }
+    /// Nothing was interned yet.
+    pub(crate) fn none(alloc: Global) -> Result<Genotypes, Memory>
+        ensures { IfOk result (λ genotypes. genotypes ≡ []) }
     {
-        Genotypes {
-            genomes: IndexSet::new(alloc),
-        }
+        let (bank, seat) = Bank::start(alloc)?;
+        Ok(Genotypes { bank, seat, len: 0 })
     }
 
-    /// The number of a genome, which it keeps: two numbers are equal exactly where the genomes are.
-    pub(crate) fn number(&mut self, genome: &Arc<Genome, Global>) -> Result<u64, Memory>
-        ensures number { IfOk result
-            (λ number. slice_get self.new number ≡ Some (letters genome.now.value)) }
-        ensures genomes { OnOk result
-            (self.new ≡ with_genome self.old (letters genome.now.value)) }
-        ensures different { AreDifferent self.new }
+    /// Interns a genome. It may wait, as each call of a bank, but nobody else has a seat.
+    pub(crate) fn intern<R: Wait>(
+        &mut self,
+        rt: &R,
+        alloc: Global,
+        genome: Genome,
+    ) -> Result<Handle, Memory>
+        ensures ok { OnOk result (self.new ≡ self.old ++ letters genome ∷ []) }
         ensures err { OnErr result (self.new ≡ self.old) }
+        ensures genome { IfOk result (λ handle. letters handle.genome.value ≡ letters genome) }
+        ensures number { IfOk result
+            (λ handle. slice_get (different_of self.new) handle.number ≡ Some (letters genome)) }
+        ensures genotypes { OnOk result
+            (different_of self.new ≡ with_genome (different_of self.old) (letters genome)) }
+        ensures different { AreDifferent (different_of self.new) }
     {
-        one_index();
-        let (number, _) = self.genomes.insert_full(Arc::try_clone(genome)?)?;
-        Ok(number as u64)
+        calls_number_genotypes();
+        numbers_agree();
+        let handle = self.bank.intern(rt, alloc, &mut self.seat, genome)?;
+        self.len = len_with(self.len, handle.number);
+        Ok(handle)
     }
+
+    /// How many genotypes have a number.
+    pub(crate) fn len(&self) -> u64
+        ensures { result ≡ length (different_of self.now) }
+    {
+        self.len
+    }
+}
+
+/// How many genotypes have a number once this one was given: it is one of the `len` so far, or the
+/// next.
+fn len_with(len: u64, number: u64) -> u64
+    requires { number < 2 ^ 63 }
+    ensures { result ≡ (if nat_lt number len then len else number + 1) }
+{
+    if number < len { len } else { number + 1 }
 }

@@ -16,11 +16,13 @@ use crate::scene::Scene;
 use avida_port::Memory;
 use log_lines::{LogLine, Stats, write_line};
 use std::alloc::Global;
+use std::sync::Wait;
 use world_config::{Config, GREATEST_UPDATES};
 
 /// The scene at the end of the next update, what is counted of it, and its lines.
 #[tactic(auto, unfolding(world_rules::specs::Update::next_scene, world_rules::specs::Update::scene_of_lives, world_rules::specs::Update::last_scene, world_rules::specs::Update::after_burials, world_rules::specs::LogText::update_lines, world_rules::specs::LogText::lines_of_lives, world_rules::specs::Statistics::next_stats), using(crate::proofs::UpdateLemmas::joined))]
-pub(crate) fn next_scene(
+pub(crate) fn next_scene<R: Wait>(
+    rt: &R,
     alloc: Global,
     config: &Config,
     scene: Scene,
@@ -42,8 +44,8 @@ pub(crate) fn next_scene(
     let births = lived.births.len() as u64;
     let mut text = Vec::new(alloc);
     bury(&mut scene, &lived.dead, &mut text)?;
-    place_births(alloc, config, &mut scene, lived.births, &mut text)?;
-    happen(alloc, config, &mut scene, &mut text)?;
+    place_births(rt, alloc, config, &mut scene, lived.births, &mut text)?;
+    happen(rt, alloc, config, &mut scene, &mut text)?;
     let stats = scene.stats(births);
     write_line(&LogLine::Count(stats), &mut text)?;
     Ok((scene, stats, text))

@@ -1,12 +1,15 @@
 // A world.
-ghost use Rattle.std.specs.Prelude.{◌≡◌, ◌+◌, ◌*◌, ◌<◌, ◌≤◌, IfOk, option_map};
+ghost use Rattle.std.specs.Prelude.{◌≡◌, ◌+◌, ◌*◌, ◌<◌, ◌≤◌, IfOk, Some, length, option_map, slice_get};
+ghost use mathlib.Core.List.{IsPrefix};
 ghost use Rattle.genome.specs.Genome.{letters};
+ghost use Rattle.genotype_bank.specs.BankHistory.{HasEachOnce};
 ghost use Rattle.log_lines.specs.Line as line_spec;
 ghost use Rattle.log_lines.specs.LineText.{line_text};
 ghost use Rattle.world_config.specs.Shown.{values_of};
 ghost use Rattle.world_rules.specs.Descent.{line_in};
 ghost use Rattle.world_rules.specs.LogText.{head_text, update_text, end_text};
 ghost use Rattle.world_rules.specs.Statistics.{stats_of};
+ghost use Rattle.world_core.specs.Genotypes.{bank_in, genomes_ever};
 ghost use Rattle.world_core.specs.WorldValue.{WorldValue, world_in, genome_in};
 
 use crate::descent::descent_in;
@@ -16,11 +19,12 @@ use crate::scene::Scene;
 use crate::updating::next_scene;
 use avida_port::{Gate, Memory};
 use genome::Genome;
+use genotype_bank::laws::{calls_number_genotypes, genotypes_are_what_was_interned};
 use lineage_log::Path;
 use log_lines::{LAST_VERSION, LogLine, Stats, write_line};
 use std::alloc::Global;
 use std::marker::Model;
-use std::sync::Arc;
+use std::sync::{Arc, Wait};
 use world_config::Config;
 use world_rules::laws::ids_are_places;
 
@@ -44,14 +48,20 @@ impl Model for World {
 }
 
 impl World {
-    /// The world of update 0: the configuration's founder alone.
+    /// The world of update 0: the configuration's founder alone. It may wait, since it interns the
+    /// founder's genome.
     #[tactic(auto, unfolding(world_rules::specs::WorldRun::world_after, world_rules::specs::World::first_world, world_rules::specs::Statistics::stats_of))]
-    pub fn found(alloc: Global, config: Config, workers: u32) -> Result<World, Memory>
+    pub fn found<R: Wait>(
+        rt: &R,
+        alloc: Global,
+        config: Config,
+        workers: u32,
+    ) -> Result<World, Memory>
         requires workers { (1 ≤ workers) × (workers ≤ 64) }
         ensures { IfOk result (λ world. world ≡ record { config = values_of config; update = 0 }) }
     {
         let _ = workers;
-        let scene = first_scene(alloc, &config)?;
+        let scene = first_scene(rt, alloc, &config)?;
         let config = Arc::new(alloc, config)?;
         let stats = scene.stats(0);
         Ok(World {
@@ -61,9 +71,11 @@ impl World {
         })
     }
 
-    /// One update, and its lines. After `Memory` no world is left.
-    pub fn advance<G: Gate + Sync>(
+    /// One update, and its lines. After `Memory` no world is left. It may wait, since it interns the
+    /// genomes of the newborns and of the injected.
+    pub fn advance<R: Wait, G: Gate + Sync>(
         self,
+        rt: &R,
         alloc: Global,
         gate: &G,
     ) -> Result<(World, Vec<u8>), Memory>
@@ -71,10 +83,13 @@ impl World {
         ensures world { IfOk result (λ next. next.0 ≡ record self { update = self.update + 1 }) }
         ensures text { IfOk result
             (λ next. next.1.items ≡ update_text self.config (self.update + 1)) }
+        ensures bank { IfOk result
+            (λ next. IsPrefix (bank_in (world_in self)) (bank_in (world_in next.0))) }
     {
+        calls_number_genotypes();
         let _ = gate;
         let World { config, scene, .. } = self;
-        let (scene, stats, text) = next_scene(alloc, &config, scene)?;
+        let (scene, stats, text) = next_scene(rt, alloc, &config, scene)?;
         let world = World {
             config,
             scene,
@@ -123,6 +138,17 @@ impl World {
         self.config.width * self.config.height
     }
 
+    /// The number of different genomes of all founders so far and of all births. The bank has each
+    /// of them once.
+    pub fn bank_len(&self) -> u64
+        ensures len { result ≡ length (bank_in (world_in self.now)) }
+        ensures each { HasEachOnce (bank_in (world_in self.now))
+            (genomes_ever (world_in self.now).everyone) }
+    {
+        genotypes_are_what_was_interned();
+        self.scene.bank_len()
+    }
+
     /// What is counted after this update.
     pub fn stats(&self) -> Stats
         ensures { result ≡ stats_of self.now.config self.now.update }
@@ -159,6 +185,16 @@ impl World {
             Some(occupant) => Some(occupant.organism.genome()),
             None => None,
         }
+    }
+
+    /// The number of the genome of who stands in the cell, which is its place in the bank; None
+    /// exactly where it is empty.
+    pub fn handle_at(&self, cell: u32) -> Option<u64>
+        requires { cell < self.now.config.width * self.now.config.height }
+        ensures { option_map (λ number. slice_get (bank_in (world_in self.now)) number) result
+            ≡ option_map (λ genome. Some genome) (genome_in (world_in self.now) cell) }
+    {
+        self.scene.number_at(cell)
     }
 
     /// The line of who stands in the cell, its founder first; `Ok(None)` exactly where it is empty.

@@ -18,7 +18,7 @@ use Rattle.world_core.proofs.ScanLemmas.{lines-step}
 use Rattle.world_core.proofs.births.place_births.Goals as goal
 
 pub loop-birth-preserved : goal.loop-birth-preserved
-loop-birth-preserved c =
+loop-birth-preserved g c =
     let config = values_of c.args.config.now in
     let first = c.args.scene.now in
     let births = c.args.births.items in
@@ -45,7 +45,7 @@ loop-birth-preserved c =
 
 pub returns : goal.returns
 unfolding after_births
-returns c =
+returns g c =
     let config = values_of c.args.config.now in
     let first = c.args.scene.now in
     let births = c.args.births.items in

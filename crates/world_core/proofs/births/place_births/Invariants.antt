@@ -8,7 +8,7 @@ use Rattle.world_core.proofs.births.place_births.Given as goal
 
 -- the newborns so far stand in their cells and are told
 abbrev pub invariant-loop-birth : goal.invariant-loop-birth
-invariant-loop-birth l =
+invariant-loop-birth g l =
     let config = values_of l.config in
     let turns = take (length l.yielded) (turns_of config l.fn.scene l.fn.births.items) in
     record {

@@ -7,7 +7,7 @@ use Rattle.world_core.proofs.events.happen.Goals.{then-event-update+in_ok-occur,
 use Rattle.world_core.proofs.events.happen.Goals as goal
 
 pub loop-at-init : goal.loop-at-init
-loop-at-init c =
+loop-at-init g c =
     let first = c.args.scene.now in
     let start = c.args.text.now.items in
     record {
@@ -17,7 +17,7 @@ loop-at-init c =
     }
 
 pub occur-requires-clause-fits : goal.occur-requires-clause-fits
-occur-requires-clause-fits c =
+occur-requires-clause-fits g c =
     let config = c.args.config.now in
     let at = c.loop-at.at in
     let event = c.event-item.result in
@@ -26,7 +26,7 @@ occur-requires-clause-fits c =
     subst (λ cells. CanHappen cells config.greatest_length (what_value event.what)) (sym (c.loop-at.invariant.size ∙ c.requires.size)) (event-can_happen config at event within (c.event-item.is ∙ ap (λ events. get_or events at event) events))
 
 pub loop-at-preserved : goal.loop-at-preserved
-loop-at-preserved c =
+loop-at-preserved g c =
     let config = c.args.config.now in
     let at = c.loop-at.at in
     let event = c.event-item.result in

@@ -4,7 +4,7 @@ use Rattle.world_core.proofs.events.happen.Given as goal
 
 -- the events so far have happened and are told
 abbrev pub invariant-loop-at : goal.invariant-loop-at
-invariant-loop-at l = record {
+invariant-loop-at g l = record {
   way : IsOnTheWay l.config l.update l.at l.fn.scene l.scene l.fn.text.items l.text.items;
   size : length l.scene.cells ≡ length l.fn.scene.cells;
   everyone : length l.scene.everyone ≤ length l.fn.scene.everyone + l.at;

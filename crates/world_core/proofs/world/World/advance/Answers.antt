@@ -2,6 +2,7 @@ use Rattle.std.proofs.Common.{ap, arith, subst}
 use Rattle.world_config.specs.Values.{ConfigValues}
 use Rattle.world_core.specs.WorldValue.{WorldValue}
 use Rattle.world_config.specs.Shown.{values_of}
+use Rattle.world_core.proofs.BankLemmas.{bank-grows}
 use Rattle.world_core.proofs.WorldLemmas.{IsNext, next_world_is, next_text_is}
 use Rattle.world_core.proofs.world.World.advance.Goals as goal
 
@@ -21,3 +22,7 @@ invariant_of-world g c =
 pub returns-clause-text : goal.returns-clause-text
 returns-clause-text g c =
     rw (← c.self.view_is) (next_text_is (values_of c.self.inside.config.value) c.self.inside.scene c.self.inside.stats c.in_ok-scene.text.items c.self.invariant (rw (ap values_of c.deref.ensures) at c.in_ok-scene.ensures.text))
+
+pub returns-clause-bank : goal.returns-clause-bank
+returns-clause-bank g c =
+    rw (← c.self.view_is) (bank-grows c.calls_number_genotypes.ensures.fronts (values_of c.self.inside.config.value) c.self.inside.scene.update c.in_ok-scene.scene.update c.in_ok-scene.ensures.update)
