@@ -43,24 +43,3 @@ fn organisms_come_and_go(rt: HostRuntime) -> Result<(), Fail> {
     assert!(rt; census.dominant()?.is_none());
     Ok(())
 }
-
-#[test]
-fn the_least_of_the_most_frequent_is_dominant(rt: HostRuntime) -> Result<(), Fail> {
-    let alloc = rt.alloc();
-    let mut census = Census::start(alloc);
-    let cases: [(u64, &[u8], u64, &[u8]); 6] = [
-        (4, b"mmmmmmmm", 1, b"mmmmmmmm"),
-        (1, b"zzzzzzzz", 1, b"mmmmmmmm"),
-        (9, b"mmmmmmma", 1, b"mmmmmmma"),
-        (2, b"aaaaaaaa", 1, b"aaaaaaaa"),
-        (7, b"ccccccccc", 1, b"aaaaaaaa"),
-        (7, b"ccccccccc", 2, b"ccccccccc"),
-    ];
-    for (key, letters, count, expected) in cases {
-        census.add(key, &genome_of(alloc, letters)?, 8, Tasks::none())?;
-        let found = census.dominant()?.ok_or("nothing is dominant")?;
-        assert_eq!(rt; found.count, count, "at {key}");
-        assert!(rt; found.genome == genome_of(alloc, expected)?, "at {key}");
-    }
-    Ok(())
-}

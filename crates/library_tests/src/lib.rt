@@ -2,8 +2,6 @@
 #![tactic(auto)]
 
 #[cfg(test)]
-mod banks;
-#[cfg(test)]
 mod births;
 #[cfg(test)]
 mod boards;
@@ -31,8 +29,6 @@ mod numbers;
 mod organisms;
 #[cfg(test)]
 mod ports;
-#[cfg(test)]
-mod publications;
 #[cfg(test)]
 mod streams;
 #[cfg(test)]
