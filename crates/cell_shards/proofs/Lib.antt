@@ -1,0 +1,5 @@
+mod ShardLemmas
+mod PartLemmas
+mod LivesLemmas
+mod InterningLemmas
+mod FinishLemmas

@@ -1,0 +1,78 @@
+-- What the jobs of an update come to (docs/ARCHITECTURE.md, "Shards").
+use Rattle.std.specs.Prelude.{◌≡◌, ℕ, ◌+◌, ◌<◌, ◌≤◌, ◌^◌, ◌++◌, All, List, Some, length, map, slice_get, slice_index_or}
+use mathlib.Core.List.{IsPrefix}
+use Rattle.genome.specs.Genome.{letters}
+use Rattle.genotype_bank.specs.BankHistory.{genotypes_of}
+use Rattle.genotype_bank.specs.Seats.{SeatValue, own_calls_of}
+use Rattle.genotype_bank.specs.declared.view.Call.{Call}
+use Rattle.genotype_bank.specs.declared.view.Call.TheVariants.{Interned}
+use Rattle.genotype_bank.specs.declared.view.Entry.{Entry}
+use Rattle.instruction_set.specs.declared.letter.Letter.{Letter}
+use Rattle.mutations.specs.BirthRecord.{record_of}
+use Rattle.cell_shards.specs.CellLives.{BirthValue, IsYoung, Part, RoundNumbers, births_from, deaths_from, left_in, lives_of, part_from}
+use Rattle.cell_shards.specs.declared.delivered.Delivered.{Delivered}
+use Rattle.cell_shards.specs.declared.finished.Finished.{Finished}
+use Rattle.cell_shards.specs.declared.job.Job.{Job}
+
+-- the cells of a job
+abbrev pub part_of : Job → Part
+part_of job = part_from job.first job.cells job.slices
+
+-- the cells of a job are in a world, each has few steps, and no organism is too old for another update
+pub record CanRun (job : Job) : Type 0 where
+  pub within : job.first + length job.cells ≤ 65536
+  pub each : length job.slices ≡ length job.cells
+  pub few : All (λ steps. steps < 2 ^ 27) job.slices
+  pub young : All IsYoung job.cells
+
+-- the letters of a delivered newborn's genome
+abbrev pub genome_in : Delivered → List Letter
+genome_in d = letters d.handle.genome.value
+
+-- the newborn that is delivered, with its parent's cell
+abbrev pub birth_of : Delivered → BirthValue
+birth_of d = record {
+  cell = d.cell;
+  newborn = record {
+    nth = d.nth;
+    genome = genome_in d;
+    origin = record_of d.origin;
+    merit = d.merit;
+    credited = d.credited;
+  };
+}
+
+-- the call that interns a newborn's genome
+abbrev pub call_for : Delivered → Call
+call_for d = Interned (genome_in d)
+
+-- a handle's number is its genome's place among the genotypes of this history
+pub record IsNumbered (history : List Entry) (d : Delivered) : Type 0 where
+  pub place : slice_get (genotypes_of history) d.handle.number ≡ Some (genome_in d)
+  pub small : d.handle.number < 2 ^ 63
+
+-- a seat has seen what it had seen and more, its own calls are those that it had and then those that
+-- interned these newborns' genomes, in their order, and its bank and its share are what they were
+pub record HasInterned (old new : SeatValue) (births : List Delivered) : Type 0 where
+  pub bank : new.bank ≡ old.bank
+  pub share : new.share ≡ old.share
+  pub seen : IsPrefix old.seen new.seen
+  pub calls : List Entry
+  pub own : own_calls_of new ≡ own_calls_of old ++ calls
+  pub interned : map (λ call. call.call) calls ≡ map call_for births
+  pub numbers : All (IsNumbered new.seen) births
+
+-- a job's cells have lived, the dead have left them, its newborns are delivered, and its seat has
+-- interned them
+pub record IsFinished (round : RoundNumbers) (job : Job) (finished : Finished) : Type 0 where
+  pub first : finished.first ≡ job.first
+  pub cells : finished.cells ≡ map left_in (lives_of round (part_of job))
+  pub births : map birth_of finished.births ≡ births_from job.first (lives_of round (part_of job))
+  pub dead : finished.dead ≡ deaths_from job.first (lives_of round (part_of job))
+  pub seat : HasInterned job.seat finished.seat finished.births
+
+-- all jobs are finished, in their order
+pub record AreFinished (round : RoundNumbers) (jobs : List Job) (all : List Finished) : Type 0 where
+  pub count : length all ≡ length jobs
+  pub each : (place : ℕ) (job : Job) (end : Finished) → place < length jobs
+      → IsFinished round (slice_index_or jobs place job) (slice_index_or all place end)

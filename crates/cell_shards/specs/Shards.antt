@@ -1,0 +1,18 @@
+-- How the cells of a world are cut into shards (docs/ARCHITECTURE.md, "Shards").
+use Rattle.std.specs.Prelude.{ℕ, ◌+◌, ◌*◌, ◌/◌, ◌<◌, ◌≤◌}
+
+-- the first cell of a shard; behind the last shard, the number of cells
+abbrev pub first_cell : ℕ → ℕ → ℕ → ℕ
+first_cell cells workers shard = cells * shard / workers
+
+-- a shard has the cells from the first number up to, and without, the second
+abbrev pub bounds_of : ℕ → ℕ → ℕ → ℕ × ℕ
+bounds_of cells workers shard = (
+  first_cell cells workers shard,
+  first_cell cells workers (shard + 1),
+)
+
+-- a cell is in a shard
+pub record IsInShard (cells workers shard cell : ℕ) : Type 0 where
+  pub from : first_cell cells workers shard ≤ cell
+  pub before : cell < first_cell cells workers (shard + 1)

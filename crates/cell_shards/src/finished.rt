@@ -1,0 +1,17 @@
+use crate::delivered::Deliveries;
+use crate::job::Cells;
+use avida_port::Items;
+use genotype_bank::Seat;
+
+/// The cells whose organism died of age, rising.
+pub type Dead = Items<u32>;
+
+/// A shard after an update: its cells without the dead, its newborns, its dead, and its seat.
+#[derive(Drop)]
+pub struct Finished {
+    pub first: u32,
+    pub cells: Cells,
+    pub births: Deliveries,
+    pub dead: Dead,
+    pub seat: Seat,
+}

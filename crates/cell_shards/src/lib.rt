@@ -1,0 +1,20 @@
+//! The cells of a world in shards, each run by a thread of its own.
+#![tactic(auto)]
+
+mod cell_birth;
+mod delivered;
+mod delivering;
+mod finished;
+mod job;
+pub mod laws;
+mod lives;
+mod round;
+mod running;
+mod shards;
+
+pub use delivered::{Delivered, Deliveries};
+pub use finished::{Dead, Finished};
+pub use job::{Cells, Job, Slices};
+pub use round::Round;
+pub use running::run_all;
+pub use shards::bounds;

@@ -1,0 +1,142 @@
+// The jobs of an update, each in a thread of its own.
+ghost use Rattle.std.specs.Prelude.{◌≡◌, ◌<◌, ℕ, All, IfOk, Ok, length, map, slice_index_or};
+ghost use Rattle.cell_shards.specs.CellLives.{round_numbers};
+ghost use Rattle.cell_shards.specs.Finishing.{AreFinished, CanRun, IsFinished};
+
+use crate::delivering::deliver;
+use crate::finished::{Dead, Finished};
+use crate::job::{Cells, Job};
+use crate::lives::live;
+use crate::round::Round;
+use avida_port::{Gate, Memory};
+use genotype_bank::Bank;
+use std::alloc::{AllocError, Global};
+use std::sync::Wait;
+use std::thread;
+use std::thread::Threads;
+
+/// A job with its number among the jobs, from 0.
+#[derive(Drop)]
+pub(crate) struct Task {
+    pub(crate) shard: usize,
+    pub(crate) job: Job,
+}
+
+/// Runs the cells of each job in a thread of its own, and interns each newborn's genome; the list is in order of the
+/// jobs. Each job passes the gate once, before its cells. It may wait for other seats of the bank. After `Memory` the
+/// jobs and their seats are gone.
+pub fn run_all<R: Threads + Wait + Sync, G: Gate + Sync>(
+    rt: &R,
+    alloc: Global,
+    jobs: Vec<Job>,
+    bank: &Bank,
+    round: &Round,
+    gate: &G,
+) -> Result<Vec<Finished>, Memory>
+    requires jobs { All CanRun jobs.items }
+    requires seats { All (λ job. job.seat.bank ≡ bank.now) jobs.items }
+    ensures { IfOk result
+        (λ all. AreFinished (round_numbers round.now) jobs.items all.items) }
+{
+    let tasks = numbered(alloc, jobs)?;
+    let results = run_tasks(rt, alloc, tasks, bank, round, gate)?;
+    all_finished(alloc, results)
+}
+
+/// The jobs with their numbers.
+fn numbered(alloc: Global, jobs: Vec<Job>) -> Result<Vec<Task>, Memory>
+    ensures { IfOk result (λ tasks. map (λ task. task.job) tasks.items ≡ jobs.items) }
+{
+    let mut tasks = Vec::with_capacity(alloc, jobs.len())?;
+    for job in jobs {
+        let shard = tasks.len();
+        tasks.push(Task { shard, job })?;
+    }
+    Ok(tasks)
+}
+
+/// By as many threads as there are jobs, where they can be made.
+fn run_tasks<R: Threads + Wait + Sync, G: Gate + Sync>(
+    rt: &R,
+    alloc: Global,
+    tasks: Vec<Task>,
+    bank: &Bank,
+    round: &Round,
+    gate: &G,
+) -> Result<Vec<Result<Finished, Memory>>, AllocError>
+    requires tasks { All (λ task. CanRun task.job × (task.job.seat.bank ≡ bank.now)) tasks.items }
+    ensures count { IfOk result (λ all. length all.items ≡ length tasks.items) }
+    ensures each { IfOk result (λ all. (place : ℕ) (task : _) (end : _) → place < length tasks.items →
+        IfOk (slice_index_or all.items place end)
+        (IsFinished (round_numbers round.now) (slice_index_or tasks.items place task).job)) }
+{
+    thread::map_vec(
+        rt,
+        tasks,
+        &|task: Task| -> Result<Finished, Memory>
+            requires { CanRun task.job × (task.job.seat.bank ≡ bank.now) }
+            ensures { IfOk result (IsFinished (round_numbers round.entry.now) task.job) }
+        { run_task(rt, alloc, task, bank, round, gate) },
+    )
+}
+
+/// Passes the gate, and then runs the job.
+fn run_task<R: Wait, G: Gate>(
+    rt: &R,
+    alloc: Global,
+    task: Task,
+    bank: &Bank,
+    round: &Round,
+    gate: &G,
+) -> Result<Finished, Memory>
+    requires job { CanRun task.job }
+    requires seat { task.job.seat.bank ≡ bank.now }
+    ensures { IfOk result (IsFinished (round_numbers round.now) task.job) }
+{
+    gate.pass(u64::from(round.update), task.shard);
+    run(rt, alloc, task.job, bank, round)
+}
+
+/// The lives of the job's cells; then its newborns' genomes are interned.
+fn run<R: Wait>(
+    rt: &R,
+    alloc: Global,
+    job: Job,
+    bank: &Bank,
+    round: &Round,
+) -> Result<Finished, Memory>
+    requires job { CanRun job }
+    requires seat { job.seat.bank ≡ bank.now }
+    ensures { IfOk result (IsFinished (round_numbers round.now) job) }
+{
+    let Job {
+        first,
+        cells,
+        slices,
+        mut seat,
+    } = job;
+    let mut cells = cells.into_vec();
+    let lived = live(alloc, round, first, &mut cells, slices.as_slice())?;
+    let births = deliver(rt, alloc, bank, &mut seat, lived.births)?;
+    Ok(Finished {
+        first,
+        cells: Cells::from_vec(cells),
+        births,
+        dead: Dead::from_vec(lived.dead),
+        seat,
+    })
+}
+
+/// All jobs are finished, or memory ran out in one of them.
+fn all_finished(
+    alloc: Global,
+    results: Vec<Result<Finished, Memory>>,
+) -> Result<Vec<Finished>, Memory>
+    ensures { IfOk result (λ all. results.items ≡ map (λ finished. Ok finished) all.items) }
+{
+    let mut all = Vec::with_capacity(alloc, results.len())?;
+    for ended in results {
+        all.push(ended?)?;
+    }
+    Ok(all)
+}
