@@ -1,0 +1,5 @@
+pub mod RangeLemmas
+pub mod EqualLemmas
+pub mod TrialLemmas
+pub mod ChangeLemmas
+pub mod MapLemmas

@@ -1,0 +1,36 @@
+// An organism alone, as a trace runs it.
+ghost use Rattle.std.specs.Prelude.{◌≡◌, IfOk, length};
+ghost use Rattle.genome.specs.Genome.{letters};
+ghost use Rattle.landscape.specs.Trace.{trace_limit, traced_organism};
+
+use avida_port::Memory;
+use genome::{GREATEST_LENGTH, Genome};
+use logic_tasks::{Inputs, Tasks};
+use organism::{Organism, TRACE_LENGTH};
+use std::alloc::Global;
+use std::sync::Arc;
+
+/// The memory limit of a trace, by the length of its genome.
+fn trace_limit(genome_length: u32) -> u32
+    ensures { result ≡ trace_limit genome_length }
+{
+    if genome_length <= TRACE_LENGTH {
+        TRACE_LENGTH
+    } else {
+        GREATEST_LENGTH
+    }
+}
+
+/// The organism that a trace of this genome begins with.
+#[tactic(auto, unfolding(organism::specs::OrganismState::new_organism))]
+pub fn traced_organism(alloc: Global, genome: Genome) -> Result<Organism, Memory>
+    ensures founded { IfOk result (λ organism. organism ≡ traced_organism (letters genome)) }
+    ensures age { IfOk result (λ organism. organism.age ≡ 0) }
+{
+    let len = genome.len();
+    let inputs = Inputs::of([0x0F0F_0F0F, 0x3333_3333, 0x5555_5555]);
+    let genome = Arc::new(alloc, genome)?;
+    let merit = u64::from(len);
+    let limit = trace_limit(len);
+    Organism::found(alloc, genome, inputs, merit, Tasks::none(), limit)
+}

@@ -1,0 +1,17 @@
+//! How the genomes that differ from one in one letter do: each is tried alone.
+#![tactic(auto)]
+
+mod alone;
+mod changes;
+mod entry;
+mod first_divide;
+mod surveyed;
+mod totals;
+mod trying;
+
+pub use alone::traced_organism;
+pub use entry::{Entries, Entry};
+pub use first_divide::Trial;
+pub use surveyed::Survey;
+pub use totals::{Totals, is_better};
+pub use trying::{survey, trial};

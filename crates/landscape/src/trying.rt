@@ -1,0 +1,194 @@
+// Genomes tried alone.
+ghost use Rattle.std.specs.Prelude.{◌≡◌, IfOk, map, slice_set};
+ghost use Rattle.genome.specs.Genome.{letters};
+ghost use Rattle.organism.specs.TracedStep.{remark_value};
+ghost use Rattle.landscape.specs.Trials.{trial_at, trial_of};
+ghost use Rattle.landscape.specs.Landscape.{entry_of, survey_of};
+
+use crate::alone::traced_organism;
+use crate::changes::{Change, changes_of};
+use crate::entry::{Entries, Entry};
+use crate::first_divide::Trial;
+use crate::surveyed::Survey;
+use avida_port::Memory;
+use genome::Genome;
+use instruction_set::Letter;
+use instruction_set::laws::one_index;
+use organism::Remark;
+use rayon::prelude::*;
+use std::alloc::Global;
+use std::thread::Threads;
+
+/// How few genomes are worth a thread of their own.
+const LEAST_PIECE: usize = 8;
+
+/// Tries a genome: an organism of it takes so many steps at most, alone, as in a trace. None exactly
+/// where no divide is viable.
+pub fn trial(alloc: Global, genome: &Genome, steps: u32) -> Result<Option<Trial>, Memory>
+    ensures { IfOk result (λ trial. trial ≡ trial_of (letters genome.now) steps) }
+{
+    let mut organism = traced_organism(alloc, genome.copy(alloc)?)?;
+    for step in 0..steps {
+        let traced = organism.trace_step(alloc)?;
+        let number = u64::from(step) + 1;
+        let shown = trial_at(genome, number, &traced.remark);
+        if shown.is_some() {
+            return Ok(shown);
+        }
+    }
+    Ok(None)
+}
+
+/// The trial of a genome that a step's remark shows.
+fn trial_at(genome: &Genome, number: u64, remark: &Remark) -> Option<Trial>
+    ensures { result ≡ trial_at (letters genome.now) number (remark_value remark.now) }
+{
+    one_index();
+    match remark {
+        Remark::Divide { merit, child, .. } => Some(Trial {
+            step: number,
+            merit: *merit,
+            same: *child == *genome,
+        }),
+        _ => None,
+    }
+}
+
+/// Tries a genome, and each genome that differs from it in one letter, side by side.
+#[tactic(auto, unfolding(crate::specs::Landscape::survey_of))]
+pub fn survey<R: Threads + Sync>(
+    rt: &R,
+    alloc: Global,
+    genome: &Genome,
+    steps: u32,
+) -> Result<Survey, Memory>
+    ensures { IfOk result (λ survey. survey ≡ survey_of (letters genome.now) steps) }
+{
+    let base = trial(alloc, genome, steps)?;
+    let changes = changes_of(alloc, genome.letters())?;
+    let entries = try_all(rt, alloc, genome, steps, &changes)?;
+    Ok(Survey {
+        base,
+        entries: Entries::from_vec(entries),
+    })
+}
+
+fn try_all<R: Threads + Sync>(
+    rt: &R,
+    alloc: Global,
+    genome: &Genome,
+    steps: u32,
+    changes: &[Change],
+) -> Result<Vec<Entry>, Memory>
+    ensures { IfOk result
+        (λ entries. entries.items ≡ map (entry_of (letters genome.now) steps) changes.now) }
+{
+    let entries: Result<Vec<Entry>, Memory> = changes
+        .par_iter()
+        .with_min_len(LEAST_PIECE)
+        .map(
+            |change: &Change| -> Result<Entry, Memory>
+                ensures { IfOk result
+                    (λ entry. entry ≡ entry_of (letters genome.entry.now) steps change.now) }
+            { try_change(alloc, genome, steps, *change) },
+        )
+        .collect(rt, alloc)?;
+    entries
+}
+
+fn try_change(alloc: Global, genome: &Genome, steps: u32, change: Change) -> Result<Entry, Memory>
+    ensures { IfOk result (λ entry. entry ≡ entry_of (letters genome.now) steps change) }
+{
+    let changed = with_letter(alloc, genome, change.at, change.letter)?;
+    Ok(Entry {
+        at: change.at,
+        letter: change.letter,
+        trial: trial(alloc, &changed, steps)?,
+    })
+}
+
+fn with_letter(alloc: Global, genome: &Genome, at: u32, letter: Letter) -> Result<Genome, Memory>
+    ensures { IfOk result (λ changed. letters changed ≡ slice_set (letters genome.now) at letter) }
+{
+    let mut changed = Vec::from_slice(alloc, genome.letters())?;
+    let place = at as usize;
+    if place < changed.len() {
+        changed[place] = letter;
+    }
+    match Genome::from_letters(alloc, &changed) {
+        Ok(genome) => Ok(genome),
+        Err(_) => Err(Memory),
+    }
+}
+
+#[cfg(test)]
+mod tests {
+    use super::*;
+    use crate::totals::Totals;
+    use genome::read_letters;
+    use std::test::Fail;
+
+    /// The default ancestor.
+    const ANCESTOR: &[u8] =
+        b"wzcagcccccccccccccccccccccccccccccccccccccccccccccccccccccccccccccccccccccccccccccccccccccczvfcaxgab";
+
+    #[test]
+    fn the_ancestor_divides_alone_at_step_389(rt: HostRuntime) -> Result<(), Fail> {
+        let alloc = rt.alloc();
+        let genome = read_letters(alloc, ANCESTOR)?;
+        let base = Trial {
+            step: 389,
+            merit: 97,
+            same: true,
+        };
+        assert_eq!(rt; trial(alloc, &genome, 388)?, None);
+        assert_eq!(rt; trial(alloc, &genome, 389)?, Some(base));
+        assert_eq!(rt; trial(alloc, &genome, 1000)?, Some(base));
+        Ok(())
+    }
+
+    #[test]
+    fn a_survey_has_an_entry_for_each_other_letter(rt: HostRuntime) -> Result<(), Fail> {
+        let alloc = rt.alloc();
+        let survey = survey(&rt, alloc, &read_letters(alloc, b"mmmmmmmm")?, 400)?;
+        assert_eq!(rt; survey.base, None);
+        assert_eq!(rt;
+            survey.totals(),
+            Totals {
+                entries: 200,
+                trials: 0,
+                same: 0,
+                better: 0
+            }
+        );
+        for (at, place, letter) in [
+            (0, 0, b'a'),
+            (11, 0, b'l'),
+            (12, 0, b'n'),
+            (24, 0, b'z'),
+            (25, 1, b'a'),
+            (199, 7, b'z'),
+        ] {
+            let entry = survey.entries.get(at).ok_or("no entry")?;
+            assert_eq!(rt; entry.at, place);
+            assert_eq!(rt; entry.letter.byte(), letter);
+        }
+        Ok(())
+    }
+
+    #[test]
+    fn the_survey_of_the_ancestor_is_that_of_an_independent_program(
+        rt: HostRuntime,
+    ) -> Result<(), Fail> {
+        let alloc = rt.alloc();
+        let survey = survey(&rt, alloc, &read_letters(alloc, ANCESTOR)?, 389)?;
+        let totals = Totals {
+            entries: 2500,
+            trials: 2179,
+            same: 2028,
+            better: 1514,
+        };
+        assert_eq!(rt; survey.totals(), totals);
+        Ok(())
+    }
+}
