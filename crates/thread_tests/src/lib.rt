@@ -1,7 +1,9 @@
-//! Tests of what threads share: banks of genotypes, and pictures that observers look at.
+//! Tests of what threads share, and of what they do side by side.
 #![tactic(auto)]
 
 #[cfg(test)]
 mod banks;
 #[cfg(test)]
 mod publications;
+#[cfg(test)]
+mod surveys;
