@@ -123,10 +123,8 @@ fn a_watch_that_fails_leaves_the_log_whole(rt: HostRuntime) -> Result<(), Fail> 
 fn a_log_that_fails_leaves_no_picture(rt: HostRuntime) -> Result<(), Fail> {
     let alloc = rt.alloc();
     let failing = [Failing { call: 2, takes: 0 }];
-    let watching = [Failing { call: 1, takes: 0 }];
     let faults = Faults {
         puts: &failing,
-        watch_puts: &watching,
         ..NO_FAULTS
     };
     let served = serve_with(&rt, alloc, "run --watch 0", CONFIG.as_bytes(), faults)?;
