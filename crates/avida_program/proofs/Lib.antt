@@ -2,7 +2,11 @@ pub mod PieceLemmas
 pub mod TraceLemmas
 pub mod ListTexts
 pub mod RangeLemmas
+pub mod LookLemmas
+pub mod PublishedLemmas
 pub mod WatchLemmas
+pub mod WatcherLemmas
+pub mod EndLemmas
 pub mod RunEnds
 pub mod BenchLemmas
 pub mod Serves

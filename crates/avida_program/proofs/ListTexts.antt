@@ -9,9 +9,8 @@ use Rattle.avida_port.specs.Ports.{SinkState, Puts, GainedPrefix}
 use Rattle.avida_program.specs.Changes.{change}
 use Rattle.avida_program.specs.Outcomes.{WritesText, outcome_of}
 use Rattle.avida_program.specs.Pieces.{Writes}
-use Rattle.avida_program.proofs.PieceLemmas.{writes_then}
-use Rattle.avida_program.proofs.PutLemmas.{puts_then}
-use Rattle.avida_program.proofs.TraceLemmas.{front_put, stopped_within, writes_ended}
+use Rattle.avida_program.proofs.PieceLemmas.{writes_short, writes_then}
+use Rattle.avida_program.proofs.TraceLemmas.{front_put, piece_put, stopped_within}
 
 -- one more text
 texts_next : {X : Type 0} (text : X → List ℕ) (xs : List X) (i : ℕ) (d : X) → i < length xs
@@ -25,7 +24,8 @@ texts_next text xs i d h =
 -- the texts up to an item, and those from it on
 texts_cut : {X : Type 0} (text : X → List ℕ) (xs : List X) (i : ℕ)
     → flat_map text (take i xs) ++ flat_map text (drop i xs) ≡ flat_map text xs
-texts_cut text xs i = sym (flat_map-append text (take i xs) (drop i xs)) ∙ ap (flat_map text) (take-append-drop i xs)
+texts_cut text xs i =
+    sym (flat_map-append text (take i xs) (drop i xs)) ∙ ap (flat_map text) (take-append-drop i xs)
 
 -- the texts of the items' values
 pub texts_of_values : {X Y : Type 0} (text : Y → List ℕ) (value : X → Y) (xs : List X)
@@ -33,34 +33,58 @@ pub texts_of_values : {X Y : Type 0} (text : Y → List ℕ) (value : X → Y) (
 texts_of_values text value [] = refl
 texts_of_values text value (x ∷ xs) = ap (λ l. text (value x) ++ l) (texts_of_values text value xs)
 
+-- the text of the item at this place is written, or stopped
+pub next_written : {X : Type 0} {a b c : SinkState} {old kept new : List ℕ}
+    {r : Result (Unit {0}) SinkStop} (text : X → List ℕ) (xs : List X) (i : ℕ) (d : X)
+    → Writes a b old kept (flat_map text (take i xs)) (Ok tt)
+    → Writes b c kept new (text (get_or xs i d)) r → i < length xs
+    → Writes a c old new (flat_map text (take (i + 1) xs)) r
+next_written {a = a} {c = c} {old = old} {new = new} {r = r} text xs i d p q h =
+    subst (λ l. Writes a c old new l r) (sym (texts_next text xs i d h))
+    (writes_then (text (get_or xs i d)) p q)
+
 -- one more text is written, or stopped
-pub item_written : {X : Type 0} {a b c : SinkState} {kept new put : List ℕ} {r : Result (Unit {0}) SinkStop} (text : X → List ℕ) (xs : List X) (i : ℕ) (x : X)
-    → Writes a b [] kept (flat_map text (take i xs)) (Ok tt) → Writes b c kept new put r → put ≡ text x
-    → x ≡ get_or xs i x → i < length xs → Writes a c [] new (flat_map text (take (i + 1) xs)) r
-item_written {a = a} {c = c} {new = new} {put = put} {r = r} text xs i x p q shows is h =
-    let front = flat_map text (take i xs) in
-    let all : front ++ put ≡ flat_map text (take (i + 1) xs) =
-    ap (λ l. front ++ l) (shows ∙ ap text is) ∙ sym (texts_next text xs i x h) in
-    subst (λ l. Writes a c [] new l r) all (writes_then put p q)
+pub item_written : {X : Type 0} {a b c : SinkState} {old kept new put : List ℕ}
+    {r : Result (Unit {0}) SinkStop} (text : X → List ℕ) (xs : List X) (i : ℕ) (x : X)
+    → Writes a b old kept (flat_map text (take i xs)) (Ok tt) → Writes b c kept new put r
+    → put ≡ text x
+    → x ≡ get_or xs i x → i < length xs → Writes a c old new (flat_map text (take (i + 1) xs)) r
+item_written {b = b} {c = c} {kept = kept} {new = new} {r = r} text xs i x p q shows is h =
+    next_written text xs i x p (subst (λ l. Writes b c kept new l r) (shows ∙ ap text is) q) h
+
+-- a put failed, and the texts behind this item were still to come
+pub item_short : {X : Type 0} {a c : SinkState} {old new other : List ℕ} {e : SinkStop}
+    (text : X → List ℕ) (xs : List X) (i : ℕ)
+    → Writes a c old new (flat_map text (take i xs)) (Err e)
+    → Writes a c old other (flat_map text xs) (Err e)
+item_short {a = a} {c = c} {old = old} {other = other} {e = e} text xs i p =
+    subst (λ l. Writes a c old other l (Err e)) (texts_cut text xs i)
+    (writes_short (flat_map text (drop i xs)) p)
 
 -- a put failed within the texts
-pub item_stopped : {X : Type 0} {a c : SinkState} {new : List ℕ} (text : X → List ℕ) (xs : List X) (i : ℕ) (e : SinkStop)
-    → Writes a c [] new (flat_map text (take i xs)) (Err e) → WritesText (flat_map text xs) (change a c) (outcome_of (Err e))
+pub item_stopped : {X : Type 0} {a c : SinkState} {new : List ℕ} (text : X → List ℕ) (xs : List X)
+    (i : ℕ) (e : SinkStop)
+    → Writes a c [] new (flat_map text (take i xs)) (Err e)
+    → WritesText (flat_map text xs) (change a c) (outcome_of (Err e))
 item_stopped {a = a} {c = c} {new = new} text xs i e p =
-    stopped_within a c new (flat_map text (take i xs)) (flat_map text (drop i xs)) (flat_map text xs) e p (texts_cut text xs i)
+    stopped_within a c new (flat_map text (take i xs)) (flat_map text (drop i xs))
+    (flat_map text xs) e p (texts_cut text xs i)
 
 -- what was put so far is a front of the texts
-pub items_front : {X : Type 0} {a b : SinkState} {kept : List ℕ} (text : X → List ℕ) (xs : List X) (i : ℕ)
+pub items_front : {X : Type 0} {a b : SinkState} {kept : List ℕ} (text : X → List ℕ) (xs : List X)
+    (i : ℕ)
     → Writes a b [] kept (flat_map text (take i xs)) (Ok tt) → GainedPrefix a b (flat_map text xs)
 items_front {a = a} {b = b} {kept = kept} text xs i p =
-    front_put a b kept (flat_map text (take i xs)) (flat_map text (drop i xs)) (flat_map text xs) p (texts_cut text xs i)
+    front_put a b kept (flat_map text (take i xs)) (flat_map text (drop i xs)) (flat_map text xs) p
+    (texts_cut text xs i)
 
 -- the last piece is put
-pub items_put : {X : Type 0} {a b c : SinkState} {kept held : List ℕ} {r : Result (Unit {0}) SinkStop} (text : X → List ℕ) (xs : List X) (i : ℕ)
-    → Writes a b [] kept (flat_map text (take i xs)) (Ok tt) → i ≡ length xs → held ≡ kept → Puts b c held r
+pub items_put : {X : Type 0} {a b c : SinkState} {kept held : List ℕ}
+    {r : Result (Unit {0}) SinkStop} (text : X → List ℕ) (xs : List X) (i : ℕ)
+    → Writes a b [] kept (flat_map text (take i xs)) (Ok tt) → i ≡ length xs → held ≡ kept
+    → Puts b c held r
     → WritesText (flat_map text xs) (change a c) (outcome_of r)
-items_put {a = a} {b = b} {c = c} {kept = kept} {r = r} text xs i p at_end is q =
-    let put = subst (λ l. Puts {T = Unit {0}} b c l r) is q in
-    let full : take i xs ≡ xs = ap (λ n. take n xs) at_end ∙ take_all (length xs) xs (omega arith) in
-    let whole : p.ok.0 ++ kept ≡ flat_map text xs = p.ok.1 ∙ ap (flat_map text) full in
-    writes_ended a c (flat_map text xs) r (subst (λ l. Puts {T = Unit {0}} a c l r) whole (puts_then kept p.ok.2 put))
+items_put {a = a} {b = b} {kept = kept} text xs i p at_end is q =
+    let full : take i xs ≡ xs =
+    ap (λ n. take n xs) at_end ∙ take_all (length xs) xs (omega arith) in
+    piece_put (subst (λ l. Writes a b [] kept (flat_map text l) (Ok tt)) full p) is q

@@ -9,23 +9,31 @@ pub append_known-nothing : (held : Option (List ℕ)) → held ≡ append_known 
 append_known-nothing None = refl
 append_known-nothing (Some x) = ap Some (sym (append-nil x))
 
-append_known-append : (held : Option (List ℕ)) (xs ys : List ℕ) → append_known (append_known held xs) ys ≡ append_known held (xs ++ ys)
+append_known-append : (held : Option (List ℕ)) (xs ys : List ℕ)
+    → append_known (append_known held xs) ys ≡ append_known held (xs ++ ys)
 append_known-append None xs ys = refl
 append_known-append (Some x) xs ys = ap Some (append_assoc x xs ys)
 
-pub gained_then : (a b c : Option (List ℕ)) (xs ys : List ℕ) → b ≡ append_known a xs → c ≡ append_known b ys → c ≡ append_known a (xs ++ ys)
+pub gained_then : (a b c : Option (List ℕ)) (xs ys : List ℕ) → b ≡ append_known a xs
+    → c ≡ append_known b ys → c ≡ append_known a (xs ++ ys)
 gained_then a b c xs ys p q = q ∙ ap (λ h. append_known h ys) p ∙ append_known-append a xs ys
 
 -- a front of a text came behind what was held, by what is held alone
 abbrev pub GainedFrontOf : Option (List ℕ) → Option (List ℕ) → List ℕ → Type 0
 GainedFrontOf a b text = (part : List ℕ) × IsPrefixOf part text × (b ≡ append_known a part)
 
-pub front_then : (a b c : Option (List ℕ)) (xs ys : List ℕ) → b ≡ append_known a xs → GainedFrontOf b c ys → GainedFrontOf a c (xs ++ ys)
-front_then a b c xs ys p q =
-    (xs ++ q.0, (q.1.0, append_assoc xs q.0 q.1.0 ∙ ap (λ l. xs ++ l) q.1.1), gained_then a b c xs q.0 p q.2)
+pub front_then : (a b c : Option (List ℕ)) (xs ys : List ℕ) → b ≡ append_known a xs
+    → GainedFrontOf b c ys → GainedFrontOf a c (xs ++ ys)
+front_then a b c xs ys p q = (
+  xs ++ q.0,
+  (q.1.0, append_assoc xs q.0 q.1.0 ∙ ap (λ l. xs ++ l) q.1.1),
+  gained_then a b c xs q.0 p q.2,
+)
 
-pub front_short : (a b : Option (List ℕ)) (xs ys : List ℕ) → GainedFrontOf a b xs → GainedFrontOf a b (xs ++ ys)
-front_short a b xs ys q = (q.0, (q.1.0 ++ ys, sym (append_assoc q.0 q.1.0 ys) ∙ ap (λ l. l ++ ys) q.1.1), q.2)
+pub front_short : (a b : Option (List ℕ)) (xs ys : List ℕ) → GainedFrontOf a b xs
+    → GainedFrontOf a b (xs ++ ys)
+front_short a b xs ys q =
+    (q.0, (q.1.0 ++ ys, sym (append_assoc q.0 q.1.0 ys) ∙ ap (λ l. l ++ ys) q.1.1), q.2)
 
 -- nothing is a front of every text
 pub nothing_gained : (a b : SinkState) (text : List ℕ) → b ≡ a → GainedPrefix a b text
@@ -45,7 +53,8 @@ puts_nothing a = record {
 }
 
 -- puts, and puts after them
-pub puts_then : {T U : Type 0} {a b c : SinkState} {xs : List ℕ} {u : U} {r : Result T SinkStop} (ys : List ℕ)
+pub puts_then : {T U : Type 0} {a b c : SinkState} {xs : List ℕ} {u : U} {r : Result T SinkStop}
+    (ys : List ℕ)
     → Puts a b xs (Ok u) → Puts b c ys r → Puts a c (xs ++ ys) r
 puts_then {xs = xs} {r = Ok t} ys p q = record {
   ok = gained_then _ _ _ xs ys p.ok q.ok;

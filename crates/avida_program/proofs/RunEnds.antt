@@ -1,5 +1,5 @@
 -- A run whose configuration was read, by how it ended.
-use Rattle.std.proofs.Common.{◌≡◌, ◌≢◌, ℕ, List, [], Option, None, Some, IfSome, IfOk, IfErr, OnOk, Result, Ok, Err, MatchResult, sym, subst, refl, inl, inr}
+use Rattle.std.proofs.Common.{◌≡◌, ℕ, List, [], Option, None, Some, IfSome, IfOk, IfErr, OnOk, Result, Ok, Err, MatchResult, sym, subst, refl, inl, inr}
 use Rattle.world_config.specs.Values.{ConfigValues}
 use Rattle.world_core.specs.WorldValue.{WorldValue}
 use Rattle.world_rules.specs.Laws.{ReplaysToLiving}
@@ -10,33 +10,44 @@ use Rattle.avida_program.specs.declared.outcome.Outcome.TheVariants as outcome
 use Rattle.avida_program.specs.Changes.{Change, GainedText, Stays, Work}
 use Rattle.avida_program.specs.Input.{configuration_of}
 use Rattle.avida_program.specs.Outcomes.{StopsRun}
-use Rattle.avida_program.specs.RunText.{final_world, run_text}
-use Rattle.avida_program.specs.WatchText.{GainedPictures, GainedPicturesFront}
+use Rattle.avida_program.specs.RunText.{IsFinalWorld, LeavesFinal, run_text}
+use Rattle.avida_program.specs.WatchText.{GainedPictures}
 use Rattle.avida_program.specs.Work.{CarriesOut, Watches}
 
 -- the bytes of the source are this configuration, and nothing of them is left
 pub record ReadsConfig (source : Change SourceState) (config : ConfigValues) : Type 0 where
-  pub reads : (bytes : List ℕ) → source.before.left ≡ Some bytes → configuration_of bytes ≡ Ok config
+  pub reads : (bytes : List ℕ) → source.before.left ≡ Some bytes
+      → configuration_of bytes ≡ Ok config
   pub whole : (bytes : List ℕ) → source.before.left ≡ Some bytes → source.after.left ≡ Some []
 
-watched : (looks : Option ℕ) (bytes : List ℕ) (work : Work) (config : ConfigValues) → configuration_of bytes ≡ Ok config
-    → IfSome looks (λ n. GainedPictures n config work.watch) → IfSome looks (λ n. Watches n (configuration_of bytes) work outcome.Done)
+watched : (looks : Option ℕ) (bytes : List ℕ) (work : Work) (config : ConfigValues)
+    → configuration_of bytes ≡ Ok config
+    → IfSome looks (λ n. GainedPictures n config work.watch)
+    → IfSome looks (λ n. Watches n (configuration_of bytes) work outcome.Done)
 watched None bytes work config is h = h
 watched (Some n) bytes work config is h = (config, is, h)
 
-watch_faulted : (looks : Option ℕ) (bytes : List ℕ) (work : Work) (config : ConfigValues) → configuration_of bytes ≡ Ok config
-    → StopsRun looks config work.out work.watch outcome.WriteFault → IfSome looks (λ n. Watches n (configuration_of bytes) work outcome.WriteFault)
+watch_faulted : (looks : Option ℕ) (bytes : List ℕ) (work : Work) (config : ConfigValues)
+    → configuration_of bytes ≡ Ok config
+    → StopsRun looks config work.out work.watch outcome.WriteFault
+    → IfSome looks (λ n. Watches n (configuration_of bytes) work outcome.WriteFault)
 watch_faulted None bytes work config is stops = tt
-watch_faulted (Some n) bytes work config is stops = (config, is, record { pictures = stops.pictures; whole_log = stops.whole_log refl })
+watch_faulted (Some n) bytes work config is stops =
+    (config, is, record { pictures = stops.pictures; whole_log = stops.whole_log refl })
 
-watch_wanted : (looks : Option ℕ) (bytes : List ℕ) (work : Work) (config : ConfigValues) → configuration_of bytes ≡ Ok config
-    → StopsRun looks config work.out work.watch outcome.NoMemory → IfSome looks (λ n. Watches n (configuration_of bytes) work outcome.NoMemory)
+watch_wanted : (looks : Option ℕ) (bytes : List ℕ) (work : Work) (config : ConfigValues)
+    → configuration_of bytes ≡ Ok config
+    → StopsRun looks config work.out work.watch outcome.NoMemory
+    → IfSome looks (λ n. Watches n (configuration_of bytes) work outcome.NoMemory)
 watch_wanted None bytes work config is stops = tt
 watch_wanted (Some n) bytes work config is stops = inr (config, is, stops.pictures)
 
-ran_to_end : (workers : ℕ) (looks : Option ℕ) (work : Work) (config : ConfigValues) → ReadsConfig work.source config
-    → GainedText work.out (run_text config) → IfSome looks (λ n. GainedPictures n config work.watch) → (looks ≡ None → Stays work.watch)
-    → work.last.after ≡ Some (final_world config) → ReplaysToLiving config config.updates → CarriesOut (Run workers looks) work outcome.Done
+ran_to_end : (workers : ℕ) (looks : Option ℕ) (work : Work) (config : ConfigValues)
+    → ReadsConfig work.source config
+    → GainedText work.out (run_text config) → IfSome looks (λ n. GainedPictures n config work.watch)
+    → (looks ≡ None → Stays work.watch)
+    → LeavesFinal work.last config → ReplaysToLiving config config.updates
+    → CarriesOut (Run workers looks) work outcome.Done
 ran_to_end workers looks work config read wrote pictures unwatched left replays = record {
   words = λ e. cc;
   read_fault = λ e. absurd (cc);
@@ -50,12 +61,18 @@ ran_to_end workers looks work config read wrote pictures unwatched left replays 
   };
 }
 
-run_stopped : (workers : ℕ) (looks : Option ℕ) (work : Work) (config : ConfigValues) (told : Outcome) → ReadsConfig work.source config
-    → StopsRun looks config work.out work.watch told → (looks ≡ None → Stays work.watch) → Stays work.last → CarriesOut (Run workers looks) work told
-run_stopped workers looks work config outcome.Done read stops unwatched kept = absurd (elim stops.ends [ inl p ↦ cc | inr p ↦ cc ])
-run_stopped workers looks work config outcome.BadWords read stops unwatched kept = absurd (elim stops.ends [ inl p ↦ cc | inr p ↦ cc ])
-run_stopped workers looks work config (outcome.BadInput why) read stops unwatched kept = absurd (elim stops.ends [ inl p ↦ cc | inr p ↦ cc ])
-run_stopped workers looks work config outcome.ReadFault read stops unwatched kept = absurd (elim stops.ends [ inl p ↦ cc | inr p ↦ cc ])
+run_stopped : (workers : ℕ) (looks : Option ℕ) (work : Work) (config : ConfigValues)
+    (told : Outcome) → ReadsConfig work.source config
+    → StopsRun looks config work.out work.watch told → (looks ≡ None → Stays work.watch)
+    → Stays work.last → CarriesOut (Run workers looks) work told
+run_stopped workers looks work config outcome.Done read stops unwatched kept =
+    absurd (elim stops.ends [ inl p ↦ cc | inr p ↦ cc ])
+run_stopped workers looks work config outcome.BadWords read stops unwatched kept =
+    absurd (elim stops.ends [ inl p ↦ cc | inr p ↦ cc ])
+run_stopped workers looks work config (outcome.BadInput why) read stops unwatched kept =
+    absurd (elim stops.ends [ inl p ↦ cc | inr p ↦ cc ])
+run_stopped workers looks work config outcome.ReadFault read stops unwatched kept =
+    absurd (elim stops.ends [ inl p ↦ cc | inr p ↦ cc ])
 run_stopped workers looks work config outcome.WriteFault read stops unwatched kept = record {
   words = λ e. cc;
   read_fault = λ e. absurd (cc);
@@ -82,14 +99,22 @@ run_stopped workers looks work config outcome.NoMemory read stops unwatched kept
 }
 
 -- a run, by its result
-pub run_ended : (workers : ℕ) (looks : Option ℕ) (work : Work) (config : ConfigValues) (r : Result WorldValue Outcome) (told : Outcome)
-    → ReadsConfig work.source config → IfOk r (λ world. world ≡ final_world config) → OnOk r (GainedText work.out (run_text config))
-    → OnOk r (IfSome looks (λ n. GainedPictures n config work.watch)) → IfErr r (StopsRun looks config work.out work.watch)
+pub run_ended : (workers : ℕ) (looks : Option ℕ) (work : Work) (config : ConfigValues)
+    (r : Result WorldValue Outcome) (told : Outcome)
+    → ReadsConfig work.source config → IfOk r (IsFinalWorld config)
+    → OnOk r (GainedText work.out (run_text config))
+    → OnOk r (IfSome looks (λ n. GainedPictures n config work.watch))
+    → IfErr r (StopsRun looks config work.out work.watch)
     → (looks ≡ None → Stays work.watch) → ReplaysToLiving config config.updates
-    → MatchResult r (λ world. (told ≡ outcome.Done) × (work.last.after ≡ Some world)) (λ e. (told ≡ e) × (work.last.after ≡ work.last.before))
+    → MatchResult r (λ world. (told ≡ outcome.Done) × (work.last.after ≡ Some world))
+    (λ e. (told ≡ e) × (work.last.after ≡ work.last.before))
     → CarriesOut (Run workers looks) work told
-run_ended workers looks work config (Ok world) told read final wrote pictures stops unwatched replays left =
-    let here : work.last.after ≡ Some (final_world config) = cc (left.1, final) in
-    subst (CarriesOut (Run workers looks) work) (sym left.0) (ran_to_end workers looks work config read wrote pictures unwatched here replays)
-run_ended workers looks work config (Err e) told read final wrote pictures stops unwatched replays left =
-    subst (CarriesOut (Run workers looks) work) (sym left.0) (run_stopped workers looks work config e read stops unwatched left.1)
+run_ended workers looks work config (Ok world) told read final wrote pictures stops unwatched
+    replays left =
+    let here : LeavesFinal work.last config = (world, left.1, final) in
+    subst (CarriesOut (Run workers looks) work) (sym left.0)
+    (ran_to_end workers looks work config read wrote pictures unwatched here replays)
+run_ended workers looks work config (Err e) told read final wrote pictures stops unwatched replays
+    left =
+    subst (CarriesOut (Run workers looks) work) (sym left.0)
+    (run_stopped workers looks work config e read stops unwatched left.1)

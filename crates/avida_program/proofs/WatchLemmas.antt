@@ -1,15 +1,17 @@
--- Pictures of a run, and nothing at all as a prefix of their lines.
-use Rattle.std.proofs.Common.{◌≡◌, ◌+◌, ◌<◌, ◌≤◌, ℕ, List, [], ◌∷◌, Option, None, Some, IfSome, refl, sym, ap, append-nil, arith, inl, inr, subst}
+-- What a run with a watcher leaves, by how the runner and the watcher ended.
+use Rattle.std.proofs.Common.{◌≡◌, ◌⊎◌, ◌+◌, ℕ, List, [], ◌∷◌, ◌++◌, Option, None, Some, IfSome, Result, Ok, Err, refl, sym, ap, ◌∙◌, append-nil, arith, inl, inr, subst}
 use Rattle.avida_port.specs.Ports.{SinkState}
 use Rattle.world_config.specs.Values.{ConfigValues}
-use Rattle.world_core.specs.WorldValue.{WorldValue}
-use Rattle.world_rules.specs.Picture.{picture_of, picture_text}
-use Rattle.avida_program.proofs.PutLemmas.{nothing_gained}
+use Rattle.avida_program.proofs.LookLemmas.{watched}
+use Rattle.avida_program.proofs.PutLemmas.{front_short, nothing_gained}
+use Rattle.avida_program.proofs.RunLemmas.{writes_short, writes_then}
+use Rattle.avida_program.proofs.WatcherLemmas.{pictures_more}
 use Rattle.avida_program.specs.declared.outcome.Outcome.{Outcome}
 use Rattle.avida_program.specs.declared.outcome.Outcome.TheVariants as outcome
-use Rattle.avida_program.specs.Changes.{Change, GainedFront, GainedText, PutFailed, SinkFailed, Stays}
-use Rattle.avida_program.specs.Outcomes.{StopsPicture, StopsRun, StopsWithin}
-use Rattle.avida_program.specs.RunText.{final_world, run_text}
+use Rattle.avida_program.specs.Changes.{Change, GainedFront, GainedText, PutFailed, SinkFailed, Stays, change}
+use Rattle.avida_program.specs.Outcomes.{StopsRun, StopsWithin, WritesAll}
+use Rattle.avida_program.specs.RunText.{run_text}
+use Rattle.avida_program.specs.Watching.{WritesLooks, news}
 use Rattle.avida_program.specs.WatchText.{AreWatched, GainedPictures, GainedPicturesFront, pictures_text}
 
 -- nothing is a prefix of every text
@@ -24,108 +26,184 @@ only_last looks last = record {
   few = omega arith;
 }
 
-last_text : (config : ConfigValues) (last : ℕ) → pictures_text config (last ∷ []) ≡ picture_text (picture_of config last)
-last_text config last = append-nil (picture_text (picture_of config last))
-
-pub no_pictures : (looks : ℕ) (config : ConfigValues) (watch : Change SinkState) → Stays watch → GainedPicturesFront looks config watch
+pub no_pictures : (looks : ℕ) (config : ConfigValues) (watch : Change SinkState) → Stays watch
+    → GainedPicturesFront looks config watch
 no_pictures looks config watch e = record {
   updates = config.updates ∷ [];
   watched = only_last looks config.updates;
   gained = stays_front watch (pictures_text config (config.updates ∷ [])) e;
 }
 
--- the line of the last picture is written
-last_picture : (looks : ℕ) (config : ConfigValues) (watch : Change SinkState) → GainedText watch (picture_text (picture_of config config.updates))
-    → GainedPictures looks config watch
-last_picture looks config watch h = record {
-  updates = config.updates ∷ [];
-  watched = only_last looks config.updates;
-  gained = subst (GainedText watch) (sym (last_text config config.updates)) h;
-}
-
-last_front : (looks : ℕ) (config : ConfigValues) (watch : Change SinkState) → GainedFront watch (picture_text (picture_of config config.updates))
-    → GainedPicturesFront looks config watch
-last_front looks config watch h = record {
-  updates = config.updates ∷ [];
-  watched = only_last looks config.updates;
-  gained = subst (GainedFront watch) (sym (last_text config config.updates)) h;
-}
-
 -- a put to `out` that failed is one of the puts, whether there is a watcher or not
-out_failed : (looks : Option ℕ) (out watch : Change SinkState) → SinkFailed out → PutFailed looks out watch
+out_failed : (looks : Option ℕ) (out watch : Change SinkState) → SinkFailed out
+    → PutFailed looks out watch
 out_failed None out watch h = h
 out_failed (Some n) out watch h = inl h
 
-nothing_watched : (looks : Option ℕ) (config : ConfigValues) (watch : Change SinkState) → Stays watch → IfSome looks (λ n. GainedPicturesFront n config watch)
+nothing_watched : (looks : Option ℕ) (config : ConfigValues) (watch : Change SinkState)
+    → Stays watch → IfSome looks (λ n. GainedPicturesFront n config watch)
 nothing_watched None config watch e = tt
 nothing_watched (Some n) config watch e = no_pictures n config watch e
 
--- the log stopped, and the watcher has written nothing
-pub log_stopped : (looks : Option ℕ) (config : ConfigValues) (out watch : Change SinkState) (told : Outcome)
-    → StopsWithin (run_text config) out told → Stays watch → StopsRun looks config out watch told
-log_stopped looks config out watch outcome.Done h e = absurd h
-log_stopped looks config out watch outcome.BadWords h e = absurd h
-log_stopped looks config out watch (outcome.BadInput why) h e = absurd h
-log_stopped looks config out watch outcome.ReadFault h e = absurd h
-log_stopped looks config out watch outcome.WriteFault h e = record {
+-- the log stopped, whatever the watcher has written
+log_stopped_by : (looks : Option ℕ) (config : ConfigValues) (out watch : Change SinkState)
+    (told : Outcome)
+    → StopsWithin (run_text config) out told
+    → IfSome looks (λ n. GainedPicturesFront n config watch)
+    → StopsRun looks config out watch told
+log_stopped_by looks config out watch outcome.Done h pictures = absurd h
+log_stopped_by looks config out watch outcome.BadWords h pictures = absurd h
+log_stopped_by looks config out watch (outcome.BadInput why) h pictures = absurd h
+log_stopped_by looks config out watch outcome.ReadFault h pictures = absurd h
+log_stopped_by looks config out watch outcome.WriteFault h pictures = record {
   ends = inl refl;
   fault = λ is. out_failed looks out watch h.0;
   front = h.1;
   whole_log = λ is well. absurd (well h.0);
-  pictures = nothing_watched looks config watch e;
+  pictures = pictures;
 }
-log_stopped looks config out watch outcome.NoMemory h e = record {
+log_stopped_by looks config out watch outcome.NoMemory h pictures = record {
   ends = inr refl;
   fault = λ is. absurd (cc);
   front = h;
   whole_log = λ is. absurd (cc);
-  pictures = nothing_watched looks config watch e;
+  pictures = pictures;
 }
+
+-- the log stopped, and the watcher has written nothing
+pub log_stopped : (looks : Option ℕ) (config : ConfigValues) (out watch : Change SinkState)
+    (told : Outcome)
+    → StopsWithin (run_text config) out told → Stays watch → StopsRun looks config out watch told
+log_stopped looks config out watch told h e =
+    log_stopped_by looks config out watch told h (nothing_watched looks config watch e)
 
 -- the whole log is a prefix of itself
-whole_front : (sink : Change SinkState) (text : List ℕ) → GainedText sink text → GainedFront sink text
+whole_front : (sink : Change SinkState) (text : List ℕ) → GainedText sink text
+    → GainedFront sink text
 whole_front sink text h = (text, ([], append-nil text), h)
 
--- the log is whole, and the line of the last picture stopped
-stopped_at_picture : (looks : ℕ) (config : ConfigValues) (out watch : Change SinkState) (told : Outcome)
-    → GainedText out (run_text config) → StopsWithin (picture_text (picture_of config config.updates)) watch told → StopsRun (Some looks) config out watch told
-stopped_at_picture looks config out watch outcome.Done w h = absurd h
-stopped_at_picture looks config out watch outcome.BadWords w h = absurd h
-stopped_at_picture looks config out watch (outcome.BadInput why) w h = absurd h
-stopped_at_picture looks config out watch outcome.ReadFault w h = absurd h
-stopped_at_picture looks config out watch outcome.WriteFault w h = record {
-  ends = inl refl;
-  fault = λ is. inr h.0;
-  front = whole_front out (run_text config) w;
-  whole_log = λ is well. w;
-  pictures = last_front looks config watch h.1;
+-- the lines of a watcher, from its first look to its end
+pub record WritesWatched {T : Type 0} (looks : ℕ) (config : ConfigValues) (before after : SinkState)
+    (result : Result T Outcome) : Type 0 where
+  pub updates : List ℕ
+  pub watched : AreWatched looks config.updates updates
+  pub writes : WritesAll before after (pictures_text config updates) result
+
+-- the watcher stopped before the last look
+stopped_looks : {T : Type 0} {a b : SinkState} {e : Outcome} (looks : ℕ) (config : ConfigValues)
+    → WritesLooks looks config a b (Err e) → WritesWatched {T = T} looks config a b (Err e)
+stopped_looks {T = T} {a = a} {b = b} {e = e} looks config wrote = record {
+  updates = wrote.updates ++ news wrote.newest config.updates config.updates;
+  watched = watched looks config.updates wrote.newest wrote.updates wrote.seen;
+  writes = subst (λ text. WritesAll {T = T} a b text (Err e))
+      (sym (pictures_more config wrote.updates _)) (writes_short {T = Option ℕ} _ wrote.writes);
 }
-stopped_at_picture looks config out watch outcome.NoMemory w h = record {
+
+-- the last picture's line comes after those of the looks
+last_looks : {T : Type 0} {a b c : SinkState} {newest : Option ℕ} {r : Result T Outcome} (looks : ℕ)
+    (config : ConfigValues) → WritesLooks looks config a b (Ok newest)
+    → WritesAll b c (pictures_text config (news newest config.updates config.updates)) r
+    → WritesWatched looks config a c r
+last_looks {T = T} {a = a} {b = b} {c = c} {newest = newest} {r = r} looks config wrote last =
+    let told : newest ≡ wrote.newest = wrote.answer in
+    let line : WritesAll {T = T} b c
+    (pictures_text config (news wrote.newest config.updates config.updates)) r =
+    subst (λ (n : Option ℕ). WritesAll {T = T} b c
+    (pictures_text config (news n config.updates config.updates)) r) told last in
+    record {
+      updates = wrote.updates ++ news wrote.newest config.updates config.updates;
+      watched = watched looks config.updates wrote.newest wrote.updates wrote.seen;
+      writes = subst (λ text. WritesAll {T = T} a c text r)
+          (sym (pictures_more config wrote.updates _)) (writes_then _ wrote.writes line);
+    }
+
+-- the lines of a watcher that stopped
+pictures_front : {T : Type 0} {a b : SinkState} (looks : ℕ) (config : ConfigValues) (e : Outcome)
+    → WritesWatched {T = T} looks config a b (Err e) → GainedPicturesFront looks config (change a b)
+pictures_front looks config outcome.Done wrote = absurd wrote.writes.err
+pictures_front looks config outcome.BadWords wrote = absurd wrote.writes.err
+pictures_front looks config (outcome.BadInput why) wrote = absurd wrote.writes.err
+pictures_front looks config outcome.ReadFault wrote = absurd wrote.writes.err
+pictures_front looks config outcome.WriteFault wrote =
+    record { updates = wrote.updates; watched = wrote.watched; gained = wrote.writes.err.1 }
+pictures_front looks config outcome.NoMemory wrote =
+    record { updates = wrote.updates; watched = wrote.watched; gained = wrote.writes.err }
+
+-- the lines of looks, as far as they were written, are a prefix of those of a watcher
+looks_front : {a b : SinkState} (looks : ℕ) (config : ConfigValues) (r : Result (Option ℕ) Outcome)
+    → WritesLooks looks config a b r → GainedPicturesFront looks config (change a b)
+looks_front {a = a} {b = b} looks config (Ok newest) wrote = record {
+  updates = wrote.updates ++ news wrote.newest config.updates config.updates;
+  watched = watched looks config.updates wrote.newest wrote.updates wrote.seen;
+  gained = subst (GainedFront (change a b)) (sym (pictures_more config wrote.updates _))
+      (front_short a.held b.held _ _
+      (whole_front (change a b) (pictures_text config wrote.updates) wrote.writes.ok));
+}
+looks_front looks config (Err e) wrote =
+    pictures_front looks config e (stopped_looks {T = Option ℕ} looks config wrote)
+
+-- the log is whole, and the watcher stopped
+watch_stopped_by : {T : Type 0} {a b : SinkState} (looks : ℕ) (config : ConfigValues)
+    (out : Change SinkState) (e : Outcome)
+    → GainedText out (run_text config) → WritesWatched {T = T} looks config a b (Err e)
+    → StopsRun (Some looks) config out (change a b) e
+watch_stopped_by looks config out outcome.Done whole wrote = absurd wrote.writes.err
+watch_stopped_by looks config out outcome.BadWords whole wrote = absurd wrote.writes.err
+watch_stopped_by looks config out (outcome.BadInput why) whole wrote = absurd wrote.writes.err
+watch_stopped_by looks config out outcome.ReadFault whole wrote = absurd wrote.writes.err
+watch_stopped_by looks config out outcome.WriteFault whole wrote = record {
+  ends = inl refl;
+  fault = λ is. inr wrote.writes.err.0;
+  front = whole_front out (run_text config) whole;
+  whole_log = λ is well. whole;
+  pictures = pictures_front looks config outcome.WriteFault wrote;
+}
+watch_stopped_by looks config out outcome.NoMemory whole wrote = record {
   ends = inr refl;
   fault = λ is. absurd (cc);
-  front = whole_front out (run_text config) w;
+  front = whole_front out (run_text config) whole;
   whole_log = λ is. absurd (cc);
-  pictures = last_front looks config watch h;
+  pictures = pictures_front looks config outcome.NoMemory wrote;
 }
 
-stopped_at_last : (looks : Option ℕ) (config : ConfigValues) (out watch : Change SinkState) (told : Outcome)
-    → GainedText out (run_text config) → StopsPicture looks (final_world config) watch told → StopsRun looks config out watch told
-stopped_at_last None config out watch told w h = absurd h
-stopped_at_last (Some looks) config out watch told w h = stopped_at_picture looks config out watch told w h
+-- the runner stopped, however the watcher ended
+pub runner_stopped : {a b c d : SinkState} {e : Outcome} (looks : ℕ) (config : ConfigValues)
+    (r : Result (Option ℕ) Outcome)
+    → StopsWithin (run_text config) (change a b) e → WritesLooks looks config c d r
+    → StopsRun (Some looks) config (change a b) (change c d) e
+runner_stopped {a = a} {b = b} {c = c} {d = d} {e = e} looks config r ran wrote =
+    log_stopped_by (Some looks) config (change a b) (change c d) e ran
+    (looks_front looks config r wrote)
 
-pub picture_stopped : (looks : Option ℕ) (config : ConfigValues) (world : WorldValue) (out watch : Change SinkState) (told : Outcome)
-    → GainedText out (run_text config) → world ≡ final_world config → StopsPicture looks world watch told → StopsRun looks config out watch told
-picture_stopped looks config world out watch told w last h =
-    stopped_at_last looks config out watch told w (subst (λ (v : WorldValue). StopsPicture looks v watch told) last h)
+-- the runner came to its end, and the watcher stopped at one of its looks
+pub watcher_stopped : {a b c d : SinkState} {e : Outcome} (looks : ℕ) (config : ConfigValues)
+    → GainedText (change a b) (run_text config) → WritesLooks looks config c d (Err e)
+    → StopsRun (Some looks) config (change a b) (change c d) e
+watcher_stopped {a = a} {b = b} {e = e} looks config ran wrote =
+    watch_stopped_by {T = Option ℕ} looks config (change a b) e ran
+    (stopped_looks looks config wrote)
 
-last_pictures : (looks : Option ℕ) (config : ConfigValues) (watch : Change SinkState)
-    → IfSome looks (λ n. GainedText watch (picture_text (picture_of config config.updates))) → IfSome looks (λ n. GainedPictures n config watch)
-last_pictures None config watch h = tt
-last_pictures (Some looks) config watch h = last_picture looks config watch h
+-- both came to their end, and the last picture's line stopped
+pub last_stopped : {U : Type 0} {a b c d f : SinkState} {newest : Option ℕ} {e : Outcome}
+    (looks : ℕ) (config : ConfigValues)
+    → GainedText (change a b) (run_text config) → WritesLooks looks config c d (Ok newest)
+    → WritesAll {T = U} d f (pictures_text config (news newest config.updates config.updates))
+    (Err e) → StopsRun (Some looks) config (change a b) (change c f) e
+last_stopped {U = U} {a = a} {b = b} {e = e} looks config ran wrote last =
+    watch_stopped_by {T = U} looks config (change a b) e ran (last_looks looks config wrote last)
 
--- the line of the last world's picture is written
-pub picture_written : (looks : Option ℕ) (config : ConfigValues) (world : WorldValue) (watch : Change SinkState)
-    → IfSome looks (λ n. GainedText watch (picture_text (picture_of world.config world.update))) → world ≡ final_world config
-    → IfSome looks (λ n. GainedPictures n config watch)
-picture_written looks config world watch h last =
-    last_pictures looks config watch (subst (λ (v : WorldValue). IfSome looks (λ n. GainedText watch (picture_text (picture_of v.config v.update)))) last h)
+-- both came to their end, and the last picture's line is written
+pub all_watched : {U : Type 0} {c d f : SinkState} {newest : Option ℕ} {u : U} (looks : ℕ)
+    (config : ConfigValues) → WritesLooks looks config c d (Ok newest)
+    → WritesAll {T = U} d f (pictures_text config (news newest config.updates config.updates))
+    (Ok u) → GainedPictures looks config (change c f)
+all_watched looks config wrote last =
+    let all = last_looks looks config wrote last in
+    record { updates = all.updates; watched = all.watched; gained = all.writes.ok }
+
+-- memory ran out before anything was written
+pub nothing_run : (looks : ℕ) (config : ConfigValues) (out watch : SinkState)
+    → StopsRun (Some looks) config (change out out) (change watch watch) outcome.NoMemory
+nothing_run looks config out watch =
+    log_stopped (Some looks) config (change out out) (change watch watch) outcome.NoMemory
+    (stays_front (change out out) (run_text config) refl) refl

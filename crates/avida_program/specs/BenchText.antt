@@ -1,22 +1,17 @@
 -- What `bench` runs and writes (docs/FORMATS.md, "Bench lines").
-use Rattle.std.specs.Prelude.{ℕ, List, [], ◌++◌, codes, decimal, length, map}
-use Rattle.std.specs.List.{range_with_len, sum_by}
+use Rattle.std.specs.Prelude.{ℕ, List, [], ◌++◌, codes, decimal, length}
 use Rattle.toml.specs.Data.{no_members}
 use Rattle.log_lines.specs.Line.{Count}
 use Rattle.log_lines.specs.LineText.{line_text}
 use Rattle.world_config.specs.Config.{values_in}
 use Rattle.world_config.specs.Values.{ConfigValues}
 use Rattle.world_rules.specs.Statistics.{stats_of}
+use Rattle.assay.specs.Assay.{births_until}
 use Rattle.avida_program.specs.RunText.{run_text}
 
 -- the configuration that is run: each key has its default but the seed and the updates
 unfoldable pub bench_config : ℕ → ConfigValues
 bench_config seed = record (values_in no_members []) { seed = seed; updates = 200 }
-
--- the births of so many updates together
-unfoldable pub births_until : ConfigValues → ℕ → ℕ
-births_until config updates =
-    sum_by (λ stats. stats.births) (map (stats_of config) (range_with_len 1 updates))
 
 -- what is counted after a run's last update, its births, and how many bytes its log has
 unfoldable pub sums_text : ConfigValues → List ℕ

@@ -1,9 +1,9 @@
 -- What words give a command (docs/FORMATS.md, "The command line").
-use Rattle.std.specs.Prelude.{Bool, ℕ, List, [], ◌∷◌, Option, Some, None, ◌≤◌, ⊤, codes, if◌then◌else◌, option_map, option_and_then}
+use Rattle.std.specs.Prelude.{Bool, ℕ, List, [], ◌∷◌, Option, None, ◌≤◌, ⊤, codes, if◌then◌else◌, option_map, option_and_then}
 use Rattle.std.specs.Str.{bytes_eq}
 use Rattle.command_line.specs.Commands as told
 use Rattle.avida_program.specs.declared.command.Command.{Command}
-use Rattle.avida_program.specs.declared.command.Command.TheVariants.{Trace, Run, Lineage, Bench, Replay, Upgrade}
+use Rattle.avida_program.specs.declared.command.Command.TheVariants.{Trace, Run, Lineage, Bench, Assay, Replay, Upgrade, Tree, Landscape}
 use Rattle.avida_program.specs.declared.command.Spelling.{Spelling}
 use Rattle.avida_program.specs.declared.command.Spelling.TheVariants.{Letters, Names}
 
@@ -29,6 +29,15 @@ lineage_command words =
 abbrev pub bench_command : List (List ℕ) → Option Command
 bench_command words = option_map (λ bench. Bench bench.seed bench.workers) (told.bench_told words)
 
+-- `landscape` by the words after the name
+abbrev pub landscape_command : List (List ℕ) → Option Command
+landscape_command words = option_map (λ steps. Landscape steps) (told.landscape_told words)
+
+-- `assay` by the words after the name
+abbrev pub assay_command : List (List ℕ) → Option Command
+assay_command words =
+    option_map (λ assay. Assay assay.count assay.first assay.workers) (told.assay_told words)
+
 -- a command that takes no words
 abbrev pub bare_command : Command → List (List ℕ) → Option Command
 bare_command command words = option_map (λ nothing. command) (told.nothing_told words)
@@ -40,8 +49,11 @@ command_named name words =
     else if bytes_eq name (codes "run") then run_command words
     else if bytes_eq name (codes "lineage") then lineage_command words
     else if bytes_eq name (codes "bench") then bench_command words
+    else if bytes_eq name (codes "assay") then assay_command words
     else if bytes_eq name (codes "replay") then bare_command Replay words
     else if bytes_eq name (codes "upgrade") then bare_command Upgrade words
+    else if bytes_eq name (codes "tree") then bare_command Tree words
+    else if bytes_eq name (codes "landscape") then landscape_command words
     else None
 
 -- the first word is the name, and the words after it are read by its form
@@ -55,19 +67,27 @@ looks_of (Trace steps spelling) = None
 looks_of (Run workers looks) = looks
 looks_of (Lineage cell workers) = None
 looks_of (Bench seed workers) = None
+looks_of (Assay count first workers) = None
 looks_of Replay = None
 looks_of Upgrade = None
+looks_of Tree = None
+looks_of (Landscape steps) = None
 
 -- how often a watcher looks, where the words ask for one
 abbrev pub looks_told : List (List ℕ) → Option ℕ
 looks_told words = option_and_then looks_of (command_of words)
 
--- a command that runs a world has from 1 to 64 workers, and `bench` has a seed of a configuration
+-- a command that runs worlds has from 1 to 64 workers for each, `bench` has a seed of a
+-- configuration, and `assay` has from 1 to 64 of them
 abbrev pub IsInRange : Command → Type 0
 IsInRange (Trace steps spelling) = ⊤
 IsInRange (Run workers looks) = (1 ≤ workers) × (workers ≤ 64)
 IsInRange (Lineage cell workers) = (1 ≤ workers) × (workers ≤ 64)
 IsInRange (Bench seed workers) =
     (seed ≤ 9223372036854775807) × (1 ≤ workers) × (workers ≤ 64)
+IsInRange (Assay count first workers) = (1 ≤ count) × (count ≤ 64)
+    × (first ≤ 9223372036854775744) × (1 ≤ workers) × (workers ≤ 64)
 IsInRange Replay = ⊤
 IsInRange Upgrade = ⊤
+IsInRange Tree = ⊤
+IsInRange (Landscape steps) = ⊤

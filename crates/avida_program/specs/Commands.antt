@@ -1,20 +1,24 @@
 -- What `serve` promises of each command: a record a command, with a field for each sentence
 -- (docs/FORMATS.md, "The command line" and "Statuses and fault lines").
 use Rattle.std.specs.Prelude.{◌≡◌, ◌≢◌, ◌⊎◌, ℕ, List, Option, None, Some, IfSome, Result, Ok, Err}
+use Rattle.assay.specs.AssayText.{assay_text}
+use Rattle.landscape.specs.LandscapeText.{landscape_text}
+use Rattle.phylogeny.specs.TreeText.{tree_text}
 use Rattle.world_config.specs.Values.{ConfigValues}
 use Rattle.world_core.specs.WorldValue.{WorldValue}
 use Rattle.avida_program.specs.declared.command.Command.{Command}
-use Rattle.avida_program.specs.declared.command.Command.TheVariants.{Trace, Run, Lineage, Bench, Replay, Upgrade}
+use Rattle.avida_program.specs.declared.command.Command.TheVariants.{Trace, Run, Lineage, Bench, Assay, Replay, Upgrade, Tree, Landscape}
 use Rattle.avida_program.specs.declared.command.Spelling.{Spelling}
+use Rattle.avida_program.specs.declared.command.Spelling.TheVariants.{Letters}
 use Rattle.avida_program.specs.declared.status.Status.{Status}
 use Rattle.avida_program.specs.declared.status.Status.TheVariants as status
 use Rattle.avida_program.specs.declared.refusal.Refusal.{Refusal}
 use Rattle.avida_program.specs.BenchText.{bench_config, bench_text}
 use Rattle.avida_program.specs.Changes.{Call, OnBytes, Stays, SinkFailed, GainedText, GainedFront, TellsOf}
-use Rattle.avida_program.specs.Input.{IsInputWith, configuration_of, genome_of, lineage_input_of, log_input_of}
+use Rattle.avida_program.specs.Input.{IsInputWith, assay_input_of, configuration_of, genome_of, lineage_input_of, log_input_of}
 use Rattle.avida_program.specs.PathText.{path_text}
 use Rattle.avida_program.specs.ReplayText.{replay_text, upgrade_text}
-use Rattle.avida_program.specs.RunText.{GainedLogOf, final_world, run_text}
+use Rattle.avida_program.specs.RunText.{GainedLogOf, LeavesFinal, run_text}
 use Rattle.avida_program.specs.ServesInput.{ServesInput, ServesNothing}
 use Rattle.avida_program.specs.Status.{told_by}
 use Rattle.avida_program.specs.WatchText.{GainedPictures, GainedPicturesFront}
@@ -49,7 +53,7 @@ pub record ServesRun (looks : Option ℕ) (bytes : List ℕ) (call : Call) (s : 
   pub watched : IfSome looks (λ n. ServesWatcher n (configuration_of bytes) call s)
   -- Done: the world after the last update is left
   pub last_world : s ≡ status.Done
-      → IsInputWith (configuration_of bytes) (λ config. call.last.after ≡ Some (final_world config))
+      → IsInputWith (configuration_of bytes) (LeavesFinal call.last)
   -- Done: what `out` gained is a log that replays to who lives in the world that is left
   pub replays : s ≡ status.Done → (world : WorldValue) → call.last.after ≡ Some world
       → GainedLogOf call.out world
@@ -62,8 +66,8 @@ pub record ServesLineage (cell : ℕ) (bytes : List ℕ) (call : Call) (s : Stat
   pub serves :
       ServesInput None (lineage_input_of cell bytes) (λ config. path_text config cell) call s
   -- Done: the world after the last update is left
-  pub last_world : s ≡ status.Done → IsInputWith (lineage_input_of cell bytes)
-      (λ config. call.last.after ≡ Some (final_world config))
+  pub last_world : s ≡ status.Done
+      → IsInputWith (lineage_input_of cell bytes) (LeavesFinal call.last)
   -- else what was there stays
   pub last_stays : s ≢ status.Done → Stays call.last
 
@@ -74,13 +78,21 @@ pub record ServesBench (seed : ℕ) (call : Call) (s : Status) : Type 0 where
   pub ends : (s ≡ status.Done) ⊎ (s ≡ status.WriteFault) ⊎ (s ≡ status.NoMemory)
   -- Done: `out` gained exactly the text of the seed, and the world after the last update is left
   pub text : s ≡ status.Done → GainedText call.out (bench_text seed)
-  pub last_world : s ≡ status.Done → call.last.after ≡ Some (final_world (bench_config seed))
+  pub last_world : s ≡ status.Done → LeavesFinal call.last (bench_config seed)
   -- else a prefix of the text is written, and what was there stays
   pub front : s ≢ status.Done → GainedFront call.out (bench_text seed)
   pub last_stays : s ≢ status.Done → Stays call.last
   pub write_fault : s ≡ status.WriteFault → SinkFailed call.out
   pub watch_stays : Stays call.watch
   pub tells : TellsOf call.err (told_by {A = ℕ} (Ok seed) s)
+
+-- `assay` of so many seeds, from the first one on, on a source that tells these bytes
+pub record ServesAssay (count first : ℕ) (bytes : List ℕ) (call : Call) (s : Status)
+    : Type 0 where
+  -- what is read and written; worlds that have too many cells together are refused
+  pub serves : ServesInput None (assay_input_of count bytes)
+      (λ config. assay_text config first count) call s
+  pub last_stays : Stays call.last
 
 -- `replay`, on a source that tells these bytes
 pub record ServesReplay (bytes : List ℕ) (call : Call) (s : Status) : Type 0 where
@@ -92,6 +104,18 @@ pub record ServesUpgrade (bytes : List ℕ) (call : Call) (s : Status) : Type 0 
   pub serves : ServesInput None (log_input_of bytes) upgrade_text call s
   pub last_stays : Stays call.last
 
+-- `tree`, on a source that tells these bytes
+pub record ServesTree (bytes : List ℕ) (call : Call) (s : Status) : Type 0 where
+  pub serves : ServesInput None (log_input_of bytes) tree_text call s
+  pub last_stays : Stays call.last
+
+-- `landscape` of so many steps, on a source that tells these bytes
+pub record ServesLandscape (steps : ℕ) (bytes : List ℕ) (call : Call) (s : Status)
+    : Type 0 where
+  pub serves :
+      ServesInput None (genome_of Letters bytes) (λ genome. landscape_text genome steps) call s
+  pub last_stays : Stays call.last
+
 -- a call of each command; the number of workers changes nothing
 abbrev pub ServesCommand : Command → Call → Status → Type 0
 ServesCommand (Trace steps spelling) call s =
@@ -101,8 +125,13 @@ ServesCommand (Run workers looks) call s =
 ServesCommand (Lineage cell workers) call s =
     OnBytes call.source (λ bytes. ServesLineage cell bytes call s)
 ServesCommand (Bench seed workers) call s = ServesBench seed call s
+ServesCommand (Assay count first workers) call s =
+    OnBytes call.source (λ bytes. ServesAssay count first bytes call s)
 ServesCommand Replay call s = OnBytes call.source (λ bytes. ServesReplay bytes call s)
 ServesCommand Upgrade call s = OnBytes call.source (λ bytes. ServesUpgrade bytes call s)
+ServesCommand Tree call s = OnBytes call.source (λ bytes. ServesTree bytes call s)
+ServesCommand (Landscape steps) call s =
+    OnBytes call.source (λ bytes. ServesLandscape steps bytes call s)
 
 -- a call of the program, by the command that the words give
 abbrev pub Serves : Option Command → Call → Status → Type 0

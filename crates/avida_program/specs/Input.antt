@@ -1,4 +1,5 @@
--- Which input a command takes (docs/FORMATS.md, "Genomes by letters", "Genomes by names", "The configuration" and "The log").
+-- Which input a command takes (docs/FORMATS.md, "Genomes by letters", "Genomes by names", "The
+-- configuration" and "The log").
 use Rattle.std.specs.Prelude.{◌≡◌, ◌*◌, ℕ, List, Result, Ok, Err, length, nat_lt, if◌then◌else◌}
 use Rattle.instruction_set.specs.declared.letter.Letter.{Letter}
 use Rattle.genome.specs.declared.stop.GenomeStop.{GenomeStop}
@@ -11,7 +12,7 @@ use Rattle.world_config.specs.Values.{ConfigValues}
 use Rattle.avida_program.specs.declared.command.Spelling.{Spelling}
 use Rattle.avida_program.specs.declared.command.Spelling.TheVariants.{Letters, Names}
 use Rattle.avida_program.specs.declared.refusal.Refusal.{Refusal}
-use Rattle.avida_program.specs.declared.refusal.Refusal.TheVariants.{TooLong, Genome, Config, Log, Cell}
+use Rattle.avida_program.specs.declared.refusal.Refusal.TheVariants.{TooLong, Genome, Config, Log, Cell, Cells}
 
 -- an input, or what refuses it as the reason of a refusal
 abbrev pub refused_as : {A E : Type 0} → (E → Refusal) → Result A E → Result A Refusal
@@ -49,6 +50,18 @@ with_cell cell (Err why) = Err why
 -- the configuration of an input that asks for a cell, or why it is refused
 abbrev pub lineage_input_of : ℕ → List ℕ → Result ConfigValues Refusal
 lineage_input_of cell bytes = with_cell cell (configuration_of bytes)
+
+-- a configuration, unless so many of its worlds have more cells than run side by side; what
+-- refuses the configuration comes first
+abbrev pub with_worlds : ℕ → Result ConfigValues Refusal → Result ConfigValues Refusal
+with_worlds count (Ok config) =
+    let cells = count * config.width * config.height in
+    if nat_lt 131072 cells then Err (Cells cells) else Ok config
+with_worlds count (Err why) = Err why
+
+-- the configuration of an input of which so many worlds are asked for, or why it is refused
+abbrev pub assay_input_of : ℕ → List ℕ → Result ConfigValues Refusal
+assay_input_of count bytes = with_worlds count (configuration_of bytes)
 
 -- the lines of an input that is a log, or why it is refused
 abbrev pub log_input_of : List ℕ → Result (List Line) Refusal

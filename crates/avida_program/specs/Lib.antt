@@ -5,11 +5,14 @@ pub mod TraceText
 pub mod PathText
 pub mod Input
 pub mod ReplayText
+pub mod TreeText
 pub mod Changes
 pub mod ServesInput
 pub mod Commands
 pub mod Outcomes
 pub mod RunText
 pub mod WatchText
+pub mod Watching
+pub mod Publishing
 pub mod BenchText
 pub mod Work

@@ -1,4 +1,5 @@
--- How reading and writing below `serve` stop, by the outcome (docs/FORMATS.md, "Statuses and fault lines").
+-- How reading and writing below `serve` stop, by the outcome (docs/FORMATS.md, "Statuses and fault
+-- lines").
 use Rattle.std.specs.Prelude.{◌≡◌, ◌<◌, ◌⊎◌, ⊤, ℕ, List, length, Option, None, Some, IfSome, Result, Ok, Err, OnOk, IfErr}
 use Rattle.avida_port.specs.Ports.{SinkState, SourceState, CountsClimb, Gained}
 use Rattle.avida_port.specs.declared.sink.SinkStop.{SinkStop}
@@ -8,8 +9,6 @@ use Rattle.avida_program.specs.declared.outcome.Outcome.TheVariants as outcome
 use Rattle.avida_program.specs.declared.refusal.Refusal.{Refusal}
 use Rattle.avida_program.specs.declared.refusal.Refusal.TheVariants.{TooLong}
 use Rattle.world_config.specs.Values.{ConfigValues}
-use Rattle.world_core.specs.WorldValue.{WorldValue}
-use Rattle.world_rules.specs.Picture.{picture_of, picture_text}
 use Rattle.avida_program.specs.Changes.{Change, SourceFailed, SinkFailed, PutFailed, GainedText, GainedFront, change}
 use Rattle.avida_program.specs.RunText.{run_text}
 use Rattle.avida_program.specs.WatchText.{GainedPicturesFront}
@@ -63,12 +62,6 @@ pub record WritesAll {T : Type 0} (before after : SinkState) (text : List ℕ)
   pub ok : OnOk result (Gained before after text)
   pub err : IfErr result (StopsWithin text (change before after))
   pub counts : CountsClimb before after
-
--- how the writing of a world's picture stops, where there is a watcher
-abbrev pub StopsPicture : Option ℕ → WorldValue → Change SinkState → Outcome → Type 0
-StopsPicture None world watch told = ⊥
-StopsPicture (Some looks) world watch told =
-    StopsWithin (picture_text (picture_of world.config world.update)) watch told
 
 -- how the writing of a run stops, which may have a watcher
 pub record StopsRun (looks : Option ℕ) (config : ConfigValues) (out watch : Change SinkState)

@@ -1,5 +1,5 @@
 -- What `run` writes, and the world that it leaves (docs/FORMATS.md, "The log").
-use Rattle.std.specs.Prelude.{◌≡◌, ℕ, List, Ok}
+use Rattle.std.specs.Prelude.{◌≡◌, ℕ, List, Option, Some, Ok}
 use Rattle.avida_port.specs.Ports.{SinkState}
 use Rattle.log_lines.specs.Line.{Line}
 use Rattle.lineage_log.specs.LogGrammar.{log_of}
@@ -14,9 +14,15 @@ use Rattle.avida_program.specs.Changes.{Change, GainedText}
 abbrev pub run_text : ConfigValues → List ℕ
 run_text config = log_text config config.updates
 
--- the world after a configuration's last update
-abbrev pub final_world : ConfigValues → WorldValue
-final_world config = record { config = config; update = config.updates }
+-- this is the world after a configuration's last update
+pub record IsFinalWorld (of : ConfigValues) (world : WorldValue) : Type 0 where
+  pub config : world.config ≡ of
+  pub update : world.update ≡ of.updates
+
+-- the world after a configuration's last update is left
+abbrev pub LeavesFinal : Change (Option WorldValue) → ConfigValues → Type 0
+LeavesFinal last config =
+    (world : WorldValue) × (last.after ≡ Some world) × IsFinalWorld config world
 
 -- what the sink gained reads as a log, which replays to who lives in this world
 pub record GainedLogOf (sink : Change SinkState) (world : WorldValue) : Type 0 where

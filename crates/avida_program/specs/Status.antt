@@ -6,7 +6,7 @@ use Rattle.avida_program.specs.declared.status.Status.TheVariants as status
 use Rattle.avida_program.specs.declared.outcome.Outcome.{Outcome}
 use Rattle.avida_program.specs.declared.outcome.Outcome.TheVariants as outcome
 use Rattle.avida_program.specs.declared.refusal.Refusal.{Refusal}
-use Rattle.avida_program.specs.declared.refusal.Refusal.TheVariants.{TooLong, Genome, Config, Log, Cell}
+use Rattle.avida_program.specs.declared.refusal.Refusal.TheVariants.{TooLong, Genome, Config, Log, Cell, Cells}
 use Rattle.genome.specs.declared.stop.GenomeStop.{GenomeStop}
 use Rattle.genome.specs.declared.stop.GenomeStop.TheVariants as stop
 use Rattle.lineage_log.specs.declared.log_stop.LogStop.{LogStop}
@@ -91,6 +91,7 @@ reason_of (Genome why) = genome_reason why
 reason_of (Config why) = config_reason why
 reason_of (Log why) = log_reason why
 reason_of (Cell cell) = codes "cell " ++ decimal cell
+reason_of (Cells cells) = codes "cells " ++ decimal cells
 
 -- the line that tells of an outcome
 abbrev pub fault_line : Outcome → List ℕ

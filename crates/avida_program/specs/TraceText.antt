@@ -1,14 +1,14 @@
 -- What `trace` writes (docs/FORMATS.md, "Trace lines").
-use Rattle.std.specs.Prelude.{ℕ, zero, suc, ◌+◌, ◌++◌, ◌∷◌, [], List, ℤ, map, length, codes, decimal, nat_le, if◌then◌else◌}
+use Rattle.std.specs.Prelude.{ℕ, zero, suc, ◌+◌, ◌++◌, ◌∷◌, [], List, ℤ, map, codes, decimal}
 use Rattle.std.specs.List.{flat_map}
 use Rattle.std.specs.Fmt.{signed_decimal}
 use Rattle.instruction_set.specs.declared.letter.Letter.{Letter}
 use Rattle.instruction_set.specs.Letter.{byte_of, name_of}
 use Rattle.logic_tasks.specs.LogicTasks as tasks
-use Rattle.logic_tasks.specs.TaskSet.{no_tasks}
 use Rattle.divide_rules.specs.RuleName.{rule_name_of}
-use Rattle.organism.specs.OrganismState.{OrganismState, new_organism}
-use Rattle.organism.specs.TracedStep.{TracedStep, TracedRemark, nothing, task, refused, divide, trace_step_of}
+use Rattle.organism.specs.OrganismState.{OrganismState}
+use Rattle.organism.specs.TracedStep.{TracedStep, TracedRemark, nothing, task, refused, divide}
+use Rattle.landscape.specs.Trace.{step_after, traced_organism}
 
 -- a number with a space before it
 abbrev pub spaced : ℕ → List ℕ
@@ -37,28 +37,6 @@ step_text number step =
 -- the line of a step
 abbrev pub trace_line : ℕ → TracedStep → List ℕ
 trace_line number step = step_text number step ++ remark_text step.remark ++ codes "\n"
-
--- the memory limit of a trace, by the length of its genome
-abbrev pub trace_limit : ℕ → ℕ
-trace_limit letters = if nat_le letters 2048 then 2048 else 8192
-
--- the inputs of a trace
-abbrev pub trace_inputs : List ℕ
-trace_inputs = 0x0F0F0F0F ∷ 0x33333333 ∷ 0x55555555 ∷ []
-
--- the organism that a trace begins with: it has done no task, and its merit is its length
-abbrev pub traced_organism : List Letter → OrganismState
-traced_organism letters =
-    new_organism letters trace_inputs (length letters) no_tasks (trace_limit (length letters))
-
--- the organism after so many of its steps
-abbrev pub organism_after : OrganismState → ℕ → OrganismState
-organism_after organism zero = organism
-organism_after organism (suc n) = (trace_step_of (organism_after organism n)).0
-
--- the step that follows so many others
-abbrev pub step_after : OrganismState → ℕ → TracedStep
-step_after organism n = (trace_step_of (organism_after organism n)).1
 
 -- the numbers below this one
 abbrev pub numbers_below : ℕ → List ℕ

@@ -1,21 +1,26 @@
--- What each command's function leaves, by the outcome (docs/FORMATS.md, "Statuses and fault lines").
-use Rattle.std.specs.Prelude.{◌≡◌, ◌≢◌, ◌⊎◌, ℕ, List, [], Option, None, Some, IfSome, Result, Ok, Err}
+-- What each command's function leaves, by the outcome (docs/FORMATS.md, "Statuses and fault
+-- lines").
+use Rattle.std.specs.Prelude.{◌≡◌, ◌≢◌, ◌⊎◌, ℕ, List, [], Option, None, Some, IfSome, Result, Err}
+use Rattle.assay.specs.AssayText.{assay_text}
+use Rattle.landscape.specs.LandscapeText.{landscape_text}
+use Rattle.phylogeny.specs.TreeText.{tree_text}
 use Rattle.world_config.specs.Values.{ConfigValues}
 use Rattle.world_core.specs.WorldValue.{WorldValue}
 use Rattle.world_rules.specs.Laws.{ReplaysToLiving}
 use Rattle.avida_program.specs.declared.command.Command.{Command}
-use Rattle.avida_program.specs.declared.command.Command.TheVariants.{Trace, Run, Lineage, Bench, Replay, Upgrade}
+use Rattle.avida_program.specs.declared.command.Command.TheVariants.{Trace, Run, Lineage, Bench, Assay, Replay, Upgrade, Tree, Landscape}
+use Rattle.avida_program.specs.declared.command.Spelling.TheVariants.{Letters}
 use Rattle.avida_program.specs.declared.outcome.Outcome.{Outcome}
 use Rattle.avida_program.specs.declared.outcome.Outcome.TheVariants as outcome
 use Rattle.avida_program.specs.declared.refusal.Refusal.{Refusal}
 use Rattle.avida_program.specs.BenchText.{bench_config, bench_text}
 use Rattle.avida_program.specs.Changes.{Change, OnBytes, Stays, SourceFailed, SinkFailed, PutFailed, GainedText, GainedFront, Work}
 use Rattle.avida_program.specs.CommandLine.{looks_of}
-use Rattle.avida_program.specs.Input.{IsInputWith, configuration_of, genome_of, lineage_input_of, log_input_of}
+use Rattle.avida_program.specs.Input.{IsInputWith, assay_input_of, configuration_of, genome_of, lineage_input_of, log_input_of}
 use Rattle.avida_program.specs.Outcomes.{WritesText}
 use Rattle.avida_program.specs.PathText.{path_text}
 use Rattle.avida_program.specs.ReplayText.{replay_text, upgrade_text}
-use Rattle.avida_program.specs.RunText.{final_world, run_text}
+use Rattle.avida_program.specs.RunText.{LeavesFinal, run_text}
 use Rattle.avida_program.specs.TraceText.{trace_text}
 use Rattle.avida_program.specs.WatchText.{GainedPictures, GainedPicturesFront}
 
@@ -34,7 +39,7 @@ ReadsInput looks read text_of work outcome.NoMemory =
 
 -- a run that came to its end leaves its last world, and its log replays to who lives there
 pub record LeavesWorld (last : Change (Option WorldValue)) (config : ConfigValues) : Type 0 where
-  pub world : last.after ≡ Some (final_world config)
+  pub world : LeavesFinal last config
   pub replays : ReplaysToLiving config config.updates
 
 -- where all is done this holds of the input and the last world, and else what was there stays
@@ -68,10 +73,6 @@ pub record Runs (looks : Option ℕ) (bytes : List ℕ) (work : Work) (told : Ou
   pub watches : IfSome looks (λ n. Watches n (configuration_of bytes) work told)
   pub leaves : LeavesLast (configuration_of bytes) LeavesWorld work.last told
 
--- a configuration's last world is left
-abbrev pub LeavesFinal : Change (Option WorldValue) → ConfigValues → Type 0
-LeavesFinal last config = last.after ≡ Some (final_world config)
-
 -- `lineage` of a cell on these bytes
 pub record Descends (cell : ℕ) (bytes : List ℕ) (work : Work) (told : Outcome) : Type 0 where
   pub reads :
@@ -88,7 +89,7 @@ pub record ReadsAndWrites {A : Type 0} (read : Result A Refusal) (text_of : A �
 pub record Benches (seed : ℕ) (work : Work) (told : Outcome) : Type 0 where
   pub source_stays : Stays work.source
   pub writes : WritesText (bench_text seed) work.out told
-  pub leaves : told ≡ outcome.Done → work.last.after ≡ Some (final_world (bench_config seed))
+  pub leaves : told ≡ outcome.Done → LeavesFinal work.last (bench_config seed)
 
 -- what each command reads, writes and leaves
 abbrev pub Does : Command → Work → Outcome → Type 0
@@ -97,10 +98,16 @@ Does (Trace steps spelling) work told = OnBytes work.source (λ bytes.
 Does (Run workers looks) work told = OnBytes work.source (λ bytes. Runs looks bytes work told)
 Does (Lineage cell workers) work told = OnBytes work.source (λ bytes. Descends cell bytes work told)
 Does (Bench seed workers) work told = Benches seed work told
+Does (Assay count first workers) work told = OnBytes work.source (λ bytes.
+    ReadsAndWrites (assay_input_of count bytes) (λ config. assay_text config first count) work told)
 Does Replay work told =
     OnBytes work.source (λ bytes. ReadsAndWrites (log_input_of bytes) replay_text work told)
 Does Upgrade work told =
     OnBytes work.source (λ bytes. ReadsAndWrites (log_input_of bytes) upgrade_text work told)
+Does Tree work told =
+    OnBytes work.source (λ bytes. ReadsAndWrites (log_input_of bytes) tree_text work told)
+Does (Landscape steps) work told = OnBytes work.source (λ bytes.
+    ReadsAndWrites (genome_of Letters bytes) (λ genome. landscape_text genome steps) work told)
 
 -- a command is carried out, and ends so
 pub record CarriesOut (command : Command) (work : Work) (told : Outcome) : Type 0 where

@@ -6,11 +6,12 @@ ghost use Rattle.log_lines.specs.LineText.{line_text};
 ghost use Rattle.world_config.specs.Shown.{values_of};
 ghost use Rattle.world_rules.specs.LogText.{update_text, updates_text};
 ghost use Rattle.world_rules.specs.Statistics.{stats_of};
+ghost use Rattle.assay.specs.Assay.{births_until};
 ghost use Rattle.avida_program.specs.declared.command.Command.TheVariants.{Bench};
-ghost use Rattle.avida_program.specs.BenchText.{bench_config, bench_text, births_until, sums_text};
+ghost use Rattle.avida_program.specs.BenchText.{bench_config, bench_text, sums_text};
 ghost use Rattle.avida_program.specs.Changes.{GainedText, change, unchanged};
 ghost use Rattle.avida_program.specs.Outcomes.{StopsWithin};
-ghost use Rattle.avida_program.specs.RunText.{final_world, run_text};
+ghost use Rattle.avida_program.specs.RunText.{IsFinalWorld, run_text};
 ghost use Rattle.avida_program.specs.Work.{CarriesOut};
 
 use crate::Outcome;
@@ -19,6 +20,7 @@ use avida_port::{Gate, Memory, Sink};
 use log_lines::{LogLine, Stats, write_line};
 use std::alloc::Global;
 use std::sync::Wait;
+use std::thread::Threads;
 use world_config::Config;
 use world_core::World;
 
@@ -44,7 +46,7 @@ fn config_with(alloc: Global, seed: u64) -> Result<Config, Memory>
 }
 
 /// One update, whose text is counted and dropped.
-fn sum_update<R: Wait, G: Gate + Sync>(
+fn sum_update<R: Threads + Wait + Sync, G: Gate + Sync>(
     rt: &R,
     alloc: Global,
     world: World,
@@ -54,7 +56,8 @@ fn sum_update<R: Wait, G: Gate + Sync>(
     requires update { world.update < 1000000 }
     requires births { sums.births ≤ 2 ^ 100 }
     requires bytes { sums.bytes ≤ 2 ^ 100 }
-    ensures world { IfOk result (λ next. next.0 ≡ record world { update = world.update + 1 }) }
+    ensures config { IfOk result (λ next. next.0.config ≡ world.config) }
+    ensures update { IfOk result (λ next. next.0.update ≡ world.update + 1) }
     ensures births { IfOk result (λ next.
         next.1.births ≡ sums.births + (stats_of world.config (world.update + 1)).births) }
     ensures bytes { IfOk result (λ next.
@@ -69,7 +72,7 @@ fn sum_update<R: Wait, G: Gate + Sync>(
 }
 
 /// The updates of a new world, whose texts are counted and dropped.
-fn sum_updates<R: Wait, G: Gate + Sync>(
+fn sum_updates<R: Threads + Wait + Sync, G: Gate + Sync>(
     rt: &R,
     alloc: Global,
     mut world: World,
@@ -78,7 +81,8 @@ fn sum_updates<R: Wait, G: Gate + Sync>(
 ) -> Result<(World, Sums), Memory>
     requires new { world.update ≡ 0 }
     requires updates { updates ≤ 1000000 }
-    ensures world { IfOk result (λ after. after.0 ≡ record world { update = updates }) }
+    ensures config { IfOk result (λ after. after.0.config ≡ world.config) }
+    ensures update { IfOk result (λ after. after.0.update ≡ updates) }
     ensures births { IfOk result (λ after. after.1.births ≡ births_until world.config updates) }
     ensures bytes { IfOk result (λ after.
         after.1.bytes ≡ length (updates_text world.config updates)) }
@@ -96,7 +100,7 @@ fn sum_updates<R: Wait, G: Gate + Sync>(
 
 /// Runs a configuration to its end. The sums are its births and the bytes of its whole log.
 #[tactic(auto, using(crate::proofs::BenchLemmas::log_bytes))]
-fn run_and_sum<R: Wait, G: Gate + Sync>(
+fn run_and_sum<R: Threads + Wait + Sync, G: Gate + Sync>(
     rt: &R,
     alloc: Global,
     config: Config,
@@ -104,7 +108,7 @@ fn run_and_sum<R: Wait, G: Gate + Sync>(
     gate: &G,
 ) -> Result<(World, Sums), Memory>
     requires { (1 ≤ workers) × (workers ≤ 64) }
-    ensures world { IfOk result (λ ran. ran.0 ≡ final_world (values_of config)) }
+    ensures world { IfOk result (λ ran. IsFinalWorld (values_of config) ran.0) }
     ensures births { IfOk result (λ ran.
         ran.1.births ≡ births_until (values_of config) config.updates) }
     ensures bytes { IfOk result (λ ran. ran.1.bytes ≡ length (run_text (values_of config))) }
@@ -145,7 +149,7 @@ fn lines_of(alloc: Global, stats: Stats, sums: Sums) -> Result<Vec<u8>, Memory>
 
 /// Runs a configuration to its end, and gives the last world and the three lines.
 #[tactic(auto, unfolding(crate::specs::BenchText::sums_text))]
-fn run_and_tell<R: Wait, G: Gate + Sync>(
+fn run_and_tell<R: Threads + Wait + Sync, G: Gate + Sync>(
     rt: &R,
     alloc: Global,
     config: Config,
@@ -153,7 +157,7 @@ fn run_and_tell<R: Wait, G: Gate + Sync>(
     gate: &G,
 ) -> Result<(World, Vec<u8>), Memory>
     requires { (1 ≤ workers) × (workers ≤ 64) }
-    ensures world { IfOk result (λ ran. ran.0 ≡ final_world (values_of config)) }
+    ensures world { IfOk result (λ ran. IsFinalWorld (values_of config) ran.0) }
     ensures text { IfOk result (λ ran. ran.1.items ≡ sums_text (values_of config)) }
 {
     let (world, sums) = run_and_sum(rt, alloc, config, workers, gate)?;
@@ -162,7 +166,7 @@ fn run_and_tell<R: Wait, G: Gate + Sync>(
 }
 
 /// Runs the world of a seed, and writes the three lines.
-fn write_bench<R: Wait, O: Sink, G: Gate + Sync>(
+fn write_bench<R: Threads + Wait + Sync, O: Sink, G: Gate + Sync>(
     rt: &R,
     alloc: Global,
     seed: u64,
@@ -172,7 +176,7 @@ fn write_bench<R: Wait, O: Sink, G: Gate + Sync>(
 ) -> Result<World, Outcome>
     requires seed { seed ≤ 9223372036854775807 }
     requires workers { (1 ≤ workers) × (workers ≤ 64) }
-    ensures world { IfOk result (λ world. world ≡ final_world (bench_config seed)) }
+    ensures world { IfOk result (IsFinalWorld (bench_config seed)) }
     ensures ok { OnOk result (GainedText (change (O.seen out.old) (O.seen out.new))
         (bench_text seed)) }
     ensures err { IfErr result (StopsWithin (bench_text seed)
@@ -187,7 +191,7 @@ fn write_bench<R: Wait, O: Sink, G: Gate + Sync>(
 /// Runs the default configuration with this seed for 200 updates, and writes what is counted after
 /// the last one, its births and the length of its log. On `Done` the last world is left in `last`,
 /// and otherwise `last` stays as it was.
-pub fn bench<R: Wait, O: Sink, G: Gate + Sync>(
+pub fn bench<R: Threads + Wait + Sync, O: Sink, G: Gate + Sync>(
     rt: &R,
     alloc: Global,
     seed: u64,

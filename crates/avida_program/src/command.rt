@@ -1,9 +1,12 @@
 // The words of a command line.
 ghost use Rattle.std.specs.Prelude.{◌≡◌, ◌<◌, Some, MatchResult, IfOk, drop, length, map, string_bytes};
 ghost use Rattle.command_line.specs.Refusals.{Refuses};
-ghost use Rattle.avida_program.specs.CommandLine.{IsInRange, bare_command, bench_command, command_named, command_of, lineage_command, run_command, spelling_of, trace_command};
+ghost use Rattle.avida_program.specs.CommandLine.{IsInRange, assay_command, bare_command, bench_command, command_named, command_of, landscape_command, lineage_command, run_command, spelling_of, trace_command};
 
-use command_line::{Refused, read_bench, read_lineage, read_nothing, read_run, read_trace};
+use command_line::{
+    Refused, read_assay, read_bench, read_landscape, read_lineage, read_nothing, read_run,
+    read_trace,
+};
 use std::alloc::Global;
 
 /// How a genome is written: by letters or by names.
@@ -16,13 +19,35 @@ pub enum Spelling {
 /// What a command line asks for.
 #[derive(Clone, Copy, Debug, PartialEq, Eq)]
 pub enum Command {
-    Trace { steps: u32, spelling: Spelling },
+    Trace {
+        steps: u32,
+        spelling: Spelling,
+    },
     /// With `looks` there is a watcher, which looks at most so often.
-    Run { workers: u32, looks: Option<u32> },
-    Lineage { cell: u32, workers: u32 },
-    Bench { seed: u64, workers: u32 },
+    Run {
+        workers: u32,
+        looks: Option<u32>,
+    },
+    Lineage {
+        cell: u32,
+        workers: u32,
+    },
+    Bench {
+        seed: u64,
+        workers: u32,
+    },
+    /// So many seeds, from the first one on, each as a world of its own with so many workers.
+    Assay {
+        count: u32,
+        first: u64,
+        workers: u32,
+    },
     Replay,
     Upgrade,
+    Tree,
+    Landscape {
+        steps: u32,
+    },
 }
 
 fn genome_spelling(org: bool) -> Spelling
@@ -89,6 +114,30 @@ fn read_bench_words(alloc: Global, words: &[String]) -> Result<Command, Refused>
     })
 }
 
+fn read_landscape_words(alloc: Global, words: &[String]) -> Result<Command, Refused>
+    requires { 0 < length words.now }
+    ensures { MatchResult result
+        (λ command. landscape_command (drop 1 (map string_bytes words.now)) ≡ Some command)
+        (Refuses (landscape_command (drop 1 (map string_bytes words.now)))) }
+{
+    let steps = read_landscape(alloc, words)?;
+    Ok(Command::Landscape { steps })
+}
+
+fn read_assay_words(alloc: Global, words: &[String]) -> Result<Command, Refused>
+    requires { 0 < length words.now }
+    ensures { MatchResult result
+        (λ command. assay_command (drop 1 (map string_bytes words.now)) ≡ Some command)
+        (Refuses (assay_command (drop 1 (map string_bytes words.now)))) }
+{
+    let assay = read_assay(alloc, words)?;
+    Ok(Command::Assay {
+        count: assay.count,
+        first: assay.first,
+        workers: assay.workers,
+    })
+}
+
 /// A command that takes no words.
 fn read_bare_words(alloc: Global, words: &[String], command: Command) -> Result<Command, Refused>
     requires { 0 < length words.now }
@@ -115,8 +164,11 @@ fn read_named(alloc: Global, name: &str, words: &[String]) -> Result<Command, Re
         "run" => read_run_words(alloc, words),
         "lineage" => read_lineage_words(alloc, words),
         "bench" => read_bench_words(alloc, words),
+        "assay" => read_assay_words(alloc, words),
         "replay" => read_bare_words(alloc, words, Command::Replay),
         "upgrade" => read_bare_words(alloc, words, Command::Upgrade),
+        "tree" => read_bare_words(alloc, words, Command::Tree),
+        "landscape" => read_landscape_words(alloc, words),
         _ => Err(Refused::BadWords),
     }
 }

@@ -161,6 +161,7 @@ fn push_reason(line: &mut Line, refusal: &Refusal)
         Refusal::Config(stop) => push_config_reason(line, stop),
         Refusal::Log(stop) => push_log_reason(line, *stop),
         Refusal::Cell(cell) => push_number(line, "cell ", u64::from(*cell)),
+        Refusal::Cells(cells) => push_number(line, "cells ", u64::from(*cells)),
     }
 }
 

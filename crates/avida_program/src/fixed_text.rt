@@ -2,6 +2,7 @@
 ghost use Rattle.std.specs.Prelude.{◌≡◌, ◌+◌, ◌≤◌, ◌++◌, length, decimal};
 ghost use Rattle.std.specs.Fmt.{signed_decimal};
 ghost use Rattle.arrayvec.specs.ArrayVec.{array_vec_len};
+ghost use Rattle.avida_program.specs.TraceText.{spaced};
 
 use arrayvec::ArrayVec;
 
@@ -22,6 +23,16 @@ pub fn push_natural<const N: usize>(held: &mut ArrayVec<u8, N>, number: u64)
 {
     let mut digits = itoa::Buffer::new();
     push_text(held, digits.format(number));
+}
+
+/// Appends a space and a number in decimal.
+pub fn push_spaced<const N: usize>(held: &mut ArrayVec<u8, N>, number: u64)
+    requires { array_vec_len held.old + 21 ≤ N }
+    ensures items { held.new.items ≡ held.old.items ++ spaced number }
+    ensures len { array_vec_len held.new ≤ array_vec_len held.old + 21 }
+{
+    held.push(b' ');
+    push_natural(held, number);
 }
 
 /// Appends a signed number in decimal.

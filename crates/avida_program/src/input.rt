@@ -5,7 +5,7 @@ ghost use Rattle.genome.specs.Genome.{letters};
 ghost use Rattle.lineage_log.specs.Replay.{replay_of};
 ghost use Rattle.world_config.specs.Shown.{values_of};
 ghost use Rattle.avida_program.specs.Changes.{change};
-ghost use Rattle.avida_program.specs.Input.{IsInputWith, configuration_of, genome_of, genome_spelled, lineage_input_of, log_input_of};
+ghost use Rattle.avida_program.specs.Input.{IsInputWith, assay_input_of, configuration_of, genome_of, genome_spelled, lineage_input_of, log_input_of};
 ghost use Rattle.avida_program.specs.Outcomes.{RefusesInput, StopsReading};
 
 use crate::{Outcome, Refusal, Spelling};
@@ -17,6 +17,9 @@ use world_config::{Config, ConfigStop};
 
 /// A genome or a configuration with more bytes is rejected as too long.
 pub const INPUT_LIMIT: usize = 1_048_576;
+
+/// Worlds that run side by side have at most so many cells together.
+pub const MOST_CELLS: u32 = 131_072;
 
 /// Reads a source to its end. More bytes than the limit are rejected with `TooLong`.
 pub fn read_bytes<S: Source>(
@@ -89,6 +92,23 @@ pub fn read_config_with(alloc: Global, bytes: Vec<u8>, cell: u32) -> Result<Conf
         Ok(config)
     } else {
         Err(Outcome::BadInput(Refusal::Cell(cell)))
+    }
+}
+
+/// Reads a configuration from the bytes and drops them. So many of its worlds are rejected if
+/// together they have more cells than run side by side.
+pub fn read_config_for(alloc: Global, bytes: Vec<u8>, count: u32) -> Result<Config, Outcome>
+    requires bytes { length bytes.items ≤ 1048576 }
+    requires count { count ≤ 64 }
+    ensures ok { IfOk result (λ config. assay_input_of count bytes.items ≡ Ok (values_of config)) }
+    ensures refused { IfErr result (RefusesInput (assay_input_of count bytes.items)) }
+{
+    let config = read_config(alloc, bytes)?;
+    let cells = count * config.width * config.height;
+    if cells <= MOST_CELLS {
+        Ok(config)
+    } else {
+        Err(Outcome::BadInput(Refusal::Cells(cells)))
     }
 }
 

@@ -9,7 +9,7 @@ ghost use Rattle.avida_program.specs.declared.command.Command.TheVariants.{Linea
 ghost use Rattle.avida_program.specs.Changes.{GainedText, change, unchanged};
 ghost use Rattle.avida_program.specs.Outcomes.{StopsWithin, WritesText};
 ghost use Rattle.avida_program.specs.PathText.{origin_text, parent_text, path_line, path_lines, path_text, place_text};
-ghost use Rattle.avida_program.specs.RunText.{final_world};
+ghost use Rattle.avida_program.specs.RunText.{IsFinalWorld};
 ghost use Rattle.avida_program.specs.Work.{CarriesOut};
 
 use crate::input::{read_bytes, read_config_with};
@@ -24,6 +24,7 @@ use log_lines::{write_number, write_record};
 use mutations::Origin;
 use std::alloc::Global;
 use std::sync::Wait;
+use std::thread::Threads;
 use world_config::Config;
 use world_core::World;
 
@@ -118,7 +119,7 @@ fn write_descent<O: Sink>(alloc: Global, world: &World, cell: u32, out: &mut O) 
 }
 
 /// Runs a configuration to its end, and writes the line of descent of who stands in the cell then.
-fn run_and_write<R: Wait, O: Sink, G: Gate + Sync>(
+fn run_and_write<R: Threads + Wait + Sync, O: Sink, G: Gate + Sync>(
     rt: &R,
     alloc: Global,
     config: Config,
@@ -129,7 +130,7 @@ fn run_and_write<R: Wait, O: Sink, G: Gate + Sync>(
 ) -> Result<World, Outcome>
     requires workers { (1 ≤ workers) × (workers ≤ 64) }
     requires cell { cell < config.width * config.height }
-    ensures world { IfOk result (λ world. world ≡ final_world (values_of config)) }
+    ensures world { IfOk result (IsFinalWorld (values_of config)) }
     ensures ok { OnOk result (GainedText (change (O.seen out.old) (O.seen out.new))
         (path_text (values_of config) cell)) }
     ensures err { IfErr result (StopsWithin (path_text (values_of config) cell)
@@ -144,7 +145,7 @@ fn run_and_write<R: Wait, O: Sink, G: Gate + Sync>(
 
 /// Reads a configuration, runs it to its end, and writes the line of descent of the organism in the
 /// cell. On `Done` the last world is left in `last`, and otherwise `last` stays as it was.
-pub fn lineage<R: Wait, S: Source, O: Sink, G: Gate + Sync>(
+pub fn lineage<R: Threads + Wait + Sync, S: Source, O: Sink, G: Gate + Sync>(
     rt: &R,
     alloc: Global,
     cell: u32,

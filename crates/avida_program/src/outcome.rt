@@ -5,6 +5,7 @@ ghost use Rattle.avida_program.specs.Status.{status_of};
 
 use crate::{Refusal, Status};
 use avida_port::{Memory, SinkStop};
+use std::alloc::AllocError;
 
 /// How a call ends: its status, and for a rejected input the reason.
 #[derive(Drop)]
@@ -40,6 +41,17 @@ impl From<Memory> for Outcome {
     ghost from_gives = { λ _ told. told ≡ outcome.NoMemory };
 
     fn from(_e: Memory) -> Outcome {
+        Outcome::NoMemory
+    }
+}
+
+impl From<AllocError> for Outcome {
+    ghost use Rattle.std.specs.Prelude.{◌≡◌};
+    ghost use Rattle.avida_program.specs.declared.outcome.Outcome.TheVariants as outcome;
+
+    ghost from_gives = { λ _ told. told ≡ outcome.NoMemory };
+
+    fn from(_e: AllocError) -> Outcome {
         Outcome::NoMemory
     }
 }

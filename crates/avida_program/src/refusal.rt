@@ -14,4 +14,6 @@ pub enum Refusal {
     Log(LogStop),
     /// This cell is outside the world.
     Cell(u32),
+    /// So many cells are more than worlds may have that run side by side.
+    Cells(u32),
 }

@@ -3,24 +3,27 @@ ghost use Rattle.std.specs.Prelude.{◌≡◌, ◌≤◌, ◌<◌, ◌+◌, Some
 ghost use Rattle.world_config.specs.Shown.{values_of};
 ghost use Rattle.world_rules.specs.Laws.{ReplaysToLiving};
 ghost use Rattle.world_rules.specs.LogText.{head_text, update_text, updates_text, end_text};
-ghost use Rattle.world_rules.specs.Picture.{picture_of, picture_text};
 ghost use Rattle.avida_program.specs.declared.command.Command.TheVariants.{Run};
 ghost use Rattle.avida_program.specs.Changes.{GainedText, change};
-ghost use Rattle.avida_program.specs.Outcomes.{StopsPicture, StopsRun, WritesAll};
-ghost use Rattle.avida_program.specs.RunText.{final_world, run_text};
+ghost use Rattle.avida_program.specs.Outcomes.{StopsRun, WritesAll};
+ghost use Rattle.avida_program.specs.RunText.{IsFinalWorld, run_text};
 ghost use Rattle.avida_program.specs.WatchText.{GainedPictures};
 ghost use Rattle.avida_program.specs.Work.{CarriesOut};
 
 use crate::input::{read_bytes, read_config};
+use crate::watched_run::write_watched;
 use crate::{INPUT_LIMIT, Outcome};
 use avida_port::{Gate, Memory, Sink, Source};
 use std::alloc::Global;
 use std::sync::Wait;
+use std::thread::Threads;
+use std::time::Clock;
 use world_config::Config;
+use world_core::World;
 use world_core::laws::replay_gives_living;
-use world_core::{World, picture_line};
 
-fn write_first<O: Sink>(alloc: Global, world: &World, out: &mut O) -> Result<(), Outcome>
+/// Puts the log's first line.
+pub fn write_first<O: Sink>(alloc: Global, world: &World, out: &mut O) -> Result<(), Outcome>
     ensures { WritesAll (O.seen out.old) (O.seen out.new) (head_text world.now.config) result }
 {
     let line = world.first_line(alloc)?;
@@ -28,7 +31,8 @@ fn write_first<O: Sink>(alloc: Global, world: &World, out: &mut O) -> Result<(),
     Ok(())
 }
 
-fn write_last<O: Sink>(alloc: Global, world: &World, out: &mut O) -> Result<(), Outcome>
+/// Puts the log's last line.
+pub fn write_last<O: Sink>(alloc: Global, world: &World, out: &mut O) -> Result<(), Outcome>
     ensures { WritesAll (O.seen out.old) (O.seen out.new) (end_text world.now.update) result }
 {
     let line = world.last_line(alloc)?;
@@ -37,7 +41,7 @@ fn write_last<O: Sink>(alloc: Global, world: &World, out: &mut O) -> Result<(), 
 }
 
 /// One update, whose text is put whole.
-fn write_update<R: Wait, O: Sink, G: Gate + Sync>(
+pub fn write_update<R: Threads + Wait + Sync, O: Sink, G: Gate + Sync>(
     rt: &R,
     alloc: Global,
     world: World,
@@ -45,7 +49,8 @@ fn write_update<R: Wait, O: Sink, G: Gate + Sync>(
     gate: &G,
 ) -> Result<World, Outcome>
     requires { world.update < 1000000 }
-    ensures world { IfOk result (λ next. next ≡ record world { update = world.update + 1 }) }
+    ensures config { IfOk result (λ next. next.config ≡ world.config) }
+    ensures update { IfOk result (λ next. next.update ≡ world.update + 1) }
     ensures text { WritesAll (O.seen out.old) (O.seen out.new)
         (update_text world.config (world.update + 1)) result }
 {
@@ -55,7 +60,7 @@ fn write_update<R: Wait, O: Sink, G: Gate + Sync>(
 }
 
 /// The updates of a new world, with their texts.
-fn write_updates<R: Wait, O: Sink, G: Gate + Sync>(
+fn write_updates<R: Threads + Wait + Sync, O: Sink, G: Gate + Sync>(
     rt: &R,
     alloc: Global,
     mut world: World,
@@ -65,7 +70,8 @@ fn write_updates<R: Wait, O: Sink, G: Gate + Sync>(
 ) -> Result<World, Outcome>
     requires new { world.update ≡ 0 }
     requires updates { updates ≤ 1000000 }
-    ensures world { IfOk result (λ after. after ≡ record world { update = updates }) }
+    ensures config { IfOk result (λ after. after.config ≡ world.config) }
+    ensures update { IfOk result (λ after. after.update ≡ updates) }
     ensures text { WritesAll (O.seen out.old) (O.seen out.new)
         (updates_text world.config updates) result }
 {
@@ -76,7 +82,7 @@ fn write_updates<R: Wait, O: Sink, G: Gate + Sync>(
 }
 
 /// Runs a configuration to its end, and writes the log.
-fn write_log<R: Wait, O: Sink, G: Gate + Sync>(
+fn write_log<R: Threads + Wait + Sync, O: Sink, G: Gate + Sync>(
     rt: &R,
     alloc: Global,
     config: Config,
@@ -85,13 +91,11 @@ fn write_log<R: Wait, O: Sink, G: Gate + Sync>(
     gate: &G,
 ) -> Result<World, Outcome>
     requires workers { (1 ≤ workers) × (workers ≤ 64) }
-    ensures world { IfOk result (λ world. world ≡ final_world (values_of config)) }
+    ensures world { IfOk result (IsFinalWorld (values_of config)) }
     ensures text { WritesAll (O.seen out.old) (O.seen out.new)
         (run_text (values_of config)) result }
-    ensures replays { ReplaysToLiving (values_of config) config.updates }
 {
     let updates = config.updates;
-    replay_gives_living(&config, updates);
     let world = World::found(rt, alloc, config, workers)?;
     write_first(alloc, &world, out)?;
     let world = write_updates(rt, alloc, world, updates, out, gate)?;
@@ -99,41 +103,9 @@ fn write_log<R: Wait, O: Sink, G: Gate + Sync>(
     Ok(world)
 }
 
-/// Writes the line of the picture of a world.
-fn write_picture<W: Sink>(alloc: Global, world: &World, watch: &mut W) -> Result<(), Outcome>
-    ensures { WritesAll (W.seen watch.old) (W.seen watch.new)
-        (picture_text (picture_of world.now.config world.now.update)) result }
-{
-    let picture = world.picture(alloc)?;
-    let mut line = Vec::new(alloc);
-    picture_line(&picture, &mut line)?;
-    watch.put(&line)?;
-    Ok(())
-}
-
-/// Writes the picture of a world where there is a watcher.
-fn write_picture_for<W: Sink>(
-    alloc: Global,
-    looks: Option<u32>,
-    world: &World,
-    watch: &mut W,
-) -> Result<(), Outcome>
-    ensures ok { OnOk result (IfSome looks
-        (λ n. GainedText (change (W.seen watch.old) (W.seen watch.new))
-        (picture_text (picture_of world.now.config world.now.update)))) }
-    ensures err { IfErr result (StopsPicture looks world.now
-        (change (W.seen watch.old) (W.seen watch.new))) }
-    ensures unwatched { looks ≡ None → W.seen watch.new ≡ W.seen watch.old }
-{
-    match looks {
-        Some(_) => write_picture(alloc, world, watch),
-        None => Ok(()),
-    }
-}
-
-/// Runs a configuration to its end, and writes the log. A watcher doesn't work beside the run yet:
-/// it has the last picture alone.
-fn write_run<R: Wait, O: Sink, W: Sink, G: Gate + Sync>(
+/// Runs a configuration to its end, and writes the log. With `looks` a watcher works beside the
+/// run.
+fn write_run<R: Threads + Wait + Clock + Sync, O: Sink + Send, W: Sink + Send, G: Gate + Sync>(
     rt: &R,
     alloc: Global,
     config: Config,
@@ -144,7 +116,7 @@ fn write_run<R: Wait, O: Sink, W: Sink, G: Gate + Sync>(
     gate: &G,
 ) -> Result<World, Outcome>
     requires { (1 ≤ workers) × (workers ≤ 64) }
-    ensures world { IfOk result (λ world. world ≡ final_world (values_of config)) }
+    ensures world { IfOk result (IsFinalWorld (values_of config)) }
     ensures ok { OnOk result (GainedText (change (O.seen out.old) (O.seen out.new))
         (run_text (values_of config))) }
     ensures watched { OnOk result (IfSome looks (λ n. GainedPictures n (values_of config)
@@ -154,27 +126,31 @@ fn write_run<R: Wait, O: Sink, W: Sink, G: Gate + Sync>(
         (change (O.seen out.old) (O.seen out.new)) (change (W.seen watch.old) (W.seen watch.new))) }
     ensures replays { ReplaysToLiving (values_of config) config.updates }
 {
-    let world = write_log(rt, alloc, config, workers, out, gate)?;
-    write_picture_for(alloc, looks, &world, watch)?;
-    Ok(world)
+    let updates = config.updates;
+    replay_gives_living(&config, updates);
+    match looks {
+        Some(looks) => write_watched(rt, alloc, config, workers, looks, out, watch, gate),
+        None => write_log(rt, alloc, config, workers, out, gate),
+    }
 }
 
 /// One update, whose text is dropped.
-fn pass_update<R: Wait, G: Gate + Sync>(
+fn pass_update<R: Threads + Wait + Sync, G: Gate + Sync>(
     rt: &R,
     alloc: Global,
     world: World,
     gate: &G,
 ) -> Result<World, Memory>
     requires { world.update < 1000000 }
-    ensures { IfOk result (λ next. next ≡ record world { update = world.update + 1 }) }
+    ensures config { IfOk result (λ next. next.config ≡ world.config) }
+    ensures update { IfOk result (λ next. next.update ≡ world.update + 1) }
 {
     let (next, _text) = world.advance(rt, alloc, gate)?;
     Ok(next)
 }
 
 /// The updates of a new world, without their texts.
-fn pass_updates<R: Wait, G: Gate + Sync>(
+fn pass_updates<R: Threads + Wait + Sync, G: Gate + Sync>(
     rt: &R,
     alloc: Global,
     mut world: World,
@@ -183,7 +159,8 @@ fn pass_updates<R: Wait, G: Gate + Sync>(
 ) -> Result<World, Memory>
     requires new { world.update ≡ 0 }
     requires updates { updates ≤ 1000000 }
-    ensures { IfOk result (λ after. after ≡ record world { update = updates }) }
+    ensures config { IfOk result (λ after. after.config ≡ world.config) }
+    ensures update { IfOk result (λ after. after.update ≡ updates) }
 {
     for _ in 0..updates {
         world = pass_update(rt, alloc, world, gate)?;
@@ -192,7 +169,7 @@ fn pass_updates<R: Wait, G: Gate + Sync>(
 }
 
 /// Runs a configuration to its last update, and gives the world then.
-pub fn run_to_end<R: Wait, G: Gate + Sync>(
+pub fn run_to_end<R: Threads + Wait + Sync, G: Gate + Sync>(
     rt: &R,
     alloc: Global,
     config: Config,
@@ -200,7 +177,7 @@ pub fn run_to_end<R: Wait, G: Gate + Sync>(
     gate: &G,
 ) -> Result<World, Memory>
     requires workers { (1 ≤ workers) × (workers ≤ 64) }
-    ensures { IfOk result (λ world. world ≡ final_world (values_of config)) }
+    ensures { IfOk result (IsFinalWorld (values_of config)) }
 {
     let updates = config.updates;
     let world = World::found(rt, alloc, config, workers)?;
@@ -224,7 +201,13 @@ pub fn leave(run: Result<World, Outcome>, last: &mut Option<World>) -> Outcome
 /// Reads a configuration, and writes the log of its run. With `looks` there is a watcher, which
 /// writes lines of pictures to `watch`. On `Done` the last world is left in `last`, and otherwise
 /// `last` stays as it was.
-pub fn run<R: Wait, S: Source, O: Sink, W: Sink, G: Gate + Sync>(
+pub fn run<
+    R: Threads + Wait + Clock + Sync,
+    S: Source,
+    O: Sink + Send,
+    W: Sink + Send,
+    G: Gate + Sync,
+>(
     rt: &R,
     alloc: Global,
     workers: u32,

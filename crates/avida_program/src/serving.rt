@@ -10,15 +10,20 @@ use crate::bench::bench;
 use crate::command::{Command, read_words};
 use crate::fault_line::line_of;
 use crate::lineage::lineage;
+use crate::neighbours::landscape;
 use crate::replay::replay;
 use crate::run::run;
+use crate::seeds::assay;
 use crate::trace::trace;
+use crate::tree::tree;
 use crate::upgrade::upgrade;
 use crate::{Outcome, Status};
 use avida_port::{Gate, Sink, Source};
 use command_line::Refused;
 use std::alloc::Global;
 use std::sync::Wait;
+use std::thread::Threads;
+use std::time::Clock;
 use world_core::World;
 
 /// Writes the fault line to `err`. A failure there changes no status.
@@ -33,7 +38,13 @@ fn tell<E: Sink>(err: &mut E, outcome: &Outcome)
 }
 
 /// Calls the function of the command.
-fn carry_out<R: Wait, S: Source, O: Sink, W: Sink, G: Gate + Sync>(
+fn carry_out<
+    R: Threads + Wait + Clock + Sync,
+    S: Source,
+    O: Sink + Send,
+    W: Sink + Send,
+    G: Gate + Sync,
+>(
     rt: &R,
     alloc: Global,
     command: Command,
@@ -60,13 +71,26 @@ fn carry_out<R: Wait, S: Source, O: Sink, W: Sink, G: Gate + Sync>(
             lineage(rt, alloc, cell, workers, source, out, last, gate)
         }
         Command::Bench { seed, workers } => bench(rt, alloc, seed, workers, out, last, gate),
+        Command::Assay {
+            count,
+            first,
+            workers,
+        } => assay(rt, alloc, count, first, workers, source, out, gate),
         Command::Replay => replay(alloc, source, out),
         Command::Upgrade => upgrade(alloc, source, out),
+        Command::Tree => tree(alloc, source, out),
+        Command::Landscape { steps } => landscape(rt, alloc, steps, source, out),
     }
 }
 
 /// Carries out the command that the words give.
-fn obey<R: Wait, S: Source, O: Sink, W: Sink, G: Gate + Sync>(
+fn obey<
+    R: Threads + Wait + Clock + Sync,
+    S: Source,
+    O: Sink + Send,
+    W: Sink + Send,
+    G: Gate + Sync,
+>(
     rt: &R,
     alloc: Global,
     words: &[String],
@@ -92,9 +116,17 @@ fn obey<R: Wait, S: Source, O: Sink, W: Sink, G: Gate + Sync>(
 }
 
 /// All that the program does. The words say which command runs, and the status says how it ended.
-/// It may wait, since a world interns genomes. The functions of `trace`, `replay` and `upgrade` aren't
-/// handed `rt`, so these commands return.
-pub fn serve<R: Wait, S: Source, O: Sink + Send, W: Sink + Send, E: Sink, G: Gate + Sync>(
+/// It may wait and start threads, since a world interns genomes and a run may have a watcher. The
+/// functions of `trace`, `replay`, `upgrade` and `tree` aren't handed `rt`, and that of `landscape`
+/// may only start threads, so these commands return.
+pub fn serve<
+    R: Threads + Wait + Clock + Sync,
+    S: Source,
+    O: Sink + Send,
+    W: Sink + Send,
+    E: Sink,
+    G: Gate + Sync,
+>(
     rt: &R,
     alloc: Global,
     words: &[String],

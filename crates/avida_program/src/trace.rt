@@ -1,12 +1,12 @@
 // The command `trace`.
-ghost use Rattle.std.specs.Prelude.{◌≡◌, Option, length, IfOk};
+ghost use Rattle.std.specs.Prelude.{◌≡◌, Option};
 ghost use Rattle.avida_port.specs.Ports.{SinkState};
 ghost use Rattle.genome.specs.Genome.{letters};
 ghost use Rattle.world_core.specs.WorldValue.{WorldValue};
 ghost use Rattle.avida_program.specs.declared.command.Command.TheVariants.{Trace};
 ghost use Rattle.avida_program.specs.Changes.{change, unchanged};
 ghost use Rattle.avida_program.specs.Outcomes.{WritesText};
-ghost use Rattle.avida_program.specs.TraceText.{lines_of, trace_limit, trace_text, traced_organism};
+ghost use Rattle.avida_program.specs.TraceText.{lines_of, trace_text};
 ghost use Rattle.avida_program.specs.Work.{CarriesOut};
 
 use crate::input::{read_bytes, read_genome};
@@ -15,43 +15,10 @@ use crate::piece::Piece;
 use crate::trace_line::write_line;
 use crate::{INPUT_LIMIT, Outcome, Spelling};
 use avida_port::{Memory, Sink, Source};
-use genome::{GREATEST_LENGTH, Genome};
-use logic_tasks::{Inputs, Tasks};
-use organism::{Organism, TRACE_LENGTH};
+use genome::Genome;
+use landscape::traced_organism;
+use organism::Organism;
 use std::alloc::Global;
-use std::sync::Arc;
-
-/// The memory limit of a trace, by the length of its genome.
-fn memory_limit(letters: u32) -> u32
-    ensures { result ≡ trace_limit letters }
-{
-    if letters <= TRACE_LENGTH {
-        TRACE_LENGTH
-    } else {
-        GREATEST_LENGTH
-    }
-}
-
-/// The organism that a trace begins with.
-#[tactic(auto, unfolding(organism::specs::OrganismState::new_organism))]
-fn found(alloc: Global, genome: Genome) -> Result<Organism, Memory>
-    ensures founded { IfOk result (λ organism. organism ≡ traced_organism (letters genome)) }
-    ensures age { IfOk result (λ organism. organism.age ≡ 0) }
-{
-    let len = genome.len();
-    let inputs = Inputs::of([0x0F0F_0F0F, 0x3333_3333, 0x5555_5555]);
-    let Ok(genome) = Arc::new(alloc, genome) else {
-        return Err(Memory);
-    };
-    Organism::found(
-        alloc,
-        genome,
-        inputs,
-        len as u64,
-        Tasks::none(),
-        memory_limit(len),
-    )
-}
 
 /// Steps an organism of age 0, and writes a line a step.
 fn write_steps<O: Sink>(alloc: Global, mut organism: Organism, steps: u32, out: &mut O) -> Outcome
@@ -75,7 +42,7 @@ fn write_trace<O: Sink>(alloc: Global, genome: Genome, steps: u32, out: &mut O) 
     ensures { WritesText (trace_text (letters genome) steps)
         (change (O.seen out.old) (O.seen out.new)) result }
 {
-    match found(alloc, genome) {
+    match traced_organism(alloc, genome) {
         Ok(organism) => write_steps(alloc, organism, steps, out),
         Err(Memory) => Outcome::NoMemory,
     }

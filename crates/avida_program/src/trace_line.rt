@@ -10,7 +10,7 @@ ghost use Rattle.organism.specs.TracedStep.{remark_value, traced_value};
 ghost use Rattle.avida_program.specs.Pieces.{Writes};
 ghost use Rattle.avida_program.specs.TraceText.{remark_text, spaced, spaced_value, step_text, trace_line};
 
-use crate::fixed_text::{push_integer, push_natural, push_text};
+use crate::fixed_text::{push_integer, push_natural, push_spaced, push_text};
 use crate::piece::{PIECE_SIZE, Piece, make_room, write_byte, write_letters};
 use avida_port::{Sink, SinkStop};
 use divide_rules::Rule;
@@ -20,15 +20,6 @@ use organism::{Remark, Traced};
 
 /// No line is longer before its letters.
 const LINE_ROOM: usize = 192;
-
-fn push_spaced(piece: &mut Piece, number: u64)
-    requires { array_vec_len piece.old + 21 ≤ PIECE_SIZE }
-    ensures items { piece.new.items ≡ piece.old.items ++ spaced number }
-    ensures len { array_vec_len piece.new ≤ array_vec_len piece.old + 21 }
-{
-    piece.push(b' ');
-    push_natural(piece, number);
-}
 
 fn push_values(piece: &mut Piece, values: &[i32; 3])
     requires { array_vec_len piece.old + 36 ≤ PIECE_SIZE }

@@ -5,8 +5,8 @@ use std::alloc::Global;
 use std::test::Fail;
 use world_core::World;
 
-/// Words and an input, with the world that is left: its cells, its counts, the length of its bank, and
-/// who lives where, with the genome's number.
+/// Words and an input, with the world that is left: its cells, its counts, the length of its bank,
+/// and who lives where, with the genome's number.
 const WORLDS: &str = "run
 =>
 updates = 0
@@ -186,5 +186,18 @@ fn bench_leaves_its_world_after_200_updates(rt: HostRuntime) -> Result<(), Fail>
     let text = text_of(alloc, world)?;
     let front = b"3600 cells\nU 200 384 37 17 285 38443 0 0 0 0 0 0 0 0 0\nbank of 658\n0 594 ";
     assert!(rt; text.starts_with(front));
+    Ok(())
+}
+
+#[test]
+fn a_world_keeps_the_living_and_their_ancestors(rt: HostRuntime) -> Result<(), Fail> {
+    let alloc = rt.alloc();
+    let config = b"width = 60\nheight = 60\nupdates = 100\nseed = 42\n";
+    let served = serve_on(&rt, alloc, "run --workers 4", config)?;
+    let world = served.last.as_ref().ok_or("no world")?;
+    // Of 92 organisms in the log of an independent program 67 live at its end, and 17 others are
+    // ancestors of them.
+    assert_eq!(rt; world.stats().living, 67);
+    assert_eq!(rt; world.nodes(), 84);
     Ok(())
 }

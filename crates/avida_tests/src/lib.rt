@@ -4,6 +4,8 @@
 #[cfg(test)]
 mod left_worlds;
 #[cfg(test)]
+mod meetings;
+#[cfg(test)]
 mod one_cell;
 #[cfg(test)]
 mod run_faults;
@@ -11,3 +13,5 @@ mod run_faults;
 mod served;
 #[cfg(test)]
 mod trace_faults;
+#[cfg(test)]
+mod watched;

@@ -6,8 +6,14 @@ use avida_program::Status;
 use std::alloc::{AllocError, Global};
 use std::sync::Wait;
 use std::test::Fail;
+use std::thread::Threads;
+use std::time::Clock;
 
-fn served_with<R: Wait>(rt: &R, alloc: Global, faults: Faults) -> Result<Served, AllocError> {
+fn served_with<R: Threads + Wait + Clock + Sync>(
+    rt: &R,
+    alloc: Global,
+    faults: Faults,
+) -> Result<Served, AllocError> {
     serve_with(rt, alloc, "run", CONFIG.as_bytes(), faults)
 }
 

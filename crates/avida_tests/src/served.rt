@@ -1,8 +1,10 @@
 // A call of `serve` over sources and sinks in memory.
-use avida_port::{Failing, MemSink, MemSource, NoGate};
+use avida_port::{Failing, Gate, MemSink, MemSource, NoGate, Sink};
 use avida_program::{Status, serve};
 use std::alloc::{AllocError, Global};
 use std::sync::Wait;
+use std::thread::Threads;
+use std::time::Clock;
 use world_core::World;
 
 /// What a call answered and left.
@@ -11,6 +13,15 @@ pub struct Served {
     pub status: Status,
     pub out: MemSink,
     pub watch: MemSink,
+    pub err: MemSink,
+    pub last: Option<World>,
+}
+
+/// The same of a call whose watch the caller keeps.
+#[derive(Drop)]
+pub struct Answered {
+    pub status: Status,
+    pub out: MemSink,
     pub err: MemSink,
     pub last: Option<World>,
 }
@@ -33,14 +44,16 @@ pub const NO_FAULTS: Faults<'static> = Faults {
     err_puts: &[],
 };
 
-/// Serves the words, which spaces part, on these bytes.
-pub fn serve_with<R: Wait>(
+/// Serves the words, which spaces part, on these bytes, with this watch and this gate.
+pub fn serve_beside<R: Threads + Wait + Clock + Sync, W: Sink + Send, G: Gate + Sync>(
     rt: &R,
     alloc: Global,
     words: &str,
     bytes: &[u8],
     faults: Faults,
-) -> Result<Served, AllocError> {
+    watch: &mut W,
+    gate: &G,
+) -> Result<Answered, AllocError> {
     let mut texts = Vec::new(alloc);
     for word in words.split(' ') {
         if !word.is_empty() {
@@ -53,7 +66,6 @@ pub fn serve_with<R: Wait>(
         faults.reads.to_vec(alloc)?,
     );
     let mut out = MemSink::new(alloc, faults.puts.to_vec(alloc)?);
-    let mut watch = MemSink::new(alloc, faults.watch_puts.to_vec(alloc)?);
     let mut err = MemSink::new(alloc, faults.err_puts.to_vec(alloc)?);
     let mut last = None;
     let status = serve(
@@ -62,11 +74,35 @@ pub fn serve_with<R: Wait>(
         &texts,
         &mut source,
         &mut out,
-        &mut watch,
+        watch,
         &mut err,
         &mut last,
-        &NoGate,
+        gate,
     );
+    Ok(Answered {
+        status,
+        out,
+        err,
+        last,
+    })
+}
+
+/// Serves the words, which spaces part, on these bytes.
+pub fn serve_with<R: Threads + Wait + Clock + Sync>(
+    rt: &R,
+    alloc: Global,
+    words: &str,
+    bytes: &[u8],
+    faults: Faults,
+) -> Result<Served, AllocError> {
+    let mut watch = MemSink::new(alloc, faults.watch_puts.to_vec(alloc)?);
+    let answered = serve_beside(rt, alloc, words, bytes, faults, &mut watch, &NoGate)?;
+    let Answered {
+        status,
+        out,
+        err,
+        last,
+    } = answered;
     Ok(Served {
         status,
         out,
@@ -77,7 +113,7 @@ pub fn serve_with<R: Wait>(
 }
 
 /// The same where nothing fails.
-pub fn serve_on<R: Wait>(
+pub fn serve_on<R: Threads + Wait + Clock + Sync>(
     rt: &R,
     alloc: Global,
     words: &str,

@@ -13,41 +13,74 @@ use Rattle.random_streams.specs.RandomStream.{Stream, word_of}
 
 -- the board once some parents had their newborns placed
 abbrev pub board_after : TorusNumbers → Season → List (Option ℕ) → List ℕ → Board
-board_after torus season occupants parents = fold (next_board torus season) (record { occupants = occupants; placings = []; parents = [] }) parents
+board_after torus season occupants parents =
+    fold (next_board torus season) (record { occupants = occupants; placings = []; parents = [] })
+    parents
 
 -- a board tells whose newborns were placed
-pub board-parents : (torus : TorusNumbers) (season : Season) (board : Board) (parents : List ℕ) → (fold (next_board torus season) board parents).parents ≡ board.parents ++ parents
+pub board-parents : (torus : TorusNumbers) (season : Season) (board : Board) (parents : List ℕ)
+    → (fold (next_board torus season) board parents).parents ≡ board.parents ++ parents
 unfolding next_board
 board-parents torus season board [] = sym (append-nil board.parents)
-board-parents torus season board (parent ∷ parents) = board-parents torus season (next_board torus season board parent) parents ∙ append_assoc board.parents (parent ∷ []) parents
+board-parents torus season board (parent ∷ parents) =
+    board-parents torus season (next_board torus season board parent) parents
+    ∙ append_assoc board.parents (parent ∷ []) parents
 
 -- how many words the stream of a cell gave, where cells come in order
-pub words-taken : (current cell taken : ℕ) (before : List ℕ) → current ≤ cell → taken ≡ 4 * count_by (λ p. p == current) before → ((q : ℕ) → current < q → count_by (λ p. p == q) before ≡ 0) → cond (current == cell) taken 0 ≡ 4 * count_by (λ p. p == cell) before
+pub words-taken : (current cell taken : ℕ) (before : List ℕ) → current ≤ cell
+    → taken ≡ 4 * count_by (λ p. p == current) before
+    → ((q : ℕ) → current < q → count_by (λ p. p == q) before ≡ 0)
+    → cond (current == cell) taken 0 ≡ 4 * count_by (λ p. p == cell) before
 words-taken current cell taken before order same later =
-    elim (eqb_tells current cell) [ inl h ↦ rw h.0 (same ∙ ap (λ q. 4 * count_by (λ p. p == q) before) h.1) | inr h ↦ rw h.0 (sym (ap (λ n. 4 * n) (later cell (omega (arith, h.1))))) ]
+    elim (eqb_tells current cell) [
+      | inl h ↦ rw h.0 (same ∙ ap (λ q. 4 * count_by (λ p. p == q) before) h.1)
+      | inr h ↦ rw h.0 (sym (ap (λ n. 4 * n) (later cell (omega (arith, h.1)))))
+    ]
 
 -- a torus has few cells
 pub cells_of-few : (torus : Torus) → cells_of (torus_numbers torus) ≤ 65536
 cells_of-few torus = mul-le-mul torus.few_columns torus.few_rows
 
 -- what a turn places is the next placing
-pub placing-next : (torus : TorusNumbers) (season : Season) (board : Board) (parent : ℕ) (before : List ℕ) (occupants : List (Option ℕ)) (id : ℕ) (draws : Stream) (placing : Placing) → board.parents ≡ before → occupants ≡ board.occupants → id ≡ season.next_id + length before → draws ≡ place_stream season parent (4 * count_by (λ p. p == parent) before) → placing ≡ placing_of torus season.prefer_empty occupants id parent (word_of draws draws.taken ∷ word_of draws (draws.taken + 1) ∷ word_of draws (draws.taken + 2) ∷ word_of draws (draws.taken + 3) ∷ []) → placing ≡ next_placing torus season board parent
-placing-next torus season board parent before occupants id draws placing same who id_is stream placed =
+pub placing-next : (torus : TorusNumbers) (season : Season) (board : Board) (parent : ℕ)
+    (before : List ℕ) (occupants : List (Option ℕ)) (id : ℕ) (draws : Stream) (placing : Placing)
+    → board.parents ≡ before → occupants ≡ board.occupants → id ≡ season.next_id + length before
+    → draws ≡ place_stream season parent (4 * count_by (λ p. p == parent) before)
+    → placing ≡ placing_of torus season.prefer_empty occupants id parent
+    (word_of draws draws.taken ∷ word_of draws (draws.taken + 1) ∷ word_of draws (draws.taken + 2)
+    ∷ word_of draws (draws.taken + 3) ∷ []) → placing ≡ next_placing torus season board parent
+placing-next torus season board parent before occupants id draws placing same who id_is stream
+    placed =
     placed ∙ rw (stream, who, id_is, same) refl
 
 -- who stands where after a turn
-pub next_board-occupants : (torus : TorusNumbers) (season : Season) (board : Board) (parent : ℕ) (occupants new : List (Option ℕ)) (placing : Placing) → occupants ≡ board.occupants → placing ≡ next_placing torus season board parent → new ≡ set occupants placing.cell (Some placing.id) → new ≡ (next_board torus season board parent).occupants
+pub next_board-occupants : (torus : TorusNumbers) (season : Season) (board : Board) (parent : ℕ)
+    (occupants new : List (Option ℕ)) (placing : Placing) → occupants ≡ board.occupants
+    → placing ≡ next_placing torus season board parent
+    → new ≡ set occupants placing.cell (Some placing.id)
+    → new ≡ (next_board torus season board parent).occupants
 unfolding next_board
-next_board-occupants torus season board parent occupants new placing who placed stands = stands ∙ rw (who, placed) refl
+next_board-occupants torus season board parent occupants new placing who placed stands =
+    stands ∙ rw (who, placed) refl
 
 -- the placings after a turn
-pub next_board-placings : (torus : TorusNumbers) (season : Season) (board : Board) (parent : ℕ) (placings new : List Placing) (placing : Placing) → placings ≡ board.placings → placing ≡ next_placing torus season board parent → new ≡ placings ++ placing ∷ [] → new ≡ (next_board torus season board parent).placings
+pub next_board-placings : (torus : TorusNumbers) (season : Season) (board : Board) (parent : ℕ)
+    (placings new : List Placing) (placing : Placing) → placings ≡ board.placings
+    → placing ≡ next_placing torus season board parent → new ≡ placings ++ placing ∷ []
+    → new ≡ (next_board torus season board parent).placings
 unfolding next_board
-next_board-placings torus season board parent placings new placing so_far placed stands = stands ∙ rw (so_far, placed) refl
+next_board-placings torus season board parent placings new placing so_far placed stands =
+    stands ∙ rw (so_far, placed) refl
 
 -- the board after one parent more
-pub board_after-more : (torus : TorusNumbers) (season : Season) (occupants : List (Option ℕ)) (parents : List ℕ) (i : ℕ) → i < length parents → board_after torus season occupants (take (i + 1) parents) ≡ next_board torus season (board_after torus season occupants (take i parents)) (get_or parents i 0)
-board_after-more torus season occupants parents i within = fold_more (next_board torus season) (record { occupants = occupants; placings = []; parents = [] }) parents i 0 within
+pub board_after-more : (torus : TorusNumbers) (season : Season) (occupants : List (Option ℕ))
+    (parents : List ℕ) (i : ℕ) → i < length parents
+    → board_after torus season occupants (take (i + 1) parents)
+    ≡ next_board torus season (board_after torus season occupants (take i parents))
+    (get_or parents i 0)
+board_after-more torus season occupants parents i within =
+    fold_more (next_board torus season)
+    (record { occupants = occupants; placings = []; parents = [] }) parents i 0 within
 
 -- a number below another is not that number
 pub eqb-below : (a b : ℕ) → a < b → (a == b) ≡ false

@@ -12,7 +12,8 @@ use Rattle.birth_board.specs.Torus.{TorusNumbers, cells_of, neighbours_of}
 abbrev pub is_free : List (Option ℕ) → ℕ → Bool
 is_free occupants cell = is_none (slice_index_or occupants cell None)
 
--- the cells among which the word chooses: the empty neighbours where these are preferred and there are any, else all eight
+-- the cells among which the word chooses: the empty neighbours where these are preferred and there
+-- are any, else all eight
 abbrev pub choices_of : TorusNumbers → Bool → List (Option ℕ) → ℕ → List ℕ
 choices_of torus prefer_empty occupants parent =
     let free = filter (is_free occupants) (neighbours_of torus parent) in

@@ -22,7 +22,8 @@ impl Model for Occupants {
 
 impl Occupants {
     pub fn empty(alloc: Global, torus: &Torus) -> Result<Occupants, Memory>
-        ensures { IfOk result (λ occupants. occupants ≡ replicate (cells_of (torus_numbers torus.now)) None) }
+        ensures { IfOk result (λ occupants. occupants
+            ≡ replicate (cells_of (torus_numbers torus.now)) None) }
     {
         let cells = torus.width as usize * torus.height as usize;
         Ok(Occupants {

@@ -104,7 +104,8 @@ fn place_one(
     requires cells { length occupants.old ≡ cells_of (torus_numbers torus.now) }
     requires parent { parent < cells_of (torus_numbers torus.now) }
     requires room { draws.old.taken + 4 < 2 ^ 48 }
-    ensures placing { result ≡ placing_of (torus_numbers torus.now) prefer_empty occupants.old id parent
+    ensures placing { result ≡ placing_of (torus_numbers torus.now) prefer_empty occupants.old id
+        parent
         (word_of draws.old draws.old.taken ∷ word_of draws.old (draws.old.taken + 1)
         ∷ word_of draws.old (draws.old.taken + 2) ∷ word_of draws.old (draws.old.taken + 3) ∷ []) }
     ensures in_torus { result.cell < cells_of (torus_numbers torus.now) }
@@ -126,12 +127,14 @@ fn place_one(
     }
 }
 
-/// The cell that a word chooses among the neighbours, or among the empty ones where these are preferred.
+/// The cell that a word chooses among the neighbours, or among the empty ones where these are
+/// preferred.
 #[tactic(auto, unfolding(crate::specs::Placement::chosen_cell))]
 fn choose(torus: &Torus, occupants: &Occupants, prefer_empty: bool, parent: u32, word: u32) -> u32
     requires cells { length occupants.now ≡ cells_of (torus_numbers torus.now) }
     requires parent { parent < cells_of (torus_numbers torus.now) }
-    ensures value { result ≡ chosen_cell (torus_numbers torus.now) prefer_empty occupants.now parent word }
+    ensures value { result ≡ chosen_cell (torus_numbers torus.now) prefer_empty occupants.now parent
+        word }
     ensures in_torus { result < cells_of (torus_numbers torus.now) }
 {
     let around = neighbours(torus, parent);

@@ -12,8 +12,10 @@ use Rattle.cell_shards.specs.Finishing.{HasInterned, IsNumbered, birth_of, call_
 use Rattle.cell_shards.specs.declared.delivered.Delivered.{Delivered}
 
 -- what stands in a list stands in each that begins with it
-slice_get-begins : {A : Type 0} (xs ys : List A) (place : ℕ) (x : A) → IsPrefix xs ys → slice_get xs place ≡ Some x → slice_get ys place ≡ Some x
-slice_get-begins {A = A} xs ys place x begins at = subst (λ l. slice_get l place ≡ Some x) begins.1 (front xs place at)
+slice_get-begins : {A : Type 0} (xs ys : List A) (place : ℕ) (x : A) → IsPrefix xs ys
+    → slice_get xs place ≡ Some x → slice_get ys place ≡ Some x
+slice_get-begins {A = A} xs ys place x begins at =
+    subst (λ l. slice_get l place ≡ Some x) begins.1 (front xs place at)
   where
     front : (l : List A) (i : ℕ) → slice_get l i ≡ Some x → slice_get (l ++ begins.0) i ≡ Some x
     front [] i none = absurd (grind (arith, none))
@@ -22,10 +24,13 @@ slice_get-begins {A = A} xs ys place x begins at = subst (λ l. slice_get l plac
 
 -- a list that begins one that begins another begins that
 IsPrefix-trans : {A : Type 0} (xs ys zs : List A) → IsPrefix xs ys → IsPrefix ys zs → IsPrefix xs zs
-IsPrefix-trans xs ys zs a b = (a.0 ++ b.0, sym (append_assoc xs a.0 b.0) ∙ ap (λ l. l ++ b.0) a.1 ∙ b.1)
+IsPrefix-trans xs ys zs a b =
+    (a.0 ++ b.0, sym (append_assoc xs a.0 b.0) ∙ ap (λ l. l ++ b.0) a.1 ∙ b.1)
 
 -- one newborn more, of those that are left
-pub births-more : (deliveries next : List Delivered) (d : Delivered) (birth : BirthValue) (rest left all : List BirthValue) → next ≡ deliveries ++ d ∷ [] → birth_of d ≡ birth → left ≡ birth ∷ rest → map birth_of deliveries ++ left ≡ all → map birth_of next ++ rest ≡ all
+pub births-more : (deliveries next : List Delivered) (d : Delivered) (birth : BirthValue)
+    (rest left all : List BirthValue) → next ≡ deliveries ++ d ∷ [] → birth_of d ≡ birth
+    → left ≡ birth ∷ rest → map birth_of deliveries ++ left ≡ all → map birth_of next ++ rest ≡ all
 births-more deliveries next d birth rest left all is same taken so_far =
     ap (λ ds. map birth_of ds ++ rest) is
     ∙ ap (λ bs. bs ++ rest) (map-append birth_of deliveries (d ∷ []))
@@ -35,7 +40,8 @@ births-more deliveries next d birth rest left all is same taken so_far =
     ∙ so_far
 
 -- before any newborn
-pub HasInterned-none : (seat : SeatValue) (births : List Delivered) → births ≡ [] → HasInterned seat seat births
+pub HasInterned-none : (seat : SeatValue) (births : List Delivered) → births ≡ []
+    → HasInterned seat seat births
 HasInterned-none seat births none = record {
   bank = refl;
   share = refl;
@@ -46,11 +52,15 @@ HasInterned-none seat births none = record {
   numbers = subst (All (IsNumbered seat.seen)) (sym none) (All-nil (IsNumbered seat.seen));
 }
 
-module _ (seen : (before after : SeatValue) (call : Call) → MakesCall before after call → IsPrefix before.seen after.seen)
-    (stay : (early history : List Entry) → IsPrefix early history → IsPrefix (genotypes_of early) (genotypes_of history)) where
+module _ (seen : (before after : SeatValue) (call : Call) → MakesCall before after call
+    → IsPrefix before.seen after.seen)
+    (stay : (early history : List Entry) → IsPrefix early history
+    → IsPrefix (genotypes_of early) (genotypes_of history)) where
   -- one newborn more
-  pub HasInterned-more : (old now new : SeatValue) (births next : List Delivered) (d : Delivered) → HasInterned old now births
-      → new.bank ≡ now.bank → new.share ≡ now.share → MakesCall now new (call_for d) → IsNumbered new.seen d → next ≡ births ++ d ∷ [] → HasInterned old new next
+  pub HasInterned-more : (old now new : SeatValue) (births next : List Delivered) (d : Delivered)
+      → HasInterned old now births
+      → new.bank ≡ now.bank → new.share ≡ now.share → MakesCall now new (call_for d)
+      → IsNumbered new.seen d → next ≡ births ++ d ∷ [] → HasInterned old new next
   HasInterned-more old now new births next d so_far bank share made numbered is =
       let begins : IsPrefix now.seen new.seen = seen now new (call_for d) made in
       let last = entry made.number (call_for d) in
@@ -59,12 +69,16 @@ module _ (seen : (before after : SeatValue) (call : Call) → MakesCall before a
         share = share ∙ so_far.share;
         seen = IsPrefix-trans old.seen now.seen new.seen so_far.seen begins;
         calls = so_far.calls ++ last ∷ [];
-        own = made.own ∙ ap (λ calls. calls ++ last ∷ []) so_far.own ∙ append_assoc (own_calls_of old) so_far.calls (last ∷ []);
-        interned = map-append (λ (call : Entry). call.call) so_far.calls (last ∷ []) ∙ ap (λ calls. calls ++ call_for d ∷ []) so_far.interned ∙ sym (map-append call_for births (d ∷ []));
+        own = made.own ∙ ap (λ calls. calls ++ last ∷ []) so_far.own
+            ∙ append_assoc (own_calls_of old) so_far.calls (last ∷ []);
+        interned = map-append (λ (call : Entry). call.call) so_far.calls (last ∷ [])
+            ∙ ap (λ calls. calls ++ call_for d ∷ []) so_far.interned
+            ∙ sym (map-append call_for births (d ∷ []));
         numbers = All-push (IsNumbered new.seen) births d
             (All-weaker (IsNumbered now.seen) (IsNumbered new.seen)
             (λ other at. record {
-              place = slice_get-begins (genotypes_of now.seen) (genotypes_of new.seen) other.handle.number (genome_in other) (stay now.seen new.seen begins) at.place;
+              place = slice_get-begins (genotypes_of now.seen) (genotypes_of new.seen)
+                  other.handle.number (genome_in other) (stay now.seen new.seen begins) at.place;
               small = at.small;
             }) births so_far.numbers)
             numbered;

@@ -9,29 +9,39 @@ use Rattle.organism.specs.OrganismState.{OrganismState}
 use Rattle.cell_shards.specs.CellLives.{CellLife, RoundNumbers, part_from, life_of, life_at, lives_of, births_in, births_from, deaths_from, has_died}
 
 -- two lists, numbered one after the other
-enumerate_from-append : {X : Type 0} (k : ℕ) (xs ys : List X) → enumerate_from k (xs ++ ys) ≡ enumerate_from k xs ++ enumerate_from (k + length xs) ys
+enumerate_from-append : {X : Type 0} (k : ℕ) (xs ys : List X)
+    → enumerate_from k (xs ++ ys) ≡ enumerate_from k xs ++ enumerate_from (k + length xs) ys
 enumerate_from-append k [] ys = ap (λ (n : ℕ). enumerate_from n ys) (sym (add-zero k))
 enumerate_from-append k (x ∷ xs) ys =
     let next : k + 1 + length xs ≡ k + suc (length xs) = omega arith in
-    ap (λ rest. (k, x) ∷ rest) (enumerate_from-append (k + 1) xs ys ∙ ap (λ (n : ℕ). enumerate_from (k + 1) xs ++ enumerate_from n ys) next)
+    ap (λ rest. (k, x) ∷ rest)
+    (enumerate_from-append (k + 1) xs ys
+    ∙ ap (λ (n : ℕ). enumerate_from (k + 1) xs ++ enumerate_from n ys) next)
 
 -- the births of two parts
-pub births_from-append : (first : ℕ) (lives more : List CellLife) → births_from first (lives ++ more) ≡ births_from first lives ++ births_from (first + length lives) more
+pub births_from-append : (first : ℕ) (lives more : List CellLife)
+    → births_from first (lives ++ more) ≡ births_from first lives
+    ++ births_from (first + length lives) more
 unfolding births_from
 births_from-append first lives more =
-    ap (flat_map births_in) (enumerate_from-append first lives more) ∙ flat_map-append births_in (enumerate_from first lives) (enumerate_from (first + length lives) more)
+    ap (flat_map births_in) (enumerate_from-append first lives more)
+    ∙ flat_map-append births_in (enumerate_from first lives)
+    (enumerate_from (first + length lives) more)
 
 -- the cell of a numbered life
 abbrev cell_in : ℕ × CellLife → ℕ
 cell_in place = place.0
 
 -- the deaths of two parts
-pub deaths_from-append : (first : ℕ) (lives more : List CellLife) → deaths_from first (lives ++ more) ≡ deaths_from first lives ++ deaths_from (first + length lives) more
+pub deaths_from-append : (first : ℕ) (lives more : List CellLife)
+    → deaths_from first (lives ++ more) ≡ deaths_from first lives
+    ++ deaths_from (first + length lives) more
 unfolding deaths_from
 deaths_from-append first lives more =
     let front = enumerate_from first lives in
     let back = enumerate_from (first + length lives) more in
-    ap (λ (places : List (ℕ × CellLife)). map cell_in (filter has_died places)) (enumerate_from-append first lives more)
+    ap (λ (places : List (ℕ × CellLife)). map cell_in (filter has_died places))
+    (enumerate_from-append first lives more)
     ∙ ap (map cell_in) (filter-append has_died front back)
     ∙ map-append cell_in (filter has_died front) (filter has_died back)
 
@@ -41,12 +51,18 @@ unfolding births_from
 births_from-one cell l = append-nil (births_in (cell, l))
 
 -- the births with those of one more cell
-pub births_from-push : (first : ℕ) (lives : List CellLife) (l : CellLife) (cell : ℕ) → first + length lives ≡ cell → births_from first (lives ++ l ∷ []) ≡ births_from first lives ++ births_in (cell, l)
+pub births_from-push : (first : ℕ) (lives : List CellLife) (l : CellLife) (cell : ℕ)
+    → first + length lives ≡ cell → births_from first (lives ++ l ∷ []) ≡ births_from first lives
+    ++ births_in (cell, l)
 births_from-push first lives l cell place =
-    births_from-append first lives (l ∷ []) ∙ ap (λ births. births_from first lives ++ births) (births_from-one (first + length lives) l) ∙ ap (λ (k : ℕ). births_from first lives ++ births_in (k, l)) place
+    births_from-append first lives (l ∷ [])
+    ∙ ap (λ births. births_from first lives ++ births)
+    (births_from-one (first + length lives) l)
+    ∙ ap (λ (k : ℕ). births_from first lives ++ births_in (k, l)) place
 
 -- the cell of one life, where it ended by age
-cell_if : (died : Bool) (cell : ℕ) (l : CellLife) → map cell_in (cond died ((cell, l) ∷ []) []) ≡ cond died (cell ∷ []) []
+cell_if : (died : Bool) (cell : ℕ) (l : CellLife)
+    → map cell_in (cond died ((cell, l) ∷ []) []) ≡ cond died (cell ∷ []) []
 cell_if true cell l = refl
 cell_if false cell l = refl
 
@@ -56,22 +72,31 @@ unfolding deaths_from
 deaths_from-one cell l = cell_if l.died cell l
 
 -- the deaths with that of one more cell
-pub deaths_from-push : (first : ℕ) (lives : List CellLife) (l : CellLife) (cell : ℕ) → first + length lives ≡ cell → deaths_from first (lives ++ l ∷ []) ≡ deaths_from first lives ++ cond l.died (cell ∷ []) []
+pub deaths_from-push : (first : ℕ) (lives : List CellLife) (l : CellLife) (cell : ℕ)
+    → first + length lives ≡ cell → deaths_from first (lives ++ l ∷ []) ≡ deaths_from first lives
+    ++ cond l.died (cell ∷ []) []
 deaths_from-push first lives l cell place =
-    deaths_from-append first lives (l ∷ []) ∙ ap (λ dead. deaths_from first lives ++ dead) (deaths_from-one (first + length lives) l) ∙ ap (λ (k : ℕ). deaths_from first lives ++ cond l.died (k ∷ []) []) place
+    deaths_from-append first lives (l ∷ [])
+    ∙ ap (λ dead. deaths_from first lives ++ dead) (deaths_from-one (first + length lives) l)
+    ∙ ap (λ (k : ℕ). deaths_from first lives ++ cond l.died (k ∷ []) []) place
 
 -- functions that agree on two ranges
-map_range-agree : {X : Type 0} (f g : ℕ → X) (a b n : ℕ) → ((k : ℕ) → k < n → f (a + k) ≡ g (b + k)) → map f (range_with_len a n) ≡ map g (range_with_len b n)
+map_range-agree : {X : Type 0} (f g : ℕ → X) (a b n : ℕ) → ((k : ℕ) → k < n → f (a + k) ≡ g (b + k))
+    → map f (range_with_len a n) ≡ map g (range_with_len b n)
 map_range-agree f g a b zero agree = refl
 map_range-agree f g a b (suc n) agree =
     let here : f a ≡ g b = ap f (sym (add-zero a)) ∙ agree 0 (omega arith) ∙ ap g (add-zero b) in
     let next : (x k : ℕ) → x + 1 + k ≡ x + (k + 1) = λ x k. omega arith in
-    let rest = map_range-agree f g (a + 1) (b + 1) n (λ k below. ap f (next a k) ∙ agree (k + 1) (omega arith) ∙ ap g (sym (next b k))) in
+    let rest = map_range-agree f g (a + 1) (b + 1) n
+    (λ k below. ap f (next a k) ∙ agree (k + 1) (omega arith) ∙ ap g (sym (next b k))) in
     λ i. here i ∷ rest i
 
 -- a range in two parts
-map_range-split : {X : Type 0} (f : ℕ → X) (a n m : ℕ) → map f (range_with_len a (n + m)) ≡ map f (range_with_len a n) ++ map f (range_with_len (a + n) m)
-map_range-split f a n zero = ap (λ (k : ℕ). map f (range_with_len a k)) (add-zero n) ∙ sym (append-nil (map f (range_with_len a n)))
+map_range-split : {X : Type 0} (f : ℕ → X) (a n m : ℕ)
+    → map f (range_with_len a (n + m)) ≡ map f (range_with_len a n)
+    ++ map f (range_with_len (a + n) m)
+map_range-split f a n zero = ap (λ (k : ℕ). map f (range_with_len a k)) (add-zero n)
+    ∙ sym (append-nil (map f (range_with_len a n)))
 map_range-split f a n (suc m) =
     let front = map f (range_with_len a n) in
     let last = a + (n + m) in
@@ -85,8 +110,12 @@ map_range-split f a n (suc m) =
     ∙ ap (λ (k : ℕ). front ++ map f (range_with_len (a + n) k)) one
 
 -- the lives of two parts
-pub lives_of-append : (round : RoundNumbers) (first : ℕ) (cells others : List (Option OrganismState)) (slices more : List ℕ) → length slices ≡ length cells
-    → lives_of round (part_from first (cells ++ others) (slices ++ more)) ≡ lives_of round (part_from first cells slices) ++ lives_of round (part_from (first + length cells) others more)
+pub lives_of-append : (round : RoundNumbers) (first : ℕ)
+    (cells others : List (Option OrganismState)) (slices more : List ℕ)
+    → length slices ≡ length cells
+    → lives_of round (part_from first (cells ++ others) (slices ++ more))
+    ≡ lives_of round (part_from first cells slices)
+    ++ lives_of round (part_from (first + length cells) others more)
 unfolding lives_of
 lives_of-append round first cells others slices more same =
     let whole = life_at round (part_from first (cells ++ others) (slices ++ more)) in
@@ -94,19 +123,26 @@ lives_of-append round first cells others slices more same =
     let back = life_at round (part_from (first + length cells) others more) in
     let n = length cells in
     let m = length others in
-    let left : map whole (range_with_len 0 n) ≡ map front (range_with_len 0 n) = map_range-agree whole front 0 0 n (λ k below.
+    let left : map whole (range_with_len 0 n) ≡ map front (range_with_len 0 n) =
+    map_range-agree whole front 0 0 n (λ k below.
     let steps = get_or_append_left slices more 0 (0 + k) (omega (arith, below, same)) in
     let slot = get_or_append_left cells others None (0 + k) (omega (arith, below)) in
     λ i. life_of round (first + (0 + k)) (steps i) (slot i)) in
-    let right : map whole (range_with_len (0 + n) m) ≡ map back (range_with_len 0 m) = map_range-agree whole back (0 + n) 0 m (λ k below.
+    let right : map whole (range_with_len (0 + n) m) ≡ map back (range_with_len 0 m) =
+    map_range-agree whole back (0 + n) 0 m (λ k below.
     let place : first + (0 + n + k) ≡ first + n + (0 + k) = omega arith in
     let from : 0 + n + k - n ≡ 0 + k = omega arith in
-    let steps = get_or-append_right slices more n (0 + n + k) 0 same (omega arith) ∙ ap (λ (j : ℕ). get_or more j 0) from in
-    let slot = get_or-append_right cells others n (0 + n + k) None refl (omega arith) ∙ ap (λ (j : ℕ). get_or others j None) from in
+    let steps = get_or-append_right slices more n (0 + n + k) 0 same (omega arith)
+    ∙ ap (λ (j : ℕ). get_or more j 0) from in
+    let slot = get_or-append_right cells others n (0 + n + k) None refl (omega arith)
+    ∙ ap (λ (j : ℕ). get_or others j None) from in
     λ i. life_of round (place i) (steps i) (slot i)) in
-    ap (λ (k : ℕ). map whole (range_with_len 0 k)) (length-append cells others) ∙ map_range-split whole 0 n m ∙ ap₂ (λ xs ys. xs ++ ys) left right
+    ap (λ (k : ℕ). map whole (range_with_len 0 k)) (length-append cells others)
+    ∙ map_range-split whole 0 n m ∙ ap₂ (λ xs ys. xs ++ ys) left right
 
 -- there is a life for each cell
-pub length-lives_of : (round : RoundNumbers) (first : ℕ) (cells : List (Option OrganismState)) (slices : List ℕ) → length (lives_of round (part_from first cells slices)) ≡ length cells
+pub length-lives_of : (round : RoundNumbers) (first : ℕ) (cells : List (Option OrganismState))
+    (slices : List ℕ) → length (lives_of round (part_from first cells slices)) ≡ length cells
 unfolding lives_of
-length-lives_of round first cells slices = length-map-range_with_len (life_at round (part_from first cells slices)) 0 (length cells)
+length-lives_of round first cells slices =
+    length-map-range_with_len (life_at round (part_from first cells slices)) 0 (length cells)

@@ -6,9 +6,11 @@ use Rattle.std.proofs.lemmas.Nat.{le-div}
 use Rattle.cell_shards.specs.Shards.{first_cell, IsInShard}
 
 -- a later shard begins no earlier
-pub first_cell-rises : (cells workers shard later : ℕ) → 1 ≤ workers → shard ≤ later → first_cell cells workers shard ≤ first_cell cells workers later
+pub first_cell-rises : (cells workers shard later : ℕ) → 1 ≤ workers → shard ≤ later
+    → first_cell cells workers shard ≤ first_cell cells workers later
 first_cell-rises cells workers shard later some up =
-    le-div (first_cell cells workers shard) (cells * later) workers (omega arith) (omega (arith, div-mul-le_self (cells * shard) workers, mul-le-mul_left cells up))
+    le-div (first_cell cells workers shard) (cells * later) workers (omega arith)
+    (omega (arith, div-mul-le_self (cells * shard) workers, mul-le-mul_left cells up))
 
 -- the first shard begins at 0
 pub first_cell-zero : (cells workers : ℕ) → first_cell cells workers 0 ≡ 0
@@ -23,8 +25,10 @@ first_cell-end cells workers some =
     mul-div_cancel cells positive
 
 -- a cell before the first one of a shard is in an earlier shard
-shard_before : (cells workers cell n : ℕ) → cell < first_cell cells workers n → (shard : ℕ) × (shard < n) × IsInShard cells workers shard cell
-shard_before cells workers cell zero below = absurd (omega (arith, below, first_cell-zero cells workers))
+shard_before : (cells workers cell n : ℕ) → cell < first_cell cells workers n
+    → (shard : ℕ) × (shard < n) × IsInShard cells workers shard cell
+shard_before cells workers cell zero below =
+    absurd (omega (arith, below, first_cell-zero cells workers))
 shard_before cells workers cell (suc n) below =
     elim (cases_lt cell (first_cell cells workers n)) [
       | inl left ↦
@@ -33,24 +37,33 @@ shard_before cells workers cell (suc n) below =
       | inr from ↦ (
         n,
         omega arith,
-        record { from = from; before = subst (λ k. cell < first_cell cells workers k) (sym (add-one n)) below },
+        record {
+          from = from;
+          before = subst (λ k. cell < first_cell cells workers k) (sym (add-one n)) below;
+        },
       )
     ]
 
 -- each cell is in a shard
-pub shard_of : (cells workers cell : ℕ) → 1 ≤ workers → cell < cells → (shard : ℕ) × (shard < workers) × IsInShard cells workers shard cell
-shard_of cells workers cell some below = shard_before cells workers cell workers (omega (arith, below, first_cell-end cells workers some))
+pub shard_of : (cells workers cell : ℕ) → 1 ≤ workers → cell < cells
+    → (shard : ℕ) × (shard < workers) × IsInShard cells workers shard cell
+shard_of cells workers cell some below =
+    shard_before cells workers cell workers
+    (omega (arith, below, first_cell-end cells workers some))
 
 -- a cell of a shard is in no later one
-not_later : (cells workers shard later cell : ℕ) → 1 ≤ workers → IsInShard cells workers shard cell → IsInShard cells workers later cell → shard < later → ⊥
+not_later : (cells workers shard later cell : ℕ) → 1 ≤ workers → IsInShard cells workers shard cell
+    → IsInShard cells workers later cell → shard < later → ⊥
 not_later cells workers shard later cell some here there up =
-    let rises : first_cell cells workers (shard + 1) ≤ first_cell cells workers later = first_cell-rises cells workers (shard + 1) later some (omega arith) in
+    let rises : first_cell cells workers (shard + 1) ≤ first_cell cells workers later =
+    first_cell-rises cells workers (shard + 1) later some (omega arith) in
     let before = here.before in
     let from = there.from in
     omega (arith, rises, before, from)
 
 -- no cell is in two shards
-pub shard-only : (cells workers shard other cell : ℕ) → 1 ≤ workers → IsInShard cells workers shard cell → IsInShard cells workers other cell → shard ≡ other
+pub shard-only : (cells workers shard other cell : ℕ) → 1 ≤ workers
+    → IsInShard cells workers shard cell → IsInShard cells workers other cell → shard ≡ other
 shard-only cells workers shard other cell some here there =
     elim (cases_lt shard other) [
       | inl up ↦ absurd (not_later cells workers shard other cell some here there up)

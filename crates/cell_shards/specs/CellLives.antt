@@ -26,7 +26,8 @@ round_numbers round = record {
   settings = setting_numbers round.settings;
 }
 
--- what the life of a cell comes to: its organism after the last step, whether it died of age, and its newborns
+-- what the life of a cell comes to: its organism after the last step, whether it died of age, and
+-- its newborns
 pub record CellLife : Type 0 where
   pub organism : Option OrganismState
   pub died : Bool
@@ -49,7 +50,8 @@ cell_life ended = record {
   newborns = ended.0.newborns;
 }
 
--- the life of who stands in a cell, with the run stream of this cell and update, of at most so many steps
+-- the life of who stands in a cell, with the run stream of this cell and update, of at most so many
+-- steps
 unfoldable pub life_of : RoundNumbers → ℕ → ℕ → Option OrganismState → CellLife
 life_of round cell steps None = no_life
 life_of round cell steps (Some o) =

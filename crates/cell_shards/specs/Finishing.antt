@@ -18,7 +18,8 @@ use Rattle.cell_shards.specs.declared.job.Job.{Job}
 abbrev pub part_of : Job → Part
 part_of job = part_from job.first job.cells job.slices
 
--- the cells of a job are in a world, each has few steps, and no organism is too old for another update
+-- the cells of a job are in a world, each has few steps, and no organism is too old for another
+-- update
 pub record CanRun (job : Job) : Type 0 where
   pub within : job.first + length job.cells ≤ 65536
   pub each : length job.slices ≡ length job.cells
@@ -51,8 +52,9 @@ pub record IsNumbered (history : List Entry) (d : Delivered) : Type 0 where
   pub place : slice_get (genotypes_of history) d.handle.number ≡ Some (genome_in d)
   pub small : d.handle.number < 2 ^ 63
 
--- a seat has seen what it had seen and more, its own calls are those that it had and then those that
--- interned these newborns' genomes, in their order, and its bank and its share are what they were
+-- a seat has seen what it had seen and more, its own calls are those that it had and then those
+-- that interned these newborns' genomes, in their order, and its bank and its share are what they
+-- were
 pub record HasInterned (old new : SeatValue) (births : List Delivered) : Type 0 where
   pub bank : new.bank ≡ old.bank
   pub share : new.share ≡ old.share

@@ -8,7 +8,8 @@ pub type Cells = Items<Option<Organism>>;
 /// The steps of each cell of a shard.
 pub type Slices = Items<u64>;
 
-/// A shard in an update: its cells from the first one on, their steps, and the seat that interns their newborns.
+/// A shard in an update: its cells from the first one on, their steps, and the seat that interns
+/// their newborns.
 #[derive(Drop)]
 pub struct Job {
     pub first: u32,

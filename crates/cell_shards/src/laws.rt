@@ -4,8 +4,8 @@ ghost use Rattle.organism.specs.OrganismState.{OrganismState};
 ghost use Rattle.cell_shards.specs.CellLives.{CellLife, RoundNumbers, births_from, deaths_from, lives_of, part_from};
 ghost use Rattle.cell_shards.specs.Shards.{IsInShard, bounds_of};
 
-/// The shards of some workers part the cells: the first begins at 0, each begins where the one before it ends, the last
-/// ends at the number of cells, and each cell is in exactly one.
+/// The shards of some workers part the cells: the first begins at 0, each begins where the one
+/// before it ends, the last ends at the number of cells, and each cell is in exactly one.
 pub fn shards_part_the_cells()
     ensures begin { (cells workers : ℕ) → 1 ≤ workers → (bounds_of cells workers 0).0 ≡ 0 }
     ensures next { (cells workers shard : ℕ)
@@ -22,8 +22,8 @@ pub fn shards_part_the_cells()
         → shard ≡ other }
 {}
 
-/// However cells are cut into two parts that lie side by side, their lives, births and deaths are those of the first
-/// part and then those of the second.
+/// However cells are cut into two parts that lie side by side, their lives, births and deaths are
+/// those of the first part and then those of the second.
 pub fn parts_live_as_one()
     ensures lives { (round : RoundNumbers) (first : ℕ) (cells others : List (Option OrganismState))
         (slices more : List ℕ) → length slices ≡ length cells

@@ -10,7 +10,8 @@ use organism::{Births, Organism, Ran};
 use random_streams::{CELLS, Draws, Purpose};
 use std::alloc::Global;
 
-/// What the lives of a shard bring: its newborns in order of cell and birth, and the cells whose organism died of age.
+/// What the lives of a shard bring: its newborns in order of cell and birth, and the cells whose
+/// organism died of age.
 #[derive(Drop)]
 pub(crate) struct Lived {
     pub(crate) births: Vec<CellBirth>,
@@ -24,7 +25,8 @@ struct Life {
     births: Births,
 }
 
-/// The lives of the cells from the first one on; the dead leave their cells. After `Memory` drop the cells.
+/// The lives of the cells from the first one on; the dead leave their cells. After `Memory` drop
+/// the cells.
 pub(crate) fn live(
     alloc: Global,
     round: &Round,

@@ -22,9 +22,9 @@ pub(crate) struct Task {
     pub(crate) job: Job,
 }
 
-/// Runs the cells of each job in a thread of its own, and interns each newborn's genome; the list is in order of the
-/// jobs. Each job passes the gate once, before its cells. It may wait for other seats of the bank. After `Memory` the
-/// jobs and their seats are gone.
+/// Runs the cells of each job in a thread of its own, and interns each newborn's genome; the list
+/// is in order of the jobs. Each job passes the gate once, before its cells. It may wait for other
+/// seats of the bank. After `Memory` the jobs and their seats are gone.
 pub fn run_all<R: Threads + Wait + Sync, G: Gate + Sync>(
     rt: &R,
     alloc: Global,
@@ -66,7 +66,8 @@ fn run_tasks<R: Threads + Wait + Sync, G: Gate + Sync>(
 ) -> Result<Vec<Result<Finished, Memory>>, AllocError>
     requires tasks { All (λ task. CanRun task.job × (task.job.seat.bank ≡ bank.now)) tasks.items }
     ensures count { IfOk result (λ all. length all.items ≡ length tasks.items) }
-    ensures each { IfOk result (λ all. (place : ℕ) (task : _) (end : _) → place < length tasks.items →
+    ensures each { IfOk result (λ all. (place : ℕ) (task : _) (end : _) → place < length tasks.items
+        →
         IfOk (slice_index_or all.items place end)
         (IsFinished (round_numbers round.now) (slice_index_or tasks.items place task).job)) }
 {

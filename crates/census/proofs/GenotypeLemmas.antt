@@ -18,86 +18,154 @@ tied : (key other : ℕ) → is_at (nat_cmp key) other ≡ true → other ≡ ke
 tied key other same = sym (tells_apart exact_unsigned key other same)
 
 -- a count is at most the number of the counted
-pub count_under-le-living : (genotypes : List (ℕ × GenotypeCount)) (key : ℕ) → count_under genotypes key ≤ living_of genotypes
+pub count_under-le-living : (genotypes : List (ℕ × GenotypeCount)) (key : ℕ)
+    → count_under genotypes key ≤ living_of genotypes
 count_under-le-living genotypes key =
-    omega (arith, sum_by-remove_entry (λ (g : GenotypeCount). g.count) (is_at (nat_cmp key)) genotypes)
+    omega (
+      arith,
+      sum_by-remove_entry (λ (g : GenotypeCount). g.count) (is_at (nat_cmp key))
+          genotypes,
+    )
 
 -- what is under a key is counted
-pub count_under-some : (genotypes : List (ℕ × GenotypeCount)) (key : ℕ) → AreGenotypes genotypes → IsSome (genotype_at genotypes key) → 0 < count_under genotypes key
-count_under-some genotypes key are some = by (genotype_at genotypes key) (are.counted key) some where
-  by : (found : Option GenotypeCount) → ((g : GenotypeCount) → found ≡ Some g → 0 < g.count) → IsSome found → 0 < unwrap_or (option_map (λ (g : GenotypeCount). g.count) found) 0
-  by None counted none = cc
-  by (Some g) counted is = counted g refl
+pub count_under-some : (genotypes : List (ℕ × GenotypeCount)) (key : ℕ) → AreGenotypes genotypes
+    → IsSome (genotype_at genotypes key) → 0 < count_under genotypes key
+count_under-some genotypes key are some =
+    by (genotype_at genotypes key) (are.counted key) some where
+      by : (found : Option GenotypeCount) → ((g : GenotypeCount) → found ≡ Some g → 0 < g.count)
+          → IsSome found → 0 < unwrap_or (option_map (λ (g : GenotypeCount). g.count) found) 0
+      by None counted none = cc
+      by (Some g) counted is = counted g refl
 
 -- a genotype that is counted once more, or whose count is lower
-pub AreGenotypes-set : (before after : List (ℕ × GenotypeCount)) (key : ℕ) (new : GenotypeCount) → AreGenotypes before → IsStrictlySortedBy nat_cmp (keys_of after) → ((other : ℕ) → genotype_at after other ≡ cond (is_at (nat_cmp key) other) (Some new) (genotype_at before other)) → 0 < new.count → ((other : ℕ) (g : GenotypeCount) → genotype_at before other ≡ Some g → g.genome ≡ new.genome → other ≡ key) → AreGenotypes after
+pub AreGenotypes-set : (before after : List (ℕ × GenotypeCount)) (key : ℕ) (new : GenotypeCount)
+    → AreGenotypes before → IsStrictlySortedBy nat_cmp (keys_of after)
+    → ((other : ℕ) → genotype_at after other ≡ cond (is_at (nat_cmp key) other) (Some new)
+    (genotype_at before other)) → 0 < new.count
+    → ((other : ℕ) (g : GenotypeCount) → genotype_at before other ≡ Some g → g.genome ≡ new.genome
+    → other ≡ key) → AreGenotypes after
 AreGenotypes-set before after key new are ordered updates counted one_key = record {
   in_order = ordered;
   counted = λ other g is. counted_at other g (is_at (nat_cmp key) other) (sym (updates other) ∙ is);
-  one_key = λ q r g h is has same. one (is_at (nat_cmp key) q) (is_at (nat_cmp key) r) q r g h refl refl (sym (updates q) ∙ is) (sym (updates r) ∙ has) same;
+  one_key = λ q r g h is has same. one (is_at (nat_cmp key) q) (is_at (nat_cmp key) r) q r g h refl
+      refl (sym (updates q) ∙ is) (sym (updates r) ∙ has) same;
 }
   where
-    counted_at : (other : ℕ) (g : GenotypeCount) (b : Bool) → cond b (Some new) (genotype_at before other) ≡ Some g → 0 < g.count
-    counted_at other g true is = let same : new ≡ g = cc in subst (λ (g : GenotypeCount). 0 < g.count) same counted
+    counted_at : (other : ℕ) (g : GenotypeCount) (b : Bool)
+        → cond b (Some new) (genotype_at before other) ≡ Some g → 0 < g.count
+    counted_at other g true is =
+        let same : new ≡ g = cc in subst (λ (g : GenotypeCount). 0 < g.count) same counted
     counted_at other g false is = are.counted other g is
 
-    one : (a b : Bool) (q r : ℕ) (g h : GenotypeCount) → is_at (nat_cmp key) q ≡ a → is_at (nat_cmp key) r ≡ b → cond a (Some new) (genotype_at before q) ≡ Some g → cond b (Some new) (genotype_at before r) ≡ Some h → g.genome ≡ h.genome → q ≡ r
+    one : (a b : Bool) (q r : ℕ) (g h : GenotypeCount) → is_at (nat_cmp key) q ≡ a
+        → is_at (nat_cmp key) r ≡ b → cond a (Some new) (genotype_at before q) ≡ Some g
+        → cond b (Some new) (genotype_at before r) ≡ Some h → g.genome ≡ h.genome → q ≡ r
     one true true q r g h p s is has same = tied key q p ∙ sym (tied key r s)
     one true false q r g h p s is has same =
         let new_is : new ≡ g = cc in
-        tied key q p ∙ sym (one_key r h has (sym same ∙ ap (λ (g : GenotypeCount). g.genome) (sym new_is)))
+        tied key q p ∙ sym (one_key r h has
+        (sym same ∙ ap (λ (g : GenotypeCount). g.genome) (sym new_is)))
     one false true q r g h p s is has same =
         let new_is : new ≡ h = cc in
-        one_key q g is (same ∙ ap (λ (g : GenotypeCount). g.genome) (sym new_is)) ∙ sym (tied key r s)
+        one_key q g is (same ∙ ap (λ (g : GenotypeCount). g.genome) (sym new_is))
+        ∙ sym (tied key r s)
     one false false q r g h p s is has same = are.one_key q r g h is has same
 
 -- a genotype that goes
-pub AreGenotypes-removed : (before after : List (ℕ × GenotypeCount)) (key : ℕ) → AreGenotypes before → IsStrictlySortedBy nat_cmp (keys_of after) → ((other : ℕ) → genotype_at after other ≡ cond (is_at (nat_cmp key) other) None (genotype_at before other)) → AreGenotypes after
+pub AreGenotypes-removed : (before after : List (ℕ × GenotypeCount)) (key : ℕ) → AreGenotypes before
+    → IsStrictlySortedBy nat_cmp (keys_of after)
+    → ((other : ℕ) → genotype_at after other ≡ cond (is_at (nat_cmp key) other) None
+    (genotype_at before other)) → AreGenotypes after
 AreGenotypes-removed before after key are ordered updates = record {
   in_order = ordered;
   counted = λ other g is. are.counted other g (was other g is);
   one_key = λ q r g h is has same. are.one_key q r g h (was q g is) (was r h has) same;
 }
   where
-    kept : (b : Bool) (old : Option GenotypeCount) (g : GenotypeCount) → cond b None old ≡ Some g → old ≡ Some g
+    kept : (b : Bool) (old : Option GenotypeCount) (g : GenotypeCount) → cond b None old ≡ Some g
+        → old ≡ Some g
     kept true old g is = cc
     kept false old g is = is
 
-    was : (other : ℕ) (g : GenotypeCount) → genotype_at after other ≡ Some g → genotype_at before other ≡ Some g
-    was other g is = kept (is_at (nat_cmp key) other) (genotype_at before other) g (sym (updates other) ∙ is)
+    was : (other : ℕ) (g : GenotypeCount) → genotype_at after other ≡ Some g
+        → genotype_at before other ≡ Some g
+    was other g is =
+        kept (is_at (nat_cmp key) other) (genotype_at before other) g (sym (updates other) ∙ is)
 
 -- one organism more has a genome
-pub living-raised : (genotypes : List (ℕ × GenotypeCount)) (key : ℕ) (new : GenotypeCount) → IsStrictlySortedBy nat_cmp (keys_of genotypes) → new.count ≡ count_under genotypes key + 1 → living_of (insert_entry nat_cmp genotypes key new) ≡ living_of genotypes + 1
+pub living-raised : (genotypes : List (ℕ × GenotypeCount)) (key : ℕ) (new : GenotypeCount)
+    → IsStrictlySortedBy nat_cmp (keys_of genotypes) → new.count ≡ count_under genotypes key + 1
+    → living_of (insert_entry nat_cmp genotypes key new) ≡ living_of genotypes + 1
 living-raised genotypes key new ordered count =
-    omega (arith, count, sum_by-insert_entry (λ (g : GenotypeCount). g.count) nat_cmp_total genotypes key new ordered)
+    omega (
+      arith,
+      count,
+      sum_by-insert_entry (λ (g : GenotypeCount). g.count) nat_cmp_total
+          genotypes key new ordered,
+    )
 
 -- what is under a key that is counted
-pub found_under : (genotypes : List (ℕ × GenotypeCount)) (key : ℕ) → IsSome (genotype_at genotypes key) → genotype_at genotypes key ≡ Some (record { genome = genome_under genotypes key; count = count_under genotypes key })
+pub found_under : (genotypes : List (ℕ × GenotypeCount)) (key : ℕ)
+    → IsSome (genotype_at genotypes key)
+    → genotype_at genotypes key
+    ≡ Some (record { genome = genome_under genotypes key; count = count_under genotypes key })
 found_under genotypes key some = by (genotype_at genotypes key) some where
-  by : (found : Option GenotypeCount) → IsSome found → found ≡ Some (record { genome = unwrap_or (option_map (λ (g : GenotypeCount). g.genome) found) []; count = unwrap_or (option_map (λ (g : GenotypeCount). g.count) found) 0 })
+  by : (found : Option GenotypeCount) → IsSome found
+      → found ≡ Some (record {
+        genome = unwrap_or (option_map (λ (g : GenotypeCount). g.genome) found) [];
+        count = unwrap_or (option_map (λ (g : GenotypeCount). g.count) found) 0;
+      })
   by None none = cc
   by (Some g) is = refl
 
 -- one organism fewer has a genome that more than one had
-pub living-lowered : (genotypes : List (ℕ × GenotypeCount)) (key : ℕ) → IsSome (genotype_at genotypes key) → 1 < count_under genotypes key → living_of (set_value (is_at (nat_cmp key)) genotypes (lowered genotypes key)) + 1 ≡ living_of genotypes
+pub living-lowered : (genotypes : List (ℕ × GenotypeCount)) (key : ℕ)
+    → IsSome (genotype_at genotypes key) → 1 < count_under genotypes key
+    → living_of (set_value (is_at (nat_cmp key)) genotypes (lowered genotypes key)) + 1
+    ≡ living_of genotypes
 living-lowered genotypes key some more =
-    omega (arith, sum_by-set_value (λ (g : GenotypeCount). g.count) (is_at (nat_cmp key)) genotypes (record { genome = genome_under genotypes key; count = count_under genotypes key }) (lowered genotypes key) (found_under genotypes key some))
+    omega (
+      arith,
+      sum_by-set_value (λ (g : GenotypeCount). g.count) (is_at (nat_cmp key)) genotypes
+          (record { genome = genome_under genotypes key; count = count_under genotypes key })
+          (lowered genotypes key) (found_under genotypes key some),
+    )
 
 -- the only organism that had a genome goes
-pub living-removed : (genotypes : List (ℕ × GenotypeCount)) (key : ℕ) → 0 < count_under genotypes key → count_under genotypes key ≤ 1 → living_of (remove_entry (is_at (nat_cmp key)) genotypes) + 1 ≡ living_of genotypes
+pub living-removed : (genotypes : List (ℕ × GenotypeCount)) (key : ℕ)
+    → 0 < count_under genotypes key → count_under genotypes key ≤ 1
+    → living_of (remove_entry (is_at (nat_cmp key)) genotypes) + 1 ≡ living_of genotypes
 living-removed genotypes key counted last =
-    omega (arith, sum_by-remove_entry (λ (g : GenotypeCount). g.count) (is_at (nat_cmp key)) genotypes)
+    omega (
+      arith,
+      sum_by-remove_entry (λ (g : GenotypeCount). g.count) (is_at (nat_cmp key))
+          genotypes,
+    )
 
 -- a count that is lower
-pub AreGenotypes-lowered : (before after : List (ℕ × GenotypeCount)) (key : ℕ) → AreGenotypes before → IsSome (genotype_at before key) → 1 < count_under before key → IsStrictlySortedBy nat_cmp (keys_of after) → ((other : ℕ) → genotype_at after other ≡ cond (is_at (nat_cmp key) other) (Some (lowered before key)) (genotype_at before other)) → AreGenotypes after
+pub AreGenotypes-lowered : (before after : List (ℕ × GenotypeCount)) (key : ℕ) → AreGenotypes before
+    → IsSome (genotype_at before key) → 1 < count_under before key
+    → IsStrictlySortedBy nat_cmp (keys_of after)
+    → ((other : ℕ) → genotype_at after other
+    ≡ cond (is_at (nat_cmp key) other) (Some (lowered before key)) (genotype_at before other))
+    → AreGenotypes after
 AreGenotypes-lowered before after key are some more ordered updates =
-    AreGenotypes-set before after key (lowered before key) are ordered updates (omega (arith, more)) (λ other g is same. are.one_key other key g _ is (found_under before key some) same)
+    AreGenotypes-set before after key (lowered before key) are ordered updates (omega (arith, more))
+    (λ other g is same. are.one_key other key g _ is (found_under before key some) same)
 
 -- a genotype stays where more than one had it, and else goes
-pub without_one-more : (genotypes : List (ℕ × GenotypeCount)) (key : ℕ) → 1 < count_under genotypes key → set_value (is_at (nat_cmp key)) genotypes (lowered genotypes key) ≡ without_one genotypes key
+pub without_one-more : (genotypes : List (ℕ × GenotypeCount)) (key : ℕ)
+    → 1 < count_under genotypes key
+    → set_value (is_at (nat_cmp key)) genotypes (lowered genotypes key) ≡ without_one genotypes key
 without_one-more genotypes key more =
-    ap (λ b. cond b (set_value (is_at (nat_cmp key)) genotypes (lowered genotypes key)) (remove_entry (is_at (nat_cmp key)) genotypes)) (sym (lt-ltb 1 (count_under genotypes key) more))
+    ap (λ b. cond b (set_value (is_at (nat_cmp key)) genotypes (lowered genotypes key))
+    (remove_entry (is_at (nat_cmp key)) genotypes))
+    (sym (lt-ltb 1 (count_under genotypes key) more))
 
-pub without_one-last : (genotypes : List (ℕ × GenotypeCount)) (key : ℕ) → count_under genotypes key ≤ 1 → remove_entry (is_at (nat_cmp key)) genotypes ≡ without_one genotypes key
+pub without_one-last : (genotypes : List (ℕ × GenotypeCount)) (key : ℕ)
+    → count_under genotypes key ≤ 1
+    → remove_entry (is_at (nat_cmp key)) genotypes ≡ without_one genotypes key
 without_one-last genotypes key last =
-    ap (λ b. cond b (set_value (is_at (nat_cmp key)) genotypes (lowered genotypes key)) (remove_entry (is_at (nat_cmp key)) genotypes)) (sym (le-ltb 1 (count_under genotypes key) last))
+    ap (λ b. cond b (set_value (is_at (nat_cmp key)) genotypes (lowered genotypes key))
+    (remove_entry (is_at (nat_cmp key)) genotypes))
+    (sym (le-ltb 1 (count_under genotypes key) last))

@@ -25,7 +25,9 @@ place (fields ∷ variants) (inl x) = 0
 place (fields ∷ variants) (inr c) = place variants c + 1
 
 -- values without fields are ordered by their variants
-by-place : (variants : List (List Field)) (c d : Choice variants) → by Less Greater variants (points Equal variants) c d ≡ nat_cmp (place variants c) (place variants d)
+by-place : (variants : List (List Field)) (c d : Choice variants)
+    → by Less Greater variants (points Equal variants) c d
+    ≡ nat_cmp (place variants c) (place variants d)
 unfolding place
 by-place [] c d = absurd c
 by-place (fields ∷ variants) (inl x) (inl y) = refl
@@ -35,9 +37,10 @@ by-place (fields ∷ variants) (inl x) (inr d) = first (place variants d) where
 by-place (fields ∷ variants) (inr c) (inl y) = last (place variants c) where
   last : (n : ℕ) → Greater ≡ nat_cmp (n + 1) 0
   last n = grind (arith, nat_tests)
-by-place (fields ∷ variants) (inr c) (inr d) = by-place variants c d ∙ both (place variants c) (place variants d) where
-  both : (m n : ℕ) → nat_cmp m n ≡ nat_cmp (m + 1) (n + 1)
-  both m n = grind (arith, nat_tests)
+by-place (fields ∷ variants) (inr c) (inr d) =
+    by-place variants c d ∙ both (place variants c) (place variants d) where
+      both : (m n : ℕ) → nat_cmp m n ≡ nat_cmp (m + 1) (n + 1)
+      both m n = grind (arith, nat_tests)
 
 letter-place : (letter : Letter) → place the_parts (as_values letter) ≡ index_of letter
 unfolding place
@@ -69,9 +72,11 @@ letter-place Io = refl
 letter-place HSearch = refl
 
 letter_cmp : (a b : Letter) → letter_order.ghosts.cmp a b ≡ nat_cmp (index_of a) (index_of b)
-letter_cmp a b = by-place the_parts (as_values a) (as_values b) ∙ (λ i. nat_cmp (letter-place a i) (letter-place b i))
+letter_cmp a b = by-place the_parts (as_values a) (as_values b)
+    ∙ (λ i. nat_cmp (letter-place a i) (letter-place b i))
 
-by_index : (ls others : List Letter) → slice_cmp letter_order.ghosts.cmp ls others ≡ letters_cmp ls others
+by_index : (ls others : List Letter)
+    → slice_cmp letter_order.ghosts.cmp ls others ≡ letters_cmp ls others
 by_index [] [] = refl
 by_index [] (b ∷ bs) = refl
 by_index (a ∷ rest) [] = refl

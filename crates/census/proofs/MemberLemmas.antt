@@ -16,27 +16,35 @@ use Rattle.census.specs.Dominance.{HaveSameMembers, dominance_cmp, dominant_amon
 use Rattle.census.proofs.DominanceLemmas.{dominance-total}
 
 -- what is found passes and is among the elements
-found : {X : Type 0} (p : X → Bool) (xs : List X) (a : X) → find p xs ≡ Some a → (p a ≡ true) × Contains xs a
+found : {X : Type 0} (p : X → Bool) (xs : List X) (a : X) → find p xs ≡ Some a
+    → (p a ≡ true) × Contains xs a
 found p [] a is = cc
 found {X} p (x ∷ xs) a is = by (p x) refl is (found p xs a) where
-  by : (b : Bool) → p x ≡ b → cond b (Some x) (find p xs) ≡ Some a → (find p xs ≡ Some a → (p a ≡ true) × Contains xs a) → (p a ≡ true) × Contains (x ∷ xs) a
-  by true passes is later = let same : x ≡ a = cc in (ap p (sym same) ∙ passes, (0, omega arith, same))
-  by false fails is later = let rest = later is in (rest.0, (suc rest.1.0, omega (arith, rest.1.1), rest.1.2))
+  by : (b : Bool) → p x ≡ b → cond b (Some x) (find p xs) ≡ Some a
+      → (find p xs ≡ Some a → (p a ≡ true) × Contains xs a) → (p a ≡ true) × Contains (x ∷ xs) a
+  by true passes is later =
+      let same : x ≡ a = cc in (ap p (sym same) ∙ passes, (0, omega arith, same))
+  by false fails is later =
+      let rest = later is in (rest.0, (suc rest.1.0, omega (arith, rest.1.1), rest.1.2))
 
 -- where an element passes, one is found
-finds : {X : Type 0} (p : X → Bool) (xs : List X) (k : ℕ) (d : X) → k < length xs → p (get_or xs k d) ≡ true → (a : X) × (find p xs ≡ Some a)
+finds : {X : Type 0} (p : X → Bool) (xs : List X) (k : ℕ) (d : X) → k < length xs
+    → p (get_or xs k d) ≡ true → (a : X) × (find p xs ≡ Some a)
 finds p [] k d within passes = absurd (omega (arith, within))
 finds p (x ∷ xs) zero d within passes = (x, rw passes refl)
-finds {X} p (x ∷ xs) (suc k) d within passes = by (p x) refl (finds p xs k d (omega (arith, within)) passes) where
-  by : (b : Bool) → p x ≡ b → (a : X) × (find p xs ≡ Some a) → (a : X) × (find p (x ∷ xs) ≡ Some a)
-  by true here later = (x, rw here refl)
-  by false here later = (later.0, rw here later.1)
+finds {X} p (x ∷ xs) (suc k) d within passes =
+    by (p x) refl (finds p xs k d (omega (arith, within)) passes) where
+      by : (b : Bool) → p x ≡ b → (a : X) × (find p xs ≡ Some a)
+          → (a : X) × (find p (x ∷ xs) ≡ Some a)
+      by true here later = (x, rw here refl)
+      by false here later = (later.0, rw here later.1)
 
 -- two letters with one index are one
 abbrev pub OneIndex : Type 0
 OneIndex = (letter other : Letter) → Decides (same_letter letter other) (letter ≡ other)
 
-letters-of_indexes : OneIndex → (ls others : List Letter) → map index_of ls ≡ map index_of others → ls ≡ others
+letters-of_indexes : OneIndex → (ls others : List Letter) → map index_of ls ≡ map index_of others
+    → ls ≡ others
 letters-of_indexes one [] [] same = refl
 letters-of_indexes one [] (b ∷ bs) same = cc
 letters-of_indexes one (a ∷ rest) [] same = cc
@@ -49,7 +57,8 @@ letters-of_indexes one (a ∷ rest) (b ∷ others) same =
     cc
 
 -- neither of two that tie has more or comes first
-both-tie : (first second : Ordering) → ordering_then first second ≡ Equal → (first ≡ Equal) × (second ≡ Equal)
+both-tie : (first second : Ordering) → ordering_then first second ≡ Equal
+    → (first ≡ Equal) × (second ≡ Equal)
 both-tie Less second is = cc
 both-tie Equal second is = (refl, is)
 both-tie Greater second is = cc
@@ -58,11 +67,15 @@ tied : OneIndex → (a b : GenotypeCount) → dominance_cmp a b ≡ Equal → a 
 tied one a b tie =
     let parts = both-tie (nat_cmp b.count a.count) (letters_cmp a.genome b.genome) tie in
     let count : b.count ≡ a.count = nat_cmp-IsAntisymmetric b.count a.count parts.0 in
-    let genome : a.genome ≡ b.genome = letters-of_indexes one a.genome b.genome (slice_cmp-IsAntisymmetric nat_cmp-IsAntisymmetric (map index_of a.genome) (map index_of b.genome) parts.1) in
+    let genome : a.genome ≡ b.genome =
+    letters-of_indexes one a.genome b.genome
+    (slice_cmp-IsAntisymmetric nat_cmp-IsAntisymmetric (map index_of a.genome)
+    (map index_of b.genome) parts.1) in
     let same : a.count ≡ b.count = sym count in λ i. record { genome = genome i; count = same i }
 
 -- none of two comes before the other only where they tie
-ties : (forth back : Ordering) → forth ≡ ordering_reverse back → not (is_lt forth) ≡ true → not (is_lt back) ≡ true → forth ≡ Equal
+ties : (forth back : Ordering) → forth ≡ ordering_reverse back → not (is_lt forth) ≡ true
+    → not (is_lt back) ≡ true → forth ≡ Equal
 ties Less back turned a b = cc
 ties Equal back turned a b = refl
 ties Greater Less turned a b = cc
@@ -74,12 +87,16 @@ record IsBest (genotypes : List GenotypeCount) (best : GenotypeCount) : Type 0 w
   pub among : Contains genotypes best
   pub before : AllPass (λ other. not (outranks other best)) genotypes
 
-best-one : OneIndex → (genotypes : List GenotypeCount) (a b : GenotypeCount) → IsBest genotypes a → IsBest genotypes b → a ≡ b
+best-one : OneIndex → (genotypes : List GenotypeCount) (a b : GenotypeCount) → IsBest genotypes a
+    → IsBest genotypes b → a ≡ b
 best-one one genotypes a b is has =
     let test : GenotypeCount → GenotypeCount → Bool = λ best other. not (outranks other best) in
-    let forth : not (outranks a b) ≡ true = ap (test b) (sym has_a) ∙ has.before is.among.0 a is.among.1 in
-    let back : not (outranks b a) ≡ true = ap (test a) (sym has_b) ∙ is.before has.among.0 b has.among.1 in
-    tied one a b (ties (dominance_cmp a b) (dominance_cmp b a) (dominance-total.antisymm a b) forth back)
+    let forth : not (outranks a b) ≡ true =
+    ap (test b) (sym has_a) ∙ has.before is.among.0 a is.among.1 in
+    let back : not (outranks b a) ≡ true =
+    ap (test a) (sym has_b) ∙ is.before has.among.0 b has.among.1 in
+    tied one a b (ties (dominance_cmp a b) (dominance_cmp b a) (dominance-total.antisymm a b) forth
+    back)
   where
     has_a : get_or genotypes is.among.0 a ≡ a
     has_a = is.among.2
@@ -88,38 +105,54 @@ best-one one genotypes a b is has =
     has_b = has.among.2
 
 -- the dominant one is the best
-best-dominant : (genotypes : List GenotypeCount) (a : GenotypeCount) → dominant_among genotypes ≡ Some a → IsBest genotypes a
+best-dominant : (genotypes : List GenotypeCount) (a : GenotypeCount)
+    → dominant_among genotypes ≡ Some a → IsBest genotypes a
 unfolding dominant_among
 best-dominant genotypes a is =
-    let at = found (λ genotype. list_all (λ other. not (outranks other genotype)) genotypes) genotypes a is in
-    record { among = at.1; before = AllPass-from_list_all (λ other. not (outranks other a)) genotypes at.0 }
+    let at = found (λ genotype. list_all (λ other. not (outranks other genotype)) genotypes)
+    genotypes a is in
+    record {
+      among = at.1;
+      before = AllPass-from_list_all (λ other. not (outranks other a)) genotypes at.0;
+    }
 
-dominant-best_one : OneIndex → (genotypes : List GenotypeCount) (a : GenotypeCount) → IsBest genotypes a → dominant_among genotypes ≡ Some a
+dominant-best_one : OneIndex → (genotypes : List GenotypeCount) (a : GenotypeCount)
+    → IsBest genotypes a → dominant_among genotypes ≡ Some a
 unfolding dominant_among
 dominant-best_one one genotypes a is =
-    let test : GenotypeCount → Bool = λ genotype. list_all (λ other. not (outranks other genotype)) genotypes in
-    let some = finds test genotypes is.among.0 a is.among.1 (ap test is.among.2 ∙ list_all-from_AllPass (λ other. not (outranks other a)) genotypes is.before) in
+    let test : GenotypeCount → Bool =
+    λ genotype. list_all (λ other. not (outranks other genotype)) genotypes in
+    let some = finds test genotypes is.among.0 a is.among.1
+    (ap test is.among.2 ∙ list_all-from_AllPass (λ other. not (outranks other a)) genotypes
+    is.before) in
     some.1 ∙ ap Some (best-one one genotypes some.0 a (best-dominant genotypes some.0 some.1) is)
 
-best-same : (genotypes others : List GenotypeCount) (a : GenotypeCount) → HaveSameMembers genotypes others → IsBest genotypes a → IsBest others a
+best-same : (genotypes others : List GenotypeCount) (a : GenotypeCount)
+    → HaveSameMembers genotypes others → IsBest genotypes a → IsBest others a
 best-same genotypes others a same is =
     let test : GenotypeCount → Bool = λ other. not (outranks other a) in
     record {
       among = same.forth a is.among;
-      before = λ k d within. (let here = same.back (get_or others k d) (Contains-get_or others k d within) in ap test (sym here.2) ∙ is.before here.0 (get_or others k d) here.1);
+      before = λ k d within. (let here =
+          same.back (get_or others k d) (Contains-get_or others k d within) in ap test (sym here.2)
+          ∙ is.before here.0 (get_or others k d) here.1);
     }
 
-pub dominant-same : OneIndex → (genotypes others : List GenotypeCount) → HaveSameMembers genotypes others → dominant_among genotypes ≡ dominant_among others
+pub dominant-same : OneIndex → (genotypes others : List GenotypeCount)
+    → HaveSameMembers genotypes others → dominant_among genotypes ≡ dominant_among others
 dominant-same one genotypes others same =
     by (dominant_among genotypes) (dominant_among others) refl refl
   where
     turned : HaveSameMembers others genotypes
     turned = record { forth = same.back; back = same.forth }
 
-    by : (first second : Option GenotypeCount) → dominant_among genotypes ≡ first → dominant_among others ≡ second → first ≡ second
+    by : (first second : Option GenotypeCount) → dominant_among genotypes ≡ first
+        → dominant_among others ≡ second → first ≡ second
     by (Some a) second is has =
-        sym (dominant-best_one one others a (best-same genotypes others a same (best-dominant genotypes a is))) ∙ has
+        sym (dominant-best_one one others a
+        (best-same genotypes others a same (best-dominant genotypes a is))) ∙ has
     by None None is has = refl
     by None (Some b) is has =
-        let found_too = dominant-best_one one genotypes b (best-same others genotypes b turned (best-dominant others b has)) in
+        let found_too = dominant-best_one one genotypes b
+        (best-same others genotypes b turned (best-dominant others b has)) in
         cc

@@ -32,37 +32,54 @@ changed change before credited task =
     change (slice_index before (place_of task)) (from_bool (has_task credited task))
 
 -- the first of these counts are changed, and the others are as they were
-pub record HasChanged (change : ℕ → ℕ → ℕ) (before : List ℕ) (credited : List Bool) (after : List ℕ) (i : ℕ) : Type 0 where
+pub record HasChanged (change : ℕ → ℕ → ℕ) (before : List ℕ) (credited : List Bool) (after : List ℕ)
+    (i : ℕ) : Type 0 where
   pub long : length after ≡ 9
-  pub first : (k : ℕ) → k < i → get_or after k 0 ≡ changed change before credited (get_or all_tasks k Not)
+  pub first : (k : ℕ) → k < i
+      → get_or after k 0 ≡ changed change before credited (get_or all_tasks k Not)
   pub others : (k : ℕ) → i ≤ k → get_or after k 0 ≡ get_or before k 0
 
 -- one count more is changed
-pub HasChanged-more : (change : ℕ → ℕ → ℕ) (before : List ℕ) (credited : List Bool) (after : List ℕ) (i by : ℕ) → i < 9 → HasChanged change before credited after i → by ≡ from_bool (has_task credited (get_or all_tasks i Not)) → HasChanged change before credited (set after i (change (get_or after i 0) by)) (i + 1)
+pub HasChanged-more : (change : ℕ → ℕ → ℕ) (before : List ℕ) (credited : List Bool) (after : List ℕ)
+    (i by : ℕ) → i < 9 → HasChanged change before credited after i
+    → by ≡ from_bool (has_task credited (get_or all_tasks i Not))
+    → HasChanged change before credited (set after i (change (get_or after i 0) by)) (i + 1)
 HasChanged-more change before credited after i by within has is =
     let n : ℕ = change (get_or after i 0) by in
     let inside : i < length after = omega (arith, has.long) in
     let now : n ≡ changed change before credited (get_or all_tasks i Not) =
     ap (λ m. change m by) (has.others i (omega arith))
     ∙ ap (λ m. change (get_or before i 0) m) is
-    ∙ ap (λ k. change (get_or before k 0) (from_bool (has_task credited (get_or all_tasks i Not)))) (sym (place_of-nth i within)) in
+    ∙ ap (λ k. change (get_or before k 0) (from_bool (has_task credited (get_or all_tasks i Not))))
+    (sym (place_of-nth i within)) in
     record {
       long = length-set after i n ∙ has.long;
-      first = below_more _ _ (λ k h. let ne : k ≢ i = omega arith in get_or-set_other after i k n 0 ne ∙ has.first k h) (get_or-set_same after i n 0 inside ∙ now);
-      others = λ k h. let ne : k ≢ i = omega arith in get_or-set_other after i k n 0 ne ∙ has.others k (omega arith);
+      first = below_more _ _ (λ k h. let ne : k ≢ i = omega arith in
+          get_or-set_other after i k n 0 ne ∙ has.first k h)
+          (get_or-set_same after i n 0 inside ∙ now);
+      others = λ k h. let ne : k ≢ i = omega arith in get_or-set_other after i k n 0 ne
+          ∙ has.others k (omega arith);
     }
 
 -- all are changed
-pub HasChanged-all : (change : ℕ → ℕ → ℕ) (before : List ℕ) (credited : List Bool) (after : List ℕ) → HasChanged change before credited after 9 → after ≡ map (changed change before credited) all_tasks
+pub HasChanged-all : (change : ℕ → ℕ → ℕ) (before : List ℕ) (credited : List Bool) (after : List ℕ)
+    → HasChanged change before credited after 9
+    → after ≡ map (changed change before credited) all_tasks
 HasChanged-all change before credited after has =
-    ext_get_or 0 after (map (changed change before credited) all_tasks) has.long (λ k h. let within : k < 9 = omega (arith, has.long) in has.first k within ∙ sym (get_or-map (changed change before credited) all_tasks k Not 0 within))
+    ext_get_or 0 after (map (changed change before credited) all_tasks) has.long
+    (λ k h. let within : k < 9 = omega (arith, has.long) in has.first k within
+    ∙ sym (get_or-map (changed change before credited) all_tasks k Not 0 within))
 
 -- where the tasks of a set are counted, one fewer is a number
-pub le-counted : (change : ℕ → ℕ → ℕ) (before : List ℕ) (credited : List Bool) (after : List ℕ) (i by : ℕ) → i < 9 → AreCounted before credited → HasChanged change before credited after i → by ≡ from_bool (has_task credited (get_or all_tasks i Not)) → by ≤ get_or after i 0
+pub le-counted : (change : ℕ → ℕ → ℕ) (before : List ℕ) (credited : List Bool) (after : List ℕ)
+    (i by : ℕ) → i < 9 → AreCounted before credited → HasChanged change before credited after i
+    → by ≡ from_bool (has_task credited (get_or all_tasks i Not)) → by ≤ get_or after i 0
 le-counted change before credited after i by within counted has is =
     let task : Task = get_or all_tasks i Not in
-    let same : get_or after i 0 ≡ slice_index before (place_of task) = has.others i (omega arith) ∙ ap (λ k. get_or before k 0) (sym (place_of-nth i within)) in
-    let one : from_bool (has_task credited task) ≤ slice_index before (place_of task) = one_le (has_task credited task) (slice_index before (place_of task)) (counted task) in
+    let same : get_or after i 0 ≡ slice_index before (place_of task) =
+    has.others i (omega arith) ∙ ap (λ k. get_or before k 0) (sym (place_of-nth i within)) in
+    let one : from_bool (has_task credited task) ≤ slice_index before (place_of task) =
+    one_le (has_task credited task) (slice_index before (place_of task)) (counted task) in
     omega (arith, same, one, is)
   where
     one_le : (b : Bool) (count : ℕ) → (b ≡ true → 0 < count) → from_bool b ≤ count
@@ -70,9 +87,12 @@ le-counted change before credited after i by within counted has is =
     one_le false count some = omega arith
 
 -- counts that are small stay so where each is one fewer or as it was
-pub fewer-small : (counts : List ℕ) (credited : List Bool) (most : ℕ) → 0 < most → All (λ count. count < most) counts → All (λ count. count < most) (tasks_without counts credited)
+pub fewer-small : (counts : List ℕ) (credited : List Bool) (most : ℕ) → 0 < most
+    → All (λ count. count < most) counts
+    → All (λ count. count < most) (tasks_without counts credited)
 fewer-small counts credited most some small =
-    All-map (λ count. count < most) (changed (λ n by. n - by) counts credited) all_tasks (λ k task within. omega (arith, read (place_of (get_or all_tasks k task))))
+    All-map (λ count. count < most) (changed (λ n by. n - by) counts credited) all_tasks
+    (λ k task within. omega (arith, read (place_of (get_or all_tasks k task))))
   where
     read : (place : ℕ) → get_or counts place 0 < most
     read place = elim (cases_lt place (length counts)) [

@@ -110,8 +110,9 @@ pub record CanRemove (counts : Counts) (key merit : ℕ) (credited : List Bool) 
 
 -- an organism with this merit and credited set may be among those that are counted, and the counts
 -- have room for its next merit
-pub record CanRenew (counts : Counts) (merit : ℕ) (credited : List Bool) (next_merit : ℕ) : Type 0 where
-  pub counted : merit ≤ counts.merit
-  pub room : counts.merit + next_merit < 2 ^ 55
-  pub tasks : AreCounted counts.tasks credited
-  pub few : All (λ count. count < 2 ^ 32) counts.tasks
+pub record CanRenew (counts : Counts) (merit : ℕ) (credited : List Bool) (next_merit : ℕ) : Type 0
+  where
+    pub counted : merit ≤ counts.merit
+    pub room : counts.merit + next_merit < 2 ^ 55
+    pub tasks : AreCounted counts.tasks credited
+    pub few : All (λ count. count < 2 ^ 32) counts.tasks

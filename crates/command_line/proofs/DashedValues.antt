@@ -27,12 +27,14 @@ pub record IsOf (form : Form) (told : Told) : Type 0 where
   pub positionals : length told.positionals ≡ form.positionals
   pub values : length told.values ≡ length form.options
 
-all_length : (values : List (Option Text)) (texts : List Text) → all_of values ≡ Some texts → length texts ≡ length values
+all_length : (values : List (Option Text)) (texts : List Text) → all_of values ≡ Some texts
+    → length texts ≡ length values
 all_length [] texts is = let none : [] ≡ texts = cc in rw (← none) refl
 all_length (None ∷ values) texts is = cc
 all_length (Some v ∷ values) texts is = go (all_of values) refl (λ more e. all_length values more e)
   where
-    go : (rest : Option (List Text)) → all_of values ≡ rest → ((more : List Text) → all_of values ≡ Some more → length more ≡ length values)
+    go : (rest : Option (List Text)) → all_of values ≡ rest
+        → ((more : List Text) → all_of values ≡ Some more → length more ≡ length values)
         → length texts ≡ length (Some v ∷ values)
     go None r ih = let bad : None ≡ Some texts = rw r at is in cc
     go (Some more) r ih =
@@ -49,50 +51,64 @@ pub or_true : (b : Bool) → (b || true) ≡ true
 or_true true = refl
 or_true false = refl
 
-dashed_kept : (m : Text) (uses : List Use) (u : Use) (found : Option Text) → value_in m uses ≡ found → is_dashed found ≡ true → is_dashed (value_in m (uses ++ u ∷ [])) ≡ true
+dashed_kept : (m : Text) (uses : List Use) (u : Use) (found : Option Text) → value_in m uses ≡ found
+    → is_dashed found ≡ true → is_dashed (value_in m (uses ++ u ∷ [])) ≡ true
 dashed_kept m uses u None at is = absurd (false≢true is)
 dashed_kept m uses u (Some v) at is = rw (value_kept m v uses u at) is
 
-pub spoilt_kept : (ids : List Text) (uses : List Use) (u : Use) → spoilt_at uses ids ≡ true → spoilt_at (uses ++ u ∷ []) ids ≡ true
+pub spoilt_kept : (ids : List Text) (uses : List Use) (u : Use) → spoilt_at uses ids ≡ true
+    → spoilt_at (uses ++ u ∷ []) ids ≡ true
 spoilt_kept [] uses u is = absurd (false≢true is)
 spoilt_kept (m ∷ ms) uses u is = elim (cases_Bool (is_dashed (value_in m uses))) [
   | inl a ↦ rw (dashed_kept m uses u (value_in m uses) refl a) refl
-  | inr a ↦ ap (λ b. is_dashed (value_in m (uses ++ u ∷ [])) || b) (spoilt_kept ms uses u (rw a at is)) ∙ or_true (is_dashed (value_in m (uses ++ u ∷ [])))
+  | inr a ↦ ap (λ b. is_dashed (value_in m (uses ++ u ∷ [])) || b)
+      (spoilt_kept ms uses u (rw a at is)) ∙ or_true (is_dashed (value_in m (uses ++ u ∷ [])))
 ]
 
-pub spoilt_new : (ids : List Text) (uses : List Use) (u : Use) → has_name u.id ids ≡ true → is_some (value_in u.id uses) ≡ false → begins_dashed u.value ≡ true
+pub spoilt_new : (ids : List Text) (uses : List Use) (u : Use) → has_name u.id ids ≡ true
+    → is_some (value_in u.id uses) ≡ false → begins_dashed u.value ≡ true
     → spoilt_at (uses ++ u ∷ []) ids ≡ true
 spoilt_new [] uses u h none d = absurd (false≢true h)
 spoilt_new (m ∷ ms) uses u h none d = elim (cases_Bool (bytes_eq m u.id)) [
   | inl a ↦
       let same : m ≡ u.id = same_text m u.id a in
-      let here : is_dashed (value_in m (uses ++ u ∷ [])) ≡ true = rw (same, value_new u.id uses u (bytes_same u.id) none) d in
+      let here : is_dashed (value_in m (uses ++ u ∷ [])) ≡ true =
+      rw (same, value_new u.id uses u (bytes_same u.id) none) d in
       rw here refl
-  | inr a ↦ ap (λ b. is_dashed (value_in m (uses ++ u ∷ [])) || b) (spoilt_new ms uses u (rw a at h) none d) ∙ or_true (is_dashed (value_in m (uses ++ u ∷ [])))
+  | inr a ↦ ap (λ b. is_dashed (value_in m (uses ++ u ∷ [])) || b)
+      (spoilt_new ms uses u (rw a at h) none d) ∙ or_true (is_dashed (value_in m (uses ++ u ∷ [])))
 ]
 
 dashed_first : (x y : Option Text) → is_dashed x ≡ true → is_dashed (option_or x y) ≡ true
 dashed_first None y is = absurd (false≢true is)
 dashed_first (Some v) y is = is
 
-spoilt_values : (options : List Valued) (uses : List Use) (look : Text → Option Text) → spoilt_at uses (map (λ o. o.name) options) ≡ true
+spoilt_values : (options : List Valued) (uses : List Use) (look : Text → Option Text)
+    → spoilt_at uses (map (λ o. o.name) options) ≡ true
     → list_any is_dashed (map (λ o. option_or (value_in o.name uses) (look o.name)) options) ≡ true
 spoilt_values [] uses look is = absurd (false≢true is)
 spoilt_values (o ∷ os) uses look is = elim (cases_Bool (is_dashed (value_in o.name uses))) [
   | inl a ↦ rw (dashed_first (value_in o.name uses) (look o.name) a) refl
-  | inr a ↦ ap (λ b. is_dashed (option_or (value_in o.name uses) (look o.name)) || b) (spoilt_values os uses look (rw a at is))
+  | inr a ↦ ap (λ b. is_dashed (option_or (value_in o.name uses) (look o.name)) || b)
+      (spoilt_values os uses look (rw a at is))
       ∙ or_true (is_dashed (option_or (value_in o.name uses) (look o.name)))
 ]
 
-spoilt_texts : (ids : List Text) (uses : List Use) (look : Text → Option Text) (texts : List Text) → spoilt_at uses ids ≡ true
-    → all_of (map (λ m. option_or (value_in m uses) (look m)) ids) ≡ Some texts → list_any begins_dashed texts ≡ true
+spoilt_texts : (ids : List Text) (uses : List Use) (look : Text → Option Text) (texts : List Text)
+    → spoilt_at uses ids ≡ true
+    → all_of (map (λ m. option_or (value_in m uses) (look m)) ids) ≡ Some texts
+    → list_any begins_dashed texts ≡ true
 spoilt_texts [] uses look texts is all = absurd (false≢true is)
-spoilt_texts (id ∷ ids) uses look texts is all = go (option_or (value_in id uses) (look id)) refl (all_of (map (λ m. option_or (value_in m uses) (look m)) ids)) refl
+spoilt_texts (id ∷ ids) uses look texts is all =
+    go (option_or (value_in id uses) (look id)) refl
+    (all_of (map (λ m. option_or (value_in m uses) (look m)) ids)) refl
     (λ more e s. spoilt_texts ids uses look more s e)
   where
     go : (head : Option Text) → option_or (value_in id uses) (look id) ≡ head
-        → (rest : Option (List Text)) → all_of (map (λ m. option_or (value_in m uses) (look m)) ids) ≡ rest
-        → ((more : List Text) → all_of (map (λ m. option_or (value_in m uses) (look m)) ids) ≡ Some more → spoilt_at uses ids ≡ true → list_any begins_dashed more ≡ true)
+        → (rest : Option (List Text)) → all_of (map (λ m. option_or (value_in m uses) (look m)) ids)
+        ≡ rest
+        → ((more : List Text) → all_of (map (λ m. option_or (value_in m uses) (look m)) ids)
+        ≡ Some more → spoilt_at uses ids ≡ true → list_any begins_dashed more ≡ true)
         → list_any begins_dashed texts ≡ true
     go None h rest r ih = let bad : None ≡ Some texts = rw h at all in cc
     go (Some v) h None r ih = let bad : None ≡ Some texts = rw (h, r) at all in cc
@@ -101,12 +117,15 @@ spoilt_texts (id ∷ ids) uses look texts is all = go (option_or (value_in id us
         let texts_are : v ∷ more ≡ texts = cc in
         rw (← texts_are) (elim (cases_Bool (is_dashed (value_in id uses))) [
           | inl a ↦
-              let here : begins_dashed v ≡ true = ap is_dashed (sym h) ∙ dashed_first (value_in id uses) (look id) a in
+              let here : begins_dashed v ≡ true =
+              ap is_dashed (sym h) ∙ dashed_first (value_in id uses) (look id) a in
               rw here refl
-          | inr a ↦ ap (λ b. begins_dashed v || b) (ih more r (rw a at is)) ∙ or_true (begins_dashed v)
+          | inr a ↦ ap (λ b. begins_dashed v || b) (ih more r (rw a at is))
+              ∙ or_true (begins_dashed v)
         ])
 
-module _ (command : Text) (form : Form) (ids : List Text) (simple : IsSimple form ids) (T : Type 0) (take : Told → Option T)
+module _ (command : Text) (form : Form) (ids : List Text) (simple : IsSimple form ids) (T : Type 0)
+    (take : Told → Option T)
     (refuses : (told : Told) → IsOf form told → has_dashed told ≡ true → take told ≡ None) where
   abbrev rules : List Rule
   rules = rules_by form ids
@@ -131,40 +150,49 @@ module _ (command : Text) (form : Form) (ids : List Text) (simple : IsSimple for
   keeps_either true x y p q = p
   keeps_either false x y p q = q
 
-  keeps_use : (s : Stand) (a : Rule) (v : Text) → spoilt s.uses ≡ true → Keeps (with_use command rules s a v)
+  keeps_use : (s : Stand) (a : Rule) (v : Text) → spoilt s.uses ≡ true
+      → Keeps (with_use command rules s a v)
   keeps_use s a v is = elim (cases_Bool (is_some (value_in a.id s.uses))) [
     | inl b ↦ rw b tt
     | inr b ↦ rw b (spoilt_kept (option_names form ++ ids) s.uses (use_of a v) is)
   ]
 
-  keeps_positional : (s : Stand) (word : Text) (found : Option Rule) → spoilt s.uses ≡ true → Keeps (as_positional command rules s word found)
+  keeps_positional : (s : Stand) (word : Text) (found : Option Rule) → spoilt s.uses ≡ true
+      → Keeps (as_positional command rules s word found)
   keeps_positional s word None is = tt
-  keeps_positional s word (Some a) is = keeps_use (record s { place = min (s.place + 1) usize_max }) a word is
+  keeps_positional s word (Some a) is =
+      keeps_use (record s { place = min (s.place + 1) usize_max }) a word is
 
-  keeps_option : (s : Stand) (a : Rule) (v : Option Text) → spoilt s.uses ≡ true → Keeps (as_option command rules s a v)
+  keeps_option : (s : Stand) (a : Rule) (v : Option Text) → spoilt s.uses ≡ true
+      → Keeps (as_option command rules s a v)
   keeps_option s a (Some v) is = keeps_use s a v is
   keeps_option s a None is = is
 
-  keeps_flag : (s : Stand) (a : Rule) (v : Option Text) → spoilt s.uses ≡ true → Keeps (as_flag command rules s a v)
+  keeps_flag : (s : Stand) (a : Rule) (v : Option Text) → spoilt s.uses ≡ true
+      → Keeps (as_flag command rules s a v)
   keeps_flag s a (Some v) is = tt
   keeps_flag s a None is = keeps_use s a (codes "true") is
 
-  keeps_named : (s : Stand) (v : Option Text) (found : Option Rule) → spoilt s.uses ≡ true → Keeps (as_named command rules s v found)
+  keeps_named : (s : Stand) (v : Option Text) (found : Option Rule) → spoilt s.uses ≡ true
+      → Keeps (as_named command rules s v found)
   keeps_named s v None is = tt
   keeps_named s v (Some a) is = elim (cases_Bool (takes_values a)) [
     | inl b ↦ rw b (keeps_option s a v is)
     | inr b ↦ rw b (keeps_flag s a v is)
   ]
 
-  keeps_seen : (s : Stand) (word : Text) (seen : View word) → spoilt s.uses ≡ true → Keeps (as_seen command rules s word seen)
+  keeps_seen : (s : Stand) (word : Text) (seen : View word) → spoilt s.uses ≡ true
+      → Keeps (as_seen command rules s word seen)
   keeps_seen s word (ending e d) is = is
   keeps_seen s word (long n v e l d) is = keeps_named s v (arg_by_long rules n) is
   keeps_seen s word (short y ys c e l h i d) is = tt
-  keeps_seen s word (torn y ys e l h i d) is = keeps_positional s word (arg_by_index rules s.place) is
+  keeps_seen s word (torn y ys e l h i d) is =
+      keeps_positional s word (arg_by_index rules s.place) is
   keeps_seen s word (dash e l h d) is = keeps_positional s word (arg_by_index rules s.place) is
   keeps_seen s word (clean e l h d) is = keeps_positional s word (arg_by_index rules s.place) is
 
-  keeps_value : (s : Stand) (a : Rule) (word : Text) (seen : View word) → spoilt s.uses ≡ true → Keeps (as_value command rules s a word seen)
+  keeps_value : (s : Stand) (a : Rule) (word : Text) (seen : View word) → spoilt s.uses ≡ true
+      → Keeps (as_value command rules s a word seen)
   keeps_value s a word (ending e d) is = tt
   keeps_value s a word (long n v e l d) is = tt
   keeps_value s a word (short y ys c e l h i d) is = tt
@@ -172,48 +200,69 @@ module _ (command : Text) (form : Form) (ids : List Text) (simple : IsSimple for
   keeps_value s a word (dash e l h d) is = keeps_use s a word is
   keeps_value s a word (clean e l h d) is = keeps_use s a word is
 
-  keeps_next : (s : Stand) (word : Text) (seen : View word) (waits : Option Rule) → spoilt s.uses ≡ true → Keeps (next_seen command rules s word seen waits)
+  keeps_next : (s : Stand) (word : Text) (seen : View word) (waits : Option Rule)
+      → spoilt s.uses ≡ true → Keeps (next_seen command rules s word seen waits)
   keeps_next s word seen (Some a) is = keeps_value s a word seen is
-  keeps_next s word seen None is = keeps_either s.ended (as_positional command rules s word (arg_by_index rules s.place)) (as_seen command rules s word seen)
+  keeps_next s word seen None is =
+      keeps_either s.ended (as_positional command rules s word (arg_by_index rules s.place))
+      (as_seen command rules s word seen)
       (keeps_positional s word (arg_by_index rules s.place) is) (keeps_seen s word seen is)
 
-  spoilt_told : (uses : List Use) → spoilt uses ≡ true → option_and_then take (told_with command form ids simple (ended command form ids simple uses)) ≡ None
+  spoilt_told : (uses : List Use) → spoilt uses ≡ true
+      → option_and_then take (told_with command form ids simple
+      (ended command form ids simple uses)) ≡ None
   spoilt_told uses is = go (all_of (map (ended command form ids simple uses) ids)) refl
     where
       parts : (spoilt_at uses (option_names form) || spoilt_at uses ids) ≡ true
       parts = sym (list_any-append (λ m. is_dashed (value_in m uses)) (option_names form) ids) ∙ is
 
-      dashed_told : (texts : List Text) → all_of (map (ended command form ids simple uses) ids) ≡ Some texts
-          → (list_any begins_dashed texts || list_any is_dashed (map (λ o. ended command form ids simple uses o.name) form.options)) ≡ true
+      dashed_told : (texts : List Text)
+          → all_of (map (ended command form ids simple uses) ids) ≡ Some texts
+          → (list_any begins_dashed texts
+          || list_any is_dashed (map (λ o. ended command form ids simple uses o.name)
+          form.options)) ≡ true
       dashed_told texts all = elim (cases_Bool (spoilt_at uses (option_names form))) [
-        | inl a ↦ ap (λ b. list_any begins_dashed texts || b) (spoilt_values form.options uses (λ m. default_in m rules) a) ∙ or_true (list_any begins_dashed texts)
+        | inl a ↦ ap (λ b. list_any begins_dashed texts || b)
+            (spoilt_values form.options uses (λ m. default_in m rules) a)
+            ∙ or_true (list_any begins_dashed texts)
         | inr a ↦
-            let here : list_any begins_dashed texts ≡ true = spoilt_texts ids uses (λ m. default_in m rules) texts (rw a at parts) all in
+            let here : list_any begins_dashed texts ≡ true =
+            spoilt_texts ids uses (λ m. default_in m rules) texts (rw a at parts) all in
             rw here refl
       ]
 
-      go : (found : Option (List Text)) → all_of (map (ended command form ids simple uses) ids) ≡ found
-          → option_and_then take (told_with command form ids simple (ended command form ids simple uses)) ≡ None
+      go : (found : Option (List Text))
+          → all_of (map (ended command form ids simple uses) ids) ≡ found
+          → option_and_then take (told_with command form ids simple
+          (ended command form ids simple uses)) ≡ None
       go None all = rw all refl
       go (Some texts) all =
           let count = all_length (map (ended command form ids simple uses) ids) texts all in
           rw all (refuses _ (record {
-            positionals = count ∙ length-map ids (ended command form ids simple uses) ∙ simple.count;
+            positionals =
+                count ∙ length-map ids (ended command form ids simple uses) ∙ simple.count;
             values = length-map form.options (λ o. ended command form ids simple uses o.name);
           }) (dashed_told texts all))
 
-  spoilt_end : (uses : List Use) (kinds : Kinds) → spoilt uses ≡ true → taken (unless_fault kinds (rows_at uses)) ≡ None
-  spoilt_end uses [] is = ap (option_and_then take) (told_at_end command form ids simple uses) ∙ spoilt_told uses is
+  spoilt_end : (uses : List Use) (kinds : Kinds) → spoilt uses ≡ true
+      → taken (unless_fault kinds (rows_at uses)) ≡ None
+  spoilt_end uses [] is =
+      ap (option_and_then take) (told_at_end command form ids simple uses) ∙ spoilt_told uses is
   spoilt_end uses (k ∷ ks) is = refl
 
   -- no words tell anything after a value that begins with `-`
-  pub spoilt_reads : (words : List Text) (s : Stand) → spoilt s.uses ≡ true → taken (read_seen command rules s words) ≡ None
+  pub spoilt_reads : (words : List Text) (s : Stand) → spoilt s.uses ≡ true
+      → taken (read_seen command rules s words) ≡ None
   spoilt_reads [] s is = elim (cases_Bool (is_some s.waits)) [
     | inl b ↦ rw b refl
     | inr b ↦ rw b (spoilt_end s.uses _ is)
   ]
-  spoilt_reads (word ∷ words) s is = go (next_seen command rules s word (view word) s.waits) (keeps_next s word (view word) s.waits is) (λ t k. spoilt_reads words t k)
+  spoilt_reads (word ∷ words) s is =
+      go (next_seen command rules s word (view word) s.waits)
+      (keeps_next s word (view word) s.waits is) (λ t k. spoilt_reads words t k)
     where
-      go : (next : Option Stand) → Keeps next → ((t : Stand) → spoilt t.uses ≡ true → taken (read_seen command rules t words) ≡ None) → rest_of words next ≡ None
+      go : (next : Option Stand) → Keeps next
+          → ((t : Stand) → spoilt t.uses ≡ true → taken (read_seen command rules t words) ≡ None)
+          → rest_of words next ≡ None
       go None k ih = refl
       go (Some t) k ih = ih t k

@@ -21,7 +21,8 @@ default_by a = slice_get a.defaults 0
 -- the default of the first argument of this id that has one
 abbrev pub default_in : Text → List Rule → Option Text
 default_in id [] = None
-default_in id (a ∷ more) = if bytes_eq a.id id then option_or (default_by a) (default_in id more) else default_in id more
+default_in id (a ∷ more) =
+    if bytes_eq a.id id then option_or (default_by a) (default_in id more) else default_in id more
 
 abbrev pub default_use : Rule → Text → Use
 default_use a v = record { id = a.id; value = v; source = DefaultValue; how = reading_by a }
@@ -47,63 +48,85 @@ plain_append [] rest p q = q
 plain_append (a ∷ more) rest p q = (p.0, plain_append more rest p.1 q)
 
 one_default : (uses : List Use) (a : Rule) (d : Option Text) → is_some (value_in a.id uses) ≡ false
-    → default_rows a.id (reading_by a) (option_to_list d) (rows_by uses) ≡ rows_by (or_default uses a d)
+    → default_rows a.id (reading_by a) (option_to_list d) (rows_by uses)
+    ≡ rows_by (or_default uses a d)
 one_default uses a None none = refl
 one_default uses a (Some v) none = appended (default_use a v) uses none
 
-with_default_is : (uses : List Use) (a : Rule) → Plain a → with_default (rows_by uses) a ≡ rows_by (add_default uses a)
+with_default_is : (uses : List Use) (a : Rule) → Plain a
+    → with_default (rows_by uses) a ≡ rows_by (add_default uses a)
 with_default_is uses a p = go (is_some (value_in a.id uses)) refl
   where
-    go : (b : Bool) → is_some (value_in a.id uses) ≡ b → with_default (rows_by uses) a ≡ rows_by (add_default uses a)
-    go true is = let row : has_row a.id (rows_by uses) ≡ true = row_is a.id uses ∙ is in rw (row, is) refl
+    go : (b : Bool) → is_some (value_in a.id uses) ≡ b
+        → with_default (rows_by uses) a ≡ rows_by (add_default uses a)
+    go true is =
+        let row : has_row a.id (rows_by uses) ≡ true = row_is a.id uses ∙ is in rw (row, is) refl
     go false is =
         let row : has_row a.id (rows_by uses) ≡ false = row_is a.id uses ∙ is in
-        let here : with_default (rows_by uses) a ≡ default_rows a.id (reading_by a) a.defaults (rows_by uses) = rw row refl in
-        here ∙ ap (λ ds. default_rows a.id (reading_by a) ds (rows_by uses)) p.one ∙ one_default uses a (default_by a) is
+        let here : with_default (rows_by uses) a ≡ default_rows a.id (reading_by a) a.defaults
+        (rows_by uses) = rw row refl in
+        here ∙ ap (λ ds. default_rows a.id (reading_by a) ds (rows_by uses)) p.one
+        ∙ one_default uses a (default_by a) is
         ∙ ap (λ b. rows_by (if b then uses else or_default uses a (default_by a))) (sym is)
 
-pub finished_is : (rules : List Rule) (uses : List Use) → AllPlain rules → fold with_default (rows_by uses) rules ≡ rows_by (fold add_default uses rules)
+pub finished_is : (rules : List Rule) (uses : List Use) → AllPlain rules
+    → fold with_default (rows_by uses) rules ≡ rows_by (fold add_default uses rules)
 finished_is [] uses p = refl
 finished_is (a ∷ more) uses p =
-    ap (λ rows. fold with_default rows more) (with_default_is uses a p.0) ∙ finished_is more (add_default uses a) p.1
+    ap (λ rows. fold with_default rows more) (with_default_is uses a p.0)
+    ∙ finished_is more (add_default uses a) p.1
 
-pub no_faults : (rules : List Rule) (rows : List Row) → AllPlain rules → defaults_fault rows rules ≡ []
+pub no_faults : (rules : List Rule) (rows : List Row) → AllPlain rules
+    → defaults_fault rows rules ≡ []
 unfolding defaults_fault
 no_faults [] rows p = refl
 no_faults (a ∷ more) rows p = rw (p.0.taken rows) (no_faults more (with_default rows a) p.1)
 
 -- what one default changes
-defaulted_one : (id : Text) (uses : List Use) (a : Rule) (d : Option Text) → is_some (value_in a.id uses) ≡ false
-    → value_in id (or_default uses a d) ≡ (if bytes_eq a.id id then option_or (value_in id uses) d else value_in id uses)
+defaulted_one : (id : Text) (uses : List Use) (a : Rule) (d : Option Text)
+    → is_some (value_in a.id uses) ≡ false
+    → value_in id (or_default uses a d)
+    ≡ (if bytes_eq a.id id then option_or (value_in id uses) d else value_in id uses)
 defaulted_one id uses a d none = elim (cases_Bool (bytes_eq a.id id)) [
   | inl b ↦ rw b (same d (rw (same_text a.id id b) at none) b)
   | inr b ↦ rw b (other d b)
 ]
   where
-    none_is : is_some (value_in id uses) ≡ false → (found : Option Text) → value_in id uses ≡ found → found ≡ None
+    none_is : is_some (value_in id uses) ≡ false → (found : Option Text) → value_in id uses ≡ found
+        → found ≡ None
     none_is is None at = refl
     none_is is (Some v) at = absurd (false≢true (sym (rw at at is)))
 
-    same : (d : Option Text) → is_some (value_in id uses) ≡ false → bytes_eq a.id id ≡ true → value_in id (or_default uses a d) ≡ option_or (value_in id uses) d
-    same None is b = let n : value_in id uses ≡ None = none_is is (value_in id uses) refl in rw n refl
+    same : (d : Option Text) → is_some (value_in id uses) ≡ false → bytes_eq a.id id ≡ true
+        → value_in id (or_default uses a d) ≡ option_or (value_in id uses) d
+    same None is b =
+        let n : value_in id uses ≡ None = none_is is (value_in id uses) refl in rw n refl
     same (Some v) is b =
         let n : value_in id uses ≡ None = none_is is (value_in id uses) refl in
         value_new id uses (default_use a v) b is ∙ sym (ap (λ o. option_or o (Some v)) n)
 
-    other : (d : Option Text) → bytes_eq a.id id ≡ false → value_in id (or_default uses a d) ≡ value_in id uses
+    other : (d : Option Text) → bytes_eq a.id id ≡ false
+        → value_in id (or_default uses a d) ≡ value_in id uses
     other None b = refl
     other (Some v) b = value_other id uses (default_use a v) b
 
-defaulted : (id : Text) (uses : List Use) (a : Rule) → value_in id (add_default uses a) ≡ (if bytes_eq a.id id then option_or (value_in id uses) (default_by a) else value_in id uses)
+defaulted : (id : Text) (uses : List Use) (a : Rule)
+    → value_in id (add_default uses a)
+    ≡ (if bytes_eq a.id id then option_or (value_in id uses) (default_by a) else value_in id uses)
 defaulted id uses a = go (value_in a.id uses) refl
   where
-    go : (found : Option Text) → value_in a.id uses ≡ found → value_in id (add_default uses a) ≡ (if bytes_eq a.id id then option_or (value_in id uses) (default_by a) else value_in id uses)
+    go : (found : Option Text) → value_in a.id uses ≡ found
+        → value_in id (add_default uses a)
+        ≡ (if bytes_eq a.id id then option_or (value_in id uses) (default_by a) else value_in id
+        uses)
     go None is =
         let none : is_some (value_in a.id uses) ≡ false = ap is_some is in
-        ap (λ b. value_in id (if b then uses else or_default uses a (default_by a))) none ∙ defaulted_one id uses a (default_by a) none
+        ap (λ b. value_in id (if b then uses else or_default uses a (default_by a))) none
+        ∙ defaulted_one id uses a (default_by a) none
     go (Some v) is =
         let some : is_some (value_in a.id uses) ≡ true = ap is_some is in
-        ap (λ b. value_in id (if b then uses else or_default uses a (default_by a))) some ∙ elim (cases_Bool (bytes_eq a.id id)) [
+        ap (λ b. value_in id (if b then uses else or_default uses a (default_by a))) some
+        ∙ elim (cases_Bool (bytes_eq a.id id)) [
           | inl b ↦
               let here : value_in id uses ≡ Some v = rw (← same_text a.id id b) is in
               rw (b, here) refl
@@ -115,16 +138,19 @@ or_or None y z = refl
 or_or (Some v) y z = refl
 
 -- the value of each id at the end
-pub value_at_end : (id : Text) (rules : List Rule) (uses : List Use) → value_in id (fold add_default uses rules) ≡ option_or (value_in id uses) (default_in id rules)
+pub value_at_end : (id : Text) (rules : List Rule) (uses : List Use)
+    → value_in id (fold add_default uses rules) ≡ option_or (value_in id uses) (default_in id rules)
 value_at_end id [] uses = sym (or_none (value_in id uses))
   where
     or_none : (x : Option Text) → option_or x None ≡ x
     or_none None = refl
     or_none (Some v) = refl
-value_at_end id (a ∷ more) uses = value_at_end id more (add_default uses a) ∙ ap (λ o. option_or o (default_in id more)) (defaulted id uses a) ∙ elim (cases_Bool (bytes_eq a.id id)) [
-  | inl b ↦ rw b (or_or (value_in id uses) (default_by a) (default_in id more))
-  | inr b ↦ rw b refl
-]
+value_at_end id (a ∷ more) uses = value_at_end id more (add_default uses a)
+    ∙ ap (λ o. option_or o (default_in id more)) (defaulted id uses a)
+    ∙ elim (cases_Bool (bytes_eq a.id id)) [
+      | inl b ↦ rw b (or_or (value_in id uses) (default_by a) (default_in id more))
+      | inr b ↦ rw b refl
+    ]
 
 -- whether the words gave it
 abbrev pub given_in : Text → List Use → Bool
@@ -142,23 +168,27 @@ same_if : (b : Bool) → (if b then false else false) ≡ false
 same_if true = refl
 same_if false = refl
 
-given_kept : (id : Text) (uses : List Use) (a : Rule) (v : Text) → given_in id (uses ++ default_use a v ∷ []) ≡ given_in id uses
+given_kept : (id : Text) (uses : List Use) (a : Rule) (v : Text)
+    → given_in id (uses ++ default_use a v ∷ []) ≡ given_in id uses
 given_kept id [] a v = same_if (bytes_eq a.id id)
 given_kept id (u ∷ us) a v = elim (cases_Bool (bytes_eq u.id id)) [
   | inl b ↦ rw b refl
   | inr b ↦ rw b (given_kept id us a v)
 ]
 
-given_or : (id : Text) (uses : List Use) (a : Rule) (d : Option Text) → given_in id (or_default uses a d) ≡ given_in id uses
+given_or : (id : Text) (uses : List Use) (a : Rule) (d : Option Text)
+    → given_in id (or_default uses a d) ≡ given_in id uses
 given_or id uses a None = refl
 given_or id uses a (Some v) = given_kept id uses a v
 
-given_at_end : (id : Text) (rules : List Rule) (uses : List Use) → given_in id (fold add_default uses rules) ≡ given_in id uses
+given_at_end : (id : Text) (rules : List Rule) (uses : List Use)
+    → given_in id (fold add_default uses rules) ≡ given_in id uses
 given_at_end id [] uses = refl
-given_at_end id (a ∷ more) uses = given_at_end id more (add_default uses a) ∙ elim (cases_Bool (is_some (value_in a.id uses))) [
-  | inl b ↦ rw b refl
-  | inr b ↦ rw b (given_or id uses a (default_by a))
-]
+given_at_end id (a ∷ more) uses =
+    given_at_end id more (add_default uses a) ∙ elim (cases_Bool (is_some (value_in a.id uses))) [
+      | inl b ↦ rw b refl
+      | inr b ↦ rw b (given_or id uses a (default_by a))
+    ]
 
 -- each use is one of the words
 abbrev pub are_typed : List Use → Bool
@@ -168,7 +198,8 @@ and_split : (a b : Bool) → (a && b) ≡ true → (a ≡ true) × (b ≡ true)
 and_split true b is = (refl, is)
 and_split false b is = absurd (false≢true is)
 
-typed_given : (id : Text) (uses : List Use) → are_typed uses ≡ true → given_in id uses ≡ is_some (value_in id uses)
+typed_given : (id : Text) (uses : List Use) → are_typed uses ≡ true
+    → given_in id uses ≡ is_some (value_in id uses)
 typed_given id [] t = refl
 typed_given id (u ∷ us) t =
     let p = and_split (explicit_source (Some u.source)) (are_typed us) t in
@@ -178,5 +209,7 @@ typed_given id (u ∷ us) t =
     ]
 
 -- whether the parser takes it as given at the end
-pub given_end : (id : Text) (rules : List Rule) (uses : List Use) → are_typed uses ≡ true → is_given id (rows_by (fold add_default uses rules)) ≡ is_some (value_in id uses)
-given_end id rules uses t = given_is id (fold add_default uses rules) ∙ given_at_end id rules uses ∙ typed_given id uses t
+pub given_end : (id : Text) (rules : List Rule) (uses : List Use) → are_typed uses ≡ true
+    → is_given id (rows_by (fold add_default uses rules)) ≡ is_some (value_in id uses)
+given_end id rules uses t =
+    given_is id (fold add_default uses rules) ∙ given_at_end id rules uses ∙ typed_given id uses t

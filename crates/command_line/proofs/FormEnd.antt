@@ -26,44 +26,52 @@ or_true true = refl
 or_true false = refl
 
 -- two functions that agree on the names
-map_on : (names : List Text) (g h : Text → Option Text) → ((m : Text) → has_name m names ≡ true → g m ≡ h m) → map g names ≡ map h names
+map_on : (names : List Text) (g h : Text → Option Text)
+    → ((m : Text) → has_name m names ≡ true → g m ≡ h m) → map g names ≡ map h names
 map_on [] g h same = refl
 map_on (m ∷ ms) g h same =
     let head : g m ≡ h m = same m (rw (bytes_same m) refl) in
-    let tail : map g ms ≡ map h ms = map_on ms g h (λ n is. same n (ap (λ b. bytes_eq m n || b) is ∙ or_true (bytes_eq m n))) in
+    let tail : map g ms ≡ map h ms =
+    map_on ms g h (λ n is. same n (ap (λ b. bytes_eq m n || b) is ∙ or_true (bytes_eq m n))) in
     cc
 
 -- ---- which default a name has
 
-none_in_options : (m : Text) (options : List Valued) (rest : List Rule) → has_name m (map (λ o. o.name) options) ≡ false
+none_in_options : (m : Text) (options : List Valued) (rest : List Rule)
+    → has_name m (map (λ o. o.name) options) ≡ false
     → default_in m (options_before options rest) ≡ default_in m rest
 none_in_options m [] rest none = refl
 none_in_options m (o ∷ os) rest none =
     let p = or_split (bytes_eq o.name m) (has_name m (map (λ o. o.name) os)) none in
     rw p.0 (none_in_options m os rest p.1)
 
-none_in_flags : (m : Text) (flags : List Text) (rest : List Rule) → has_name m flags ≡ false → default_in m (flags_before flags rest) ≡ default_in m rest
+none_in_flags : (m : Text) (flags : List Text) (rest : List Rule) → has_name m flags ≡ false
+    → default_in m (flags_before flags rest) ≡ default_in m rest
 none_in_flags m [] rest none = refl
 none_in_flags m (f ∷ fs) rest none =
     let p = or_split (bytes_eq f m) (has_name m fs) none in
     rw p.0 (none_in_flags m fs rest p.1)
 
-none_in_positionals : (m : Text) (place : ℕ) (ids : List Text) → default_in m (positionals_from place ids) ≡ None
+none_in_positionals : (m : Text) (place : ℕ) (ids : List Text)
+    → default_in m (positionals_from place ids) ≡ None
 none_in_positionals m place [] = refl
 none_in_positionals m place (id ∷ ids) = elim (cases_Bool (bytes_eq id m)) [
   | inl b ↦ rw b (none_in_positionals m (place + 1) ids)
   | inr b ↦ rw b (none_in_positionals m (place + 1) ids)
 ]
 
-flag_default : (m : Text) (flags : List Text) (rest : List Rule) → has_name m flags ≡ true → default_in m (flags_before flags rest) ≡ Some (codes "false")
+flag_default : (m : Text) (flags : List Text) (rest : List Rule) → has_name m flags ≡ true
+    → default_in m (flags_before flags rest) ≡ Some (codes "false")
 flag_default m [] rest h = absurd (false≢true h)
 flag_default m (f ∷ fs) rest h = elim (cases_Bool (bytes_eq f m)) [
   | inl b ↦ rw b refl
   | inr b ↦ rw b (flag_default m fs rest (rw b at h))
 ]
 
-skipped : (o : Valued) (ps : List Valued) (rest : List Rule) → has_name o.name (map (λ p. p.name) ps) ≡ false
-    → map (λ p. default_in p.name (option_filled o ∷ rest)) ps ≡ map (λ p. default_in p.name rest) ps
+skipped : (o : Valued) (ps : List Valued) (rest : List Rule)
+    → has_name o.name (map (λ p. p.name) ps) ≡ false
+    → map (λ p. default_in p.name (option_filled o ∷ rest)) ps
+    ≡ map (λ p. default_in p.name rest) ps
 skipped o [] rest none = refl
 skipped o (p ∷ ps) rest none =
     let q = or_split (bytes_eq p.name o.name) (has_name o.name (map (λ p. p.name) ps)) none in
@@ -74,25 +82,32 @@ listed : (d : Option Text) → option_or (slice_get (option_to_list d) 0) None �
 listed None = refl
 listed (Some v) = refl
 
-option_defaults : (options : List Valued) (rest : List Rule) → are_distinct (map (λ o. o.name) options) ≡ true
+option_defaults : (options : List Valued) (rest : List Rule)
+    → are_distinct (map (λ o. o.name) options) ≡ true
     → ((m : Text) → has_name m (map (λ o. o.name) options) ≡ true → default_in m rest ≡ None)
-    → map (λ o. default_in o.name (options_before options rest)) options ≡ map (λ o. o.default) options
+    → map (λ o. default_in o.name (options_before options rest)) options
+    ≡ map (λ o. o.default) options
 option_defaults [] rest one none = refl
 option_defaults (o ∷ os) rest one none =
     let apart = head_apart o.name (map (λ p. p.name) os) one in
     let later : default_in o.name (options_before os rest) ≡ None =
     none_in_options o.name os rest apart.0 ∙ none o.name (rw (bytes_same o.name) refl) in
-    let head : default_in o.name (options_before (o ∷ os) rest) ≡ o.default = rw (bytes_same o.name, later) (listed o.default) in
-    let tail : map (λ p. default_in p.name (options_before (o ∷ os) rest)) os ≡ map (λ p. p.default) os =
+    let head : default_in o.name (options_before (o ∷ os) rest) ≡ o.default =
+    rw (bytes_same o.name, later) (listed o.default) in
+    let tail : map (λ p. default_in p.name (options_before (o ∷ os) rest)) os
+    ≡ map (λ p. p.default) os =
     skipped o os (options_before os rest) apart.0
-    ∙ option_defaults os rest apart.1 (λ m is. none m (ap (λ b. bytes_eq o.name m || b) is ∙ or_true (bytes_eq o.name m))) in
+    ∙ option_defaults os rest apart.1
+    (λ m is. none m (ap (λ b. bytes_eq o.name m || b) is ∙ or_true (bytes_eq o.name m))) in
     cc
 
 -- ---- the parts of what is told
 
-values_end : (options : List Valued) (uses : List Use) (look : Text → Option Text) → map (λ o. look o.name) options ≡ map (λ o. o.default) options
+values_end : (options : List Valued) (uses : List Use) (look : Text → Option Text)
+    → map (λ o. look o.name) options ≡ map (λ o. o.default) options
     → map (λ o. option_or (value_in o.name uses) (look o.name)) options
-    ≡ map (λ pair. option_or pair.1 pair.0.default) (zip options (seen uses (map (λ o. o.name) options)))
+    ≡ map (λ pair. option_or pair.1 pair.0.default)
+    (zip options (seen uses (map (λ o. o.name) options)))
 values_end [] uses look is = refl
 values_end (o ∷ os) uses look is =
     let head : look o.name ≡ o.default = cc in
@@ -103,7 +118,8 @@ flag_told : (b : Bool) → is_given_true (option_or (flag_text b) (Some (codes "
 flag_told true = refl
 flag_told false = refl
 
-flags_end : (names : List Text) (bits : List Bool) (uses : List Use) (look : Text → Option Text) → seen uses names ≡ map flag_text bits
+flags_end : (names : List Text) (bits : List Bool) (uses : List Use) (look : Text → Option Text)
+    → seen uses names ≡ map flag_text bits
     → map look names ≡ map (λ m. Some (codes "false")) names
     → map (λ m. is_given_true (option_or (value_in m uses) (look m))) names ≡ bits
 flags_end [] [] uses look is offs = refl
@@ -116,33 +132,41 @@ flags_end (m ∷ ms) (b ∷ bs) uses look is offs =
     let rest : map look ms ≡ map (λ n. Some (codes "false")) ms = cc in
     rw (here, off, flag_told b, flags_end ms bs uses look tail rest) refl
 
-filled_full : (ids texts : List Text) → length texts ≡ length ids → (all_of (filled ids texts) ≡ Some texts) × (list_any is_none (filled ids texts) ≡ false)
+filled_full : (ids texts : List Text) → length texts ≡ length ids
+    → (all_of (filled ids texts) ≡ Some texts) × (list_any is_none (filled ids texts) ≡ false)
 filled_full [] [] is = (refl, refl)
 filled_full [] (t ∷ ts) is = absurd (omega arith)
 filled_full (id ∷ ids) [] is = absurd (omega arith)
 filled_full (id ∷ ids) (t ∷ ts) is = let p = filled_full ids ts (omega arith) in (rw p.0 refl, p.1)
 
-filled_short : (ids texts : List Text) → length texts < length ids → (all_of (filled ids texts) ≡ None) × (list_any is_none (filled ids texts) ≡ true)
+filled_short : (ids texts : List Text) → length texts < length ids
+    → (all_of (filled ids texts) ≡ None) × (list_any is_none (filled ids texts) ≡ true)
 filled_short [] texts less = absurd (omega arith)
 filled_short (id ∷ ids) [] less = (refl, refl)
-filled_short (id ∷ ids) (t ∷ ts) less = let p = filled_short ids ts (omega arith) in (rw p.0 refl, p.1)
+filled_short (id ∷ ids) (t ∷ ts) less =
+    let p = filled_short ids ts (omega arith) in (rw p.0 refl, p.1)
 
 -- ---- the required positionals
 
 lacks_after_options : (rows : List Row) (options : List Valued) (rest : List Rule)
-    → list_any (λ a. a.required && not (is_given a.id rows)) (options_before options rest) ≡ list_any (λ a. a.required && not (is_given a.id rows)) rest
+    → list_any (λ a. a.required && not (is_given a.id rows)) (options_before options rest)
+    ≡ list_any (λ a. a.required && not (is_given a.id rows)) rest
 lacks_after_options rows [] rest = refl
 lacks_after_options rows (o ∷ os) rest = lacks_after_options rows os rest
 
 lacks_after_flags : (rows : List Row) (flags : List Text) (rest : List Rule)
-    → list_any (λ a. a.required && not (is_given a.id rows)) (flags_before flags rest) ≡ list_any (λ a. a.required && not (is_given a.id rows)) rest
+    → list_any (λ a. a.required && not (is_given a.id rows)) (flags_before flags rest)
+    ≡ list_any (λ a. a.required && not (is_given a.id rows)) rest
 lacks_after_flags rows [] rest = refl
 lacks_after_flags rows (f ∷ fs) rest = lacks_after_flags rows fs rest
 
-lacks_positional : (rows : List Row) (uses : List Use) (place : ℕ) (ids : List Text) → ((m : Text) → is_given m rows ≡ is_some (value_in m uses))
-    → list_any (λ a. a.required && not (is_given a.id rows)) (positionals_from place ids) ≡ list_any is_none (seen uses ids)
+lacks_positional : (rows : List Row) (uses : List Use) (place : ℕ) (ids : List Text)
+    → ((m : Text) → is_given m rows ≡ is_some (value_in m uses))
+    → list_any (λ a. a.required && not (is_given a.id rows)) (positionals_from place ids)
+    ≡ list_any is_none (seen uses ids)
 lacks_positional rows uses place [] same = refl
-lacks_positional rows uses place (id ∷ ids) same = rw (same id, lacks_positional rows uses (place + 1) ids same) refl
+lacks_positional rows uses place (id ∷ ids) same =
+    rw (same id, lacks_positional rows uses (place + 1) ids same) refl
 
 module _ (command : Text) (form : Form) (ids : List Text) (simple : IsSimple form ids) where
   abbrev rules : List Rule
@@ -166,11 +190,13 @@ module _ (command : Text) (form : Form) (ids : List Text) (simple : IsSimple for
   first_at_end uses m = ap (first_of m) (finished_is rules uses (all_plain form ids))
       ∙ first_is m (fold add_default uses rules) ∙ value_at_end m rules uses
 
-  value_names_same : (options : List Valued) (g h : Text → Option Text) → ((m : Text) → g m ≡ h m) → map (λ o. g o.name) options ≡ map (λ o. h o.name) options
+  value_names_same : (options : List Valued) (g h : Text → Option Text) → ((m : Text) → g m ≡ h m)
+      → map (λ o. g o.name) options ≡ map (λ o. h o.name) options
   value_names_same [] g h same = refl
   value_names_same (o ∷ os) g h same = rw (same o.name, value_names_same os g h same) refl
 
-  flags_same : (names : List Text) (g h : Text → Option Text) → ((m : Text) → g m ≡ h m) → map (λ m. is_given_true (g m)) names ≡ map (λ m. is_given_true (h m)) names
+  flags_same : (names : List Text) (g h : Text → Option Text) → ((m : Text) → g m ≡ h m)
+      → map (λ m. is_given_true (g m)) names ≡ map (λ m. is_given_true (h m)) names
   flags_same [] g h same = refl
   flags_same (m ∷ ms) g h same = rw (same m, flags_same ms g h same) refl
 
@@ -184,8 +210,10 @@ module _ (command : Text) (form : Form) (ids : List Text) (simple : IsSimple for
 
   no_default : (m : Text) → has_name m ids ≡ true → default_in m rules ≡ None
   no_default m is =
-      none_in_options m form.options (flags_before form.flags (positionals_from 1 ids)) (positional_is_no_option form ids simple m is)
-      ∙ none_in_flags m form.flags (positionals_from 1 ids) (positional_is_no_flag form ids simple m is)
+      none_in_options m form.options (flags_before form.flags (positionals_from 1 ids))
+      (positional_is_no_option form ids simple m is)
+      ∙ none_in_flags m form.flags (positionals_from 1 ids)
+      (positional_is_no_flag form ids simple m is)
       ∙ none_in_positionals m 1 ids
 
   or_none : (x y : Option Text) → y ≡ None → option_or x y ≡ x
@@ -193,67 +221,104 @@ module _ (command : Text) (form : Form) (ids : List Text) (simple : IsSimple for
   or_none (Some v) y is = refl
 
   texts_end : (uses : List Use) → map (ended uses) ids ≡ seen uses ids
-  texts_end uses = map_on ids (ended uses) (λ m. value_in m uses) (λ m is. or_none (value_in m uses) (default_in m rules) (no_default m is))
+  texts_end uses = map_on ids (ended uses) (λ m. value_in m uses)
+      (λ m is. or_none (value_in m uses) (default_in m rules) (no_default m is))
 
-  option_default : (m : Text) → has_name m (option_names form) ≡ true → default_in m (flags_before form.flags (positionals_from 1 ids)) ≡ None
+  option_default : (m : Text) → has_name m (option_names form) ≡ true
+      → default_in m (flags_before form.flags (positionals_from 1 ids)) ≡ None
   option_default m is =
-      none_in_flags m form.flags (positionals_from 1 ids) (option_is_no_other form ids simple m is).0 ∙ none_in_positionals m 1 ids
+      none_in_flags m form.flags (positionals_from 1 ids)
+      (option_is_no_other form ids simple m is).0 ∙ none_in_positionals m 1 ids
 
   option_values : (uses : List Use) → map (λ o. ended uses o.name) form.options
-      ≡ map (λ pair. option_or pair.1 pair.0.default) (zip form.options (seen uses (option_names form)))
+      ≡ map (λ pair. option_or pair.1 pair.0.default)
+      (zip form.options (seen uses (option_names form)))
   option_values uses = values_end form.options uses (λ m. default_in m rules)
-      (option_defaults form.options (flags_before form.flags (positionals_from 1 ids)) (options_parted form ids simple).first option_default)
+      (option_defaults form.options (flags_before form.flags (positionals_from 1 ids))
+      (options_parted form ids simple).first option_default)
 
   flag_off : (m : Text) → has_name m form.flags ≡ true → default_in m rules ≡ Some (codes "false")
-  flag_off m is = none_in_options m form.options (flags_before form.flags (positionals_from 1 ids)) (flag_is_no_option form ids simple m is)
+  flag_off m is = none_in_options m form.options (flags_before form.flags (positionals_from 1 ids))
+      (flag_is_no_option form ids simple m is)
       ∙ flag_default m form.flags (positionals_from 1 ids) is
 
-  flag_values : (uses : List Use) (bits : List Bool) → seen uses form.flags ≡ map flag_text bits → map (λ m. is_given_true (ended uses m)) form.flags ≡ bits
+  flag_values : (uses : List Use) (bits : List Bool) → seen uses form.flags ≡ map flag_text bits
+      → map (λ m. is_given_true (ended uses m)) form.flags ≡ bits
   flag_values uses bits is = flags_end form.flags bits uses (λ m. default_in m rules) is
       (map_on form.flags (λ m. default_in m rules) (λ m. Some (codes "false")) flag_off)
 
-  lacking : (uses : List Use) (texts : List Text) (values : List (Option Text)) (flags : List Bool) → Fits form ids uses texts values flags
-      → list_any (λ a. a.required && not (is_given a.id (rows_at uses))) rules ≡ list_any is_none (filled ids texts)
+  lacking : (uses : List Use) (texts : List Text) (values : List (Option Text)) (flags : List Bool)
+      → Fits form ids uses texts values flags
+      → list_any (λ a. a.required && not (is_given a.id (rows_at uses))) rules
+      ≡ list_any is_none (filled ids texts)
   lacking uses texts values flags f =
-      lacks_after_options (rows_at uses) form.options (flags_before form.flags (positionals_from 1 ids))
+      lacks_after_options (rows_at uses) form.options
+      (flags_before form.flags (positionals_from 1 ids))
       ∙ lacks_after_flags (rows_at uses) form.flags (positionals_from 1 ids)
-      ∙ lacks_positional (rows_at uses) uses 1 ids (λ m. ap (is_given m) (finished_is rules uses (all_plain form ids)) ∙ given_end m rules uses f.typed)
+      ∙ lacks_positional (rows_at uses) uses 1 ids
+      (λ m. ap (is_given m) (finished_is rules uses (all_plain form ids))
+      ∙ given_end m rules uses f.typed)
       ∙ ap (list_any is_none) f.texts_are
 
-  faults_at : (uses : List Use) (texts : List Text) (values : List (Option Text)) (flags : List Bool) (b : Bool) → Fits form ids uses texts values flags
+  faults_at : (uses : List Use) (texts : List Text) (values : List (Option Text))
+      (flags : List Bool) (b : Bool) → Fits form ids uses texts values flags
       → list_any is_none (filled ids texts) ≡ b
       → rows_at_end command rules uses ≡ (if b then None else Some (rows_at uses))
   faults_at uses texts values flags b f is =
-      let ok : defaults_fault (rows_by uses) rules ≡ [] = no_faults rules (rows_by uses) (all_plain form ids) in
-      let lack : list_any (λ a. a.required && not (is_given a.id (rows_at uses))) rules ≡ b = lacking uses texts values flags f ∙ is in
-      let here : rows_at_end command rules uses ≡ unless_fault (if b then kind.MissingRequiredArgument ∷ [] else []) (rows_at uses) = rw (ok, lack) refl in
+      let ok : defaults_fault (rows_by uses) rules ≡ [] =
+      no_faults rules (rows_by uses) (all_plain form ids) in
+      let lack : list_any (λ a. a.required && not (is_given a.id (rows_at uses))) rules ≡ b =
+      lacking uses texts values flags f ∙ is in
+      let here : rows_at_end command rules uses
+      ≡ unless_fault (if b then kind.MissingRequiredArgument ∷ [] else []) (rows_at uses) =
+      rw (ok, lack) refl in
       here ∙ last b
     where
-      last : (b : Bool) → unless_fault (if b then kind.MissingRequiredArgument ∷ [] else []) (rows_at uses) ≡ (if b then None else Some (rows_at uses))
+      last : (b : Bool) → unless_fault (if b then kind.MissingRequiredArgument ∷ [] else [])
+          (rows_at uses) ≡ (if b then None else Some (rows_at uses))
       last true = refl
       last false = refl
 
   -- the end, where the uses are what was given
-  pub end_agrees : (uses : List Use) (texts : List Text) (values : List (Option Text)) (flags : List Bool) (over : Bool) → Fits form ids uses texts values flags
-      → option_and_then (told_in form ids) (rows_at_end command rules uses) ≡ end_of form (given texts values flags None over)
+  pub end_agrees : (uses : List Use) (texts : List Text) (values : List (Option Text))
+      (flags : List Bool) (over : Bool) → Fits form ids uses texts values flags
+      → option_and_then (told_in form ids) (rows_at_end command rules uses)
+      ≡ end_of form (given texts values flags None over)
   end_agrees uses texts values flags over f = go (length texts == length ids) refl
     where
-      all_there : length texts ≡ length ids → option_and_then (told_in form ids) (rows_at_end command rules uses) ≡ end_of form (given texts values flags None over)
+      all_there : length texts ≡ length ids
+          → option_and_then (told_in form ids) (rows_at_end command rules uses)
+          ≡ end_of form (given texts values flags None over)
       all_there full =
           let there = filled_full ids texts full in
-          let counted : (length texts == form.positionals) ≡ true = rw (← simple.count) (grind (arith, nat_tests)) in
-          let given_texts : all_of (map (ended uses) ids) ≡ Some texts = ap all_of (texts_end uses ∙ f.texts_are) ∙ there.0 in
-          ap (option_and_then (told_in form ids)) (faults_at uses texts values flags false f there.1)
+          let counted : (length texts == form.positionals) ≡ true =
+          rw (← simple.count) (grind (arith, nat_tests)) in
+          let given_texts : all_of (map (ended uses) ids) ≡ Some texts =
+          ap all_of (texts_end uses ∙ f.texts_are) ∙ there.0 in
+          ap (option_and_then (told_in form ids))
+          (faults_at uses texts values flags false f there.1)
           ∙ told_at_end uses
-          ∙ (rw (given_texts, option_values uses, f.values_are, flag_values uses flags f.flags_are, counted) refl)
+          ∙ (rw (
+            given_texts,
+            option_values uses,
+            f.values_are,
+            flag_values uses flags f.flags_are,
+            counted,
+          ) refl)
 
-      some_lack : length texts < length ids → option_and_then (told_in form ids) (rows_at_end command rules uses) ≡ end_of form (given texts values flags None over)
+      some_lack : length texts < length ids
+          → option_and_then (told_in form ids) (rows_at_end command rules uses)
+          ≡ end_of form (given texts values flags None over)
       some_lack less =
           let there = filled_short ids texts less in
-          let counted : (length texts == form.positionals) ≡ false = rw (← simple.count) (grind (arith, nat_tests)) in
+          let counted : (length texts == form.positionals) ≡ false =
+          rw (← simple.count) (grind (arith, nat_tests)) in
           ap (option_and_then (told_in form ids)) (faults_at uses texts values flags true f there.1)
           ∙ (rw counted refl)
 
-      go : (b : Bool) → (length texts == length ids) ≡ b → option_and_then (told_in form ids) (rows_at_end command rules uses) ≡ end_of form (given texts values flags None over)
+      go : (b : Bool) → (length texts == length ids) ≡ b
+          → option_and_then (told_in form ids) (rows_at_end command rules uses)
+          ≡ end_of form (given texts values flags None over)
       go true is = let full : length texts ≡ length ids = grind (arith, nat_tests) in all_there full
-      go false is = let room = f.room in let less : length texts < length ids = grind (arith, nat_tests) in some_lack less
+      go false is = let room = f.room in let less : length texts < length ids =
+          grind (arith, nat_tests) in some_lack less

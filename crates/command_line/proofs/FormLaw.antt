@@ -17,9 +17,11 @@ use Rattle.command_line.proofs.DashedValues.{IsOf}
 use Rattle.command_line.proofs.FormWords.{form_agrees}
 
 abbrev parsed_of : App → List Text → Option (List Row)
-parsed_of b words = unless_fault (built_fault b nothing_held words) (rows_after b.top.rules (names_of b) words)
+parsed_of b words =
+    unless_fault (built_fault b nothing_held words) (rows_after b.top.rules (names_of b) words)
 
-module _ (command : Text) (form : Form) (ids : List Text) (simple : IsSimple form ids) (T : Type 0) (take : Told → Option T)
+module _ (command : Text) (form : Form) (ids : List Text) (simple : IsSimple form ids) (T : Type 0)
+    (take : Told → Option T)
     (refuses : (told : Told) → IsOf form told → has_dashed told ≡ true → take told ≡ None) where
   abbrev taken : Option (List Row) → Option T
   taken rows = option_and_then take (option_and_then (told_in form ids) rows)
@@ -27,42 +29,60 @@ module _ (command : Text) (form : Form) (ids : List Text) (simple : IsSimple for
   abbrev app : App
   app = app_by command form ids
 
-  parsed : (first : Text) (words : List Text) → taken (unless_fault (fault_of app (first ∷ words)) (matches_of app (first ∷ words))) ≡ option_and_then take (told_by form words)
+  parsed : (first : Text) (words : List Text)
+      → taken (unless_fault (fault_of app (first ∷ words)) (matches_of app (first ∷ words)))
+      ≡ option_and_then take (told_by form words)
   parsed first words =
-      let here : unless_fault (fault_of app (first ∷ words)) (matches_of app (first ∷ words)) ≡ parsed_of (built app) words = refl in
+      let here : unless_fault (fault_of app (first ∷ words)) (matches_of app (first ∷ words))
+      ≡ parsed_of (built app) words = refl in
       let bare : App = record { top = shape_by command (rules_by form ids); subs = [] } in
       ap taken (here ∙ ap (λ b. parsed_of b words) (built_is command form ids simple)
-      ∙ ap (λ kinds. unless_fault kinds (rows_after (rules_by form ids) [] words)) (leaf_fault bare nothing_held words refl)
+      ∙ ap (λ kinds. unless_fault kinds (rows_after (rules_by form ids) [] words))
+      (leaf_fault bare nothing_held words refl)
       ∙ told_by_rules command (rules_by form ids) (looks form ids simple) words)
       ∙ form_agrees command form ids simple T take refuses words
 
   -- without a fault the matches tell what the words tell
   pub form_fits : (words : List Text) → 0 < length words → fault_of app words ≡ []
-      → option_and_then take (told_in form ids (matches_of app words)) ≡ option_and_then take (told_by form (drop 1 words))
+      → option_and_then take (told_in form ids (matches_of app words))
+      ≡ option_and_then take (told_by form (drop 1 words))
   form_fits [] some none = absurd (omega arith)
   form_fits (first ∷ words) some none =
-      sym (ap (λ kinds. taken (unless_fault kinds (matches_of app (first ∷ words)))) none) ∙ parsed first words
+      sym (ap (λ kinds. taken (unless_fault kinds (matches_of app (first ∷ words)))) none)
+      ∙ parsed first words
 
   -- words with a fault tell nothing
-  pub form_stops : (words : List Text) → 0 < length words → (k : ErrorKind) (ks : Kinds) → fault_of app words ≡ k ∷ ks
+  pub form_stops : (words : List Text) → 0 < length words → (k : ErrorKind) (ks : Kinds)
+      → fault_of app words ≡ k ∷ ks
       → option_and_then take (told_by form (drop 1 words)) ≡ None
   form_stops [] some k ks fails = absurd (omega arith)
   form_stops (first ∷ words) some k ks fails =
-      sym (parsed first words) ∙ ap (λ kinds. taken (unless_fault kinds (matches_of app (first ∷ words)))) fails
+      sym (parsed first words)
+      ∙ ap (λ kinds. taken (unless_fault kinds (matches_of app (first ∷ words)))) fails
 
-  told_unless : (kinds : Kinds) (rows : List Row) → option_and_then take (told_unless_fault kinds (told_in form ids rows)) ≡ taken (unless_fault kinds rows)
+  told_unless : (kinds : Kinds) (rows : List Row)
+      → option_and_then take (told_unless_fault kinds (told_in form ids rows))
+      ≡ taken (unless_fault kinds rows)
   told_unless [] rows = refl
   told_unless (k ∷ ks) rows = refl
 
   -- what is taken of what the parser makes of words
-  pub form_law : (words : List Text) → 0 < length words → option_and_then take (parsed_by command form ids words) ≡ option_and_then take (told_by form (drop 1 words))
+  pub form_law : (words : List Text) → 0 < length words
+      → option_and_then take (parsed_by command form ids words)
+      ≡ option_and_then take (told_by form (drop 1 words))
   form_law [] some = absurd (omega arith)
-  form_law (first ∷ words) some = told_unless (fault_of app (first ∷ words)) (matches_of app (first ∷ words)) ∙ parsed first words
+  form_law (first ∷ words) some =
+      told_unless (fault_of app (first ∷ words)) (matches_of app (first ∷ words))
+      ∙ parsed first words
 
-undashed_refuses : (form : Form) (told : Told) → IsOf form told → has_dashed told ≡ true → undashed told ≡ None
+undashed_refuses : (form : Form) (told : Told) → IsOf form told → has_dashed told ≡ true
+    → undashed told ≡ None
 undashed_refuses form told is dashes = rw dashes refl
 
 -- the law, for what refuses no more than a text that begins with `-`
-pub undashed_law : (command : Text) (form : Form) (ids words : List Text) → IsSimple form ids → 0 < length words
-    → option_and_then undashed (parsed_by command form ids words) ≡ option_and_then undashed (told_by form (drop 1 words))
-undashed_law command form ids words simple some = form_law command form ids simple Told undashed (undashed_refuses form) words some
+pub undashed_law : (command : Text) (form : Form) (ids words : List Text) → IsSimple form ids
+    → 0 < length words
+    → option_and_then undashed (parsed_by command form ids words)
+    ≡ option_and_then undashed (told_by form (drop 1 words))
+undashed_law command form ids words simple some =
+    form_law command form ids simple Told undashed (undashed_refuses form) words some

@@ -39,20 +39,27 @@ rules_by form ids = options_before form.options (flags_before form.flags (positi
 -- the option of this name, with its default
 pub data Sought (name : Text) (options : List Valued) (rest : List Rule) : Type 0 where
   found : (i : ℕ) (d : Option Text) → place_of name (map (λ o. o.name) options) ≡ Some i
-      → arg_by_long (options_before options rest) name ≡ Some (value_rule name (Some name) None (option_to_list d) false)
-      → arg_by_id (options_before options rest) name ≡ Some (value_rule name (Some name) None (option_to_list d) false) → Sought name options rest
+      → arg_by_long (options_before options rest) name
+      ≡ Some (value_rule name (Some name) None (option_to_list d) false)
+      → arg_by_id (options_before options rest) name
+      ≡ Some (value_rule name (Some name) None (option_to_list d) false)
+      → Sought name options rest
   missing : place_of name (map (λ o. o.name) options) ≡ None
       → arg_by_long (options_before options rest) name ≡ arg_by_long rest name
-      → arg_by_id (options_before options rest) name ≡ arg_by_id rest name → Sought name options rest
+      → arg_by_id (options_before options rest) name ≡ arg_by_id rest name
+      → Sought name options rest
 
-sought_here : (name : Text) (o : Valued) (os : List Valued) (rest : List Rule) → bytes_eq o.name name ≡ true → Sought name (o ∷ os) rest
+sought_here : (name : Text) (o : Valued) (os : List Valued) (rest : List Rule)
+    → bytes_eq o.name name ≡ true → Sought name (o ∷ os) rest
 sought_here name o os rest a =
     let same : option_filled o ≡ value_rule name (Some name) None (option_to_list o.default) false =
-    ap (λ n. value_rule n (Some n) None (option_to_list o.default) false) (same_text o.name name a) in
+    ap (λ n. value_rule n (Some n) None (option_to_list o.default) false) (same_text o.name name a)
+    in
     found 0 o.default (rw a refl)
     (rw a (ap (λ r. Some r) same)) (rw a (ap (λ r. Some r) same))
 
-sought_later : (name : Text) (o : Valued) (os : List Valued) (rest : List Rule) → bytes_eq o.name name ≡ false → Sought name os rest → Sought name (o ∷ os) rest
+sought_later : (name : Text) (o : Valued) (os : List Valued) (rest : List Rule)
+    → bytes_eq o.name name ≡ false → Sought name os rest → Sought name (o ∷ os) rest
 sought_later name o os rest a (found i d p l n) = found (suc i) d (rw (a, p) refl) (rw a l) (rw a n)
 sought_later name o os rest a (missing p l n) = missing (rw (a, p) refl) (rw a l) (rw a n)
 
@@ -65,12 +72,15 @@ sought name (o ∷ os) rest = elim (cases_Bool (bytes_eq o.name name)) [
 
 -- the flag of this name
 pub data SoughtFlag (name : Text) (flags : List Text) (rest : List Rule) : Type 0 where
-  found_flag : (j : ℕ) → place_of name flags ≡ Some j → arg_by_long (flags_before flags rest) name ≡ Some (flag_filled name) → SoughtFlag name flags rest
+  found_flag : (j : ℕ) → place_of name flags ≡ Some j
+      → arg_by_long (flags_before flags rest) name ≡ Some (flag_filled name)
+      → SoughtFlag name flags rest
   missing_flag : place_of name flags ≡ None
       → arg_by_long (flags_before flags rest) name ≡ arg_by_long rest name
       → arg_by_id (flags_before flags rest) name ≡ arg_by_id rest name → SoughtFlag name flags rest
 
-flag_later : (name f : Text) (fs : List Text) (rest : List Rule) → bytes_eq f name ≡ false → SoughtFlag name fs rest → SoughtFlag name (f ∷ fs) rest
+flag_later : (name f : Text) (fs : List Text) (rest : List Rule) → bytes_eq f name ≡ false
+    → SoughtFlag name fs rest → SoughtFlag name (f ∷ fs) rest
 flag_later name f fs rest a (found_flag j p l) = found_flag (suc j) (rw (a, p) refl) (rw a l)
 flag_later name f fs rest a (missing_flag p l n) = missing_flag (rw (a, p) refl) (rw a l) (rw a n)
 
@@ -81,7 +91,8 @@ sought_flag name (f ∷ fs) rest = elim (cases_Bool (bytes_eq f name)) [
   | inr a ↦ flag_later name f fs rest a (sought_flag name fs rest)
 ]
 
-no_positional : (name : Text) (place : ℕ) (ids : List Text) → arg_by_long (positionals_from place ids) name ≡ None
+no_positional : (name : Text) (place : ℕ) (ids : List Text)
+    → arg_by_long (positionals_from place ids) name ≡ None
 no_positional name place [] = refl
 no_positional name place (id ∷ ids) = no_positional name (place + 1) ids
 
@@ -94,33 +105,41 @@ past_place : (place s k : ℕ) → place ≡ s + suc k → (s == place) ≡ fals
 past_place place s k is = grind (arith, nat_tests)
 
 counted : (ids : List Text) (s place k : ℕ) → place ≡ s + k
-    → arg_by_index (positionals_from s ids) place ≡ option_map (λ id. positional_filled place id) (slice_get ids k)
+    → arg_by_index (positionals_from s ids) place ≡ option_map (λ id. positional_filled place id)
+    (slice_get ids k)
 counted [] s place k is = refl
 counted (id ∷ ids) s place zero is =
     let e : s ≡ place = omega arith in
     rw (at_place place s 0 is refl) (ap (λ n. Some (positional_filled n id)) e)
-counted (id ∷ ids) s place (suc k) is = rw (past_place place s k is) (counted ids (s + 1) place k (omega arith))
+counted (id ∷ ids) s place (suc k) is =
+    rw (past_place place s k is) (counted ids (s + 1) place k (omega arith))
 
 before_first : (ids : List Text) (s : ℕ) → 0 < s → arg_by_index (positionals_from s ids) 0 ≡ None
 before_first [] s less = refl
-before_first (id ∷ ids) s less = let other : (s == 0) ≡ false = grind (arith, nat_tests) in rw other (before_first ids (s + 1) (omega arith))
+before_first (id ∷ ids) s less = let other : (s == 0) ≡ false = grind (arith, nat_tests) in
+    rw other (before_first ids (s + 1) (omega arith))
 
-skip_options : (place : ℕ) (options : List Valued) (rest : List Rule) → arg_by_index (options_before options rest) place ≡ arg_by_index rest place
+skip_options : (place : ℕ) (options : List Valued) (rest : List Rule)
+    → arg_by_index (options_before options rest) place ≡ arg_by_index rest place
 skip_options place [] rest = refl
 skip_options place (o ∷ os) rest = skip_options place os rest
 
-skip_flags : (place : ℕ) (flags : List Text) (rest : List Rule) → arg_by_index (flags_before flags rest) place ≡ arg_by_index rest place
+skip_flags : (place : ℕ) (flags : List Text) (rest : List Rule)
+    → arg_by_index (flags_before flags rest) place ≡ arg_by_index rest place
 skip_flags place [] rest = refl
 skip_flags place (f ∷ fs) rest = skip_flags place fs rest
 
-pub at_index : (form : Form) (ids : List Text) (k : ℕ) → arg_by_index (rules_by form ids) (k + 1) ≡ option_map (λ id. positional_filled (k + 1) id) (slice_get ids k)
+pub at_index : (form : Form) (ids : List Text) (k : ℕ)
+    → arg_by_index (rules_by form ids) (k + 1) ≡ option_map (λ id. positional_filled (k + 1) id)
+    (slice_get ids k)
 at_index form ids k =
     skip_options (k + 1) form.options (flags_before form.flags (positionals_from 1 ids))
     ∙ skip_flags (k + 1) form.flags (positionals_from 1 ids) ∙ counted ids 1 (k + 1) k (omega arith)
 
 -- ---- by its id
 
-pub get_has : (ids : List Text) (k : ℕ) (id : Text) → slice_get ids k ≡ Some id → has_name id ids ≡ true
+pub get_has : (ids : List Text) (k : ℕ) (id : Text) → slice_get ids k ≡ Some id
+    → has_name id ids ≡ true
 get_has [] k id is = cc
 get_has (x ∷ xs) zero id is = let same : x ≡ id = cc in rw (same, bytes_same id) refl
 get_has (x ∷ xs) (suc k) id is = elim (cases_Bool (bytes_eq x id)) [
@@ -128,7 +147,8 @@ get_has (x ∷ xs) (suc k) id is = elim (cases_Bool (bytes_eq x id)) [
   | inr a ↦ rw a (get_has xs k id is)
 ]
 
-own_positional : (ids : List Text) (s k : ℕ) (id : Text) → are_distinct ids ≡ true → slice_get ids k ≡ Some id → (place : ℕ) → place ≡ s + k
+own_positional : (ids : List Text) (s k : ℕ) (id : Text) → are_distinct ids ≡ true
+    → slice_get ids k ≡ Some id → (place : ℕ) → place ≡ s + k
     → arg_by_id (positionals_from s ids) id ≡ Some (positional_filled place id)
 own_positional [] s k id one is place at = cc
 own_positional (x ∷ xs) s zero id one is place at =
@@ -152,97 +172,137 @@ module _ (form : Form) (ids : List Text) (simple : IsSimple form ids) where
   pub flags_parted : Parted form.flags ids
   flags_parted = parted form.flags ids options_parted.second
 
-  pub no_option : (name : Text) → has_name name (form.flags ++ ids) ≡ true → has_name name (option_names form) ≡ false
+  pub no_option : (name : Text) → has_name name (form.flags ++ ids) ≡ true
+      → has_name name (option_names form) ≡ false
   no_option name h = apart_back (option_names form) (form.flags ++ ids) options_parted name h
 
   -- a flag is no option and no positional
-  pub flag_is_no_option : (name : Text) → has_name name form.flags ≡ true → has_name name (option_names form) ≡ false
-  flag_is_no_option name h = no_option name (list_any-append (λ m. bytes_eq m name) form.flags ids ∙ ap (λ b. b || has_name name ids) h)
+  pub flag_is_no_option : (name : Text) → has_name name form.flags ≡ true
+      → has_name name (option_names form) ≡ false
+  flag_is_no_option name h =
+      no_option name (list_any-append (λ m. bytes_eq m name) form.flags ids
+      ∙ ap (λ b. b || has_name name ids) h)
 
-  pub positional_is_no_flag : (name : Text) → has_name name ids ≡ true → has_name name form.flags ≡ false
+  pub positional_is_no_flag : (name : Text) → has_name name ids ≡ true
+      → has_name name form.flags ≡ false
   positional_is_no_flag name h = apart_back form.flags ids flags_parted name h
 
-  pub positional_is_no_option : (name : Text) → has_name name ids ≡ true → has_name name (option_names form) ≡ false
-  positional_is_no_option name h = no_option name (list_any-append (λ m. bytes_eq m name) form.flags ids
+  pub positional_is_no_option : (name : Text) → has_name name ids ≡ true
+      → has_name name (option_names form) ≡ false
+  positional_is_no_option name h =
+      no_option name (list_any-append (λ m. bytes_eq m name) form.flags ids
       ∙ ap (λ b. b || has_name name ids) (positional_is_no_flag name h) ∙ h)
 
-  pub option_is_no_other : (name : Text) → has_name name (option_names form) ≡ true → (has_name name form.flags ≡ false) × (has_name name ids ≡ false)
+  pub option_is_no_other : (name : Text) → has_name name (option_names form) ≡ true
+      → (has_name name form.flags ≡ false) × (has_name name ids ≡ false)
   option_is_no_other name h = or_split (has_name name form.flags) (has_name name ids)
       (sym (list_any-append (λ m. bytes_eq m name) form.flags ids) ∙ options_parted.apart name h)
 
-  past_options : (id : Text) → has_name id (option_names form) ≡ false → Sought id form.options (flags_before form.flags (positionals_from 1 ids))
-      → arg_by_id (rules_by form ids) id ≡ arg_by_id (flags_before form.flags (positionals_from 1 ids)) id
-  past_options id none (found i d p l n) = absurd (false≢true (sym none ∙ placed_has id (option_names form) i p))
+  past_options : (id : Text) → has_name id (option_names form) ≡ false
+      → Sought id form.options (flags_before form.flags (positionals_from 1 ids))
+      → arg_by_id (rules_by form ids) id
+      ≡ arg_by_id (flags_before form.flags (positionals_from 1 ids)) id
+  past_options id none (found i d p l n) =
+      absurd (false≢true (sym none ∙ placed_has id (option_names form) i p))
   past_options id none (missing p l n) = n
 
-  past_flags : (id : Text) → has_name id form.flags ≡ false → SoughtFlag id form.flags (positionals_from 1 ids)
-      → arg_by_id (flags_before form.flags (positionals_from 1 ids)) id ≡ arg_by_id (positionals_from 1 ids) id
-  past_flags id none (found_flag j p l) = absurd (false≢true (sym none ∙ placed_has id form.flags j p))
+  past_flags : (id : Text) → has_name id form.flags ≡ false
+      → SoughtFlag id form.flags (positionals_from 1 ids)
+      → arg_by_id (flags_before form.flags (positionals_from 1 ids)) id
+      ≡ arg_by_id (positionals_from 1 ids) id
+  past_flags id none (found_flag j p l) =
+      absurd (false≢true (sym none ∙ placed_has id form.flags j p))
   past_flags id none (missing_flag p l n) = n
 
-  pub positional_id : (k : ℕ) (id : Text) → slice_get ids k ≡ Some id → arg_by_id (rules_by form ids) id ≡ Some (positional_filled (k + 1) id)
+  pub positional_id : (k : ℕ) (id : Text) → slice_get ids k ≡ Some id
+      → arg_by_id (rules_by form ids) id ≡ Some (positional_filled (k + 1) id)
   positional_id k id is =
       let h : has_name id ids ≡ true = get_has ids k id is in
-      past_options id (positional_is_no_option id h) (sought id form.options (flags_before form.flags (positionals_from 1 ids)))
-      ∙ past_flags id (positional_is_no_flag id h) (sought_flag id form.flags (positionals_from 1 ids))
+      past_options id (positional_is_no_option id h)
+      (sought id form.options (flags_before form.flags (positionals_from 1 ids)))
+      ∙ past_flags id (positional_is_no_flag id h)
+      (sought_flag id form.flags (positionals_from 1 ids))
       ∙ own_positional ids 1 k id flags_parted.second is (k + 1) (omega arith)
 
   -- which option or flag a name is
   pub data Named (name : Text) : Type 0 where
     is_option : (i : ℕ) (d : Option Text) → place_of name (option_names form) ≡ Some i
-        → arg_by_long (rules_by form ids) name ≡ Some (value_rule name (Some name) None (option_to_list d) false)
-        → arg_by_id (rules_by form ids) name ≡ Some (value_rule name (Some name) None (option_to_list d) false) → Named name
+        → arg_by_long (rules_by form ids) name
+        ≡ Some (value_rule name (Some name) None (option_to_list d) false)
+        → arg_by_id (rules_by form ids) name
+        ≡ Some (value_rule name (Some name) None (option_to_list d) false) → Named name
     is_flag : (j : ℕ) → place_of name (option_names form) ≡ None → place_of name form.flags ≡ Some j
         → arg_by_long (rules_by form ids) name ≡ Some (flag_filled name) → Named name
-    is_none : place_of name (option_names form) ≡ None → place_of name form.flags ≡ None → arg_by_long (rules_by form ids) name ≡ None → Named name
+    is_none : place_of name (option_names form) ≡ None → place_of name form.flags ≡ None
+        → arg_by_long (rules_by form ids) name ≡ None → Named name
 
   named_flag : (name : Text) → place_of name (option_names form) ≡ None
-      → arg_by_long (rules_by form ids) name ≡ arg_by_long (flags_before form.flags (positionals_from 1 ids)) name
+      → arg_by_long (rules_by form ids) name
+      ≡ arg_by_long (flags_before form.flags (positionals_from 1 ids)) name
       → SoughtFlag name form.flags (positionals_from 1 ids) → Named name
   named_flag name none skip (found_flag j p l) = is_flag j none p (skip ∙ l)
-  named_flag name none skip (missing_flag p l n) = is_none none p (skip ∙ l ∙ no_positional name 1 ids)
+  named_flag name none skip (missing_flag p l n) =
+      is_none none p (skip ∙ l ∙ no_positional name 1 ids)
 
-  named_by : (name : Text) → Sought name form.options (flags_before form.flags (positionals_from 1 ids)) → Named name
+  named_by : (name : Text)
+      → Sought name form.options (flags_before form.flags (positionals_from 1 ids)) → Named name
   named_by name (found i d p l n) = is_option i d p l n
-  named_by name (missing p l n) = named_flag name p l (sought_flag name form.flags (positionals_from 1 ids))
+  named_by name (missing p l n) =
+      named_flag name p l (sought_flag name form.flags (positionals_from 1 ids))
 
   pub named : (name : Text) → Named name
-  named name = named_by name (sought name form.options (flags_before form.flags (positionals_from 1 ids)))
+  named name =
+      named_by name (sought name form.options (flags_before form.flags (positionals_from 1 ids)))
 
-  known_by : (name : Text) → Named name → Known (rules_by form ids) (arg_by_long (rules_by form ids) name)
+  known_by : (name : Text) → Named name
+      → Known (rules_by form ids) (arg_by_long (rules_by form ids) name)
   known_by name (is_option i d p l n) = valued name (Some name) None (option_to_list d) false l n
   known_by name (is_flag j n p l) = flag name l
   known_by name (is_none n p l) = unknown l
 
-  placed_by : (k : ℕ) (at : Option Text) → slice_get ids k ≡ at → Placed (rules_by form ids) (arg_by_index (rules_by form ids) (k + 1))
-  placed_by k None is = nowhere (at_index form ids k ∙ ap (λ o. option_map (λ id. positional_filled (k + 1) id) o) is)
+  placed_by : (k : ℕ) (at : Option Text) → slice_get ids k ≡ at
+      → Placed (rules_by form ids) (arg_by_index (rules_by form ids) (k + 1))
+  placed_by k None is =
+      nowhere (at_index form ids k ∙ ap (λ o. option_map (λ id. positional_filled (k + 1) id) o) is)
   placed_by k (Some id) is = placed id None (Some (k + 1)) [] true
-      (at_index form ids k ∙ ap (λ o. option_map (λ id. positional_filled (k + 1) id) o) is) (positional_id k id is)
+      (at_index form ids k ∙ ap (λ o. option_map (λ id. positional_filled (k + 1) id) o) is)
+      (positional_id k id is)
 
   placed_at : (place : ℕ) → Placed (rules_by form ids) (arg_by_index (rules_by form ids) place)
-  placed_at zero = nowhere (skip_options 0 form.options (flags_before form.flags (positionals_from 1 ids))
+  placed_at zero =
+      nowhere (skip_options 0 form.options (flags_before form.flags (positionals_from 1 ids))
       ∙ skip_flags 0 form.flags (positionals_from 1 ids) ∙ before_first ids 1 (omega arith))
   placed_at (suc k) =
       let next : k + 1 ≡ suc k = omega arith in
-      subst (λ n. Placed (rules_by form ids) (arg_by_index (rules_by form ids) n)) next (placed_by k (slice_get ids k) refl)
+      subst (λ n. Placed (rules_by form ids) (arg_by_index (rules_by form ids) n)) next
+      (placed_by k (slice_get ids k) refl)
 
   no_short : (c : ℕ) → arg_by_short (rules_by form ids) c ≡ None
   no_short c = short_options form.options ∙ short_flags form.flags ∙ short_positionals 1 ids
     where
-      short_options : (options : List Valued) → arg_by_short (options_before options (flags_before form.flags (positionals_from 1 ids))) c ≡ arg_by_short (flags_before form.flags (positionals_from 1 ids)) c
+      short_options : (options : List Valued)
+          → arg_by_short (options_before options (flags_before form.flags (positionals_from 1 ids)))
+          c ≡ arg_by_short (flags_before form.flags (positionals_from 1 ids)) c
       short_options [] = refl
       short_options (o ∷ os) = short_options os
 
-      short_flags : (flags : List Text) → arg_by_short (flags_before flags (positionals_from 1 ids)) c ≡ arg_by_short (positionals_from 1 ids) c
+      short_flags : (flags : List Text)
+          → arg_by_short (flags_before flags (positionals_from 1 ids)) c
+          ≡ arg_by_short (positionals_from 1 ids) c
       short_flags [] = refl
       short_flags (f ∷ fs) = short_flags fs
 
-      short_positionals : (place : ℕ) (ids : List Text) → arg_by_short (positionals_from place ids) c ≡ None
+      short_positionals : (place : ℕ) (ids : List Text)
+          → arg_by_short (positionals_from place ids) c ≡ None
       short_positionals place [] = refl
       short_positionals place (id ∷ ids) = short_positionals (place + 1) ids
 
   pub looks : Looks (rules_by form ids)
-  looks = record { by_long = λ name. known_by name (named name); by_index = placed_at; by_short = no_short }
+  looks = record {
+    by_long = λ name. known_by name (named name);
+    by_index = placed_at;
+    by_short = no_short;
+  }
 
 -- ---- the defaults
 
@@ -250,9 +310,12 @@ nothing_if : (b : Bool) → (let none : Kinds = [] in if b then none else none) 
 nothing_if true = refl
 nothing_if false = refl
 
-plain_option : (name : Text) (d : Option Text) → Plain (value_rule name (Some name) None (option_to_list d) false)
-plain_option name None = record { one = refl; taken = λ rows. nothing_if (has_row name rows || true) }
-plain_option name (Some v) = record { one = refl; taken = λ rows. nothing_if (has_row name rows || false) }
+plain_option : (name : Text) (d : Option Text)
+    → Plain (value_rule name (Some name) None (option_to_list d) false)
+plain_option name None =
+    record { one = refl; taken = λ rows. nothing_if (has_row name rows || true) }
+plain_option name (Some v) =
+    record { one = refl; taken = λ rows. nothing_if (has_row name rows || false) }
 
 plain_options : (options : List Valued) → AllPlain (map option_filled options)
 plain_options [] = tt
@@ -260,12 +323,18 @@ plain_options (o ∷ os) = (plain_option o.name o.default, plain_options os)
 
 plain_flags : (flags : List Text) → AllPlain (map flag_filled flags)
 plain_flags [] = tt
-plain_flags (f ∷ fs) = (record { one = refl; taken = λ rows. nothing_if (has_row f rows || false) }, plain_flags fs)
+plain_flags (f ∷ fs) =
+    (record { one = refl; taken = λ rows. nothing_if (has_row f rows || false) }, plain_flags fs)
 
 plain_positionals : (place : ℕ) (ids : List Text) → AllPlain (positionals_from place ids)
 plain_positionals place [] = tt
-plain_positionals place (id ∷ ids) = (record { one = refl; taken = λ rows. nothing_if (has_row id rows || true) }, plain_positionals (place + 1) ids)
+plain_positionals place (id ∷ ids) = (
+  record { one = refl; taken = λ rows. nothing_if (has_row id rows || true) },
+  plain_positionals (place + 1) ids,
+)
 
 pub all_plain : (form : Form) (ids : List Text) → AllPlain (rules_by form ids)
-all_plain form ids = plain_append (map option_filled form.options) (flags_before form.flags (positionals_from 1 ids)) (plain_options form.options)
-    (plain_append (map flag_filled form.flags) (positionals_from 1 ids) (plain_flags form.flags) (plain_positionals 1 ids))
+all_plain form ids = plain_append (map option_filled form.options)
+    (flags_before form.flags (positionals_from 1 ids)) (plain_options form.options)
+    (plain_append (map flag_filled form.flags) (positionals_from 1 ids) (plain_flags form.flags)
+    (plain_positionals 1 ids))

@@ -1,4 +1,5 @@
--- What words tell by the parser's rules of a form is what they tell by the form, where a text that begins with `-` is refused.
+-- What words tell by the parser's rules of a form is what they tell by the form, where a text that
+-- begins with `-` is refused.
 use Rattle.std.proofs.Common.{◌≡◌, ◌∙◌, ◌+◌, ◌||◌, ◌<◌, ◌≤◌, arith, refl, sym, ap, ℕ, zero, suc, min, Bool, true, false, is_some, List, [], ◌∷◌, ◌++◌, map, length, position, slice_get, slice_set, length-append, nat_lt, Option, Some, None, option_map, option_and_then, codes}
 use Rattle.std.specs.Prelude.{if◌then◌else◌}
 use Rattle.std.specs.Option.{option_map_or, option_to_list}
@@ -26,7 +27,8 @@ past_end [] k is = omega arith
 past_end (id ∷ ids) zero is = cc
 past_end (id ∷ ids) (suc k) is = let less : length ids ≤ k = past_end ids k is in omega arith
 
-module _ (command : Text) (form : Form) (ids : List Text) (simple : IsSimple form ids) (T : Type 0) (take : Told → Option T)
+module _ (command : Text) (form : Form) (ids : List Text) (simple : IsSimple form ids) (T : Type 0)
+    (take : Told → Option T)
     (refuses : (told : Told) → IsOf form told → has_dashed told ≡ true → take told ≡ None) where
   abbrev rules : List Rule
   rules = rules_by form ids
@@ -44,98 +46,145 @@ module _ (command : Text) (form : Form) (ids : List Text) (simple : IsSimple for
 
   -- these words, where no option waits
   abbrev pub Agree : List Text → Type 0
-  Agree words = (uses : List Use) (texts : List Text) (values : List (Option Text)) (flags : List Bool) (over : Bool)
+  Agree words = (uses : List Use) (texts : List Text) (values : List (Option Text))
+      (flags : List Bool) (over : Bool)
       → Fits form ids uses texts values flags
-      → taken (read_seen command rules (stand uses None (length texts + 1) over) words) ≡ option_and_then take (read_from form (given texts values flags None over) words)
+      → taken (read_seen command rules (stand uses None (length texts + 1) over) words)
+      ≡ option_and_then take (read_from form (given texts values flags None over) words)
 
   -- these words, where an option waits
   abbrev pub Ahead : List Text → Type 0
-  Ahead words = (uses : List Use) (texts : List Text) (values : List (Option Text)) (flags : List Bool) (name : Text) (d : Option Text) (i : ℕ)
+  Ahead words = (uses : List Use) (texts : List Text) (values : List (Option Text))
+      (flags : List Bool) (name : Text) (d : Option Text) (i : ℕ)
       → Fits form ids uses texts values flags → place_of name (option_names form) ≡ Some i
-      → taken (read_seen command rules (stand uses (Some (value_rule name (Some name) None (option_to_list d) false)) (length texts + 1) false) words)
-      ≡ (if is_some (value_in name uses) then None else option_and_then take (read_from form (given texts values flags (Some i) false) words))
+      → taken (read_seen command rules
+      (stand uses (Some (value_rule name (Some name) None (option_to_list d) false))
+      (length texts + 1) false) words)
+      ≡ (if is_some (value_in name uses) then None else option_and_then take
+      (read_from form (given texts values flags (Some i) false) words))
 
-  next_place : (texts : List Text) (word : Text) → length texts < length ids → min (length texts + 1 + 1) usize_max ≡ length (texts ++ word ∷ []) + 1
-  next_place texts word less = let few = simple.few in omega (arith, length-append texts (word ∷ []))
+  next_place : (texts : List Text) (word : Text) → length texts < length ids
+      → min (length texts + 1 + 1) usize_max ≡ length (texts ++ word ∷ []) + 1
+  next_place texts word less =
+      let few = simple.few in omega (arith, length-append texts (word ∷ []))
 
-  has_room : (texts : List Text) → length texts < length ids → nat_lt (length texts) form.positionals ≡ true
+  has_room : (texts : List Text) → length texts < length ids
+      → nat_lt (length texts) form.positionals ≡ true
   has_room texts less = rw (← simple.count) (grind (arith, nat_tests))
 
-  has_none : (texts : List Text) → length ids ≤ length texts → nat_lt (length texts) form.positionals ≡ false
+  has_none : (texts : List Text) → length ids ≤ length texts
+      → nat_lt (length texts) form.positionals ≡ false
   has_none texts less = rw (← simple.count) (grind (arith, nat_tests))
 
   -- a positional that was found
-  used_text : (uses : List Use) (texts : List Text) (values : List (Option Text)) (flags : List Bool) (over : Bool) (word id : Text)
+  used_text : (uses : List Use) (texts : List Text) (values : List (Option Text))
+      (flags : List Bool) (over : Bool) (word id : Text)
       → Fits form ids uses texts values flags → slice_get ids (length texts) ≡ Some id
-      → as_positional command rules (stand uses None (length texts + 1) over) word (arg_by_index rules (length texts + 1))
-      ≡ Some (stand (set_use uses (positional_filled (length texts + 1) id) word) None (length (texts ++ word ∷ []) + 1) over)
+      → as_positional command rules (stand uses None (length texts + 1) over) word
+      (arg_by_index rules (length texts + 1))
+      ≡ Some (stand (set_use uses (positional_filled (length texts + 1) id) word) None
+      (length (texts ++ word ∷ []) + 1) over)
   used_text uses texts values flags over word id f at =
       let less : length texts < length ids = slice_get_within ids (length texts) id at in
-      let there : arg_by_index rules (length texts + 1) ≡ Some (positional_filled (length texts + 1) id) =
-      at_index form ids (length texts) ∙ ap (λ o. option_map (λ m. positional_filled (length texts + 1) m) o) at in
-      let none : is_some (value_in id uses) ≡ false = ap is_some (filled_next ids texts uses id f.texts_are at) in
-      ap (λ found. as_positional command rules (stand uses None (length texts + 1) over) word found) there
-      ∙ ap (λ b. if b then None else Some (stand (set_use uses (positional_filled (length texts + 1) id) word) None (min (length texts + 1 + 1) usize_max) over)) none
-      ∙ ap (λ n. Some (stand (set_use uses (positional_filled (length texts + 1) id) word) None n over)) (next_place texts word less)
+      let there : arg_by_index rules (length texts + 1)
+      ≡ Some (positional_filled (length texts + 1) id) =
+      at_index form ids (length texts)
+      ∙ ap (λ o. option_map (λ m. positional_filled (length texts + 1) m) o) at in
+      let none : is_some (value_in id uses) ≡ false =
+      ap is_some (filled_next ids texts uses id f.texts_are at) in
+      ap (λ found. as_positional command rules (stand uses None (length texts + 1) over) word found)
+      there
+      ∙ ap (λ b. if b then None else Some
+      (stand (set_use uses (positional_filled (length texts + 1) id) word) None
+      (min (length texts + 1 + 1) usize_max) over)) none
+      ∙ ap (λ n. Some (stand (set_use uses (positional_filled (length texts + 1) id) word) None n
+      over)) (next_place texts word less)
 
-  no_text : (uses : List Use) (texts : List Text) (over : Bool) (word : Text) → slice_get ids (length texts) ≡ None
-      → as_positional command rules (stand uses None (length texts + 1) over) word (arg_by_index rules (length texts + 1)) ≡ None
+  no_text : (uses : List Use) (texts : List Text) (over : Bool) (word : Text)
+      → slice_get ids (length texts) ≡ None
+      → as_positional command rules (stand uses None (length texts + 1) over) word
+      (arg_by_index rules (length texts + 1)) ≡ None
   no_text uses texts over word at =
       ap (λ found. as_positional command rules (stand uses None (length texts + 1) over) word found)
-      (at_index form ids (length texts) ∙ ap (λ o. option_map (λ m. positional_filled (length texts + 1) m) o) at)
+      (at_index form ids (length texts)
+      ∙ ap (λ o. option_map (λ m. positional_filled (length texts + 1) m) o) at)
 
-  takes_text : (uses : List Use) (texts : List Text) (values : List (Option Text)) (flags : List Bool) (over : Bool) (word : Text) (words : List Text)
+  takes_text : (uses : List Use) (texts : List Text) (values : List (Option Text))
+      (flags : List Bool) (over : Bool) (word : Text) (words : List Text)
       → Fits form ids uses texts values flags → Agree words
-      → rest_of words (as_positional command rules (stand uses None (length texts + 1) over) word (arg_by_index rules (length texts + 1)))
+      → rest_of words (as_positional command rules (stand uses None (length texts + 1) over) word
+      (arg_by_index rules (length texts + 1)))
       ≡ told_rest words (with_positional form (given texts values flags None over) word)
   takes_text uses texts values flags over word words f ih = go (slice_get ids (length texts)) refl
     where
       go : (at : Option Text) → slice_get ids (length texts) ≡ at
-          → rest_of words (as_positional command rules (stand uses None (length texts + 1) over) word (arg_by_index rules (length texts + 1)))
+          → rest_of words (as_positional command rules (stand uses None (length texts + 1) over)
+          word (arg_by_index rules (length texts + 1)))
           ≡ told_rest words (with_positional form (given texts values flags None over) word)
       go None at = ap (rest_of words) (no_text uses texts over word at)
-          ∙ sym (ap (λ b. told_rest words (if b then Some (given (texts ++ word ∷ []) values flags None over) else None)) (has_none texts (past_end ids (length texts) at)))
+          ∙ sym (ap (λ b. told_rest words
+          (if b then Some (given (texts ++ word ∷ []) values flags None over) else None))
+          (has_none texts (past_end ids (length texts) at)))
       go (Some id) at = ap (rest_of words) (used_text uses texts values flags over word id f at)
-          ∙ ih (set_use uses (positional_filled (length texts + 1) id) word) (texts ++ word ∷ []) values flags over (fits_text form ids simple uses texts values flags id word f at)
-          ∙ sym (ap (λ b. told_rest words (if b then Some (given (texts ++ word ∷ []) values flags None over) else None)) (has_room texts (slice_get_within ids (length texts) id at)))
+          ∙ ih (set_use uses (positional_filled (length texts + 1) id) word) (texts ++ word ∷ [])
+          values flags over (fits_text form ids simple uses texts values flags id word f at)
+          ∙ sym (ap (λ b. told_rest words
+          (if b then Some (given (texts ++ word ∷ []) values flags None over) else None))
+          (has_room texts (slice_get_within ids (length texts) id at)))
 
   -- a positional that begins with `-`
-  spoils_text : (uses : List Use) (texts : List Text) (values : List (Option Text)) (flags : List Bool) (over : Bool) (word : Text) (words : List Text)
+  spoils_text : (uses : List Use) (texts : List Text) (values : List (Option Text))
+      (flags : List Bool) (over : Bool) (word : Text) (words : List Text)
       → Fits form ids uses texts values flags → begins_dashed word ≡ true
-      → rest_of words (as_positional command rules (stand uses None (length texts + 1) over) word (arg_by_index rules (length texts + 1))) ≡ None
+      → rest_of words (as_positional command rules (stand uses None (length texts + 1) over) word
+      (arg_by_index rules (length texts + 1))) ≡ None
   spoils_text uses texts values flags over word words f d = go (slice_get ids (length texts)) refl
     where
       go : (at : Option Text) → slice_get ids (length texts) ≡ at
-          → rest_of words (as_positional command rules (stand uses None (length texts + 1) over) word (arg_by_index rules (length texts + 1))) ≡ None
+          → rest_of words (as_positional command rules (stand uses None (length texts + 1) over)
+          word (arg_by_index rules (length texts + 1))) ≡ None
       go None at = ap (rest_of words) (no_text uses texts over word at)
       go (Some id) at =
-          let none : is_some (value_in id uses) ≡ false = ap is_some (filled_next ids texts uses id f.texts_are at) in
-          let is_one : has_name id (option_names form ++ ids) ≡ true = list_any-append (λ m. bytes_eq m id) (option_names form) ids
-          ∙ ap (λ b. has_name id (option_names form) || b) (get_has ids (length texts) id at) ∙ or_true (has_name id (option_names form)) in
+          let none : is_some (value_in id uses) ≡ false =
+          ap is_some (filled_next ids texts uses id f.texts_are at) in
+          let is_one : has_name id (option_names form ++ ids) ≡ true =
+          list_any-append (λ m. bytes_eq m id) (option_names form) ids
+          ∙ ap (λ b. has_name id (option_names form) || b) (get_has ids (length texts) id at)
+          ∙ or_true (has_name id (option_names form)) in
           ap (rest_of words) (used_text uses texts values flags over word id f at)
-          ∙ spoilt_reads command form ids simple T take refuses words (stand (set_use uses (positional_filled (length texts + 1) id) word) None (length (texts ++ word ∷ []) + 1) over)
-          (spoilt_new (option_names form ++ ids) uses (use_of (positional_filled (length texts + 1) id) word) is_one none d)
+          ∙ spoilt_reads command form ids simple T take refuses words
+          (stand (set_use uses (positional_filled (length texts + 1) id) word) None
+          (length (texts ++ word ∷ []) + 1) over)
+          (spoilt_new (option_names form ++ ids) uses
+          (use_of (positional_filled (length texts + 1) id) word) is_one none d)
 
   -- ---- options and flags
 
-  option_place : (name : Text) (found : Option ℕ) → place_of name (option_names form) ≡ found → position (λ o. bytes_eq o.name name) form.options ≡ found
-  option_place name found is = position_is (λ o. bytes_eq o.name name) form.options ∙ place_by_map (λ o. o.name) name form.options ∙ is
+  option_place : (name : Text) (found : Option ℕ) → place_of name (option_names form) ≡ found
+      → position (λ o. bytes_eq o.name name) form.options ≡ found
+  option_place name found is = position_is (λ o. bytes_eq o.name name) form.options
+      ∙ place_by_map (λ o. o.name) name form.options ∙ is
 
-  flag_place : (name : Text) (found : Option ℕ) → place_of name form.flags ≡ found → position (λ f. bytes_eq f name) form.flags ≡ found
+  flag_place : (name : Text) (found : Option ℕ) → place_of name form.flags ≡ found
+      → position (λ f. bytes_eq f name) form.flags ≡ found
   flag_place name found is = position_is (λ f. bytes_eq f name) form.flags ∙ is
 
-  given_at : (uses : List Use) (values : List (Option Text)) (name : Text) (i : ℕ) → seen uses (option_names form) ≡ values → place_of name (option_names form) ≡ Some i
+  given_at : (uses : List Use) (values : List (Option Text)) (name : Text) (i : ℕ)
+      → seen uses (option_names form) ≡ values → place_of name (option_names form) ≡ Some i
       → is_given values i ≡ is_some (value_in name uses)
   given_at uses values name i same at =
-      let here : slice_get values i ≡ Some (value_in name uses) = ap (λ vs. slice_get vs i) (sym same) ∙ seen_at (option_names form) uses name i at in
+      let here : slice_get values i ≡ Some (value_in name uses) =
+      ap (λ vs. slice_get vs i) (sym same) ∙ seen_at (option_names form) uses name i at in
       ap (λ o. option_map_or is_some o false) here
 
-  set_at : (uses : List Use) (flags : List Bool) (name : Text) (j : ℕ) → seen uses form.flags ≡ map flag_text flags → place_of name form.flags ≡ Some j
+  set_at : (uses : List Use) (flags : List Bool) (name : Text) (j : ℕ)
+      → seen uses form.flags ≡ map flag_text flags → place_of name form.flags ≡ Some j
       → is_set flags j ≡ is_some (value_in name uses)
   set_at uses flags name j same at = go (slice_get flags j) refl
     where
       here : option_map flag_text (slice_get flags j) ≡ Some (value_in name uses)
-      here = sym (slice_get-map flag_text flags j) ∙ ap (λ fs. slice_get fs j) (sym same) ∙ seen_at form.flags uses name j at
+      here = sym (slice_get-map flag_text flags j) ∙ ap (λ fs. slice_get fs j) (sym same)
+          ∙ seen_at form.flags uses name j at
 
       text_of : (b : Bool) (o : Option Text) → flag_text b ≡ o → b ≡ is_some o
       text_of true o is = rw (← is) refl
@@ -148,149 +197,229 @@ module _ (command : Text) (form : Form) (ids : List Text) (simple : IsSimple for
           let text : flag_text b ≡ value_in name uses = cc in
           ap (λ o. option_map_or (λ f. f) o false) is ∙ text_of b (value_in name uses) text
 
-  takes_option : (uses : List Use) (texts : List Text) (values : List (Option Text)) (flags : List Bool) (words : List Text) (name : Text) (y : Option Text)
-      (i : ℕ) (d : Option Text) → Fits form ids uses texts values flags → Agree words → Ahead words → place_of name (option_names form) ≡ Some i
-      → rest_of words (as_option command rules (stand uses None (length texts + 1) false) (value_rule name (Some name) None (option_to_list d) false) y)
+  takes_option : (uses : List Use) (texts : List Text) (values : List (Option Text))
+      (flags : List Bool) (words : List Text) (name : Text) (y : Option Text)
+      (i : ℕ) (d : Option Text) → Fits form ids uses texts values flags → Agree words → Ahead words
+      → place_of name (option_names form) ≡ Some i
+      → rest_of words (as_option command rules (stand uses None (length texts + 1) false)
+      (value_rule name (Some name) None (option_to_list d) false) y)
       ≡ told_rest words (with_option (given texts values flags None false) y i)
   takes_option uses texts values flags words name y i d f ih ahead at =
-      go y ∙ sym (ap (λ b. told_rest words (if b then None else Some (value_or_wait (given texts values flags None false) i y))) (given_at uses values name i f.values_are at))
+      go y ∙ sym (ap (λ b. told_rest words
+      (if b then None else Some (value_or_wait (given texts values flags None false) i y)))
+      (given_at uses values name i f.values_are at))
     where
       own : Rule
       own = value_rule name (Some name) None (option_to_list d) false
 
       used_or_not : (v : Text) (b : Bool) → is_some (value_in name uses) ≡ b
-          → rest_of words (if b then None else Some (stand (set_use uses (value_rule name (Some name) None (option_to_list d) false) v) None (length texts + 1) false))
-          ≡ told_rest words (if b then None else Some (with_value (given texts values flags None false) i v))
+          → rest_of words (if b then None else Some
+          (stand (set_use uses (value_rule name (Some name) None (option_to_list d) false) v)
+          None (length texts + 1) false))
+          ≡ told_rest words (if b then None else Some
+          (with_value (given texts values flags None false) i v))
       used_or_not v true is = refl
-      used_or_not v false is = ih (set_use uses (value_rule name (Some name) None (option_to_list d) false) v) texts (slice_set values i (Some v)) flags false
+      used_or_not v false is =
+          ih (set_use uses (value_rule name (Some name) None (option_to_list d) false) v) texts
+          (slice_set values i (Some v)) flags false
           (fits_value form ids simple uses texts values flags name v d i f at is)
 
-      split : (b : Bool) → (if b then None else told_rest words (Some (given texts values flags (Some i) false)))
+      split : (b : Bool) → (if b then None else told_rest words
+          (Some (given texts values flags (Some i) false)))
           ≡ told_rest words (if b then None else Some (given texts values flags (Some i) false))
       split true = refl
       split false = refl
 
-      go : (y : Option Text) → rest_of words (as_option command rules (stand uses None (length texts + 1) false) (value_rule name (Some name) None (option_to_list d) false) y)
-          ≡ told_rest words (if is_some (value_in name uses) then None else Some (value_or_wait (given texts values flags None false) i y))
+      go : (y : Option Text) → rest_of words
+          (as_option command rules (stand uses None (length texts + 1) false)
+          (value_rule name (Some name) None (option_to_list d) false) y)
+          ≡ told_rest words (if is_some (value_in name uses) then None else Some
+          (value_or_wait (given texts values flags None false) i y))
       go (Some v) = used_or_not v (is_some (value_in name uses)) refl
       go None = ahead uses texts values flags name d i f at ∙ split (is_some (value_in name uses))
 
-  takes_flag : (uses : List Use) (texts : List Text) (values : List (Option Text)) (flags : List Bool) (words : List Text) (name : Text) (y : Option Text) (j : ℕ)
-      → Fits form ids uses texts values flags → Agree words → place_of name (option_names form) ≡ None → place_of name form.flags ≡ Some j
-      → rest_of words (as_flag command rules (stand uses None (length texts + 1) false) (flag_filled name) y)
+  takes_flag : (uses : List Use) (texts : List Text) (values : List (Option Text))
+      (flags : List Bool) (words : List Text) (name : Text) (y : Option Text) (j : ℕ)
+      → Fits form ids uses texts values flags → Agree words
+      → place_of name (option_names form) ≡ None → place_of name form.flags ≡ Some j
+      → rest_of words (as_flag command rules (stand uses None (length texts + 1) false)
+      (flag_filled name) y)
       ≡ told_rest words (with_flag (given texts values flags None false) y j)
   takes_flag uses texts values flags words name (Some v) j f ih none at = refl
   takes_flag uses texts values flags words name None j f ih none at =
       go (is_some (value_in name uses)) refl
-      ∙ sym (ap (λ b. told_rest words (if b then None else Some (given texts values (slice_set flags j true) None false))) (set_at uses flags name j f.flags_are at))
+      ∙ sym (ap (λ b. told_rest words
+      (if b then None else Some (given texts values (slice_set flags j true) None false)))
+      (set_at uses flags name j f.flags_are at))
     where
       go : (b : Bool) → is_some (value_in name uses) ≡ b
-          → rest_of words (if b then None else Some (stand (set_use uses (flag_filled name) (codes "true")) None (length texts + 1) false))
-          ≡ told_rest words (if b then None else Some (given texts values (slice_set flags j true) None false))
+          → rest_of words (if b then None else Some
+          (stand (set_use uses (flag_filled name) (codes "true")) None
+          (length texts + 1) false))
+          ≡ told_rest words (if b then None else Some
+          (given texts values (slice_set flags j true) None false))
       go true is = refl
-      go false is = ih (set_use uses (flag_filled name) (codes "true")) texts values (slice_set flags j true) false
+      go false is = ih (set_use uses (flag_filled name) (codes "true")) texts values
+          (slice_set flags j true) false
           (fits_flag form ids simple uses texts values flags name j f none at is)
 
-  takes_named : (uses : List Use) (texts : List Text) (values : List (Option Text)) (flags : List Bool) (word : Text) (words : List Text) (name : Text) (y : Option Text)
-      → Fits form ids uses texts values flags → Agree words → Ahead words → Named form ids simple name
-      → rest_of words (as_named command rules (stand uses None (length texts + 1) false) y (arg_by_long rules name))
+  takes_named : (uses : List Use) (texts : List Text) (values : List (Option Text))
+      (flags : List Bool) (word : Text) (words : List Text) (name : Text) (y : Option Text)
+      → Fits form ids uses texts values flags → Agree words → Ahead words
+      → Named form ids simple name
+      → rest_of words (as_named command rules (stand uses None (length texts + 1) false) y
+      (arg_by_long rules name))
       ≡ told_rest words (as_word form (given texts values flags None false) word (names name y))
   takes_named uses texts values flags word words name y f ih ahead (is_option i d at l k) =
-      ap (λ found. rest_of words (as_named command rules (stand uses None (length texts + 1) false) y found)) l
+      ap (λ found. rest_of words
+      (as_named command rules (stand uses None (length texts + 1) false) y found)) l
       ∙ takes_option uses texts values flags words name y i d f ih ahead at
-      ∙ sym (ap (λ found. told_rest words (option_or_flag form (given texts values flags None false) name y found)) (option_place name (Some i) at))
+      ∙ sym (ap (λ found. told_rest words
+      (option_or_flag form (given texts values flags None false) name y found))
+      (option_place name (Some i) at))
   takes_named uses texts values flags word words name y f ih ahead (is_flag j none at l) =
-      ap (λ found. rest_of words (as_named command rules (stand uses None (length texts + 1) false) y found)) l
+      ap (λ found. rest_of words
+      (as_named command rules (stand uses None (length texts + 1) false) y found)) l
       ∙ takes_flag uses texts values flags words name y j f ih none at
-      ∙ sym (ap (λ found. told_rest words (option_or_flag form (given texts values flags None false) name y found)) (option_place name None none)
-      ∙ ap (λ found. told_rest words (option_and_then (with_flag (given texts values flags None false) y) found)) (flag_place name (Some j) at))
+      ∙ sym (ap (λ found. told_rest words
+      (option_or_flag form (given texts values flags None false) name y found))
+      (option_place name None none)
+      ∙ ap (λ found. told_rest words
+      (option_and_then (with_flag (given texts values flags None false) y) found))
+      (flag_place name (Some j) at))
   takes_named uses texts values flags word words name y f ih ahead (is_none none no_flag l) =
-      ap (λ found. rest_of words (as_named command rules (stand uses None (length texts + 1) false) y found)) l
-      ∙ sym (ap (λ found. told_rest words (option_or_flag form (given texts values flags None false) name y found)) (option_place name None none)
-      ∙ ap (λ found. told_rest words (option_and_then (with_flag (given texts values flags None false) y) found)) (flag_place name None no_flag))
+      ap (λ found. rest_of words
+      (as_named command rules (stand uses None (length texts + 1) false) y found)) l
+      ∙ sym (ap (λ found. told_rest words
+      (option_or_flag form (given texts values flags None false) name y found))
+      (option_place name None none)
+      ∙ ap (λ found. told_rest words
+      (option_and_then (with_flag (given texts values flags None false) y) found))
+      (flag_place name None no_flag))
 
   -- ---- one word
 
   abbrev told_kind : List Text → List Text → List (Option Text) → List Bool → Text → Word → Option T
-  told_kind words texts values flags word k = told_rest words (as_word form (given texts values flags None false) word k)
+  told_kind words texts values flags word k =
+      told_rest words (as_word form (given texts values flags None false) word k)
 
-  takes_word : (uses : List Use) (texts : List Text) (values : List (Option Text)) (flags : List Bool) (word : Text) (words : List Text)
+  takes_word : (uses : List Use) (texts : List Text) (values : List (Option Text))
+      (flags : List Bool) (word : Text) (words : List Text)
       → Fits form ids uses texts values flags → Agree words → Ahead words → (look : View word)
-      → rest_of words (as_seen command rules (stand uses None (length texts + 1) false) word look) ≡ told_kind words texts values flags word (kind_of_word word)
+      → rest_of words (as_seen command rules (stand uses None (length texts + 1) false) word look)
+      ≡ told_kind words texts values flags word (kind_of_word word)
   takes_word uses texts values flags word words f ih ahead (ending e d) =
       let k : kind_of_word word ≡ ends = rw e refl in
       ih uses texts values flags true f ∙ sym (ap (told_kind words texts values flags word) k)
   takes_word uses texts values flags word words f ih ahead (long n y e l d) =
       let k : kind_of_word word ≡ names n y = rw (e, l) refl in
-      takes_named uses texts values flags word words n y f ih ahead (named form ids simple n) ∙ sym (ap (told_kind words texts values flags word) k)
+      takes_named uses texts values flags word words n y f ih ahead (named form ids simple n)
+      ∙ sym (ap (told_kind words texts values flags word) k)
   takes_word uses texts values flags word words f ih ahead (short y ys c e l h is d) =
       let k : kind_of_word word ≡ dashed = rw (e, l, d) refl in
       sym (ap (told_kind words texts values flags word) k)
   takes_word uses texts values flags word words f ih ahead (torn y ys e l h is d) =
       let k : kind_of_word word ≡ dashed = rw (e, l, d) refl in
-      spoils_text uses texts values flags false word words f d ∙ sym (ap (told_kind words texts values flags word) k)
+      spoils_text uses texts values flags false word words f d
+      ∙ sym (ap (told_kind words texts values flags word) k)
   takes_word uses texts values flags word words f ih ahead (dash e l h d) =
       let k : kind_of_word word ≡ dashed = rw (e, l, d) refl in
-      spoils_text uses texts values flags false word words f d ∙ sym (ap (told_kind words texts values flags word) k)
+      spoils_text uses texts values flags false word words f d
+      ∙ sym (ap (told_kind words texts values flags word) k)
   takes_word uses texts values flags word words f ih ahead (clean e l h d) =
       let k : kind_of_word word ≡ plain = rw (e, l, d) refl in
-      takes_text uses texts values flags false word words f ih ∙ sym (ap (told_kind words texts values flags word) k)
+      takes_text uses texts values flags false word words f ih
+      ∙ sym (ap (told_kind words texts values flags word) k)
 
   -- a word where an option waits
-  value_or_not : (uses : List Use) (texts : List Text) (values : List (Option Text)) (flags : List Bool) (word : Text) (words : List Text) (name : Text) (d : Option Text) (i : ℕ)
-      → Fits form ids uses texts values flags → Agree words → place_of name (option_names form) ≡ Some i
+  value_or_not : (uses : List Use) (texts : List Text) (values : List (Option Text))
+      (flags : List Bool) (word : Text) (words : List Text) (name : Text) (d : Option Text) (i : ℕ)
+      → Fits form ids uses texts values flags → Agree words
+      → place_of name (option_names form) ≡ Some i
       → (b dashes : Bool) → is_some (value_in name uses) ≡ b → begins_dashed word ≡ dashes
-      → rest_of words (if b then None else Some (stand (set_use uses (value_rule name (Some name) None (option_to_list d) false) word) None (length texts + 1) false))
-      ≡ (if b then None else told_rest words (if dashes then None else Some (with_value (given texts values flags (Some i) false) i word)))
+      → rest_of words (if b then None else Some
+      (stand (set_use uses (value_rule name (Some name) None (option_to_list d) false) word)
+      None (length texts + 1) false))
+      ≡ (if b then None else told_rest words
+      (if dashes then None else Some
+      (with_value (given texts values flags (Some i) false) i word)))
   value_or_not uses texts values flags word words name d i f ih at true dashes used is = refl
   value_or_not uses texts values flags word words name d i f ih at false false fresh is =
-      ih (set_use uses (value_rule name (Some name) None (option_to_list d) false) word) texts (slice_set values i (Some word)) flags false
+      ih (set_use uses (value_rule name (Some name) None (option_to_list d) false) word) texts
+      (slice_set values i (Some word)) flags false
       (fits_value form ids simple uses texts values flags name word d i f at fresh)
   value_or_not uses texts values flags word words name d i f ih at false true fresh is =
-      let is_one : has_name name (option_names form ++ ids) ≡ true = list_any-append (λ m. bytes_eq m name) (option_names form) ids
+      let is_one : has_name name (option_names form ++ ids) ≡ true =
+      list_any-append (λ m. bytes_eq m name) (option_names form) ids
       ∙ ap (λ b. b || has_name name ids) (placed_has name (option_names form) i at) in
-      spoilt_reads command form ids simple T take refuses words (stand (set_use uses (value_rule name (Some name) None (option_to_list d) false) word) None (length texts + 1) false)
-      (spoilt_new (option_names form ++ ids) uses (use_of (value_rule name (Some name) None (option_to_list d) false) word) is_one fresh is)
+      spoilt_reads command form ids simple T take refuses words
+      (stand (set_use uses (value_rule name (Some name) None (option_to_list d) false) word)
+      None (length texts + 1) false)
+      (spoilt_new (option_names form ++ ids) uses
+      (use_of (value_rule name (Some name) None (option_to_list d) false) word) is_one fresh is)
 
   no_value : (word : Text) (words : List Text) (g : Given) (b : Bool) → begins_dashed word ≡ true
       → None ≡ (if b then None else told_rest words (if begins_dashed word then None else Some g))
   no_value word words g true d = refl
   no_value word words g false d = rw d refl
 
-  waits_word : (uses : List Use) (texts : List Text) (values : List (Option Text)) (flags : List Bool) (word : Text) (words : List Text) (name : Text) (d : Option Text) (i : ℕ)
-      → Fits form ids uses texts values flags → Agree words → place_of name (option_names form) ≡ Some i → (look : View word)
-      → rest_of words (as_value command rules (stand uses (Some (value_rule name (Some name) None (option_to_list d) false)) (length texts + 1) false)
+  waits_word : (uses : List Use) (texts : List Text) (values : List (Option Text))
+      (flags : List Bool) (word : Text) (words : List Text) (name : Text) (d : Option Text) (i : ℕ)
+      → Fits form ids uses texts values flags → Agree words
+      → place_of name (option_names form) ≡ Some i → (look : View word)
+      → rest_of words (as_value command rules
+      (stand uses (Some (value_rule name (Some name) None (option_to_list d) false))
+      (length texts + 1) false)
       (value_rule name (Some name) None (option_to_list d) false) word look)
-      ≡ (if is_some (value_in name uses) then None else told_rest words (next_where form (given texts values flags (Some i) false) word (Some i)))
-  waits_word uses texts values flags word words name d i f ih at (ending e b) = no_value word words (with_value (given texts values flags (Some i) false) i word) (is_some (value_in name uses)) b
-  waits_word uses texts values flags word words name d i f ih at (long n y e l b) = no_value word words (with_value (given texts values flags (Some i) false) i word) (is_some (value_in name uses)) b
-  waits_word uses texts values flags word words name d i f ih at (short y ys c e l h is b) = no_value word words (with_value (given texts values flags (Some i) false) i word) (is_some (value_in name uses)) b
+      ≡ (if is_some (value_in name uses) then None else told_rest words
+      (next_where form (given texts values flags (Some i) false) word (Some i)))
+  waits_word uses texts values flags word words name d i f ih at (ending e b) =
+      no_value word words (with_value (given texts values flags (Some i) false) i word)
+      (is_some (value_in name uses)) b
+  waits_word uses texts values flags word words name d i f ih at (long n y e l b) =
+      no_value word words (with_value (given texts values flags (Some i) false) i word)
+      (is_some (value_in name uses)) b
+  waits_word uses texts values flags word words name d i f ih at (short y ys c e l h is b) =
+      no_value word words (with_value (given texts values flags (Some i) false) i word)
+      (is_some (value_in name uses)) b
   waits_word uses texts values flags word words name d i f ih at (torn y ys e l h is b) =
-      value_or_not uses texts values flags word words name d i f ih at (is_some (value_in name uses)) (begins_dashed word) refl refl
+      value_or_not uses texts values flags word words name d i f ih at
+      (is_some (value_in name uses)) (begins_dashed word) refl refl
   waits_word uses texts values flags word words name d i f ih at (dash e l h b) =
-      value_or_not uses texts values flags word words name d i f ih at (is_some (value_in name uses)) (begins_dashed word) refl refl
+      value_or_not uses texts values flags word words name d i f ih at
+      (is_some (value_in name uses)) (begins_dashed word) refl refl
   waits_word uses texts values flags word words name d i f ih at (clean e l h b) =
-      value_or_not uses texts values flags word words name d i f ih at (is_some (value_in name uses)) (begins_dashed word) refl refl
+      value_or_not uses texts values flags word words name d i f ih at
+      (is_some (value_in name uses)) (begins_dashed word) refl refl
 
   waits_end : (b : Bool) → (let none : Option T = None in none ≡ (if b then none else none))
   waits_end true = refl
   waits_end false = refl
 
   agrees : (words : List Text) → Agree words × Ahead words
-  agrees [] = (agrees_end, λ uses texts values flags name d i f at. waits_end (is_some (value_in name uses)))
+  agrees [] = (
+    agrees_end,
+    λ uses texts values flags name d i f at. waits_end (is_some (value_in name uses)),
+  )
     where
       agrees_end : Agree []
-      agrees_end uses texts values flags over f = ap (option_and_then take) (end_agrees command form ids simple uses texts values flags over f)
+      agrees_end uses texts values flags over f =
+          ap (option_and_then take)
+          (end_agrees command form ids simple uses texts values flags over f)
   agrees (word ∷ words) = (agrees_idle (agrees words), agrees_ahead (agrees words).0)
     where
       agrees_idle : Agree words × Ahead words → Agree (word ∷ words)
-      agrees_idle ih uses texts values flags true f = takes_text uses texts values flags true word words f ih.0
-      agrees_idle ih uses texts values flags false f = takes_word uses texts values flags word words f ih.0 ih.1 (view word)
+      agrees_idle ih uses texts values flags true f =
+          takes_text uses texts values flags true word words f ih.0
+      agrees_idle ih uses texts values flags false f =
+          takes_word uses texts values flags word words f ih.0 ih.1 (view word)
 
       agrees_ahead : Agree words → Ahead (word ∷ words)
-      agrees_ahead ih uses texts values flags name d i f at = waits_word uses texts values flags word words name d i f ih at (view word)
+      agrees_ahead ih uses texts values flags name d i f at =
+          waits_word uses texts values flags word words name d i f ih at (view word)
 
-  nothing_seen : (options : List Valued) → seen [] (map (λ o. o.name) options) ≡ map (λ o. None) options
+  nothing_seen : (options : List Valued)
+      → seen [] (map (λ o. o.name) options) ≡ map (λ o. None) options
   nothing_seen [] = refl
   nothing_seen (o ∷ os) = ap (λ more. None ∷ more) (nothing_seen os)
 
@@ -303,11 +432,14 @@ module _ (command : Text) (form : Form) (ids : List Text) (simple : IsSimple for
   no_texts (id ∷ ids) = ap (λ more. None ∷ more) (no_texts ids)
 
   -- what the words tell by the parser's rules is what they tell by the form
-  pub form_agrees : (words : List Text) → taken (read_seen command rules (stand [] None 1 false) words) ≡ option_and_then take (told_by form words)
-  form_agrees words = (agrees words).0 [] [] (map (λ option. None) form.options) (map (λ flag. false) form.flags) false (record {
-    values_are = nothing_seen form.options;
-    flags_are = no_flags form.flags;
-    texts_are = no_texts ids;
-    room = omega arith;
-    typed = refl;
-  })
+  pub form_agrees : (words : List Text)
+      → taken (read_seen command rules (stand [] None 1 false) words)
+      ≡ option_and_then take (told_by form words)
+  form_agrees words = (agrees words).0 [] [] (map (λ option. None) form.options)
+      (map (λ flag. false) form.flags) false (record {
+        values_are = nothing_seen form.options;
+        flags_are = no_flags form.flags;
+        texts_are = no_texts ids;
+        room = omega arith;
+        typed = refl;
+      })

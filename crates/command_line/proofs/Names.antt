@@ -47,16 +47,21 @@ pub position_is : {X : Type 0} (p : X → Bool) (xs : List X) → position p xs 
 position_is p [] = refl
 position_is {X} p (x ∷ xs) = elim (cases_Bool (p x)) [
   | inl a ↦ rw (a, less_one (length xs)) refl
-  | inr a ↦ rw (a, one_more (position_or_len p xs), ← position_is p xs) (later (nat_lt (position_or_len p xs) (length xs)) refl)
+  | inr a ↦ rw (a, one_more (position_or_len p xs), ← position_is p xs)
+      (later (nat_lt (position_or_len p xs) (length xs)) refl)
 ]
   where
     later : (b : Bool) → nat_lt (position_or_len p xs) (length xs) ≡ b
-        → (if nat_lt (suc (position_or_len p xs)) (suc (length xs)) then Some (suc (position_or_len p xs)) else None)
-        ≡ option_map (λ i. suc i) (if nat_lt (position_or_len p xs) (length xs) then Some (position_or_len p xs) else None)
+        → (if nat_lt (suc (position_or_len p xs)) (suc (length xs)) then Some
+        (suc (position_or_len p xs)) else None)
+        ≡ option_map (λ i. suc i)
+        (if nat_lt (position_or_len p xs) (length xs) then Some (position_or_len p xs) else
+        None)
     later true is = rw (is, less_suc (position_or_len p xs) (length xs) true is) refl
     later false is = rw (is, less_suc (position_or_len p xs) (length xs) false is) refl
 
-pub place_by_map : {X : Type 0} (f : X → Text) (name : Text) (xs : List X) → place_by (λ x. bytes_eq (f x) name) xs ≡ place_of name (map f xs)
+pub place_by_map : {X : Type 0} (f : X → Text) (name : Text) (xs : List X)
+    → place_by (λ x. bytes_eq (f x) name) xs ≡ place_of name (map f xs)
 place_by_map f name [] = refl
 place_by_map f name (x ∷ xs) = elim (cases_Bool (bytes_eq (f x) name)) [
   | inl a ↦ rw a refl
@@ -68,7 +73,8 @@ pub data Stands (name : Text) (names : List Text) : Type 0 where
   there : (i : ℕ) → place_of name names ≡ Some i → has_name name names ≡ true → Stands name names
   apart : place_of name names ≡ None → has_name name names ≡ false → Stands name names
 
-later : (name x : Text) (xs : List Text) → bytes_eq x name ≡ false → Stands name xs → Stands name (x ∷ xs)
+later : (name x : Text) (xs : List Text) → bytes_eq x name ≡ false → Stands name xs
+    → Stands name (x ∷ xs)
 later name x xs a (there i p h) = there (suc i) (rw (a, p) refl) (rw (a, h) refl)
 later name x xs a (apart p h) = apart (rw (a, p) refl) (rw (a, h) refl)
 
@@ -79,13 +85,15 @@ stands name (x ∷ xs) = elim (cases_Bool (bytes_eq x name)) [
   | inr a ↦ later name x xs a (stands name xs)
 ]
 
-pub placed_has : (name : Text) (names : List Text) (i : ℕ) → place_of name names ≡ Some i → has_name name names ≡ true
+pub placed_has : (name : Text) (names : List Text) (i : ℕ) → place_of name names ≡ Some i
+    → has_name name names ≡ true
 placed_has name names i is = elim (stands name names) [
   | there j p h ↦ h
   | apart p h ↦ cc
 ]
 
-pub not_placed : (name : Text) (names : List Text) → place_of name names ≡ None → has_name name names ≡ false
+pub not_placed : (name : Text) (names : List Text) → place_of name names ≡ None
+    → has_name name names ≡ false
 not_placed name names is = elim (stands name names) [
   | there j p h ↦ cc
   | apart p h ↦ h
@@ -105,15 +113,18 @@ not_true : (b : Bool) → not b ≡ true → b ≡ false
 not_true true is = absurd (false≢true is)
 not_true false is = refl
 
-pub head_apart : (x : Text) (xs : List Text) → are_distinct (x ∷ xs) ≡ true → (has_name x xs ≡ false) × (are_distinct xs ≡ true)
-head_apart x xs is = let p = and_parts (not (has_name x xs)) (are_distinct xs) is in (not_true (has_name x xs) p.0, p.1)
+pub head_apart : (x : Text) (xs : List Text) → are_distinct (x ∷ xs) ≡ true
+    → (has_name x xs ≡ false) × (are_distinct xs ≡ true)
+head_apart x xs is = let p = and_parts (not (has_name x xs)) (are_distinct xs) is in
+    (not_true (has_name x xs) p.0, p.1)
 
 pub parted : (xs ys : List Text) → are_distinct (xs ++ ys) ≡ true → Parted xs ys
 parted [] ys is = record { first = refl; second = is; apart = λ name h. absurd (false≢true h) }
 parted (x ∷ xs) ys is = step (parted xs ys (head_apart x (xs ++ ys) is).1)
   where
     split : (has_name x xs ≡ false) × (has_name x ys ≡ false)
-    split = or_split (has_name x xs) (has_name x ys) (sym (list_any-append (λ m. bytes_eq m x) xs ys) ∙ (head_apart x (xs ++ ys) is).0)
+    split = or_split (has_name x xs) (has_name x ys)
+        (sym (list_any-append (λ m. bytes_eq m x) xs ys) ∙ (head_apart x (xs ++ ys) is).0)
 
     step : Parted xs ys → Parted (x ∷ xs) ys
     step rest = record {
@@ -126,7 +137,8 @@ parted (x ∷ xs) ys is = step (parted xs ys (head_apart x (xs ++ ys) is).1)
     }
 
 -- a name of the second list is none of the first
-pub apart_back : (xs ys : List Text) → Parted xs ys → (name : Text) → has_name name ys ≡ true → has_name name xs ≡ false
+pub apart_back : (xs ys : List Text) → Parted xs ys → (name : Text) → has_name name ys ≡ true
+    → has_name name xs ≡ false
 apart_back xs ys p name h = elim (cases_Bool (has_name name xs)) [
   | inl a ↦ absurd (false≢true (sym (p.apart name a) ∙ h))
   | inr a ↦ a

@@ -14,11 +14,13 @@ refuses told kinds Memory is none = tt
 refuses told [] BadWords is none = absurd is
 refuses told (k ∷ ks) BadWords is none = none k ks refl
 
-told_or_bad : {T : Type 0} (told : Option T) → MatchResult (ok_or told BadWords) (λ t. told ≡ Some t) (Refuses told)
+told_or_bad : {T : Type 0} (told : Option T)
+    → MatchResult (ok_or told BadWords) (λ t. told ≡ Some t) (Refuses told)
 told_or_bad None = refl
 told_or_bad (Some t) = refl
 
 -- what the matches tell, or else bad words
-pub ends_told : {T : Type 0} (told taken : Option T) (result : Result T Refused) → taken ≡ told → result ≡ ok_or taken BadWords
+pub ends_told : {T : Type 0} (told taken : Option T) (result : Result T Refused) → taken ≡ told
+    → result ≡ ok_or taken BadWords
     → MatchResult result (λ t. told ≡ Some t) (Refuses told)
 ends_told told taken result same is = rw (is, same) (told_or_bad told)

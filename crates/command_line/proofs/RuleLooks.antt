@@ -1,4 +1,5 @@
--- What the parser finds of arguments with one value and of flags, in a command with no short options.
+-- What the parser finds of arguments with one value and of flags, in a command with no short
+-- options.
 use Rattle.std.proofs.Common.{◌≡◌, ℕ, Bool, List, Option, Some, None}
 use Rattle.clap.specs.Walk.{Rule, Text, arg_by_id, arg_by_index, arg_by_long, arg_by_short}
 use Rattle.command_line.proofs.Uses.{flag_filled, value_rule}
@@ -6,7 +7,8 @@ use Rattle.command_line.proofs.Uses.{flag_filled, value_rule}
 -- an argument that was found
 pub data Known (rules : List Rule) (found : Option Rule) : Type 0 where
   unknown : found ≡ None → Known rules found
-  valued : (id : Text) (long : Option Text) (index : Option ℕ) (defaults : List Text) (required : Bool)
+  valued : (id : Text) (long : Option Text) (index : Option ℕ) (defaults : List Text)
+      (required : Bool)
       → found ≡ Some (value_rule id long index defaults required)
       → arg_by_id rules id ≡ Some (value_rule id long index defaults required) → Known rules found
   flag : (id : Text) → found ≡ Some (flag_filled id) → Known rules found
@@ -14,7 +16,8 @@ pub data Known (rules : List Rule) (found : Option Rule) : Type 0 where
 -- a positional that was found
 pub data Placed (rules : List Rule) (found : Option Rule) : Type 0 where
   nowhere : found ≡ None → Placed rules found
-  placed : (id : Text) (long : Option Text) (index : Option ℕ) (defaults : List Text) (required : Bool)
+  placed : (id : Text) (long : Option Text) (index : Option ℕ) (defaults : List Text)
+      (required : Bool)
       → found ≡ Some (value_rule id long index defaults required)
       → arg_by_id rules id ≡ Some (value_rule id long index defaults required) → Placed rules found
 

@@ -80,11 +80,13 @@ module _ (name : Text) (rules : List Rule) where
   abbrev pub rows_at_end : List Use → Option (List Row)
   rows_at_end uses =
       let rows = fold with_default (rows_by uses) rules in
-      unless_fault (or_else (defaults_fault (rows_by uses) rules) (check_fault (shape_by name rules) rows false)) rows
+      unless_fault (or_else (defaults_fault (rows_by uses) rules)
+      (check_fault (shape_by name rules) rows false)) rows
 
   abbrev pub end_seen : Stand → Option (List Row)
   end_seen s = if is_some s.waits then None else rows_at_end s.uses
 
   abbrev pub read_seen : Stand → List Text → Option (List Row)
   read_seen s [] = end_seen s
-  read_seen s (word ∷ words) = option_and_then (λ t. read_seen t words) (next_seen s word (view word) s.waits)
+  read_seen s (word ∷ words) =
+      option_and_then (λ t. read_seen t words) (next_seen s word (view word) s.waits)

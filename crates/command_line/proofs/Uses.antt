@@ -65,7 +65,13 @@ abbrev pub use_of : Rule → Text → Use
 use_of a v = record { id = a.id; value = v; source = CommandLine; how = reading_by a }
 
 abbrev pub row_by : Use → Row
-row_by u = record { id = u.id; values = u.value ∷ []; count = None; source = Some u.source; reading = u.how }
+row_by u = record {
+  id = u.id;
+  values = u.value ∷ [];
+  count = None;
+  source = Some u.source;
+  reading = u.how;
+}
 
 abbrev pub rows_by : List Use → List Row
 rows_by uses = map row_by uses
@@ -89,13 +95,15 @@ first_is id (u ∷ us) = elim (cases_Bool (bytes_eq u.id id)) [
   | inr b ↦ rw b (first_is id us)
 ]
 
-new_id : (id : Text) (u : Use) (us : List Use) → is_some (value_in id (u ∷ us)) ≡ false → (bytes_eq u.id id ≡ false) × (is_some (value_in id us) ≡ false)
+new_id : (id : Text) (u : Use) (us : List Use) → is_some (value_in id (u ∷ us)) ≡ false
+    → (bytes_eq u.id id ≡ false) × (is_some (value_in id us) ≡ false)
 new_id id u us none = elim (cases_Bool (bytes_eq u.id id)) [
   | inl b ↦ let bad : true ≡ false = rw b at none in cc
   | inr b ↦ (b, rw b at none)
 ]
 
-without_none : (id : Text) (uses : List Use) → is_some (value_in id uses) ≡ false → without id (rows_by uses) ≡ rows_by uses
+without_none : (id : Text) (uses : List Use) → is_some (value_in id uses) ≡ false
+    → without id (rows_by uses) ≡ rows_by uses
 without_none id [] none = refl
 without_none id (u ∷ us) none =
     let p = new_id id u us none in
@@ -109,12 +117,17 @@ appended u (x ∷ xs) none =
     rw p.0 (ap (λ rows. row_by x ∷ rows) (appended u xs p.1))
 
 -- a use of an argument with no use
-pub used_value : (id : Text) (long : Option Text) (index : Option ℕ) (defaults : List Text) (required : Bool) (v : Text) (uses : List Use)
+pub used_value : (id : Text) (long : Option Text) (index : Option ℕ) (defaults : List Text)
+    (required : Bool) (v : Text) (uses : List Use)
     → is_some (value_in id uses) ≡ false
-    → used (value_rule id long index defaults required) (v ∷ []) (rows_by uses) ≡ rows_by (uses ++ use_of (value_rule id long index defaults required) v ∷ [])
+    → used (value_rule id long index defaults required) (v ∷ []) (rows_by uses)
+    ≡ rows_by (uses ++ use_of (value_rule id long index defaults required) v ∷ [])
 used_value id long index defaults required v uses none =
-    rw (without_none id uses none) (appended (use_of (value_rule id long index defaults required) v) uses none)
+    rw (without_none id uses none)
+    (appended (use_of (value_rule id long index defaults required) v) uses none)
 
 pub used_flag : (id : Text) (uses : List Use) → is_some (value_in id uses) ≡ false
-    → used (flag_filled id) [] (rows_by uses) ≡ rows_by (uses ++ use_of (flag_filled id) (codes "true") ∷ [])
-used_flag id uses none = rw (without_none id uses none) (appended (use_of (flag_filled id) (codes "true")) uses none)
+    → used (flag_filled id) [] (rows_by uses)
+    ≡ rows_by (uses ++ use_of (flag_filled id) (codes "true") ∷ [])
+used_flag id uses none =
+    rw (without_none id uses none) (appended (use_of (flag_filled id) (codes "true")) uses none)

@@ -9,18 +9,28 @@ use Rattle.command_line.specs.Words.{begins_dashed}
 
 pub data View (word : Text) : Type 0 where
   ending : bytes_eq word (45 ∷ 45 ∷ []) ≡ true → begins_dashed word ≡ true → View word
-  long : (name : Text) (v : Option Text) → bytes_eq word (45 ∷ 45 ∷ []) ≡ false → long_of word ≡ Some (name, v) → begins_dashed word ≡ true → View word
-  short : (y : ℕ) (ys : Text) (c : ℕ) → bytes_eq word (45 ∷ 45 ∷ []) ≡ false → long_of word ≡ None → short_of word ≡ Some (y ∷ ys) → slice_get (chars (y ∷ ys)) 0 ≡ Some c → begins_dashed word ≡ true → View word
-  torn : (y : ℕ) (ys : Text) → bytes_eq word (45 ∷ 45 ∷ []) ≡ false → long_of word ≡ None → short_of word ≡ Some (y ∷ ys) → slice_get (chars (y ∷ ys)) 0 ≡ None → begins_dashed word ≡ true → View word
-  dash : bytes_eq word (45 ∷ 45 ∷ []) ≡ false → long_of word ≡ None → short_of word ≡ None → begins_dashed word ≡ true → View word
-  clean : bytes_eq word (45 ∷ 45 ∷ []) ≡ false → long_of word ≡ None → short_of word ≡ None → begins_dashed word ≡ false → View word
+  long : (name : Text) (v : Option Text) → bytes_eq word (45 ∷ 45 ∷ []) ≡ false
+      → long_of word ≡ Some (name, v) → begins_dashed word ≡ true → View word
+  short : (y : ℕ) (ys : Text) (c : ℕ) → bytes_eq word (45 ∷ 45 ∷ []) ≡ false → long_of word ≡ None
+      → short_of word ≡ Some (y ∷ ys) → slice_get (chars (y ∷ ys)) 0 ≡ Some c
+      → begins_dashed word ≡ true → View word
+  torn : (y : ℕ) (ys : Text) → bytes_eq word (45 ∷ 45 ∷ []) ≡ false → long_of word ≡ None
+      → short_of word ≡ Some (y ∷ ys) → slice_get (chars (y ∷ ys)) 0 ≡ None
+      → begins_dashed word ≡ true → View word
+  dash : bytes_eq word (45 ∷ 45 ∷ []) ≡ false → long_of word ≡ None → short_of word ≡ None
+      → begins_dashed word ≡ true → View word
+  clean : bytes_eq word (45 ∷ 45 ∷ []) ≡ false → long_of word ≡ None → short_of word ≡ None
+      → begins_dashed word ≡ false → View word
 
 view_long : (x y : ℕ) (zs : Text) → (x == 45) ≡ true → (y == 45) ≡ true → View (x ∷ y ∷ zs)
 view_long x y [] a b = ending (rw (a, b) refl) a
-view_long x y (z ∷ zs) a b = long (name_and_value (z ∷ zs)).0 (name_and_value (z ∷ zs)).1 (rw (a, b) refl) (rw (a, b) refl) a
+view_long x y (z ∷ zs) a b =
+    long (name_and_value (z ∷ zs)).0 (name_and_value (z ∷ zs)).1 (rw (a, b) refl) (rw (a, b) refl) a
 
-view_short : (x y : ℕ) (ys : Text) (found : Option ℕ) → slice_get (chars (y ∷ ys)) 0 ≡ found → (x == 45) ≡ true → (y == 45) ≡ false → View (x ∷ y ∷ ys)
-view_short x y ys (Some c) is a b = short y ys c (rw (a, b) refl) (rw (a, b) refl) (rw (a, b) refl) is a
+view_short : (x y : ℕ) (ys : Text) (found : Option ℕ) → slice_get (chars (y ∷ ys)) 0 ≡ found
+    → (x == 45) ≡ true → (y == 45) ≡ false → View (x ∷ y ∷ ys)
+view_short x y ys (Some c) is a b =
+    short y ys c (rw (a, b) refl) (rw (a, b) refl) (rw (a, b) refl) is a
 view_short x y ys None is a b = torn y ys (rw (a, b) refl) (rw (a, b) refl) (rw (a, b) refl) is a
 
 view_dash : (x : ℕ) (ys : Text) → (x == 45) ≡ true → View (x ∷ ys)

@@ -3,6 +3,7 @@ use Rattle.std.specs.Prelude.{ℕ, List, [], ◌∷◌, Option, Some, None, code
 use Rattle.command_line.specs.Form.{Form, Told, Valued}
 use Rattle.command_line.specs.Words.{is_set, told_by}
 use Rattle.numerals.specs.Numeral.{number_of}
+use Rattle.command_line.specs.declared.assay.Assay.{Assay}
 use Rattle.command_line.specs.declared.bench.Bench.{Bench}
 use Rattle.command_line.specs.declared.run.Run.{Run}
 use Rattle.command_line.specs.declared.lineage.Lineage.{Lineage}
@@ -36,6 +37,14 @@ lineage_form = positional_form
 abbrev pub bench_form : Form
 bench_form = positional_form
 
+-- `assay count first [--workers k]`
+abbrev pub assay_form : Form
+assay_form = record { options = workers_option ∷ []; flags = []; positionals = 2 }
+
+-- `landscape steps`
+abbrev pub landscape_form : Form
+landscape_form = record { options = []; flags = []; positionals = 1 }
+
 -- a command's name alone
 abbrev pub bare_form : Form
 bare_form = record { options = []; flags = []; positionals = 0 }
@@ -49,6 +58,10 @@ number_at least greatest place told =
 abbrev pub trace_of : Told → Option Trace
 trace_of told = option_map (λ steps. record { steps = steps; org = is_set told.flags 0 })
     (number_at 0 1000000 0 told)
+
+-- the steps of `landscape` that the positional spells
+abbrev pub landscape_of : Told → Option ℕ
+landscape_of told = number_at 1 100000 0 told
 
 -- the looks that the value spells, where there is a value
 abbrev pub looks_of : Option (List ℕ) → Option (Option ℕ)
@@ -87,6 +100,17 @@ abbrev pub bench_of : Told → Option Bench
 bench_of = positional_of (λ seed workers. record { seed = seed; workers = workers })
     9223372036854775807
 
+-- `assay` of so many seeds, from this one on, and the workers, where there is a number of them
+abbrev pub assay_with : ℕ → ℕ → Option ℕ → Option Assay
+assay_with count first =
+    option_map (λ workers. record { count = count; first = first; workers = workers })
+
+-- `assay` of the number of seeds and the first seed, with the workers, that its texts spell
+abbrev pub assay_of : Told → Option Assay
+assay_of told = option_and_then (λ count.
+    option_and_then (λ first. assay_with count first (workers_at 0 told))
+    (number_at 0 9223372036854775744 1 told)) (number_at 1 64 0 told)
+
 -- what the words after the name tell `trace`
 abbrev pub trace_told : List (List ℕ) → Option Trace
 trace_told words = option_and_then trace_of (told_by trace_form words)
@@ -102,6 +126,14 @@ lineage_told words = option_and_then lineage_of (told_by lineage_form words)
 -- what the words after the name tell `bench`
 abbrev pub bench_told : List (List ℕ) → Option Bench
 bench_told words = option_and_then bench_of (told_by bench_form words)
+
+-- what the words after the name tell `assay`
+abbrev pub assay_told : List (List ℕ) → Option Assay
+assay_told words = option_and_then assay_of (told_by assay_form words)
+
+-- the steps that the words after the name tell `landscape`
+abbrev pub landscape_told : List (List ℕ) → Option ℕ
+landscape_told words = option_and_then landscape_of (told_by landscape_form words)
 
 -- what the words after the name tell a command that takes none
 abbrev pub nothing_told : List (List ℕ) → Option (Unit {0})

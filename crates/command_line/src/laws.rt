@@ -4,7 +4,10 @@ ghost use Rattle.command_line.specs.Form.{Form, IsSimple};
 ghost use Rattle.command_line.specs.Parsers.{parsed_by};
 ghost use Rattle.command_line.specs.Words.{told_by, undashed};
 
-use crate::{LEAST_WORKERS, MOST_CELL, MOST_LOOKS, MOST_SEED, MOST_STEPS, MOST_WORKERS};
+use crate::{
+    LEAST_WORKERS, MOST_CELL, MOST_FIRST_SEED, MOST_LOOKS, MOST_SEED, MOST_SEEDS, MOST_STEPS,
+    MOST_TRIED_STEPS, MOST_WORKERS,
+};
 
 /// For every form, the parser's result is the one that the form gives when the words are read from
 /// left to right. The law doesn't cover a positional or a value that begins with `-`.
@@ -29,7 +32,10 @@ pub fn limits()
     ensures least_workers { LEAST_WORKERS ≡ 1 }
     ensures most_workers { MOST_WORKERS ≡ 64 }
     ensures most_steps { MOST_STEPS ≡ 1000000 }
+    ensures most_tried_steps { MOST_TRIED_STEPS ≡ 100000 }
     ensures most_cell { MOST_CELL ≡ 65535 }
     ensures most_looks { MOST_LOOKS ≡ 1000000 }
     ensures most_seed { MOST_SEED ≡ 9223372036854775807 }
+    ensures most_seeds { MOST_SEEDS ≡ 64 }
+    ensures most_first_seed { MOST_FIRST_SEED ≡ 9223372036854775744 }
 {}

@@ -1,7 +1,9 @@
 //! The words of a command line, read by one simple command a name.
 #![tactic(auto)]
 
+mod assay;
 mod bench;
+mod landscape;
 pub mod laws;
 mod lineage;
 mod nothing;
@@ -12,7 +14,9 @@ mod run;
 mod trace;
 mod workers;
 
+pub use assay::{Assay, MOST_FIRST_SEED, MOST_SEEDS, read_assay};
 pub use bench::{Bench, MOST_SEED, read_bench};
+pub use landscape::{MOST_TRIED_STEPS, read_landscape};
 pub use lineage::{Lineage, MOST_CELL, read_lineage};
 pub use nothing::read_nothing;
 pub use refused::Refused;

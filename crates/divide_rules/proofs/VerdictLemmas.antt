@@ -9,17 +9,20 @@ use Rattle.divide_rules.specs.declared.verdict.Verdict.TheVariants.{Viable}
 use Rattle.divide_rules.specs.Viability.{least_part, greatest_part, child_length, executed_share, copied_share, holds, first_broken, verdict_by, verdict_of, IsViable}
 
 -- a verdict that names no rule
-unbroken : (broken : Option Rule) (ask : DivideAsk) (genome_length : ℕ) (rules : RuleNumbers) → verdict_by broken ask genome_length rules ≡ Viable → broken ≡ None
+unbroken : (broken : Option Rule) (ask : DivideAsk) (genome_length : ℕ) (rules : RuleNumbers)
+    → verdict_by broken ask genome_length rules ≡ Viable → broken ≡ None
 unbroken None ask genome_length rules viable = refl
 unbroken (Some rule) ask genome_length rules viable = absurd cc
 
 -- a rule that is not the first broken one, before others that are not
-kept : (keeps : Bool) (rule : Rule) (others : Option Rule) → cond (not keeps) (Some rule) others ≡ None → (keeps ≡ true) × (others ≡ None)
+kept : (keeps : Bool) (rule : Rule) (others : Option Rule)
+    → cond (not keeps) (Some rule) others ≡ None → (keeps ≡ true) × (others ≡ None)
 kept true rule others none = (refl, none)
 kept false rule others none = absurd cc
 
 -- what two tests mean
-between : (least number greatest : ℕ) → (leb least number && leb number greatest) ≡ true → (least ≤ number) × (number ≤ greatest)
+between : (least number greatest : ℕ) → (leb least number && leb number greatest) ≡ true
+    → (least ≤ number) × (number ≤ greatest)
 between least number greatest both = grind (arith, nat_tests)
 
 below : (number most : ℕ) → ltb number most ≡ true → number < most
@@ -29,18 +32,22 @@ within : (number most : ℕ) → leb number most ≡ true → number ≤ most
 within number most le = grind (arith, nat_tests)
 
 -- all six rules hold
-pub viable : (ask : DivideAsk) (genome_length : ℕ) (rules : RuleNumbers) → verdict_of ask genome_length rules ≡ Viable → IsViable ask genome_length rules
+pub viable : (ask : DivideAsk) (genome_length : ℕ) (rules : RuleNumbers)
+    → verdict_of ask genome_length rules ≡ Viable → IsViable ask genome_length rules
 unfolding verdict_of
 viable ask genome_length rules is_viable =
-    let none : first_broken ask genome_length rules ≡ None = unbroken (first_broken ask genome_length rules) ask genome_length rules is_viable in
+    let none : first_broken ask genome_length rules ≡ None =
+    unbroken (first_broken ask genome_length rules) ask genome_length rules is_viable in
     let v1 = kept (holds V1 ask genome_length rules) V1 _ none in
     let v2 = kept (holds V2 ask genome_length rules) V2 _ v1.1 in
     let v3 = kept (holds V3 ask genome_length rules) V3 _ v2.1 in
     let v4 = kept (holds V4 ask genome_length rules) V4 _ v3.1 in
     let v5 = kept (holds V5 ask genome_length rules) V5 _ v4.1 in
     let v6 = kept (holds V6 ask genome_length rules) V6 _ v5.1 in
-    let parent = between (least_part genome_length rules) ask.read (greatest_part genome_length rules) v2.0 in
-    let child = between (least_part genome_length rules) (child_length ask) (greatest_part genome_length rules) v4.0 in
+    let parent = between (least_part genome_length rules) ask.read
+    (greatest_part genome_length rules) v2.0 in
+    let child = between (least_part genome_length rules) (child_length ask)
+    (greatest_part genome_length rules) v4.0 in
     record {
       allocated = v1.0;
       parent_not_short = parent.0;

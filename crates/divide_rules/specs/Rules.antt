@@ -2,7 +2,8 @@
 use Rattle.std.specs.Prelude.{ℕ, ◌≤◌, Bool}
 use Rattle.divide_rules.specs.declared.limits.DivideRules.{DivideRules}
 
--- the least and the greatest length of a part, the percentages asked for, and whether an allocation is needed
+-- the least and the greatest length of a part, the percentages asked for, and whether an allocation
+-- is needed
 pub record RuleNumbers : Type 0 where
   pub least : ℕ
   pub greatest : ℕ

@@ -20,7 +20,8 @@ pub fn rules_keep_the_limits()
     ensures { (rules : DivideRules) → AreRules (rule_numbers rules) }
 {}
 
-/// A divide that breaks no rule keeps all six, whatever the length of the genome and whatever the rules.
+/// A divide that breaks no rule keeps all six, whatever the length of the genome and whatever the
+/// rules.
 pub fn viable_divides_keep_the_rules()
     ensures { (ask : DivideAsk) (genome_length : ℕ) (rules : RuleNumbers)
         → verdict_of ask genome_length rules ≡ Viable

@@ -13,8 +13,8 @@ pub const LEAST_PERCENT: u32 = 1;
 /// The whole length.
 pub const GREATEST_PERCENT: u32 = 100;
 
-/// What the configuration sets for divides: the lengths that parent and child may have, the percentage of places that
-/// must be executed and copied, and whether an allocation is needed.
+/// What the configuration sets for divides: the lengths that parent and child may have, the
+/// percentage of places that must be executed and copied, and whether an allocation is needed.
 #[derive(Clone, Copy, Debug, PartialEq, Eq)]
 pub struct DivideRules {
     pub least: u32,

@@ -5,7 +5,8 @@ ghost use Rattle.divide_rules.specs.Viability.{verdict_of, IsViable};
 
 use crate::{DivideAsk, DivideRules, Rule};
 
-/// Whether a divide keeps every rule, or which one it breaks first: what was found, and the bound that it missed.
+/// Whether a divide keeps every rule, or which one it breaks first: what was found, and the bound
+/// that it missed.
 #[derive(Clone, Copy, Debug, PartialEq, Eq)]
 pub enum Verdict {
     Viable,
@@ -17,7 +18,8 @@ pub fn judge(ask: &DivideAsk, genome_len: u32, rules: &DivideRules) -> Verdict
     requires long_enough { 8 ≤ genome_len }
     requires short_enough { genome_len ≤ 8192 }
     ensures verdict { result ≡ verdict_of ask.now genome_len (rule_numbers rules.now) }
-    ensures viable { (result ≡ Verdict.Viable) ↔ IsViable ask.now genome_len (rule_numbers rules.now) }
+    ensures viable { (result ≡ Verdict.Viable)
+        ↔ IsViable ask.now genome_len (rule_numbers rules.now) }
 {
     if rules.need_alloc && !ask.allocated {
         return broken(Rule::V1, 0, 1);

@@ -6,56 +6,84 @@ use Rattle.std.proofs.lemmas.List.{take_more}
 use Rattle.std.proofs.lemmas.List.Elements.{filter_map-append}
 
 -- one item more, and what is made of it
-pub filter_map-more : {A B : Type 0} (h : A → Option B) (items : List A) (at : ℕ) (d : A) → at < length items → filter_map h (take (at + 1) items) ≡ filter_map h (take at items) ++ cons_option (h (get_or items at d)) []
-filter_map-more h items at d within = ap (filter_map h) (take_more items at d within) ∙ filter_map-append h (take at items) (get_or items at d ∷ [])
+pub filter_map-more : {A B : Type 0} (h : A → Option B) (items : List A) (at : ℕ) (d : A)
+    → at < length items → filter_map h (take (at + 1) items) ≡ filter_map h (take at items)
+    ++ cons_option (h (get_or items at d)) []
+filter_map-more h items at d within = ap (filter_map h) (take_more items at d within)
+    ∙ filter_map-append h (take at items) (get_or items at d ∷ [])
 
 -- one item more is kept
-pub filter_map-kept : {A B : Type 0} (h : A → Option B) (items : List A) (at : ℕ) (d : A) (made : B) → at < length items → h (get_or items at d) ≡ Some made → filter_map h (take (at + 1) items) ≡ filter_map h (take at items) ++ made ∷ []
-filter_map-kept h items at d made within is = filter_map-more h items at d within ∙ ap (λ o. filter_map h (take at items) ++ cons_option o []) is
+pub filter_map-kept : {A B : Type 0} (h : A → Option B) (items : List A) (at : ℕ) (d : A) (made : B)
+    → at < length items → h (get_or items at d) ≡ Some made
+    → filter_map h (take (at + 1) items) ≡ filter_map h (take at items) ++ made ∷ []
+filter_map-kept h items at d made within is = filter_map-more h items at d within
+    ∙ ap (λ o. filter_map h (take at items) ++ cons_option o []) is
 
 -- one item more is left out
-pub filter_map-left_out : {A B : Type 0} (h : A → Option B) (items : List A) (at : ℕ) (d : A) → at < length items → h (get_or items at d) ≡ None → filter_map h (take (at + 1) items) ≡ filter_map h (take at items)
-filter_map-left_out h items at d within is = filter_map-more h items at d within ∙ ap (λ o. filter_map h (take at items) ++ cons_option o []) is ∙ append-nil (filter_map h (take at items))
+pub filter_map-left_out : {A B : Type 0} (h : A → Option B) (items : List A) (at : ℕ) (d : A)
+    → at < length items → h (get_or items at d) ≡ None
+    → filter_map h (take (at + 1) items) ≡ filter_map h (take at items)
+filter_map-left_out h items at d within is = filter_map-more h items at d within
+    ∙ ap (λ o. filter_map h (take at items) ++ cons_option o []) is
+    ∙ append-nil (filter_map h (take at items))
 
 pub ruleset filter_map_steps = (filter_map-kept, filter_map-left_out)
 
 -- what stands before the first that passes, where there is one
-pub before_first-at : {A : Type 0} (p : A → Bool) (items : List A) (at : ℕ) → position p items ≡ Some at → take at items ≡ before_first p items
+pub before_first-at : {A : Type 0} (p : A → Bool) (items : List A) (at : ℕ)
+    → position p items ≡ Some at → take at items ≡ before_first p items
 before_first-at p items at is = by (nat_lt (position_or_len p items) (length items)) is where
-  by : (b : Bool) → cond b (Some (position_or_len p items)) None ≡ Some at → take at items ≡ before_first p items
+  by : (b : Bool) → cond b (Some (position_or_len p items)) None ≡ Some at
+      → take at items ≡ before_first p items
   by true is = let same : position_or_len p items ≡ at = cc in ap (λ n. take n items) (sym same)
   by false is = cc
 
 -- all stands before the first that passes, where there is none
-pub before_first-all : {A : Type 0} (p : A → Bool) (items : List A) → position p items ≡ None → items ≡ before_first p items
-before_first-all p items is = let past : length items ≤ position_or_len p items = by (nat_lt (position_or_len p items) (length items)) refl is in sym (take_all (position_or_len p items) items past) where
-  by : (b : Bool) → nat_lt (position_or_len p items) (length items) ≡ b → cond b (Some (position_or_len p items)) None ≡ None → length items ≤ position_or_len p items
-  by true _ is = cc
-  by false past is = grind (arith, past)
+pub before_first-all : {A : Type 0} (p : A → Bool) (items : List A) → position p items ≡ None
+    → items ≡ before_first p items
+before_first-all p items is = let past : length items ≤ position_or_len p items =
+    by (nat_lt (position_or_len p items) (length items)) refl is in
+    sym (take_all (position_or_len p items) items past) where
+      by : (b : Bool) → nat_lt (position_or_len p items) (length items) ≡ b
+          → cond b (Some (position_or_len p items)) None ≡ None
+          → length items ≤ position_or_len p items
+      by true _ is = cc
+      by false past is = grind (arith, past)
 
 pub ruleset before_first_steps = (before_first-at, before_first-all)
 
 -- counted from one more, a place is one more
-pub position_from-next : {A : Type 0} (p : A → Bool) (from : ℕ) (items : List A) (at : ℕ) → position_from p from items ≡ Some at → position_from p (from + 1) items ≡ Some (at + 1)
+pub position_from-next : {A : Type 0} (p : A → Bool) (from : ℕ) (items : List A) (at : ℕ)
+    → position_from p from items ≡ Some at → position_from p (from + 1) items ≡ Some (at + 1)
 position_from-next p from [] at is = cc
-position_from-next p from (item ∷ items) at is = by (p item) is (position_from-next p (from + 1) items at) where
-  by : (b : Bool) → cond b (Some from) (position_from p (from + 1) items) ≡ Some at → (position_from p (from + 1) items ≡ Some at → position_from p (from + 1 + 1) items ≡ Some (at + 1)) → cond b (Some (from + 1)) (position_from p (from + 1 + 1) items) ≡ Some (at + 1)
-  by true is _ = let same : from ≡ at = cc in ap (λ n. Some (n + 1)) same
-  by false is next = next is
+position_from-next p from (item ∷ items) at is =
+    by (p item) is (position_from-next p (from + 1) items at) where
+      by : (b : Bool) → cond b (Some from) (position_from p (from + 1) items) ≡ Some at
+          → (position_from p (from + 1) items ≡ Some at
+          → position_from p (from + 1 + 1) items ≡ Some (at + 1))
+          → cond b (Some (from + 1)) (position_from p (from + 1 + 1) items) ≡ Some (at + 1)
+      by true is _ = let same : from ≡ at = cc in ap (λ n. Some (n + 1)) same
+      by false is next = next is
 
 -- counted from one more, there is none where there was none
-pub position_from-none : {A : Type 0} (p : A → Bool) (from : ℕ) (items : List A) → position_from p from items ≡ None → position_from p (from + 1) items ≡ None
+pub position_from-none : {A : Type 0} (p : A → Bool) (from : ℕ) (items : List A)
+    → position_from p from items ≡ None → position_from p (from + 1) items ≡ None
 position_from-none p from [] is = refl
-position_from-none p from (item ∷ items) is = by (p item) is (position_from-none p (from + 1) items) where
-  by : (b : Bool) → cond b (Some from) (position_from p (from + 1) items) ≡ None → (position_from p (from + 1) items ≡ None → position_from p (from + 1 + 1) items ≡ None) → cond b (Some (from + 1)) (position_from p (from + 1 + 1) items) ≡ None
-  by true is _ = cc
-  by false is next = next is
+position_from-none p from (item ∷ items) is =
+    by (p item) is (position_from-none p (from + 1) items) where
+      by : (b : Bool) → cond b (Some from) (position_from p (from + 1) items) ≡ None
+          → (position_from p (from + 1) items ≡ None → position_from p (from + 1 + 1) items ≡ None)
+          → cond b (Some (from + 1)) (position_from p (from + 1 + 1) items) ≡ None
+      by true is _ = cc
+      by false is next = next is
 
 -- lines are counted from 1
-pub position_from-one : {A : Type 0} (p : A → Bool) (items : List A) (at : ℕ) → position_from p 0 items ≡ Some at → position_from p 1 items ≡ Some (at + 1)
+pub position_from-one : {A : Type 0} (p : A → Bool) (items : List A) (at : ℕ)
+    → position_from p 0 items ≡ Some at → position_from p 1 items ≡ Some (at + 1)
 position_from-one p items at is = position_from-next p 0 items at is
 
-pub position_from-one_none : {A : Type 0} (p : A → Bool) (items : List A) → position_from p 0 items ≡ None → position_from p 1 items ≡ None
+pub position_from-one_none : {A : Type 0} (p : A → Bool) (items : List A)
+    → position_from p 0 items ≡ None → position_from p 1 items ≡ None
 position_from-one_none p items is = position_from-none p 0 items is
 
 pub ruleset counted_from_one = (position_from-one, position_from-one_none)

@@ -18,45 +18,83 @@ use Rattle.genotype_bank.specs.BankTable.{seat_of, Seated}
 use Rattle.genotype_bank.proofs.DifferentLemmas.{genotypes_of_push}
 use Rattle.genotype_bank.proofs.GenomeLemmas.{OneList}
 
-pub own_end : (c : List ℕ) (h : List Entry) (e : Entry) → is_among e.seat c ≡ true → calls_under c (h ++ e ∷ []) ≡ calls_under c h ++ e ∷ []
+pub own_end : (c : List ℕ) (h : List Entry) (e : Entry) → is_among e.seat c ≡ true
+    → calls_under c (h ++ e ∷ []) ≡ calls_under c h ++ e ∷ []
 own_end c [] e is = ap (λ b. own_if b e []) is
-own_end c (x ∷ h) e is = ap (own_if (is_among x.seat c) x) (own_end c h e is) ∙ out (is_among x.seat c)
+own_end c (x ∷ h) e is =
+    ap (own_if (is_among x.seat c) x) (own_end c h e is) ∙ out (is_among x.seat c)
   where
-    out : (b : Bool) → own_if b x (calls_under c h ++ e ∷ []) ≡ own_if b x (calls_under c h) ++ e ∷ []
+    out : (b : Bool) → own_if b x (calls_under c h ++ e ∷ []) ≡ own_if b x (calls_under c h)
+        ++ e ∷ []
     out true = refl
     out false = refl
 
 abbrev pub Grows : View → View → Call → Type 0
-Grows v w call = (n : ℕ) × (h : List Entry) × IsPrefix v.seen h × (w.seen ≡ h ++ entry n call ∷ []) × (calls_under w.carried w.seen ≡ calls_under v.carried v.seen ++ entry n call ∷ [])
+Grows v w call = (n : ℕ) × (h : List Entry) × IsPrefix v.seen h × (w.seen ≡ h ++ entry n call ∷ [])
+    × (calls_under w.carried w.seen ≡ calls_under v.carried v.seen ++ entry n call ∷ [])
 
-grown : (v : View) (j t : ℕ) (history : List Entry) (call : Call) → calls_under (j ∷ v.carried) v.seen ≡ calls_under v.carried v.seen
-    → IsPrefix v.seen history → calls_under (j ∷ v.carried) history ≡ calls_under (j ∷ v.carried) v.seen → Grows v (idle_view v.share (j ∷ v.carried) (history ++ entry j call ∷ [])) call
-grown v j t history call first pre same = (j, history, pre, refl, own_end (j ∷ v.carried) history (entry j call) (ap (λ b. b || is_among j v.carried) (eq-eqb j j refl)) ∙ ap (λ l. l ++ entry j call ∷ []) (same ∙ first))
+grown : (v : View) (j t : ℕ) (history : List Entry) (call : Call)
+    → calls_under (j ∷ v.carried) v.seen ≡ calls_under v.carried v.seen
+    → IsPrefix v.seen history
+    → calls_under (j ∷ v.carried) history ≡ calls_under (j ∷ v.carried) v.seen
+    → Grows v (idle_view v.share (j ∷ v.carried) (history ++ entry j call ∷ [])) call
+grown v j t history call first pre same = (
+  j,
+  history,
+  pre,
+  refl,
+  own_end (j ∷ v.carried) history (entry j call)
+      (ap (λ b. b || is_among j v.carried) (eq-eqb j j refl))
+      ∙ ap (λ l. l ++ entry j call ∷ []) (same ∙ first),
+)
 
-pub grows : (v : View) (j t : ℕ) (history : List Entry) (call : Call) (c0 c1 : List (ℕ × Option Catalog)) (a b d : Seated) → a ≡ (with_ticket v j t, c0) → b ≡ (at_turn a.0 history, c1) → d ≡ (idle_view b.0.share b.0.carried (b.0.seen ++ entry (number_of b.0) call ∷ []), [])
-    → calls_under (j ∷ v.carried) v.seen ≡ calls_under v.carried v.seen → IsPrefix a.0.seen history → calls_under a.0.carried history ≡ calls_under a.0.carried a.0.seen → Grows v d.0 call
+pub grows : (v : View) (j t : ℕ) (history : List Entry) (call : Call)
+    (c0 c1 : List (ℕ × Option Catalog)) (a b d : Seated) → a ≡ (with_ticket v j t, c0)
+    → b ≡ (at_turn a.0 history, c1)
+    → d ≡ (idle_view b.0.share b.0.carried (b.0.seen ++ entry (number_of b.0) call ∷ []), [])
+    → calls_under (j ∷ v.carried) v.seen ≡ calls_under v.carried v.seen → IsPrefix a.0.seen history
+    → calls_under a.0.carried history ≡ calls_under a.0.carried a.0.seen → Grows v d.0 call
 grows v j t history call c0 c1 a b d e1 e2 e3 first pre same =
     subst (λ (m : Seated). Grows v m.0 call) (sym e3)
-    (subst (λ (m : Seated). Grows v (idle_view m.0.share m.0.carried (m.0.seen ++ entry (number_of m.0) call ∷ [])) call) (sym e2)
-    (subst (λ (m : Seated). IsPrefix m.0.seen history → calls_under m.0.carried history ≡ calls_under m.0.carried m.0.seen → Grows v (idle_view m.0.share m.0.carried (history ++ entry (number_of m.0) call ∷ [])) call) (sym e1)
+    (subst (λ (m : Seated). Grows v
+    (idle_view m.0.share m.0.carried (m.0.seen ++ entry (number_of m.0) call ∷ [])) call)
+    (sym e2)
+    (subst (λ (m : Seated). IsPrefix m.0.seen history
+    → calls_under m.0.carried history ≡ calls_under m.0.carried m.0.seen
+    → Grows v (idle_view m.0.share m.0.carried (history ++ entry (number_of m.0) call ∷ []))
+    call) (sym e1)
     (λ p s. grown v j t history call first p s) pre same))
 
 -- the calls of two seats that share no number
-pub own_both : (c d : List ℕ) (h : List Entry) → ((n : ℕ) → is_among n c ≡ true → is_among n d ≡ true → ⊥) → IsPermutation (calls_under c h ++ calls_under d h) (calls_under (c ++ d) h)
+pub own_both : (c d : List ℕ) (h : List Entry)
+    → ((n : ℕ) → is_among n c ≡ true → is_among n d ≡ true → ⊥)
+    → IsPermutation (calls_under c h ++ calls_under d h) (calls_under (c ++ d) h)
 own_both c d [] no' = IsPermutation-refl []
 own_both c d (e ∷ es) no' =
-    subst (λ b. IsPermutation (own_if (is_among e.seat c) e (calls_under c es) ++ own_if (is_among e.seat d) e (calls_under d es)) (own_if b e (calls_under (c ++ d) es))) (sym (has_app e.seat c d))
+    subst (λ b. IsPermutation
+    (own_if (is_among e.seat c) e (calls_under c es)
+    ++ own_if (is_among e.seat d) e (calls_under d es)) (own_if b e (calls_under (c ++ d) es)))
+    (sym (has_app e.seat c d))
     (by (own_both c d es no') (is_among e.seat c) (is_among e.seat d) (no' e.seat))
   where
-    by : IsPermutation (calls_under c es ++ calls_under d es) (calls_under (c ++ d) es) → (a b : Bool) → (a ≡ true → b ≡ true → ⊥) → IsPermutation (own_if a e (calls_under c es) ++ own_if b e (calls_under d es)) (own_if (a || b) e (calls_under (c ++ d) es))
+    by : IsPermutation (calls_under c es ++ calls_under d es) (calls_under (c ++ d) es)
+        → (a b : Bool) → (a ≡ true → b ≡ true → ⊥)
+        → IsPermutation (own_if a e (calls_under c es) ++ own_if b e (calls_under d es))
+        (own_if (a || b) e (calls_under (c ++ d) es))
     by p true true nay = absurd (nay refl refl)
-    by p true false nay = IsPermutation-cons e (calls_under c es ++ calls_under d es) (calls_under (c ++ d) es) p
-    by p false true nay = IsPermutation-trans (calls_under c es ++ e ∷ calls_under d es) (e ∷ (calls_under c es ++ calls_under d es)) (e ∷ calls_under (c ++ d) es) (IsPermutation-middle (calls_under c es) e (calls_under d es)) (IsPermutation-cons e (calls_under c es ++ calls_under d es) (calls_under (c ++ d) es) p)
+    by p true false nay =
+        IsPermutation-cons e (calls_under c es ++ calls_under d es) (calls_under (c ++ d) es) p
+    by p false true nay = IsPermutation-trans (calls_under c es ++ e ∷ calls_under d es)
+        (e ∷ (calls_under c es ++ calls_under d es)) (e ∷ calls_under (c ++ d) es)
+        (IsPermutation-middle (calls_under c es) e (calls_under d es))
+        (IsPermutation-cons e (calls_under c es ++ calls_under d es) (calls_under (c ++ d) es) p)
     by p false false nay = p
 
--- the steps of one call, put together, where a whole seat owned all that it had seen and owns all that it has seen
+-- the steps of one call, put together, where a whole seat owned all that it had seen and owns all
+-- that it has seen
 pub makes_call : (bank then : TableId) (v w : Seated) (call : Call) → Grows v.0 w.0 call
-    → (v.0.share ≡ all_shares → calls_under v.0.carried v.0.seen ≡ v.0.seen) → (v.0.share ≡ all_shares → calls_under w.0.carried w.0.seen ≡ w.0.seen)
+    → (v.0.share ≡ all_shares → calls_under v.0.carried v.0.seen ≡ v.0.seen)
+    → (v.0.share ≡ all_shares → calls_under w.0.carried w.0.seen ≡ w.0.seen)
     → MakesCall (seat_of bank v) (seat_of then w) call
 makes_call bank then v w call g before after = record {
   number = g.0;
@@ -67,14 +105,19 @@ makes_call bank then v w call g before after = record {
 }
 
 -- the catalog that a call gives back has the genotypes of the history with this call
-pub known_after : OneList → (before after : Catalog) (m : Seated) (history : List Entry) → genomes_in after ≡ with_call (genomes_in before) (last_call after)
+pub known_after : OneList → (before after : Catalog) (m : Seated) (history : List Entry)
+    → genomes_in after ≡ with_call (genomes_in before) (last_call after)
     → genomes_in before ≡ genotypes_of history → m.0.seen ≡ history
     → genomes_in after ≡ genotypes_of (m.0.seen ++ entry (number_of m.0) (last_call after) ∷ [])
 known_after one_list before after m history served known seen =
-    served ∙ (ap (λ genomes. with_call genomes (last_call after)) (known ∙ ap genotypes_of (sym seen))
+    served ∙ (ap (λ genomes. with_call genomes (last_call after))
+    (known ∙ ap genotypes_of (sym seen))
     ∙ sym (genotypes_of_push one_list m.0.seen (entry (number_of m.0) (last_call after))))
 
 -- a history begins with what was seen before a call
-pub MakesCall-begins : (before after : SeatValue) (call : Call) → MakesCall before after call → IsPrefix before.seen after.seen
-MakesCall-begins before after call made =
-    (made.others ++ entry made.number call ∷ [], sym (append_assoc before.seen made.others (entry made.number call ∷ [])) ∙ sym made.seen)
+pub MakesCall-begins : (before after : SeatValue) (call : Call) → MakesCall before after call
+    → IsPrefix before.seen after.seen
+MakesCall-begins before after call made = (
+  made.others ++ entry made.number call ∷ [],
+  sym (append_assoc before.seen made.others (entry made.number call ∷ [])) ∙ sym made.seen,
+)

@@ -29,36 +29,50 @@ abbrev Letters : Type 0
 Letters = List Letter
 
 -- a test of what is seen of the members
-list_any-map : {A B : Type 0} (eq : A → Bool) (same : B → Bool) (see : A → B) → ((a : A) → eq a ≡ same (see a)) → (xs : List A) → list_any eq xs ≡ list_any same (map see xs)
+list_any-map : {A B : Type 0} (eq : A → Bool) (same : B → Bool) (see : A → B)
+    → ((a : A) → eq a ≡ same (see a)) → (xs : List A) → list_any eq xs ≡ list_any same (map see xs)
 list_any-map eq same see alike [] = refl
 list_any-map eq same see alike (x ∷ xs) =
-    ap (λ b. b || list_any eq xs) (alike x) ∙ ap (λ b. same (see x) || b) (list_any-map eq same see alike xs)
+    ap (λ b. b || list_any eq xs) (alike x)
+    ∙ ap (λ b. same (see x) || b) (list_any-map eq same see alike xs)
 
 -- what is seen of the keys of a set once one is inserted
-pub map-insert_key : {A B : Type 0} (eq : A → A → Bool) (same : B → B → Bool) (see : A → B) → ((a b : A) → eq a b ≡ same (see a) (see b)) → (keys : List A) (key : A) → map see (cond (list_any (eq key) keys) keys (keys ++ key ∷ [])) ≡ cond (list_any (same (see key)) (map see keys)) (map see keys) (map see keys ++ see key ∷ [])
+pub map-insert_key : {A B : Type 0} (eq : A → A → Bool) (same : B → B → Bool) (see : A → B)
+    → ((a b : A) → eq a b ≡ same (see a) (see b)) → (keys : List A) (key : A)
+    → map see (cond (list_any (eq key) keys) keys (keys ++ key ∷ []))
+    ≡ cond (list_any (same (see key)) (map see keys)) (map see keys) (map see keys ++ see key ∷ [])
 map-insert_key eq same see alike keys key =
-    ap (λ b. map see (cond b keys (keys ++ key ∷ []))) (list_any-map (eq key) (same (see key)) see (alike key) keys)
+    ap (λ b. map see (cond b keys (keys ++ key ∷ [])))
+    (list_any-map (eq key) (same (see key)) see (alike key) keys)
     ∙ by_cases (list_any (same (see key)) (map see keys))
   where
-    by_cases : (b : Bool) → map see (cond b keys (keys ++ key ∷ [])) ≡ cond b (map see keys) (map see keys ++ see key ∷ [])
+    by_cases : (b : Bool) → map see (cond b keys (keys ++ key ∷ []))
+        ≡ cond b (map see keys) (map see keys ++ see key ∷ [])
     by_cases true = refl
     by_cases false = map_push see keys key
 
 -- who is found passes the test
-find-passes : {A : Type 0} (p : A → Bool) (xs : List A) (x : A) → find p xs ≡ Some x → (p x ≡ true) × (list_any p xs ≡ true)
+find-passes : {A : Type 0} (p : A → Bool) (xs : List A) (x : A) → find p xs ≡ Some x
+    → (p x ≡ true) × (list_any p xs ≡ true)
 find-passes p [] x e = absurd (cc)
 find-passes p (y ∷ xs) x e = by (λ found. find-passes p xs x found) (p y) refl e
   where
-    by : (find p xs ≡ Some x → (p x ≡ true) × (list_any p xs ≡ true)) → (b : Bool) → p y ≡ b → cond b (Some y) (find p xs) ≡ Some x → (p x ≡ true) × ((p y || list_any p xs) ≡ true)
-    by rest true is e = (let same : y ≡ x = cc in subst (λ z. p z ≡ true) same is, ap (λ b. b || list_any p xs) is)
+    by : (find p xs ≡ Some x → (p x ≡ true) × (list_any p xs ≡ true)) → (b : Bool) → p y ≡ b
+        → cond b (Some y) (find p xs) ≡ Some x → (p x ≡ true) × ((p y || list_any p xs) ≡ true)
+    by rest true is e =
+        (let same : y ≡ x = cc in subst (λ z. p z ≡ true) same is, ap (λ b. b || list_any p xs) is)
     by rest false is e = let r = rest e in (r.0, ap (λ b. b || list_any p xs) is ∙ r.1)
 
 -- a key that was found is the one that was looked for, and is there already
-pub found_key : {A : Type 0} (eq : A → A → Bool) (see : A → Letters) → OneList → ((a b : A) → eq a b ≡ same_letters (see a) (see b)) → (keys : List A) (key known : A) → find (eq key) keys ≡ Some known → (see known ≡ see key) × (map see keys ≡ with_genome (map see keys) (see key))
+pub found_key : {A : Type 0} (eq : A → A → Bool) (see : A → Letters) → OneList
+    → ((a b : A) → eq a b ≡ same_letters (see a) (see b)) → (keys : List A) (key known : A)
+    → find (eq key) keys ≡ Some known → (see known ≡ see key)
+    × (map see keys ≡ with_genome (map see keys) (see key))
 found_key eq see one_list alike keys key known e =
     let found = find-passes (eq key) keys known e in (
       sym ((one_list (see key) (see known)).0 (sym (alike key known) ∙ found.0)),
-      ap (λ b. cond b (map see keys) (map see keys ++ see key ∷ [])) (sym found.1 ∙ list_any-map (eq key) (same_letters (see key)) see (alike key) keys),
+      ap (λ b. cond b (map see keys) (map see keys ++ see key ∷ []))
+          (sym found.1 ∙ list_any-map (eq key) (same_letters (see key)) see (alike key) keys),
     )
 
 module _ (one_list : OneList) where
@@ -68,50 +82,74 @@ module _ (one_list : OneList) where
 
   same-comm : (x y : Letters) → same_letters x y ≡ same_letters y x
   same-comm x y =
-      same_from_decides {P = x ≡ y} (same_letters x y) (same_letters y x) (one_list x y) (λ e. sym ((one_list y x).0 e), λ e. (one_list y x).1 (sym e))
+      same_from_decides {P = x ≡ y} (same_letters x y) (same_letters y x) (one_list x y)
+      (λ e. sym ((one_list y x).0 e), λ e. (one_list y x).1 (sym e))
 
   -- who differs from what was taken out is found among the others just as among all
-  list_any-step : (x y z : Letters) (zs : List Letters) → same_letters x y ≡ false → list_any (same_letters x) (others_of y zs) ≡ list_any (same_letters x) zs → (b : Bool) → same_letters y z ≡ b → list_any (same_letters x) (cond (not b) (z ∷ others_of y zs) (others_of y zs)) ≡ (same_letters x z || list_any (same_letters x) zs)
+  list_any-step : (x y z : Letters) (zs : List Letters) → same_letters x y ≡ false
+      → list_any (same_letters x) (others_of y zs) ≡ list_any (same_letters x) zs → (b : Bool)
+      → same_letters y z ≡ b → list_any (same_letters x)
+      (cond (not b) (z ∷ others_of y zs) (others_of y zs))
+      ≡ (same_letters x z || list_any (same_letters x) zs)
   list_any-step x y z zs differ others true is =
-      let other : same_letters x z ≡ false = ap (same_letters x) (sym ((one_list y z).0 is)) ∙ differ in
+      let other : same_letters x z ≡ false =
+      ap (same_letters x) (sym ((one_list y z).0 is)) ∙ differ in
       others ∙ ap (λ b. b || list_any (same_letters x) zs) (sym other)
   list_any-step x y z zs differ others false is = ap (λ b. same_letters x z || b) others
 
-  list_any-others_of : (x y : Letters) → same_letters x y ≡ false → (zs : List Letters) → list_any (same_letters x) (others_of y zs) ≡ list_any (same_letters x) zs
+  list_any-others_of : (x y : Letters) → same_letters x y ≡ false → (zs : List Letters)
+      → list_any (same_letters x) (others_of y zs) ≡ list_any (same_letters x) zs
   list_any-others_of x y differ [] = refl
   list_any-others_of x y differ (z ∷ zs) =
       ap (λ b. list_any (same_letters x) (cond (not b) (z ∷ others_of y zs) (others_of y zs))) refl
       ∙ list_any-step x y z zs differ (list_any-others_of x y differ zs) (same_letters y z) refl
 
-  -- one more behind the first and the others, by whether it is the first, and whether it is among the rest
-  with_one-cases : (y : Letters) (zs : List Letters) (x : Letters) (first among : Bool) → same_letters x y ≡ first → list_any (same_letters x) zs ≡ among → cond (first || list_any (same_letters x) (others_of y zs)) (y ∷ others_of y zs) (y ∷ others_of y zs ++ x ∷ []) ≡ y ∷ others_of y (cond among zs (zs ++ x ∷ []))
+  -- one more behind the first and the others, by whether it is the first, and whether it is among
+  -- the rest
+  with_one-cases : (y : Letters) (zs : List Letters) (x : Letters) (first among : Bool)
+      → same_letters x y ≡ first → list_any (same_letters x) zs ≡ among
+      → cond (first || list_any (same_letters x) (others_of y zs)) (y ∷ others_of y zs)
+      (y ∷ others_of y zs ++ x ∷ []) ≡ y ∷ others_of y (cond among zs (zs ++ x ∷ []))
   with_one-cases y zs x true true is found = refl
   with_one-cases y zs x true false is found =
-      let one : others_of y (x ∷ []) ≡ [] = ap (λ b. cond (not b) (x ∷ []) []) (same-comm y x ∙ is) in
-      ap (λ ys. y ∷ ys) (sym (filter-append (λ z. not (same_letters y z)) zs (x ∷ []) ∙ ap (λ ys. others_of y zs ++ ys) one ∙ append-nil (others_of y zs)))
+      let one : others_of y (x ∷ []) ≡ [] =
+      ap (λ b. cond (not b) (x ∷ []) []) (same-comm y x ∙ is) in
+      ap (λ ys. y ∷ ys) (sym (filter-append (λ z. not (same_letters y z)) zs (x ∷ [])
+      ∙ ap (λ ys. others_of y zs ++ ys) one ∙ append-nil (others_of y zs)))
   with_one-cases y zs x false true is found =
-      ap (λ b. cond b (y ∷ others_of y zs) (y ∷ others_of y zs ++ x ∷ [])) (list_any-others_of x y is zs ∙ found)
+      ap (λ b. cond b (y ∷ others_of y zs) (y ∷ others_of y zs ++ x ∷ []))
+      (list_any-others_of x y is zs ∙ found)
   with_one-cases y zs x false false is found =
-      let one : others_of y (x ∷ []) ≡ x ∷ [] = ap (λ b. cond (not b) (x ∷ []) []) (same-comm y x ∙ is) in
-      ap (λ b. cond b (y ∷ others_of y zs) (y ∷ others_of y zs ++ x ∷ [])) (list_any-others_of x y is zs ∙ found)
-      ∙ ap (λ ys. y ∷ ys) (sym (filter-append (λ z. not (same_letters y z)) zs (x ∷ []) ∙ ap (λ ys. others_of y zs ++ ys) one))
+      let one : others_of y (x ∷ []) ≡ x ∷ [] =
+      ap (λ b. cond (not b) (x ∷ []) []) (same-comm y x ∙ is) in
+      ap (λ b. cond b (y ∷ others_of y zs) (y ∷ others_of y zs ++ x ∷ []))
+      (list_any-others_of x y is zs ∙ found)
+      ∙ ap (λ ys. y ∷ ys) (sym
+      (filter-append (λ z. not (same_letters y z)) zs (x ∷ [])
+      ∙ ap (λ ys. others_of y zs ++ ys) one))
 
-  different_of_push : (xs : List Letters) (x : Letters) → different_of (xs ++ x ∷ []) ≡ with_genome (different_of xs) x
+  different_of_push : (xs : List Letters) (x : Letters)
+      → different_of (xs ++ x ∷ []) ≡ with_genome (different_of xs) x
   different_of_push [] x = refl
   different_of_push (y ∷ ys) x =
       ap (λ zs. y ∷ others_of y zs) (different_of_push ys x)
-      ∙ sym (with_one-cases y (different_of ys) x (same_letters x y) (list_any (same_letters x) (different_of ys)) refl refl)
+      ∙ sym (with_one-cases y (different_of ys) x (same_letters x y)
+      (list_any (same_letters x) (different_of ys)) refl refl)
 
   -- the genotypes of a history with one more call
-  pub genotypes_of_push : (history : List Entry) (last : Entry) → genotypes_of (history ++ last ∷ []) ≡ with_call (genotypes_of history) last.call
+  pub genotypes_of_push : (history : List Entry) (last : Entry)
+      → genotypes_of (history ++ last ∷ []) ≡ with_call (genotypes_of history) last.call
   genotypes_of_push history last =
-      ap different_of (filter_map-append (λ (one : Entry). genome_of one.call) history (last ∷ [])) ∙ by last.call
+      ap different_of (filter_map-append (λ (one : Entry). genome_of one.call) history (last ∷ []))
+      ∙ by last.call
     where
-      by : (call : Call) → different_of (genomes_of history ++ cons_option (genome_of call) []) ≡ with_call (genotypes_of history) call
+      by : (call : Call) → different_of (genomes_of history ++ cons_option (genome_of call) [])
+          ≡ with_call (genotypes_of history) call
       by (Interned genome) = different_of_push (genomes_of history) genome
       by Refused = ap different_of (append-nil (genomes_of history))
 
-  with_genome-begins : (genotypes : List Letters) (genome : Letters) → IsPrefix genotypes (with_genome genotypes genome)
+  with_genome-begins : (genotypes : List Letters) (genome : Letters)
+      → IsPrefix genotypes (with_genome genotypes genome)
   with_genome-begins genotypes genome = by (list_any (same_letters genome) genotypes)
     where
       by : (b : Bool) → IsPrefix genotypes (cond b genotypes (genotypes ++ genome ∷ []))
@@ -119,24 +157,38 @@ module _ (one_list : OneList) where
       by false = (genome ∷ [], refl)
 
   IsPrefix-trans : (xs ys zs : List Letters) → IsPrefix xs ys → IsPrefix ys zs → IsPrefix xs zs
-  IsPrefix-trans xs ys zs a b = (a.0 ++ b.0, sym (append_assoc xs a.0 b.0) ∙ (ap (λ l. l ++ b.0) a.1 ∙ b.1))
+  IsPrefix-trans xs ys zs a b =
+      (a.0 ++ b.0, sym (append_assoc xs a.0 b.0) ∙ (ap (λ l. l ++ b.0) a.1 ∙ b.1))
 
-  different_of-longer : (xs ys : List Letters) → IsPrefix (different_of xs) (different_of (xs ++ ys))
-  different_of-longer xs [] = ([], append-nil (different_of xs) ∙ ap different_of (sym (append-nil xs)))
+  different_of-longer : (xs ys : List Letters)
+      → IsPrefix (different_of xs) (different_of (xs ++ ys))
+  different_of-longer xs [] =
+      ([], append-nil (different_of xs) ∙ ap different_of (sym (append-nil xs)))
   different_of-longer xs (y ∷ ys) =
-      let first = subst (IsPrefix (different_of xs)) (sym (different_of_push xs y)) (with_genome-begins (different_of xs) y) in
+      let first = subst (IsPrefix (different_of xs)) (sym (different_of_push xs y))
+      (with_genome-begins (different_of xs) y) in
       let then = different_of-longer (xs ++ y ∷ []) ys in
-      IsPrefix-trans (different_of xs) (different_of (xs ++ y ∷ [])) (different_of (xs ++ y ∷ ys)) first
-      (subst (λ l. IsPrefix (different_of (xs ++ y ∷ [])) (different_of l)) (append_assoc xs (y ∷ []) ys) then)
+      IsPrefix-trans (different_of xs) (different_of (xs ++ y ∷ [])) (different_of (xs ++ y ∷ ys))
+      first
+      (subst (λ l. IsPrefix (different_of (xs ++ y ∷ [])) (different_of l))
+      (append_assoc xs (y ∷ []) ys) then)
 
   -- the different ones of a front of some genomes come first
-  pub different_of-begins : (first genomes : List Letters) → IsPrefix first genomes → IsPrefix (different_of first) (different_of genomes)
-  different_of-begins first genomes p = subst (λ l. IsPrefix (different_of first) (different_of l)) p.1 (different_of-longer first p.0)
+  pub different_of-begins : (first genomes : List Letters) → IsPrefix first genomes
+      → IsPrefix (different_of first) (different_of genomes)
+  different_of-begins first genomes p =
+      subst (λ l. IsPrefix (different_of first) (different_of l)) p.1
+      (different_of-longer first p.0)
 
   -- numbers stay as a history goes on
-  pub genotypes_of-begins : (early history : List Entry) → IsPrefix early history → IsPrefix (genotypes_of early) (genotypes_of history)
+  pub genotypes_of-begins : (early history : List Entry) → IsPrefix early history
+      → IsPrefix (genotypes_of early) (genotypes_of history)
   genotypes_of-begins early history p =
-      different_of-begins (genomes_of early) (genomes_of history) (genomes_of p.0, sym (filter_map-append (λ (one : Entry). genome_of one.call) early p.0) ∙ ap genomes_of p.1)
+      different_of-begins (genomes_of early) (genomes_of history) (
+        genomes_of p.0,
+        sym (filter_map-append (λ (one : Entry). genome_of one.call) early p.0)
+            ∙ ap genomes_of p.1,
+      )
 
   same_letters-equivalence : IsEquivalence same_letters
   same_letters-equivalence = record {
@@ -149,53 +201,72 @@ module _ (one_list : OneList) where
   abbrev AreApart : List Letters → Type 0
   AreApart xs = AllPairs (λ one other. one ≢ other) xs
 
-  AreApart-with_genome : (known : List Letters) (new : Letters) → AreApart known → AreApart (with_genome known new)
+  AreApart-with_genome : (known : List Letters) (new : Letters) → AreApart known
+      → AreApart (with_genome known new)
   AreApart-with_genome known new apart = by (list_any (same_letters new) known) refl
     where
-      by : (b : Bool) → list_any (same_letters new) known ≡ b → AreApart (cond b known (known ++ new ∷ []))
+      by : (b : Bool) → list_any (same_letters new) known ≡ b
+          → AreApart (cond b known (known ++ new ∷ []))
       by true e = apart
       by false e = all_pairs_push (λ one other. one ≢ other) known new apart (λ k d l is.
-          true≢false (sym (list_any-from_Contains same_letters-equivalence new known (subst (Contains known) is (Contains-get_or known k d l))) ∙ e))
+          true≢false (sym (list_any-from_Contains same_letters-equivalence new known
+          (subst (Contains known) is (Contains-get_or known k d l))) ∙ e))
 
-  AreApart-longer : (xs ys : List Letters) → AreApart (different_of xs) → AreApart (different_of (xs ++ ys))
+  AreApart-longer : (xs ys : List Letters) → AreApart (different_of xs)
+      → AreApart (different_of (xs ++ ys))
   AreApart-longer xs [] apart = subst (λ l. AreApart (different_of l)) (sym (append-nil xs)) apart
   AreApart-longer xs (y ∷ ys) apart =
       subst (λ l. AreApart (different_of l)) (append_assoc xs (y ∷ []) ys)
       (AreApart-longer (xs ++ y ∷ []) ys
-      (subst AreApart (sym (different_of_push xs y)) (AreApart-with_genome (different_of xs) y apart)))
+      (subst AreApart (sym (different_of_push xs y))
+      (AreApart-with_genome (different_of xs) y apart)))
 
   AreApart-different_of : (xs : List Letters) → AreApart (different_of xs)
   AreApart-different_of xs = AreApart-longer [] xs (λ i j d below within. absurd (omega arith))
 
-  list_any-different_of : (x : Letters) (ys : List Letters) → list_any (same_letters x) (different_of ys) ≡ list_any (same_letters x) ys
+  list_any-different_of : (x : Letters) (ys : List Letters)
+      → list_any (same_letters x) (different_of ys) ≡ list_any (same_letters x) ys
   list_any-different_of x [] = refl
   list_any-different_of x (y ∷ ys) = by (list_any-different_of x ys) (same_letters x y) refl
     where
-      by : list_any (same_letters x) (different_of ys) ≡ list_any (same_letters x) ys → (b : Bool) → same_letters x y ≡ b → (b || list_any (same_letters x) (others_of y (different_of ys))) ≡ (b || list_any (same_letters x) ys)
+      by : list_any (same_letters x) (different_of ys) ≡ list_any (same_letters x) ys → (b : Bool)
+          → same_letters x y ≡ b → (b || list_any (same_letters x) (others_of y (different_of ys)))
+          ≡ (b || list_any (same_letters x) ys)
       by rest true e = refl
       by rest false e = list_any-others_of x y e (different_of ys) ∙ rest
 
-  Contains-by : (xs ys : List Letters) (x : Letters) → list_any (same_letters x) xs ≡ list_any (same_letters x) ys → Contains xs x → Contains ys x
-  Contains-by xs ys x e h = Contains-from_any (λ a b same. (one_list a b).0 same) x ys (sym e ∙ list_any-from_Contains same_letters-equivalence x xs h)
+  Contains-by : (xs ys : List Letters) (x : Letters)
+      → list_any (same_letters x) xs ≡ list_any (same_letters x) ys → Contains xs x → Contains ys x
+  Contains-by xs ys x e h =
+      Contains-from_any (λ a b same. (one_list a b).0 same) x ys
+      (sym e ∙ list_any-from_Contains same_letters-equivalence x xs h)
 
   -- the different ones of some genomes are their members, each once
-  pub HasEachOnce-different_of : (genomes : List Letters) → HasEachOnce (different_of genomes) genomes
+  pub HasEachOnce-different_of : (genomes : List Letters)
+      → HasEachOnce (different_of genomes) genomes
   HasEachOnce-different_of genomes = record {
     members = λ genome. (
       Contains-by (different_of genomes) genomes genome (list_any-different_of genome genomes),
-      Contains-by genomes (different_of genomes) genome (sym (list_any-different_of genome genomes)),
+      Contains-by genomes (different_of genomes) genome
+          (sym (list_any-different_of genome genomes)),
     );
     once = AreApart-different_of genomes;
   }
 
-  Contains-with_genome : (known : List Letters) (new x : Letters) → Contains known x ⊎ (new ≡ x) → Contains (with_genome known new) x
+  Contains-with_genome : (known : List Letters) (new x : Letters) → Contains known x ⊎ (new ≡ x)
+      → Contains (with_genome known new) x
   Contains-with_genome known new x h = by (list_any (same_letters new) known) refl
     where
-      by : (b : Bool) → list_any (same_letters new) known ≡ b → Contains (cond b known (known ++ new ∷ [])) x
-      by true e = ⊎_elim (λ (k : Contains known x). k) (λ (is : new ≡ x). subst (Contains known) is (Contains-from_any (λ a b same. (one_list a b).0 same) new known e)) h
-      by false e = ⊎_elim (λ (k : Contains known x). Contains-append_left known (new ∷ []) x k) (λ (is : new ≡ x). subst (Contains (known ++ new ∷ [])) is (Contains-push known new)) h
+      by : (b : Bool) → list_any (same_letters new) known ≡ b
+          → Contains (cond b known (known ++ new ∷ [])) x
+      by true e = ⊎_elim (λ (k : Contains known x). k)
+          (λ (is : new ≡ x). subst (Contains known) is
+          (Contains-from_any (λ a b same. (one_list a b).0 same) new known e)) h
+      by false e = ⊎_elim (λ (k : Contains known x). Contains-append_left known (new ∷ []) x k)
+          (λ (is : new ≡ x). subst (Contains (known ++ new ∷ [])) is (Contains-push known new)) h
 
-  Contains-with_genome_cases : (known : List Letters) (new x : Letters) → Contains (with_genome known new) x → Contains known x ⊎ (new ≡ x)
+  Contains-with_genome_cases : (known : List Letters) (new x : Letters)
+      → Contains (with_genome known new) x → Contains known x ⊎ (new ≡ x)
   Contains-with_genome_cases known new x = by (list_any (same_letters new) known)
     where
       by : (b : Bool) → Contains (cond b known (known ++ new ∷ [])) x → Contains known x ⊎ (new ≡ x)
@@ -203,11 +274,14 @@ module _ (one_list : OneList) where
       by false h = Contains-push_cases known new x h
 
   -- one genome more, which may be known
-  pub HasEachOnce-with_genome : (genotypes genomes : List Letters) (new : Letters) → HasEachOnce genotypes genomes → HasEachOnce (with_genome genotypes new) (genomes ++ new ∷ [])
+  pub HasEachOnce-with_genome : (genotypes genomes : List Letters) (new : Letters)
+      → HasEachOnce genotypes genomes
+      → HasEachOnce (with_genome genotypes new) (genomes ++ new ∷ [])
   HasEachOnce-with_genome genotypes genomes new each = record {
     members = λ x. (
       (λ (h : Contains (with_genome genotypes new) x). ⊎_elim
-          (λ (k : Contains genotypes x). Contains-append_left genomes (new ∷ []) x ((each.members x).0 k))
+          (λ (k : Contains genotypes x). Contains-append_left genomes (new ∷ []) x
+          ((each.members x).0 k))
           (λ (is : new ≡ x). subst (Contains (genomes ++ new ∷ [])) is (Contains-push genomes new))
           (Contains-with_genome_cases genotypes new x h)),
       (λ (h : Contains (genomes ++ new ∷ []) x). Contains-with_genome genotypes new x (⊎_elim
@@ -218,55 +292,85 @@ module _ (one_list : OneList) where
     once = AreApart-with_genome genotypes new each.once;
   }
 
-  -- the genotypes of a history are the genomes that its calls interned, in whatever order these are told
-  pub HasEachOnce-genotypes_of : (history calls : List Entry) → IsPermutation history calls → HasEachOnce (genotypes_of history) (genomes_of calls)
+  -- the genotypes of a history are the genomes that its calls interned, in whatever order these are
+  -- told
+  pub HasEachOnce-genotypes_of : (history calls : List Entry) → IsPermutation history calls
+      → HasEachOnce (genotypes_of history) (genomes_of calls)
   HasEachOnce-genotypes_of history calls same =
       let each = HasEachOnce-different_of (genomes_of history) in
       let genome_in : Entry → Option Letters = λ one. genome_of one.call in record {
         members = λ x. (
-          (λ (h : Contains (genotypes_of history) x). Contains-filter_map_permuted genome_in history calls x same ((each.members x).0 h)),
-          (λ (h : Contains (genomes_of calls) x). (each.members x).1 (Contains-filter_map_permuted genome_in calls history x (IsPermutation-sym history calls same) h)),
+          (λ (h : Contains (genotypes_of history) x). Contains-filter_map_permuted genome_in history
+              calls x same ((each.members x).0 h)),
+          (λ (h : Contains (genomes_of calls) x).
+              (each.members x).1 (Contains-filter_map_permuted genome_in calls history x
+              (IsPermutation-sym history calls same) h)),
         );
         once = each.once;
       }
 
-  slice_get-begins : (xs ys : List Letters) (i : ℕ) (x : Letters) → IsPrefix xs ys → slice_get xs i ≡ Some x → slice_get ys i ≡ Some x
+  slice_get-begins : (xs ys : List Letters) (i : ℕ) (x : Letters) → IsPrefix xs ys
+      → slice_get xs i ≡ Some x → slice_get ys i ≡ Some x
   slice_get-begins xs ys i x p e = subst (λ l. slice_get l i ≡ Some x) p.1 (front xs i e)
     where
-      front : (xs : List Letters) (i : ℕ) → slice_get xs i ≡ Some x → slice_get (xs ++ p.0) i ≡ Some x
+      front : (xs : List Letters) (i : ℕ) → slice_get xs i ≡ Some x
+          → slice_get (xs ++ p.0) i ≡ Some x
       front [] i e = absurd (grind (arith, e))
       front (z ∷ zs) zero e = e
       front (z ∷ zs) (suc i) e = front zs i e
 
   -- how many numbers were given, from the number of the last genome
-  pub length-with_genome : (known : List Letters) (new : Letters) (number : ℕ) → slice_get (with_genome known new) number ≡ Some new → length (with_genome known new) ≡ cond (nat_lt number (length known)) (length known) (number + 1)
+  pub length-with_genome : (known : List Letters) (new : Letters) (number : ℕ)
+      → slice_get (with_genome known new) number ≡ Some new
+      → length (with_genome known new) ≡ cond (nat_lt number (length known)) (length known)
+      (number + 1)
   length-with_genome known new number = by (list_any (same_letters new) known) refl
     where
-      by : (b : Bool) → list_any (same_letters new) known ≡ b → slice_get (cond b known (known ++ new ∷ [])) number ≡ Some new → length (cond b known (known ++ new ∷ [])) ≡ cond (nat_lt number (length known)) (length known) (number + 1)
-      by true e at = ap (λ b. cond b (length known) (number + 1)) (sym (lt-ltb number (length known) (slice_get_within known number new at)))
+      by : (b : Bool) → list_any (same_letters new) known ≡ b
+          → slice_get (cond b known (known ++ new ∷ [])) number ≡ Some new
+          → length (cond b known (known ++ new ∷ []))
+          ≡ cond (nat_lt number (length known)) (length known) (number + 1)
+      by true e at = ap (λ b. cond b (length known) (number + 1))
+          (sym (lt-ltb number (length known) (slice_get_within known number new at)))
       by false e at = dite (dec_lt number (length known))
-          (λ lt. absurd (true≢false (sym (list_any-from_Contains same_letters-equivalence new known (subst (Contains known) (front at lt) (Contains-get_or known number new lt))) ∙ e)))
-          (λ ge. (let w = slice_get_within (known ++ new ∷ []) number new at in let l = length-append known (new ∷ []) in let same : length (known ++ new ∷ []) ≡ number + 1 = omega arith in same) ∙ ap (λ b. cond b (length known) (number + 1)) (sym (le-ltb number (length known) (omega arith))))
+          (λ lt. absurd (true≢false
+          (sym (list_any-from_Contains same_letters-equivalence new known
+          (subst (Contains known) (front at lt) (Contains-get_or known number new lt))) ∙ e)))
+          (λ ge. (let w = slice_get_within (known ++ new ∷ []) number new at in let l =
+          length-append known (new ∷ []) in let same : length (known ++ new ∷ []) ≡ number + 1 =
+          omega arith in same) ∙ ap (λ b. cond b (length known) (number + 1))
+          (sym (le-ltb number (length known) (omega arith))))
         where
-          slice_get-front : (xs : List Letters) (i : ℕ) → i < length xs → slice_get (xs ++ new ∷ []) i ≡ slice_get xs i
+          slice_get-front : (xs : List Letters) (i : ℕ) → i < length xs
+              → slice_get (xs ++ new ∷ []) i ≡ slice_get xs i
           slice_get-front [] i lt = absurd (let z : i < 0 = lt in omega arith)
           slice_get-front (x ∷ xs) zero lt = refl
           slice_get-front (x ∷ xs) (suc i) lt = slice_get-front xs i (omega arith)
 
-          front : slice_get (known ++ new ∷ []) number ≡ Some new → number < length known → get_or known number new ≡ new
-          front at lt = get_or_from_slice_get known number new new (sym (slice_get-front known number lt) ∙ at)
+          front : slice_get (known ++ new ∷ []) number ≡ Some new → number < length known
+              → get_or known number new ≡ new
+          front at lt = get_or_from_slice_get known number new new
+              (sym (slice_get-front known number lt) ∙ at)
 
-  one_place : (xs : List Letters) → AreApart xs → (i j : ℕ) (x : Letters) → slice_get xs i ≡ Some x → slice_get xs j ≡ Some x → i ≡ j
+  one_place : (xs : List Letters) → AreApart xs → (i j : ℕ) (x : Letters) → slice_get xs i ≡ Some x
+      → slice_get xs j ≡ Some x → i ≡ j
   one_place xs apart i j x a b = dite (dec_lt i j)
-      (λ lt. absurd (apart i j x lt (slice_get_within xs j x b) (get_or_from_slice_get xs i x x a ∙ sym (get_or_from_slice_get xs j x x b))))
+      (λ lt. absurd (apart i j x lt (slice_get_within xs j x b)
+      (get_or_from_slice_get xs i x x a ∙ sym (get_or_from_slice_get xs j x x b))))
       (λ ge. dite (dec_lt j i)
-      (λ lt. absurd (apart j i x lt (slice_get_within xs i x a) (get_or_from_slice_get xs j x x b ∙ sym (get_or_from_slice_get xs i x x a))))
+      (λ lt. absurd (apart j i x lt (slice_get_within xs i x a)
+      (get_or_from_slice_get xs j x x b ∙ sym (get_or_from_slice_get xs i x x a))))
       (λ le. omega arith))
 
   pub numbers_agree : NumbersAgree
   numbers_agree early late history number other genome twin p q a b =
-      let x = slice_get-begins (genotypes_of early) (genotypes_of history) number genome (genotypes_of-begins early history p) a in
-      let y = slice_get-begins (genotypes_of late) (genotypes_of history) other twin (genotypes_of-begins late history q) b in (
-        (λ (is : number ≡ other). let e : Some genome ≡ Some twin = sym x ∙ (ap (slice_get (genotypes_of history)) is ∙ y) in cc),
-        (λ (is : genome ≡ twin). one_place (genotypes_of history) (AreApart-different_of (genomes_of history)) number other genome x (y ∙ ap Some (sym is))),
+      let x = slice_get-begins (genotypes_of early) (genotypes_of history) number genome
+      (genotypes_of-begins early history p) a in
+      let y = slice_get-begins (genotypes_of late) (genotypes_of history) other twin
+      (genotypes_of-begins late history q) b in (
+        (λ (is : number ≡ other). let e : Some genome ≡ Some twin =
+            sym x ∙ (ap (slice_get (genotypes_of history)) is ∙ y) in cc),
+        (λ (is : genome ≡ twin). one_place (genotypes_of history)
+            (AreApart-different_of (genomes_of history)) number other genome x
+            (y ∙ ap Some (sym is))),
       )

@@ -38,43 +38,65 @@ pub nothing_there : {A : Type 0} (k : ℕ) (a : A) → get_elem? [] k ≡ some a
 nothing_there k a e = some-ne-none a (sym e)
 
 -- the calls stay the same where a number is added that none of the others is_among
-pub has_more : (id n : ℕ) (c : List ℕ) → (n ≡ id → is_among id c ≡ true) → is_among n (id ∷ c) ≡ is_among n c
+pub has_more : (id n : ℕ) (c : List ℕ) → (n ≡ id → is_among id c ≡ true)
+    → is_among n (id ∷ c) ≡ is_among n c
 has_more id n c known = dite (ℕ_discrete n id)
-    (λ is. subst (λ m. (eqb m id || is_among m c) ≡ is_among m c) (sym is) (ap (λ b. b || is_among id c) (eq-eqb id id refl) ∙ sym (known is)))
+    (λ is. subst (λ m. (eqb m id || is_among m c) ≡ is_among m c) (sym is)
+    (ap (λ b. b || is_among id c) (eq-eqb id id refl) ∙ sym (known is)))
     (λ ne. ap (λ b. b || is_among n c) (ne_eqb n id ne))
 
-pub own_more : (id : ℕ) (c : List ℕ) (h : List Entry) → ((i : ℕ) (e : Entry) → get_elem? h i ≡ some e → e.seat ≡ id → is_among id c ≡ true) → calls_under (id ∷ c) h ≡ calls_under c h
+pub own_more : (id : ℕ) (c : List ℕ) (h : List Entry)
+    → ((i : ℕ) (e : Entry) → get_elem? h i ≡ some e → e.seat ≡ id → is_among id c ≡ true)
+    → calls_under (id ∷ c) h ≡ calls_under c h
 own_more id c [] known = refl
 own_more id c (e ∷ es) known =
-    (λ i. own_if (has_more id e.seat c (known 0 e refl) i) e (own_more id c es (λ k x at is. known (suc k) x at is) i))
+    (λ i. own_if (has_more id e.seat c (known 0 e refl) i) e
+    (own_more id c es (λ k x at is. known (suc k) x at is) i))
 
 -- what stands in a beginning stands in the all_shares
-pub in_front : {A : Type 0} (h history : List A) (i : ℕ) (e : A) → IsPrefix h history → get_elem? h i ≡ some e → get_elem? history i ≡ some e
+pub in_front : {A : Type 0} (h history : List A) (i : ℕ) (e : A) → IsPrefix h history
+    → get_elem? h i ≡ some e → get_elem? history i ≡ some e
 in_front h history i e pre at = subst (λ l. get_elem? l i ≡ some e) pre.1 (at_longer h pre.0 i e at)
 
-pub has_back : (id n : ℕ) (c : List ℕ) → is_among n (id ∷ c) ≡ true → (is_among n c ≡ true) ⊎ (n ≡ id)
-has_back id n c h = dite (ℕ_discrete n id) (λ is. inr is) (λ ne. inl (sym (ap (λ b. b || is_among n c) (ne_eqb n id ne)) ∙ h))
+pub has_back : (id n : ℕ) (c : List ℕ) → is_among n (id ∷ c) ≡ true → (is_among n c ≡ true)
+    ⊎ (n ≡ id)
+has_back id n c h = dite (ℕ_discrete n id) (λ is. inr is)
+    (λ ne. inl (sym (ap (λ b. b || is_among n c) (ne_eqb n id ne)) ∙ h))
 
 pub has_front : (id n : ℕ) (c : List ℕ) → is_among n c ≡ true → is_among n (id ∷ c) ≡ true
-has_front id n c h = dite (ℕ_discrete n id) (λ is. ap (λ b. b || is_among n c) (eq-eqb n id is)) (λ ne. ap (λ b. b || is_among n c) (ne_eqb n id ne) ∙ h)
+has_front id n c h = dite (ℕ_discrete n id) (λ is. ap (λ b. b || is_among n c) (eq-eqb n id is))
+    (λ ne. ap (λ b. b || is_among n c) (ne_eqb n id ne) ∙ h)
 
-pub drop_none : (c : List ℕ) (h : List Entry) → ((i : ℕ) (e : Entry) → get_elem? h i ≡ some e → is_among e.seat c ≡ true → ⊥) → calls_under c h ≡ []
+pub drop_none : (c : List ℕ) (h : List Entry)
+    → ((i : ℕ) (e : Entry) → get_elem? h i ≡ some e → is_among e.seat c ≡ true → ⊥)
+    → calls_under c h ≡ []
 drop_none c [] nay = refl
-drop_none c (e ∷ es) nay = ap (λ b. own_if b e (calls_under c es)) (not_so (is_among e.seat c) (nay 0 e refl)) ∙ drop_none c es (λ i x at. nay (suc i) x at)
+drop_none c (e ∷ es) nay =
+    ap (λ b. own_if b e (calls_under c es)) (not_so (is_among e.seat c) (nay 0 e refl))
+    ∙ drop_none c es (λ i x at. nay (suc i) x at)
 
-pub own_front : (c : List ℕ) (h r : List Entry) → SawOwn c h (h ++ r) → calls_under c (h ++ r) ≡ calls_under c h
+pub own_front : (c : List ℕ) (h r : List Entry) → SawOwn c h (h ++ r)
+    → calls_under c (h ++ r) ≡ calls_under c h
 own_front c [] r saw = drop_none c r (λ i e at b. let z : i < 0 = saw i e at b in omega arith)
-own_front c (x ∷ h) r saw = ap (λ l. own_if (is_among x.seat c) x l) (own_front c h r (λ i e at b. let z : suc i < suc (length h) = saw (suc i) e at b in omega arith))
+own_front c (x ∷ h) r saw =
+    ap (λ l. own_if (is_among x.seat c) x l)
+    (own_front c h r (λ i e at b. let z : suc i < suc (length h) = saw (suc i) e at b in
+    omega arith))
 
-pub own_seen : (c : List ℕ) (h history : List Entry) → IsPrefix h history → SawOwn c h history → calls_under c history ≡ calls_under c h
-own_seen c h history pre saw = ap (calls_under c) (sym pre.1) ∙ own_front c h pre.0 (subst (SawOwn c h) (sym pre.1) saw)
+pub own_seen : (c : List ℕ) (h history : List Entry) → IsPrefix h history → SawOwn c h history
+    → calls_under c history ≡ calls_under c h
+own_seen c h history pre saw =
+    ap (calls_under c) (sym pre.1) ∙ own_front c h pre.0 (subst (SawOwn c h) (sym pre.1) saw)
 
 pub pre_trans : (xs ys zs : List Entry) → IsPrefix xs ys → IsPrefix ys zs → IsPrefix xs zs
 pre_trans xs ys zs a b = (a.0 ++ b.0, sym (append_assoc xs a.0 b.0) ∙ ap (λ l. l ++ b.0) a.1 ∙ b.1)
 
-pub own_all : (c : List ℕ) (h : List Entry) → ((i : ℕ) (e : Entry) → get_elem? h i ≡ some e → is_among e.seat c ≡ true) → calls_under c h ≡ h
+pub own_all : (c : List ℕ) (h : List Entry)
+    → ((i : ℕ) (e : Entry) → get_elem? h i ≡ some e → is_among e.seat c ≡ true)
+    → calls_under c h ≡ h
 own_all c [] all = refl
-own_all c (e ∷ es) all = λ i. own_if (all 0 e refl i) e (own_all c es (λ j x at. all (suc j) x at) i)
+own_all c (e ∷ es) all =
+    λ i. own_if (all 0 e refl i) e (own_all c es (λ j x at. all (suc j) x at) i)
 
 -- two beginnings of one history
 abbrev pub cut : List Entry → List Entry
@@ -85,7 +107,8 @@ abbrev pub head_or : Entry → List Entry → Entry
 head_or e [] = e
 head_or e (x ∷ xs) = x
 
-pub pre_two : (xs ys history : List Entry) → IsPrefix xs history → IsPrefix ys history → length xs ≤ length ys → IsPrefix xs ys
+pub pre_two : (xs ys history : List Entry) → IsPrefix xs history → IsPrefix ys history
+    → length xs ≤ length ys → IsPrefix xs ys
 pre_two [] ys history a b le = (ys, refl)
 pre_two (x ∷ xs) [] history a b le = absurd (omega arith)
 pre_two (x ∷ xs) (y ∷ ys) history a b le =
@@ -94,14 +117,20 @@ pre_two (x ∷ xs) (y ∷ ys) history a b le =
     (t.0, λ i. ap (head_or x) e i ∷ t.1 i)
 
 pub pre_length : (xs ys : List Entry) → IsPrefix xs ys → length xs ≤ length ys
-pre_length xs ys p = let a = length-append xs p.0 in let b = ap (λ (l : List Entry). length l) p.1 in omega arith
+pre_length xs ys p =
+    let a = length-append xs p.0 in let b = ap (λ (l : List Entry). length l) p.1 in omega arith
 
-pub pre_whole : (xs history : List Entry) → IsPrefix xs history → length history ≤ length xs → xs ≡ history
-pre_whole xs history p le = let q = pre_two history xs history ([], append-nil history) p le in empty_rest xs history p q
+pub pre_whole : (xs history : List Entry) → IsPrefix xs history → length history ≤ length xs
+    → xs ≡ history
+pre_whole xs history p le =
+    let q = pre_two history xs history ([], append-nil history) p le in empty_rest xs history p q
   where
-    empty_rest : (xs history : List Entry) → IsPrefix xs history → IsPrefix history xs → xs ≡ history
+    empty_rest : (xs history : List Entry) → IsPrefix xs history → IsPrefix history xs
+        → xs ≡ history
     empty_rest xs history (([]), e) q = sym (append-nil xs) ∙ e
-    empty_rest xs history ((x ∷ r), e) q = absurd (let a = pre_length history xs q in let b = ap (λ (l : List Entry). length l) e in let c = length-append xs (x ∷ r) in omega arith)
+    empty_rest xs history ((x ∷ r), e) q =
+        absurd (let a = pre_length history xs q in let b = ap (λ (l : List Entry). length l) e in
+        let c = length-append xs (x ∷ r) in omega arith)
 
 -- the longer of two beginnings
 pub pick : (P : List Entry → Type 0) (xs ys : List Entry) → P xs → P ys → P (longer xs ys)
@@ -111,23 +140,31 @@ pick P xs ys a b = by (nat_lt (length xs) (length ys))
     by true = b
     by false = a
 
-pub longer_least : (xs ys : List Entry) → (length xs ≤ length (longer xs ys)) × (length ys ≤ length (longer xs ys))
+pub longer_least : (xs ys : List Entry) → (length xs ≤ length (longer xs ys))
+    × (length ys ≤ length (longer xs ys))
 longer_least xs ys = dite (dec_lt (length xs) (length ys))
-    (λ lt. subst (λ b. (length xs ≤ length (if b then ys else xs)) × (length ys ≤ length (if b then ys else xs))) (sym (lt-ltb (length xs) (length ys) lt)) (omega arith, omega arith))
-    (λ ge. subst (λ b. (length xs ≤ length (if b then ys else xs)) × (length ys ≤ length (if b then ys else xs))) (sym (le-ltb (length xs) (length ys) (omega arith))) (omega arith, omega arith))
+    (λ lt. subst (λ b. (length xs ≤ length (if b then ys else xs))
+    × (length ys ≤ length (if b then ys else xs))) (sym (lt-ltb (length xs) (length ys) lt))
+    (omega arith, omega arith))
+    (λ ge. subst (λ b. (length xs ≤ length (if b then ys else xs))
+    × (length ys ≤ length (if b then ys else xs)))
+    (sym (le-ltb (length xs) (length ys) (omega arith))) (omega arith, omega arith))
 
 pub has_app : (n : ℕ) (c d : List ℕ) → is_among n (c ++ d) ≡ (is_among n c || is_among n d)
 has_app n [] d = refl
-has_app n (x ∷ c) d = ap (λ b. eqb n x || b) (has_app n c d) ∙ or_assoc (eqb n x) (is_among n c) (is_among n d)
+has_app n (x ∷ c) d =
+    ap (λ b. eqb n x || b) (has_app n c d) ∙ or_assoc (eqb n x) (is_among n c) (is_among n d)
   where
     or_assoc : (a b c : Bool) → (a || (b || c)) ≡ ((a || b) || c)
     or_assoc true b c = refl
     or_assoc false b c = refl
 
-pub either_has : (n : ℕ) (c d : List ℕ) → is_among n (c ++ d) ≡ true → (is_among n c ≡ true) ⊎ (is_among n d ≡ true)
+pub either_has : (n : ℕ) (c d : List ℕ) → is_among n (c ++ d) ≡ true → (is_among n c ≡ true)
+    ⊎ (is_among n d ≡ true)
 either_has n c d h = by (is_among n c) refl (sym (has_app n c d) ∙ h)
   where
-    by : (b : Bool) → is_among n c ≡ b → (b || is_among n d) ≡ true → (is_among n c ≡ true) ⊎ (is_among n d ≡ true)
+    by : (b : Bool) → is_among n c ≡ b → (b || is_among n d) ≡ true → (is_among n c ≡ true)
+        ⊎ (is_among n d ≡ true)
     by true is e = inl is
     by false is e = inr e
 

@@ -21,7 +21,8 @@ use Rattle.genotype_bank.proofs.ViewLemmas.{within, one_there, total_set, total_
 use Rattle.genotype_bank.proofs.HistoryLemmas.{none_some, off, nothing_there, in_front, own_seen, own_all, pre_two, pre_whole, pick, longer_least, either_has, has_left, has_right}
 use Rattle.genotype_bank.proofs.TableLemmas.{fits_idle, fits_new, others_spent, carried_all, whole_seen}
 
-pub begins : (d : Catalog) → genomes_in d ≡ [] → IsBankTable (opening (0 ∷ 0 ∷ []) (Some d ∷ []) first_view)
+pub begins : (d : Catalog) → genomes_in d ≡ []
+    → IsBankTable (opening (0 ∷ 0 ∷ []) (Some d ∷ []) first_view)
 begins d empty = record {
   history = [];
   drawn = 0;
@@ -56,10 +57,12 @@ begins d empty = record {
     one (suc j) v e = absurd (nothing_there j v e)
 
     none_carried : NumbersArePlaces (first_view ∷ [])
-    none_carried zero v n e c = absurd (off (subst (λ (u : View). Carries u n) (sym (some-injective first_view v e)) c))
+    none_carried zero v n e c =
+        absurd (off (subst (λ (u : View). Carries u n) (sym (some-injective first_view v e)) c))
     none_carried (suc j) v n e c = absurd (nothing_there j v e)
 
-pub splits : (id : ℕ) (v : View) → 2 ≤ v.share → v.ticket ≡ None → v.holding ≡ false → Splits IsBankTable id v (kept_half v) (new_half v)
+pub splits : (id : ℕ) (v : View) → 2 ≤ v.share → v.ticket ≡ None → v.holding ≡ false
+    → Splits IsBankTable id v (kept_half v) (new_half v)
 splits id v two free idle' s k at =
     let a = set s.views id (kept_half v) in
     let left = kept_half v in
@@ -70,23 +73,51 @@ splits id v two free idle' s k at =
       history = k.history;
       drawn = k.drawn;
       words = k.words;
-      out = (let x : total draws_of a + draws_of v ≡ total draws_of s.views + 0 = total_set draws_of s.views id v left at in let y : total draws_of (a ++ right ∷ []) ≡ total draws_of a + 0 = total_snoc draws_of a right in let z : draws_of v ≡ 0 = ap one_if free in let o = k.out in omega arith);
-      turn = λ t. only_snoc (λ (u : View). u.ticket ≡ Some t) a right (only_keep (λ (u : View). u.ticket ≡ Some t) s.views id v left at (k.turn t) (λ e. absurd (none_some t e))) (λ e. absurd (none_some t e));
+      out = (let x : total draws_of a + draws_of v ≡ total draws_of s.views + 0 =
+          total_set draws_of s.views id v left at in
+          let y : total draws_of (a ++ right ∷ []) ≡ total draws_of a + 0 =
+          total_snoc draws_of a right in let z : draws_of v ≡ 0 = ap one_if free in let o = k.out in
+          omega arith);
+      turn = λ t. only_snoc (λ (u : View). u.ticket ≡ Some t) a right
+          (only_keep (λ (u : View). u.ticket ≡ Some t) s.views id v left at (k.turn t)
+          (λ e. absurd (none_some t e))) (λ e. absurd (none_some t e));
       seats = record {
-        shares = (let x : total share_of a + v.share ≡ total share_of s.views + (v.share - 1) = total_set share_of s.views id v left at in let y : total share_of (a ++ right ∷ []) ≡ total share_of a + 1 = total_snoc share_of a right in let z = k.seats.shares in omega arith);
-        apart = λ n. only_snoc (λ (u : View). Carries u n) a right (only_keep (λ (u : View). Carries u n) s.views id v left at (k.seats.apart n) (λ c. c)) (λ c. absurd (off c));
-        placed = placed_snoc a right (λ n c. off c) (placed_keep s.views id v left at (λ _. omega arith) (λ n c. c) k.seats.placed);
-        called = λ n e there. some_snoc (λ (u : View). Carries u e.seat) a right (some_set (λ (u : View). Carries u e.seat) s.views id v left at (λ c. c) (k.seats.called n e there));
-        known = some_snoc (λ (u : View). u.seen ≡ k.history) a right (some_set (λ (u : View). u.seen ≡ k.history) s.views id v left at (λ c. c) k.seats.known);
+        shares = (let x : total share_of a + v.share ≡ total share_of s.views + (v.share - 1) =
+            total_set share_of s.views id v left at in
+            let y : total share_of (a ++ right ∷ []) ≡ total share_of a + 1 =
+            total_snoc share_of a right in let z = k.seats.shares in omega arith);
+        apart = λ n. only_snoc (λ (u : View). Carries u n) a right
+            (only_keep (λ (u : View). Carries u n) s.views id v left at (k.seats.apart n) (λ c. c))
+            (λ c. absurd (off c));
+        placed = placed_snoc a right (λ n c. off c)
+            (placed_keep s.views id v left at (λ _. omega arith) (λ n c. c) k.seats.placed);
+        called = λ n e there. some_snoc (λ (u : View). Carries u e.seat) a right
+            (some_set (λ (u : View). Carries u e.seat) s.views id v left at (λ c. c)
+            (k.seats.called n e there));
+        known = some_snoc (λ (u : View). u.seen ≡ k.history) a right
+            (some_set (λ (u : View). u.seen ≡ k.history) s.views id v left at
+            (λ c. c) k.seats.known);
       };
-      each = each_snoc (FitsHistory k.history k.drawn) a right (each_set (λ j u. FitsHistory k.history k.drawn u) s.views id left (λ j u _ e. k.each j u e) (fits_idle k.history k.drawn v (v.share - 1) f pos)) (fits_new k.history k.drawn v f);
-      state = ⊎_elim inl (λ o. inr (o.0, some_snoc (λ (u : View). u.holding ≡ true) a right (some_set (λ (u : View). u.holding ≡ true) s.views id v left at (λ h. absurd (off (sym idle' ∙ h))) o.1))) k.state;
+      each = each_snoc (FitsHistory k.history k.drawn) a right
+          (each_set (λ j u. FitsHistory k.history k.drawn u) s.views id left
+          (λ j u _ e. k.each j u e) (fits_idle k.history k.drawn v (v.share - 1) f pos))
+          (fits_new k.history k.drawn v f);
+      state = ⊎_elim inl (λ o.
+          inr (
+            o.0,
+            some_snoc (λ (u : View). u.holding ≡ true) a right
+                (some_set (λ (u : View). u.holding ≡ true) s.views id v left at
+                (λ h. absurd (off (sym idle' ∙ h))) o.1),
+          )) k.state;
     }
 
-pub joins : (id : ℕ) (v : View) (other : ℕ) (w : View) → 0 < v.share → v.ticket ≡ None → w.ticket ≡ None → v.holding ≡ false → w.holding ≡ false → Joins IsBankTable id v other w (joined_view v w) spent_view
+pub joins : (id : ℕ) (v : View) (other : ℕ) (w : View) → 0 < v.share → v.ticket ≡ None
+    → w.ticket ≡ None → v.holding ≡ false → w.holding ≡ false
+    → Joins IsBankTable id v other w (joined_view v w) spent_view
 joins id v other w pos free free' idle' idle'' s k at apart there =
     let b = joined_view v w in
-    let there' : get_elem? s.views other ≡ some w = sym (set_else s.views id other b apart) ∙ there in
+    let there' : get_elem? s.views other ≡ some w =
+    sym (set_else s.views id other b apart) ∙ there in
     let one = set s.views other spent_view in
     let ne : ¬ (id ≡ other) = λ e. apart (sym e) in
     let at1 : get_elem? one id ≡ some v = set_else s.views other id spent_view ne ∙ at in
@@ -96,46 +127,99 @@ joins id v other w pos free free' idle' idle'' s k at apart there =
     let pre = pick (λ l. IsPrefix l k.history) v.seen w.seen f.begins g.begins in
     let mine = set_here one id b (within one id v at1) in
     -- a fact that some view is_among: the joined seat is_among it, or another does
-    let move : (P : View → Type 0) → (P v → P b) → (P w → P b) → SomeSeat P s.views → SomeSeat P (set one id b) = λ P from_v from_w c.
+    let move : (P : View → Type 0) → (P v → P b) → (P w → P b) → SomeSeat P s.views
+    → SomeSeat P (set one id b) = λ P from_v from_w c.
     dite (ℕ_discrete c.0 other)
-    (λ is. (id, b, mine, from_w (subst P (one_there s.views other c.1 w (subst (λ n. get_elem? s.views n ≡ some c.1) is c.2) there') c.3)))
-    (λ no'. some_set P one id v b at1 from_v (c.0, c.1, set_else s.views other c.0 spent_view no' ∙ c.2, c.3)) in
-    let placed1 = placed_keep s.views other w spent_view there' (λ p. absurd (omega arith)) (λ n c. absurd (off c)) k.seats.placed in
-    subst (λ l. IsBankTable record { words = s.words; homes = s.homes; views = l }) (sym (set_swap s.views id other b spent_view apart)) record {
+    (λ is. (
+      id,
+      b,
+      mine,
+      from_w
+          (subst P (one_there s.views other c.1 w
+          (subst (λ n. get_elem? s.views n ≡ some c.1) is c.2)
+          there') c.3),
+    ))
+    (λ no'. some_set P one id v b at1 from_v
+    (c.0, c.1, set_else s.views other c.0 spent_view no' ∙ c.2, c.3)) in
+    let placed1 = placed_keep s.views other w spent_view there' (λ p. absurd (omega arith))
+    (λ n c. absurd (off c)) k.seats.placed in
+    subst (λ l. IsBankTable record { words = s.words; homes = s.homes; views = l })
+    (sym (set_swap s.views id other b spent_view apart)) record {
       history = k.history;
       drawn = k.drawn;
       words = k.words;
-      out = (let x : total draws_of one + draws_of w ≡ total draws_of s.views + 0 = total_set draws_of s.views other w spent_view there' in let y : total draws_of (set one id b) + draws_of v ≡ total draws_of one + 0 = total_set draws_of one id v b at1 in let p : draws_of v ≡ 0 = ap one_if free in let q : draws_of w ≡ 0 = ap one_if free' in let o = k.out in omega arith);
-      turn = λ t. only_keep (λ (u : View). u.ticket ≡ Some t) one id v b at1 (only_keep (λ (u : View). u.ticket ≡ Some t) s.views other w spent_view there' (k.turn t) (λ e. absurd (none_some t e))) (λ e. absurd (none_some t e));
+      out = (let x : total draws_of one + draws_of w ≡ total draws_of s.views + 0 =
+          total_set draws_of s.views other w spent_view there' in
+          let y : total draws_of (set one id b) + draws_of v ≡ total draws_of one + 0 =
+          total_set draws_of one id v b at1 in let p : draws_of v ≡ 0 = ap one_if free in
+          let q : draws_of w ≡ 0 = ap one_if free' in let o = k.out in omega arith);
+      turn = λ t. only_keep (λ (u : View). u.ticket ≡ Some t) one id v b at1
+          (only_keep (λ (u : View). u.ticket ≡ Some t) s.views other w spent_view there' (k.turn t)
+          (λ e. absurd (none_some t e))) (λ e. absurd (none_some t e));
       seats = record {
-        shares = (let x : total share_of one + w.share ≡ total share_of s.views + 0 = total_set share_of s.views other w spent_view there' in let y : total share_of (set one id b) + v.share ≡ total share_of one + (v.share + w.share) = total_set share_of one id v b at1 in let z = k.seats.shares in omega arith);
-        apart = λ n. only_set (λ (u : View). Carries u n) one id b (only_keep (λ (u : View). Carries u n) s.views other w spent_view there' (k.seats.apart n) (λ c. absurd (off c)))
+        shares = (let x : total share_of one + w.share ≡ total share_of s.views + 0 =
+            total_set share_of s.views other w spent_view there' in
+            let y : total share_of (set one id b) + v.share
+            ≡ total share_of one + (v.share + w.share) = total_set share_of one id v b at1 in
+            let z = k.seats.shares in omega arith);
+        apart = λ n. only_set (λ (u : View). Carries u n) one id b
+            (only_keep (λ (u : View). Carries u n) s.views other w spent_view there'
+            (k.seats.apart n) (λ c. absurd (off c)))
             (λ c j y no' e cy. ⊎_elim
-            (λ (a : (j ≡ other) × (spent_view ≡ y)). off (subst (λ (u : View). Carries u n) (sym a.1) cy))
-            (λ (a : (j ≢ other) × (get_elem? s.views j ≡ some y)). ⊎_elim (λ h. no' (k.seats.apart n j id y v a.1 at cy h)) (λ h. a.0 (k.seats.apart n j other y w a.1 there' cy h)) (either_has n v.carried w.carried c))
+            (λ (a : (j ≡ other) × (spent_view ≡ y)).
+            off (subst (λ (u : View). Carries u n) (sym a.1) cy))
+            (λ (a : (j ≢ other) × (get_elem? s.views j ≡ some y)).
+            ⊎_elim (λ h. no' (k.seats.apart n j id y v a.1 at cy h))
+            (λ h. a.0 (k.seats.apart n j other y w a.1 there' cy h))
+            (either_has n v.carried w.carried c))
             (at_set s.views other j spent_view y e));
         placed = placed_set one id v b at1 (λ _. pos)
             (λ n c. ⊎_elim (λ h. placed1 id v n at1 h)
             (λ h. let p = k.seats.placed other w n there' h in dite (ℕ_discrete n other)
-            (λ is. (spent_view, subst (λ i. get_elem? one i ≡ some spent_view) (sym is) (set_here s.views other spent_view (within s.views other w there')), λ z. absurd (omega arith)))
-            (λ no'. (p.0, set_else s.views other n spent_view no' ∙ p.1, λ z. absurd (no' (sym (p.2 z))))))
+            (λ is. (
+              spent_view,
+              subst (λ i. get_elem? one i ≡ some spent_view) (sym is)
+                  (set_here s.views other spent_view (within s.views other w there')),
+              λ z. absurd (omega arith),
+            ))
+            (λ no'. (
+              p.0,
+              set_else s.views other n spent_view no'
+                  ∙ p.1,
+              λ z. absurd (no' (sym (p.2 z))),
+            )))
             (either_has n v.carried w.carried c))
             placed1;
-        called = λ i e x. move (λ (u : View). Carries u e.seat) (λ h. has_left e.seat v.carried w.carried h) (λ h. has_right e.seat v.carried w.carried h) (k.seats.called i e x);
-        known = move (λ (u : View). u.seen ≡ k.history) (λ h. pre_whole b.seen k.history pre (let z = ap (λ (l : List Entry). length l) h in let y = least.0 in omega arith)) (λ h. pre_whole b.seen k.history pre (let z = ap (λ (l : List Entry). length l) h in let y = least.1 in omega arith)) k.seats.known;
+        called = λ i e x. move (λ (u : View). Carries u e.seat)
+            (λ h. has_left e.seat v.carried w.carried h)
+            (λ h. has_right e.seat v.carried w.carried h) (k.seats.called i e x);
+        known = move (λ (u : View). u.seen ≡ k.history)
+            (λ h. pre_whole b.seen k.history pre
+            (let z = ap (λ (l : List Entry). length l) h in let y = least.0 in omega arith))
+            (λ h. pre_whole b.seen k.history pre
+            (let z = ap (λ (l : List Entry). length l) h in let y = least.1 in omega arith))
+            k.seats.known;
       };
       each = each_set (λ j u. FitsHistory k.history k.drawn u) one id b
-          (λ j u _ e. each_set (λ j u. FitsHistory k.history k.drawn u) s.views other spent_view (λ j u _ e. k.each j u e) (spent_fits k.history k.drawn) j u e)
+          (λ j u _ e. each_set (λ j u. FitsHistory k.history k.drawn u) s.views other spent_view
+          (λ j u _ e. k.each j u e) (spent_fits k.history k.drawn) j u e)
           record {
             begins = pre;
             spent = λ e. absurd (let z : v.share + w.share ≡ 0 = e in omega arith);
             waits = λ t e. absurd (none_some t e);
             holds = λ h. absurd (off h);
-            saw = λ i e x c. ⊎_elim (λ a. let z = f.saw i e x a in let y = least.0 in omega arith) (λ a. let z = g.saw i e x a in let y = least.1 in omega arith) (either_has e.seat v.carried w.carried c);
+            saw = λ i e x c. ⊎_elim (λ a. let z = f.saw i e x a in let y = least.0 in omega arith)
+                (λ a. let z = g.saw i e x a in let y = least.1 in omega arith)
+                (either_has e.seat v.carried w.carried c);
             recalls = recall k.history v w pre f.begins g.begins f.saw g.saw;
             once = two v w (λ n a c. apart (sym (k.seats.apart n id other v w at there' a c)));
           };
-      state = ⊎_elim inl (λ o. inr (o.0, move (λ (u : View). u.holding ≡ true) (λ h. absurd (off (sym idle' ∙ h))) (λ h. absurd (off (sym idle'' ∙ h))) o.1)) k.state;
+      state = ⊎_elim inl (λ o.
+          inr (
+            o.0,
+            move (λ (u : View). u.holding ≡ true) (λ h. absurd (off (sym idle' ∙ h)))
+                (λ h. absurd (off (sym idle'' ∙ h))) o.1,
+          )) k.state;
     }
   where
     spent_fits : (history : List Entry) (drawn : ℕ) → FitsHistory history drawn spent_view
@@ -149,29 +233,60 @@ joins id v other w pos free free' idle' idle'' s k at apart there =
       once = λ j l x y n at' _ _ _. absurd (nothing_there j x at');
     }
 
-    recall : (history : List Entry) (v w : View) → IsPrefix (longer v.seen w.seen) history → IsPrefix v.seen history → IsPrefix w.seen history → SawOwn v.carried v.seen history → SawOwn w.carried w.seen history
-        → (n : ℕ) (m : Memo) → get_elem? (memo_of v ∷ memo_of w ∷ []) n ≡ some m → IsPrefix m.seen (longer v.seen w.seen) × SawOwn m.carried m.seen history × ((i : ℕ) → is_among i m.carried ≡ true → is_among i (v.carried ++ w.carried) ≡ true)
-    recall history v w p a b sv sw zero m e = subst (λ (x : Memo). IsPrefix x.seen (longer v.seen w.seen) × SawOwn x.carried x.seen history × ((i : ℕ) → is_among i x.carried ≡ true → is_among i (v.carried ++ w.carried) ≡ true)) (some-injective (memo_of v) m e)
-        (pre_two v.seen (longer v.seen w.seen) history a p (longer_least v.seen w.seen).0, sv, λ i h. has_left i v.carried w.carried h)
-    recall history v w p a b sv sw (suc zero) m e = subst (λ (x : Memo). IsPrefix x.seen (longer v.seen w.seen) × SawOwn x.carried x.seen history × ((i : ℕ) → is_among i x.carried ≡ true → is_among i (v.carried ++ w.carried) ≡ true)) (some-injective (memo_of w) m e)
-        (pre_two w.seen (longer v.seen w.seen) history b p (longer_least v.seen w.seen).1, sw, λ i h. has_right i v.carried w.carried h)
+    recall : (history : List Entry) (v w : View) → IsPrefix (longer v.seen w.seen) history
+        → IsPrefix v.seen history → IsPrefix w.seen history → SawOwn v.carried v.seen history
+        → SawOwn w.carried w.seen history
+        → (n : ℕ) (m : Memo) → get_elem? (memo_of v ∷ memo_of w ∷ []) n ≡ some m
+        → IsPrefix m.seen (longer v.seen w.seen) × SawOwn m.carried m.seen history
+        × ((i : ℕ) → is_among i m.carried ≡ true → is_among i (v.carried ++ w.carried) ≡ true)
+    recall history v w p a b sv sw zero m e =
+        subst (λ (x : Memo). IsPrefix x.seen (longer v.seen w.seen)
+        × SawOwn x.carried x.seen history
+        × ((i : ℕ) → is_among i x.carried ≡ true → is_among i (v.carried ++ w.carried) ≡ true))
+        (some-injective (memo_of v) m e) (
+          pre_two v.seen (longer v.seen w.seen) history a p (longer_least v.seen w.seen).0,
+          sv,
+          λ i h. has_left i v.carried w.carried h,
+        )
+    recall history v w p a b sv sw (suc zero) m e =
+        subst (λ (x : Memo). IsPrefix x.seen (longer v.seen w.seen)
+        × SawOwn x.carried x.seen history
+        × ((i : ℕ) → is_among i x.carried ≡ true → is_among i (v.carried ++ w.carried) ≡ true))
+        (some-injective (memo_of w) m e) (
+          pre_two w.seen (longer v.seen w.seen) history b p (longer_least v.seen w.seen).1,
+          sw,
+          λ i h. has_right i v.carried w.carried h,
+        )
     recall history v w p a b sv sw (suc (suc n)) m e = absurd (nothing_there n m e)
 
-    two : (v w : View) → ((n : ℕ) → Carries v n → Carries w n → ⊥) → (i j : ℕ) (x y : Memo) (n : ℕ) → get_elem? (memo_of v ∷ memo_of w ∷ []) i ≡ some x → get_elem? (memo_of v ∷ memo_of w ∷ []) j ≡ some y → is_among n x.carried ≡ true → is_among n y.carried ≡ true → i ≡ j
+    two : (v w : View) → ((n : ℕ) → Carries v n → Carries w n → ⊥) → (i j : ℕ) (x y : Memo) (n : ℕ)
+        → get_elem? (memo_of v ∷ memo_of w ∷ []) i ≡ some x
+        → get_elem? (memo_of v ∷ memo_of w ∷ []) j ≡ some y → is_among n x.carried ≡ true
+        → is_among n y.carried ≡ true → i ≡ j
     two v w no' zero zero x y n a b c d = refl
-    two v w no' zero (suc zero) x y n a b c d = absurd (no' n (subst (λ (m : Memo). is_among n m.carried ≡ true) (sym (some-injective (memo_of v) x a)) c) (subst (λ (m : Memo). is_among n m.carried ≡ true) (sym (some-injective (memo_of w) y b)) d))
-    two v w no' (suc zero) zero x y n a b c d = absurd (no' n (subst (λ (m : Memo). is_among n m.carried ≡ true) (sym (some-injective (memo_of v) y b)) d) (subst (λ (m : Memo). is_among n m.carried ≡ true) (sym (some-injective (memo_of w) x a)) c))
+    two v w no' zero (suc zero) x y n a b c d =
+        absurd (no' n (subst (λ (m : Memo). is_among n m.carried ≡ true)
+        (sym (some-injective (memo_of v) x a)) c)
+        (subst (λ (m : Memo). is_among n m.carried ≡ true) (sym (some-injective (memo_of w) y b))
+        d))
+    two v w no' (suc zero) zero x y n a b c d =
+        absurd (no' n (subst (λ (m : Memo). is_among n m.carried ≡ true)
+        (sym (some-injective (memo_of v) y b)) d)
+        (subst (λ (m : Memo). is_among n m.carried ≡ true) (sym (some-injective (memo_of w) x a))
+        c))
     two v w no' (suc zero) (suc zero) x y n a b c d = refl
     two v w no' (suc (suc i)) j x y n a b c d = absurd (nothing_there i x a)
     two v w no' zero (suc (suc j)) x y n a b c d = absurd (nothing_there j y b)
     two v w no' (suc zero) (suc (suc j)) x y n a b c d = absurd (nothing_there j y b)
 
-pub recalls : (slots id : ℕ) (m : Seated) → 0 < m.0.share → m.0.ticket ≡ None → m.0.holding ≡ false → Allows IsBankTable slots id m 0 (λ n. n) (HasRecalled (step slots 0 0 0 none) m)
+pub recalls : (slots id : ℕ) (m : Seated) → 0 < m.0.share → m.0.ticket ≡ None → m.0.holding ≡ false
+    → Allows IsBankTable slots id m 0 (λ n. n) (HasRecalled (step slots 0 0 0 none) m)
 recalls slots id m pos free idle' s k wide at small =
     let v = m.0 in
     let f = k.each id v at in
     let w = idle_view v.share v.carried v.seen in
-    let same : s.words ≡ set s.words 0 (get_or s.words 0 0) = k.words ∙ sym (ap (λ ws. set ws 0 (get_or ws 0 0)) k.words) in (
+    let same : s.words ≡ set s.words 0 (get_or s.words 0 0) =
+    k.words ∙ sym (ap (λ ws. set ws 0 (get_or ws 0 0)) k.words) in (
       w,
       keeps,
       tt,
@@ -179,35 +294,65 @@ recalls slots id m pos free idle' s k wide at small =
         history = k.history;
         drawn = k.drawn;
         words = sym same ∙ k.words;
-        out = (let x : total draws_of (set s.views id w) + draws_of v ≡ total draws_of s.views + 0 = total_set draws_of s.views id v w at in let z : draws_of v ≡ 0 = ap one_if free in let o = k.out in omega arith);
-        turn = λ n. only_keep (λ (u : View). u.ticket ≡ Some n) s.views id v w at (k.turn n) (λ is. absurd (none_some n is));
+        out = (let x : total draws_of (set s.views id w) + draws_of v ≡ total draws_of s.views + 0 =
+            total_set draws_of s.views id v w at in let z : draws_of v ≡ 0 = ap one_if free in
+            let o = k.out in omega arith);
+        turn = λ n. only_keep (λ (u : View). u.ticket ≡ Some n) s.views id v w at (k.turn n)
+            (λ is. absurd (none_some n is));
         seats = record {
-          shares = (let x : total share_of (set s.views id w) + v.share ≡ total share_of s.views + v.share = total_set share_of s.views id v w at in let z = k.seats.shares in omega arith);
-          apart = λ n. only_keep (λ (u : View). Carries u n) s.views id v w at (k.seats.apart n) (λ c. c);
+          shares = (let x : total share_of (set s.views id w) + v.share
+              ≡ total share_of s.views + v.share = total_set share_of s.views id v w at in let z =
+              k.seats.shares in omega arith);
+          apart = λ n. only_keep (λ (u : View). Carries u n) s.views id v w at (k.seats.apart n)
+              (λ c. c);
           placed = placed_keep s.views id v w at (λ p. p) (λ n c. c) k.seats.placed;
-          called = λ i x there. some_set (λ (u : View). Carries u x.seat) s.views id v w at (λ c. c) (k.seats.called i x there);
-          known = some_set (λ (u : View). u.seen ≡ k.history) s.views id v w at (λ c. c) k.seats.known;
+          called = λ i x there. some_set (λ (u : View). Carries u x.seat) s.views id v w at (λ c. c)
+              (k.seats.called i x there);
+          known =
+              some_set (λ (u : View). u.seen ≡ k.history) s.views id v w at (λ c. c) k.seats.known;
         };
-        each = each_set (λ j u. FitsHistory k.history k.drawn u) s.views id w (λ j u _ e. k.each j u e) (fits_idle k.history k.drawn v v.share f pos);
-        state = ⊎_elim inl (λ o. inr (o.0, some_set (λ (u : View). u.holding ≡ true) s.views id v w at (λ h. absurd (off (sym idle' ∙ h))) o.1)) k.state;
+        each = each_set (λ j u. FitsHistory k.history k.drawn u) s.views id w
+            (λ j u _ e. k.each j u e) (fits_idle k.history k.drawn v v.share f pos);
+        state = ⊎_elim inl (λ o.
+            inr (
+              o.0,
+              some_set (λ (u : View). u.holding ≡ true) s.views id v w at
+                  (λ h. absurd (off (sym idle' ∙ h))) o.1,
+            )) k.state;
       },
       (
         refl,
-        (λ n x there. let q = f.recalls n x there in (q.0, own_seen x.carried x.seen v.seen q.0 (λ i e at' b. q.1 i e (in_front v.seen k.history i e f.begins at') b))),
+        (λ n x there. let q = f.recalls n x there in (
+          q.0,
+          own_seen x.carried x.seen v.seen q.0
+              (λ i e at' b. q.1 i e (in_front v.seen k.history i e f.begins at') b),
+        )),
         f.once,
         (let a = total_ge share_of s.views id v at in let z = k.seats.shares in omega arith),
-        λ all. own_all v.carried v.seen (λ i e there. carried_all s k id v at all i e (in_front v.seen k.history i e f.begins there)),
+        λ all. own_all v.carried v.seen
+            (λ i e there. carried_all s k id v at all i e
+            (in_front v.seen k.history i e f.begins there)),
       ),
     )
 
-pub closes : (id : ℕ) (v : View) (ws : List ℕ) (xs : List (Option Catalog)) → v.share ≡ all_shares → v.holding ≡ false → Final (Seen IsBankTable id v) ws xs → (d : Catalog) × (get_elem? xs 0 ≡ some (Some d)) × (genomes_in d ≡ genotypes_of v.seen)
+pub closes : (id : ℕ) (v : View) (ws : List ℕ) (xs : List (Option Catalog)) → v.share ≡ all_shares
+    → v.holding ≡ false → Final (Seen IsBankTable id v) ws xs
+    → (d : Catalog) × (get_elem? xs 0 ≡ some (Some d)) × (genomes_in d ≡ genotypes_of v.seen)
 closes id v ws xs all idle' end =
     let s = end.0 in
     let k = end.1.0 in
     let at = end.1.1 in
     ⊎_elim
-    (λ h. (h.0, end.4 0 (Some h.0) (ap (λ hs. get_elem? hs 0) h.1), h.2 ∙ ap genotypes_of (sym (whole_seen s k id v at all))))
+    (λ h. (
+      h.0,
+      end.4 0 (Some h.0) (ap (λ hs. get_elem? hs 0) h.1),
+      h.2
+          ∙ ap genotypes_of (sym (whole_seen s k id v at all)),
+    ))
     (λ o. let c = o.1 in absurd (dite (ℕ_discrete c.0 id)
-    (λ is. off (sym idle' ∙ (ap (λ (u : View). u.holding) (sym (one_there s.views id c.1 v (subst (λ n. get_elem? s.views n ≡ some c.1) is c.2) at)) ∙ c.3)))
-    (λ ne. off (subst (λ (u : View). u.holding ≡ true) (others_spent s k id v at all c.0 c.1 c.2 ne) c.3))))
+    (λ is. off (sym idle' ∙ (ap (λ (u : View). u.holding)
+    (sym (one_there s.views id c.1 v (subst (λ n. get_elem? s.views n ≡ some c.1) is c.2) at))
+    ∙ c.3)))
+    (λ ne. off (subst (λ (u : View). u.holding ≡ true) (others_spent s k id v at all c.0 c.1 c.2 ne)
+    c.3))))
     k.state

@@ -16,7 +16,9 @@ use Rattle.genotype_bank.proofs.ViewLemmas.{one_there, total_set, total_le, tota
 use Rattle.genotype_bank.proofs.HistoryLemmas.{none_some, off, nothing_there, pre_whole}
 
 -- a seat that is between its calls
-pub fits_idle : (history : List Entry) (drawn : ℕ) (v : View) (share : ℕ) → FitsHistory history drawn v → 0 < share → FitsHistory history drawn (idle_view share v.carried v.seen)
+pub fits_idle : (history : List Entry) (drawn : ℕ) (v : View) (share : ℕ)
+    → FitsHistory history drawn v → 0 < share
+    → FitsHistory history drawn (idle_view share v.carried v.seen)
 fits_idle history drawn v share f pos = record {
   begins = f.begins;
   spent = λ s. absurd (let h : share ≡ 0 = s in omega arith);
@@ -27,7 +29,8 @@ fits_idle history drawn v share f pos = record {
   once = λ k l m o n at _ _ _. absurd (nothing_there k m at);
 }
 
-pub fits_new : (history : List Entry) (drawn : ℕ) (v : View) → FitsHistory history drawn v → FitsHistory history drawn (idle_view 1 [] v.seen)
+pub fits_new : (history : List Entry) (drawn : ℕ) (v : View) → FitsHistory history drawn v
+    → FitsHistory history drawn (idle_view 1 [] v.seen)
 fits_new history drawn v f = record {
   begins = f.begins;
   spent = λ s. absurd (let h : 1 ≡ 0 = s in omega arith);
@@ -39,21 +42,28 @@ fits_new history drawn v f = record {
 }
 
 -- an entry with the seat's calls_under number is one of those that it Carries
-pub own_number : (s : State (Option Catalog) View) (k : IsBankTable s) (id : ℕ) (v : View) → get_elem? s.views id ≡ some v → 0 < v.share → (i : ℕ) (e : Entry) → get_elem? k.history i ≡ some e → e.seat ≡ id → Carries v id
+pub own_number : (s : State (Option Catalog) View) (k : IsBankTable s) (id : ℕ) (v : View)
+    → get_elem? s.views id ≡ some v → 0 < v.share → (i : ℕ) (e : Entry)
+    → get_elem? k.history i ≡ some e → e.seat ≡ id → Carries v id
 own_number s k id v at pos i e there is =
     let c = k.seats.called i e there in
     let p = k.seats.placed c.0 c.1 e.seat c.2 c.3 in
-    let u_is : v ≡ p.0 = one_there s.views id v p.0 at (subst (λ n. get_elem? s.views n ≡ some p.0) is p.1) in
+    let u_is : v ≡ p.0 =
+    one_there s.views id v p.0 at (subst (λ n. get_elem? s.views n ≡ some p.0) is p.1) in
     let j_is : c.0 ≡ id = p.2 (subst (λ (u : View). 0 < u.share) u_is pos) ∙ is in
-    let w_is : c.1 ≡ v = one_there s.views id c.1 v (subst (λ n. get_elem? s.views n ≡ some c.1) j_is c.2) at in
+    let w_is : c.1 ≡ v =
+    one_there s.views id c.1 v (subst (λ n. get_elem? s.views n ≡ some c.1) j_is c.2) at in
     subst (λ (y : View × ℕ). Carries y.0 y.1) (λ i. (w_is i, is i)) c.3
 
-pub draws_below : (s : State (Option Catalog) View) (k : IsBankTable s) → total draws_of s.views ≤ 4294967296
-draws_below s k = let h = total_le draws_of share_of s.views one in let z : total share_of s.views ≡ 4294967296 = k.seats.shares in omega arith
+pub draws_below : (s : State (Option Catalog) View) (k : IsBankTable s)
+    → total draws_of s.views ≤ 4294967296
+draws_below s k = let h = total_le draws_of share_of s.views one in
+    let z : total share_of s.views ≡ 4294967296 = k.seats.shares in omega arith
   where
     one : (j : ℕ) (v : View) → get_elem? s.views j ≡ some v → draws_of v ≤ share_of v
     one j v at = dite (ℕ_discrete v.share 0)
-        (λ e. let f = k.each j v at in let z : draws_of v ≡ 0 = ap draws_of (f.spent e) in omega arith)
+        (λ e. let f = k.each j v at in let z : draws_of v ≡ 0 = ap draws_of (f.spent e) in
+        omega arith)
         (λ ne. let b = at_most v.ticket in omega arith)
       where
         at_most : (o : Option ℕ) → one_if o ≤ 1
@@ -61,24 +71,42 @@ draws_below s k = let h = total_le draws_of share_of s.views one in let z : tota
         at_most (Some t) = omega arith
 
 -- a seat with a ticket is not spent
-pub drawn_lives : (history : List Entry) (drawn : ℕ) (v : View) (t : ℕ) → FitsHistory history drawn v → v.ticket ≡ Some t → 0 < v.share
-drawn_lives history drawn v t f is = dite (ℕ_discrete v.share 0) (λ e. absurd (none_some t (sym (ap (λ (u : View). u.ticket) (f.spent e)) ∙ is))) (λ ne. omega arith)
+pub drawn_lives : (history : List Entry) (drawn : ℕ) (v : View) (t : ℕ)
+    → FitsHistory history drawn v → v.ticket ≡ Some t → 0 < v.share
+drawn_lives history drawn v t f is =
+    dite (ℕ_discrete v.share 0)
+    (λ e. absurd (none_some t (sym (ap (λ (u : View). u.ticket) (f.spent e)) ∙ is)))
+    (λ ne. omega arith)
 
 -- Where a seat is all_shares, the others are spent
-pub others_spent : (s : State (Option Catalog) View) (k : IsBankTable s) (id : ℕ) (w : View) → get_elem? s.views id ≡ some w → w.share ≡ all_shares → (j : ℕ) (u : View) → get_elem? s.views j ≡ some u → j ≢ id → u ≡ spent_view
+pub others_spent : (s : State (Option Catalog) View) (k : IsBankTable s) (id : ℕ) (w : View)
+    → get_elem? s.views id ≡ some w → w.share ≡ all_shares → (j : ℕ) (u : View)
+    → get_elem? s.views j ≡ some u → j ≢ id → u ≡ spent_view
 others_spent s k id w at all j u there ne =
-    let a : total share_of (set s.views id spent_view) + w.share ≡ total share_of s.views + 0 = total_set share_of s.views id w spent_view at in
-    let b : u.share ≤ total share_of (set s.views id spent_view) = total_ge share_of (set s.views id spent_view) j u (set_else s.views id j spent_view ne ∙ there) in
+    let a : total share_of (set s.views id spent_view) + w.share ≡ total share_of s.views + 0 =
+    total_set share_of s.views id w spent_view at in
+    let b : u.share ≤ total share_of (set s.views id spent_view) =
+    total_ge share_of (set s.views id spent_view) j u
+    (set_else s.views id j spent_view ne ∙ there) in
     let c = k.seats.shares in
     (k.each j u there).spent (omega arith)
 
-pub carried_all : (s : State (Option Catalog) View) (k : IsBankTable s) (id : ℕ) (w : View) → get_elem? s.views id ≡ some w → w.share ≡ all_shares → (i : ℕ) (e : Entry) → get_elem? k.history i ≡ some e → Carries w e.seat
+pub carried_all : (s : State (Option Catalog) View) (k : IsBankTable s) (id : ℕ) (w : View)
+    → get_elem? s.views id ≡ some w → w.share ≡ all_shares → (i : ℕ) (e : Entry)
+    → get_elem? k.history i ≡ some e → Carries w e.seat
 carried_all s k id w at all i e there = let c = k.seats.called i e there in dite (ℕ_discrete c.0 id)
-    (λ is. subst (λ (u : View). Carries u e.seat) (one_there s.views id c.1 w (subst (λ n. get_elem? s.views n ≡ some c.1) is c.2) at) c.3)
-    (λ ne. absurd (off (subst (λ (u : View). Carries u e.seat) (others_spent s k id w at all c.0 c.1 c.2 ne) c.3)))
+    (λ is. subst (λ (u : View). Carries u e.seat)
+    (one_there s.views id c.1 w (subst (λ n. get_elem? s.views n ≡ some c.1) is c.2) at) c.3)
+    (λ ne. absurd (off (subst (λ (u : View). Carries u e.seat)
+    (others_spent s k id w at all c.0 c.1 c.2 ne) c.3)))
 
-pub whole_seen : (s : State (Option Catalog) View) (k : IsBankTable s) (id : ℕ) (v : View) → get_elem? s.views id ≡ some v → v.share ≡ all_shares → v.seen ≡ k.history
+pub whole_seen : (s : State (Option Catalog) View) (k : IsBankTable s) (id : ℕ) (v : View)
+    → get_elem? s.views id ≡ some v → v.share ≡ all_shares → v.seen ≡ k.history
 whole_seen s k id v at all = let c = k.seats.known in dite (ℕ_discrete c.0 id)
-    (λ is. subst (λ (u : View). u.seen ≡ k.history) (one_there s.views id c.1 v (subst (λ n. get_elem? s.views n ≡ some c.1) is c.2) at) c.3)
-    (λ ne. let z : [] ≡ k.history = subst (λ (u : View). u.seen ≡ k.history) (others_spent s k id v at all c.0 c.1 c.2 ne) c.3 in
-    pre_whole v.seen k.history (k.each id v at).begins (let y = ap (λ (l : List Entry). length l) z in omega arith))
+    (λ is. subst (λ (u : View). u.seen ≡ k.history)
+    (one_there s.views id c.1 v (subst (λ n. get_elem? s.views n ≡ some c.1) is c.2) at) c.3)
+    (λ ne. let z : [] ≡ k.history =
+    subst (λ (u : View). u.seen ≡ k.history) (others_spent s k id v at all c.0 c.1 c.2 ne) c.3
+    in
+    pre_whole v.seen k.history (k.each id v at).begins
+    (let y = ap (λ (l : List Entry). length l) z in omega arith))

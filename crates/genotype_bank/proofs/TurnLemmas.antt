@@ -20,18 +20,24 @@ use Rattle.genotype_bank.proofs.ViewLemmas.{within, one_there, total_set, each_s
 use Rattle.genotype_bank.proofs.HistoryLemmas.{none_some, value, off, nothing_there, own_more, in_front, has_back, has_front, own_seen, pre_trans, own_all}
 use Rattle.genotype_bank.proofs.TableLemmas.{own_number, draws_below, drawn_lives, carried_all}
 
-pub draws : (slots id : ℕ) (m : Seated) → 0 < m.0.share → m.0.ticket ≡ None → m.0.holding ≡ false → Allows IsBankTable slots id m 0 (λ n. (n + 1) % 2 ^ 64) (HasDrawn (step slots 0 1 0 none) m)
+pub draws : (slots id : ℕ) (m : Seated) → 0 < m.0.share → m.0.ticket ≡ None → m.0.holding ≡ false
+    → Allows IsBankTable slots id m 0 (λ n. (n + 1) % 2 ^ 64) (HasDrawn (step slots 0 1 0 none) m)
 draws slots id m pos free idle' s k wide at small =
     let v = m.0 in
     let t = k.drawn in
     let w = with_ticket v id t in
     let f = k.each id v at in
     let known = own_number s k id v at pos in
-    let front = own_more id v.carried v.seen (λ i e there is. known i e (in_front v.seen k.history i e f.begins there) is) in
+    let front = own_more id v.carried v.seen
+    (λ i e there is. known i e (in_front v.seen k.history i e f.begins there) is) in
     let not_free : v.share ≡ 0 → ⊥ = λ e. omega arith in
-    let apart' : (n : ℕ) → Carries w n → (j : ℕ) (y : View) → j ≢ id → get_elem? s.views j ≡ some y → Carries y n → ⊥ = λ n c j y ne e cy. ⊎_elim
+    let apart' : (n : ℕ) → Carries w n → (j : ℕ) (y : View) → j ≢ id → get_elem? s.views j ≡ some y
+    → Carries y n → ⊥ = λ n c j y ne e cy. ⊎_elim
     (λ (a : Carries v n). ne (k.seats.apart n j id y v e at cy a))
-    (λ (a : n ≡ id). let p = k.seats.placed j y n e cy in ne (p.2 (subst (λ (u : View). 0 < u.share) (one_there s.views id v p.0 at (subst (λ l. get_elem? s.views l ≡ some p.0) a p.1)) pos) ∙ a))
+    (λ (a : n ≡ id). let p = k.seats.placed j y n e cy in
+    ne (p.2 (subst (λ (u : View). 0 < u.share)
+    (one_there s.views id v p.0 at (subst (λ l. get_elem? s.views l ≡ some p.0) a p.1)) pos)
+    ∙ a))
     (has_back id n v.carried c) in (
       w,
       keeps,
@@ -39,43 +45,82 @@ draws slots id m pos free idle' s k wide at small =
       record {
         history = k.history;
         drawn = suc t;
-        words = ap (λ ws. set ws 0 ((get_or ws 0 0 + 1) % 2 ^ 64)) k.words ∙ ap (λ n. n ∷ (length k.history % 2 ^ 64) ∷ []) (mod-add-mod t (2 ^ 64) 1 ∙ ap (λ n. n % 2 ^ 64) (let h : t + 1 ≡ suc t = omega arith in h));
-        out = (let x : total draws_of (set s.views id w) + draws_of v ≡ total draws_of s.views + 1 = total_set draws_of s.views id v w at in let z : draws_of v ≡ 0 = ap one_if free in let o = k.out in omega arith);
-        turn = λ n. only_set (λ (u : View). u.ticket ≡ Some n) s.views id w (k.turn n) (λ is j y _ e other. let same : t ≡ n = ap value is in let b : n < t = ((k.each j y e).waits n other).1 in omega arith);
+        words = ap (λ ws. set ws 0 ((get_or ws 0 0 + 1) % 2 ^ 64)) k.words
+            ∙ ap (λ n. n ∷ (length k.history % 2 ^ 64) ∷ [])
+            (mod-add-mod t (2 ^ 64) 1
+            ∙ ap (λ n. n % 2 ^ 64) (let h : t + 1 ≡ suc t = omega arith in h));
+        out = (let x : total draws_of (set s.views id w) + draws_of v ≡ total draws_of s.views + 1 =
+            total_set draws_of s.views id v w at in let z : draws_of v ≡ 0 = ap one_if free in
+            let o = k.out in omega arith);
+        turn = λ n. only_set (λ (u : View). u.ticket ≡ Some n) s.views id w (k.turn n)
+            (λ is j y _ e other. let same : t ≡ n = ap value is in let b : n < t =
+            ((k.each j y e).waits n other).1 in omega arith);
         seats = record {
-          shares = (let x : total share_of (set s.views id w) + v.share ≡ total share_of s.views + v.share = total_set share_of s.views id v w at in let z = k.seats.shares in omega arith);
-          apart = λ n. only_set (λ (u : View). Carries u n) s.views id w (k.seats.apart n) (apart' n);
-          placed = placed_set s.views id v w at (λ p. p) (λ n c. ⊎_elim (λ (a : Carries v n). k.seats.placed id v n at a) (λ (a : n ≡ id). (v, ap (λ i. get_elem? s.views i) a ∙ at, λ _. sym a)) (has_back id n v.carried c)) k.seats.placed;
-          called = λ i e there. some_set (λ (u : View). Carries u e.seat) s.views id v w at (λ c. has_front id e.seat v.carried c) (k.seats.called i e there);
-          known = some_set (λ (u : View). u.seen ≡ k.history) s.views id v w at (λ e. e) k.seats.known;
+          shares = (let x : total share_of (set s.views id w) + v.share
+              ≡ total share_of s.views + v.share = total_set share_of s.views id v w at in let z =
+              k.seats.shares in omega arith);
+          apart =
+              λ n. only_set (λ (u : View). Carries u n) s.views id w (k.seats.apart n) (apart' n);
+          placed = placed_set s.views id v w at (λ p. p)
+              (λ n c. ⊎_elim (λ (a : Carries v n). k.seats.placed id v n at a)
+              (λ (a : n ≡ id). (v, ap (λ i. get_elem? s.views i) a ∙ at, λ _. sym a))
+              (has_back id n v.carried c)) k.seats.placed;
+          called = λ i e there. some_set (λ (u : View). Carries u e.seat) s.views id v w at
+              (λ c. has_front id e.seat v.carried c) (k.seats.called i e there);
+          known =
+              some_set (λ (u : View). u.seen ≡ k.history) s.views id v w at (λ e. e) k.seats.known;
         };
         each = each_set (λ j u. FitsHistory k.history (suc t) u) s.views id w
-            (λ j u _ e. let g = k.each j u e in record { begins = g.begins; spent = g.spent; waits = λ n is. let b = g.waits n is in (b.0, let c : n < t = b.1 in omega arith); holds = g.holds; saw = g.saw; recalls = g.recalls; once = g.once })
+            (λ j u _ e. let g = k.each j u e in
+            record {
+              begins = g.begins;
+              spent = g.spent;
+              waits = λ n is. let b = g.waits n is in
+                  (b.0, let c : n < t = b.1 in omega arith);
+              holds = g.holds;
+              saw = g.saw;
+              recalls = g.recalls;
+              once = g.once;
+            })
             record {
               begins = f.begins;
               spent = λ e. absurd (not_free e);
-              waits = λ n is. let same : t ≡ n = ap value is in let o = k.out in (omega arith, omega arith);
+              waits = λ n is. let same : t ≡ n = ap value is in let o = k.out in
+                  (omega arith, omega arith);
               holds = λ h. absurd (off h);
-              saw = λ i e there c. ⊎_elim (λ (a : Carries v e.seat). f.saw i e there a) (λ (a : e.seat ≡ id). f.saw i e there (subst (λ n. Carries v n) (sym a) (known i e there a))) (has_back id e.seat v.carried c);
-              recalls = λ j x there. let r = f.recalls j x there in (r.0, r.1, λ n c. has_front id n v.carried (r.2 n c));
+              saw = λ i e there c. ⊎_elim (λ (a : Carries v e.seat). f.saw i e there a)
+                  (λ (a : e.seat ≡ id). f.saw i e there
+                  (subst (λ n. Carries v n) (sym a) (known i e there a)))
+                  (has_back id e.seat v.carried c);
+              recalls = λ j x there. let r = f.recalls j x there in
+                  (r.0, r.1, λ n c. has_front id n v.carried (r.2 n c));
               once = f.once;
             };
-        state = ⊎_elim inl (λ o. inr (o.0, some_set (λ (u : View). u.holding ≡ true) s.views id v w at (λ h. absurd (off (sym idle' ∙ h))) o.1)) k.state;
+        state = ⊎_elim inl (λ o.
+            inr (
+              o.0,
+              some_set (λ (u : View). u.holding ≡ true) s.views id v w at
+                  (λ h. absurd (off (sym idle' ∙ h))) o.1,
+            )) k.state;
       },
       (id, t, ap (λ ws. get_or ws 0 0) k.words, refl, front),
     )
 
-pub serves : (slots id : ℕ) (m : Seated) (t : ℕ) → m.0.ticket ≡ Some t → m.0.holding ≡ false → m.1 ≡ [] → Allows IsBankTable slots id m 1 (λ n. n) (HasLooked (step slots 1 0 0 none) m)
+pub serves : (slots id : ℕ) (m : Seated) (t : ℕ) → m.0.ticket ≡ Some t → m.0.holding ≡ false
+    → m.1 ≡ [] → Allows IsBankTable slots id m 1 (λ n. n) (HasLooked (step slots 1 0 0 none) m)
 serves slots id m t mine idle' nothing s k wide at small =
     let v = m.0 in
     let f = k.each id v at in
     let r : ℕ = get_or s.words 1 0 in
     let len : ℕ = length k.history in
     let r_is : r ≡ len % 2 ^ 64 = ap (λ ws. get_or ws 1 0) k.words in
-    let words' : set s.words 1 (get_or s.words 1 0) ≡ (k.drawn % 2 ^ 64) ∷ (len % 2 ^ 64) ∷ [] = ap (λ ws. set ws 1 (get_or ws 1 0)) k.words in
+    let words' : set s.words 1 (get_or s.words 1 0) ≡ (k.drawn % 2 ^ 64) ∷ (len % 2 ^ 64) ∷ [] =
+    ap (λ ws. set ws 1 (get_or ws 1 0)) k.words in
     dite (ℕ_discrete r (t % 2 ^ 64))
     (λ hit.
-    let same : len ≡ t = one_turn len t (2 ^ 64) (f.waits t mine).0 (let b = (f.waits t mine).1 in let o = k.out in let d = draws_below s k in omega arith) (sym r_is ∙ hit) in
+    let same : len ≡ t = one_turn len t (2 ^ 64) (f.waits t mine).0
+    (let b = (f.waits t mine).1 in let o = k.out in let d = draws_below s k in omega arith)
+    (sym r_is ∙ hit) in
     let w = at_turn v k.history in
     let pos = drawn_lives k.history k.drawn v t f mine in
     let mine' : v.ticket ≡ Some len = mine ∙ ap Some (sym same) in
@@ -89,46 +134,75 @@ serves slots id m t mine idle' nothing s k wide at small =
         history = k.history;
         drawn = k.drawn;
         words = words';
-        out = (let x : total draws_of (set s.views id w) + draws_of v ≡ total draws_of s.views + draws_of v = total_set draws_of s.views id v w at in let o = k.out in omega arith);
-        turn = λ n. only_keep (λ (u : View). u.ticket ≡ Some n) s.views id v w at (k.turn n) (λ e. e);
+        out = (let x : total draws_of (set s.views id w) + draws_of v
+            ≡ total draws_of s.views + draws_of v = total_set draws_of s.views id v w at in let o =
+            k.out in omega arith);
+        turn =
+            λ n. only_keep (λ (u : View). u.ticket ≡ Some n) s.views id v w at (k.turn n) (λ e. e);
         seats = record {
-          shares = (let x : total share_of (set s.views id w) + v.share ≡ total share_of s.views + v.share = total_set share_of s.views id v w at in let z = k.seats.shares in omega arith);
-          apart = λ n. only_keep (λ (u : View). Carries u n) s.views id v w at (k.seats.apart n) (λ c. c);
+          shares = (let x : total share_of (set s.views id w) + v.share
+              ≡ total share_of s.views + v.share = total_set share_of s.views id v w at in let z =
+              k.seats.shares in omega arith);
+          apart = λ n. only_keep (λ (u : View). Carries u n) s.views id v w at (k.seats.apart n)
+              (λ c. c);
           placed = placed_keep s.views id v w at (λ p. p) (λ n c. c) k.seats.placed;
-          called = λ i e there. some_set (λ (u : View). Carries u e.seat) s.views id v w at (λ c. c) (k.seats.called i e there);
+          called = λ i e there. some_set (λ (u : View). Carries u e.seat) s.views id v w at (λ c. c)
+              (k.seats.called i e there);
           known = (id, w, set_here s.views id w (within s.views id v at), refl);
         };
-        each = each_set (λ j u. FitsHistory k.history k.drawn u) s.views id w (λ j u _ e. k.each j u e)
+        each =
+            each_set (λ j u. FitsHistory k.history k.drawn u) s.views id w (λ j u _ e. k.each j u e)
             record {
               begins = ([], append-nil k.history);
               spent = λ e. absurd (let z : v.share ≡ 0 = e in omega arith);
               waits = f.waits;
               holds = λ _. (mine', refl);
               saw = λ i e there c. within k.history i e there;
-              recalls = λ j x there. let q = f.recalls j x there in (pre_trans x.seen v.seen k.history q.0 f.begins, q.1, q.2);
+              recalls = λ j x there. let q = f.recalls j x there in
+                  (pre_trans x.seen v.seen k.history q.0 f.begins, q.1, q.2);
               once = f.once;
             };
-        state = inr (ap (λ hs. set hs 0 none) h.1, (id, w, set_here s.views id w (within s.views id v at), refl));
+        state = inr (
+          ap (λ hs. set hs 0 none) h.1,
+          (id, w, set_here s.views id w (within s.views id v at), refl),
+        );
       },
-      (λ t' is. inl (hit ∙ ap (λ n. n % 2 ^ 64) (ap value (sym mine ∙ is)), (k.history, d, (λ i. (w, (0, Some d) ∷ nothing i)), h.2, f.begins, own_seen v.carried v.seen k.history f.begins f.saw))),
+      (λ t' is. inl (
+        hit ∙ ap (λ n. n % 2 ^ 64) (ap value (sym mine ∙ is)),
+        (
+          k.history,
+          d,
+          (λ i. (w, (0, Some d) ∷ nothing i)),
+          h.2,
+          f.begins,
+          own_seen v.carried v.seen k.history f.begins f.saw,
+        ),
+      )),
     ))
     (λ o. absurd (
     let c = o.1 in
     let hold = (k.each c.0 c.1 c.2).holds c.3 in
     let j_is : c.0 ≡ id = k.turn len c.0 id c.1 v c.2 at hold.0 mine' in
-    let w_is : c.1 ≡ v = one_there s.views id c.1 v (subst (λ n. get_elem? s.views n ≡ some c.1) j_is c.2) at in
+    let w_is : c.1 ≡ v =
+    one_there s.views id c.1 v (subst (λ n. get_elem? s.views n ≡ some c.1) j_is c.2) at in
     off (sym idle' ∙ (ap (λ (u : View). u.holding) (sym w_is) ∙ c.3))))
     k.state)
     (λ miss. (
       v,
       keeps,
       tt,
-      subst IsBankTable (λ i. record { words = (k.words ∙ sym words') i; homes = s.homes; views = sym (set_again s.views id v at) i }) k,
+      subst IsBankTable (λ i. record {
+        words = (k.words ∙ sym words') i;
+        homes = s.homes;
+        views = sym (set_again s.views id v at) i;
+      }) k,
       (λ t' is. inr ((λ e. miss (e ∙ ap (λ n. n % 2 ^ 64) (ap value (sym is ∙ mine)))), refl)),
     ))
 
-pub releases : (slots id : ℕ) (m : Seated) (d : Catalog) → m.1 ≡ (0, Some d) ∷ [] → m.0.holding ≡ true → Carries m.0 (number_of m.0) → genomes_in d ≡ genotypes_of (after_turn m)
-    → Allows IsBankTable slots id m 1 (λ n. (n + 1) % 2 ^ 64) (HasReleased (step slots 1 1 0 none) m)
+pub releases : (slots id : ℕ) (m : Seated) (d : Catalog) → m.1 ≡ (0, Some d) ∷ []
+    → m.0.holding ≡ true → Carries m.0 (number_of m.0) → genomes_in d ≡ genotypes_of (after_turn m)
+    → Allows IsBankTable slots id m 1 (λ n. (n + 1) % 2 ^ 64)
+    (HasReleased (step slots 1 1 0 none) m)
 releases slots id m d has_d held mine known s k wide at small =
     let v = m.0 in
     let len : ℕ = length k.history in
@@ -141,25 +215,41 @@ releases slots id m d has_d held mine known s k wide at small =
     let w = idle_view v.share v.carried (after_turn m) in
     let len' : length history' ≡ suc len = omega (arith, length-append k.history (e ∷ [])) in
     let here = set_here s.views id w (within s.views id v at) in
-    let longer_pre : (h : List Entry) → IsPrefix h k.history → IsPrefix h history' = λ h p. pre_trans h k.history history' p (e ∷ [], refl) in
+    let longer_pre : (h : List Entry) → IsPrefix h k.history → IsPrefix h history' =
+    λ h p. pre_trans h k.history history' p (e ∷ [], refl) in
     -- others do not carry the number
-    let others : (j : ℕ) (u : View) → j ≢ id → get_elem? s.views j ≡ some u → (c : List ℕ) → ((n : ℕ) → is_among n c ≡ true → Carries u n) → (h : List Entry) → SawOwn c h k.history → SawOwn c h history' = λ j u ne there c sub h saw i x at' b.
+    let others : (j : ℕ) (u : View) → j ≢ id → get_elem? s.views j ≡ some u → (c : List ℕ)
+    → ((n : ℕ) → is_among n c ≡ true → Carries u n) → (h : List Entry) → SawOwn c h k.history
+    → SawOwn c h history' = λ j u ne there c sub h saw i x at' b.
     ⊎_elim (λ (a : get_elem? k.history i ≡ some x). saw i x a b)
-    (λ (a : (i ≡ len) × (e ≡ x)). absurd (ne (k.seats.apart (number_of v) j id u v there at (sub (number_of v) (subst (λ (y : Entry). is_among y.seat c ≡ true) (sym a.1) b)) mine)))
+    (λ (a : (i ≡ len) × (e ≡ x)).
+    absurd (ne (k.seats.apart (number_of v) j id u v there at
+    (sub (number_of v) (subst (λ (y : Entry). is_among y.seat c ≡ true) (sym a.1) b)) mine)))
     (at_end k.history e x i at') in
     let k' : IsBankTable (stepped s 1 ((get_or s.words 1 0 + 1) % 2 ^ 64) id m.1 w gives) = record {
       history = history';
       drawn = k.drawn;
-      words = ap (λ ws. set ws 1 ((get_or ws 1 0 + 1) % 2 ^ 64)) k.words ∙ ap (λ n. (k.drawn % 2 ^ 64) ∷ n ∷ []) (mod-add-mod len (2 ^ 64) 1 ∙ ap (λ n. n % 2 ^ 64) (let h : len + 1 ≡ length history' = omega arith in h));
-      out = (let x : total draws_of (set s.views id w) + draws_of v ≡ total draws_of s.views + 0 = total_set draws_of s.views id v w at in let z : draws_of v ≡ 1 = ap one_if hold.0 in let o = k.out in omega arith);
-      turn = λ n. only_keep (λ (u : View). u.ticket ≡ Some n) s.views id v w at (k.turn n) (λ is. absurd (none_some n is));
+      words = ap (λ ws. set ws 1 ((get_or ws 1 0 + 1) % 2 ^ 64)) k.words
+          ∙ ap (λ n. (k.drawn % 2 ^ 64) ∷ n ∷ [])
+          (mod-add-mod len (2 ^ 64) 1
+          ∙ ap (λ n. n % 2 ^ 64) (let h : len + 1 ≡ length history' = omega arith in h));
+      out = (let x : total draws_of (set s.views id w) + draws_of v ≡ total draws_of s.views + 0 =
+          total_set draws_of s.views id v w at in let z : draws_of v ≡ 1 = ap one_if hold.0 in
+          let o = k.out in omega arith);
+      turn = λ n. only_keep (λ (u : View). u.ticket ≡ Some n) s.views id v w at (k.turn n)
+          (λ is. absurd (none_some n is));
       seats = record {
-        shares = (let x : total share_of (set s.views id w) + v.share ≡ total share_of s.views + v.share = total_set share_of s.views id v w at in let z = k.seats.shares in omega arith);
-        apart = λ n. only_keep (λ (u : View). Carries u n) s.views id v w at (k.seats.apart n) (λ c. c);
+        shares = (let x : total share_of (set s.views id w) + v.share
+            ≡ total share_of s.views + v.share = total_set share_of s.views id v w at in let z =
+            k.seats.shares in omega arith);
+        apart =
+            λ n. only_keep (λ (u : View). Carries u n) s.views id v w at (k.seats.apart n) (λ c. c);
         placed = placed_keep s.views id v w at (λ p. p) (λ n c. c) k.seats.placed;
         called = λ i x there. ⊎_elim
-            (λ (a : get_elem? k.history i ≡ some x). some_set (λ (u : View). Carries u x.seat) s.views id v w at (λ c. c) (k.seats.called i x a))
-            (λ (a : (i ≡ len) × (e ≡ x)). (id, w, here, subst (λ (y : Entry). Carries w y.seat) a.1 mine))
+            (λ (a : get_elem? k.history i ≡ some x). some_set (λ (u : View). Carries u x.seat)
+            s.views id v w at (λ c. c) (k.seats.called i x a))
+            (λ (a : (i ≡ len) × (e ≡ x)).
+            (id, w, here, subst (λ (y : Entry). Carries w y.seat) a.1 mine))
             (at_end k.history e x i there);
         known = (id, w, here, seen_is);
       };
@@ -168,12 +258,15 @@ releases slots id m d has_d held mine known s k wide at small =
             begins = longer_pre u.seen g.begins;
             spent = g.spent;
             waits = λ t is. let b = g.waits t is in (
-              dite (ℕ_discrete t len) (λ same. absurd (ne (k.turn len j id u v there at (is ∙ ap Some same) hold.0))) (λ other. let z = b.0 in omega arith),
+              dite (ℕ_discrete t len) (λ same.
+                  absurd (ne (k.turn len j id u v there at (is ∙ ap Some same) hold.0)))
+                  (λ other. let z = b.0 in omega arith),
               b.1,
             );
             holds = λ h. absurd (ne (k.turn len j id u v there at (g.holds h).0 hold.0));
             saw = others j u ne there u.carried (λ n c. c) u.seen g.saw;
-            recalls = λ n x at'. let q = g.recalls n x at' in (q.0, others j u ne there x.carried q.2 x.seen q.1, q.2);
+            recalls = λ n x at'. let q = g.recalls n x at' in
+                (q.0, others j u ne there x.carried q.2 x.seen q.1, q.2);
             once = g.once;
           })
           record {
@@ -181,10 +274,28 @@ releases slots id m d has_d held mine known s k wide at small =
             spent = λ z. absurd (let y : v.share ≡ 0 = z in omega arith);
             waits = λ t is. absurd (none_some t is);
             holds = λ h. absurd (off h);
-            saw = λ i x there c. subst (λ (l : List Entry). i < length l) (sym seen_is) (within history' i x there);
+            saw = λ i x there c. subst (λ (l : List Entry). i < length l) (sym seen_is)
+                (within history' i x there);
             recalls = (λ n x at'. absurd (nothing_there n x at'));
             once = λ j l x y n at' _ _ _. absurd (nothing_there j x at');
           };
-      state = inl (d, ap (put_back s.homes) has_d ∙ ⊎_elim (λ h. ap (λ hs. set hs 0 (some (Some d))) h.1) (λ o. ap (λ hs. set hs 0 (some (Some d))) o.0) k.state, known ∙ ap genotypes_of seen_is);
-    } in
-    (w, gives, tt, k', (refl, λ all. own_all v.carried (after_turn m) (λ i x there. carried_all (stepped s 1 ((get_or s.words 1 0 + 1) % 2 ^ 64) id m.1 w gives) k' id w here all i x (subst (λ l. get_elem? l i ≡ some x) seen_is there))))
+      state = inl (
+        d,
+        ap (put_back s.homes) has_d
+            ∙ ⊎_elim (λ h. ap (λ hs. set hs 0 (some (Some d))) h.1)
+            (λ o. ap (λ hs. set hs 0 (some (Some d))) o.0) k.state,
+        known ∙ ap genotypes_of seen_is,
+      );
+    } in (
+      w,
+      gives,
+      tt,
+      k',
+      (
+        refl,
+        λ all. own_all v.carried (after_turn m)
+            (λ i x there. carried_all
+            (stepped s 1 ((get_or s.words 1 0 + 1) % 2 ^ 64) id m.1 w gives)
+            k' id w here all i x (subst (λ l. get_elem? l i ≡ some x) seen_is there)),
+      ),
+    )

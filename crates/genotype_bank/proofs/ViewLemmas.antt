@@ -13,45 +13,60 @@ within [] i a e = absurd (some-ne-none a (sym e))
 within (x ∷ xs) zero a e = omega arith
 within (x ∷ xs) (suc i) a e = let h = within xs i a e in omega arith
 
-pub one_there : {A : Type 0} (l : List A) (i : ℕ) (a b : A) → get_elem? l i ≡ some a → get_elem? l i ≡ some b → a ≡ b
+pub one_there : {A : Type 0} (l : List A) (i : ℕ) (a b : A) → get_elem? l i ≡ some a
+    → get_elem? l i ≡ some b → a ≡ b
 one_there l i a b e f = some-injective a b (sym e ∙ f)
 
-pub total_set : (f : View → ℕ) (views : List View) (id : ℕ) (v w : View) → get_elem? views id ≡ some v → total f (set views id w) + f v ≡ total f views + f w
+pub total_set : (f : View → ℕ) (views : List View) (id : ℕ) (v w : View)
+    → get_elem? views id ≡ some v → total f (set views id w) + f v ≡ total f views + f w
 total_set f [] id v w e = absurd (some-ne-none v (sym e))
 total_set f (x ∷ xs) zero v w e = let h = ap f (some-injective x v e) in omega arith
 total_set f (x ∷ xs) (suc id) v w e = let h = total_set f xs id v w e in omega arith
 
-pub total_snoc : (f : View → ℕ) (views : List View) (w : View) → total f (views ++ w ∷ []) ≡ total f views + f w
+pub total_snoc : (f : View → ℕ) (views : List View) (w : View)
+    → total f (views ++ w ∷ []) ≡ total f views + f w
 total_snoc f [] w = omega arith
 total_snoc f (x ∷ xs) w = let h = total_snoc f xs w in omega arith
 
-pub total_le : (f g : View → ℕ) (views : List View) → ((j : ℕ) (v : View) → get_elem? views j ≡ some v → f v ≤ g v) → total f views ≤ total g views
+pub total_le : (f g : View → ℕ) (views : List View)
+    → ((j : ℕ) (v : View) → get_elem? views j ≡ some v → f v ≤ g v) → total f views ≤ total g views
 total_le f g [] h = omega arith
-total_le f g (x ∷ xs) h = let a = h 0 x refl in let b = total_le f g xs (λ j v e. h (suc j) v e) in omega arith
+total_le f g (x ∷ xs) h =
+    let a = h 0 x refl in let b = total_le f g xs (λ j v e. h (suc j) v e) in omega arith
 
-pub each_set : (P : ℕ → View → Type 0) (views : List View) (id : ℕ) (w : View) → ((j : ℕ) (u : View) → j ≢ id → get_elem? views j ≡ some u → P j u) → P id w → (j : ℕ) (u : View) → get_elem? (set views id w) j ≡ some u → P j u
+pub each_set : (P : ℕ → View → Type 0) (views : List View) (id : ℕ) (w : View)
+    → ((j : ℕ) (u : View) → j ≢ id → get_elem? views j ≡ some u → P j u) → P id w
+    → (j : ℕ) (u : View) → get_elem? (set views id w) j ≡ some u → P j u
 each_set P views id w others mine j u e =
     ⊎_elim
     (λ (x : (j ≡ id) × (w ≡ u)). subst (λ (y : ℕ × View). P y.0 y.1) (λ i. (sym x.0 i, x.1 i)) mine)
     (λ (x : (j ≢ id) × (get_elem? views j ≡ some u)). others j u x.0 x.1)
     (at_set views id j w u e)
 
-pub each_snoc : (P : View → Type 0) (views : List View) (w : View) → ((j : ℕ) (u : View) → get_elem? views j ≡ some u → P u) → P w → (j : ℕ) (u : View) → get_elem? (views ++ w ∷ []) j ≡ some u → P u
-each_snoc P views w others mine j u e = ⊎_elim (λ (x : get_elem? views j ≡ some u). others j u x) (λ (x : w ≡ u). subst P x mine) (at_snoc views w u j e)
+pub each_snoc : (P : View → Type 0) (views : List View) (w : View)
+    → ((j : ℕ) (u : View) → get_elem? views j ≡ some u → P u) → P w → (j : ℕ) (u : View)
+    → get_elem? (views ++ w ∷ []) j ≡ some u → P u
+each_snoc P views w others mine j u e =
+    ⊎_elim (λ (x : get_elem? views j ≡ some u). others j u x) (λ (x : w ≡ u). subst P x mine)
+    (at_snoc views w u j e)
 
 -- at the end or before
-pub at_end : {A : Type 0} (l : List A) (a b : A) (j : ℕ) → get_elem? (l ++ a ∷ []) j ≡ some b → (get_elem? l j ≡ some b) ⊎ ((j ≡ length l) × (a ≡ b))
+pub at_end : {A : Type 0} (l : List A) (a b : A) (j : ℕ) → get_elem? (l ++ a ∷ []) j ≡ some b
+    → (get_elem? l j ≡ some b) ⊎ ((j ≡ length l) × (a ≡ b))
 at_end [] a b zero e = inr (refl, some-injective a b e)
 at_end [] a b (suc j) e = absurd (some-ne-none b (sym e))
 at_end (x ∷ xs) a b zero e = inl e
 at_end (x ∷ xs) a b (suc j) e = ⊎_elim (λ t. inl t) (λ t. inr (ap suc t.0, t.1)) (at_end xs a b j e)
 
-pub only_set : (P : View → Type 0) (views : List View) (id : ℕ) (w : View) → AtMostOne P views → (P w → (k : ℕ) (y : View) → k ≢ id → get_elem? views k ≡ some y → P y → ⊥) → AtMostOne P (set views id w)
+pub only_set : (P : View → Type 0) (views : List View) (id : ℕ) (w : View) → AtMostOne P views
+    → (P w → (k : ℕ) (y : View) → k ≢ id → get_elem? views k ≡ some y → P y → ⊥)
+    → AtMostOne P (set views id w)
 only_set P views id w only new j k x y ej ek px py =
     ⊎_elim
     (λ (a : (j ≡ id) × (w ≡ x)). ⊎_elim
     (λ (b : (k ≡ id) × (w ≡ y)). a.0 ∙ sym b.0)
-    (λ (b : (k ≢ id) × (get_elem? views k ≡ some y)). absurd (new (subst P (sym a.1) px) k y b.0 b.1 py))
+    (λ (b : (k ≢ id) × (get_elem? views k ≡ some y)).
+    absurd (new (subst P (sym a.1) px) k y b.0 b.1 py))
     (at_set views id k w y ek))
     (λ (a : (j ≢ id) × (get_elem? views j ≡ some x)). ⊎_elim
     (λ (b : (k ≡ id) × (w ≡ y)). absurd (new (subst P (sym b.1) py) j x a.0 a.1 px))
@@ -60,10 +75,14 @@ only_set P views id w only new j k x y ej ek px py =
     (at_set views id j w x ej)
 
 -- the same where the view was so before
-pub only_keep : (P : View → Type 0) (views : List View) (id : ℕ) (v w : View) → get_elem? views id ≡ some v → AtMostOne P views → (P w → P v) → AtMostOne P (set views id w)
-only_keep P views id v w at only back = only_set P views id w only (λ pw k y ne e py. ne (only k id y v e at py (back pw)))
+pub only_keep : (P : View → Type 0) (views : List View) (id : ℕ) (v w : View)
+    → get_elem? views id ≡ some v → AtMostOne P views → (P w → P v) → AtMostOne P (set views id w)
+only_keep P views id v w at only back =
+    only_set P views id w only (λ pw k y ne e py. ne (only k id y v e at py (back pw)))
 
-pub only_snoc : (P : View → Type 0) (views : List View) (w : View) → AtMostOne P views → (P w → (k : ℕ) (y : View) → get_elem? views k ≡ some y → P y → ⊥) → AtMostOne P (views ++ w ∷ [])
+pub only_snoc : (P : View → Type 0) (views : List View) (w : View) → AtMostOne P views
+    → (P w → (k : ℕ) (y : View) → get_elem? views k ≡ some y → P y → ⊥)
+    → AtMostOne P (views ++ w ∷ [])
 only_snoc P views w only new j k x y ej ek px py =
     ⊎_elim
     (λ (a : get_elem? views j ≡ some x). ⊎_elim
@@ -76,45 +95,74 @@ only_snoc P views w only new j k x y ej ek px py =
     (at_end views w y k ek))
     (at_end views w x j ej)
 
-pub some_set : (P : View → Type 0) (views : List View) (id : ℕ) (v w : View) → get_elem? views id ≡ some v → (P v → P w) → SomeSeat P views → SomeSeat P (set views id w)
+pub some_set : (P : View → Type 0) (views : List View) (id : ℕ) (v w : View)
+    → get_elem? views id ≡ some v → (P v → P w) → SomeSeat P views → SomeSeat P (set views id w)
 some_set P views id v w at on (j, u, e, p) =
     dite (ℕ_discrete j id)
-    (λ is. (id, w, set_here views id w (within views id v at), on (subst P (one_there views id u v (subst (λ k. get_elem? views k ≡ some u) is e) at) p)))
+    (λ is. (
+      id,
+      w,
+      set_here views id w (within views id v at),
+      on (subst P (one_there views id u v (subst (λ k. get_elem? views k ≡ some u) is e) at) p),
+    ))
     (λ ne. (j, u, set_else views id j w ne ∙ e, p))
 
-pub some_snoc : (P : View → Type 0) (views : List View) (w : View) → SomeSeat P views → SomeSeat P (views ++ w ∷ [])
+pub some_snoc : (P : View → Type 0) (views : List View) (w : View) → SomeSeat P views
+    → SomeSeat P (views ++ w ∷ [])
 some_snoc P views w (j, u, e, p) = (j, u, at_longer views (w ∷ []) j u e, p)
 
-pub placed_set : (views : List View) (id : ℕ) (v w : View) → get_elem? views id ≡ some v → (0 < w.share → 0 < v.share) → ((n : ℕ) → Carries w n → (u : View) × (get_elem? views n ≡ some u) × (0 < u.share → id ≡ n)) → NumbersArePlaces views → NumbersArePlaces (set views id w)
+pub placed_set : (views : List View) (id : ℕ) (v w : View) → get_elem? views id ≡ some v
+    → (0 < w.share → 0 < v.share)
+    → ((n : ℕ) → Carries w n → (u : View) × (get_elem? views n ≡ some u) × (0 < u.share → id ≡ n))
+    → NumbersArePlaces views → NumbersArePlaces (set views id w)
 placed_set views id v w at alive new placed j x n e c =
     let mine = set_here views id w (within views id v at) in
-    let old : (j' : ℕ) → ((u : View) × (get_elem? views n ≡ some u) × (0 < u.share → j' ≡ n)) → j' ≡ j → (u : View) × (get_elem? (set views id w) n ≡ some u) × (0 < u.share → j ≡ n) = λ j' p is.
+    let old : (j' : ℕ) → ((u : View) × (get_elem? views n ≡ some u) × (0 < u.share → j' ≡ n))
+    → j' ≡ j → (u : View) × (get_elem? (set views id w) n ≡ some u) × (0 < u.share → j ≡ n) =
+    λ j' p is.
     dite (ℕ_discrete n id)
-    (λ here. (w, subst (λ k. get_elem? (set views id w) k ≡ some w) (sym here) mine, λ pos. sym is ∙ p.2 (subst (λ (u : View). 0 < u.share) (one_there views id v p.0 at (subst (λ k. get_elem? views k ≡ some p.0) here p.1)) (alive pos))))
+    (λ here. (
+      w,
+      subst (λ k. get_elem? (set views id w) k ≡ some w) (sym here) mine,
+      λ pos. sym is
+          ∙ p.2 (subst (λ (u : View). 0 < u.share)
+          (one_there views id v p.0 at (subst (λ k. get_elem? views k ≡ some p.0) here p.1))
+          (alive pos)),
+    ))
     (λ ne. (p.0, set_else views id n w ne ∙ p.1, λ pos. sym is ∙ p.2 pos)) in
     ⊎_elim
-    (λ (a : (j ≡ id) × (w ≡ x)). old id (new n (subst (λ (u : View). Carries u n) (sym a.1) c)) (sym a.0))
+    (λ (a : (j ≡ id) × (w ≡ x)). old id (new n (subst (λ (u : View). Carries u n) (sym a.1) c))
+    (sym a.0))
     (λ (a : (j ≢ id) × (get_elem? views j ≡ some x)). old j (placed j x n a.1 c) refl)
     (at_set views id j w x e)
 
-pub placed_keep : (views : List View) (id : ℕ) (v w : View) → get_elem? views id ≡ some v → (0 < w.share → 0 < v.share) → ((n : ℕ) → Carries w n → Carries v n) → NumbersArePlaces views → NumbersArePlaces (set views id w)
-placed_keep views id v w at alive back placed = placed_set views id v w at alive (λ n c. placed id v n at (back n c)) placed
+pub placed_keep : (views : List View) (id : ℕ) (v w : View) → get_elem? views id ≡ some v
+    → (0 < w.share → 0 < v.share) → ((n : ℕ) → Carries w n → Carries v n) → NumbersArePlaces views
+    → NumbersArePlaces (set views id w)
+placed_keep views id v w at alive back placed =
+    placed_set views id v w at alive (λ n c. placed id v n at (back n c)) placed
 
-pub placed_snoc : (views : List View) (w : View) → ((n : ℕ) → Carries w n → ⊥) → NumbersArePlaces views → NumbersArePlaces (views ++ w ∷ [])
+pub placed_snoc : (views : List View) (w : View) → ((n : ℕ) → Carries w n → ⊥)
+    → NumbersArePlaces views → NumbersArePlaces (views ++ w ∷ [])
 placed_snoc views w none placed j x n e c =
     ⊎_elim
-    (λ (a : get_elem? views j ≡ some x). let p = placed j x n a c in (p.0, at_longer views (w ∷ []) n p.0 p.1, p.2))
-    (λ (a : (j ≡ length views) × (w ≡ x)). absurd (none n (subst (λ (u : View). Carries u n) (sym a.1) c)))
+    (λ (a : get_elem? views j ≡ some x). let p = placed j x n a c in
+    (p.0, at_longer views (w ∷ []) n p.0 p.1, p.2))
+    (λ (a : (j ≡ length views) × (w ≡ x)).
+    absurd (none n (subst (λ (u : View). Carries u n) (sym a.1) c)))
     (at_end views w x j e)
 
-pub total_ge : (f : View → ℕ) (views : List View) (j : ℕ) (u : View) → get_elem? views j ≡ some u → f u ≤ total f views
+pub total_ge : (f : View → ℕ) (views : List View) (j : ℕ) (u : View) → get_elem? views j ≡ some u
+    → f u ≤ total f views
 total_ge f [] j u e = absurd (some-ne-none u (sym e))
 total_ge f (x ∷ xs) zero u e = let h = ap f (some-injective x u e) in omega arith
 total_ge f (x ∷ xs) (suc j) u e = let h = total_ge f xs j u e in omega arith
 
-pub set_swap : {A : Type 0} (l : List A) (i j : ℕ) (a b : A) → j ≢ i → set (set l i a) j b ≡ set (set l j b) i a
+pub set_swap : {A : Type 0} (l : List A) (i j : ℕ) (a b : A) → j ≢ i
+    → set (set l i a) j b ≡ set (set l j b) i a
 set_swap [] i j a b ne = refl
 set_swap (x ∷ xs) zero zero a b ne = absurd (ne refl)
 set_swap (x ∷ xs) zero (suc j) a b ne = refl
 set_swap (x ∷ xs) (suc i) zero a b ne = refl
-set_swap (x ∷ xs) (suc i) (suc j) a b ne = ap (λ l. x ∷ l) (set_swap xs i j a b (λ e. ne (ap suc e)))
+set_swap (x ∷ xs) (suc i) (suc j) a b ne =
+    ap (λ l. x ∷ l) (set_swap xs i j a b (λ e. ne (ap suc e)))

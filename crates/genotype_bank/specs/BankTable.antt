@@ -21,8 +21,8 @@ CatalogLies history homes views =
     ((d : Catalog) × (homes ≡ some (Some d) ∷ []) × (genomes_in d ≡ genotypes_of history))
     ⊎ ((homes ≡ maybe.none ∷ []) × SomeSeat (λ v. v.holding ≡ true) views)
 
--- there is one history, of which each seat has seen a prefix, and the catalog has its genotypes. The
--- turns before its length are over, and the tickets from there to the number of draws are out
+-- there is one history, of which each seat has seen a prefix, and the catalog has its genotypes.
+-- The turns before its length are over, and the tickets from there to the number of draws are out
 pub record IsBankTable (s : State (Option Catalog) View) : Type 0 where
   pub history : List Entry
   pub drawn : ℕ

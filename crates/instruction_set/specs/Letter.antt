@@ -9,7 +9,9 @@ use Rattle.instruction_set.specs.declared.letter.Class.TheVariants.{Nop, Registe
 
 -- every letter, in the order of the table
 abbrev pub letters : List Letter
-letters = NopA ∷ NopB ∷ NopC ∷ IfNEqu ∷ IfLess ∷ IfLabel ∷ MovHead ∷ JmpHead ∷ GetHead ∷ SetFlow ∷ ShiftR ∷ ShiftL ∷ Inc ∷ Dec ∷ Push ∷ Pop ∷ SwapStk ∷ Swap ∷ Add ∷ Sub ∷ Nand ∷ HCopy ∷ HAlloc ∷ HDivide ∷ Io ∷ HSearch ∷ []
+letters = NopA ∷ NopB ∷ NopC ∷ IfNEqu ∷ IfLess ∷ IfLabel ∷ MovHead ∷ JmpHead ∷ GetHead ∷ SetFlow
+    ∷ ShiftR ∷ ShiftL ∷ Inc ∷ Dec ∷ Push ∷ Pop ∷ SwapStk ∷ Swap ∷ Add ∷ Sub ∷ Nand ∷ HCopy ∷ HAlloc
+    ∷ HDivide ∷ Io ∷ HSearch ∷ []
 
 -- the place of a letter in the table
 abbrev pub index_of : Letter → ℕ

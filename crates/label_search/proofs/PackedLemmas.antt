@@ -48,7 +48,8 @@ pub newest-nops : (most packed : ℕ) → AreNops (newest_first most packed)
 unfolding newest_first
 newest-nops zero packed = tt
 newest-nops (suc most) packed = go (packed == 0) (newest-nops most (packed / 4)) where
-  go : (none : Bool) → AreNops (newest_first most (packed / 4)) → AreNops (cond none [] (nop_of (packed % 4) ∷ newest_first most (packed / 4)))
+  go : (none : Bool) → AreNops (newest_first most (packed / 4))
+      → AreNops (cond none [] (nop_of (packed % 4) ∷ newest_first most (packed / 4)))
   go true rest = tt
   go false rest = (nop-nop_of (packed % 4), rest)
 
@@ -56,12 +57,14 @@ pub newest-few : (most packed : ℕ) → length (newest_first most packed) ≤ m
 unfolding newest_first
 newest-few zero packed = omega arith
 newest-few (suc most) packed = go (packed == 0) (newest-few most (packed / 4)) where
-  go : (none : Bool) → length (newest_first most (packed / 4)) ≤ most → length (cond none [] (nop_of (packed % 4) ∷ newest_first most (packed / 4))) ≤ suc most
+  go : (none : Bool) → length (newest_first most (packed / 4)) ≤ most
+      → length (cond none [] (nop_of (packed % 4) ∷ newest_first most (packed / 4))) ≤ suc most
   go true few = omega arith
   go false few = omega arith
 
 -- packed nops are found again
-pub newest-packed : (most : ℕ) (nops : List Letter) → AreNops nops → length nops ≤ most → newest_first most (packed_of nops) ≡ nops
+pub newest-packed : (most : ℕ) (nops : List Letter) → AreNops nops → length nops ≤ most
+    → newest_first most (packed_of nops) ≡ nops
 unfolding newest_first
 newest-packed zero [] are few = refl
 newest-packed (suc most) [] are few = refl
@@ -76,7 +79,8 @@ newest-packed (suc most) (nop ∷ nops) are few =
     rw (none, low, high, nop_of-digit nop are.0, newest-packed most nops are.1 (omega arith)) refl
 
 -- the lowest digits are those of the first nops
-pub packed-take : (k : ℕ) (nops : List Letter) → packed_of (take k nops) ≡ packed_of nops % 2 ^ (2 * k)
+pub packed-take : (k : ℕ) (nops : List Letter)
+    → packed_of (take k nops) ≡ packed_of nops % 2 ^ (2 * k)
 packed-take zero nops = omega arith
 packed-take (suc k) [] = omega arith
 packed-take (suc k) (nop ∷ nops) =
@@ -85,7 +89,8 @@ packed-take (suc k) (nop ∷ nops) =
     let low : packed % 4 ≡ digit_of nop = omega arith in
     let high : packed / 4 ≡ packed_of nops = omega arith in
     let width : 2 * suc k ≡ 2 * k + 2 = omega arith in
-    let split : packed % 2 ^ (2 * k + 2) ≡ packed / 4 % 2 ^ (2 * k) * 4 + packed % 4 = mod-pow-add packed (2 * k) 2 in
+    let split : packed % 2 ^ (2 * k + 2) ≡ packed / 4 % 2 ^ (2 * k) * 4 + packed % 4 =
+    mod-pow-add packed (2 * k) 2 in
     rw width (ap (λ n. n * 4 + digit_of nop) (packed-take k nops) ∙ sym (rw (low, high) at split))
 
 -- the nops after a further nop
@@ -97,43 +102,65 @@ are-take zero nops are = tt
 are-take (suc k) [] are = tt
 are-take (suc k) (nop ∷ nops) are = (are.0, are-take k nops are.1)
 
-packed-nop : (packed : ℕ) (letter : Letter) → packed ≡ packed_of (newest_first 10 packed) → packed % 2 ^ 18 * 4 + digit_of letter ≡ packed_of (letter ∷ take 9 (newest_first 10 packed))
-packed-nop packed letter is = ap (λ n. n * 4 + digit_of letter) (ap (λ n. n % 2 ^ 18) is ∙ sym (packed-take 9 (newest_first 10 packed)))
+packed-nop : (packed : ℕ) (letter : Letter) → packed ≡ packed_of (newest_first 10 packed)
+    → packed % 2 ^ 18 * 4 + digit_of letter ≡ packed_of (letter ∷ take 9 (newest_first 10 packed))
+packed-nop packed letter is =
+    ap (λ n. n * 4 + digit_of letter)
+    (ap (λ n. n % 2 ^ 18) is ∙ sym (packed-take 9 (newest_first 10 packed)))
 
-found-nop : (packed : ℕ) (letter : Letter) → packed ≡ packed_of (newest_first 10 packed) → is_nop letter ≡ true → newest_first 10 (packed % 2 ^ 18 * 4 + digit_of letter) ≡ letter ∷ take 9 (newest_first 10 packed)
+found-nop : (packed : ℕ) (letter : Letter) → packed ≡ packed_of (newest_first 10 packed)
+    → is_nop letter ≡ true → newest_first 10 (packed % 2 ^ 18 * 4 + digit_of letter)
+    ≡ letter ∷ take 9 (newest_first 10 packed)
 found-nop packed letter is nop =
     let nops = newest_first 10 packed in
-    rw (packed-nop packed letter is) (newest-packed 10 (letter ∷ take 9 nops) (nop, are-take 9 nops (newest-nops 10 packed)) (omega (arith, length-take 9 nops)))
+    rw (packed-nop packed letter is)
+    (newest-packed 10 (letter ∷ take 9 nops) (nop, are-take 9 nops (newest-nops 10 packed))
+    (omega (arith, length-take 9 nops)))
 
-last-reversed : (k : ℕ) (nops : List Letter) → drop (length nops - k) (reverse nops) ≡ reverse (take k nops)
+last-reversed : (k : ℕ) (nops : List Letter)
+    → drop (length nops - k) (reverse nops) ≡ reverse (take k nops)
 last-reversed k nops =
-    let parts : reverse nops ≡ reverse (drop k nops) ++ reverse (take k nops) = ap reverse (sym (take-append-drop k nops)) ∙ reverse-append (take k nops) (drop k nops) in
-    let long : length nops - k ≡ length (reverse (drop k nops)) = sym (length-reverse (drop k nops) ∙ length-drop k nops) in
+    let parts : reverse nops ≡ reverse (drop k nops) ++ reverse (take k nops) =
+    ap reverse (sym (take-append-drop k nops)) ∙ reverse-append (take k nops) (drop k nops) in
+    let long : length nops - k ≡ length (reverse (drop k nops)) =
+    sym (length-reverse (drop k nops) ∙ length-drop k nops) in
     rw (long, parts) (drop-append_seam (reverse (drop k nops)) (reverse (take k nops)))
 
 -- reading a letter of either kind
-pub packed-read : (packed : ℕ) (letter : Letter) → packed ≡ packed_of (newest_first 10 packed) → packed_after packed letter ≡ packed_of (newest_first 10 (packed_after packed letter))
+pub packed-read : (packed : ℕ) (letter : Letter) → packed ≡ packed_of (newest_first 10 packed)
+    → packed_after packed letter ≡ packed_of (newest_first 10 (packed_after packed letter))
 unfolding newest_first
 packed-read packed letter is = go (is_nop letter) refl where
-  go : (nop : Bool) → is_nop letter ≡ nop → cond nop (packed % 2 ^ 18 * 4 + digit_of letter) 0 ≡ packed_of (newest_first 10 (cond nop (packed % 2 ^ 18 * 4 + digit_of letter) 0))
+  go : (nop : Bool) → is_nop letter ≡ nop
+      → cond nop (packed % 2 ^ 18 * 4 + digit_of letter) 0
+      ≡ packed_of (newest_first 10 (cond nop (packed % 2 ^ 18 * 4 + digit_of letter) 0))
   go true nop = packed-nop packed letter is ∙ sym (ap packed_of (found-nop packed letter is nop))
   go false nop = refl
 
-pub nops-read : (packed : ℕ) (letter : Letter) → packed ≡ packed_of (newest_first 10 packed) → reverse (newest_first 10 (packed_after packed letter)) ≡ nops_read (reverse (newest_first 10 packed)) letter
+pub nops-read : (packed : ℕ) (letter : Letter) → packed ≡ packed_of (newest_first 10 packed)
+    → reverse (newest_first 10 (packed_after packed letter))
+    ≡ nops_read (reverse (newest_first 10 packed)) letter
 unfolding newest_first
 nops-read packed letter is = go (is_nop letter) refl where
   nops : List Letter
   nops = newest_first 10 packed
 
-  go : (nop : Bool) → is_nop letter ≡ nop → reverse (newest_first 10 (cond nop (packed % 2 ^ 18 * 4 + digit_of letter) 0)) ≡ cond nop (last_ten (reverse (newest_first 10 packed) ++ letter ∷ [])) []
+  go : (nop : Bool) → is_nop letter ≡ nop
+      → reverse (newest_first 10 (cond nop (packed % 2 ^ 18 * 4 + digit_of letter) 0))
+      ≡ cond nop (last_ten (reverse (newest_first 10 packed) ++ letter ∷ [])) []
   go true nop =
-      let onto : reverse (letter ∷ newest_first 10 packed) ≡ reverse (newest_first 10 packed) ++ letter ∷ [] = reverse-append (letter ∷ []) (newest_first 10 packed) in
-      let long : length (reverse (letter ∷ newest_first 10 packed)) ≡ length (letter ∷ newest_first 10 packed) = length-reverse (letter ∷ newest_first 10 packed) in
-      ap reverse (found-nop packed letter is nop) ∙ sym (rw (← onto) (rw long (last-reversed 10 (letter ∷ newest_first 10 packed))))
+      let onto : reverse (letter ∷ newest_first 10 packed) ≡ reverse (newest_first 10 packed)
+      ++ letter ∷ [] = reverse-append (letter ∷ []) (newest_first 10 packed) in
+      let long : length (reverse (letter ∷ newest_first 10 packed))
+      ≡ length (letter ∷ newest_first 10 packed) =
+      length-reverse (letter ∷ newest_first 10 packed) in
+      ap reverse (found-nop packed letter is nop)
+      ∙ sym (rw (← onto) (rw long (last-reversed 10 (letter ∷ newest_first 10 packed))))
   go false nop = refl
 
 -- each of some nops is one
-nop-at : (nops : List Letter) → AreNops nops → (k : ℕ) (d : Letter) → k < length nops → is_nop (get_or nops k d) ≡ true
+nop-at : (nops : List Letter) → AreNops nops → (k : ℕ) (d : Letter) → k < length nops
+    → is_nop (get_or nops k d) ≡ true
 nop-at [] are k d h = absurd (omega arith)
 nop-at (nop ∷ nops) are zero d h = are.0
 nop-at (nop ∷ nops) are (suc k) d h = nop-at nops are.1 k d (omega arith)
@@ -143,37 +170,58 @@ pub template-packed : (packed : ℕ) → IsTemplate (reverse (newest_first 10 pa
 template-packed packed = record {
   few = rw length-reverse (newest-few 10 packed);
   nops = λ k d h.
-      let long : length (reverse (newest_first 10 packed)) ≡ length (newest_first 10 packed) = length-reverse (newest_first 10 packed) in
+      let long : length (reverse (newest_first 10 packed)) ≡ length (newest_first 10 packed) =
+      length-reverse (newest_first 10 packed) in
       let within : k < length (newest_first 10 packed) = omega (arith, long, h) in
-      ap is_nop (get_or-reverse (newest_first 10 packed) k d within) ∙ nop-at (newest_first 10 packed) (newest-nops 10 packed) (length (newest_first 10 packed) - 1 - k) d (omega arith);
+      ap is_nop (get_or-reverse (newest_first 10 packed) k d within)
+      ∙ nop-at (newest_first 10 packed) (newest-nops 10 packed)
+      (length (newest_first 10 packed) - 1 - k) d (omega arith);
 }
 
 -- one number for one template
-packed-once : (a b : ℕ) → a ≡ packed_of (newest_first 10 a) → b ≡ packed_of (newest_first 10 b) → reverse (newest_first 10 a) ≡ reverse (newest_first 10 b) → a ≡ b
+packed-once : (a b : ℕ) → a ≡ packed_of (newest_first 10 a) → b ≡ packed_of (newest_first 10 b)
+    → reverse (newest_first 10 a) ≡ reverse (newest_first 10 b) → a ≡ b
 packed-once a b one other same =
-    let nops : newest_first 10 a ≡ newest_first 10 b = sym (reverse-reverse (newest_first 10 a)) ∙ ap reverse same ∙ reverse-reverse (newest_first 10 b) in
+    let nops : newest_first 10 a ≡ newest_first 10 b = sym (reverse-reverse (newest_first 10 a))
+    ∙ ap reverse same ∙ reverse-reverse (newest_first 10 b) in
     one ∙ ap packed_of nops ∙ sym other
 
-pub packed-same : (a b : ℕ) (self other : List Letter) → a ≡ packed_of (newest_first 10 a) → b ≡ packed_of (newest_first 10 b) → reverse (newest_first 10 a) ≡ self → reverse (newest_first 10 b) ≡ other → Decides (a == b) (self ≡ other)
-packed-same a b self other one other_one is other_is =
-    (λ e. let one_number : a ≡ b = grind (arith, common_steps) in sym is ∙ ap (λ n. reverse (newest_first 10 n)) one_number ∙ other_is, λ e. eq-eqb a b (packed-once a b one other_one (is ∙ e ∙ sym other_is)))
+pub packed-same : (a b : ℕ) (self other : List Letter) → a ≡ packed_of (newest_first 10 a)
+    → b ≡ packed_of (newest_first 10 b) → reverse (newest_first 10 a) ≡ self
+    → reverse (newest_first 10 b) ≡ other → Decides (a == b) (self ≡ other)
+packed-same a b self other one other_one is other_is = (
+  λ e. let one_number : a ≡ b = grind (arith, common_steps) in
+      sym is ∙ ap (λ n. reverse (newest_first 10 n)) one_number ∙ other_is,
+  λ e. eq-eqb a b (packed-once a b one other_one (is ∙ e ∙ sym other_is)),
+)
 
 -- the nop at a place, counted from the newest
-pub newest-at : (most packed i : ℕ) (d : Letter) → i < length (newest_first most packed) → get_or (newest_first most packed) i d ≡ nop_of (packed / 2 ^ (2 * i) % 4)
+pub newest-at : (most packed i : ℕ) (d : Letter) → i < length (newest_first most packed)
+    → get_or (newest_first most packed) i d ≡ nop_of (packed / 2 ^ (2 * i) % 4)
 unfolding newest_first
 newest-at zero packed i d h = absurd (omega arith)
 newest-at (suc most) packed zero d h = go (packed == 0) h where
   whole : packed / 1 ≡ packed
   whole = omega arith
 
-  go : (none : Bool) → 0 < length (cond none [] (nop_of (packed % 4) ∷ newest_first most (packed / 4))) → get_or (cond none [] (nop_of (packed % 4) ∷ newest_first most (packed / 4))) 0 d ≡ nop_of (packed / 1 % 4)
+  go : (none : Bool) → 0 < length
+      (cond none [] (nop_of (packed % 4) ∷ newest_first most (packed / 4)))
+      → get_or (cond none [] (nop_of (packed % 4) ∷ newest_first most (packed / 4))) 0 d
+      ≡ nop_of (packed / 1 % 4)
   go true h = absurd (omega arith)
   go false h = rw whole refl
 newest-at (suc most) packed (suc i) d h = go (packed == 0) h (newest-at most (packed / 4) i d) where
   further : packed / 4 / 2 ^ (2 * i) ≡ packed / 2 ^ (2 * suc i)
-  further = let width : 2 * suc i ≡ 2 + 2 * i = omega arith in let power : 2 ^ (2 + 2 * i) ≡ 4 * 2 ^ (2 * i) = pow-add 2 2 (2 * i) in rw (width, power) (div-div-eq-div-mul packed 4 (2 ^ (2 * i)))
+  further = let width : 2 * suc i ≡ 2 + 2 * i = omega arith in
+      let power : 2 ^ (2 + 2 * i) ≡ 4 * 2 ^ (2 * i) = pow-add 2 2 (2 * i) in
+      rw (width, power) (div-div-eq-div-mul packed 4 (2 ^ (2 * i)))
 
-  go : (none : Bool) → suc i < length (cond none [] (nop_of (packed % 4) ∷ newest_first most (packed / 4))) → (i < length (newest_first most (packed / 4)) → get_or (newest_first most (packed / 4)) i d ≡ nop_of (packed / 4 / 2 ^ (2 * i) % 4)) → get_or (cond none [] (nop_of (packed % 4) ∷ newest_first most (packed / 4))) (suc i) d ≡ nop_of (packed / 2 ^ (2 * suc i) % 4)
+  go : (none : Bool) → suc i
+      < length (cond none [] (nop_of (packed % 4) ∷ newest_first most (packed / 4)))
+      → (i < length (newest_first most (packed / 4))
+      → get_or (newest_first most (packed / 4)) i d ≡ nop_of (packed / 4 / 2 ^ (2 * i) % 4))
+      → get_or (cond none [] (nop_of (packed % 4) ∷ newest_first most (packed / 4))) (suc i) d
+      ≡ nop_of (packed / 2 ^ (2 * suc i) % 4)
   go true h rest = absurd (omega arith)
   go false h rest = rest (omega arith) ∙ ap (λ n. nop_of (n % 4)) further
 
@@ -187,7 +235,9 @@ pub none-left : (packed : ℕ) → length (newest_first 0 packed) ≡ 0
 unfolding newest_first
 none-left packed = refl
 
-pub count-more : (count packed : ℕ) → count < 10 → 0 < packed → length (newest_first (10 - count) packed) ≡ suc (length (newest_first (10 - (count + 1)) (packed / 4)))
+pub count-more : (count packed : ℕ) → count < 10 → 0 < packed
+    → length (newest_first (10 - count) packed)
+    ≡ suc (length (newest_first (10 - (count + 1)) (packed / 4)))
 unfolding newest_first
 count-more count packed h some =
     let more : 10 - count ≡ suc (10 - (count + 1)) = omega arith in

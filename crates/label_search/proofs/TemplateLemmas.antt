@@ -13,14 +13,17 @@ use Rattle.instruction_set.specs.Letter.{complement_of}
 use Rattle.label_search.specs.Template.{IsTemplate, is_nop, nops_read, complements_of, letter_after}
 
 -- two tests that agree compare lists alike
-pub pointwise_alike : {A : Type 0} (E F : A → A → Bool) → ((a b : A) → E a b ≡ F a b) → (xs ys : List A) → pointwise E xs ys ≡ pointwise F xs ys
+pub pointwise_alike : {A : Type 0} (E F : A → A → Bool) → ((a b : A) → E a b ≡ F a b)
+    → (xs ys : List A) → pointwise E xs ys ≡ pointwise F xs ys
 pointwise_alike E F alike [] [] = refl
 pointwise_alike E F alike [] (y ∷ ys) = refl
 pointwise_alike E F alike (x ∷ xs) [] = refl
-pointwise_alike E F alike (x ∷ xs) (y ∷ ys) = ap (λ b. b && pointwise E xs ys) (alike x y) ∙ ap (λ b. F x y && b) (pointwise_alike E F alike xs ys)
+pointwise_alike E F alike (x ∷ xs) (y ∷ ys) = ap (λ b. b && pointwise E xs ys) (alike x y)
+    ∙ ap (λ b. F x y && b) (pointwise_alike E F alike xs ys)
 
 -- a nop on a list that has room
-pub nops_read-room : (nops : List Letter) (letter : Letter) → is_nop letter ≡ true → length nops < 10 → nops_read nops letter ≡ nops ++ letter ∷ []
+pub nops_read-room : (nops : List Letter) (letter : Letter) → is_nop letter ≡ true
+    → length nops < 10 → nops_read nops letter ≡ nops ++ letter ∷ []
 nops_read-room nops letter nop room = grind (arith, common_steps)
 
 -- one step further, across the end
@@ -28,36 +31,53 @@ pub mod-next : (ip counter n : ℕ) → ((ip + counter) % n + 1) % n ≡ (ip + (
 mod-next ip counter n = mod-add-mod (ip + counter) n 1 ∙ ap (λ k. k % n) (omega arith)
 
 -- the letters from a step on, the first apart
-pub letters_from-next : (memory : List Letter) (ip counter left : ℕ) → 10 - counter ≡ left + 1 → map (letter_after memory ip) (range_with_len (1 + counter) (10 - counter)) ≡ letter_after memory ip (1 + counter) ∷ map (letter_after memory ip) (range_with_len (1 + (counter + 1)) left)
+pub letters_from-next : (memory : List Letter) (ip counter left : ℕ) → 10 - counter ≡ left + 1
+    → map (letter_after memory ip) (range_with_len (1 + counter) (10 - counter))
+    ≡ letter_after memory ip (1 + counter) ∷ map (letter_after memory ip)
+    (range_with_len (1 + (counter + 1)) left)
 letters_from-next memory ip counter left e =
     let more : 10 - counter ≡ suc left = omega arith in
     let further : 1 + counter + 1 ≡ 1 + (counter + 1) = omega arith in
     rw (more, further) refl
 
 -- the first item passes
-pub take_while-yes : {A : Type 0} (p : A → Bool) (x : A) (xs : List A) → p x ≡ true → take_while p (x ∷ xs) ≡ x ∷ take_while p xs
-take_while-yes p x xs passes = let one : 1 + prefix_len p xs ≡ suc (prefix_len p xs) = omega arith in rw (passes, one) refl
+pub take_while-yes : {A : Type 0} (p : A → Bool) (x : A) (xs : List A) → p x ≡ true
+    → take_while p (x ∷ xs) ≡ x ∷ take_while p xs
+take_while-yes p x xs passes =
+    let one : 1 + prefix_len p xs ≡ suc (prefix_len p xs) = omega arith in rw (passes, one) refl
 
 -- the nops among the letters from a step on start with a nop
-pub nops-next : (memory : List Letter) (ip counter left : ℕ) → 10 - counter ≡ left + 1 → is_nop (letter_after memory ip (1 + counter)) ≡ true → take_while is_nop (map (letter_after memory ip) (range_with_len (1 + counter) (10 - counter))) ≡ letter_after memory ip (1 + counter) ∷ take_while is_nop (map (letter_after memory ip) (range_with_len (1 + (counter + 1)) left))
+pub nops-next : (memory : List Letter) (ip counter left : ℕ) → 10 - counter ≡ left + 1
+    → is_nop (letter_after memory ip (1 + counter)) ≡ true
+    → take_while is_nop (map (letter_after memory ip) (range_with_len (1 + counter) (10 - counter)))
+    ≡ letter_after memory ip (1 + counter) ∷ take_while is_nop
+    (map (letter_after memory ip) (range_with_len (1 + (counter + 1)) left))
 nops-next memory ip counter left e nop =
     rw (letters_from-next memory ip counter left e) (take_while-yes is_nop _ _ nop)
 
 -- they start with another letter
-pub nops-end : (memory : List Letter) (ip counter : ℕ) → counter < 10 → is_nop (letter_after memory ip (1 + counter)) ≡ false → (nops : List Letter) → nops ++ take_while is_nop (map (letter_after memory ip) (range_with_len (1 + counter) (10 - counter))) ≡ nops
+pub nops-end : (memory : List Letter) (ip counter : ℕ) → counter < 10
+    → is_nop (letter_after memory ip (1 + counter)) ≡ false → (nops : List Letter)
+    → nops ++ take_while is_nop
+    (map (letter_after memory ip) (range_with_len (1 + counter) (10 - counter))) ≡ nops
 nops-end memory ip counter h other nops =
-    rw (letters_from-next memory ip counter (10 - (counter + 1)) (omega arith), other) (append-nil nops)
+    rw (letters_from-next memory ip counter (10 - (counter + 1)) (omega arith), other)
+    (append-nil nops)
 
 -- the complement of a nop is a nop
-pub is_nop-complement : (letter : Letter) → is_nop letter ≡ true → is_nop (unwrap_or (complement_of letter) letter) ≡ true
+pub is_nop-complement : (letter : Letter) → is_nop letter ≡ true
+    → is_nop (unwrap_or (complement_of letter) letter) ≡ true
 is_nop-complement NopA nop = refl
 is_nop-complement NopB nop = refl
 is_nop-complement NopC nop = refl
 is_nop-complement _ nop = nop
 
 -- the complements of a template are one
-pub IsTemplate-complements : (nops : List Letter) → IsTemplate nops → IsTemplate (complements_of nops)
+pub IsTemplate-complements : (nops : List Letter) → IsTemplate nops
+    → IsTemplate (complements_of nops)
 IsTemplate-complements nops template = record {
   few = rw length-map template.few;
-  nops = All-map (λ letter. is_nop letter ≡ true) (λ letter. unwrap_or (complement_of letter) letter) nops (λ k d h. is_nop-complement _ (template.nops k d h));
+  nops = All-map (λ letter. is_nop letter ≡ true)
+      (λ letter. unwrap_or (complement_of letter) letter) nops
+      (λ k d h. is_nop-complement _ (template.nops k d h));
 }

@@ -226,7 +226,8 @@ pub fn template_after(memory: &[Letter], ip: usize) -> Template
     template
 }
 
-/// The complement of a template, and the place of its last nop, or the place before it where it has none.
+/// The complement of a template, and the place of its last nop, or the place before it where it has
+/// none.
 #[derive(Drop)]
 pub struct Reading {
     pub complement: Template,

@@ -31,43 +31,65 @@ module _ (letter : Letter) (index : ℕ) (within : index < 26) where
   test i = not (eqb i (index_of letter))
 
   -- the letter itself is left out
-  pub others_itself : index ≡ index_of letter → others_from letter index (26 - index) ≡ others_from letter (index + 1) (26 - (index + 1))
+  pub others_itself : index ≡ index_of letter
+      → others_from letter index (26 - index) ≡ others_from letter (index + 1) (26 - (index + 1))
   unfolding others_from
   others_itself same =
       ap (λ (is : List ℕ). filter_map letter_at (filter test is)) (range_next index 26 within)
-      ∙ ap (filter_map letter_at) (filter_out test index (range_with_len (index + 1) (26 - (index + 1))) (equal index (index_of letter) same))
+      ∙ ap (filter_map letter_at)
+      (filter_out test index (range_with_len (index + 1) (26 - (index + 1)))
+      (equal index (index_of letter) same))
 
-  others_else : index ≢ index_of letter → others_from letter index (26 - index) ≡ cons_option (letter_at index) (others_from letter (index + 1) (26 - (index + 1)))
+  others_else : index ≢ index_of letter
+      → others_from letter index (26 - index)
+      ≡ cons_option (letter_at index) (others_from letter (index + 1) (26 - (index + 1)))
   unfolding others_from
   others_else apart =
       ap (λ (is : List ℕ). filter_map letter_at (filter test is)) (range_next index 26 within)
-      ∙ ap (filter_map letter_at) (filter_in test index (range_with_len (index + 1) (26 - (index + 1))) (not_equal index (index_of letter) apart))
+      ∙ ap (filter_map letter_at)
+      (filter_in test index (range_with_len (index + 1) (26 - (index + 1)))
+      (not_equal index (index_of letter) apart))
 
   -- any other is there
-  pub others_other : (other : Letter) → index ≢ index_of letter → Some other ≡ letter_at index → others_from letter index (26 - index) ≡ other ∷ others_from letter (index + 1) (26 - (index + 1))
-  others_other other apart is = others_else apart ∙ ap (λ (o : Option Letter). cons_option o (others_from letter (index + 1) (26 - (index + 1)))) (sym is)
+  pub others_other : (other : Letter) → index ≢ index_of letter → Some other ≡ letter_at index
+      → others_from letter index (26 - index) ≡ other ∷ others_from letter (index + 1)
+      (26 - (index + 1))
+  others_other other apart is = others_else apart
+      ∙ ap (λ (o : Option Letter).
+      cons_option o (others_from letter (index + 1) (26 - (index + 1)))) (sym is)
 
-  pub others_none : index ≢ index_of letter → None ≡ letter_at index → others_from letter index (26 - index) ≡ others_from letter (index + 1) (26 - (index + 1))
-  others_none apart is = others_else apart ∙ ap (λ (o : Option Letter). cons_option o (others_from letter (index + 1) (26 - (index + 1)))) (sym is)
+  pub others_none : index ≢ index_of letter → None ≡ letter_at index
+      → others_from letter index (26 - index) ≡ others_from letter (index + 1) (26 - (index + 1))
+  others_none apart is = others_else apart
+      ∙ ap (λ (o : Option Letter).
+      cons_option o (others_from letter (index + 1) (26 - (index + 1)))) (sym is)
 
 -- one change more
-pub change_more : (at : ℕ) (letter other : Letter) (index : ℕ) (old new all : List Change) → index < 26 → index ≢ index_of letter → Some other ≡ letter_at index → new ≡ old ++ record { at = at; letter = other } ∷ [] → old ++ changes_left at letter index ≡ all → new ++ changes_left at letter (index + 1) ≡ all
+pub change_more : (at : ℕ) (letter other : Letter) (index : ℕ) (old new all : List Change)
+    → index < 26 → index ≢ index_of letter → Some other ≡ letter_at index
+    → new ≡ old ++ record { at = at; letter = other } ∷ []
+    → old ++ changes_left at letter index ≡ all → new ++ changes_left at letter (index + 1) ≡ all
 change_more at letter other index old new all within apart is more so_far =
     let one : Change = record { at = at; letter = other } in
     ap (λ (cs : List Change). cs ++ changes_left at letter (index + 1)) more
     ∙ append_assoc old (one ∷ []) (changes_left at letter (index + 1))
-    ∙ sym (ap (λ (ls : List Letter). old ++ map (λ l. record { at = at; letter = l }) ls) (others_other letter index within other apart is))
+    ∙ sym (ap (λ (ls : List Letter). old ++ map (λ l. record { at = at; letter = l }) ls)
+    (others_other letter index within other apart is))
     ∙ so_far
 
-pub same_left : (at : ℕ) (letter : Letter) (index : ℕ) (old all : List Change) → others_from letter index (26 - index) ≡ others_from letter (index + 1) (26 - (index + 1)) → old ++ changes_left at letter index ≡ all → old ++ changes_left at letter (index + 1) ≡ all
+pub same_left : (at : ℕ) (letter : Letter) (index : ℕ) (old all : List Change)
+    → others_from letter index (26 - index) ≡ others_from letter (index + 1) (26 - (index + 1))
+    → old ++ changes_left at letter index ≡ all → old ++ changes_left at letter (index + 1) ≡ all
 same_left at letter index old all same so_far =
-    sym (ap (λ (ls : List Letter). old ++ map (λ l. record { at = at; letter = l }) ls) same) ∙ so_far
+    sym (ap (λ (ls : List Letter). old ++ map (λ l. record { at = at; letter = l }) ls) same)
+    ∙ so_far
 
 no_letter_left : (letter : Letter) (index : ℕ) → others_from letter index 0 ≡ []
 unfolding others_from
 no_letter_left letter index = refl
 
-pub no_change_left : (at : ℕ) (letter : Letter) (index : ℕ) → 26 ≤ index → changes_left at letter index ≡ []
+pub no_change_left : (at : ℕ) (letter : Letter) (index : ℕ) → 26 ≤ index
+    → changes_left at letter index ≡ []
 no_change_left at letter index past =
     let e : 26 - index ≡ 0 = omega arith in
     ap (λ (n : ℕ). map (λ l. record { at = at; letter = l }) (others_from letter index n)) e
@@ -77,14 +99,18 @@ no_change_left at letter index past =
 abbrev pub places_left : List Letter → ℕ → List Change
 places_left genome at = flat_map (changes_at genome) (range_with_len at (length genome - at))
 
-pub place_more : (genome : List Letter) (at : ℕ) (old new all : List Change) → at < length genome → new ≡ old ++ changes_at genome at → old ++ places_left genome at ≡ all → new ++ places_left genome (at + 1) ≡ all
+pub place_more : (genome : List Letter) (at : ℕ) (old new all : List Change) → at < length genome
+    → new ≡ old ++ changes_at genome at → old ++ places_left genome at ≡ all
+    → new ++ places_left genome (at + 1) ≡ all
 place_more genome at old new all within more so_far =
     ap (λ (cs : List Change). cs ++ places_left genome (at + 1)) more
     ∙ append_assoc old (changes_at genome at) (places_left genome (at + 1))
-    ∙ sym (ap (λ (ns : List ℕ). old ++ flat_map (changes_at genome) ns) (range_next at (length genome) within))
+    ∙ sym (ap (λ (ns : List ℕ). old ++ flat_map (changes_at genome) ns)
+    (range_next at (length genome) within))
     ∙ so_far
 
-pub no_place_left : (genome : List Letter) (at : ℕ) → length genome ≤ at → places_left genome at ≡ []
+pub no_place_left : (genome : List Letter) (at : ℕ) → length genome ≤ at
+    → places_left genome at ≡ []
 no_place_left genome at past =
     let e : length genome - at ≡ 0 = omega arith in
     ap (λ (n : ℕ). flat_map (changes_at genome) (range_with_len at n)) e

@@ -22,4 +22,7 @@ letter_eq-Decides a b = (same_true the_type tt a b, true_same the_type a b)
 -- two genomes are one value just where their letters are the same
 pub genome_eq : OneList → (a b : Genome) → ghosts.eq a b ≡ same_letters (letters a) (letters b)
 genome_eq one_list a b =
-    same_from_decides {P = letters a ≡ letters b} (ghosts.eq a b) (same_letters (letters a) (letters b)) (slice_eq-Decides letter_eq-Decides (letters a) (letters b) _ refl) (one_list (letters a) (letters b))
+    same_from_decides {P = letters a ≡ letters b} (ghosts.eq a b)
+    (same_letters (letters a) (letters b))
+    (slice_eq-Decides letter_eq-Decides (letters a) (letters b) _ refl)
+    (one_list (letters a) (letters b))

@@ -15,8 +15,12 @@ module _ {X Y : Type 0} (E : Type 0) (f : X → Y) where
   all_there (x ∷ xs) (y ∷ ys) each = λ i. each.0 i ∷ all_there xs ys each.1 i
 
   -- what is gathered of results, if all are there
-  pub gathered : {V : Type 0} (items : V → List Y) (xs : List X) (rs : List (Result Y E)) (r : Result V E) → AllZip IsResult xs rs
-      → MatchResult r (λ v. (ys : List Y) × (rs ≡ map Ok ys) × (items v ≡ ys)) (λ e. Contains rs (Err e))
+  pub gathered : {V : Type 0} (items : V → List Y) (xs : List X) (rs : List (Result Y E))
+      (r : Result V E) → AllZip IsResult xs rs
+      → MatchResult r (λ v. (ys : List Y) × (rs ≡ map Ok ys) × (items v ≡ ys))
+      (λ e. Contains rs (Err e))
       → IfOk r (λ v. items v ≡ map f xs)
-  gathered items xs rs (Ok v) each got = got.2 ∙ all_there xs got.0 (subst (λ (l : List (Result Y E)). AllZip IsResult xs l) got.1 each)
+  gathered items xs rs (Ok v) each got =
+      got.2 ∙ all_there xs got.0
+      (subst (λ (l : List (Result Y E)). AllZip IsResult xs l) got.1 each)
   gathered items xs rs (Err e) each got = tt

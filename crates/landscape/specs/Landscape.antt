@@ -12,7 +12,8 @@ use Rattle.landscape.specs.Trials.{trial_of}
 -- the letters of so many indexes from one on, but for this letter
 unfoldable pub others_from : Letter → ℕ → ℕ → List Letter
 others_from letter from len =
-    filter_map letter_at (filter (λ index. not (index == index_of letter)) (range_with_len from len))
+    filter_map letter_at (filter (λ index. not (index == index_of letter))
+    (range_with_len from len))
 
 -- all letters but this one, in order of their indexes
 abbrev pub other_letters : Letter → List Letter

@@ -22,8 +22,8 @@ use std::thread::Threads;
 /// How few genomes are worth a thread of their own.
 const LEAST_PIECE: usize = 8;
 
-/// Tries a genome: an organism of it takes so many steps at most, alone, as in a trace. None exactly
-/// where no divide is viable.
+/// Tries a genome: an organism of it takes so many steps at most, alone, as in a trace. None
+/// exactly where no divide is viable.
 pub fn trial(alloc: Global, genome: &Genome, steps: u32) -> Result<Option<Trial>, Memory>
     ensures { IfOk result (λ trial. trial ≡ trial_of (letters genome.now) steps) }
 {

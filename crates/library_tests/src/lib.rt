@@ -14,6 +14,8 @@ mod divides;
 #[cfg(test)]
 mod genomes;
 #[cfg(test)]
+mod kept_trees;
+#[cfg(test)]
 mod letters;
 #[cfg(test)]
 mod lines;

@@ -19,7 +19,8 @@ fn machine(alloc: Global, program: &str) -> Result<Cpu, Fail> {
     Ok(Cpu::new(alloc, &genome, GREATEST_LENGTH)?)
 }
 
-/// Steps a program, and compares the last step: the place and the name under IP before it, the registers after it.
+/// Steps a program, and compares the last step: the place and the name under IP before it, the
+/// registers after it.
 fn expect_step(
     rt: &impl Abort,
     alloc: Global,

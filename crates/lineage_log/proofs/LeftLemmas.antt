@@ -14,26 +14,31 @@ use Rattle.lineage_log.proofs.LogLaws.{went_on, place_is}
 use Rattle.lineage_log.proofs.ReadLemmas.{cut, front_none, front_more}
 
 -- the lines that were given are before those that are left, and lead to this place
-pub record HasGiven (read : Result (List Line) Fault) (place : Place) (left : Result (List Line) Fault) : Type 0 where
+pub record HasGiven (read : Result (List Line) Fault) (place : Place)
+    (left : Result (List Line) Fault) : Type 0 where
   pub front : List Line
   pub so_far : with_front front left ≡ read
   pub told : told_all Before front ≡ Ok place
 
-pub left_at_start : (bytes : List ℕ) (reader : LogReader) → IsAtStart bytes reader → left_of reader ≡ log_of bytes
+pub left_at_start : (bytes : List ℕ) (reader : LogReader) → IsAtStart bytes reader
+    → left_of reader ≡ log_of bytes
 unfolding log_of
 left_at_start bytes reader start =
     ap (λ (n : ℕ). pieces_log n (place_of reader.place) (cut reader.rest.now)) start.number
     ∙ ap (λ (p : Place). pieces_log 1 p (cut reader.rest.now)) start.place
     ∙ ap (λ (l : List ℕ). pieces_log 1 Before (cut l)) start.rest
 
-pub given_none : (bytes : List ℕ) (reader : LogReader) → IsAtStart bytes reader → HasGiven (log_of bytes) (place_of reader.place) (left_of reader)
+pub given_none : (bytes : List ℕ) (reader : LogReader) → IsAtStart bytes reader
+    → HasGiven (log_of bytes) (place_of reader.place) (left_of reader)
 given_none bytes reader start = record {
   front = [];
   so_far = front_none (left_of reader) ∙ left_at_start bytes reader start;
   told = ap (λ (p : Place). Ok p) (sym start.place);
 }
 
-told_more : (place before after : Place) (front : List Line) (line : Line) → told_all place front ≡ Ok before → told before line ≡ Ok after → told_all place (front ++ line ∷ []) ≡ Ok after
+told_more : (place before after : Place) (front : List Line) (line : Line)
+    → told_all place front ≡ Ok before → told before line ≡ Ok after
+    → told_all place (front ++ line ∷ []) ≡ Ok after
 told_more place before after [] line so next =
     ap (λ (p : Place). and_on (told p line) (λ q. told_all q [])) (place_is place before so)
     ∙ ap (λ (t : Result Place Reason). and_on t (λ q. told_all q [])) next
@@ -42,24 +47,34 @@ told_more place before after (first ∷ front) line so next =
     ap (λ (t : Result Place Reason). and_on t (λ p. told_all p (front ++ line ∷ []))) step.1
     ∙ told_more step.0 before after front line step.2 next
 
-pub given_more : (read : Result (List Line) Fault) (before after : Place) (left behind : Result (List Line) Fault) (line : Line) → HasGiven read before left → left ≡ with_line line behind → told before line ≡ Ok after → HasGiven read after behind
+pub given_more : (read : Result (List Line) Fault) (before after : Place)
+    (left behind : Result (List Line) Fault) (line : Line) → HasGiven read before left
+    → left ≡ with_line line behind → told before line ≡ Ok after → HasGiven read after behind
 given_more read before after left behind line given is next = record {
   front = given.front ++ line ∷ [];
-  so_far = sym (front_more given.front line behind) ∙ ap (with_front given.front) (sym is) ∙ given.so_far;
+  so_far = sym (front_more given.front line behind) ∙ ap (with_front given.front) (sym is)
+      ∙ given.so_far;
   told = told_more Before before after given.front line given.told next;
 }
 
 -- what was given is the whole log
-pub given_all : (read : Result (List Line) Fault) (place : Place) (left : Result (List Line) Fault) (given : HasGiven read place left) → left ≡ Ok [] → read ≡ Ok given.front
-given_all read place left given is = sym given.so_far ∙ ap (with_front given.front) is ∙ ap (λ (l : List Line). Ok l) (append-nil given.front)
+pub given_all : (read : Result (List Line) Fault) (place : Place) (left : Result (List Line) Fault)
+    (given : HasGiven read place left) → left ≡ Ok [] → read ≡ Ok given.front
+given_all read place left given is = sym given.so_far ∙ ap (with_front given.front) is
+    ∙ ap (λ (l : List Line). Ok l) (append-nil given.front)
 
 -- a fault of what is left is the fault of the whole
-pub fault_left : (front : List Line) (left : Result (List Line) Fault) (stop : LogStop) → answer_of left ≡ Err stop → answer_of (with_front front left) ≡ Err stop
+pub fault_left : (front : List Line) (left : Result (List Line) Fault) (stop : LogStop)
+    → answer_of left ≡ Err stop → answer_of (with_front front left) ≡ Err stop
 fault_left front (Ok lines) stop is = absurd cc
 fault_left front (Err e) stop is = is
 
 -- one line more was given
-pub given_line : (read : Result (List Line) Fault) (before after : LogReader) (found : Option LogLine) (line : LogLine) → HasGiven read (place_of before.place) (left_of before) → GivesNext (Ok found) before after → found ≡ Some line → HasGiven read (place_of after.place) (left_of after)
+pub given_line : (read : Result (List Line) Fault) (before after : LogReader)
+    (found : Option LogLine) (line : LogLine)
+    → HasGiven read (place_of before.place) (left_of before) → GivesNext (Ok found) before after
+    → found ≡ Some line → HasGiven read (place_of after.place) (left_of after)
 given_line read before after found line given gives is =
     let one = subst (λ (o : Option LogLine). GivesNext (Ok o) before after) is gives in
-    given_more read (place_of before.place) (place_of after.place) (left_of before) (left_of after) (values_of line) given one.left one.told
+    given_more read (place_of before.place) (place_of after.place) (left_of before) (left_of after)
+    (values_of line) given one.left one.told

@@ -1,4 +1,5 @@
--- A good list of lines has a text that is read as that list, and what is read as a list is the text of a good one.
+-- A good list of lines has a text that is read as that list, and what is read as a list is the text
+-- of a good one.
 use Rattle.std.proofs.Common.{◌≡◌, ℕ, ◌+◌, ◌<◌, false, List, [], ◌∷◌, ◌++◌, Option, Some, None, Result, Ok, Err, refl, sym, ap, subst, ◌∙◌, arith, append_assoc, inl, inr}
 use Rattle.std.specs.Prelude.{◌==◌}
 use Rattle.std.specs.List.{slice_split, onto_first, AllByRecursion, join_with_byte}
@@ -16,30 +17,35 @@ use Rattle.lineage_log.specs.LogGrammar.{Fault, log_end, with_line, after_told, 
 -- what is used of the lines' texts
 pub record OneSpelling : Type 0 where
   pub again : (line : Line) → HasForm line → line_of (row_text line) ≡ Some line
-  pub takes : (bytes : List ℕ) (line : Line) → line_of bytes ≡ Some line → (row_text line ≡ bytes) × HasForm line
+  pub takes : (bytes : List ℕ) (line : Line) → line_of bytes ≡ Some line → (row_text line ≡ bytes)
+      × HasForm line
   pub one_line : (line : Line) → HasForm line → AllByRecursion (λ b. 10 < b) (row_text line)
 
 abbrev cut : List ℕ → List (List ℕ)
 cut bytes = slice_split (λ b. b == 10) bytes
 
-cut_first : (text rest : List ℕ) → AllByRecursion (λ b. 10 < b) text → cut (text ++ 10 ∷ rest) ≡ text ∷ cut rest
+cut_first : (text rest : List ℕ) → AllByRecursion (λ b. 10 < b) text
+    → cut (text ++ 10 ∷ rest) ≡ text ∷ cut rest
 cut_first [] rest all = refl
 cut_first (b ∷ bs) rest all =
     let other : (b == 10) ≡ false = grind (arith, nat_tests, all.0) in
     rw (other, cut_first bs rest all.1) refl
 
-onto_some : (b : ℕ) (parts : List (List ℕ)) → (next : List ℕ) × (others : List (List ℕ)) × (onto_first b parts ≡ next ∷ others)
+onto_some : (b : ℕ) (parts : List (List ℕ)) → (next : List ℕ) × (others : List (List ℕ))
+    × (onto_first b parts ≡ next ∷ others)
 onto_some b [] = (b ∷ [], [], refl)
 onto_some b (part ∷ parts) = (b ∷ part, parts, refl)
 
-cut_some : (bytes : List ℕ) → (next : List ℕ) × (others : List (List ℕ)) × (cut bytes ≡ next ∷ others)
+cut_some : (bytes : List ℕ) → (next : List ℕ) × (others : List (List ℕ))
+    × (cut bytes ≡ next ∷ others)
 cut_some [] = ([], [], refl)
 cut_some (b ∷ bs) = elim (cases_Bool (b == 10)) [
   | inl is ↦ ([], cut bs, rw is refl)
   | inr not ↦ let r = onto_some b (cut bs) in (r.0, r.1, rw not r.2)
 ]
 
-pub went_on : (r : Result Place Reason) (next : Place → Result Place Reason) (q : Place) → and_on r next ≡ Ok q → (p : Place) × (r ≡ Ok p) × (next p ≡ Ok q)
+pub went_on : (r : Result Place Reason) (next : Place → Result Place Reason) (q : Place)
+    → and_on r next ≡ Ok q → (p : Place) × (r ≡ Ok p) × (next p ≡ Ok q)
 went_on (Ok p) next q e = (p, refl, e)
 went_on (Err reason) next q e = absurd cc
 
@@ -49,23 +55,32 @@ at_end number place r is = rw is refl
 pub place_is : (p q : Place) → ◌≡◌ {A = Result Place Reason} (Ok p) (Ok q) → p ≡ q
 place_is p q e = cc
 
-pub pieces_again : (spell : OneSpelling) (number : ℕ) (place : Place) (lines : List Line) (r : Reader) → told_all place lines ≡ Ok (After r) → AllByRecursion HasForm lines → pieces_log number place (cut (lines_text lines)) ≡ Ok lines
-pieces_again spell number place [] r told fits = at_end number place r (place_is place (After r) told)
+pub pieces_again : (spell : OneSpelling) (number : ℕ) (place : Place) (lines : List Line)
+    (r : Reader) → told_all place lines ≡ Ok (After r) → AllByRecursion HasForm lines
+    → pieces_log number place (cut (lines_text lines)) ≡ Ok lines
+pieces_again spell number place [] r told fits =
+    at_end number place r (place_is place (After r) told)
 pieces_again spell number place (line ∷ lines) r good fits =
     let rest = lines_text lines in
     let step = went_on (told place line) (λ p. told_all p lines) (After r) good in
     let some = cut_some rest in
-    let text : lines_text (line ∷ lines) ≡ row_text line ++ 10 ∷ rest = append_assoc (row_text line) (10 ∷ []) rest in
+    let text : lines_text (line ∷ lines) ≡ row_text line ++ 10 ∷ rest =
+    append_assoc (row_text line) (10 ∷ []) rest in
     let parts : cut (lines_text (line ∷ lines)) ≡ row_text line ∷ some.0 ∷ some.1 =
-    ap cut text ∙ cut_first (row_text line) rest (spell.one_line line fits.0) ∙ ap (λ (l : List (List ℕ)). row_text line ∷ l) some.2 in
+    ap cut text ∙ cut_first (row_text line) rest (spell.one_line line fits.0)
+    ∙ ap (λ (l : List (List ℕ)). row_text line ∷ l) some.2 in
     let others = λ (p : Place). pieces_log (number + 1) p (some.0 ∷ some.1) in
-    let deep : others step.0 ≡ Ok lines = ap (λ (l : List (List ℕ)). pieces_log (number + 1) step.0 l) (sym some.2) ∙ pieces_again spell (number + 1) step.0 lines r step.2 fits.1 in
+    let deep : others step.0 ≡ Ok lines =
+    ap (λ (l : List (List ℕ)). pieces_log (number + 1) step.0 l) (sym some.2)
+    ∙ pieces_again spell (number + 1) step.0 lines r step.2 fits.1 in
     ap (λ (l : List (List ℕ)). pieces_log number place l) parts
     ∙ ap (λ (o : Option Line). one_piece number place o others) (spell.again line fits.0)
     ∙ ap (λ (t : Result Place Reason). after_told number line t others) step.1
     ∙ ap (λ (l : Result (List Line) Fault). with_line line l) deep
 
-pub log_again : (spell : OneSpelling) (lines : List Line) (r : Reader) → told_all Before lines ≡ Ok (After r) → AllByRecursion HasForm lines → log_of (lines_text lines) ≡ Ok lines
+pub log_again : (spell : OneSpelling) (lines : List Line) (r : Reader)
+    → told_all Before lines ≡ Ok (After r) → AllByRecursion HasForm lines
+    → log_of (lines_text lines) ≡ Ok lines
 unfolding log_of
 log_again spell lines r good fits = pieces_again spell 1 Before lines r good fits
 
@@ -76,24 +91,36 @@ record IsRead (place : Place) (pieces : List (List ℕ)) (lines : List Line) : T
   fits : AllByRecursion HasForm lines
   whole : IsWhole (told_all place lines)
 
-end_read : (number : ℕ) (place : Place) (lines : List Line) → log_end number place ≡ Ok lines → IsRead place ([] ∷ []) lines
+end_read : (number : ℕ) (place : Place) (lines : List Line) → log_end number place ≡ Ok lines
+    → IsRead place ([] ∷ []) lines
 end_read number Before lines is = absurd cc
 end_read number (Within r) lines is = absurd cc
-end_read number (After r) lines is = let e : [] ≡ lines = cc in subst (λ (l : List Line). IsRead (After r) ([] ∷ []) l) e (record { text = refl; fits = tt; whole = tt })
+end_read number (After r) lines is = let e : [] ≡ lines = cc in
+    subst (λ (l : List Line). IsRead (After r) ([] ∷ []) l) e
+    (record { text = refl; fits = tt; whole = tt })
 
-with_is : (line : Line) (others : Result (List Line) Fault) (lines : List Line) → with_line line others ≡ Ok lines → (rest : List Line) × (others ≡ Ok rest) × (line ∷ rest ≡ lines)
+with_is : (line : Line) (others : Result (List Line) Fault) (lines : List Line)
+    → with_line line others ≡ Ok lines → (rest : List Line) × (others ≡ Ok rest)
+    × (line ∷ rest ≡ lines)
 with_is line (Ok rest) lines is = (rest, refl, cc)
 with_is line (Err e) lines is = absurd cc
 
-told_is : (number : ℕ) (line : Line) (t : Result Place Reason) (others : Place → Result (List Line) Fault) (lines : List Line) → after_told number line t others ≡ Ok lines → (p : Place) × (t ≡ Ok p) × (with_line line (others p) ≡ Ok lines)
+told_is : (number : ℕ) (line : Line) (t : Result Place Reason)
+    (others : Place → Result (List Line) Fault) (lines : List Line)
+    → after_told number line t others ≡ Ok lines → (p : Place) × (t ≡ Ok p)
+    × (with_line line (others p) ≡ Ok lines)
 told_is number line (Ok p) others lines is = (p, refl, is)
 told_is number line (Err e) others lines is = absurd cc
 
-piece_is : (number : ℕ) (place : Place) (o : Option Line) (others : Place → Result (List Line) Fault) (lines : List Line) → one_piece number place o others ≡ Ok lines → (line : Line) × (o ≡ Some line) × (after_told number line (told place line) others ≡ Ok lines)
+piece_is : (number : ℕ) (place : Place) (o : Option Line)
+    (others : Place → Result (List Line) Fault) (lines : List Line)
+    → one_piece number place o others ≡ Ok lines → (line : Line) × (o ≡ Some line)
+    × (after_told number line (told place line) others ≡ Ok lines)
 piece_is number place None others lines is = absurd cc
 piece_is number place (Some line) others lines is = (line, refl, is)
 
-pieces_read : (spell : OneSpelling) (number : ℕ) (place : Place) (pieces : List (List ℕ)) (lines : List Line) → pieces_log number place pieces ≡ Ok lines → IsRead place pieces lines
+pieces_read : (spell : OneSpelling) (number : ℕ) (place : Place) (pieces : List (List ℕ))
+    (lines : List Line) → pieces_log number place pieces ≡ Ok lines → IsRead place pieces lines
 pieces_read spell number place [] lines is = absurd cc
 pieces_read spell number place ([] ∷ []) lines is = end_read number place lines is
 pieces_read spell number place ((b ∷ bs) ∷ []) lines is = absurd cc
@@ -105,12 +132,16 @@ pieces_read spell number place (piece ∷ next ∷ pieces) lines is =
     let deep = pieces_read spell (number + 1) b.0 (next ∷ pieces) c.0 c.1 in
     let t = spell.takes piece a.0 a.1 in
     subst (λ (l : List Line). IsRead place (piece ∷ next ∷ pieces) l) c.2 (record {
-      text = append_assoc (row_text a.0) (10 ∷ []) (lines_text c.0) ∙ ap (λ (w : List ℕ). w ++ 10 ∷ lines_text c.0) t.0 ∙ ap (λ (w : List ℕ). piece ++ 10 ∷ w) deep.text;
+      text = append_assoc (row_text a.0) (10 ∷ []) (lines_text c.0)
+          ∙ ap (λ (w : List ℕ). w ++ 10 ∷ lines_text c.0) t.0
+          ∙ ap (λ (w : List ℕ). piece ++ 10 ∷ w) deep.text;
       fits = (t.1, deep.fits);
-      whole = subst (λ (t : Result Place Reason). IsWhole (and_on t (λ p. told_all p c.0))) (sym b.1) deep.whole;
+      whole = subst (λ (t : Result Place Reason). IsWhole (and_on t (λ p. told_all p c.0)))
+          (sym b.1) deep.whole;
     })
 
-pub log_takes : (spell : OneSpelling) (bytes : List ℕ) (lines : List Line) → log_of bytes ≡ Ok lines → (lines_text lines ≡ bytes) × IsGoodLog lines
+pub log_takes : (spell : OneSpelling) (bytes : List ℕ) (lines : List Line) → log_of bytes ≡ Ok lines
+    → (lines_text lines ≡ bytes) × IsGoodLog lines
 unfolding log_of
 log_takes spell bytes lines is =
     let r = pieces_read spell 1 Before (cut bytes) lines is in
@@ -122,7 +153,8 @@ whole_is (Ok (Within r)) w = absurd w
 whole_is (Ok (After r)) w = (r, refl)
 whole_is (Err e) w = absurd w
 
-pub read_back : (spell : OneSpelling) (bytes : List ℕ) (lines : List Line) → lines_text lines ≡ bytes → IsGoodLog lines → log_of bytes ≡ Ok lines
+pub read_back : (spell : OneSpelling) (bytes : List ℕ) (lines : List Line)
+    → lines_text lines ≡ bytes → IsGoodLog lines → log_of bytes ≡ Ok lines
 read_back spell bytes lines text good =
     let r = whole_is (told_all Before lines) good.order in
     ap log_of (sym text) ∙ log_again spell lines r.0 r.1 good.forms

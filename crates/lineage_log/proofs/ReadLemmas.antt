@@ -20,24 +20,34 @@ pub front_none : (r : Result (List Line) Fault) → with_front [] r ≡ r
 front_none (Ok lines) = refl
 front_none (Err fault) = refl
 
-pub front_more : (front : List Line) (one : Line) (r : Result (List Line) Fault) → with_front front (with_line one r) ≡ with_front (front ++ one ∷ []) r
-front_more front one (Ok lines) = ap (λ (l : List Line). Ok l) (sym (append_assoc front (one ∷ []) lines))
+pub front_more : (front : List Line) (one : Line) (r : Result (List Line) Fault)
+    → with_front front (with_line one r) ≡ with_front (front ++ one ∷ []) r
+front_more front one (Ok lines) =
+    ap (λ (l : List Line). Ok l) (sym (append_assoc front (one ∷ []) lines))
 front_more front one (Err fault) = refl
 
 abbrev pub cut : List ℕ → List (List ℕ)
 cut bytes = slice_split (λ b. b == 10) bytes
 
 -- what is left of the bytes begins with a piece before a newline
-pub next_piece : (number : ℕ) (place : Place) (left piece : List ℕ) (others : Option (Bor (List ℕ))) (behind : Bor (List ℕ)) → cut left ≡ piece ∷ pieces_of 10 (option_copied others) → others ≡ Some behind → pieces_log number place (cut left) ≡ pieces_log number place (piece ∷ cut behind.now)
+pub next_piece : (number : ℕ) (place : Place) (left piece : List ℕ) (others : Option (Bor (List ℕ)))
+    (behind : Bor (List ℕ)) → cut left ≡ piece ∷ pieces_of 10 (option_copied others)
+    → others ≡ Some behind → pieces_log number place (cut left)
+    ≡ pieces_log number place (piece ∷ cut behind.now)
 next_piece number place left piece others behind split is =
-    let pieces : cut left ≡ piece ∷ cut behind.now = split ∙ ap (λ (o : Option (Bor (List ℕ))). piece ∷ pieces_of 10 (option_copied o)) is in
+    let pieces : cut left ≡ piece ∷ cut behind.now =
+    split ∙ ap (λ (o : Option (Bor (List ℕ))). piece ∷ pieces_of 10 (option_copied o)) is in
     ap (λ (ps : List (List ℕ)). pieces_log number place ps) pieces
 
-more_onto : (number : ℕ) (place : Place) (piece : List ℕ) (b : ℕ) (parts : List (List ℕ)) → pieces_log number place (piece ∷ onto_first b parts) ≡ one_piece number place (line_of piece) (λ p. pieces_log (number + 1) p (onto_first b parts))
+more_onto : (number : ℕ) (place : Place) (piece : List ℕ) (b : ℕ) (parts : List (List ℕ))
+    → pieces_log number place (piece ∷ onto_first b parts) ≡ one_piece number place (line_of piece)
+    (λ p. pieces_log (number + 1) p (onto_first b parts))
 more_onto number place piece b [] = refl
 more_onto number place piece b (part ∷ parts) = refl
 
-more_pieces : (number : ℕ) (place : Place) (piece rest : List ℕ) → pieces_log number place (piece ∷ cut rest) ≡ one_piece number place (line_of piece) (λ p. pieces_log (number + 1) p (cut rest))
+more_pieces : (number : ℕ) (place : Place) (piece rest : List ℕ)
+    → pieces_log number place (piece ∷ cut rest) ≡ one_piece number place (line_of piece)
+    (λ p. pieces_log (number + 1) p (cut rest))
 more_pieces number place piece [] = refl
 more_pieces number place piece (b ∷ bs) = elim (cases_Bool (b == 10)) [
   | inl is ↦ rw is refl
@@ -45,24 +55,44 @@ more_pieces number place piece (b ∷ bs) = elim (cases_Bool (b == 10)) [
 ]
 
 module _ (number : ℕ) (place : Place) (piece rest : List ℕ) where
-  pub bad_line : line_of piece ≡ None → pieces_log number place (piece ∷ cut rest) ≡ Err (record { line = number; cause = BadLine })
-  bad_line none = more_pieces number place piece rest ∙ ap (λ (o : Option Line). one_piece number place o (λ p. pieces_log (number + 1) p (cut rest))) none
+  pub bad_line : line_of piece ≡ None
+      → pieces_log number place (piece ∷ cut rest) ≡ Err (record { line = number; cause = BadLine })
+  bad_line none = more_pieces number place piece rest
+      ∙ ap (λ (o : Option Line). one_piece number place o
+      (λ p. pieces_log (number + 1) p (cut rest))) none
 
-  pub bad_order : (one : Line) (reason : Reason) → line_of piece ≡ Some one → told place one ≡ Err reason → pieces_log number place (piece ∷ cut rest) ≡ Err (record { line = number; cause = OutOfOrder reason })
+  pub bad_order : (one : Line) (reason : Reason) → line_of piece ≡ Some one
+      → told place one ≡ Err reason
+      → pieces_log number place (piece ∷ cut rest)
+      ≡ Err (record { line = number; cause = OutOfOrder reason })
   bad_order one reason is bad =
       let others = λ (p : Place). pieces_log (number + 1) p (cut rest) in
-      more_pieces number place piece rest ∙ ap (λ (o : Option Line). one_piece number place o others) is ∙ ap (λ (t : Result Place Reason). after_told number one t others) bad
+      more_pieces number place piece rest
+      ∙ ap (λ (o : Option Line). one_piece number place o others) is
+      ∙ ap (λ (t : Result Place Reason). after_told number one t others) bad
 
-  pub good_line : (one : Line) (next : Place) (after : ℕ) → line_of piece ≡ Some one → told place one ≡ Ok next → after ≡ number + 1 → pieces_log number place (piece ∷ cut rest) ≡ with_line one (pieces_log after next (cut rest))
+  pub good_line : (one : Line) (next : Place) (after : ℕ) → line_of piece ≡ Some one
+      → told place one ≡ Ok next → after ≡ number + 1
+      → pieces_log number place (piece ∷ cut rest)
+      ≡ with_line one (pieces_log after next (cut rest))
   good_line one next after is good more =
       let others = λ (p : Place). pieces_log (number + 1) p (cut rest) in
-      more_pieces number place piece rest ∙ ap (λ (o : Option Line). one_piece number place o others) is ∙ ap (λ (t : Result Place Reason). after_told number one t others) good
+      more_pieces number place piece rest
+      ∙ ap (λ (o : Option Line). one_piece number place o others) is
+      ∙ ap (λ (t : Result Place Reason). after_told number one t others) good
       ∙ ap (λ (n : ℕ). with_line one (pieces_log n next (cut rest))) (sym more)
 
-pub good_read : ((bytes : List ℕ) (lines : List Line) → Reads bytes lines ↔ ((lines_text lines ≡ bytes) × IsGoodLog lines)) → (bytes : List ℕ) (lines : List Line) → log_of bytes ≡ Ok lines → IsGoodLog lines
+pub good_read : ((bytes : List ℕ) (lines : List Line) → Reads bytes lines
+    ↔ ((lines_text lines ≡ bytes) × IsGoodLog lines)) → (bytes : List ℕ) (lines : List Line)
+    → log_of bytes ≡ Ok lines → IsGoodLog lines
 good_read law bytes lines is = ((law bytes lines).0 is).1
 
 -- the answer for a line that was not taken
-pub refused : (refusal : Refusal) (number : ℕ) (stop : LogStop) (next : Place) (t : Result Place Reason) (read : Result (List Line) Fault) → stop ≡ stop_of number refusal → (stop ≢ wanting.Memory) → TellsPlace (Err refusal) next t → ((reason : Reason) → t ≡ Err reason → read ≡ Err (record { line = number; cause = OutOfOrder reason })) → answer_of read ≡ Err stop
+pub refused : (refusal : Refusal) (number : ℕ) (stop : LogStop) (next : Place)
+    (t : Result Place Reason) (read : Result (List Line) Fault) → stop ≡ stop_of number refusal
+    → (stop ≢ wanting.Memory) → TellsPlace (Err refusal) next t
+    → ((reason : Reason) → t ≡ Err reason
+    → read ≡ Err (record { line = number; cause = OutOfOrder reason })) → answer_of read ≡ Err stop
 refused Memory number stop next t read is other told faulty = absurd (other is)
-refused (Faulty reason) number stop next t read is other told faulty = ap answer_of (faulty reason told) ∙ ap (λ (s : LogStop). Err s) (sym is)
+refused (Faulty reason) number stop next t read is other told faulty =
+    ap answer_of (faulty reason told) ∙ ap (λ (s : LogStop). Err s) (sym is)

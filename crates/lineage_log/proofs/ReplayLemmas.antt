@@ -28,7 +28,8 @@ use Rattle.lineage_log.proofs.StandingLemmas.{get_written, get_pushed, get_befor
 record Agrees (r : Reader) (s : Seen) : Type 0 where
   same : r.standing ≡ s.standing
   as_many : length r.people ≡ length s.genomes
-  kept : (id : ℕ) (letters : List Letter) → slice_get r.people id ≡ Some (Some letters) → slice_get s.genomes id ≡ Some letters
+  kept : (id : ℕ) (letters : List Letter) → slice_get r.people id ≡ Some (Some letters)
+      → slice_get s.genomes id ≡ Some letters
   tidy : IsTidy r.standing r.people r.leaving
   few : length r.standing ≤ 65536
 
@@ -37,43 +38,64 @@ AgreesAt Before s = ⊥
 AgreesAt (Within r) s = Agrees r s
 AgreesAt (After r) s = Agrees r s
 
-holds_is : (found : Option (Option ℕ)) (slot : Option ℕ) → holds found slot ≡ true → found ≡ Some slot
+holds_is : (found : Option (Option ℕ)) (slot : Option ℕ) → holds found slot ≡ true
+    → found ≡ Some slot
 holds_is None slot is = absurd cc
 holds_is (Some None) None is = refl
 holds_is (Some None) (Some b) is = absurd cc
 holds_is (Some (Some a)) None is = absurd cc
 holds_is (Some (Some a)) (Some b) is = ap (λ (n : ℕ). Some (Some n)) (eqb-true a b is)
 
-within_gives : (test : Bool) (r : Reader) (p : Place) (s : Seen) → within_if test r ≡ Ok p → (test ≡ true → Agrees r s) → AgreesAt p s
-within_gives true r p s is good = subst (λ (q : Place). AgreesAt q s) (place_is (Within r) p is) (good refl)
+within_gives : (test : Bool) (r : Reader) (p : Place) (s : Seen) → within_if test r ≡ Ok p
+    → (test ≡ true → Agrees r s) → AgreesAt p s
+within_gives true r p s is good =
+    subst (λ (q : Place). AgreesAt q s) (place_is (Within r) p is) (good refl)
 within_gives false r p s is good = absurd cc
 
-few_still : (standing : List (Option ℕ)) (cell : ℕ) (slot : Option ℕ) → length standing ≤ 65536 → length (slice_set standing cell slot) ≤ 65536
+few_still : (standing : List (Option ℕ)) (cell : ℕ) (slot : Option ℕ) → length standing ≤ 65536
+    → length (slice_set standing cell slot) ≤ 65536
 few_still standing cell slot few = omega (arith, length-set standing cell slot)
 
-death_agrees : (r : Reader) (s : Seen) (stage : Stage) (cell id : ℕ) → Agrees r s → holds (slice_get r.standing cell) (Some id) ≡ true → Agrees (with_death r stage cell id) (record s { standing = slice_set s.standing cell None })
+death_agrees : (r : Reader) (s : Seen) (stage : Stage) (cell id : ℕ) → Agrees r s
+    → holds (slice_get r.standing cell) (Some id) ≡ true
+    → Agrees (with_death r stage cell id) (record s { standing = slice_set s.standing cell None })
 death_agrees r s stage cell id agrees stood = record {
   same = ap (λ (slots : List (Option ℕ)). slice_set slots cell None) agrees.same;
   as_many = agrees.as_many;
   kept = agrees.kept;
-  tidy = tidy_death r.standing r.people r.leaving agrees.tidy cell id (holds_is (slice_get r.standing cell) (Some id) stood);
+  tidy = tidy_death r.standing r.people r.leaving agrees.tidy cell id
+      (holds_is (slice_get r.standing cell) (Some id) stood);
   few = few_still r.standing cell None agrees.few;
 }
 
-newcomer_kept : (r : Reader) (s : Seen) (genome : List Letter) → Agrees r s → (id : ℕ) (letters : List Letter) → slice_get (r.people ++ Some genome ∷ []) id ≡ Some (Some letters) → slice_get (s.genomes ++ genome ∷ []) id ≡ Some letters
-newcomer_kept r s genome agrees id letters is = elim (get_pushed r.people (Some genome) (Some letters) id is) [
-  | inl old ↦ get_before s.genomes (genome ∷ []) letters id (agrees.kept id letters old)
-  | inr new ↦
-      let one : genome ≡ letters = cc in
-      subst (λ (n : ℕ). slice_get (s.genomes ++ genome ∷ []) n ≡ Some letters) (sym (new.0 ∙ agrees.as_many)) (get_last s.genomes genome ∙ ap (λ (l : List Letter). Some l) one)
-]
+newcomer_kept : (r : Reader) (s : Seen) (genome : List Letter) → Agrees r s
+    → (id : ℕ) (letters : List Letter)
+    → slice_get (r.people ++ Some genome ∷ []) id ≡ Some (Some letters)
+    → slice_get (s.genomes ++ genome ∷ []) id ≡ Some letters
+newcomer_kept r s genome agrees id letters is =
+    elim (get_pushed r.people (Some genome) (Some letters) id is) [
+      | inl old ↦ get_before s.genomes (genome ∷ []) letters id (agrees.kept id letters old)
+      | inr new ↦
+          let one : genome ≡ letters = cc in
+          subst (λ (n : ℕ). slice_get (s.genomes ++ genome ∷ []) n ≡ Some letters)
+          (sym (new.0 ∙ agrees.as_many))
+          (get_last s.genomes genome ∙ ap (λ (l : List Letter). Some l) one)
+    ]
 
-newcomer_agrees : (r : Reader) (s : Seen) (stage : Stage) (id cell : ℕ) (over : Option ℕ) (genome : List Letter) (births : ℕ) → Agrees r s → (id == length r.people) ≡ true → holds (slice_get r.standing cell) over ≡ true → Agrees (with_newcomer r stage cell over genome births) (record { standing = slice_set s.standing cell (Some id); genomes = s.genomes ++ genome ∷ [] })
+newcomer_agrees : (r : Reader) (s : Seen) (stage : Stage) (id cell : ℕ) (over : Option ℕ)
+    (genome : List Letter) (births : ℕ) → Agrees r s → (id == length r.people) ≡ true
+    → holds (slice_get r.standing cell) over ≡ true
+    → Agrees (with_newcomer r stage cell over genome births)
+    (record { standing = slice_set s.standing cell (Some id); genomes = s.genomes ++ genome ∷ [] })
 newcomer_agrees r s stage id cell over genome births agrees next stood = record {
-  same = ap (λ (n : ℕ). slice_set r.standing cell (Some n)) (sym (eqb-true id (length r.people) next)) ∙ ap (λ (slots : List (Option ℕ)). slice_set slots cell (Some id)) agrees.same;
-  as_many = length_pushed r.people (Some genome) ∙ ap suc agrees.as_many ∙ sym (length_pushed s.genomes genome);
+  same = ap (λ (n : ℕ). slice_set r.standing cell (Some n))
+      (sym (eqb-true id (length r.people) next))
+      ∙ ap (λ (slots : List (Option ℕ)). slice_set slots cell (Some id)) agrees.same;
+  as_many = length_pushed r.people (Some genome) ∙ ap suc agrees.as_many
+      ∙ sym (length_pushed s.genomes genome);
   kept = newcomer_kept r s genome agrees;
-  tidy = tidy_newcomer r.standing r.people r.leaving agrees.tidy cell over genome (holds_is (slice_get r.standing cell) over stood);
+  tidy = tidy_newcomer r.standing r.people r.leaving agrees.tidy cell over genome
+      (holds_is (slice_get r.standing cell) over stood);
   few = few_still r.standing cell (Some (length r.people)) agrees.few;
 }
 
@@ -87,80 +109,135 @@ count_agrees r s agrees = record {
 }
 
 rate_agrees : (r : Reader) (s : Seen) → Agrees r s → Agrees (record r { stage = Happening }) s
-rate_agrees r s agrees = record { same = agrees.same; as_many = agrees.as_many; kept = agrees.kept; tidy = agrees.tidy; few = agrees.few }
+rate_agrees r s agrees =
+    record {
+      same = agrees.same;
+      as_many = agrees.as_many;
+      kept = agrees.kept;
+      tidy = agrees.tidy;
+      few = agrees.few;
+    }
 
 -- ---- a birth
 
-found_is : (found : Option (Option (List Letter))) (letters : List Letter) → option_and_then (λ f. f) found ≡ Some letters → found ≡ Some (Some letters)
+found_is : (found : Option (Option (List Letter))) (letters : List Letter)
+    → option_and_then (λ f. f) found ≡ Some letters → found ≡ Some (Some letters)
 found_is None letters is = absurd cc
 found_is (Some f) letters is = ap (λ (o : Option (List Letter)). Some o) is
 
-parent_is : (older : Bool) (found : Option (Option (List Letter))) (letters : List Letter) → (if older then option_and_then (λ f. f) found else None) ≡ Some letters → found ≡ Some (Some letters)
+parent_is : (older : Bool) (found : Option (Option (List Letter))) (letters : List Letter)
+    → (if older then option_and_then (λ f. f) found else None) ≡ Some letters
+    → found ≡ Some (Some letters)
 parent_is true found letters is = found_is found letters is
 parent_is false found letters is = absurd cc
 
 -- the child of a parent that is kept
-born_is : (genomes : List (List Letter)) (parent : ℕ) (birth : BirthRecord) (letters child : List Letter) → slice_get genomes parent ≡ Some letters → child_of letters birth ≡ Ok child → born_in genomes parent birth ≡ child
+born_is : (genomes : List (List Letter)) (parent : ℕ) (birth : BirthRecord)
+    (letters child : List Letter) → slice_get genomes parent ≡ Some letters
+    → child_of letters birth ≡ Ok child → born_in genomes parent birth ≡ child
 born_is genomes parent birth letters child there made =
-    ap (λ (o : Option (List Letter)). unwrap_or (option_and_then (λ l. result_ok (child_of l birth)) o) []) there
+    ap (λ (o : Option (List Letter)).
+    unwrap_or (option_and_then (λ l. result_ok (child_of l birth)) o) []) there
     ∙ ap (λ (c : Result (List Letter) ApplyStop). unwrap_or (result_ok c) []) made
 
-child_agrees : (r : Reader) (s : Seen) (id parent cell : ℕ) (over : Option ℕ) (birth : BirthRecord) (letters : List Letter) (child : Result (List Letter) ApplyStop) (p : Place) → child_of letters birth ≡ child → slice_get s.genomes parent ≡ Some letters → with_child r cell over child ≡ Ok p → Agrees r s → (id == length r.people) ≡ true → holds (slice_get r.standing cell) over ≡ true → AgreesAt p (seen_on s (Birth id parent 0 cell over birth))
+child_agrees : (r : Reader) (s : Seen) (id parent cell : ℕ) (over : Option ℕ) (birth : BirthRecord)
+    (letters : List Letter) (child : Result (List Letter) ApplyStop) (p : Place)
+    → child_of letters birth ≡ child → slice_get s.genomes parent ≡ Some letters
+    → with_child r cell over child ≡ Ok p → Agrees r s → (id == length r.people) ≡ true
+    → holds (slice_get r.standing cell) over ≡ true
+    → AgreesAt p (seen_on s (Birth id parent 0 cell over birth))
 child_agrees r s id parent cell over birth letters (Ok child) p made there is agrees next stood =
     let after = newcomer_agrees r s Placing id cell over child (r.births + 1) agrees next stood in
-    let seen : Agrees (with_newcomer r Placing cell over child (r.births + 1)) (seen_on s (Birth id parent 0 cell over birth)) =
-    subst (λ (g : List Letter). Agrees (with_newcomer r Placing cell over child (r.births + 1)) (record { standing = slice_set s.standing cell (Some id); genomes = s.genomes ++ g ∷ [] })) (sym (born_is s.genomes parent birth letters child there made)) after in
-    subst (λ (q : Place). AgreesAt q (seen_on s (Birth id parent 0 cell over birth))) (place_is (Within (with_newcomer r Placing cell over child (r.births + 1))) p is) seen
-child_agrees r s id parent cell over birth letters (Err stop) p made there is agrees next stood = absurd cc
+    let seen : Agrees (with_newcomer r Placing cell over child (r.births + 1))
+    (seen_on s (Birth id parent 0 cell over birth)) =
+    subst (λ (g : List Letter). Agrees (with_newcomer r Placing cell over child (r.births + 1))
+    (record { standing = slice_set s.standing cell (Some id); genomes = s.genomes ++ g ∷ [] }))
+    (sym (born_is s.genomes parent birth letters child there made)) after in
+    subst (λ (q : Place). AgreesAt q (seen_on s (Birth id parent 0 cell over birth)))
+    (place_is (Within (with_newcomer r Placing cell over child (r.births + 1))) p is) seen
+child_agrees r s id parent cell over birth letters (Err stop) p made there is agrees next stood =
+    absurd cc
 
-parent_agrees : (r : Reader) (s : Seen) (id parent cell : ℕ) (over : Option ℕ) (birth : BirthRecord) (found : Option (List Letter)) (p : Place) → parent_in r parent ≡ found → with_parent r cell over birth found ≡ Ok p → Agrees r s → (id == length r.people) ≡ true → holds (slice_get r.standing cell) over ≡ true → AgreesAt p (seen_on s (Birth id parent 0 cell over birth))
+parent_agrees : (r : Reader) (s : Seen) (id parent cell : ℕ) (over : Option ℕ) (birth : BirthRecord)
+    (found : Option (List Letter)) (p : Place) → parent_in r parent ≡ found
+    → with_parent r cell over birth found ≡ Ok p → Agrees r s → (id == length r.people) ≡ true
+    → holds (slice_get r.standing cell) over ≡ true
+    → AgreesAt p (seen_on s (Birth id parent 0 cell over birth))
 parent_agrees r s id parent cell over birth None p from is agrees next stood = absurd cc
 parent_agrees r s id parent cell over birth (Some letters) p from is agrees next stood =
-    let there = agrees.kept parent letters (parent_is (nat_lt parent r.newest) (slice_get r.people parent) letters from) in
-    child_agrees r s id parent cell over birth letters (child_of letters birth) p refl there is agrees next stood
+    let there = agrees.kept parent letters
+    (parent_is (nat_lt parent r.newest) (slice_get r.people parent) letters from) in
+    child_agrees r s id parent cell over birth letters (child_of letters birth) p refl there is
+    agrees next stood
 
-birth_agrees : (test : Bool) (r : Reader) (s : Seen) (id parent cell : ℕ) (over : Option ℕ) (birth : BirthRecord) (p : Place) → (if test then with_parent r cell over birth (parent_in r parent) else Err BadOrder) ≡ Ok p → Agrees r s → (test ≡ true → ((id == length r.people) ≡ true) × (holds (slice_get r.standing cell) over ≡ true)) → AgreesAt p (seen_on s (Birth id parent 0 cell over birth))
-birth_agrees true r s id parent cell over birth p is agrees tests = parent_agrees r s id parent cell over birth (parent_in r parent) p refl is agrees (tests refl).0 (tests refl).1
+birth_agrees : (test : Bool) (r : Reader) (s : Seen) (id parent cell : ℕ) (over : Option ℕ)
+    (birth : BirthRecord) (p : Place)
+    → (if test then with_parent r cell over birth (parent_in r parent) else Err BadOrder) ≡ Ok p
+    → Agrees r s → (test ≡ true → ((id == length r.people) ≡ true)
+    × (holds (slice_get r.standing cell) over ≡ true))
+    → AgreesAt p (seen_on s (Birth id parent 0 cell over birth))
+birth_agrees true r s id parent cell over birth p is agrees tests =
+    parent_agrees r s id parent cell over birth (parent_in r parent) p refl is agrees (tests refl).0
+    (tests refl).1
 birth_agrees false r s id parent cell over birth p is agrees tests = absurd cc
 
 -- ---- the lines
 
-end_agrees : (test : Bool) (r : Reader) (s : Seen) (p : Place) → ◌≡◌ {A = Result Place Reason} (if test then Ok (After r) else Err BadOrder) (Ok p) → Agrees r s → AgreesAt p s
-end_agrees true r s p is agrees = subst (λ (q : Place). AgreesAt q s) (place_is (After r) p is) agrees
+end_agrees : (test : Bool) (r : Reader) (s : Seen) (p : Place)
+    → ◌≡◌ {A = Result Place Reason} (if test then Ok (After r) else Err BadOrder) (Ok p)
+    → Agrees r s → AgreesAt p s
+end_agrees true r s p is agrees =
+    subst (λ (q : Place). AgreesAt q s) (place_is (After r) p is) agrees
 end_agrees false r s p is agrees = absurd cc
 
 last_test : (a b c : Bool) → ((a && b) && c) ≡ true → c ≡ true
 last_test a b c is = (and_parts (a && b) c is).1
 
 last_tests : (a b c d : Bool) → (((a && b) && c) && d) ≡ true → (c ≡ true) × (d ≡ true)
-last_tests a b c d is = let both = and_parts ((a && b) && c) d is in ((and_parts (a && b) c both.0).1, both.1)
+last_tests a b c d is =
+    let both = and_parts ((a && b) && c) d is in ((and_parts (a && b) c both.0).1, both.1)
 
-line_agrees : (r : Reader) (s : Seen) (line : Line) (p : Place) → Agrees r s → told_within r line ≡ Ok p → AgreesAt p (seen_on s line)
+line_agrees : (r : Reader) (s : Seen) (line : Line) (p : Place) → Agrees r s
+    → told_within r line ≡ Ok p → AgreesAt p (seen_on s line)
 unfolding told_death told_birth told_injected told_cleared told_rate told_count told_end
 line_agrees r s (Start version width height cell genome) p agrees is = absurd cc
 line_agrees r s (Death id update cell) p agrees is =
     let stands = holds (slice_get r.standing cell) (Some id) in
-    within_gives ((update == r.due) && may_die r.stage cell && stands) (with_death r (Dying cell) cell id) p (seen_on s (Death id update cell)) is
-    (λ t. death_agrees r s (Dying cell) cell id agrees (last_test (update == r.due) (may_die r.stage cell) stands t))
+    within_gives ((update == r.due) && may_die r.stage cell && stands)
+    (with_death r (Dying cell) cell id) p (seen_on s (Death id update cell)) is
+    (λ t. death_agrees r s (Dying cell) cell id agrees
+    (last_test (update == r.due) (may_die r.stage cell) stands t))
 line_agrees r s (Birth id parent update cell over birth) p agrees is =
     let next = id == length r.people in
     let stands = holds (slice_get r.standing cell) over in
-    birth_agrees ((update == r.due) && may_be_born r.stage && next && stands) r s id parent cell over birth p is agrees
+    birth_agrees ((update == r.due) && may_be_born r.stage && next && stands) r s id parent cell
+    over birth p is agrees
     (λ t. last_tests (update == r.due) (may_be_born r.stage) next stands t)
 line_agrees r s (Injected id update cell over genome) p agrees is =
     let next = id == length r.people in
     let stands = holds (slice_get r.standing cell) over in
-    within_gives (may_happen r update && next && stands) (with_newcomer r Happening cell over genome r.births) p (seen_on s (Injected id update cell over genome)) is
-    (λ t. let tests = last_tests (r.version == 2) (update == r.due) next stands t in newcomer_agrees r s Happening id cell over genome r.births agrees tests.0 tests.1)
+    within_gives (may_happen r update && next && stands)
+    (with_newcomer r Happening cell over genome r.births) p
+    (seen_on s (Injected id update cell over genome)) is
+    (λ t. let tests = last_tests (r.version == 2) (update == r.due) next stands t in
+    newcomer_agrees r s Happening id cell over genome r.births agrees tests.0 tests.1)
 line_agrees r s (Cleared id update cell) p agrees is =
     let stands = holds (slice_get r.standing cell) (Some id) in
-    within_gives (may_happen r update && stands) (with_death r Happening cell id) p (seen_on s (Cleared id update cell)) is
-    (λ t. death_agrees r s Happening cell id agrees (last_test (r.version == 2) (update == r.due) stands t))
-line_agrees r s (Rate update name ppm) p agrees is = within_gives (may_happen r update) (record r { stage = Happening }) p s is (λ t. rate_agrees r s agrees)
-line_agrees r s (Count c) p agrees is = within_gives ((c.update == r.due) && (c.living == taken r.standing) && (c.births == r.births) && (c.deaths == length r.leaving)) (renewed r) p s is (λ t. count_agrees r s agrees)
-line_agrees r s (End updates) p agrees is = end_agrees (is_quiet r.stage && (updates + 1 == r.due)) r s p is agrees
+    within_gives (may_happen r update && stands) (with_death r Happening cell id) p
+    (seen_on s (Cleared id update cell)) is
+    (λ t. death_agrees r s Happening cell id agrees
+    (last_test (r.version == 2) (update == r.due) stands t))
+line_agrees r s (Rate update name ppm) p agrees is =
+    within_gives (may_happen r update) (record r { stage = Happening }) p s is
+    (λ t. rate_agrees r s agrees)
+line_agrees r s (Count c) p agrees is =
+    within_gives ((c.update == r.due) && (c.living == taken r.standing) && (c.births == r.births)
+    && (c.deaths == length r.leaving)) (renewed r) p s is (λ t. count_agrees r s agrees)
+line_agrees r s (End updates) p agrees is =
+    end_agrees (is_quiet r.stage && (updates + 1 == r.due)) r s p is agrees
 
-all_agree : (p : Place) (s : Seen) (lines : List Line) (q : Reader) → AgreesAt p s → told_all p lines ≡ Ok (After q) → Agrees q (seen_all s lines)
+all_agree : (p : Place) (s : Seen) (lines : List Line) (q : Reader) → AgreesAt p s
+    → told_all p lines ≡ Ok (After q) → Agrees q (seen_all s lines)
 all_agree p s [] q agrees is = subst (λ (x : Place). AgreesAt x s) (place_is p (After q) is) agrees
 all_agree Before s (line ∷ lines) q agrees is = absurd agrees
 all_agree (Within r) s (line ∷ lines) q agrees is =
@@ -173,25 +250,36 @@ all_agree (After r) s (line ∷ lines) q agrees is = absurd cc
 abbrev first_cells : ℕ → ℕ → List (Option ℕ)
 first_cells cells cell = slice_set (empty cells) cell (Some 0)
 
-first_there : (cells cell c i : ℕ) → slice_get (first_cells cells cell) c ≡ Some (Some i) → (cell ≡ c) × (0 ≡ i)
+first_there : (cells cell c i : ℕ) → slice_get (first_cells cells cell) c ≡ Some (Some i)
+    → (cell ≡ c) × (0 ≡ i)
 first_there cells cell c i is = elim (get_written (empty cells) cell c (Some 0) i is) [
   | inl here ↦ (here.0, cc)
   | inr there ↦ absurd (none_there cells c i there.1)
 ]
 
-first_kept : (genome : List Letter) (id : ℕ) (letters : List Letter) → slice_get (Some genome ∷ []) id ≡ Some (Some letters) → slice_get (genome ∷ []) id ≡ Some letters
+first_kept : (genome : List Letter) (id : ℕ) (letters : List Letter)
+    → slice_get (Some genome ∷ []) id ≡ Some (Some letters)
+    → slice_get (genome ∷ []) id ≡ Some letters
 first_kept genome zero letters is = cc
 first_kept genome (suc id) letters is = absurd cc
 
-first_tidy : (cells cell : ℕ) (genome : List Letter) → IsTidy (first_cells cells cell) (Some genome ∷ []) []
+first_tidy : (cells cell : ℕ) (genome : List Letter)
+    → IsTidy (first_cells cells cell) (Some genome ∷ []) []
 first_tidy cells cell genome = record {
-  present = λ c i is. (genome, subst (λ (n : ℕ). slice_get (Some genome ∷ []) n ≡ Some (Some genome)) (first_there cells cell c i is).1 refl);
+  present = λ c i is. (
+    genome,
+    subst (λ (n : ℕ). slice_get (Some genome ∷ []) n ≡ Some (Some genome))
+        (first_there cells cell c i is).1 refl,
+  );
   staying = λ c i is. tt;
-  once = λ a b i at_a at_b. sym (first_there cells cell a i at_a).0 ∙ (first_there cells cell b i at_b).0;
+  once = λ a b i at_a at_b. sym (first_there cells cell a i at_a).0
+      ∙ (first_there cells cell b i at_b).0;
   gone = tt;
 }
 
-first_agrees : (version cells cell : ℕ) (genome : List Letter) → cells ≤ 65536 → Agrees (opened version cells cell genome) (record { standing = first_cells cells cell; genomes = genome ∷ [] })
+first_agrees : (version cells cell : ℕ) (genome : List Letter) → cells ≤ 65536
+    → Agrees (opened version cells cell genome)
+    (record { standing = first_cells cells cell; genomes = genome ∷ [] })
 first_agrees version cells cell genome few = record {
   same = refl;
   as_many = refl;
@@ -206,20 +294,32 @@ nobody = record { standing = []; genomes = [] }
 
 -- ---- who lives at the end
 
-genome_is : (people : People) (genomes : List (List Letter)) (id : ℕ) (letters : List Letter) → slice_get people id ≡ Some (Some letters) → slice_get genomes id ≡ Some letters → unwrap_or (slice_get (kept_genomes people) id) [] ≡ unwrap_or (slice_get genomes id) []
+genome_is : (people : People) (genomes : List (List Letter)) (id : ℕ) (letters : List Letter)
+    → slice_get people id ≡ Some (Some letters) → slice_get genomes id ≡ Some letters
+    → unwrap_or (slice_get (kept_genomes people) id) [] ≡ unwrap_or (slice_get genomes id) []
 genome_is people genomes id letters kept seen =
-    ap (λ (o : Option (List Letter)). unwrap_or o []) (slice_get-map (λ (found : Option (List Letter)). unwrap_or found []) people id)
-    ∙ ap (λ (o : Option (Option (List Letter))). unwrap_or (option_map (λ (found : Option (List Letter)). unwrap_or found []) o) []) kept
+    ap (λ (o : Option (List Letter)). unwrap_or o [])
+    (slice_get-map (λ (found : Option (List Letter)). unwrap_or found []) people id)
+    ∙ ap (λ (o : Option (Option (List Letter))).
+    unwrap_or (option_map (λ (found : Option (List Letter)). unwrap_or found []) o) []) kept
     ∙ sym (ap (λ (o : Option (List Letter)). unwrap_or o []) seen)
 
-residents_same : (cell : ℕ) (slots : List (Option ℕ)) (people : People) (genomes : List (List Letter)) → ((k id : ℕ) → slice_get slots k ≡ Some (Some id) → (letters : List Letter) × (slice_get people id ≡ Some (Some letters)) × (slice_get genomes id ≡ Some letters)) → residents_from cell slots (kept_genomes people) ≡ residents_from cell slots genomes
+residents_same : (cell : ℕ) (slots : List (Option ℕ)) (people : People)
+    (genomes : List (List Letter))
+    → ((k id : ℕ) → slice_get slots k ≡ Some (Some id) → (letters : List Letter)
+    × (slice_get people id ≡ Some (Some letters)) × (slice_get genomes id ≡ Some letters))
+    → residents_from cell slots (kept_genomes people) ≡ residents_from cell slots genomes
 residents_same cell [] people genomes each = refl
-residents_same cell (None ∷ slots) people genomes each = residents_same (suc cell) slots people genomes (λ k id is. each (suc k) id is)
+residents_same cell (None ∷ slots) people genomes each =
+    residents_same (suc cell) slots people genomes (λ k id is. each (suc k) id is)
 residents_same cell (Some id ∷ slots) people genomes each =
     let found = each 0 id refl in
     let rest = residents_same (suc cell) slots people genomes (λ k i is. each (suc k) i is) in
-    ap (λ (g : List Letter). record { cell = cell; id = id; genome = g } ∷ residents_from (suc cell) slots (kept_genomes people)) (genome_is people genomes id found.0 found.1 found.2)
-    ∙ ap (λ (others : List Resident). record { cell = cell; id = id; genome = unwrap_or (slice_get genomes id) [] } ∷ others) rest
+    ap (λ (g : List Letter). record { cell = cell; id = id; genome = g }
+    ∷ residents_from (suc cell) slots (kept_genomes people))
+    (genome_is people genomes id found.0 found.1 found.2)
+    ∙ ap (λ (others : List Resident).
+    record { cell = cell; id = id; genome = unwrap_or (slice_get genomes id) [] } ∷ others) rest
 
 -- ---- a whole log
 
@@ -232,7 +332,8 @@ pub record Leaves (lines : List Line) (r : Reader) : Type 0 where
   pub few : length r.standing ≤ 65536
   pub living : residents_from 0 r.standing (kept_genomes r.people) ≡ replay_of lines
 
-kept_is : (found : Option (Option (List Letter))) (letters : List Letter) → found ≡ Some (Some letters) → IsSome (option_and_then (λ f. f) found)
+kept_is : (found : Option (Option (List Letter))) (letters : List Letter)
+    → found ≡ Some (Some letters) → IsSome (option_and_then (λ f. f) found)
 kept_is found letters is = rw is refl
 
 agreed : (lines : List Line) (r : Reader) → Agrees r (seen_all nobody lines) → Leaves lines r
@@ -240,25 +341,37 @@ unfolding replay_of
 agreed lines r agrees =
     let s = seen_all nobody lines in
     let each = residents_same 0 r.standing r.people s.genomes
-    (λ k id is. let found = agrees.tidy.present k id is in (found.0, found.1, agrees.kept id found.0 found.1)) in
+    (λ k id is. let found = agrees.tidy.present k id is in
+    (found.0, found.1, agrees.kept id found.0 found.1)) in
     record {
-      kept = λ cell id is. let found = agrees.tidy.present cell id is in kept_is (slice_get r.people id) found.0 found.1;
+      kept = λ cell id is. let found = agrees.tidy.present cell id is in
+          kept_is (slice_get r.people id) found.0 found.1;
       few = agrees.few;
-      living = each ∙ ap (λ (slots : List (Option ℕ)). residents_from 0 slots s.genomes) agrees.same;
+      living =
+          each ∙ ap (λ (slots : List (Option ℕ)). residents_from 0 slots s.genomes) agrees.same;
     }
 
-start_leaves : (version width height cell : ℕ) (genome : List Letter) (lines : List Line) (r : Reader) → width ≤ 256 → height ≤ 256 → told_all Before (Start version width height cell genome ∷ lines) ≡ Ok (After r) → Leaves (Start version width height cell genome ∷ lines) r
+start_leaves : (version width height cell : ℕ) (genome : List Letter) (lines : List Line)
+    (r : Reader) → width ≤ 256 → height ≤ 256
+    → told_all Before (Start version width height cell genome ∷ lines) ≡ Ok (After r)
+    → Leaves (Start version width height cell genome ∷ lines) r
 unfolding told_start
 start_leaves version width height cell genome lines r w h is =
-    let step = went_on (told_start version width height cell genome) (λ p. told_all p lines) (After r) is in
+    let step = went_on (told_start version width height cell genome) (λ p. told_all p lines)
+    (After r) is in
     let s = seen_on nobody (Start version width height cell genome) in
     let few = area_few width height w h in
-    let first = within_gives (nat_lt cell (width * height)) (opened version (width * height) cell genome) step.0 s step.1 (λ t. first_agrees version (width * height) cell genome few) in
-    agreed (Start version width height cell genome ∷ lines) r (all_agree step.0 s lines r first step.2)
+    let first = within_gives (nat_lt cell (width * height))
+    (opened version (width * height) cell genome) step.0 s step.1
+    (λ t. first_agrees version (width * height) cell genome few) in
+    agreed (Start version width height cell genome ∷ lines) r
+    (all_agree step.0 s lines r first step.2)
 
-pub leaves : (lines : List Line) (r : Reader) → IsGoodLog lines → told_all Before lines ≡ Ok (After r) → Leaves lines r
+pub leaves : (lines : List Line) (r : Reader) → IsGoodLog lines
+    → told_all Before lines ≡ Ok (After r) → Leaves lines r
 leaves [] r good is = absurd cc
-leaves (Start version width height cell genome ∷ lines) r good is = start_leaves version width height cell genome lines r good.forms.0.1.0.1 good.forms.0.1.1.0.1 is
+leaves (Start version width height cell genome ∷ lines) r good is =
+    start_leaves version width height cell genome lines r good.forms.0.1.0.1 good.forms.0.1.1.0.1 is
 leaves (Death id update cell ∷ lines) r good is = absurd cc
 leaves (Birth id parent update cell over birth ∷ lines) r good is = absurd cc
 leaves (Injected id update cell over genome ∷ lines) r good is = absurd cc
@@ -269,21 +382,33 @@ leaves (End updates ∷ lines) r good is = absurd cc
 
 -- ---- the walks
 
-drop_is : {A : Type 0} (xs : List A) (i : ℕ) (x : A) → slice_get xs i ≡ Some x → drop i xs ≡ x ∷ drop (i + 1) xs
-drop_is xs i x is = drop_more xs i x (slice_get_within xs i x is) ∙ ap (λ y. y ∷ drop (i + 1) xs) (get_or_from_slice_get xs i x x is)
+drop_is : {A : Type 0} (xs : List A) (i : ℕ) (x : A) → slice_get xs i ≡ Some x
+    → drop i xs ≡ x ∷ drop (i + 1) xs
+drop_is xs i x is = drop_more xs i x (slice_get_within xs i x is)
+    ∙ ap (λ y. y ∷ drop (i + 1) xs) (get_or_from_slice_get xs i x x is)
 
-resident_front : (cell : ℕ) (slot : Option ℕ) (genomes : List (List Letter)) (others : List Resident) → resident_at cell slot genomes others ≡ resident_at cell slot genomes [] ++ others
+resident_front : (cell : ℕ) (slot : Option ℕ) (genomes : List (List Letter))
+    (others : List Resident)
+    → resident_at cell slot genomes others ≡ resident_at cell slot genomes [] ++ others
 resident_front cell None genomes others = refl
 resident_front cell (Some id) genomes others = refl
 
-cell_more : (slots : List (Option ℕ)) (genomes : List (List Letter)) (cell : ℕ) (slot : Option ℕ) → slice_get slots cell ≡ Some slot → residents_from cell (drop cell slots) genomes ≡ resident_at cell slot genomes [] ++ residents_from (cell + 1) (drop (cell + 1) slots) genomes
+cell_more : (slots : List (Option ℕ)) (genomes : List (List Letter)) (cell : ℕ) (slot : Option ℕ)
+    → slice_get slots cell ≡ Some slot
+    → residents_from cell (drop cell slots) genomes ≡ resident_at cell slot genomes []
+    ++ residents_from (cell + 1) (drop (cell + 1) slots) genomes
 cell_more slots genomes cell slot is =
     ap (λ (rest : List (Option ℕ)). residents_from cell rest genomes) (drop_is slots cell slot is)
-    ∙ ap (λ (next : ℕ). resident_at cell slot genomes (residents_from next (drop (cell + 1) slots) genomes)) (sym (add-one cell))
+    ∙ ap (λ (next : ℕ). resident_at cell slot genomes
+    (residents_from next (drop (cell + 1) slots) genomes)) (sym (add-one cell))
     ∙ resident_front cell slot genomes (residents_from (cell + 1) (drop (cell + 1) slots) genomes)
 
 -- one cell more of a walk over the cells
-pub cell_walked : (items next : List Resident) (slots : List (Option ℕ)) (genomes : List (List Letter)) (cell : ℕ) (slot : Option ℕ) (all : List Resident) → slice_get slots cell ≡ Some slot → next ≡ items ++ resident_at cell slot genomes [] → items ++ residents_from cell (drop cell slots) genomes ≡ all → next ++ residents_from (cell + 1) (drop (cell + 1) slots) genomes ≡ all
+pub cell_walked : (items next : List Resident) (slots : List (Option ℕ))
+    (genomes : List (List Letter)) (cell : ℕ) (slot : Option ℕ) (all : List Resident)
+    → slice_get slots cell ≡ Some slot → next ≡ items ++ resident_at cell slot genomes []
+    → items ++ residents_from cell (drop cell slots) genomes ≡ all
+    → next ++ residents_from (cell + 1) (drop (cell + 1) slots) genomes ≡ all
 cell_walked items next slots genomes cell slot all is more so_far =
     let here = resident_at cell slot genomes [] in
     let rest = residents_from (cell + 1) (drop (cell + 1) slots) genomes in

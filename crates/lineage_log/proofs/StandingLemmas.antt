@@ -11,7 +11,9 @@ use Rattle.lineage_log.specs.People.{without}
 -- ---- lists
 
 -- what a place holds after a write
-pub get_written : {A : Type 0} (xs : List (Option A)) (i j : ℕ) (slot : Option A) (x : A) → slice_get (slice_set xs i slot) j ≡ Some (Some x) → ((i ≡ j) × (slot ≡ Some x)) ⊎ ((i ≢ j) × (slice_get xs j ≡ Some (Some x)))
+pub get_written : {A : Type 0} (xs : List (Option A)) (i j : ℕ) (slot : Option A) (x : A)
+    → slice_get (slice_set xs i slot) j ≡ Some (Some x) → ((i ≡ j) × (slot ≡ Some x))
+    ⊎ ((i ≢ j) × (slice_get xs j ≡ Some (Some x)))
 get_written [] i j slot x is = absurd cc
 get_written (y ∷ ys) zero zero slot x is = inl (refl, cc)
 get_written (y ∷ ys) zero (suc j) slot x is = inr (λ e. absurd (omega arith), is)
@@ -21,14 +23,16 @@ get_written (y ∷ ys) (suc i) (suc j) slot x is = elim (get_written ys i j slot
   | inr there ↦ inr (λ e. there.0 (omega arith), there.1)
 ]
 
-get_other : {A : Type 0} (xs : List A) (i j : ℕ) (x : A) → (i ≢ j) → slice_get (slice_set xs i x) j ≡ slice_get xs j
+get_other : {A : Type 0} (xs : List A) (i j : ℕ) (x : A) → (i ≢ j)
+    → slice_get (slice_set xs i x) j ≡ slice_get xs j
 get_other [] i j x other = refl
 get_other (y ∷ ys) zero zero x other = absurd (other refl)
 get_other (y ∷ ys) zero (suc j) x other = refl
 get_other (y ∷ ys) (suc i) zero x other = refl
 get_other (y ∷ ys) (suc i) (suc j) x other = get_other ys i j x (λ e. other (ap suc e))
 
-pub get_pushed : {A : Type 0} (xs : List A) (y z : A) (i : ℕ) → slice_get (xs ++ y ∷ []) i ≡ Some z → (slice_get xs i ≡ Some z) ⊎ ((i ≡ length xs) × (y ≡ z))
+pub get_pushed : {A : Type 0} (xs : List A) (y z : A) (i : ℕ) → slice_get (xs ++ y ∷ []) i ≡ Some z
+    → (slice_get xs i ≡ Some z) ⊎ ((i ≡ length xs) × (y ≡ z))
 get_pushed [] y z zero is = inr (refl, cc)
 get_pushed [] y z (suc i) is = absurd cc
 get_pushed (x ∷ xs) y z zero is = inl is
@@ -37,7 +41,8 @@ get_pushed (x ∷ xs) y z (suc i) is = elim (get_pushed xs y z i is) [
   | inr new ↦ inr (ap suc new.0, new.1)
 ]
 
-pub get_before : {A : Type 0} (xs ys : List A) (z : A) (i : ℕ) → slice_get xs i ≡ Some z → slice_get (xs ++ ys) i ≡ Some z
+pub get_before : {A : Type 0} (xs ys : List A) (z : A) (i : ℕ) → slice_get xs i ≡ Some z
+    → slice_get (xs ++ ys) i ≡ Some z
 get_before [] ys z i is = absurd cc
 get_before (x ∷ xs) ys z zero is = is
 get_before (x ∷ xs) ys z (suc i) is = get_before xs ys z i is
@@ -63,16 +68,19 @@ pub length_replicate : (cells : ℕ) → length (empty cells) ≡ cells
 length_replicate zero = refl
 length_replicate (suc cells) = ap suc (length_replicate cells)
 
-all_pushed : (P : ℕ → Type 0) (xs : List ℕ) (y : ℕ) → AllByRecursion P xs → P y → AllByRecursion P (xs ++ y ∷ [])
+all_pushed : (P : ℕ → Type 0) (xs : List ℕ) (y : ℕ) → AllByRecursion P xs → P y
+    → AllByRecursion P (xs ++ y ∷ [])
 all_pushed P [] y all here = (here, tt)
 all_pushed P (x ∷ xs) y all here = (all.0, all_pushed P xs y all.1 here)
 
-all_with : (P : ℕ → Type 0) (xs : List ℕ) (o : Option ℕ) → AllByRecursion P xs → ((y : ℕ) → o ≡ Some y → P y) → AllByRecursion P (xs ++ option_to_list o)
+all_with : (P : ℕ → Type 0) (xs : List ℕ) (o : Option ℕ) → AllByRecursion P xs
+    → ((y : ℕ) → o ≡ Some y → P y) → AllByRecursion P (xs ++ option_to_list o)
 all_with P [] None all here = tt
 all_with P (x ∷ xs) None all here = (all.0, all_with P xs None all.1 here)
 all_with P xs (Some y) all here = all_pushed P xs y all (here y refl)
 
-all_else : (P Q : ℕ → Type 0) → ((x : ℕ) → P x → Q x) → (xs : List ℕ) → AllByRecursion P xs → AllByRecursion Q xs
+all_else : (P Q : ℕ → Type 0) → ((x : ℕ) → P x → Q x) → (xs : List ℕ) → AllByRecursion P xs
+    → AllByRecursion Q xs
 all_else P Q gives [] all = tt
 all_else P Q gives (x ∷ xs) all = (gives x all.0, all_else P Q gives xs all.1)
 
@@ -83,47 +91,65 @@ People = List (Option (List Letter))
 
 pub length_without : (ids : List ℕ) (people : People) → length (without ids people) ≡ length people
 length_without [] people = refl
-length_without (id ∷ ids) people = length_without ids (slice_set people id None) ∙ length-set people id None
+length_without (id ∷ ids) people =
+    length_without ids (slice_set people id None) ∙ length-set people id None
 
-pub kept_before : (ids : List ℕ) (people : People) (id : ℕ) (letters : List Letter) → slice_get (without ids people) id ≡ Some (Some letters) → slice_get people id ≡ Some (Some letters)
+pub kept_before : (ids : List ℕ) (people : People) (id : ℕ) (letters : List Letter)
+    → slice_get (without ids people) id ≡ Some (Some letters)
+    → slice_get people id ≡ Some (Some letters)
 kept_before [] people id letters is = is
-kept_before (d ∷ ids) people id letters is = elim (get_written people d id None letters (kept_before ids (slice_set people d None) id letters is)) [
-  | inl here ↦ absurd cc
-  | inr there ↦ there.1
-]
+kept_before (d ∷ ids) people id letters is =
+    elim (get_written people d id None letters
+    (kept_before ids (slice_set people d None) id letters is)) [
+      | inl here ↦ absurd cc
+      | inr there ↦ there.1
+    ]
 
-kept_still : (ids : List ℕ) (people : People) (id : ℕ) → AllByRecursion (λ d. d ≢ id) ids → slice_get (without ids people) id ≡ slice_get people id
+kept_still : (ids : List ℕ) (people : People) (id : ℕ) → AllByRecursion (λ d. d ≢ id) ids
+    → slice_get (without ids people) id ≡ slice_get people id
 kept_still [] people id apart = refl
-kept_still (d ∷ ids) people id apart = kept_still ids (slice_set people d None) id apart.1 ∙ get_other people d id None apart.0
+kept_still (d ∷ ids) people id apart =
+    kept_still ids (slice_set people d None) id apart.1 ∙ get_other people d id None apart.0
 
 -- ---- who stands in the cells
 
 -- who stands in a cell stands there alone, is kept, and is none of those who died
 pub record IsTidy (standing : List (Option ℕ)) (people : People) (leaving : List ℕ) : Type 0 where
-  pub present : (cell id : ℕ) → slice_get standing cell ≡ Some (Some id) → (letters : List Letter) × (slice_get people id ≡ Some (Some letters))
-  pub staying : (cell id : ℕ) → slice_get standing cell ≡ Some (Some id) → AllByRecursion (λ d. d ≢ id) leaving
-  pub once : (a b id : ℕ) → slice_get standing a ≡ Some (Some id) → slice_get standing b ≡ Some (Some id) → a ≡ b
+  pub present : (cell id : ℕ) → slice_get standing cell ≡ Some (Some id) → (letters : List Letter)
+      × (slice_get people id ≡ Some (Some letters))
+  pub staying : (cell id : ℕ) → slice_get standing cell ≡ Some (Some id)
+      → AllByRecursion (λ d. d ≢ id) leaving
+  pub once : (a b id : ℕ) → slice_get standing a ≡ Some (Some id)
+      → slice_get standing b ≡ Some (Some id) → a ≡ b
   pub gone : AllByRecursion (λ d. d < length people) leaving
 
 -- an id that stands in a cell is below the next one
-below_next : (people : People) (id : ℕ) → (letters : List Letter) × (slice_get people id ≡ Some (Some letters)) → id < length people
+below_next : (people : People) (id : ℕ) → (letters : List Letter)
+    × (slice_get people id ≡ Some (Some letters)) → id < length people
 below_next people id found = slice_get_within people id (Some found.0) found.1
 
-module _ (standing : List (Option ℕ)) (people : People) (leaving : List ℕ) (tidy : IsTidy standing people leaving) where
-  left_standing : (cell c i : ℕ) → slice_get (slice_set standing cell None) c ≡ Some (Some i) → (cell ≢ c) × (slice_get standing c ≡ Some (Some i))
+module _ (standing : List (Option ℕ)) (people : People) (leaving : List ℕ)
+    (tidy : IsTidy standing people leaving) where
+  left_standing : (cell c i : ℕ) → slice_get (slice_set standing cell None) c ≡ Some (Some i)
+      → (cell ≢ c) × (slice_get standing c ≡ Some (Some i))
   left_standing cell c i is = elim (get_written standing cell c None i is) [
     | inl here ↦ absurd cc
     | inr there ↦ there
   ]
 
-  pub tidy_death : (cell id : ℕ) → slice_get standing cell ≡ Some (Some id) → IsTidy (slice_set standing cell None) people (leaving ++ id ∷ [])
+  pub tidy_death : (cell id : ℕ) → slice_get standing cell ≡ Some (Some id)
+      → IsTidy (slice_set standing cell None) people (leaving ++ id ∷ [])
   tidy_death cell id stood = record {
     present = λ c i is. tidy.present c i (left_standing cell c i is).1;
     staying = λ c i is.
         let left = left_standing cell c i is in
-        all_pushed (λ d. d ≢ i) leaving id (tidy.staying c i left.1) (λ same. left.0 (tidy.once cell c i (subst (λ (n : ℕ). slice_get standing cell ≡ Some (Some n)) same stood) left.1));
-    once = λ a b i at_a at_b. tidy.once a b i (left_standing cell a i at_a).1 (left_standing cell b i at_b).1;
-    gone = all_pushed (λ d. d < length people) leaving id tidy.gone (below_next people id (tidy.present cell id stood));
+        all_pushed (λ d. d ≢ i) leaving id (tidy.staying c i left.1)
+        (λ same. left.0 (tidy.once cell c i
+        (subst (λ (n : ℕ). slice_get standing cell ≡ Some (Some n)) same stood) left.1));
+    once = λ a b i at_a at_b. tidy.once a b i (left_standing cell a i at_a).1
+        (left_standing cell b i at_b).1;
+    gone = all_pushed (λ d. d < length people) leaving id tidy.gone
+        (below_next people id (tidy.present cell id stood));
   }
 
   abbrev new_standing : ℕ → List (Option ℕ)
@@ -133,40 +159,59 @@ module _ (standing : List (Option ℕ)) (people : People) (leaving : List ℕ) (
   new_people genome = people ++ Some genome ∷ []
 
   -- who stands after somebody came: the newcomer, or one who stood elsewhere
-  stands_now : (cell c i : ℕ) → slice_get (new_standing cell) c ≡ Some (Some i) → ((cell ≡ c) × (length people ≡ i)) ⊎ ((cell ≢ c) × (slice_get standing c ≡ Some (Some i)))
+  stands_now : (cell c i : ℕ) → slice_get (new_standing cell) c ≡ Some (Some i)
+      → ((cell ≡ c) × (length people ≡ i)) ⊎ ((cell ≢ c) × (slice_get standing c ≡ Some (Some i)))
   stands_now cell c i is = elim (get_written standing cell c (Some (length people)) i is) [
     | inl here ↦ inl (here.0, cc)
     | inr there ↦ inr there
   ]
 
-  new_present : (cell : ℕ) (genome : List Letter) (c i : ℕ) → slice_get (new_standing cell) c ≡ Some (Some i) → (letters : List Letter) × (slice_get (new_people genome) i ≡ Some (Some letters))
+  new_present : (cell : ℕ) (genome : List Letter) (c i : ℕ)
+      → slice_get (new_standing cell) c ≡ Some (Some i) → (letters : List Letter)
+      × (slice_get (new_people genome) i ≡ Some (Some letters))
   new_present cell genome c i is = elim (stands_now cell c i is) [
-    | inl here ↦ (genome, subst (λ (n : ℕ). slice_get (new_people genome) n ≡ Some (Some genome)) here.1 (get_last people (Some genome)))
-    | inr there ↦ let found = tidy.present c i there.1 in (found.0, get_before people (Some genome ∷ []) (Some found.0) i found.1)
+    | inl here ↦ (
+      genome,
+      subst (λ (n : ℕ). slice_get (new_people genome) n ≡ Some (Some genome))
+          here.1 (get_last people (Some genome)),
+    )
+    | inr there ↦ let found = tidy.present c i there.1 in
+        (found.0, get_before people (Some genome ∷ []) (Some found.0) i found.1)
   ]
 
-  new_staying : (cell : ℕ) (over : Option ℕ) → slice_get standing cell ≡ Some over → (c i : ℕ) → slice_get (new_standing cell) c ≡ Some (Some i) → AllByRecursion (λ d. d ≢ i) (leaving ++ option_to_list over)
+  new_staying : (cell : ℕ) (over : Option ℕ) → slice_get standing cell ≡ Some over → (c i : ℕ)
+      → slice_get (new_standing cell) c ≡ Some (Some i)
+      → AllByRecursion (λ d. d ≢ i) (leaving ++ option_to_list over)
   new_staying cell over stood c i is = elim (stands_now cell c i is) [
     | inl here ↦ all_with (λ d. d ≢ i) leaving over
-        (all_else (λ d. d < length people) (λ d. d ≢ i) (λ d below same. absurd (omega (arith, here.1))) leaving tidy.gone)
-        (λ d o same. let below = below_next people d (tidy.present cell d (stood ∙ ap (λ (s : Option ℕ). Some s) o)) in absurd (omega (arith, here.1)))
+        (all_else (λ d. d < length people) (λ d. d ≢ i)
+        (λ d below same. absurd (omega (arith, here.1))) leaving tidy.gone)
+        (λ d o same. let below =
+        below_next people d (tidy.present cell d (stood ∙ ap (λ (s : Option ℕ). Some s) o)) in
+        absurd (omega (arith, here.1)))
     | inr there ↦ all_with (λ d. d ≢ i) leaving over (tidy.staying c i there.1)
-        (λ d o same. there.0 (tidy.once cell c i (stood ∙ ap (λ (s : Option ℕ). Some s) (o ∙ ap (λ (n : ℕ). Some n) same)) there.1))
+        (λ d o same. there.0 (tidy.once cell c i
+        (stood ∙ ap (λ (s : Option ℕ). Some s) (o ∙ ap (λ (n : ℕ). Some n) same)) there.1))
   ]
 
-  new_once : (cell a b i : ℕ) → slice_get (new_standing cell) a ≡ Some (Some i) → slice_get (new_standing cell) b ≡ Some (Some i) → a ≡ b
+  new_once : (cell a b i : ℕ) → slice_get (new_standing cell) a ≡ Some (Some i)
+      → slice_get (new_standing cell) b ≡ Some (Some i) → a ≡ b
   new_once cell a b i at_a at_b = elim (stands_now cell a i at_a) [
     | inl here ↦ elim (stands_now cell b i at_b) [
       | inl also ↦ sym here.0 ∙ also.0
-      | inr there ↦ let below = below_next people i (tidy.present b i there.1) in absurd (omega (arith, here.1))
+      | inr there ↦ let below =
+          below_next people i (tidy.present b i there.1) in absurd (omega (arith, here.1))
     ]
     | inr there ↦ elim (stands_now cell b i at_b) [
-      | inl here ↦ let below = below_next people i (tidy.present a i there.1) in absurd (omega (arith, here.1))
+      | inl here ↦ let below =
+          below_next people i (tidy.present a i there.1) in absurd (omega (arith, here.1))
       | inr also ↦ tidy.once a b i there.1 also.1
     ]
   ]
 
-  pub tidy_newcomer : (cell : ℕ) (over : Option ℕ) (genome : List Letter) → slice_get standing cell ≡ Some over → IsTidy (new_standing cell) (new_people genome) (leaving ++ option_to_list over)
+  pub tidy_newcomer : (cell : ℕ) (over : Option ℕ) (genome : List Letter)
+      → slice_get standing cell ≡ Some over
+      → IsTidy (new_standing cell) (new_people genome) (leaving ++ option_to_list over)
   tidy_newcomer cell over genome stood = record {
     present = new_present cell genome;
     staying = new_staying cell over stood;
@@ -174,13 +219,16 @@ module _ (standing : List (Option ℕ)) (people : People) (leaving : List ℕ) (
     gone =
         let more = length_pushed people (Some genome) in
         all_with (λ d. d < length (new_people genome)) leaving over
-        (all_else (λ d. d < length people) (λ d. d < length (new_people genome)) (λ d below. omega (arith, more)) leaving tidy.gone)
-        (λ d o. let below = below_next people d (tidy.present cell d (stood ∙ ap (λ (s : Option ℕ). Some s) o)) in omega (arith, more));
+        (all_else (λ d. d < length people) (λ d. d < length (new_people genome))
+        (λ d below. omega (arith, more)) leaving tidy.gone)
+        (λ d o. let below = below_next people d
+        (tidy.present cell d (stood ∙ ap (λ (s : Option ℕ). Some s) o)) in omega (arith, more));
   }
 
   pub tidy_renewed : IsTidy standing (without leaving people) []
   tidy_renewed = record {
-    present = λ c i is. let found = tidy.present c i is in (found.0, kept_still leaving people i (tidy.staying c i is) ∙ found.1);
+    present = λ c i is. let found = tidy.present c i is in
+        (found.0, kept_still leaving people i (tidy.staying c i is) ∙ found.1);
     staying = λ c i is. tt;
     once = tidy.once;
     gone = tt;

@@ -25,56 +25,91 @@ up Before = Before
 up (Within r) = Within (up_reader r)
 up (After r) = After (up_reader r)
 
-within_is : (r : Reader) (q : Place) → ◌≡◌ {A = Result Place Reason} (Ok (Within r)) (Ok q) → ◌≡◌ {A = Result Place Reason} (Ok (Within (up_reader r))) (Ok (up q))
+within_is : (r : Reader) (q : Place) → ◌≡◌ {A = Result Place Reason} (Ok (Within r)) (Ok q)
+    → ◌≡◌ {A = Result Place Reason} (Ok (Within (up_reader r))) (Ok (up q))
 within_is r q is = ap (λ (p : Place). Ok (up p)) (place_is (Within r) q is)
 
-if_still : (test : Bool) (r : Reader) (q : Place) → within_if test r ≡ Ok q → within_if test (up_reader r) ≡ Ok (up q)
+if_still : (test : Bool) (r : Reader) (q : Place) → within_if test r ≡ Ok q
+    → within_if test (up_reader r) ≡ Ok (up q)
 if_still true r q is = within_is r q is
 if_still false r q is = absurd cc
 
-event_still : (same due other : Bool) (r : Reader) (q : Place) → within_if ((same && due) && other) r ≡ Ok q → within_if ((true && due) && other) (up_reader r) ≡ Ok (up q)
+event_still : (same due other : Bool) (r : Reader) (q : Place)
+    → within_if ((same && due) && other) r ≡ Ok q
+    → within_if ((true && due) && other) (up_reader r) ≡ Ok (up q)
 event_still true due other r q is = if_still ((true && due) && other) r q is
 event_still false due other r q is = absurd cc
 
-newcomer_still : (same due next other : Bool) (r : Reader) (q : Place) → within_if (((same && due) && next) && other) r ≡ Ok q → within_if (((true && due) && next) && other) (up_reader r) ≡ Ok (up q)
+newcomer_still : (same due next other : Bool) (r : Reader) (q : Place)
+    → within_if (((same && due) && next) && other) r ≡ Ok q
+    → within_if (((true && due) && next) && other) (up_reader r) ≡ Ok (up q)
 newcomer_still true due next other r q is = if_still (((true && due) && next) && other) r q is
 newcomer_still false due next other r q is = absurd cc
 
-rate_still : (same due : Bool) (r : Reader) (q : Place) → within_if (same && due) r ≡ Ok q → within_if (true && due) (up_reader r) ≡ Ok (up q)
+rate_still : (same due : Bool) (r : Reader) (q : Place) → within_if (same && due) r ≡ Ok q
+    → within_if (true && due) (up_reader r) ≡ Ok (up q)
 rate_still true due r q is = if_still (true && due) r q is
 rate_still false due r q is = absurd cc
 
-child_still : (r : Reader) (cell : ℕ) (over : Option ℕ) (child : Result (List Letter) ApplyStop) (q : Place) → with_child r cell over child ≡ Ok q → with_child (up_reader r) cell over child ≡ Ok (up q)
-child_still r cell over (Ok child) q is = within_is (with_newcomer r Placing cell over child (r.births + 1)) q is
+child_still : (r : Reader) (cell : ℕ) (over : Option ℕ) (child : Result (List Letter) ApplyStop)
+    (q : Place) → with_child r cell over child ≡ Ok q
+    → with_child (up_reader r) cell over child ≡ Ok (up q)
+child_still r cell over (Ok child) q is =
+    within_is (with_newcomer r Placing cell over child (r.births + 1)) q is
 child_still r cell over (Err stop) q is = absurd cc
 
-parent_still : (r : Reader) (cell : ℕ) (over : Option ℕ) (birth : BirthRecord) (parent : Option (List Letter)) (q : Place) → with_parent r cell over birth parent ≡ Ok q → with_parent (up_reader r) cell over birth parent ≡ Ok (up q)
+parent_still : (r : Reader) (cell : ℕ) (over : Option ℕ) (birth : BirthRecord)
+    (parent : Option (List Letter)) (q : Place) → with_parent r cell over birth parent ≡ Ok q
+    → with_parent (up_reader r) cell over birth parent ≡ Ok (up q)
 parent_still r cell over birth None q is = absurd cc
-parent_still r cell over birth (Some letters) q is = child_still r cell over (child_of letters birth) q is
+parent_still r cell over birth (Some letters) q is =
+    child_still r cell over (child_of letters birth) q is
 
-birth_still : (test : Bool) (r : Reader) (cell : ℕ) (over : Option ℕ) (birth : BirthRecord) (parent : Option (List Letter)) (q : Place) → (if test then with_parent r cell over birth parent else Err BadOrder) ≡ Ok q → (if test then with_parent (up_reader r) cell over birth parent else Err BadOrder) ≡ Ok (up q)
+birth_still : (test : Bool) (r : Reader) (cell : ℕ) (over : Option ℕ) (birth : BirthRecord)
+    (parent : Option (List Letter)) (q : Place)
+    → (if test then with_parent r cell over birth parent else Err BadOrder) ≡ Ok q
+    → (if test then with_parent (up_reader r) cell over birth parent else Err BadOrder) ≡ Ok (up q)
 birth_still true r cell over birth parent q is = parent_still r cell over birth parent q is
 birth_still false r cell over birth parent q is = absurd cc
 
-end_still : (test : Bool) (r : Reader) (q : Place) → ◌≡◌ {A = Result Place Reason} (if test then Ok (After r) else Err BadOrder) (Ok q) → ◌≡◌ {A = Result Place Reason} (if test then Ok (After (up_reader r)) else Err BadOrder) (Ok (up q))
+end_still : (test : Bool) (r : Reader) (q : Place)
+    → ◌≡◌ {A = Result Place Reason} (if test then Ok (After r) else Err BadOrder) (Ok q)
+    → ◌≡◌ {A = Result Place Reason} (if test then Ok (After (up_reader r)) else Err BadOrder)
+    (Ok (up q))
 end_still true r q is = ap (λ (p : Place). Ok (up p)) (place_is (After r) q is)
 end_still false r q is = absurd cc
 
-told_still : (r : Reader) (line : Line) (q : Place) → told_within r line ≡ Ok q → told_within (up_reader r) line ≡ Ok (up q)
+told_still : (r : Reader) (line : Line) (q : Place) → told_within r line ≡ Ok q
+    → told_within (up_reader r) line ≡ Ok (up q)
 unfolding told_death told_birth told_injected told_cleared told_rate told_count told_end
 told_still r (Start version width height cell genome) q is = absurd cc
-told_still r (Death id update cell) q is = if_still ((update == r.due) && may_die r.stage cell && holds (slice_get r.standing cell) (Some id)) (with_death r (Dying cell) cell id) q is
-told_still r (Birth id parent update cell over birth) q is = birth_still ((update == r.due) && may_be_born r.stage && (id == length r.people) && holds (slice_get r.standing cell) over) r cell over birth (parent_in r parent) q is
-told_still r (Injected id update cell over genome) q is = newcomer_still (r.version == 2) (update == r.due) (id == length r.people) (holds (slice_get r.standing cell) over) (with_newcomer r Happening cell over genome r.births) q is
-told_still r (Cleared id update cell) q is = event_still (r.version == 2) (update == r.due) (holds (slice_get r.standing cell) (Some id)) (with_death r Happening cell id) q is
-told_still r (Rate update name ppm) q is = rate_still (r.version == 2) (update == r.due) (record r { stage = Happening }) q is
-told_still r (Count s) q is = if_still ((s.update == r.due) && (s.living == taken r.standing) && (s.births == r.births) && (s.deaths == length r.leaving)) (renewed r) q is
+told_still r (Death id update cell) q is =
+    if_still ((update == r.due) && may_die r.stage cell
+    && holds (slice_get r.standing cell) (Some id)) (with_death r (Dying cell) cell id) q is
+told_still r (Birth id parent update cell over birth) q is =
+    birth_still ((update == r.due) && may_be_born r.stage && (id == length r.people)
+    && holds (slice_get r.standing cell) over) r cell over birth (parent_in r parent) q is
+told_still r (Injected id update cell over genome) q is =
+    newcomer_still (r.version == 2) (update == r.due) (id == length r.people)
+    (holds (slice_get r.standing cell) over) (with_newcomer r Happening cell over genome r.births) q
+    is
+told_still r (Cleared id update cell) q is =
+    event_still (r.version == 2) (update == r.due) (holds (slice_get r.standing cell) (Some id))
+    (with_death r Happening cell id) q is
+told_still r (Rate update name ppm) q is =
+    rate_still (r.version == 2) (update == r.due) (record r { stage = Happening }) q is
+told_still r (Count s) q is =
+    if_still ((s.update == r.due) && (s.living == taken r.standing) && (s.births == r.births)
+    && (s.deaths == length r.leaving)) (renewed r) q is
 told_still r (End updates) q is = end_still (is_quiet r.stage && (updates + 1 == r.due)) r q is
 
-whole_step : (t s : Result Place Reason) (p : Place) (next : Place → Result Place Reason) → s ≡ Ok p → IsWhole (next p) → IsWhole (and_on s next)
-whole_step t s p next is whole = subst (λ (o : Result Place Reason). IsWhole (and_on o next)) (sym is) whole
+whole_step : (t s : Result Place Reason) (p : Place) (next : Place → Result Place Reason) → s ≡ Ok p
+    → IsWhole (next p) → IsWhole (and_on s next)
+whole_step t s p next is whole =
+    subst (λ (o : Result Place Reason). IsWhole (and_on o next)) (sym is) whole
 
-whole_still : (p : Place) (lines : List Line) → IsWhole (told_all p lines) → IsWhole (told_all (up p) lines)
+whole_still : (p : Place) (lines : List Line) → IsWhole (told_all p lines)
+    → IsWhole (told_all (up p) lines)
 whole_still Before lines w = w
 whole_still (Within r) [] w = absurd w
 whole_still (Within r) (line ∷ lines) w =
@@ -82,7 +117,8 @@ whole_still (Within r) (line ∷ lines) w =
     let step = went_on (told_within r line) (λ p. told_all p lines) (After end.0) end.1 in
     let rest : IsWhole (told_all step.0 lines) = subst IsWhole (sym step.2) tt in
     let deep = whole_still step.0 lines rest in
-    whole_step (told_within r line) (told_within (up_reader r) line) (up step.0) (λ p. told_all p lines) (told_still r line step.0 step.1) deep
+    whole_step (told_within r line) (told_within (up_reader r) line) (up step.0)
+    (λ p. told_all p lines) (told_still r line step.0 step.1) deep
 whole_still (After r) [] w = tt
 whole_still (After r) (line ∷ lines) w = absurd w
 
@@ -96,18 +132,26 @@ form_still (Rate update name ppm) fits = fits
 form_still (Count stats) fits = fits
 form_still (End updates) fits = fits
 
-first_still : (version width height cell : ℕ) (genome : List Letter) (lines : List Line) → IsWhole (told_all Before (Start version width height cell genome ∷ lines)) → IsWhole (told_all Before (Start 2 width height cell genome ∷ lines))
+first_still : (version width height cell : ℕ) (genome : List Letter) (lines : List Line)
+    → IsWhole (told_all Before (Start version width height cell genome ∷ lines))
+    → IsWhole (told_all Before (Start 2 width height cell genome ∷ lines))
 unfolding told_start
 first_still version width height cell genome lines w =
     let end = whole_is (told_all Before (Start version width height cell genome ∷ lines)) w in
-    let step = went_on (told_start version width height cell genome) (λ p. told_all p lines) (After end.0) end.1 in
+    let step = went_on (told_start version width height cell genome) (λ p. told_all p lines)
+    (After end.0) end.1 in
     let rest : IsWhole (told_all step.0 lines) = subst IsWhole (sym step.2) tt in
     let deep = whole_still step.0 lines rest in
-    let is : told_start 2 width height cell genome ≡ Ok (up step.0) = if_still (nat_lt cell (width * height)) (opened version (width * height) cell genome) step.0 step.1 in
-    whole_step (told_start version width height cell genome) (told_start 2 width height cell genome) (up step.0) (λ p. told_all p lines) is deep
+    let is : told_start 2 width height cell genome ≡ Ok (up step.0) =
+    if_still (nat_lt cell (width * height)) (opened version (width * height) cell genome) step.0
+    step.1 in
+    whole_step (told_start version width height cell genome) (told_start 2 width height cell genome)
+    (up step.0) (λ p. told_all p lines) is deep
 
-order_still : (line : Line) (lines : List Line) → IsWhole (told_all Before (line ∷ lines)) → IsWhole (told_all Before (newer line ∷ lines))
-order_still (Start version width height cell genome) lines w = first_still version width height cell genome lines w
+order_still : (line : Line) (lines : List Line) → IsWhole (told_all Before (line ∷ lines))
+    → IsWhole (told_all Before (newer line ∷ lines))
+order_still (Start version width height cell genome) lines w =
+    first_still version width height cell genome lines w
 order_still (Death id update cell) lines w = w
 order_still (Birth id parent update cell over birth) lines w = w
 order_still (Injected id update cell over genome) lines w = w
@@ -118,4 +162,8 @@ order_still (End updates) lines w = w
 
 pub upgraded_good : (lines : List Line) → IsGoodLog lines → IsGoodLog (upgraded lines)
 upgraded_good [] good = good
-upgraded_good (line ∷ lines) good = record { forms = (form_still line good.forms.0, good.forms.1); order = order_still line lines good.order }
+upgraded_good (line ∷ lines) good =
+    record {
+      forms = (form_still line good.forms.0, good.forms.1);
+      order = order_still line lines good.order;
+    }

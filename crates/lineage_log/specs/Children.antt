@@ -11,7 +11,8 @@ use Rattle.lineage_log.specs.declared.refusal.Refusal.{Refusal}
 use Rattle.lineage_log.specs.declared.refusal.Refusal.TheVariants.{Memory, Faulty}
 
 -- the child of a parent's letters, or why there is none
-abbrev pub MakesChild : Result (Rc Genome Global) Refusal → Option (List Letter) → BirthRecord → Type 0
+abbrev pub MakesChild : Result (Rc Genome Global) Refusal → Option (List Letter) → BirthRecord
+    → Type 0
 MakesChild (Ok child) None birth = ⊥
 MakesChild (Ok child) (Some parent) birth = child_of parent birth ≡ Ok (letters child.value)
 MakesChild (Err Memory) parent birth = ⊤

@@ -18,3 +18,6 @@ pub mod Replay
 pub mod Livings
 pub mod Residents
 pub mod Links
+pub mod Ancestry
+pub mod Trees
+pub mod Nodes

@@ -16,11 +16,13 @@ living_of (Ok lines) = Ok (replay_of lines)
 living_of (Err e) = Err (stop_at e.line e.cause)
 
 -- these lines were read, and all of them were told to this reader
-pub record HasTold (lines : List Line) (reader : code.Reader) (read : Result (List Line) Fault) : Type 0 where
+pub record HasTold (lines : List Line) (reader : code.Reader)
+    (read : Result (List Line) Fault) : Type 0 where
   pub read_so : read ≡ Ok lines
   pub told : told_all Before lines ≡ Ok (After (reader_of reader))
 
--- the reader that is left by the bytes of a log, or why they are none; running out of memory says nothing of them
+-- the reader that is left by the bytes of a log, or why they are none; running out of memory says
+-- nothing of them
 abbrev pub LeavesReader : Result code.Reader LogStop → Result (List Line) Fault → Type 0
 LeavesReader (Ok reader) read = (lines : List Line) × HasTold lines reader read
 LeavesReader (Err e) read = e ≢ stop.Memory → answer_of read ≡ Err e

@@ -35,7 +35,8 @@ pub record IsRead (before after : LogReader) : Type 0 where
   pub place : place_of after.place ≡ place_of before.place
   pub whole : IsAfter (place_of after.place)
 
--- what the next line gives: the line, the end, or why the first faulty line is; running out of memory says nothing of it
+-- what the next line gives: the line, the end, or why the first faulty line is; running out of
+-- memory says nothing of it
 abbrev pub GivesNext : Result (Option LogLine) LogStop → LogReader → LogReader → Type 0
 GivesNext (Ok (Some line)) before after = ReadsLine (values_of line) before after
 GivesNext (Ok None) before after = IsRead before after

@@ -20,7 +20,8 @@ IsAfter Before = ⊥
 IsAfter (Within r) = ⊥
 IsAfter (After r) = Unit {0}
 
--- what a line did: this place is reached, or why the line is faulty; running out of memory says nothing of it
+-- what a line did: this place is reached, or why the line is faulty; running out of memory says
+-- nothing of it
 abbrev pub TellsPlace : Result (Unit {0}) Refusal → Place → Result Place Reason → Type 0
 TellsPlace (Ok done) next told = told ≡ Ok next
 TellsPlace (Err Memory) next told = ⊤

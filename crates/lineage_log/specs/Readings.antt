@@ -20,7 +20,8 @@ reader_of r = record {
   births = r.births;
 }
 
--- what a line did: this reader is left, or why the line is faulty; running out of memory says nothing of it
+-- what a line did: this reader is left, or why the line is faulty; running out of memory says
+-- nothing of it
 abbrev pub Tells : Result (Unit {0}) Refusal → Reader → Result Place Reason → Type 0
 Tells (Ok done) r told = told ≡ Ok (Within r)
 Tells (Err Memory) r told = ⊤

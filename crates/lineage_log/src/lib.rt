@@ -1,6 +1,7 @@
 //! The log of a run: its lines, its laws and its reader.
 #![tactic(auto)]
 
+mod ancestor;
 mod child;
 pub mod laws;
 mod link;
@@ -8,6 +9,8 @@ mod living;
 mod log;
 mod log_reader;
 mod log_stop;
+mod node;
+mod nodes;
 mod people;
 mod place;
 mod read;
@@ -17,7 +20,9 @@ mod refusal;
 mod residents;
 mod slots;
 mod stage;
+mod tree;
 
+pub use ancestor::Ancestor;
 pub use link::{Link, Path};
 pub use living::{Living, Livings};
 pub use log::Log;
@@ -27,3 +32,4 @@ pub use read::read_log;
 pub use reason::Reason;
 pub use residents::{living_at_end, replay};
 pub use stage::Stage;
+pub use tree::Tree;

@@ -47,7 +47,8 @@ fn stop_for(refusal: Refusal, line: u64) -> LogStop
 
 /// The end of the bytes, behind the last newline.
 fn end_at(number: u64, place: &Place, piece: &[u8]) -> Result<(), LogStop>
-    ensures { EndsAt result (place_of place.now) (last_piece number (place_of place.now) piece.now) }
+    ensures { EndsAt result (place_of place.now)
+        (last_piece number (place_of place.now) piece.now) }
 {
     if !piece.is_empty() {
         return Err(LogStop::BadLine { line: number });

@@ -17,7 +17,8 @@ pub enum LogStop {
     UnknownParent { line: u64 },
     /// The record of a birth can't be applied to its parent's genome.
     BadChange { line: u64 },
-    /// All lines are good and none is the last line of a log; the line is the one that would follow.
+    /// All lines are good and none is the last line of a log; the line is the one that would
+    /// follow.
     Unended { line: u64 },
 }
 

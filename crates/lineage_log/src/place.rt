@@ -23,7 +23,8 @@ pub enum Place {
 
 /// One line more. After an error the place is not used again.
 pub fn tell(alloc: Global, place: &mut Place, line: &LogLine) -> Result<(), Refusal>
-    ensures { TellsPlace result (place_of place.new) (told (place_of place.old) (values_of line.now)) }
+    ensures { TellsPlace result (place_of place.new)
+        (told (place_of place.old) (values_of line.now)) }
 {
     if let LogLine::End { updates } = line {
         return tell_last(place, *updates);

@@ -44,8 +44,8 @@ fn reader_after(alloc: Global, lines: &[LogLine]) -> Result<Reader, Memory>
     Ok(into_reader(place))
 }
 
-/// Replays the bytes of a log, or tells its first faulty line: as `read_log` and then `replay`, but no
-/// line is kept.
+/// Replays the bytes of a log, or tells its first faulty line: as `read_log` and then `replay`, but
+/// no line is kept.
 pub fn living_at_end(alloc: Global, bytes: &[u8]) -> Result<Livings, LogStop>
     ensures { result ≢ Err LogStop.Memory → result ≡ living_of (log_of bytes.now) }
 {

@@ -17,7 +17,8 @@ abbrev cut : List ℕ → List (List ℕ)
 cut bytes = slice_split (λ b. b == 32) bytes
 
 -- what a byte is put before begins with it
-onto_some : (b : ℕ) (parts : List (List ℕ)) → (word : List ℕ) × (words : List (List ℕ)) × (onto_first b parts ≡ (b ∷ word) ∷ words)
+onto_some : (b : ℕ) (parts : List (List ℕ)) → (word : List ℕ) × (words : List (List ℕ))
+    × (onto_first b parts ≡ (b ∷ word) ∷ words)
 onto_some b [] = ([], [], refl)
 onto_some b (part ∷ parts) = (part, parts, refl)
 
@@ -31,49 +32,68 @@ cut_here b bs is = ap (λ (v : Bool). cond v ([] ∷ cut bs) (onto_first b (cut 
 
 -- the digits are the first word, and these words are left; or the first word has another byte
 abbrev Parts : List ℕ → Option (Option (List ℕ)) → Type 0
-Parts bytes None = (word : List ℕ) × (words : List (List ℕ)) × (cut bytes ≡ word ∷ words) × (all_ascii_digits word ≡ false)
+Parts bytes None = (word : List ℕ) × (words : List (List ℕ)) × (cut bytes ≡ word ∷ words)
+    × (all_ascii_digits word ≡ false)
 Parts bytes (Some left) = cut bytes ≡ leading_digits bytes ∷ words_of left
 
 one_more : (n : ℕ) → 1 + n ≡ suc n
 one_more n = omega arith
 
-digits_on : (b : ℕ) (bs : List ℕ) → is_ascii_digit b ≡ true → leading_digits (b ∷ bs) ≡ b ∷ leading_digits bs
-digits_on b bs is = ap (λ (v : Bool). take (cond v (1 + digits_len bs) 0) (b ∷ bs)) is ∙ ap (λ (n : ℕ). take n (b ∷ bs)) (one_more (digits_len bs))
+digits_on : (b : ℕ) (bs : List ℕ) → is_ascii_digit b ≡ true
+    → leading_digits (b ∷ bs) ≡ b ∷ leading_digits bs
+digits_on b bs is = ap (λ (v : Bool). take (cond v (1 + digits_len bs) 0) (b ∷ bs)) is
+    ∙ ap (λ (n : ℕ). take n (b ∷ bs)) (one_more (digits_len bs))
 
-behind_on : (b : ℕ) (bs : List ℕ) → is_ascii_digit b ≡ true → drop (digits_len (b ∷ bs)) (b ∷ bs) ≡ drop (digits_len bs) bs
-behind_on b bs is = ap (λ (v : Bool). drop (cond v (1 + digits_len bs) 0) (b ∷ bs)) is ∙ ap (λ (n : ℕ). drop n (b ∷ bs)) (one_more (digits_len bs))
+behind_on : (b : ℕ) (bs : List ℕ) → is_ascii_digit b ≡ true
+    → drop (digits_len (b ∷ bs)) (b ∷ bs) ≡ drop (digits_len bs) bs
+behind_on b bs is = ap (λ (v : Bool). drop (cond v (1 + digits_len bs) 0) (b ∷ bs)) is
+    ∙ ap (λ (n : ℕ). drop n (b ∷ bs)) (one_more (digits_len bs))
 
 no_digits : (b : ℕ) (bs : List ℕ) → is_ascii_digit b ≡ false → leading_digits (b ∷ bs) ≡ []
 no_digits b bs isnt = ap (λ (v : Bool). take (cond v (1 + digits_len bs) 0) (b ∷ bs)) isnt
 
-behind_none : (b : ℕ) (bs : List ℕ) → is_ascii_digit b ≡ false → drop (digits_len (b ∷ bs)) (b ∷ bs) ≡ b ∷ bs
+behind_none : (b : ℕ) (bs : List ℕ) → is_ascii_digit b ≡ false
+    → drop (digits_len (b ∷ bs)) (b ∷ bs) ≡ b ∷ bs
 behind_none b bs isnt = ap (λ (v : Bool). drop (cond v (1 + digits_len bs) 0) (b ∷ bs)) isnt
 
 and_false : (v : Bool) → (v && false) ≡ false
 and_false true = refl
 and_false false = refl
 
-parts_on : (b : ℕ) (bs : List ℕ) (left : Option (Option (List ℕ))) → is_ascii_digit b ≡ true → Parts bs left → Parts (b ∷ bs) left
+parts_on : (b : ℕ) (bs : List ℕ) (left : Option (Option (List ℕ))) → is_ascii_digit b ≡ true
+    → Parts bs left → Parts (b ∷ bs) left
 parts_on b bs (Some left) is so =
     let other : (b == 32) ≡ false = grind (arith, nat_tests, is) in
-    cut_on b bs other ∙ ap (onto_first b) so ∙ ap (λ (word : List ℕ). word ∷ words_of left) (sym (digits_on b bs is))
+    cut_on b bs other ∙ ap (onto_first b) so
+    ∙ ap (λ (word : List ℕ). word ∷ words_of left) (sym (digits_on b bs is))
 parts_on b bs None is so =
-    let other : (b == 32) ≡ false = grind (arith, nat_tests, is) in
-    (b ∷ so.0, so.1, cut_on b bs other ∙ ap (onto_first b) so.2, ap (λ (v : Bool). is_ascii_digit b && v) so.3 ∙ and_false (is_ascii_digit b))
+    let other : (b == 32) ≡ false = grind (arith, nat_tests, is) in (
+      b ∷ so.0,
+      so.1,
+      cut_on b bs other ∙ ap (onto_first b) so.2,
+      ap (λ (v : Bool). is_ascii_digit b && v) so.3 ∙ and_false (is_ascii_digit b),
+    )
 
 parts_end : (b : ℕ) (bs : List ℕ) → is_ascii_digit b ≡ false → Parts (b ∷ bs) (after_word (b ∷ bs))
 parts_end b bs isnt = elim (cases_Bool (b == 32)) [
   | inl is ↦ subst (λ (v : Bool). Parts (b ∷ bs) (cond v (Some (Some bs)) None)) (sym is)
       (cut_here b bs is ∙ ap (λ (word : List ℕ). word ∷ cut bs) (sym (no_digits b bs isnt)))
   | inr other ↦ subst (λ (v : Bool). Parts (b ∷ bs) (cond v (Some (Some bs)) None)) (sym other)
-      (let some = onto_some b (cut bs) in (b ∷ some.0, some.1, cut_on b bs other ∙ some.2, ap (λ (v : Bool). v && all_ascii_digits some.0) isnt))
+      (let some = onto_some b (cut bs) in (
+        b ∷ some.0,
+        some.1,
+        cut_on b bs other ∙ some.2,
+        ap (λ (v : Bool). v && all_ascii_digits some.0) isnt,
+      ))
 ]
 
 parts : (bytes : List ℕ) → Parts bytes (after_word (drop (digits_len bytes) bytes))
 parts [] = refl
 parts (b ∷ bs) = elim (cases_Bool (is_ascii_digit b)) [
-  | inl is ↦ subst (λ (l : List ℕ). Parts (b ∷ bs) (after_word l)) (sym (behind_on b bs is)) (parts_on b bs (after_word (drop (digits_len bs) bs)) is (parts bs))
-  | inr isnt ↦ subst (λ (l : List ℕ). Parts (b ∷ bs) (after_word l)) (sym (behind_none b bs isnt)) (parts_end b bs isnt)
+  | inl is ↦ subst (λ (l : List ℕ). Parts (b ∷ bs) (after_word l)) (sym (behind_on b bs is))
+      (parts_on b bs (after_word (drop (digits_len bs) bs)) is (parts bs))
+  | inr isnt ↦ subst (λ (l : List ℕ). Parts (b ∷ bs) (after_word l)) (sym (behind_none b bs isnt))
+      (parts_end b bs isnt)
 ]
 
 -- ---- the number that is the first word
@@ -81,15 +101,19 @@ parts (b ∷ bs) = elim (cases_Bool (is_ascii_digit b)) [
 not_numeral : (word : List ℕ) → all_ascii_digits word ≡ false → is_numeral word ≡ false
 not_numeral [] isnt = refl
 not_numeral (d ∷ []) isnt = isnt
-not_numeral (d ∷ e ∷ ds) isnt = ap (λ (v : Bool). not (d == 48) && v) isnt ∙ and_false (not (d == 48))
+not_numeral (d ∷ e ∷ ds) isnt =
+    ap (λ (v : Bool). not (d == 48) && v) isnt ∙ and_false (not (d == 48))
 
-pub not_number : (least greatest : ℕ) (word : List ℕ) → all_ascii_digits word ≡ false → number_of least greatest word ≡ None
+pub not_number : (least greatest : ℕ) (word : List ℕ) → all_ascii_digits word ≡ false
+    → number_of least greatest word ≡ None
 unfolding number_of
 not_number least greatest word isnt = rw (not_numeral word isnt) refl
 
 -- what follows the digits, as the code cuts it
-pub tail_is : (len : ℕ) (bytes : List ℕ) → len ≤ length bytes → take (length bytes - len) (drop len bytes) ≡ drop len bytes
-tail_is len bytes within = take_all (length bytes - len) (drop len bytes) (omega (arith, length-drop len bytes))
+pub tail_is : (len : ℕ) (bytes : List ℕ) → len ≤ length bytes
+    → take (length bytes - len) (drop len bytes) ≡ drop len bytes
+tail_is len bytes within =
+    take_all (length bytes - len) (drop len bytes) (omega (arith, length-drop len bytes))
 
 -- the first number and the words behind it
 abbrev first_of : Option (List ℕ) → Option ℕ → Option (ℕ × List (List ℕ))
@@ -103,18 +127,28 @@ module _ (least greatest : ℕ) (bytes : List ℕ) where
   abbrev read : List ℕ → Option ℕ
   read word = number_of least greatest word
 
-  read_parts : (n : ℕ) (left : Option (Option (List ℕ))) → Parts bytes left → Some n ≡ read (leading_digits bytes) → with_left n left ≡ read_first read (cut bytes)
-  read_parts n None so is = sym (ap (read_first read) so.2 ∙ ap (option_map (λ a. (a, so.1))) (not_number least greatest so.0 so.3))
+  read_parts : (n : ℕ) (left : Option (Option (List ℕ))) → Parts bytes left
+      → Some n ≡ read (leading_digits bytes) → with_left n left ≡ read_first read (cut bytes)
+  read_parts n None so is =
+      sym (ap (read_first read) so.2
+      ∙ ap (option_map (λ a. (a, so.1))) (not_number least greatest so.0 so.3))
   read_parts n (Some left) so is = ap (first_of left) is ∙ sym (ap (read_first read) so)
 
-  no_parts : (left : Option (Option (List ℕ))) → Parts bytes left → None ≡ read (leading_digits bytes) → None ≡ read_first read (cut bytes)
-  no_parts None so is = sym (ap (read_first read) so.2 ∙ ap (option_map (λ a. (a, so.1))) (not_number least greatest so.0 so.3))
+  no_parts : (left : Option (Option (List ℕ))) → Parts bytes left
+      → None ≡ read (leading_digits bytes) → None ≡ read_first read (cut bytes)
+  no_parts None so is = sym
+      (ap (read_first read) so.2
+      ∙ ap (option_map (λ a. (a, so.1))) (not_number least greatest so.0 so.3))
   no_parts (Some left) so is = ap (first_of left) is ∙ sym (ap (read_first read) so)
 
-  pub front_number : (n len : ℕ) (left : Option (Option (List ℕ))) → Some n ≡ read (leading_digits bytes) → len ≡ digits_len bytes → left ≡ after_word (drop len bytes) → with_left n left ≡ read_first read (cut bytes)
+  pub front_number : (n len : ℕ) (left : Option (Option (List ℕ)))
+      → Some n ≡ read (leading_digits bytes) → len ≡ digits_len bytes
+      → left ≡ after_word (drop len bytes) → with_left n left ≡ read_first read (cut bytes)
   front_number n len left is far end =
-      let here : after_word (drop (digits_len bytes) bytes) ≡ left = ap (λ (k : ℕ). after_word (drop k bytes)) (sym far) ∙ sym end in
-      read_parts n left (subst (λ (o : Option (Option (List ℕ))). Parts bytes o) here (parts bytes)) is
+      let here : after_word (drop (digits_len bytes) bytes) ≡ left =
+      ap (λ (k : ℕ). after_word (drop k bytes)) (sym far) ∙ sym end in
+      read_parts n left (subst (λ (o : Option (Option (List ℕ))). Parts bytes o) here (parts bytes))
+      is
 
   pub front_none : None ≡ read (leading_digits bytes) → None ≡ read_first read (cut bytes)
   front_none is = no_parts (after_word (drop (digits_len bytes) bytes)) (parts bytes) is
@@ -123,7 +157,8 @@ module _ (least greatest : ℕ) (bytes : List ℕ) where
 
 -- the byte is the first word, and these words are left; or the first word goes on
 abbrev ByteParts : ℕ → List ℕ → Option (Option (List ℕ)) → Type 0
-ByteParts b bs None = (next : ℕ) × (word : List ℕ) × (words : List (List ℕ)) × (cut (b ∷ bs) ≡ (b ∷ next ∷ word) ∷ words)
+ByteParts b bs None = (next : ℕ) × (word : List ℕ) × (words : List (List ℕ))
+    × (cut (b ∷ bs) ≡ (b ∷ next ∷ word) ∷ words)
 ByteParts b bs (Some left) = cut (b ∷ bs) ≡ (b ∷ []) ∷ words_of left
 
 byte_parts : (b : ℕ) (bs : List ℕ) → (b == 32) ≡ false → ByteParts b bs (after_word bs)
@@ -132,25 +167,40 @@ byte_parts b (c ∷ cs) other = elim (cases_Bool (c == 32)) [
   | inl is ↦ subst (λ (v : Bool). ByteParts b (c ∷ cs) (cond v (Some (Some cs)) None)) (sym is)
       (cut_on b (c ∷ cs) other ∙ ap (onto_first b) (cut_here c cs is))
   | inr isnt ↦ subst (λ (v : Bool). ByteParts b (c ∷ cs) (cond v (Some (Some cs)) None)) (sym isnt)
-      (let some = onto_some c (cut cs) in (c, some.0, some.1, cut_on b (c ∷ cs) other ∙ ap (onto_first b) (cut_on c cs isnt ∙ some.2)))
+      (let some = onto_some c (cut cs) in (
+        c,
+        some.0,
+        some.1,
+        cut_on b (c ∷ cs) other
+            ∙ ap (onto_first b) (cut_on c cs isnt ∙ some.2),
+      ))
 ]
 
 -- nobody stood there
 abbrev dashed : Option (Option (List ℕ)) → Option (Option ℕ × List (List ℕ))
-dashed left = option_map (λ o. let pair : Option ℕ × List (List ℕ) = (None, words_of o) in pair) left
+dashed left =
+    option_map (λ o. let pair : Option ℕ × List (List ℕ) = (None, words_of o) in pair) left
 
-dash_part : (bs : List ℕ) (left : Option (Option (List ℕ))) → ByteParts 45 bs left → dashed left ≡ read_first over_field.read (cut (45 ∷ bs))
+dash_part : (bs : List ℕ) (left : Option (Option (List ℕ))) → ByteParts 45 bs left
+    → dashed left ≡ read_first over_field.read (cut (45 ∷ bs))
 dash_part bs (Some left) so = sym (ap (read_first over_field.read) so)
-dash_part bs None so = sym (ap (read_first over_field.read) so.3 ∙ ap (option_map (λ a. (a, so.2))) (ap (option_map Some) (not_number 0 18446744073709551615 (45 ∷ so.0 ∷ so.1) refl)))
+dash_part bs None so = sym
+    (ap (read_first over_field.read) so.3
+    ∙ ap (option_map (λ a. (a, so.2)))
+    (ap (option_map Some) (not_number 0 18446744073709551615 (45 ∷ so.0 ∷ so.1) refl)))
 
 whole_rest : (b : ℕ) (bs : List ℕ) → take (length (b ∷ bs) - 1) (drop 1 (b ∷ bs)) ≡ bs
 whole_rest b bs = take_all (length (b ∷ bs) - 1) bs (omega arith)
 
-pub dash_first : (bytes : List ℕ) (left : Option (Option (List ℕ))) → 1 ≤ length bytes → get_or bytes 0 0 ≡ 45 → left ≡ after_word (take (length bytes - 1) (drop 1 bytes)) → dashed left ≡ read_first over_field.read (cut bytes)
+pub dash_first : (bytes : List ℕ) (left : Option (Option (List ℕ))) → 1 ≤ length bytes
+    → get_or bytes 0 0 ≡ 45 → left ≡ after_word (take (length bytes - 1) (drop 1 bytes))
+    → dashed left ≡ read_first over_field.read (cut bytes)
 dash_first [] left some is end = absurd (omega (arith, some))
 dash_first (b ∷ bs) left some is end =
     let here : left ≡ after_word bs = end ∙ ap after_word (whole_rest b bs) in
-    dash_part bs left (subst (λ (o : Option (Option (List ℕ))). ByteParts 45 bs o) (sym here) (byte_parts 45 bs refl)) ∙ ap (λ (c : ℕ). read_first over_field.read (cut (c ∷ bs))) (sym is)
+    dash_part bs left (subst (λ (o : Option (Option (List ℕ))). ByteParts 45 bs o) (sym here)
+    (byte_parts 45 bs refl))
+    ∙ ap (λ (c : ℕ). read_first over_field.read (cut (c ∷ bs))) (sym is)
 
 empty_word : number_of 0 18446744073709551615 [] ≡ None
 unfolding number_of
@@ -162,28 +212,39 @@ no_first (b ∷ bs) short = absurd (omega (arith, short))
 
 -- a number in front, where who stood there is asked for
 abbrev as_some : Option (ℕ × List (List ℕ)) → Option (Option ℕ × List (List ℕ))
-as_some found = option_map (λ p. let pair : Option ℕ × List (List ℕ) = (Some p.0, p.1) in pair) found
+as_some found =
+    option_map (λ p. let pair : Option ℕ × List (List ℕ) = (Some p.0, p.1) in pair) found
 
-some_read : (words : List (List ℕ)) (found : Option ℕ) → as_some (option_map (λ a. (a, words)) found) ≡ option_map (λ a. (a, words)) (option_map Some found)
+some_read : (words : List (List ℕ)) (found : Option ℕ)
+    → as_some (option_map (λ a. (a, words)) found)
+    ≡ option_map (λ a. (a, words)) (option_map Some found)
 some_read words None = refl
 some_read words (Some n) = refl
 
-word_other : (word : List ℕ) (words : List (List ℕ)) → bytes_eq word (45 ∷ []) ≡ false → as_some (read_first (number_of 0 18446744073709551615) (word ∷ words)) ≡ read_first over_field.read (word ∷ words)
+word_other : (word : List ℕ) (words : List (List ℕ)) → bytes_eq word (45 ∷ []) ≡ false
+    → as_some (read_first (number_of 0 18446744073709551615) (word ∷ words))
+    ≡ read_first over_field.read (word ∷ words)
 word_other word words isnt =
     let read = number_of 0 18446744073709551615 word in
-    some_read words read ∙ ap (option_map (λ a. (a, words))) (sym (ap (λ (v : Bool). cond v (Some None) (option_map Some read)) isnt))
+    some_read words read ∙ ap (option_map (λ a. (a, words)))
+    (sym (ap (λ (v : Bool). cond v (Some None) (option_map Some read)) isnt))
 
-pub other_first : (bytes : List ℕ) → (get_or bytes 0 0 ≡ 45 → ⊥) → as_some (read_first (number_of 0 18446744073709551615) (cut bytes)) ≡ read_first over_field.read (cut bytes)
+pub other_first : (bytes : List ℕ) → (get_or bytes 0 0 ≡ 45 → ⊥)
+    → as_some (read_first (number_of 0 18446744073709551615) (cut bytes))
+    ≡ read_first over_field.read (cut bytes)
 other_first [] apart = word_other [] [] refl
 other_first (b ∷ bs) apart = elim (cases_Bool (b == 32)) [
   | inl is ↦
       let same = cut_here b bs is in
-      ap (λ (words : List (List ℕ)). as_some (read_first (number_of 0 18446744073709551615) words)) same ∙ word_other [] (cut bs) refl ∙ ap (read_first over_field.read) (sym same)
+      ap (λ (words : List (List ℕ)). as_some (read_first (number_of 0 18446744073709551615) words))
+      same ∙ word_other [] (cut bs) refl ∙ ap (read_first over_field.read) (sym same)
   | inr isnt ↦
       let some = onto_some b (cut bs) in
       let same = cut_on b bs isnt ∙ some.2 in
       let other : (b == 45) ≡ false = grind (arith, nat_tests, apart) in
-      ap (λ (words : List (List ℕ)). as_some (read_first (number_of 0 18446744073709551615) words)) same ∙ word_other (b ∷ some.0) some.1 (ap (λ (v : Bool). v && bytes_eq some.0 []) other) ∙ ap (read_first over_field.read) (sym same)
+      ap (λ (words : List (List ℕ)). as_some (read_first (number_of 0 18446744073709551615) words))
+      same ∙ word_other (b ∷ some.0) some.1 (ap (λ (v : Bool). v && bytes_eq some.0 []) other)
+      ∙ ap (read_first over_field.read) (sym same)
 ]
 
 -- ---- the mark of a line
@@ -197,10 +258,22 @@ cond_skip true x o is = is
 cond_skip false x o is = is
 
 bare_mark : (b : ℕ) → read_form (b ∷ []) [] ≡ None
-bare_mark b = cond_none ((b == 76) && true) _ (cond_none ((b == 68) && true) _ (cond_none ((b == 66) && true) _ (cond_none ((b == 73) && true) _ (cond_none ((b == 88) && true) _ (cond_none ((b == 82) && true) _ (cond_none ((b == 85) && true) _ (cond_none ((b == 69) && true) _ refl)))))))
+bare_mark b = cond_none ((b == 76) && true) _
+    (cond_none ((b == 68) && true) _
+    (cond_none ((b == 66) && true) _
+    (cond_none ((b == 73) && true) _
+    (cond_none ((b == 88) && true) _
+    (cond_none ((b == 82) && true) _
+    (cond_none ((b == 85) && true) _ (cond_none ((b == 69) && true) _ refl)))))))
 
-long_mark : (b c : ℕ) (word : List ℕ) (words : List (List ℕ)) → read_form (b ∷ c ∷ word) words ≡ None
-long_mark b c word words = cond_skip (b == 76) _ _ (cond_skip (b == 68) _ _ (cond_skip (b == 66) _ _ (cond_skip (b == 73) _ _ (cond_skip (b == 88) _ _ (cond_skip (b == 82) _ _ (cond_skip (b == 85) _ _ (cond_skip (b == 69) _ _ refl)))))))
+long_mark : (b c : ℕ) (word : List ℕ) (words : List (List ℕ))
+    → read_form (b ∷ c ∷ word) words ≡ None
+long_mark b c word words =
+    cond_skip (b == 76) _ _ (cond_skip (b == 68) _ _
+    (cond_skip (b == 66) _ _
+    (cond_skip (b == 73) _ _
+    (cond_skip (b == 88) _ _
+    (cond_skip (b == 82) _ _ (cond_skip (b == 85) _ _ (cond_skip (b == 69) _ _ refl)))))))
 
 pub short_line : (text : List ℕ) → length text < 2 → None ≡ line_of text
 unfolding line_of
@@ -214,7 +287,8 @@ short_line (b ∷ c ∷ rest) short = absurd (omega (arith, short))
 whole_rest_2 : (b c : ℕ) (bs : List ℕ) → take (length (b ∷ c ∷ bs) - 2) (drop 2 (b ∷ c ∷ bs)) ≡ bs
 whole_rest_2 b c bs = take_all (length (b ∷ c ∷ bs) - 2) bs (omega arith)
 
-pub marked : (text : List ℕ) → 2 ≤ length text → get_or text 1 0 ≡ 32 → (get_or text 0 0 ≡ 32 → ⊥) → read_form (get_or text 0 0 ∷ []) (cut (take (length text - 2) (drop 2 text))) ≡ line_of text
+pub marked : (text : List ℕ) → 2 ≤ length text → get_or text 1 0 ≡ 32 → (get_or text 0 0 ≡ 32 → ⊥)
+    → read_form (get_or text 0 0 ∷ []) (cut (take (length text - 2) (drop 2 text))) ≡ line_of text
 unfolding line_of
 marked [] some is apart = absurd (omega (arith, some))
 marked (b ∷ []) some is apart = absurd (omega (arith, some))
@@ -231,7 +305,8 @@ blank_mark (b ∷ rest) some is =
     let blank : (b == 32) ≡ true = grind (arith, nat_tests, is) in
     ap read_words (sym (cut_here b rest blank))
 
-pub long_marked : (text : List ℕ) → 2 ≤ length text → (get_or text 1 0 ≡ 32 → ⊥) → None ≡ line_of text
+pub long_marked : (text : List ℕ) → 2 ≤ length text → (get_or text 1 0 ≡ 32 → ⊥)
+    → None ≡ line_of text
 unfolding line_of
 long_marked [] some apart = absurd (omega (arith, some))
 long_marked (b ∷ []) some apart = absurd (omega (arith, some))
@@ -241,5 +316,6 @@ long_marked (b ∷ c ∷ rest) some apart =
       | inl is ↦ ap read_words (sym (cut_here b (c ∷ rest) is))
       | inr other ↦
           let some = onto_some c (cut rest) in
-          sym (ap read_words (cut_on b (c ∷ rest) other ∙ ap (onto_first b) (cut_on c rest isnt ∙ some.2)) ∙ long_mark b c some.0 some.1)
+          sym (ap read_words (cut_on b (c ∷ rest) other
+          ∙ ap (onto_first b) (cut_on c rest isnt ∙ some.2)) ∙ long_mark b c some.0 some.1)
     ]

@@ -7,5 +7,9 @@ use Rattle.log_lines.specs.Kept.{Keeps}
 pub keeps_front : {A : Type 0} (a b c : List A) → Keeps (a ++ b) c → Keeps a c
 keeps_front {A = A} a b c kept =
     let n = length (a ++ b) in
-    let whole : c ≡ a ++ (b ++ drop n c) = sym (take-append-drop n c) ∙ ap (λ (l : List A). l ++ drop n c) kept.front ∙ append_assoc a b (drop n c) in
-    record { front = ap (λ (l : List A). take (length a) l) whole ∙ take-append_seam a (b ++ drop n c) }
+    let whole : c ≡ a ++ (b ++ drop n c) = sym (take-append-drop n c)
+    ∙ ap (λ (l : List A). l ++ drop n c) kept.front ∙ append_assoc a b (drop n c) in
+    record {
+      front = ap (λ (l : List A). take (length a) l) whole
+          ∙ take-append_seam a (b ++ drop n c);
+    }

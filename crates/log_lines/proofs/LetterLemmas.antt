@@ -7,21 +7,26 @@ use Rattle.instruction_set.specs.declared.letter.Letter.TheVariants.{NopA, NopB,
 use Rattle.instruction_set.specs.Letter.{letters, byte_of, letter_of_byte}
 
 -- what is found passes the test
-pub found_passes : {A : Type 0} (p : A → Bool) (xs : List A) (x : A) → find p xs ≡ Some x → p x ≡ true
+pub found_passes : {A : Type 0} (p : A → Bool) (xs : List A) (x : A) → find p xs ≡ Some x
+    → p x ≡ true
 found_passes p [] x is = absurd cc
 found_passes {A = A} p (y ∷ xs) x is = elim (cases_Bool (p y)) [
   | inl passes ↦
-      let got : Some y ≡ Some x = subst (λ (b : Bool). cond b (Some y) (find p xs) ≡ Some x) passes is in
+      let got : Some y ≡ Some x =
+      subst (λ (b : Bool). cond b (Some y) (find p xs) ≡ Some x) passes is in
       let same : y ≡ x = cc in
       subst (λ (z : A). p z ≡ true) same passes
   | inr fails ↦
-      let got : find p xs ≡ Some x = subst (λ (b : Bool). cond b (Some y) (find p xs) ≡ Some x) fails is in
+      let got : find p xs ≡ Some x =
+      subst (λ (b : Bool). cond b (Some y) (find p xs) ≡ Some x) fails is in
       found_passes p xs x got
 ]
 
-pub byte_of_letter : (byte : ℕ) (letter : Letter) → letter_of_byte byte ≡ Some letter → byte_of letter ≡ byte
+pub byte_of_letter : (byte : ℕ) (letter : Letter) → letter_of_byte byte ≡ Some letter
+    → byte_of letter ≡ byte
 unfolding letter_of_byte
-byte_of_letter byte letter is = eqb-true (byte_of letter) byte (found_passes (λ l. byte_of l == byte) letters letter is)
+byte_of_letter byte letter is =
+    eqb-true (byte_of letter) byte (found_passes (λ l. byte_of l == byte) letters letter is)
 
 pub letter_of_byte-byte_of : (letter : Letter) → letter_of_byte (byte_of letter) ≡ Some letter
 unfolding letter_of_byte

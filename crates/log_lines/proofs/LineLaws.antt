@@ -43,41 +43,58 @@ module _ (numbers : OneNumber) where
   -- ---- changes
 
   -- a text with one byte at its end
-  split_last : (rest : List ℕ) → 0 < length rest → take (length rest - 1) rest ++ get_or rest (length rest - 1) 0 ∷ [] ≡ rest
+  split_last : (rest : List ℕ) → 0 < length rest
+      → take (length rest - 1) rest ++ get_or rest (length rest - 1) 0 ∷ [] ≡ rest
   split_last [] h = absurd (omega (arith, h))
   split_last (b ∷ []) h = refl
   split_last (b ∷ c ∷ bs) h =
       let n : length (b ∷ c ∷ bs) - 1 ≡ suc (length (c ∷ bs) - 1) = omega arith in
-      subst (λ k. take k (b ∷ c ∷ bs) ++ get_or (b ∷ c ∷ bs) k 0 ∷ [] ≡ b ∷ c ∷ bs) (sym n) (ap (λ (l : List ℕ). b ∷ l) (split_last (c ∷ bs) (omega arith)))
+      subst (λ k. take k (b ∷ c ∷ bs) ++ get_or (b ∷ c ∷ bs) k 0 ∷ [] ≡ b ∷ c ∷ bs) (sym n)
+      (ap (λ (l : List ℕ). b ∷ l) (split_last (c ∷ bs) (omega arith)))
 
-  lettered_again : (make : ℕ → Letter → Change) (at : ℕ) (letter : Letter) → small.Fits at → read_lettered make (decimal at ++ byte_of letter ∷ []) ≡ Some (make at letter)
+  lettered_again : (make : ℕ → Letter → Change) (at : ℕ) (letter : Letter) → small.Fits at
+      → read_lettered make (decimal at ++ byte_of letter ∷ []) ≡ Some (make at letter)
   lettered_again make at letter fits =
-      let n : length (decimal at ++ byte_of letter ∷ []) - 1 ≡ length (decimal at) = omega (arith, length-append (decimal at) (byte_of letter ∷ [])) in
-      let front : take (length (decimal at)) (decimal at ++ byte_of letter ∷ []) ≡ decimal at = take-append_seam (decimal at) (byte_of letter ∷ []) in
-      let end : get_or (decimal at ++ byte_of letter ∷ []) (length (decimal at)) 0 ≡ byte_of letter = get_or-append_seam (decimal at) (byte_of letter) [] 0 in
+      let n : length (decimal at ++ byte_of letter ∷ []) - 1 ≡ length (decimal at) =
+      omega (arith, length-append (decimal at) (byte_of letter ∷ [])) in
+      let front : take (length (decimal at)) (decimal at ++ byte_of letter ∷ []) ≡ decimal at =
+      take-append_seam (decimal at) (byte_of letter ∷ []) in
+      let end : get_or (decimal at ++ byte_of letter ∷ []) (length (decimal at)) 0
+      ≡ byte_of letter = get_or-append_seam (decimal at) (byte_of letter) [] 0 in
       let number : number_of 0 4294967295 (decimal at) ≡ Some at = small_law.again at fits in
       rw (n, front, end, number, letter_of_byte-byte_of letter) refl
 
-  lettered_takes : (make : ℕ → Letter → Change) (rest : List ℕ) (c : Change) → read_lettered make rest ≡ Some c → (at : ℕ) × (letter : Letter) × (make at letter ≡ c) × (decimal at ++ byte_of letter ∷ [] ≡ rest) × small.Fits at
+  lettered_takes : (make : ℕ → Letter → Change) (rest : List ℕ) (c : Change)
+      → read_lettered make rest ≡ Some c → (at : ℕ) × (letter : Letter) × (make at letter ≡ c)
+      × (decimal at ++ byte_of letter ∷ [] ≡ rest) × small.Fits at
   lettered_takes make [] c is =
-      let got = some_then (λ at. option_map (λ letter. make at letter) (letter_of_byte 0)) (number_of 0 4294967295 []) c is in
+      let got = some_then (λ at. option_map (λ letter. make at letter) (letter_of_byte 0))
+      (number_of 0 4294967295 []) c is in
       let none : number_of 0 4294967295 [] ≡ None = numbers.no_digits 0 4294967295 in absurd cc
   lettered_takes make (b ∷ bs) c is =
       let rest = b ∷ bs in
       let byte = get_or rest (length rest - 1) 0 in
-      let got = some_then (λ at. option_map (λ letter. make at letter) (letter_of_byte byte)) (number_of 0 4294967295 (take (length rest - 1) rest)) c is in
+      let got = some_then (λ at. option_map (λ letter. make at letter) (letter_of_byte byte))
+      (number_of 0 4294967295 (take (length rest - 1) rest)) c is in
       let found = some_map (λ letter. make got.0 letter) (letter_of_byte byte) c got.2 in
       let spelled : byte_of found.0 ≡ byte = byte_of_letter byte found.0 found.1 in
       let number = small_law.takes (take (length rest - 1) rest) got.0 got.1 in
-      let some : 0 < length rest = omega arith in
-      (got.0, found.0, found.2, ap (λ (l : List ℕ). l ++ byte_of found.0 ∷ []) number.0 ∙ ap (λ (k : ℕ). take (length rest - 1) rest ++ k ∷ []) spelled ∙ split_last rest some, number.1)
+      let some : 0 < length rest = omega arith in (
+        got.0,
+        found.0,
+        found.2,
+        ap (λ (l : List ℕ). l ++ byte_of found.0 ∷ []) number.0
+            ∙ ap (λ (k : ℕ). take (length rest - 1) rest ++ k ∷ []) spelled ∙ split_last rest some,
+        number.1,
+      )
 
   change_again : (c : Change) → FitsChange c → read_change (change_text c) ≡ Some c
   change_again (Point at letter) fits = lettered_again Point at letter fits
   change_again (Insert at letter) fits = lettered_again Insert at letter fits
   change_again (Delete at) fits = ap (option_map Delete) (small_law.again at fits)
 
-  deletion_takes : (rest : List ℕ) (c : Change) → option_map Delete (number_of 0 4294967295 rest) ≡ Some c → ChangeIs (100 ∷ rest) c
+  deletion_takes : (rest : List ℕ) (c : Change)
+      → option_map Delete (number_of 0 4294967295 rest) ≡ Some c → ChangeIs (100 ∷ rest) c
   deletion_takes rest c is =
       let got = some_map Delete (number_of 0 4294967295 rest) c is in
       let t = small_law.takes rest got.0 got.1 in
@@ -88,19 +105,22 @@ module _ (numbers : OneNumber) where
   change_takes (mark ∷ rest) c is = elim (cases_Bool (mark == 112)) [
     | inl point ↦
         let e : mark ≡ 112 = eqb-true mark 112 point in
-        let got : read_lettered Point rest ≡ Some c = subst (λ m. read_change (m ∷ rest) ≡ Some c) e is in
+        let got : read_lettered Point rest ≡ Some c =
+        subst (λ m. read_change (m ∷ rest) ≡ Some c) e is in
         let t = lettered_takes Point rest c got in
         rw e (subst (λ x. ChangeIs (112 ∷ rest) x) t.2 (ap (λ (l : List ℕ). 112 ∷ l) t.3, t.4))
     | inr more ↦ elim (cases_Bool (mark == 105)) [
       | inl insertion ↦
           let e : mark ≡ 105 = eqb-true mark 105 insertion in
-          let got : read_lettered Insert rest ≡ Some c = subst (λ m. read_change (m ∷ rest) ≡ Some c) e is in
+          let got : read_lettered Insert rest ≡ Some c =
+          subst (λ m. read_change (m ∷ rest) ≡ Some c) e is in
           let t = lettered_takes Insert rest c got in
           rw e (subst (λ x. ChangeIs (105 ∷ rest) x) t.2 (ap (λ (l : List ℕ). 105 ∷ l) t.3, t.4))
       | inr still ↦ elim (cases_Bool (mark == 100)) [
         | inl deletion ↦
             let e : mark ≡ 100 = eqb-true mark 100 deletion in
-            let got : option_map Delete (number_of 0 4294967295 rest) ≡ Some c = subst (λ m. read_change (m ∷ rest) ≡ Some c) e is in
+            let got : option_map Delete (number_of 0 4294967295 rest) ≡ Some c =
+            subst (λ m. read_change (m ∷ rest) ≡ Some c) e is in
             rw e (deletion_takes rest c got)
         | inr other ↦
             let none : read_change (mark ∷ rest) ≡ None = rw (more, still, other) refl in absurd cc
@@ -109,8 +129,16 @@ module _ (numbers : OneNumber) where
   ]
 
   change_plain : (c : Change) → FitsChange c → Above 44 (change_text c)
-  change_plain (Point at letter) fits = (omega arith, above_append 44 (decimal at) (byte_of letter ∷ []) (small_law.plain at fits) (letter_above letter, tt))
-  change_plain (Insert at letter) fits = (omega arith, above_append 44 (decimal at) (byte_of letter ∷ []) (small_law.plain at fits) (letter_above letter, tt))
+  change_plain (Point at letter) fits = (
+    omega arith,
+    above_append 44 (decimal at) (byte_of letter ∷ []) (small_law.plain at fits)
+        (letter_above letter, tt),
+  )
+  change_plain (Insert at letter) fits = (
+    omega arith,
+    above_append 44 (decimal at) (byte_of letter ∷ []) (small_law.plain at fits)
+        (letter_above letter, tt),
+  )
   change_plain (Delete at) fits = (omega arith, small_law.plain at fits)
 
   change_law : IsField 44 change
@@ -127,9 +155,12 @@ module _ (numbers : OneNumber) where
   rate_again rate.SiteInsert = refl
   rate_again rate.SiteDelete = refl
 
-  rate_takes : (word : List ℕ) (name : RateName) → rate_named word ≡ Some name → name_of_rate name ≡ word
+  rate_takes : (word : List ℕ) (name : RateName) → rate_named word ≡ Some name
+      → name_of_rate name ≡ word
   unfolding rate_named
-  rate_takes word name is = same_bytes (name_of_rate name) word (found_passes (λ n. bytes_eq (name_of_rate n) word) rate_names name is)
+  rate_takes word name is =
+      same_bytes (name_of_rate name) word
+      (found_passes (λ n. bytes_eq (name_of_rate n) word) rate_names name is)
 
   rate_plain : (name : RateName) → Above 44 (name_of_rate name)
   rate_plain rate.Copy = search arith
@@ -140,7 +171,11 @@ module _ (numbers : OneNumber) where
   rate_plain rate.SiteDelete = search arith
 
   rate_law : IsField 44 rate_name
-  rate_law = record { again = λ name fits. rate_again name; takes = λ word name is. (rate_takes word name is, tt); plain = λ name fits. rate_plain name }
+  rate_law = record {
+    again = λ name fits. rate_again name;
+    takes = λ word name is. (rate_takes word name is, tt);
+    plain = λ name fits. rate_plain name;
+  }
 
   -- ---- rows
 
@@ -170,15 +205,18 @@ module _ (numbers : OneNumber) where
   base32 = low base_field (or_sign_law letters 44 61 letters_law (omega arith) none_genome)
 
   changes32 : IsField 32 changes_field
-  changes32 = field_lower changes_field 32 43 (omega arith) (where_law (list_of change) 43 in_order (list_law change change_law refl))
+  changes32 = field_lower changes_field 32 43 (omega arith)
+      (where_law (list_of change) 43 in_order (list_law change change_law refl))
 
   placed_law : IsRow 32 (small ◂ last small)
   placed_law = row_law small (last small) 32 small32 (last_law small 32 small32)
 
   start_law : IsRow 32 start_row
   start_law =
-      let side : IsField 32 (number 1 256) = low (number 1 256) (number_law numbers 1 256 (omega arith)) in
-      row_law (number 1 2) (number 1 256 ◂ (number 1 256 ◂ (small ◂ last letters))) 32 (low (number 1 2) (number_law numbers 1 2 (omega arith)))
+      let side : IsField 32 (number 1 256) =
+      low (number 1 256) (number_law numbers 1 256 (omega arith)) in
+      row_law (number 1 2) (number 1 256 ◂ (number 1 256 ◂ (small ◂ last letters))) 32
+      (low (number 1 2) (number_law numbers 1 2 (omega arith)))
       (row_law (number 1 256) (number 1 256 ◂ (small ◂ last letters)) 32 side
       (row_law (number 1 256) (small ◂ last letters) 32 side
       (row_law small (last letters) 32 small32 (last_law letters 32 letters32))))
@@ -188,7 +226,8 @@ module _ (numbers : OneNumber) where
 
   birth_law : IsRow 32 birth_row
   birth_law =
-      row_law large (large ◂ (small ◂ (small ◂ (over_field ◂ (base_field ◂ last changes_field))))) 32 large32
+      row_law large (large ◂ (small ◂ (small ◂ (over_field ◂ (base_field ◂ last changes_field)))))
+      32 large32
       (row_law large (small ◂ (small ◂ (over_field ◂ (base_field ◂ last changes_field)))) 32 large32
       (row_law small (small ◂ (over_field ◂ (base_field ◂ last changes_field))) 32 small32
       (row_law small (over_field ◂ (base_field ◂ last changes_field)) 32 small32
@@ -206,7 +245,8 @@ module _ (numbers : OneNumber) where
   rate_row_law =
       row_law small (rate_name ◂ last (number 0 1000000)) 32 small32
       (row_law rate_name (last (number 0 1000000)) 32 (low rate_name rate_law)
-      (last_law (number 0 1000000) 32 (low (number 0 1000000) (number_law numbers 0 1000000 (omega arith)))))
+      (last_law (number 0 1000000) 32
+      (low (number 0 1000000) (number_law numbers 0 1000000 (omega arith)))))
 
   count_law : IsRow 32 count_row
   count_law =
@@ -222,75 +262,104 @@ module _ (numbers : OneNumber) where
 
   -- ---- lines
 
-  split_words : (word : List ℕ) (words : List (List ℕ)) → Above 32 word → AllByRecursion (Above 32) words → words_in (word ++ words_text words) ≡ word ∷ words
+  split_words : (word : List ℕ) (words : List (List ℕ)) → Above 32 word
+      → AllByRecursion (Above 32) words → words_in (word ++ words_text words) ≡ word ∷ words
   split_words word [] first others = ap words_in (append-nil word) ∙ split_one 32 word first
-  split_words word (next ∷ words) first others = split_first 32 word (next ++ words_text words) first ∙ ap (λ (l : List (List ℕ)). word ∷ l) (split_words next words others.0 others.1)
+  split_words word (next ∷ words) first others =
+      split_first 32 word (next ++ words_text words) first
+      ∙ ap (λ (l : List (List ℕ)). word ∷ l) (split_words next words others.0 others.1)
 
-  joined_words : (word : List ℕ) (words : List (List ℕ)) → join_with_byte 32 (word ∷ words) ≡ word ++ words_text words
+  joined_words : (word : List ℕ) (words : List (List ℕ))
+      → join_with_byte 32 (word ∷ words) ≡ word ++ words_text words
   joined_words word [] = sym (append-nil word)
   joined_words word (next ∷ words) = ap (λ (l : List ℕ). word ++ 32 ∷ l) (joined_words next words)
 
-  form_words : {A : Type 0} (row : Row A) (law : IsRow 32 row) (mark : ℕ) (a : A) → 32 < mark → row.Fits a → words_in (form_text mark row a) ≡ (mark ∷ []) ∷ row.texts a
-  form_words row law mark a high fits = split_words (mark ∷ []) (row.texts a) (high, tt) (law.plain a fits)
+  form_words : {A : Type 0} (row : Row A) (law : IsRow 32 row) (mark : ℕ) (a : A) → 32 < mark
+      → row.Fits a → words_in (form_text mark row a) ≡ (mark ∷ []) ∷ row.texts a
+  form_words row law mark a high fits =
+      split_words (mark ∷ []) (row.texts a) (high, tt) (law.plain a fits)
 
   pub line_again : (line : Line) → HasForm line → line_of (row_text line) ≡ Some line
   unfolding line_of
   line_again (Start version width height cell genome) fits =
       let p : ℕ × (ℕ × (ℕ × (ℕ × List Letter))) = (version, (width, (height, (cell, genome)))) in
-      ap read_words (form_words start_row start_law 76 p (omega arith) fits) ∙ rw (start_law.again p fits) refl
+      ap read_words (form_words start_row start_law 76 p (omega arith) fits)
+      ∙ rw (start_law.again p fits) refl
   line_again (Death id update cell) fits =
       let p : ℕ × (ℕ × ℕ) = (id, (update, cell)) in
-      ap read_words (form_words death_row death_law 68 p (omega arith) fits) ∙ rw (death_law.again p fits) refl
+      ap read_words (form_words death_row death_law 68 p (omega arith) fits)
+      ∙ rw (death_law.again p fits) refl
   line_again (Birth id parent update cell over birth) fits =
       let p = born id parent update cell over birth in
-      ap read_words (form_words birth_row birth_law 66 p (omega arith) fits) ∙ rw (birth_law.again p fits) refl
+      ap read_words (form_words birth_row birth_law 66 p (omega arith) fits)
+      ∙ rw (birth_law.again p fits) refl
   line_again (Injected id update cell over genome) fits =
       let p : ℕ × (ℕ × (ℕ × (Option ℕ × List Letter))) = (id, (update, (cell, (over, genome)))) in
-      ap read_words (form_words injected_row injected_law 73 p (omega arith) fits) ∙ rw (injected_law.again p fits) refl
+      ap read_words (form_words injected_row injected_law 73 p (omega arith) fits)
+      ∙ rw (injected_law.again p fits) refl
   line_again (Cleared id update cell) fits =
       let p : ℕ × (ℕ × ℕ) = (id, (update, cell)) in
-      ap read_words (form_words death_row death_law 88 p (omega arith) fits) ∙ rw (death_law.again p fits) refl
+      ap read_words (form_words death_row death_law 88 p (omega arith) fits)
+      ∙ rw (death_law.again p fits) refl
   line_again (Rate update name ppm) fits =
       let p : ℕ × (RateName × ℕ) = (update, (name, ppm)) in
-      ap read_words (form_words rate_row rate_row_law 82 p (omega arith) fits) ∙ rw (rate_row_law.again p fits) refl
+      ap read_words (form_words rate_row rate_row_law 82 p (omega arith) fits)
+      ∙ rw (rate_row_law.again p fits) refl
   line_again (Count stats) fits =
       let p = counted stats in
-      ap read_words (form_words count_row count_law 85 p (omega arith) fits) ∙ rw (count_law.again p fits) refl
+      ap read_words (form_words count_row count_law 85 p (omega arith) fits)
+      ∙ rw (count_law.again p fits) refl
   line_again (End updates) fits =
-      ap read_words (form_words end_row end_law 69 updates (omega arith) fits) ∙ rw (end_law.again updates fits) refl
+      ap read_words (form_words end_row end_law 69 updates (omega arith) fits)
+      ∙ rw (end_law.again updates fits) refl
 
-  form_takes : {A : Type 0} (row : Row A) (law : IsRow 32 row) (mark : ℕ) (make : A → Line) (bytes word : List ℕ) (words : List (List ℕ)) (line : Line) → word ++ words_text words ≡ bytes → bytes_eq word (mark ∷ []) ≡ true → option_map make (row.read words) ≡ Some line → (a : A) × (form_text mark row a ≡ bytes) × row.Fits a × (make a ≡ line)
+  form_takes : {A : Type 0} (row : Row A) (law : IsRow 32 row) (mark : ℕ) (make : A → Line)
+      (bytes word : List ℕ) (words : List (List ℕ)) (line : Line) → word ++ words_text words ≡ bytes
+      → bytes_eq word (mark ∷ []) ≡ true → option_map make (row.read words) ≡ Some line
+      → (a : A) × (form_text mark row a ≡ bytes) × row.Fits a × (make a ≡ line)
   form_takes row law mark make bytes word words line joined same is =
       let some = some_map make (row.read words) line is in
       let t = law.takes words some.0 some.1 in
       let first : word ≡ mark ∷ [] = same_bytes word (mark ∷ []) same in
-      let all : form_text mark row some.0 ≡ word ++ words_text words = ap (λ (ws : List (List ℕ)). mark ∷ words_text ws) t.0 ∙ ap (λ (w : List ℕ). w ++ words_text words) (sym first) in
+      let all : form_text mark row some.0 ≡ word ++ words_text words =
+      ap (λ (ws : List (List ℕ)). mark ∷ words_text ws) t.0
+      ∙ ap (λ (w : List ℕ). w ++ words_text words) (sym first) in
       (some.0, all ∙ joined, t.1, some.2)
 
-  chosen : {A : Type 0} (b : Bool) (x y : Option A) (a : A) → cond b x y ≡ Some a → ((b ≡ true) × (x ≡ Some a)) ⊎ ((b ≡ false) × (y ≡ Some a))
+  chosen : {A : Type 0} (b : Bool) (x y : Option A) (a : A) → cond b x y ≡ Some a
+      → ((b ≡ true) × (x ≡ Some a)) ⊎ ((b ≡ false) × (y ≡ Some a))
   chosen true x y a is = inl (refl, is)
   chosen false x y a is = inr (refl, is)
 
-  words_take : (bytes : List ℕ) (words : List (List ℕ)) (line : Line) → join_with_byte 32 words ≡ bytes → read_words words ≡ Some line → LineIs bytes line
+  words_take : (bytes : List ℕ) (words : List (List ℕ)) (line : Line)
+      → join_with_byte 32 words ≡ bytes → read_words words ≡ Some line → LineIs bytes line
   words_take bytes [] line joined is = absurd cc
   words_take bytes (word ∷ words) line joined is =
       let parts : word ++ words_text words ≡ bytes = sym (joined_words word words) ∙ joined in
       elim (chosen (bytes_eq word (76 ∷ [])) _ _ line is) [
-        | inl l ↦ let t = form_takes start_row start_law 76 start_of bytes word words line parts l.0 l.1 in subst (λ x. LineIs bytes x) t.3 (t.1, t.2)
+        | inl l ↦ let t = form_takes start_row start_law 76 start_of bytes word words line parts l.0
+            l.1 in subst (λ x. LineIs bytes x) t.3 (t.1, t.2)
         | inr r ↦ elim (chosen (bytes_eq word (68 ∷ [])) _ _ line r.1) [
-          | inl l ↦ let t = form_takes death_row death_law 68 death_of bytes word words line parts l.0 l.1 in subst (λ x. LineIs bytes x) t.3 (t.1, t.2)
+          | inl l ↦ let t = form_takes death_row death_law 68 death_of bytes word words line parts
+              l.0 l.1 in subst (λ x. LineIs bytes x) t.3 (t.1, t.2)
           | inr r ↦ elim (chosen (bytes_eq word (66 ∷ [])) _ _ line r.1) [
-            | inl l ↦ let t = form_takes birth_row birth_law 66 birth_of bytes word words line parts l.0 l.1 in subst (λ x. LineIs bytes x) t.3 (t.1, t.2)
+            | inl l ↦ let t = form_takes birth_row birth_law 66 birth_of bytes word words line parts
+                l.0 l.1 in subst (λ x. LineIs bytes x) t.3 (t.1, t.2)
             | inr r ↦ elim (chosen (bytes_eq word (73 ∷ [])) _ _ line r.1) [
-              | inl l ↦ let t = form_takes injected_row injected_law 73 injected_of bytes word words line parts l.0 l.1 in subst (λ x. LineIs bytes x) t.3 (t.1, t.2)
+              | inl l ↦ let t = form_takes injected_row injected_law 73 injected_of bytes word words
+                  line parts l.0 l.1 in subst (λ x. LineIs bytes x) t.3 (t.1, t.2)
               | inr r ↦ elim (chosen (bytes_eq word (88 ∷ [])) _ _ line r.1) [
-                | inl l ↦ let t = form_takes death_row death_law 88 cleared_of bytes word words line parts l.0 l.1 in subst (λ x. LineIs bytes x) t.3 (t.1, t.2)
+                | inl l ↦ let t = form_takes death_row death_law 88 cleared_of bytes word words line
+                    parts l.0 l.1 in subst (λ x. LineIs bytes x) t.3 (t.1, t.2)
                 | inr r ↦ elim (chosen (bytes_eq word (82 ∷ [])) _ _ line r.1) [
-                  | inl l ↦ let t = form_takes rate_row rate_row_law 82 rate_of bytes word words line parts l.0 l.1 in subst (λ x. LineIs bytes x) t.3 (t.1, t.2)
+                  | inl l ↦ let t = form_takes rate_row rate_row_law 82 rate_of bytes word words
+                      line parts l.0 l.1 in subst (λ x. LineIs bytes x) t.3 (t.1, t.2)
                   | inr r ↦ elim (chosen (bytes_eq word (85 ∷ [])) _ _ line r.1) [
-                    | inl l ↦ let t = form_takes count_row count_law 85 count_of bytes word words line parts l.0 l.1 in subst (λ x. LineIs bytes x) t.3 (t.1, t.2)
+                    | inl l ↦ let t = form_takes count_row count_law 85 count_of bytes word words
+                        line parts l.0 l.1 in subst (λ x. LineIs bytes x) t.3 (t.1, t.2)
                     | inr r ↦ elim (chosen (bytes_eq word (69 ∷ [])) _ _ line r.1) [
-                      | inl l ↦ let t = form_takes end_row end_law 69 End bytes word words line parts l.0 l.1 in subst (λ x. LineIs bytes x) t.3 (t.1, t.2)
+                      | inl l ↦ let t = form_takes end_row end_law 69 End bytes word words line
+                          parts l.0 l.1 in subst (λ x. LineIs bytes x) t.3 (t.1, t.2)
                       | inr r ↦ let e : None ≡ Some line = r.1 in absurd cc
                     ]
                   ]
@@ -303,21 +372,38 @@ module _ (numbers : OneNumber) where
 
   pub line_takes : (bytes : List ℕ) (line : Line) → line_of bytes ≡ Some line → LineIs bytes line
   unfolding line_of
-  line_takes bytes line is = words_take bytes (words_in bytes) line (join_with_byte-slice_split 32 bytes) is
+  line_takes bytes line is =
+      words_take bytes (words_in bytes) line (join_with_byte-slice_split 32 bytes) is
 
-  words_plain : (words : List (List ℕ)) → AllByRecursion (Above 32) words → Above 10 (words_text words)
+  words_plain : (words : List (List ℕ)) → AllByRecursion (Above 32) words
+      → Above 10 (words_text words)
   words_plain [] all = tt
-  words_plain (word ∷ words) all = (omega arith, above_append 10 word (words_text words) (above_lower 10 32 word (omega arith) all.0) (words_plain words all.1))
+  words_plain (word ∷ words) all = (
+    omega arith,
+    above_append 10 word (words_text words)
+        (above_lower 10 32 word (omega arith) all.0) (words_plain words all.1),
+  )
 
-  form_plain : {A : Type 0} (row : Row A) (law : IsRow 32 row) (mark : ℕ) (a : A) → 32 < mark → row.Fits a → Above 10 (form_text mark row a)
-  form_plain row law mark a high fits = (omega (arith, high), words_plain (row.texts a) (law.plain a fits))
+  form_plain : {A : Type 0} (row : Row A) (law : IsRow 32 row) (mark : ℕ) (a : A) → 32 < mark
+      → row.Fits a → Above 10 (form_text mark row a)
+  form_plain row law mark a high fits =
+      (omega (arith, high), words_plain (row.texts a) (law.plain a fits))
 
   pub line_plain : (line : Line) → HasForm line → Above 10 (row_text line)
-  line_plain (Start version width height cell genome) fits = form_plain start_row start_law 76 (version, (width, (height, (cell, genome)))) (omega arith) fits
-  line_plain (Death id update cell) fits = form_plain death_row death_law 68 (id, (update, cell)) (omega arith) fits
-  line_plain (Birth id parent update cell over birth) fits = form_plain birth_row birth_law 66 (born id parent update cell over birth) (omega arith) fits
-  line_plain (Injected id update cell over genome) fits = form_plain injected_row injected_law 73 (id, (update, (cell, (over, genome)))) (omega arith) fits
-  line_plain (Cleared id update cell) fits = form_plain death_row death_law 88 (id, (update, cell)) (omega arith) fits
-  line_plain (Rate update name ppm) fits = form_plain rate_row rate_row_law 82 (update, (name, ppm)) (omega arith) fits
-  line_plain (Count stats) fits = form_plain count_row count_law 85 (counted stats) (omega arith) fits
+  line_plain (Start version width height cell genome) fits =
+      form_plain start_row start_law 76 (version, (width, (height, (cell, genome))))
+      (omega arith) fits
+  line_plain (Death id update cell) fits =
+      form_plain death_row death_law 68 (id, (update, cell)) (omega arith) fits
+  line_plain (Birth id parent update cell over birth) fits =
+      form_plain birth_row birth_law 66 (born id parent update cell over birth) (omega arith) fits
+  line_plain (Injected id update cell over genome) fits =
+      form_plain injected_row injected_law 73 (id, (update, (cell, (over, genome))))
+      (omega arith) fits
+  line_plain (Cleared id update cell) fits =
+      form_plain death_row death_law 88 (id, (update, cell)) (omega arith) fits
+  line_plain (Rate update name ppm) fits =
+      form_plain rate_row rate_row_law 82 (update, (name, ppm)) (omega arith) fits
+  line_plain (Count stats) fits =
+      form_plain count_row count_law 85 (counted stats) (omega arith) fits
   line_plain (End updates) fits = form_plain end_row end_law 69 updates (omega arith) fits

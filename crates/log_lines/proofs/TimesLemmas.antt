@@ -7,9 +7,10 @@ use Rattle.log_lines.specs.Rows.{read_last}
 use Rattle.log_lines.specs.Words.{read_first}
 
 -- some words were read, as these numbers, and the others are left
-pub record HasRead (read : List ℕ → Option ℕ) (words left : List (List ℕ)) (front : List ℕ) : Type 0 where
-  pub count : length words ≡ length front + length left
-  pub values : each read words ≡ option_map (λ others. front ++ others) (each read left)
+pub record HasRead (read : List ℕ → Option ℕ) (words left : List (List ℕ)) (front : List ℕ) : Type 0
+  where
+    pub count : length words ≡ length front + length left
+    pub values : each read words ≡ option_map (λ others. front ++ others) (each read left)
 
 -- so many words read, or none
 abbrev pub read_times : (List ℕ → Option ℕ) → ℕ → List (List ℕ) → Option (List ℕ)
@@ -22,75 +23,101 @@ same_map (Some l) = refl
 pub read_none : (read : List ℕ → Option ℕ) (words : List (List ℕ)) → HasRead read words words []
 read_none read words = record { count = omega arith; values = same_map (each read words) }
 
-map_more : (front : List ℕ) (n : ℕ) (o : Option (List ℕ)) → option_map (λ others. front ++ others) (option_map (λ others. n ∷ others) o) ≡ option_map (λ others. (front ++ n ∷ []) ++ others) o
+map_more : (front : List ℕ) (n : ℕ) (o : Option (List ℕ))
+    → option_map (λ others. front ++ others) (option_map (λ others. n ∷ others) o)
+    ≡ option_map (λ others. (front ++ n ∷ []) ++ others) o
 map_more front n None = refl
 map_more front n (Some l) = ap Some (sym (append_assoc front (n ∷ []) l))
 
-some_none : (n : ℕ) (behind : List (List ℕ)) → ◌≡◌ {A = Option (ℕ × List (List ℕ))} (Some (n, behind)) None → ⊥
+some_none : (n : ℕ) (behind : List (List ℕ))
+    → ◌≡◌ {A = Option (ℕ × List (List ℕ))} (Some (n, behind)) None → ⊥
 some_none n behind is = cc
 
-same_first : (words behind : List (List ℕ)) (n : ℕ) (o : Option ℕ) → ◌≡◌ {A = Option (ℕ × List (List ℕ))} (Some (n, behind)) (option_map (λ a. (a, words)) o) → (words ≡ behind) × (o ≡ Some n)
+same_first : (words behind : List (List ℕ)) (n : ℕ) (o : Option ℕ)
+    → ◌≡◌ {A = Option (ℕ × List (List ℕ))} (Some (n, behind)) (option_map (λ a. (a, words)) o)
+    → (words ≡ behind) × (o ≡ Some n)
 same_first words behind n None is = absurd (some_none n behind is)
 same_first words behind n (Some a) is =
     let given : ℕ × List (List ℕ) = (n, behind) in
     let found : ℕ × List (List ℕ) = (a, words) in
-    let pair : given ≡ found = cc in
-    (sym (ap (λ (p : ℕ × List (List ℕ)). p.1) pair), ap Some (sym (ap (λ (p : ℕ × List (List ℕ)). p.0) pair)))
+    let pair : given ≡ found = cc in (
+      sym (ap (λ (p : ℕ × List (List ℕ)). p.1) pair),
+      ap Some (sym (ap (λ (p : ℕ × List (List ℕ)). p.0) pair)),
+    )
 
 -- the first word of what is read
-first_parts : (read : List ℕ → Option ℕ) (left behind : List (List ℕ)) (n : ℕ) → Some (n, behind) ≡ read_first read left → (word : List ℕ) × (left ≡ word ∷ behind) × (read word ≡ Some n)
+first_parts : (read : List ℕ → Option ℕ) (left behind : List (List ℕ)) (n : ℕ)
+    → Some (n, behind) ≡ read_first read left → (word : List ℕ) × (left ≡ word ∷ behind)
+    × (read word ≡ Some n)
 first_parts read [] behind n is = absurd cc
 first_parts read (word ∷ words) behind n is =
     let same = same_first words behind n (read word) is in
     (word, ap (λ (l : List (List ℕ)). word ∷ l) same.0, same.1)
 
-pub read_more : (read : List ℕ → Option ℕ) (words left behind : List (List ℕ)) (front : List ℕ) (n : ℕ) → HasRead read words left front → Some (n, behind) ≡ read_first read left → HasRead read words behind (front ++ n ∷ [])
+pub read_more : (read : List ℕ → Option ℕ) (words left behind : List (List ℕ)) (front : List ℕ)
+    (n : ℕ) → HasRead read words left front → Some (n, behind) ≡ read_first read left
+    → HasRead read words behind (front ++ n ∷ [])
 read_more read words left behind front n has is =
     let parts = first_parts read left behind n is in
     let longer : length left ≡ suc (length behind) = ap (λ (l : List (List ℕ)). length l) parts.1 in
     let both : each read left ≡ option_map (λ others. n ∷ others) (each read behind) =
-    ap (λ (l : List (List ℕ)). each read l) parts.1 ∙ ap (λ (o : Option ℕ). option_and_then (λ a. option_map (λ others. a ∷ others) (each read behind)) o) parts.2 in
+    ap (λ (l : List (List ℕ)). each read l) parts.1
+    ∙ ap (λ (o : Option ℕ). option_and_then
+    (λ a. option_map (λ others. a ∷ others) (each read behind)) o) parts.2 in
     record {
       count = omega (arith, has.count, longer, length-append front (n ∷ []));
-      values = has.values ∙ ap (λ (o : Option (List ℕ)). option_map (λ others. front ++ others) o) both ∙ map_more front n (each read behind);
+      values = has.values ∙ ap (λ (o : Option (List ℕ)). option_map (λ others. front ++ others) o)
+          both ∙ map_more front n (each read behind);
     }
 
-map_none : (words : List (List ℕ)) (o : Option ℕ) → ◌≡◌ {A = Option (ℕ × List (List ℕ))} None (option_map (λ a. (a, words)) o) → o ≡ None
+map_none : (words : List (List ℕ)) (o : Option ℕ)
+    → ◌≡◌ {A = Option (ℕ × List (List ℕ))} None (option_map (λ a. (a, words)) o) → o ≡ None
 map_none words None is = refl
 map_none words (Some a) is = absurd (some_none a words (sym is))
 
-each_fails : (read : List ℕ → Option ℕ) (left : List (List ℕ)) → None ≡ read_first read left → (left ≡ []) ⊎ (each read left ≡ None)
+each_fails : (read : List ℕ → Option ℕ) (left : List (List ℕ)) → None ≡ read_first read left
+    → (left ≡ []) ⊎ (each read left ≡ None)
 each_fails read [] is = inl refl
 each_fails read (word ∷ words) is =
     let none = map_none words (read word) is in
-    inr (ap (λ (o : Option ℕ). option_and_then (λ a. option_map (λ others. a ∷ others) (each read words)) o) none)
+    inr (ap (λ (o : Option ℕ).
+    option_and_then (λ a. option_map (λ others. a ∷ others) (each read words)) o) none)
 
 either_none : (b : Bool) → ◌≡◌ {A = Option (List ℕ)} None (cond b None None)
 either_none true = refl
 either_none false = refl
 
-pub read_fails : (read : List ℕ → Option ℕ) (n : ℕ) (words left : List (List ℕ)) (front : List ℕ) → HasRead read words left front → length front < n → None ≡ read_first read left → None ≡ read_times read n words
+pub read_fails : (read : List ℕ → Option ℕ) (n : ℕ) (words left : List (List ℕ)) (front : List ℕ)
+    → HasRead read words left front → length front < n → None ≡ read_first read left
+    → None ≡ read_times read n words
 read_fails read n words left front has short is = elim (each_fails read left is) [
   | inl empty ↦
       let none : length left ≡ 0 = ap (λ (l : List (List ℕ)). length l) empty in
       let other : (length words == n) ≡ false = grind (arith, nat_tests, has.count) in
       rw other refl
   | inr fails ↦
-      let all : each read words ≡ None = has.values ∙ ap (λ (o : Option (List ℕ)). option_map (λ others. front ++ others) o) fails in
+      let all : each read words ≡ None = has.values
+      ∙ ap (λ (o : Option (List ℕ)). option_map (λ others. front ++ others) o) fails in
       rw all (either_none (length words == n))
 ]
 
-pub read_all : (read : List ℕ → Option ℕ) (n : ℕ) (words : List (List ℕ)) (front : List ℕ) → HasRead read words [] front → length front ≡ n → Some front ≡ read_times read n words
+pub read_all : (read : List ℕ → Option ℕ) (n : ℕ) (words : List (List ℕ)) (front : List ℕ)
+    → HasRead read words [] front → length front ≡ n → Some front ≡ read_times read n words
 read_all read n words front has long =
-    let same : (length words == n) ≡ true = eq-eqb (length words) n (omega (arith, has.count, long)) in
+    let same : (length words == n) ≡ true =
+    eq-eqb (length words) n (omega (arith, has.count, long)) in
     rw (same, has.values, append-nil) refl
 
-pub read_too_many : (read : List ℕ → Option ℕ) (n : ℕ) (words left : List (List ℕ)) (front : List ℕ) → HasRead read words left front → length front ≡ n → 0 < length left → None ≡ read_times read n words
+pub read_too_many : (read : List ℕ → Option ℕ) (n : ℕ) (words left : List (List ℕ)) (front : List ℕ)
+    → HasRead read words left front → length front ≡ n → 0 < length left
+    → None ≡ read_times read n words
 read_too_many read n words left front has long some =
     let other : (length words == n) ≡ false = grind (arith, nat_tests, has.count) in
     rw other refl
 
 -- the first word is not the last one
-pub first_not_last : (read : List ℕ → Option ℕ) (words behind : List (List ℕ)) (n : ℕ) → Some (n, behind) ≡ read_first read words → 0 < length behind → None ≡ read_last read words
+pub first_not_last : (read : List ℕ → Option ℕ) (words behind : List (List ℕ)) (n : ℕ)
+    → Some (n, behind) ≡ read_first read words → 0 < length behind → None ≡ read_last read words
 first_not_last read words [] n is some = absurd (omega (arith, some))
-first_not_last read words (word ∷ behind) n is some = let parts = first_parts read words (word ∷ behind) n is in sym (ap (read_last read) parts.1)
+first_not_last read words (word ∷ behind) n is some =
+    let parts = first_parts read words (word ∷ behind) n is in sym (ap (read_last read) parts.1)

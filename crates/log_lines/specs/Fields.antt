@@ -1,4 +1,5 @@
--- Fields of a line: each is a text of a value, and the reading of that text (docs/FORMATS.md, "The log").
+-- Fields of a line: each is a text of a value, and the reading of that text (docs/FORMATS.md, "The
+-- log").
 use Rattle.std.specs.Prelude.{◌≡◌, ℕ, ◌≤◌, List, [], ◌∷◌, map, length, Option, Some, None, Bool, true, ◌==◌, if◌then◌else◌, option_and_then, option_map, decimal}
 use Rattle.std.specs.Str.{bytes_eq}
 use Rattle.std.specs.List.{slice_split, join_with_byte, AllByRecursion}

@@ -144,8 +144,8 @@ fn placed(out: &mut Vec<u8>, update: u32, cell: u32) -> Result<(), Memory>
     write_number(b' ', u64::from(cell), out)
 }
 
-/// Appends the base and the changes of a birth, each behind a space. When memory runs out `out` begins
-/// with what it held before.
+/// Appends the base and the changes of a birth, each behind a space. When memory runs out `out`
+/// begins with what it held before.
 #[tactic(auto, using(crate::proofs::KeptLemmas::keeps_front))]
 pub fn write_record(origin: &Origin, out: &mut Vec<u8>) -> Result<(), Memory>
     ensures ok { OnOk result (out.new.items ≡ out.old.items

@@ -47,17 +47,22 @@ bit-xor (suc zero) (suc (suc b)) h k = absurd (omega arith)
 bit-xor (suc (suc a)) b h k = absurd (omega arith)
 
 -- the operators, bit by bit
-pub has_bit-not : (n k : ℕ) → n < 4294967296 → k < 32 → has_bit (4294967295 - n) k ≡ not (has_bit n k)
-has_bit-not n k fits within = ap (λ b. b == 1) (bit_at_not w32 n k fits within) ∙ bit-not (bit_at n k) (bit_at-lt n k)
+pub has_bit-not : (n k : ℕ) → n < 4294967296 → k < 32
+    → has_bit (4294967295 - n) k ≡ not (has_bit n k)
+has_bit-not n k fits within =
+    ap (λ b. b == 1) (bit_at_not w32 n k fits within) ∙ bit-not (bit_at n k) (bit_at-lt n k)
 
 pub has_bit-and : (x y k : ℕ) → has_bit (bit_and x y) k ≡ (has_bit x k && has_bit y k)
-has_bit-and x y k = ap (λ b. b == 1) (bit_at_and x y k) ∙ bit-and (bit_at x k) (bit_at y k) (bit_at-lt x k) (bit_at-lt y k)
+has_bit-and x y k = ap (λ b. b == 1) (bit_at_and x y k)
+    ∙ bit-and (bit_at x k) (bit_at y k) (bit_at-lt x k) (bit_at-lt y k)
 
 pub has_bit-or : (x y k : ℕ) → has_bit (bit_or x y) k ≡ (has_bit x k || has_bit y k)
-has_bit-or x y k = ap (λ b. b == 1) (bit_at_or x y k) ∙ bit-or (bit_at x k) (bit_at y k) (bit_at-lt x k) (bit_at-lt y k)
+has_bit-or x y k = ap (λ b. b == 1) (bit_at_or x y k)
+    ∙ bit-or (bit_at x k) (bit_at y k) (bit_at-lt x k) (bit_at-lt y k)
 
 pub has_bit-xor : (x y k : ℕ) → has_bit (bit_xor x y) k ≡ xor (has_bit x k) (has_bit y k)
-has_bit-xor x y k = ap (λ b. b == 1) (bit_at_xor x y k) ∙ bit-xor (bit_at x k) (bit_at y k) (bit_at-lt x k) (bit_at-lt y k)
+has_bit-xor x y k = ap (λ b. b == 1) (bit_at_xor x y k)
+    ∙ bit-xor (bit_at x k) (bit_at y k) (bit_at-lt x k) (bit_at-lt y k)
 
 -- a bit is told by its test
 pub bit_at-same : (a b : ℕ) → a < 2 → b < 2 → (a == 1) ≡ (b == 1) → a ≡ b
@@ -75,22 +80,46 @@ and_parts true b e = (refl, e)
 and_parts false b e = cc
 
 -- a test of each number of a range
-pub list_all-range : (test : ℕ → Bool) (P : ℕ → Type 0) → ((k : ℕ) → Decides (test k) (P k)) → (n start end : ℕ) → end ≡ start + n → Decides (list_all test (range_with_len start n)) ((k : ℕ) → start ≤ k → k < end → P k)
+pub list_all-range : (test : ℕ → Bool) (P : ℕ → Type 0) → ((k : ℕ) → Decides (test k) (P k))
+    → (n start end : ℕ) → end ≡ start + n
+    → Decides (list_all test (range_with_len start n)) ((k : ℕ) → start ≤ k → k < end → P k)
 list_all-range test P decides zero start end e = (λ _ k low high. absurd (omega arith), λ _. refl)
 list_all-range test P decides (suc n) start end e =
-    let rest = list_all-range test P decides n (start + 1) end (omega arith) in
-    (λ passes k low high. elim (eq-or-lt_of_le low) [ inl same ↦ subst P same ((decides start).0 (and_parts _ _ passes).0) | inr above ↦ rest.0 (and_parts _ _ passes).1 k (omega arith) high ], λ all. rw ((decides start).1 (all start (omega arith) (omega arith))) (rest.1 (λ k low high. all k (omega arith) high)))
+    let rest = list_all-range test P decides n (start + 1) end (omega arith) in (
+      λ passes k low high. elim (eq-or-lt_of_le low) [
+        | inl same ↦ subst P same ((decides start).0 (and_parts _ _ passes).0)
+        | inr above ↦ rest.0 (and_parts _ _ passes).1 k (omega arith) high
+      ],
+      λ all. rw ((decides start).1 (all start (omega arith) (omega arith)))
+          (rest.1 (λ k low high. all k (omega arith) high)),
+    )
 
 -- the equations of a task hold at each bit
-pub computes-Decides : (task : Task) (output x y : ℕ) → Decides (computes task output x y) ((k : ℕ) → k < 32 → has_bit output k ≡ bit_of task (has_bit x k) (has_bit y k))
+pub computes-Decides : (task : Task) (output x y : ℕ)
+    → Decides (computes task output x y)
+    ((k : ℕ) → k < 32 → has_bit output k ≡ bit_of task (has_bit x k) (has_bit y k))
 unfolding computes
 computes-Decides task output x y =
-    let all = list_all-range (λ k. beq (has_bit output k) (bit_of task (has_bit x k) (has_bit y k))) (λ k. has_bit output k ≡ bit_of task (has_bit x k) (has_bit y k)) (λ k. booleans_Decides (has_bit output k) (bit_of task (has_bit x k) (has_bit y k))) 32 0 32 refl in
-    (λ passes k within. all.0 passes k (omega arith) within, λ equations. all.1 (λ k low within. equations k within))
+    let all = list_all-range (λ k. beq (has_bit output k) (bit_of task (has_bit x k) (has_bit y k)))
+    (λ k. has_bit output k ≡ bit_of task (has_bit x k) (has_bit y k))
+    (λ k. booleans_Decides (has_bit output k) (bit_of task (has_bit x k) (has_bit y k))) 32 0 32
+    refl in (
+      λ passes k within. all.0 passes k (omega arith) within,
+      λ equations. all.1 (λ k low within. equations k within),
+    )
 
 -- a word with the bits of the task is the output exactly where the equations hold
-pub computes-word : (task : Task) (output x y word : ℕ) → output < 4294967296 → word < 4294967296 → ((k : ℕ) → k < 32 → has_bit word k ≡ bit_of task (has_bit x k) (has_bit y k)) → (word == output) ≡ computes task output x y
+pub computes-word : (task : Task) (output x y word : ℕ) → output < 4294967296 → word < 4294967296
+    → ((k : ℕ) → k < 32 → has_bit word k ≡ bit_of task (has_bit x k) (has_bit y k))
+    → (word == output) ≡ computes task output x y
 computes-word task output x y word fits word_fits equations =
-    let forth = λ (e : word ≡ output) (k : ℕ) (within : k < 32). ap (λ n. has_bit n k) (sym e) ∙ equations k within in
-    let back = λ (others : (k : ℕ) → k < 32 → has_bit output k ≡ bit_of task (has_bit x k) (has_bit y k)). same_from_bits_below 32 word output word_fits fits (λ k within. bit_at-same (bit_at word k) (bit_at output k) (bit_at-lt word k) (bit_at-lt output k) (equations k within ∙ sym (others k within))) in
-    same_from_decides (word == output) (computes task output x y) (Decides-like (word == output) forth back (Decides-eqb word output)) (computes-Decides task output x y)
+    let forth = λ (e : word ≡ output) (k : ℕ) (within : k < 32). ap (λ n. has_bit n k) (sym e)
+    ∙ equations k within in
+    let back = λ (others : (k : ℕ) → k < 32
+    → has_bit output k ≡ bit_of task (has_bit x k) (has_bit y k)).
+    same_from_bits_below 32 word output word_fits fits
+    (λ k within. bit_at-same (bit_at word k) (bit_at output k) (bit_at-lt word k)
+    (bit_at-lt output k) (equations k within ∙ sym (others k within))) in
+    same_from_decides (word == output) (computes task output x y)
+    (Decides-like (word == output) forth back (Decides-eqb word output))
+    (computes-Decides task output x y)

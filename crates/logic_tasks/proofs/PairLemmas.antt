@@ -3,5 +3,8 @@ use Rattle.std.proofs.Common.{◌-◌, suc, arith, ◌≡◌, ℕ, ◌+◌, ◌<
 use Rattle.std.specs.List.{list_any, range_with_len}
 
 -- the places from one on
-pub list_any-next : (test : ℕ → Bool) (place n : ℕ) → place < n → list_any test (range_with_len place (n - place)) ≡ (test place || list_any test (range_with_len (place + 1) (n - (place + 1))))
-list_any-next test place n h = let more : n - place ≡ suc (n - (place + 1)) = omega arith in rw more refl
+pub list_any-next : (test : ℕ → Bool) (place n : ℕ) → place < n
+    → list_any test (range_with_len place (n - place))
+    ≡ (test place || list_any test (range_with_len (place + 1) (n - (place + 1))))
+list_any-next test place n h =
+    let more : n - place ≡ suc (n - (place + 1)) = omega arith in rw more refl

@@ -21,6 +21,10 @@ inputs_of words =
     ∷ input_of 0x55 (slice_index_or words 2 0)
     ∷ []
 
+-- the low 24 bits of each input
+abbrev pub low_of : List ℕ → List ℕ
+low_of inputs = map (λ input. input % 2 ^ 24) inputs
+
 -- the inputs that an organism has read, of which there are at most three
 abbrev pub known_inputs : List ℕ → ℕ → List ℕ
 known_inputs inputs read = take (min read 3) inputs

@@ -19,9 +19,11 @@ number_of-small [] = omega arith
 number_of-small (task ∷ tasks) = rw pow-suc (omega (arith, number_of-small tasks, digit-small task))
 
 -- a bit of the number tells whether the set has its task
-pub bit_at-number_of : (tasks : List Bool) (i : ℕ) → bit_at (number_of tasks) i ≡ cond (get_or tasks i false) 1 0
+pub bit_at-number_of : (tasks : List Bool) (i : ℕ)
+    → bit_at (number_of tasks) i ≡ cond (get_or tasks i false) 1 0
 bit_at-number_of [] i = bit_at-zero i
-bit_at-number_of (task ∷ tasks) zero = bit_at_lowest (number_of (task ∷ tasks)) ∙ omega (arith, digit-small task)
+bit_at-number_of (task ∷ tasks) zero =
+    bit_at_lowest (number_of (task ∷ tasks)) ∙ omega (arith, digit-small task)
 bit_at-number_of (task ∷ tasks) (suc i) =
     let half : number_of (task ∷ tasks) / 2 ≡ number_of tasks = omega (arith, digit-small task) in
     bit_at-suc (number_of (task ∷ tasks)) i ∙ ap (λ n. bit_at n i) half ∙ bit_at-number_of tasks i
@@ -40,10 +42,16 @@ length-tasks_of bits = length-map-range_with_len (has_bit bits) 0 9
 -- which tasks it has
 pub get_or-tasks_of : (bits i : ℕ) → i < 9 → get_or (tasks_of bits) i false ≡ has_bit bits i
 unfolding tasks_of
-get_or-tasks_of bits i within = get_or-map-range_with_len (has_bit bits) 0 9 i i false within (omega arith)
+get_or-tasks_of bits i within =
+    get_or-map-range_with_len (has_bit bits) 0 9 i i false within (omega arith)
 
 -- a number is the number of the set that it stands for
 pub number_of-tasks_of : (bits : ℕ) → bits < 512 → number_of (tasks_of bits) ≡ bits
 number_of-tasks_of bits small =
-    let few : number_of (tasks_of bits) < 2 ^ 9 = subst (λ n. number_of (tasks_of bits) < 2 ^ n) (length-tasks_of bits) (number_of-small (tasks_of bits)) in
-    same_from_bits_below 9 (number_of (tasks_of bits)) bits few small (λ i within. bit_at-number_of (tasks_of bits) i ∙ ap (λ b. cond b 1 0) (get_or-tasks_of bits i within) ∙ digit-bit (bit_at bits i) (bit_at-lt bits i))
+    let few : number_of (tasks_of bits) < 2 ^ 9 =
+    subst (λ n. number_of (tasks_of bits) < 2 ^ n) (length-tasks_of bits)
+    (number_of-small (tasks_of bits)) in
+    same_from_bits_below 9 (number_of (tasks_of bits)) bits few small
+    (λ i within. bit_at-number_of (tasks_of bits) i
+    ∙ ap (λ b. cond b 1 0) (get_or-tasks_of bits i within)
+    ∙ digit-bit (bit_at bits i) (bit_at-lt bits i))

@@ -1,14 +1,18 @@
 // The inputs of an organism.
 ghost use Rattle.std.specs.Prelude.{◌≡◌, ◌≤◌, ◌%◌, min, take, slice_index_or, length};
 ghost use Rattle.std.specs.Int.{cast_signed, w32};
-ghost use Rattle.logic_tasks.specs.Inputs.{inputs_of, known_inputs};
+ghost use Rattle.logic_tasks.specs.Inputs.{inputs_of, known_inputs, low_of};
 
 use std::marker::Model;
 
 /// How many inputs an organism has.
 pub const INPUT_COUNT: usize = 3;
 
-/// Three inputs with fixed, different top bytes, whose bits together cover each row of a truth table.
+/// The numbers below it have 24 bits.
+const LOW: u32 = 0x0100_0000;
+
+/// Three inputs with fixed, different top bytes, whose bits together cover each row of a truth
+/// table.
 #[derive(Clone, Copy, Debug, PartialEq, Eq)]
 pub struct Inputs {
     words: [u32; INPUT_COUNT],
@@ -32,14 +36,22 @@ impl Inputs {
     pub fn of(words: [u32; 3]) -> Inputs
         ensures { result ≡ inputs_of words }
     {
-        let low = 0x0100_0000;
         Inputs {
             words: [
-                0x0F00_0000 + words[0] % low,
-                0x3300_0000 + words[1] % low,
-                0x5500_0000 + words[2] % low,
+                0x0F00_0000 + words[0] % LOW,
+                0x3300_0000 + words[1] % LOW,
+                0x5500_0000 + words[2] % LOW,
             ],
         }
+    }
+
+    /// The low 24 bits of each input.
+    pub fn low(&self) -> [u32; 3]
+        ensures low { result ≡ low_of self.now }
+        ensures whole { inputs_of result ≡ self.now }
+    {
+        let [first, second, third] = self.words;
+        [first % LOW, second % LOW, third % LOW]
     }
 
     /// The inputs are read in a cycle.

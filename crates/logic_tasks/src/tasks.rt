@@ -1,8 +1,8 @@
 // Sets of tasks.
-ghost use Rattle.std.specs.Prelude.{◌≡◌, ◌==◌};
+ghost use Rattle.std.specs.Prelude.{◌≡◌, ◌<◌, ◌==◌};
 ghost use Rattle.std.specs.Cmp.Rules.{comparing};
 ghost use Rattle.std.proofs.Common.{rules};
-ghost use Rattle.logic_tasks.specs.TaskBits.{number_of};
+ghost use Rattle.logic_tasks.specs.TaskBits.{number_of, tasks_of};
 ghost use Rattle.logic_tasks.specs.TaskSet.{no_tasks, has_task, with_task};
 
 use crate::Task;
@@ -28,7 +28,8 @@ impl Model for Tasks {
 
     ghost inverse = { λ tasks. record { bits = number_of tasks } };
 
-    ghost inverse_ok = { λ tasks small. ap (λ bits. record { bits = bits }) (number_of-tasks_of tasks.bits small) };
+    ghost inverse_ok = { λ tasks small. ap (λ bits. record { bits = bits })
+        (number_of-tasks_of tasks.bits small) };
 }
 
 impl Tasks {
@@ -36,6 +37,23 @@ impl Tasks {
         ensures { result ≡ no_tasks }
     {
         Tasks { bits: 0 }
+    }
+
+    /// The set whose number this is: task number p of the table, from 1, has the value 2^(p - 1).
+    pub fn of_number(number: u16) -> Tasks
+        requires { number < 512 }
+        ensures { result ≡ tasks_of number }
+    {
+        Tasks { bits: number }
+    }
+
+    /// The number of the set: task number p of the table, from 1, has the value 2^(p - 1).
+    #[tactic(auto, using(crate::proofs::TaskBitsLemmas::set_numbers))]
+    pub fn number(self) -> u16
+        ensures number { result ≡ number_of self }
+        ensures below { result < 512 }
+    {
+        self.bits
     }
 
     pub fn has(self, task: Task) -> bool

@@ -14,21 +14,25 @@ if-le false n = omega arith
 -- all tasks together double 25 times
 pub exponent_sum-le : (tasks : List Bool) → exponent_sum tasks ≤ 25
 unfolding exponent_sum
-exponent_sum-le tasks = sum_by-le-sum_by (exponent_in tasks) exponent_of all_tasks (λ task. if-le (has_task tasks task) (exponent_of task))
+exponent_sum-le tasks = sum_by-le-sum_by (exponent_in tasks) exponent_of all_tasks
+    (λ task. if-le (has_task tasks task) (exponent_of task))
 
 -- the tasks up to the last are all
-pub exponent_sum-all : (tasks : List Bool) (n : ℕ) → n ≡ 9 → sum_by (exponent_in tasks) (take n all_tasks) ≡ exponent_sum tasks
+pub exponent_sum-all : (tasks : List Bool) (n : ℕ) → n ≡ 9
+    → sum_by (exponent_in tasks) (take n all_tasks) ≡ exponent_sum tasks
 unfolding exponent_sum
 exponent_sum-all tasks n all = ap (λ k. sum_by (exponent_in tasks) (take k all_tasks)) all
 
 -- what a shift by so few places gives
-pub shifted : (exponent : ℕ) → exponent ≤ 25 → 1 * 2 ^ exponent % 18446744073709551616 ≡ 2 ^ exponent
+pub shifted : (exponent : ℕ) → exponent ≤ 25
+    → 1 * 2 ^ exponent % 18446744073709551616 ≡ 2 ^ exponent
 shifted exponent few =
     let power : 2 ^ exponent ≤ 2 ^ 25 = pow-le-pow_right (omega arith) few in
     ap (λ n. n % 18446744073709551616) (one-mul (2 ^ exponent)) ∙ mod-eq_of_lt (omega arith)
 
 -- a merit is at most that of the longest genome with every task
-pub merit_of-le : (least exponent : ℕ) → least ≤ 8192 → exponent ≤ 25 → least * 2 ^ exponent ≤ 2 ^ 38
+pub merit_of-le : (least exponent : ℕ) → least ≤ 8192 → exponent ≤ 25
+    → least * 2 ^ exponent ≤ 2 ^ 38
 merit_of-le least exponent short few =
     let power : 2 ^ exponent ≤ 2 ^ 25 = pow-le-pow_right (omega arith) few in
     mul-le-mul short power

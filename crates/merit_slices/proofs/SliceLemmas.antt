@@ -13,8 +13,11 @@ use Rattle.merit_slices.proofs.MeritLemmas.{if-le}
 use Rattle.merit_slices.specs.Slices.{living_in, quota, steps_before, share_of, shares_of}
 
 -- a larger part of the merits gets no less
-pub quota-le-quota : (steps part more all : ℕ) → 0 < all → part ≤ more → quota steps part all ≤ quota steps more all
-quota-le-quota steps part more all some h = le-div (quota steps part all) (steps * more) all some (omega (arith, div-mul-le_self (steps * part) all, mul-le-mul_left steps h))
+pub quota-le-quota : (steps part more all : ℕ) → 0 < all → part ≤ more
+    → quota steps part all ≤ quota steps more all
+quota-le-quota steps part more all some h =
+    le-div (quota steps part all) (steps * more) all some
+    (omega (arith, div-mul-le_self (steps * part) all, mul-le-mul_left steps h))
 
 -- and no part gets more than all
 pub quota-le : (steps part all : ℕ) → part ≤ all → quota steps part all ≤ steps
@@ -22,15 +25,27 @@ quota-le steps part all h = div-le_of_le-mul all (omega (arith, mul-le-mul_left 
 
 -- no share is above all steps
 pub share_of-le : (merits : List ℕ) (steps cell : ℕ) → share_of merits steps cell ≤ steps
-share_of-le merits steps cell = omega (arith, quota-le steps (sum (take (cell + 1) merits)) (sum merits) (sum_by-take-le (λ x. x) merits (cell + 1)))
+share_of-le merits steps cell =
+    omega (
+      arith,
+      quota-le steps (sum (take (cell + 1) merits)) (sum merits)
+          (sum_by-take-le (λ x. x) merits (cell + 1)),
+    )
 
 -- no place of the shares has more than all steps
-pub shares_of-few : (merits : List ℕ) (steps : ℕ) → (cell : ℕ) → get_or (shares_of merits steps) cell 0 ≤ steps
+pub shares_of-few : (merits : List ℕ) (steps : ℕ) → (cell : ℕ)
+    → get_or (shares_of merits steps) cell 0 ≤ steps
 shares_of-few merits steps cell =
     elim (cases_lt cell (length merits)) [
-      | inl within ↦ omega (arith, get_or-map-range_with_len (share_of merits steps) 0 (length merits) cell cell 0 within (omega arith), share_of-le merits steps cell)
+      | inl within ↦ omega (
+        arith,
+        get_or-map-range_with_len (share_of merits steps) 0 (length merits) cell cell 0 within
+            (omega arith),
+        share_of-le merits steps cell,
+      )
       | inr past ↦
-          let beyond : length (shares_of merits steps) ≤ cell = omega (arith, length-map-range_with_len (share_of merits steps) 0 (length merits)) in
+          let beyond : length (shares_of merits steps) ≤ cell =
+          omega (arith, length-map-range_with_len (share_of merits steps) 0 (length merits)) in
           omega (arith, get_or-eq_default (shares_of merits steps) 0 beyond)
     ]
 
@@ -39,19 +54,26 @@ pub steps-few : (average living : ℕ) → average ≤ 1000 → living ≤ 65536
 steps-few average living few cells = omega (arith, mul-le-mul few cells)
 
 -- the shares of the first cells are together the steps before the next one
-sum-shares : (merits : List ℕ) (steps n : ℕ) → 0 < sum merits → n ≤ length merits → sum (map (share_of merits steps) (range_with_len 0 n)) ≡ steps_before merits steps n
+sum-shares : (merits : List ℕ) (steps n : ℕ) → 0 < sum merits → n ≤ length merits
+    → sum (map (share_of merits steps) (range_with_len 0 n)) ≡ steps_before merits steps n
 sum-shares merits steps zero some within =
     let nothing : quota steps 0 (sum merits) ≤ 0 = div-le_of_le-mul (sum merits) (omega arith) in
     omega (arith, nothing)
 sum-shares merits steps (suc n) some within =
     let more = sum_by_more (λ x. x) merits n 0 (omega arith) in
-    let rises : steps_before merits steps n ≤ steps_before merits steps (n + 1) = quota-le-quota steps (sum (take n merits)) (sum (take (n + 1) merits)) (sum merits) some (omega (arith, more)) in
+    let rises : steps_before merits steps n ≤ steps_before merits steps (n + 1) =
+    quota-le-quota steps (sum (take n merits)) (sum (take (n + 1) merits)) (sum merits) some
+    (omega (arith, more)) in
     let one = sum_by-map-range_with_len_more (λ x. x) (share_of merits steps) 0 n n (omega arith) in
-    let all : sum (map (share_of merits steps) (range_with_len 0 (n + 1))) ≡ steps_before merits steps (n + 1) = omega (arith, one, sum-shares merits steps n some (omega arith), rises) in
-    subst (λ (k : ℕ). sum (map (share_of merits steps) (range_with_len 0 k)) ≡ steps_before merits steps k) (add-one n) all
+    let all : sum (map (share_of merits steps) (range_with_len 0 (n + 1)))
+    ≡ steps_before merits steps (n + 1) =
+    omega (arith, one, sum-shares merits steps n some (omega arith), rises) in
+    subst (λ (k : ℕ). sum (map (share_of merits steps) (range_with_len 0 k))
+    ≡ steps_before merits steps k) (add-one n) all
 
 -- all shares are together all steps
-pub sum-shares_of : (merits : List ℕ) (steps : ℕ) → 0 < sum merits → sum (shares_of merits steps) ≡ steps
+pub sum-shares_of : (merits : List ℕ) (steps : ℕ) → 0 < sum merits
+    → sum (shares_of merits steps) ≡ steps
 sum-shares_of merits steps some =
     sum-shares merits steps (length merits) some (omega arith)
     ∙ ap (λ part. quota steps (sum part) (sum merits)) (take-length merits)
@@ -64,4 +86,5 @@ counted-le (suc n) = omega (arith, if-le (nat_lt 0 (suc n)) 1)
 
 -- no more live than all merits together
 pub living-le-sum : (merits : List ℕ) → living_in merits ≤ sum merits
-living-le-sum merits = sum_by-le-sum_by (λ merit. cond (nat_lt 0 merit) 1 0) (λ merit. merit) merits counted-le
+living-le-sum merits =
+    sum_by-le-sum_by (λ merit. cond (nat_lt 0 merit) 1 0) (λ merit. merit) merits counted-le

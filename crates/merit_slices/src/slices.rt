@@ -2,8 +2,8 @@
 ghost use Rattle.std.specs.Prelude.{◌≡◌, ◌+◌, ◌*◌, ◌<◌, ◌≤◌, ◌^◌, ℕ, sum, length, slice_index_or};
 ghost use Rattle.merit_slices.specs.Slices.{living_in, quota, shares_of, slices_of};
 
-/// Shares the steps of an update among the cells by their merits. Each cell gets the difference of two
-/// rounded quotients, so no step is lost.
+/// Shares the steps of an update among the cells by their merits. Each cell gets the difference of
+/// two rounded quotients, so no step is lost.
 #[tactic(auto, unfolding(crate::specs::Slices::slices_of))]
 pub fn share(merits: &[u64], average: u32, out: &mut [u64])
     requires same_length { length out.old ≡ length merits.now }

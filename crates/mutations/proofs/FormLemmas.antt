@@ -30,25 +30,37 @@ fits-place : (at len : ℕ) → at ≤ len → len ≤ 8192 → FitsPlace at
 fits-place at len place longest = (omega arith, omega arith)
 
 -- a change that has its place
-fits-change : (change : Change) (len : ℕ) → has_place change len ≡ true → len ≤ 8192 → FitsChange change
-fits-change (Point at letter) len placed longest = let lt : at < len = grind arith in fits-place at len (omega arith) longest
-fits-change (Insert at letter) len placed longest = let le : at ≤ len = grind arith in fits-place at len le longest
-fits-change (Delete at) len placed longest = let lt : at < len = grind arith in fits-place at len (omega arith) longest
+fits-change : (change : Change) (len : ℕ) → has_place change len ≡ true → len ≤ 8192
+    → FitsChange change
+fits-change (Point at letter) len placed longest =
+    let lt : at < len = grind arith in fits-place at len (omega arith) longest
+fits-change (Insert at letter) len placed longest =
+    let le : at ≤ len = grind arith in fits-place at len le longest
+fits-change (Delete at) len placed longest =
+    let lt : at < len = grind arith in fits-place at len (omega arith) longest
 
 -- a step that gave a text took neither refusal
-taken : (placed fits : Bool) (rest : Result (List Letter) ApplyStop) (place len : ApplyStop) (made : List Letter) → cond placed (cond fits rest (Err len)) (Err place) ≡ Ok made → (placed ≡ true) × (fits ≡ true) × (rest ≡ Ok made)
+taken : (placed fits : Bool) (rest : Result (List Letter) ApplyStop) (place len : ApplyStop)
+    (made : List Letter) → cond placed (cond fits rest (Err len)) (Err place) ≡ Ok made
+    → (placed ≡ true) × (fits ≡ true) × (rest ≡ Ok made)
 taken true true rest place len made h = (refl, refl, h)
 taken true false rest place len made h = absurd cc
 taken false fits rest place len made h = absurd cc
 
 -- the places of changes that apply
-fits-changes : (nth : ℕ) (changes : List Change) (text made : List Letter) → length text ≤ 8192 → text_after nth changes text ≡ Ok made → AllByRecursion FitsChange changes
+fits-changes : (nth : ℕ) (changes : List Change) (text made : List Letter) → length text ≤ 8192
+    → text_after nth changes text ≡ Ok made → AllByRecursion FitsChange changes
 fits-changes nth [] text made longest applies = tt
 fits-changes nth (change ∷ changes) text made longest applies =
-    let step = taken (has_place change (length text)) (is_genome_length (length (with_change change text))) _ (Place nth) (Length nth) made applies in
+    let step = taken (has_place change (length text))
+    (is_genome_length (length (with_change change text))) _ (Place nth)
+    (Length nth) made applies in
     let fits : is_genome_length (length (with_change change text)) ≡ true = step.1 in
-    let next : length (with_change change text) ≤ 8192 = length-fits (length (with_change change text)) fits in
-    (fits-change change (length text) step.0 longest, fits-changes (nth + 1) changes (with_change change text) made next step.2)
+    let next : length (with_change change text) ≤ 8192 =
+    length-fits (length (with_change change text)) fits in (
+      fits-change change (length text) step.0 longest,
+      fits-changes (nth + 1) changes (with_change change text) made next step.2,
+    )
 
 -- an insertion, a deletion
 abbrev IsInsert : Change → Type 0
@@ -60,47 +72,72 @@ IsDelete (Delete at) = Unit {0}
 IsDelete _ = ⊥
 
 -- two lists of one kind
-all-append : (P : Change → Type 0) (one two : List Change) → AllByRecursion P one → AllByRecursion P two → AllByRecursion P (one ++ two)
+all-append : (P : Change → Type 0) (one two : List Change) → AllByRecursion P one
+    → AllByRecursion P two → AllByRecursion P (one ++ two)
 all-append P [] two first second = second
 all-append P (change ∷ one) two first second = (first.0, all-append P one two first.1 second)
 
 -- a change that is drawn or not
-all-one : (P : Change → Type 0) (hit : Bool) (change : Change) (next none : ℕ) → P change → AllByRecursion P (cond hit (record { changes = change ∷ []; next = next }) (none_by none)).changes
+all-one : (P : Change → Type 0) (hit : Bool) (change : Change) (next none : ℕ) → P change
+    → AllByRecursion P (cond hit (record { changes = change ∷ []; next = next })
+    (none_by none)).changes
 all-one P true change next none kind = (kind, tt)
 all-one P false change next none kind = tt
 
 -- changes that are drawn or not
-all-drawn : (P : Change → Type 0) (none : Bool) (k : ℕ) (drawn : Drawn) → AllByRecursion P drawn.changes → AllByRecursion P (cond none (none_by k) drawn).changes
+all-drawn : (P : Change → Type 0) (none : Bool) (k : ℕ) (drawn : Drawn)
+    → AllByRecursion P drawn.changes → AllByRecursion P (cond none (none_by k) drawn).changes
 all-drawn P true k drawn kind = tt
 all-drawn P false k drawn kind = kind
 
-insertions_from-inserts : (words : ℕ → ℕ) (rate greatest at left k : ℕ) → AllByRecursion IsInsert (insertions_from words rate greatest at left k).changes
+insertions_from-inserts : (words : ℕ → ℕ) (rate greatest at left k : ℕ)
+    → AllByRecursion IsInsert (insertions_from words rate greatest at left k).changes
 insertions_from-inserts words rate greatest at zero k = tt
 insertions_from-inserts words rate greatest at (suc left) k =
     let here : Drawn = insertion_at words rate greatest (at + suc left) at k in
-    let one : AllByRecursion IsInsert here.changes = all-one IsInsert (hits (words k) rate && ltb (at + suc left) greatest) (Insert at (letter_of_word (words (k + 1)))) (k + 2) (k + 1) tt in
-    all-append IsInsert here.changes _ one (insertions_from-inserts words rate greatest (at + length here.changes + 1) left here.next)
+    let one : AllByRecursion IsInsert here.changes =
+    all-one IsInsert (hits (words k) rate && ltb (at + suc left) greatest)
+    (Insert at (letter_of_word (words (k + 1)))) (k + 2) (k + 1) tt in
+    all-append IsInsert here.changes _ one
+    (insertions_from-inserts words rate greatest (at + length here.changes + 1) left here.next)
 
-deletions_from-deletes : (words : ℕ → ℕ) (rate least at left k : ℕ) → AllByRecursion IsDelete (deletions_from words rate least at left k).changes
+deletions_from-deletes : (words : ℕ → ℕ) (rate least at left k : ℕ)
+    → AllByRecursion IsDelete (deletions_from words rate least at left k).changes
 deletions_from-deletes words rate least at zero k = tt
 deletions_from-deletes words rate least at (suc left) k =
     let here : Drawn = deletion_at words rate least (at + suc left) at k in
-    let one : AllByRecursion IsDelete here.changes = all-one IsDelete (hits (words k) rate && ltb least (at + suc left)) (Delete at) (k + 1) (k + 1) tt in
-    all-append IsDelete here.changes _ one (deletions_from-deletes words rate least (at + 1 - length here.changes) left here.next)
+    let one : AllByRecursion IsDelete here.changes =
+    all-one IsDelete (hits (words k) rate && ltb least (at + suc left)) (Delete at) (k + 1)
+    (k + 1) tt in
+    all-append IsDelete here.changes _ one
+    (deletions_from-deletes words rate least (at + 1 - length here.changes) left here.next)
 
-insertions-insert : (words : ℕ → ℕ) (rates : RateNumbers) (limits : LengthRange) (len k : ℕ) → AllByRecursion IsInsert (insertions words rates limits len k).changes
+insertions-insert : (words : ℕ → ℕ) (rates : RateNumbers) (limits : LengthRange) (len k : ℕ)
+    → AllByRecursion IsInsert (insertions words rates limits len k).changes
 insertions-insert words rates limits len k =
     let sites : Drawn = site_insertions words rates.site_insert limits.greatest len k in
     let longer : ℕ = len + length sites.changes in
-    let first : AllByRecursion IsInsert sites.changes = all-drawn IsInsert (eqb rates.site_insert 0) k (insertions_from words rates.site_insert limits.greatest 0 len k) (insertions_from-inserts words rates.site_insert limits.greatest 0 len k) in
-    all-append IsInsert sites.changes _ first (all-one IsInsert (hits (words sites.next) rates.insert && ltb longer limits.greatest) (Insert (scaled (words (sites.next + 1)) (longer + 1)) (letter_of_word (words (sites.next + 2)))) (sites.next + 3) (sites.next + 1) tt)
+    let first : AllByRecursion IsInsert sites.changes =
+    all-drawn IsInsert (eqb rates.site_insert 0) k
+    (insertions_from words rates.site_insert limits.greatest 0 len k)
+    (insertions_from-inserts words rates.site_insert limits.greatest 0 len k) in
+    all-append IsInsert sites.changes _ first
+    (all-one IsInsert (hits (words sites.next) rates.insert && ltb longer limits.greatest)
+    (Insert (scaled (words (sites.next + 1)) (longer + 1))
+    (letter_of_word (words (sites.next + 2)))) (sites.next + 3) (sites.next + 1) tt)
 
-deletions-delete : (words : ℕ → ℕ) (rates : RateNumbers) (limits : LengthRange) (len k : ℕ) → AllByRecursion IsDelete (deletions words rates limits len k).changes
+deletions-delete : (words : ℕ → ℕ) (rates : RateNumbers) (limits : LengthRange) (len k : ℕ)
+    → AllByRecursion IsDelete (deletions words rates limits len k).changes
 deletions-delete words rates limits len k =
     let sites : Drawn = site_deletions words rates.site_delete limits.least len k in
     let shorter : ℕ = len - length sites.changes in
-    let first : AllByRecursion IsDelete sites.changes = all-drawn IsDelete (eqb rates.site_delete 0) k (deletions_from words rates.site_delete limits.least 0 len k) (deletions_from-deletes words rates.site_delete limits.least 0 len k) in
-    all-append IsDelete sites.changes _ first (all-one IsDelete (hits (words sites.next) rates.delete && ltb limits.least shorter) (Delete (scaled (words (sites.next + 1)) shorter)) (sites.next + 2) (sites.next + 1) tt)
+    let first : AllByRecursion IsDelete sites.changes =
+    all-drawn IsDelete (eqb rates.site_delete 0) k
+    (deletions_from words rates.site_delete limits.least 0 len k)
+    (deletions_from-deletes words rates.site_delete limits.least 0 len k) in
+    all-append IsDelete sites.changes _ first
+    (all-one IsDelete (hits (words sites.next) rates.delete && ltb limits.least shorter)
+    (Delete (scaled (words (sites.next + 1)) shorter)) (sites.next + 2) (sites.next + 1) tt)
 
 -- whether the first of some changes may follow this one
 abbrev leads : Change → List Change → Bool
@@ -108,9 +145,11 @@ leads change [] = true
 leads change (next ∷ changes) = may_follow change next
 
 -- a change before others
-order-cons : (change : Change) (changes : List Change) → leads change changes ≡ true → in_order changes ≡ true → in_order (change ∷ changes) ≡ true
+order-cons : (change : Change) (changes : List Change) → leads change changes ≡ true
+    → in_order changes ≡ true → in_order (change ∷ changes) ≡ true
 order-cons change [] first others = refl
-order-cons change (next ∷ changes) first others = ap (λ b. b && in_order (next ∷ changes)) first ∙ others
+order-cons change (next ∷ changes) first others =
+    ap (λ b. b && in_order (next ∷ changes)) first ∙ others
 
 -- deletions alone
 order-deletes : (changes : List Change) → AllByRecursion IsDelete changes → in_order changes ≡ true
@@ -123,7 +162,8 @@ order-deletes (Insert at letter ∷ changes) all = absurd all.0
 order-deletes (Point at letter ∷ changes) all = absurd all.0
 
 -- deletions may come after anything but a point before them
-leads-deletes : (at : ℕ) (letter : Letter) (changes : List Change) → AllByRecursion IsDelete changes → (leads (Insert at letter) changes ≡ true) × (leads (Point at letter) changes ≡ true)
+leads-deletes : (at : ℕ) (letter : Letter) (changes : List Change) → AllByRecursion IsDelete changes
+    → (leads (Insert at letter) changes ≡ true) × (leads (Point at letter) changes ≡ true)
 leads-deletes at letter [] all = (refl, refl)
 leads-deletes at letter (Delete next ∷ changes) all = (refl, refl)
 leads-deletes at letter (Insert next other ∷ changes) all = absurd all.0
@@ -135,7 +175,8 @@ pub record IsTail (changes : List Change) : Type 0 where
   pub after_insert : (at : ℕ) (letter : Letter) → leads (Insert at letter) changes ≡ true
   pub after_point : (at : ℕ) (letter : Letter) → leads (Point at letter) changes ≡ true
 
-tail : (longer shorter : List Change) → AllByRecursion IsInsert longer → AllByRecursion IsDelete shorter → IsTail (longer ++ shorter)
+tail : (longer shorter : List Change) → AllByRecursion IsInsert longer
+    → AllByRecursion IsDelete shorter → IsTail (longer ++ shorter)
 tail [] shorter inserts deletes = record {
   order = order-deletes shorter deletes;
   after_insert = λ at letter. (leads-deletes at letter shorter deletes).0;
@@ -144,7 +185,8 @@ tail [] shorter inserts deletes = record {
 tail (Insert at letter ∷ longer) shorter inserts deletes =
     let others : IsTail (longer ++ shorter) = tail longer shorter inserts.1 deletes in
     record {
-      order = order-cons (Insert at letter) (longer ++ shorter) (others.after_insert at letter) others.order;
+      order = order-cons (Insert at letter) (longer ++ shorter) (others.after_insert at letter)
+          others.order;
       after_insert = λ _ _. refl;
       after_point = λ _ _. refl;
     }
@@ -154,50 +196,76 @@ tail (Point at letter ∷ longer) shorter inserts deletes = absurd inserts.0
 -- changes that may come after points before a place
 pub record GoesOn (at : ℕ) (changes : List Change) : Type 0 where
   pub order : in_order changes ≡ true
-  pub after_point : (before : ℕ) (letter : Letter) → before < at → leads (Point before letter) changes ≡ true
+  pub after_point : (before : ℕ) (letter : Letter) → before < at
+      → leads (Point before letter) changes ≡ true
 
 -- a point at a place, or none, before such changes
-goes_on-next : (alike : Bool) (at : ℕ) (letter : Letter) (points rest : List Change) → GoesOn (at + 1) (points ++ rest) → GoesOn at (cond alike points (Point at letter ∷ points) ++ rest)
+goes_on-next : (alike : Bool) (at : ℕ) (letter : Letter) (points rest : List Change)
+    → GoesOn (at + 1) (points ++ rest)
+    → GoesOn at (cond alike points (Point at letter ∷ points) ++ rest)
 goes_on-next true at letter points rest others = record {
   order = others.order;
   after_point = λ before was h. others.after_point before was (omega arith);
 }
 goes_on-next false at letter points rest others = record {
-  order = order-cons (Point at letter) (points ++ rest) (others.after_point at letter (omega arith)) others.order;
+  order = order-cons (Point at letter) (points ++ rest) (others.after_point at letter (omega arith))
+      others.order;
   after_point = λ before was h. grind (arith, nat_tests);
 }
 
 -- the points of a text come in rising order before the others
-points-order : (at : ℕ) (clean text : List Letter) (rest : List Change) → IsTail rest → GoesOn at (points_from at clean text ++ rest)
-points-order at [] text rest others = record { order = others.order; after_point = λ before was h. others.after_point before was }
-points-order at (was ∷ clean) [] rest others = record { order = others.order; after_point = λ before was h. others.after_point before was }
+points-order : (at : ℕ) (clean text : List Letter) (rest : List Change) → IsTail rest
+    → GoesOn at (points_from at clean text ++ rest)
+points-order at [] text rest others =
+    record { order = others.order; after_point = λ before was h. others.after_point before was }
+points-order at (was ∷ clean) [] rest others =
+    record { order = others.order; after_point = λ before was h. others.after_point before was }
 points-order at (was ∷ clean) (letter ∷ text) rest others =
-    goes_on-next (same_letter was letter) at letter (points_from (at + 1) clean text) rest (points-order (at + 1) clean text rest others)
+    goes_on-next (same_letter was letter) at letter (points_from (at + 1) clean text) rest
+    (points-order (at + 1) clean text rest others)
 
 -- all changes of a birth are in order
-drawn-order : (words : ℕ → ℕ) (k : ℕ) (rates : RateNumbers) (limits : LengthRange) (clean written : List Letter) → in_order (drawn_by_divide words k rates limits clean written).changes ≡ true
+drawn-order : (words : ℕ → ℕ) (k : ℕ) (rates : RateNumbers) (limits : LengthRange)
+    (clean written : List Letter)
+    → in_order (drawn_by_divide words k rates limits clean written).changes ≡ true
 unfolding drawn_by_divide
 drawn-order words k rates limits clean written =
     let text : List Letter = pointed_text words rates.site_point k written in
     let next : ℕ = after_points words rates.site_point k (length written) in
     let longer : Drawn = insertions words rates limits (length written) next in
-    let shorter : Drawn = deletions words rates limits (length written + length longer.changes) longer.next in
-    let others : IsTail (longer.changes ++ shorter.changes) = tail longer.changes shorter.changes (insertions-insert words rates limits (length written) next) (deletions-delete words rates limits (length written + length longer.changes) longer.next) in
-    let all : GoesOn 0 (points_from 0 clean text ++ (longer.changes ++ shorter.changes)) = points-order 0 clean text (longer.changes ++ shorter.changes) others in
+    let shorter : Drawn =
+    deletions words rates limits (length written + length longer.changes) longer.next in
+    let others : IsTail (longer.changes ++ shorter.changes) =
+    tail longer.changes shorter.changes
+    (insertions-insert words rates limits (length written) next)
+    (deletions-delete words rates limits (length written + length longer.changes) longer.next)
+    in
+    let all : GoesOn 0 (points_from 0 clean text ++ (longer.changes ++ shorter.changes)) =
+    points-order 0 clean text (longer.changes ++ shorter.changes) others in
     ap in_order (append_assoc (points_from 0 clean text) longer.changes shorter.changes) ∙ all.order
 
 -- the base of a record
-fits-base : (same : Bool) (clean : List Letter) → is_genome_length (length clean) ≡ true → FitsBase (cond same None (Some clean))
+fits-base : (same : Bool) (clean : List Letter) → is_genome_length (length clean) ≡ true
+    → FitsBase (cond same None (Some clean))
 fits-base true clean genome = tt
 fits-base false clean genome = genome
 
 -- the record of a birth has the form
-pub origin_of-form : OneIndex → (words : ℕ → ℕ) → ((n : ℕ) → words n < 2 ^ 32) → (k : ℕ) (rates : RateNumbers) (limits : LengthRange) (clean written parent : List Letter) → 8 ≤ limits.least → limits.greatest ≤ 8192 → length clean ≡ length written → limits.least ≤ length written → length written ≤ limits.greatest → HasRecordForm (origin_of words k rates limits clean written parent)
-origin_of-form one_index words fits k rates limits clean written parent least most one_length shortest longest =
-    let child : Child (drawn_by_divide words k rates limits clean written) clean limits = drawn_by_divide-child one_index words fits k rates limits clean written least most one_length shortest longest in
-    let genome : is_genome_length (length clean) ≡ true = genome-length (length clean) (omega arith) (omega arith) in
+pub origin_of-form : OneIndex → (words : ℕ → ℕ) → ((n : ℕ) → words n < 2 ^ 32)
+    → (k : ℕ) (rates : RateNumbers) (limits : LengthRange) (clean written parent : List Letter)
+    → 8 ≤ limits.least → limits.greatest ≤ 8192 → length clean ≡ length written
+    → limits.least ≤ length written → length written ≤ limits.greatest
+    → HasRecordForm (origin_of words k rates limits clean written parent)
+origin_of-form one_index words fits k rates limits clean written parent least most one_length
+    shortest longest =
+    let child : Child (drawn_by_divide words k rates limits clean written) clean limits =
+    drawn_by_divide-child one_index words fits k rates limits clean written least most
+    one_length shortest longest in
+    let genome : is_genome_length (length clean) ≡ true =
+    genome-length (length clean) (omega arith) (omega arith) in
     record {
       base = fits-base (same_letters clean parent) clean genome;
-      changes = fits-changes 1 (drawn_by_divide words k rates limits clean written).changes clean child.to (omega arith) (child.makes.made 1);
+      changes = fits-changes 1 (drawn_by_divide words k rates limits clean written).changes clean
+          child.to (omega arith) (child.makes.made 1);
       order = drawn-order words k rates limits clean written;
     }

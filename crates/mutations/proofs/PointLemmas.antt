@@ -17,7 +17,8 @@ abbrev pub OneIndex : Type 0
 OneIndex = (letter other : Letter) → Decides (same_letter letter other) (letter ≡ other)
 
 -- a letter in the middle of a text
-pub set-middle : (front rest : List Letter) (was letter : Letter) → set (front ++ was ∷ rest) (length front) letter ≡ front ++ letter ∷ rest
+pub set-middle : (front rest : List Letter) (was letter : Letter)
+    → set (front ++ was ∷ rest) (length front) letter ≡ front ++ letter ∷ rest
 set-middle [] rest was letter = refl
 set-middle (x ∷ front) rest was letter = ap (λ l. x ∷ l) (set-middle front rest was letter)
 
@@ -26,30 +27,57 @@ pub genome-fits : (text : List Letter) → IsGenome text → is_genome_length (l
 genome-fits text genome = grind (arith, common_steps)
 
 -- one further place: the letters agree, or a point makes them
-pub points-make_next : (alike : Bool) (at : ℕ) (front clean text : List Letter) (was letter : Letter) (rest : List Change) → (alike ≡ true → was ≡ letter) → at ≡ length front → IsGenome (front ++ was ∷ clean) → Makes rest ((front ++ letter ∷ []) ++ clean) ((front ++ letter ∷ []) ++ text) → Makes (cond alike rest (Point at letter ∷ rest)) (front ++ was ∷ clean) (front ++ letter ∷ text)
+pub points-make_next : (alike : Bool) (at : ℕ) (front clean text : List Letter)
+    (was letter : Letter) (rest : List Change) → (alike ≡ true → was ≡ letter) → at ≡ length front
+    → IsGenome (front ++ was ∷ clean)
+    → Makes rest ((front ++ letter ∷ []) ++ clean) ((front ++ letter ∷ []) ++ text)
+    → Makes (cond alike rest (Point at letter ∷ rest)) (front ++ was ∷ clean)
+    (front ++ letter ∷ text)
 points-make_next true at front clean text was letter rest agree place genome further =
     let same : letter ≡ was = sym (agree refl) in
-    let here : Makes rest (front ++ letter ∷ clean) (front ++ letter ∷ text) = subst (λ (x : List Letter). Makes rest (front ++ letter ∷ clean) x) (append_assoc front (letter ∷ []) text) (subst (λ (x : List Letter). Makes rest x ((front ++ letter ∷ []) ++ text)) (append_assoc front (letter ∷ []) clean) further) in
+    let here : Makes rest (front ++ letter ∷ clean) (front ++ letter ∷ text) =
+    subst (λ (x : List Letter). Makes rest (front ++ letter ∷ clean) x)
+    (append_assoc front (letter ∷ []) text)
+    (subst (λ (x : List Letter). Makes rest x ((front ++ letter ∷ []) ++ text))
+    (append_assoc front (letter ∷ []) clean) further) in
     subst (λ (x : Letter). Makes rest (front ++ x ∷ clean) (front ++ letter ∷ text)) same here
 points-make_next false at front clean text was letter rest agree place genome further =
-    let here : Makes rest (front ++ letter ∷ clean) (front ++ letter ∷ text) = subst (λ (x : List Letter). Makes rest (front ++ letter ∷ clean) x) (append_assoc front (letter ∷ []) text) (subst (λ (x : List Letter). Makes rest x ((front ++ letter ∷ []) ++ text)) (append_assoc front (letter ∷ []) clean) further) in
-    let middle : set (front ++ was ∷ clean) at letter ≡ front ++ letter ∷ clean = rw place (set-middle front clean was letter) in
-    let placed : has_place (Point at letter) (length (front ++ was ∷ clean)) ≡ true = (let inside : at < length (front ++ was ∷ clean) = simp length-append (omega arith) in grind arith) in
-    let fits : is_genome_length (length (with_change (Point at letter) (front ++ was ∷ clean))) ≡ true = rw length-set (genome-fits _ genome) in
-    let one : Makes (Point at letter ∷ []) (front ++ was ∷ clean) (front ++ letter ∷ clean) = subst (λ (made : List Letter). Makes (Point at letter ∷ []) (front ++ was ∷ clean) made) middle (Makes-one (Point at letter) (front ++ was ∷ clean) placed fits) in
+    let here : Makes rest (front ++ letter ∷ clean) (front ++ letter ∷ text) =
+    subst (λ (x : List Letter). Makes rest (front ++ letter ∷ clean) x)
+    (append_assoc front (letter ∷ []) text)
+    (subst (λ (x : List Letter). Makes rest x ((front ++ letter ∷ []) ++ text))
+    (append_assoc front (letter ∷ []) clean) further) in
+    let middle : set (front ++ was ∷ clean) at letter ≡ front ++ letter ∷ clean =
+    rw place (set-middle front clean was letter) in
+    let placed : has_place (Point at letter) (length (front ++ was ∷ clean)) ≡ true =
+    (let inside : at < length (front ++ was ∷ clean) = simp length-append (omega arith) in
+    grind arith) in
+    let fits : is_genome_length (length (with_change (Point at letter) (front ++ was ∷ clean)))
+    ≡ true = rw length-set (genome-fits _ genome) in
+    let one : Makes (Point at letter ∷ []) (front ++ was ∷ clean) (front ++ letter ∷ clean) =
+    subst (λ (made : List Letter). Makes (Point at letter ∷ []) (front ++ was ∷ clean) made)
+    middle (Makes-one (Point at letter) (front ++ was ∷ clean) placed fits) in
     Makes-append (Point at letter ∷ []) rest _ _ _ one here
 
 module _ (one_index : OneIndex) where
   -- the points of the rest of a text make it
-  pub points-make : (at : ℕ) (front clean text : List Letter) → at ≡ length front → length clean ≡ length text → IsGenome (front ++ clean) → Makes (points_from at clean text) (front ++ clean) (front ++ text)
+  pub points-make : (at : ℕ) (front clean text : List Letter) → at ≡ length front
+      → length clean ≡ length text → IsGenome (front ++ clean)
+      → Makes (points_from at clean text) (front ++ clean) (front ++ text)
   points-make at front [] [] place same genome = Makes-none (front ++ [])
   points-make at front [] (letter ∷ text) place same genome = absurd (omega arith)
   points-make at front (was ∷ clean) [] place same genome = absurd (omega arith)
   points-make at front (was ∷ clean) (letter ∷ text) place same genome =
-      let next : at + 1 ≡ length (front ++ letter ∷ []) = omega (arith, length-append front (letter ∷ [])) in
+      let next : at + 1 ≡ length (front ++ letter ∷ []) =
+      omega (arith, length-append front (letter ∷ [])) in
       let left : length clean ≡ length text = omega arith in
-      let longer : length ((front ++ letter ∷ []) ++ clean) ≡ length (front ++ was ∷ clean) = simp length-append (omega arith) in
-      let further : IsGenome ((front ++ letter ∷ []) ++ clean) = record { least = omega (arith, genome.least, longer); greatest = omega (arith, genome.greatest, longer) } in
+      let longer : length ((front ++ letter ∷ []) ++ clean) ≡ length (front ++ was ∷ clean) =
+      simp length-append (omega arith) in
+      let further : IsGenome ((front ++ letter ∷ []) ++ clean) =
+      record {
+        least = omega (arith, genome.least, longer);
+        greatest = omega (arith, genome.greatest, longer);
+      } in
       points-make_next (same_letter was letter) at front clean text was letter _
       (one_index was letter).0
       place genome (points-make (at + 1) (front ++ letter ∷ []) clean text next left further)

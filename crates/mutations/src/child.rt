@@ -10,8 +10,9 @@ use genome::{GREATEST_LENGTH, Genome, GenomeStop, LEAST_LENGTH};
 use instruction_set::Letter;
 use std::alloc::Global;
 
-/// The child's genome: the changes are made in turn on the base. The first change that has no place,
-/// or that leaves a length which no genome has, rejects the record and is told by its number.
+/// The child's genome: the changes are made in turn on the base. The first change that has no
+/// place, or that leaves a length which no genome has, rejects the record and is told by its
+/// number.
 pub fn apply(alloc: Global, parent: &Genome, origin: &Origin) -> Result<Genome, ApplyStop>
     ensures ok { IfOk result (λ child.
         child_of (letters parent.now) (record_of origin.now) ≡ Ok (letters child)) }

@@ -23,9 +23,9 @@ use std::alloc::{AllocError, Global};
 /// More words than any birth takes. So many must be left in the stream.
 pub const BIRTH_WORDS: u64 = 65_536;
 
-/// Draws the errors of a divide: the child and the record of its birth. `clean` and `written` are the
-/// child's part of the clean text and of memory. Where memory runs out, the draws have gone on in the
-/// same stream by a number of words that is not said.
+/// Draws the errors of a divide: the child and the record of its birth. `clean` and `written` are
+/// the child's part of the clean text and of memory. Where memory runs out, the draws have gone on
+/// in the same stream by a number of words that is not said.
 pub fn divide_errors(
     alloc: Global,
     clean: &Genome,
@@ -35,7 +35,8 @@ pub fn divide_errors(
     limits: &Limits,
     draws: &mut Draws,
 ) -> Result<Born, Memory>
-    requires texts { AreTextsOfChild (range_of limits.now) (letters clean.now) (letters written.now) }
+    requires texts { AreTextsOfChild (range_of limits.now) (letters clean.now)
+        (letters written.now) }
     requires room { draws.old.taken < word_count - birth_words }
     // The record is the one that the words give.
     ensures origin { IfOk result (λ born. record_of born.origin

@@ -14,7 +14,8 @@ use Rattle.std.proofs.lemmas.Str.{digit_value_digit}
 
 -- ---- the digits in front of a text
 
-pub digits_more : (text : List ℕ) (i : ℕ) → i ≤ digits_len text → i < length text → 48 ≤ get_or text i 0 → get_or text i 0 ≤ 57 → i + 1 ≤ digits_len text
+pub digits_more : (text : List ℕ) (i : ℕ) → i ≤ digits_len text → i < length text
+    → 48 ≤ get_or text i 0 → get_or text i 0 ≤ 57 → i + 1 ≤ digits_len text
 digits_more text i far h low high =
     let n = digits_len text in
     let digit : is_ascii_digit (get_or text i 0) ≡ true = grind (arith, nat_tests) in
@@ -23,11 +24,14 @@ digits_more text i far h low high =
       | inr stop ↦
           let e : n ≡ i = omega arith in
           let within : n < length text = omega arith in
-          let not : is_ascii_digit (get_or text i 0) ≡ false = subst (λ (k : ℕ). is_ascii_digit (get_or text k 0) ≡ false) e (prefix_len_stops is_ascii_digit text 0 within) in
+          let not : is_ascii_digit (get_or text i 0) ≡ false =
+          subst (λ (k : ℕ). is_ascii_digit (get_or text k 0) ≡ false) e
+          (prefix_len_stops is_ascii_digit text 0 within) in
           absurd cc
     ]
 
-pub digits_stop : (text : List ℕ) (i : ℕ) → i ≤ digits_len text → is_ascii_digit (get_or text i 0) ≡ false → digits_len text ≡ i
+pub digits_stop : (text : List ℕ) (i : ℕ) → i ≤ digits_len text
+    → is_ascii_digit (get_or text i 0) ≡ false → digits_len text ≡ i
 digits_stop text i far not =
     let n = digits_len text in
     elim (cases_lt i n) [
@@ -35,10 +39,14 @@ digits_stop text i far not =
       | inr stop ↦ omega arith
     ]
 
-pub front_value : (text : List ℕ) (i value : ℕ) → digits_len text ≡ i → value ≡ digits_value 10 (take i text) → value ≡ digits_value 10 (leading_digits text)
-front_value text i value is value_is = value_is ∙ ap (λ (k : ℕ). digits_value 10 (take k text)) (sym is)
+pub front_value : (text : List ℕ) (i value : ℕ) → digits_len text ≡ i
+    → value ≡ digits_value 10 (take i text) → value ≡ digits_value 10 (leading_digits text)
+front_value text i value is value_is =
+    value_is ∙ ap (λ (k : ℕ). digits_value 10 (take k text)) (sym is)
 
-pub value_on : (text : List ℕ) (i value : ℕ) → i < length text → value ≡ digits_value 10 (take i text) → 48 ≤ get_or text i 0 → get_or text i 0 ≤ 57 → digits_value 10 (take (i + 1) text) ≡ value * 10 + (get_or text i 0 - 48)
+pub value_on : (text : List ℕ) (i value : ℕ) → i < length text
+    → value ≡ digits_value 10 (take i text) → 48 ≤ get_or text i 0 → get_or text i 0 ≤ 57
+    → digits_value 10 (take (i + 1) text) ≡ value * 10 + (get_or text i 0 - 48)
 value_on text i value h is low high =
     omega (arith, digits_value_more 10 text i h, digit_value_digit (get_or text i 0) (low, high))
 
@@ -46,17 +54,21 @@ after_more : (n : ℕ) (ds : List ℕ) → n ≤ digits_value_after 10 n ds
 after_more n [] = omega arith
 after_more n (c ∷ ds) = omega (arith, after_more (n * 10 + digit_value c) ds)
 
-after_append : (n : ℕ) (a b : List ℕ) → digits_value_after 10 n (a ++ b) ≡ digits_value_after 10 (digits_value_after 10 n a) b
+after_append : (n : ℕ) (a b : List ℕ)
+    → digits_value_after 10 n (a ++ b) ≡ digits_value_after 10 (digits_value_after 10 n a) b
 after_append n [] b = refl
 after_append n (c ∷ a) b = after_append (n * 10 + digit_value c) a b
 
 pub value_grows : (text : List ℕ) (i : ℕ) → digits_value 10 (take i text) ≤ digits_value 10 text
 value_grows text i =
-    let parts : digits_value 10 text ≡ digits_value_after 10 (digits_value 10 (take i text)) (drop i text) =
-    ap (λ (l : List ℕ). digits_value 10 l) (sym (take-append-drop i text)) ∙ after_append 0 (take i text) (drop i text) in
+    let parts : digits_value 10 text ≡ digits_value_after 10 (digits_value 10 (take i text))
+    (drop i text) =
+    ap (λ (l : List ℕ). digits_value 10 l) (sym (take-append-drop i text))
+    ∙ after_append 0 (take i text) (drop i text) in
     omega (arith, parts, after_more (digits_value 10 (take i text)) (drop i text))
 
-pub front_grows : (text : List ℕ) (i : ℕ) → i ≤ digits_len text → digits_value 10 (take i text) ≤ digits_value 10 (leading_digits text)
+pub front_grows : (text : List ℕ) (i : ℕ) → i ≤ digits_len text
+    → digits_value 10 (take i text) ≤ digits_value 10 (leading_digits text)
 front_grows text i far =
     let n = digits_len text in
     let front : take i (take n text) ≡ take i text = take-take i n text far in
@@ -69,21 +81,29 @@ digits_of_numeral [] is = absurd cc
 digits_of_numeral (d ∷ []) is = is
 digits_of_numeral (d ∷ e ∷ ds) is = (and_parts (not (d == 48)) (all_ascii_digits (d ∷ e ∷ ds)) is).1
 
-pub number_is : (least greatest value : ℕ) (text : List ℕ) → is_numeral text ≡ true → value ≡ digits_value 10 text → least ≤ value → value ≤ greatest → Some value ≡ number_of least greatest text
+pub number_is : (least greatest value : ℕ) (text : List ℕ) → is_numeral text ≡ true
+    → value ≡ digits_value 10 text → least ≤ value → value ≤ greatest
+    → Some value ≡ number_of least greatest text
 unfolding number_of
 number_is least greatest value text numeral is low high =
     let l : nat_le least (digits_value 10 text) ≡ true = grind (arith, nat_tests, is) in
     let h : nat_le (digits_value 10 text) greatest ≡ true = grind (arith, nat_tests, is) in
     rw (numeral, h, l, is) refl
 
-pub number_not : (least greatest : ℕ) (text : List ℕ) → (all_ascii_digits text ≡ true → is_numeral text ≡ true → least ≤ digits_value 10 text → digits_value 10 text ≤ greatest → ⊥) → None ≡ number_of least greatest text
+pub number_not : (least greatest : ℕ) (text : List ℕ)
+    → (all_ascii_digits text ≡ true → is_numeral text ≡ true → least ≤ digits_value 10 text
+    → digits_value 10 text ≤ greatest → ⊥) → None ≡ number_of least greatest text
 unfolding number_of
 number_not least greatest text never =
-    elim (cases_Bool (is_numeral text && nat_le (digits_value 10 text) greatest && nat_le least (digits_value 10 text))) [
+    elim (cases_Bool (is_numeral text && nat_le (digits_value 10 text) greatest
+    && nat_le least (digits_value 10 text))) [
       | inl all ↦
-          let two = and_parts (is_numeral text && nat_le (digits_value 10 text) greatest) (nat_le least (digits_value 10 text)) all in
+          let two = and_parts (is_numeral text && nat_le (digits_value 10 text) greatest)
+          (nat_le least (digits_value 10 text)) all in
           let one = and_parts (is_numeral text) (nat_le (digits_value 10 text) greatest) two.0 in
-          absurd (never (digits_of_numeral text one.0) one.0 (leb-true least (digits_value 10 text) two.1) (leb-true (digits_value 10 text) greatest one.1))
+          absurd (never (digits_of_numeral text one.0) one.0
+          (leb-true least (digits_value 10 text) two.1)
+          (leb-true (digits_value 10 text) greatest one.1))
       | inr some ↦ rw some refl
     ]
 
@@ -92,7 +112,9 @@ number_not least greatest text never =
 take_one : (n c : ℕ) (cs : List ℕ) → take (1 + n) (c ∷ cs) ≡ c ∷ take n cs
 take_one n c cs = let e : 1 + n ≡ suc n = omega arith in ap (λ (k : ℕ). take k (c ∷ cs)) e
 
-all_front : (b : Bool) (n c : ℕ) (cs : List ℕ) → is_ascii_digit c ≡ b → all_ascii_digits (take n cs) ≡ true → all_ascii_digits (take (cond b (1 + n) 0) (c ∷ cs)) ≡ true
+all_front : (b : Bool) (n c : ℕ) (cs : List ℕ) → is_ascii_digit c ≡ b
+    → all_ascii_digits (take n cs) ≡ true
+    → all_ascii_digits (take (cond b (1 + n) 0) (c ∷ cs)) ≡ true
 all_front true n c cs is all = rw (take_one n c cs, is, all) refl
 all_front false n c cs is all = refl
 
@@ -104,16 +126,19 @@ and_true : (b : Bool) → b ≡ (b && true)
 and_true true = refl
 and_true false = refl
 
-plain_from : (c d k : ℕ) (cs : List ℕ) → all_ascii_digits (take (suc (suc k)) (c ∷ d ∷ cs)) ≡ true → not (c == 48) ≡ is_numeral (take (suc (suc k)) (c ∷ d ∷ cs))
+plain_from : (c d k : ℕ) (cs : List ℕ) → all_ascii_digits (take (suc (suc k)) (c ∷ d ∷ cs)) ≡ true
+    → not (c == 48) ≡ is_numeral (take (suc (suc k)) (c ∷ d ∷ cs))
 plain_from c d k cs all = and_true (not (c == 48)) ∙ ap (λ (b : Bool). not (c == 48) && b) (sym all)
 
-pub plain_is : (text : List ℕ) → 1 < digits_len text → not (get_or text 0 0 == 48) ≡ is_numeral (leading_digits text)
+pub plain_is : (text : List ℕ) → 1 < digits_len text
+    → not (get_or text 0 0 == 48) ≡ is_numeral (leading_digits text)
 plain_is [] more = absurd (omega (arith, more))
 plain_is (c ∷ []) more = absurd (omega (arith, more, prefix_len-le-length is_ascii_digit (c ∷ [])))
 plain_is (c ∷ d ∷ cs) more =
     let n = digits_len (c ∷ d ∷ cs) in
     let e : n ≡ suc (suc (n - 2)) = omega arith in
-    let all = subst (λ (k : ℕ). all_ascii_digits (take k (c ∷ d ∷ cs)) ≡ true) e (all_leading (c ∷ d ∷ cs)) in
+    let all = subst (λ (k : ℕ). all_ascii_digits (take k (c ∷ d ∷ cs)) ≡ true) e
+    (all_leading (c ∷ d ∷ cs)) in
     plain_from c d (n - 2) cs all ∙ ap (λ (k : ℕ). is_numeral (take k (c ∷ d ∷ cs))) (sym e)
 
 -- ---- the number that is a whole text
@@ -129,16 +154,22 @@ all_whole : (text : List ℕ) → digits_len text ≡ length text → leading_di
 all_whole text is = ap (λ (n : ℕ). take n text) is ∙ take_all (length text) text (omega arith)
 
 -- what the digits in front spell where they are the whole text, and else none
-pub whole_number : (least greatest : ℕ) (text : List ℕ) → digits_len text ≡ length text → number_of least greatest (leading_digits text) ≡ number_of least greatest text
-whole_number least greatest text is = ap (λ (l : List ℕ). number_of least greatest l) (all_whole text is)
+pub whole_number : (least greatest : ℕ) (text : List ℕ) → digits_len text ≡ length text
+    → number_of least greatest (leading_digits text) ≡ number_of least greatest text
+whole_number least greatest text is =
+    ap (λ (l : List ℕ). number_of least greatest l) (all_whole text is)
 
-pub part_number : (least greatest : ℕ) (text : List ℕ) → (digits_len text ≡ length text → ⊥) → None ≡ number_of least greatest text
-part_number least greatest text part = number_not least greatest text (λ all numeral low high. part (whole_length text all))
+pub part_number : (least greatest : ℕ) (text : List ℕ) → (digits_len text ≡ length text → ⊥)
+    → None ≡ number_of least greatest text
+part_number least greatest text part =
+    number_not least greatest text (λ all numeral low high. part (whole_length text all))
 
-pub no_number : (least greatest : ℕ) (text : List ℕ) → None ≡ number_of least greatest (leading_digits text) → None ≡ number_of least greatest text
+pub no_number : (least greatest : ℕ) (text : List ℕ)
+    → None ≡ number_of least greatest (leading_digits text) → None ≡ number_of least greatest text
 no_number least greatest text none = elim (cases_lt (digits_len text) (length text)) [
   | inl part ↦ part_number least greatest text (λ is. omega (arith, part, is))
   | inr most ↦
-      let all : digits_len text ≡ length text = omega (arith, most, prefix_len-le-length is_ascii_digit text) in
+      let all : digits_len text ≡ length text =
+      omega (arith, most, prefix_len-le-length is_ascii_digit text) in
       none ∙ whole_number least greatest text all
 ]

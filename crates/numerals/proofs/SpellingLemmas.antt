@@ -17,7 +17,8 @@ own = numerals_by_value (λ ds. all_ascii_digits ds ≡ true) tells_all_ascii_di
 abbrev OneZero : List ℕ → Type 0
 OneZero ds = get_or ds 0 0 ≡ 48 → length ds ≡ 1
 
-numeral_from : (ds : List ℕ) → all_ascii_digits ds ≡ true → 0 < length ds → OneZero ds → is_numeral ds ≡ true
+numeral_from : (ds : List ℕ) → all_ascii_digits ds ≡ true → 0 < length ds → OneZero ds
+    → is_numeral ds ≡ true
 numeral_from [] digits some zero_alone = absurd (omega (arith, some))
 numeral_from (d ∷ []) digits some zero_alone = digits
 numeral_from (d ∷ e ∷ ds) digits some zero_alone = elim (cases_eq d 48) [
@@ -25,21 +26,28 @@ numeral_from (d ∷ e ∷ ds) digits some zero_alone = elim (cases_eq d 48) [
   | inr other ↦ let t : (d == 48) ≡ false = grind (arith, nat_tests) in rw (t, digits) refl
 ]
 
-numeral_to : (ds : List ℕ) → is_numeral ds ≡ true → (all_ascii_digits ds ≡ true) × (0 < length ds) × OneZero ds
+numeral_to : (ds : List ℕ) → is_numeral ds ≡ true → (all_ascii_digits ds ≡ true) × (0 < length ds)
+    × OneZero ds
 numeral_to [] is = absurd cc
 numeral_to (d ∷ []) is = (is, omega arith, λ z. refl)
 numeral_to (d ∷ e ∷ ds) is =
-    let parts = and_parts (not (d == 48)) (all_ascii_digits (d ∷ e ∷ ds)) is in
-    (parts.1, omega arith, λ z. let t : (d == 48) ≡ true = eq-eqb d 48 z in let f : not (d == 48) ≡ false = rw t refl in absurd cc)
+    let parts = and_parts (not (d == 48)) (all_ascii_digits (d ∷ e ∷ ds)) is in (
+      parts.1,
+      omega arith,
+      λ z. let t : (d == 48) ≡ true = eq-eqb d 48 z in
+          let f : not (d == 48) ≡ false = rw t refl in absurd cc,
+    )
 
 decimal_numeral : (n : ℕ) → n < 2 ^ 64 → is_numeral (decimal n) ≡ true
-decimal_numeral n small = numeral_from (decimal n) (digits_decimal own n small) (decimal_nonempty n small) (λ z.
+decimal_numeral n small =
+    numeral_from (decimal n) (digits_decimal own n small) (decimal_nonempty n small) (λ z.
     elim (cases_eq n 0) [
       | inl is ↦ rw (is, decimal_digit 0 (omega arith)) refl
       | inr other ↦ absurd (omega (arith, z, first_decimal n (omega (arith, other)) small))
     ])
 
-pub spelled : (least greatest n : ℕ) → greatest < 2 ^ 64 → least ≤ n → n ≤ greatest → number_of least greatest (decimal n) ≡ Some n
+pub spelled : (least greatest n : ℕ) → greatest < 2 ^ 64 → least ≤ n → n ≤ greatest
+    → number_of least greatest (decimal n) ≡ Some n
 unfolding number_of
 spelled least greatest n wide from_least to_greatest =
     let small : n < 2 ^ 64 = omega (arith, to_greatest, wide) in
@@ -48,19 +56,24 @@ spelled least greatest n wide from_least to_greatest =
     let high : nat_le n greatest ≡ true = grind (arith, nat_tests, to_greatest) in
     rw (decimal_numeral n small, value, low, high) refl
 
-pub taken : (least greatest n : ℕ) (text : List ℕ) → greatest < 2 ^ 64 → number_of least greatest text ≡ Some n → (decimal n ≡ text) × (least ≤ n) × (n ≤ greatest)
+pub taken : (least greatest n : ℕ) (text : List ℕ) → greatest < 2 ^ 64
+    → number_of least greatest text ≡ Some n → (decimal n ≡ text) × (least ≤ n) × (n ≤ greatest)
 unfolding number_of
 taken least greatest n text wide is =
-    let got = cond_some (is_numeral text && nat_le (digits_value 10 text) greatest && nat_le least (digits_value 10 text)) (digits_value 10 text) n is in
-    let two = and_parts (is_numeral text && nat_le (digits_value 10 text) greatest) (nat_le least (digits_value 10 text)) got.0 in
+    let got = cond_some (is_numeral text && nat_le (digits_value 10 text) greatest
+    && nat_le least (digits_value 10 text)) (digits_value 10 text) n is in
+    let two = and_parts (is_numeral text && nat_le (digits_value 10 text) greatest)
+    (nat_le least (digits_value 10 text)) got.0 in
     let one = and_parts (is_numeral text) (nat_le (digits_value 10 text) greatest) two.0 in
     let numeral = numeral_to text one.0 in
     let low : least ≤ digits_value 10 text = grind (arith, nat_tests, two.1) in
     let high : digits_value 10 text ≤ greatest = grind (arith, nat_tests, one.1) in
-    let back : decimal (digits_value 10 text) ≡ text = decimal-digits_value own text numeral.0 numeral.1 numeral.2 (omega (arith, high, wide)) in
+    let back : decimal (digits_value 10 text) ≡ text =
+    decimal-digits_value own text numeral.0 numeral.1 numeral.2 (omega (arith, high, wide)) in
     (ap (λ k. decimal k) (sym got.1) ∙ back, omega (arith, low, got.1), omega (arith, high, got.1))
 
-are_digits : (ds : List ℕ) → all_ascii_digits ds ≡ true → AllByRecursion (λ b. (48 ≤ b) × (b ≤ 57)) ds
+are_digits : (ds : List ℕ) → all_ascii_digits ds ≡ true
+    → AllByRecursion (λ b. (48 ≤ b) × (b ≤ 57)) ds
 are_digits [] all = tt
 are_digits (d ∷ ds) all =
     let parts = and_parts _ (all_ascii_digits ds) all in
@@ -73,7 +86,8 @@ pub empty_is_none : (least greatest : ℕ) → number_of least greatest [] ≡ N
 unfolding number_of
 empty_is_none least greatest = refl
 
-pub minus_is_none : (least greatest : ℕ) (text : List ℕ) → number_of least greatest (45 ∷ text) ≡ None
+pub minus_is_none : (least greatest : ℕ) (text : List ℕ)
+    → number_of least greatest (45 ∷ text) ≡ None
 unfolding number_of
 minus_is_none least greatest [] = refl
 minus_is_none least greatest (d ∷ ds) = refl

@@ -22,5 +22,6 @@ is_numeral (d ∷ e ∷ ds) = not (d == 48) && all_ascii_digits (d ∷ e ∷ ds)
 -- the number that a numeral writes, where it is from least to greatest
 unfoldable pub number_of : ℕ → ℕ → List ℕ → Option ℕ
 number_of least greatest text =
-    if is_numeral text && nat_le (digits_value 10 text) greatest && nat_le least (digits_value 10 text)
+    if is_numeral text && nat_le (digits_value 10 text) greatest
+    && nat_le least (digits_value 10 text)
     then Some (digits_value 10 text) else None

@@ -9,7 +9,8 @@ const GREATEST_TENTH: u64 = u64::MAX / 10;
 /// The number with a digit more, where it fits.
 fn with_digit(value: u64, digit: u8) -> Option<u64>
     requires { digit < 10 }
-    ensures { MatchOption result (2 ^ 64 ≤ value * 10 + digit) (λ longer. longer ≡ value * 10 + digit) }
+    ensures { MatchOption result (2 ^ 64 ≤ value * 10 + digit)
+        (λ longer. longer ≡ value * 10 + digit) }
 {
     if value < GREATEST_TENTH {
         Some(value * 10 + u64::from(digit))
@@ -23,7 +24,8 @@ fn with_digit(value: u64, digit: u8) -> Option<u64>
 fn with_last_digit(value: u64, digit: u8) -> Option<u64>
     requires digit { digit < 10 }
     requires large { GREATEST_TENTH ≤ value }
-    ensures { MatchOption result (2 ^ 64 ≤ value * 10 + digit) (λ longer. longer ≡ value * 10 + digit) }
+    ensures { MatchOption result (2 ^ 64 ≤ value * 10 + digit)
+        (λ longer. longer ≡ value * 10 + digit) }
 {
     if value == GREATEST_TENTH && digit < 6 {
         Some(value * 10 + u64::from(digit))

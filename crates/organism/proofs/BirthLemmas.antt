@@ -9,47 +9,70 @@ use Rattle.organism.specs.OrganismState.{OrganismState}
 use Rattle.organism.specs.UpdateLife.{clean_text, written_text, child_range, birth_record, after_child, letters_made, child_letters}
 
 -- what follows for each value
-pub IfOk-map : {A : Type 0} {E : Type 0} (P Q : A → Type 0) → ((a : A) → P a → Q a) → (r : Result A E) → IfOk r P → IfOk r Q
+pub IfOk-map : {A : Type 0} {E : Type 0} (P Q : A → Type 0) → ((a : A) → P a → Q a)
+    → (r : Result A E) → IfOk r P → IfOk r Q
 IfOk-map P Q f (Ok a) h = f a h
 IfOk-map P Q f (Err e) h = tt
 
 -- what follows from two facts of each value
-pub IfOk-map2 : {A : Type 0} {E : Type 0} (P Q R : A → Type 0) → ((a : A) → P a → Q a → R a) → (r : Result A E) → IfOk r P → IfOk r Q → IfOk r R
+pub IfOk-map2 : {A : Type 0} {E : Type 0} (P Q R : A → Type 0) → ((a : A) → P a → Q a → R a)
+    → (r : Result A E) → IfOk r P → IfOk r Q → IfOk r R
 IfOk-map2 P Q R f (Ok a) h k = f a h k
 IfOk-map2 P Q R f (Err e) h k = tt
 
 -- what follows from a fact that no value is in
-pub OnOk-map : {A : Type 0} {E : Type 0} (P Q : Type 0) → (P → Q) → (r : Result A E) → OnOk r P → OnOk r Q
+pub OnOk-map : {A : Type 0} {E : Type 0} (P Q : Type 0) → (P → Q) → (r : Result A E) → OnOk r P
+    → OnOk r Q
 OnOk-map P Q f (Ok a) h = f h
 OnOk-map P Q f (Err e) h = tt
 
 -- the same where the fact comes first
-pub OnOk-then : {A : Type 0} {E : Type 0} (P Q : Type 0) (r : Result A E) → OnOk r P → (P → Q) → OnOk r Q
+pub OnOk-then : {A : Type 0} {E : Type 0} (P Q : Type 0) (r : Result A E) → OnOk r P → (P → Q)
+    → OnOk r Q
 OnOk-then P Q r h f = OnOk-map P Q f r h
 
-pub IfOk-then : {A : Type 0} {E : Type 0} (P Q : A → Type 0) (r : Result A E) → IfOk r P → ((a : A) → P a → Q a) → IfOk r Q
+pub IfOk-then : {A : Type 0} {E : Type 0} (P Q : A → Type 0) (r : Result A E) → IfOk r P
+    → ((a : A) → P a → Q a) → IfOk r Q
 IfOk-then P Q r h f = IfOk-map P Q f r h
 
 -- the record that two texts and a genome have, which are those of the divide
-pub birth_record-of : (settings : SettingNumbers) (words : ℕ → ℕ) (k : ℕ) (o : OrganismState) (ask : DivideAsk) (clean written parent : List Letter) → clean ≡ clean_text o ask → written ≡ written_text o ask → parent ≡ o.genome → origin_of words k settings.rates (child_range settings.rules) clean written parent ≡ birth_record settings words k o ask
+pub birth_record-of : (settings : SettingNumbers) (words : ℕ → ℕ) (k : ℕ) (o : OrganismState)
+    (ask : DivideAsk) (clean written parent : List Letter) → clean ≡ clean_text o ask
+    → written ≡ written_text o ask → parent ≡ o.genome
+    → origin_of words k settings.rates (child_range settings.rules) clean written parent
+    ≡ birth_record settings words k o ask
 unfolding birth_record
 birth_record-of settings words k o ask clean written parent same_clean same_written same_parent =
-    let origin : List Letter → List Letter → List Letter → BirthRecord = origin_of words k settings.rates (child_range settings.rules) in
-    ap (λ x. origin x written parent) same_clean ∙ ap (λ x. origin (clean_text o ask) x parent) same_written ∙ ap (λ x. origin (clean_text o ask) (written_text o ask) x) same_parent
+    let origin : List Letter → List Letter → List Letter → BirthRecord =
+    origin_of words k settings.rates (child_range settings.rules) in
+    ap (λ x. origin x written parent) same_clean
+    ∙ ap (λ x. origin (clean_text o ask) x parent) same_written
+    ∙ ap (λ x. origin (clean_text o ask) (written_text o ask) x) same_parent
 
 -- the number of the word after those of the birth
-pub after_child-of : (settings : SettingNumbers) (words : ℕ → ℕ) (k : ℕ) (o : OrganismState) (ask : DivideAsk) (clean written : List Letter) → clean ≡ clean_text o ask → written ≡ written_text o ask → after_birth words k settings.rates (child_range settings.rules) clean written ≡ after_child settings words k o ask
+pub after_child-of : (settings : SettingNumbers) (words : ℕ → ℕ) (k : ℕ) (o : OrganismState)
+    (ask : DivideAsk) (clean written : List Letter) → clean ≡ clean_text o ask
+    → written ≡ written_text o ask
+    → after_birth words k settings.rates (child_range settings.rules) clean written
+    ≡ after_child settings words k o ask
 unfolding after_child
 after_child-of settings words k o ask clean written same_clean same_written =
-    let after : List Letter → List Letter → ℕ = after_birth words k settings.rates (child_range settings.rules) in
+    let after : List Letter → List Letter → ℕ =
+    after_birth words k settings.rates (child_range settings.rules) in
     ap (λ x. after x written) same_clean ∙ ap (λ x. after (clean_text o ask) x) same_written
 
 -- the letters that the record makes of the parent's genome
-pub child_letters-of : (settings : SettingNumbers) (words : ℕ → ℕ) (k : ℕ) (o : OrganismState) (ask : DivideAsk) (parent made : List Letter) (birth : BirthRecord) → parent ≡ o.genome → birth ≡ birth_record settings words k o ask → child_of parent birth ≡ Ok made → made ≡ child_letters settings words k o ask
+pub child_letters-of : (settings : SettingNumbers) (words : ℕ → ℕ) (k : ℕ) (o : OrganismState)
+    (ask : DivideAsk) (parent made : List Letter) (birth : BirthRecord) → parent ≡ o.genome
+    → birth ≡ birth_record settings words k o ask → child_of parent birth ≡ Ok made
+    → made ≡ child_letters settings words k o ask
 unfolding child_letters
 child_letters-of settings words k o ask parent made birth same_parent same_birth makes =
-    sym (ap letters_made makes) ∙ ap (λ x. letters_made (child_of x birth)) same_parent ∙ ap (λ x. letters_made (child_of o.genome x)) same_birth
+    sym (ap letters_made makes) ∙ ap (λ x. letters_made (child_of x birth)) same_parent
+    ∙ ap (λ x. letters_made (child_of o.genome x)) same_birth
 
 -- how long the child's part of a list is
-pub child_part-length : (places : List Letter) (read end : ℕ) → end ≤ length places → length (child_part places read end) ≡ end - read
-child_part-length places read end h = omega (arith, length-take (end - read) (drop read places), length-drop read places)
+pub child_part-length : (places : List Letter) (read end : ℕ) → end ≤ length places
+    → length (child_part places read end) ≡ end - read
+child_part-length places read end h =
+    omega (arith, length-take (end - read) (drop read places), length-drop read places)

@@ -9,7 +9,8 @@ use Rattle.organism.specs.OrganismState.{OrganismState}
 use Rattle.organism.specs.Life.{IsDivide}
 
 -- where the parts of a question end
-pub question-read : (m : Machine) (ask : DivideAsk) → ask ≡ divide_question m → ask.read ≡ m.heads.read
+pub question-read : (m : Machine) (ask : DivideAsk) → ask ≡ divide_question m
+    → ask.read ≡ m.heads.read
 unfolding divide_question
 question-read m ask is = ap (λ (a : DivideAsk). a.read) is
 
@@ -17,16 +18,20 @@ pub question-end : (m : Machine) (ask : DivideAsk) → ask ≡ divide_question m
 unfolding divide_question
 question-end m ask is = ap (λ (a : DivideAsk). a.end) is
 
-either-le : (test : Bool) (one other most : ℕ) → one ≤ most → other ≤ most → cond test one other ≤ most
+either-le : (test : Bool) (one other most : ℕ) → one ≤ most → other ≤ most
+    → cond test one other ≤ most
 either-le true one other most first second = first
 either-le false one other most first second = second
 
 -- the child's part ends in memory
 pub end-within : (m : Machine) → IsMachine m → end_of m ≤ length m.memory
-end-within m h = either-le (eqb m.heads.write 0) (length m.memory) m.heads.write (length m.memory) (omega arith) (omega (arith, h.write))
+end-within m h = either-le (eqb m.heads.write 0) (length m.memory) m.heads.write (length m.memory)
+    (omega arith) (omega (arith, h.write))
 
 -- a divide that breaks no rule is a divide of this organism
-pub viable-divide : (o : OrganismState) (ask : DivideAsk) (genome_length : ℕ) (rules : RuleNumbers) → IsMachine o.machine → genome_length ≡ length o.genome → 8 ≤ rules.least → ask ≡ divide_question o.machine → IsViable ask genome_length rules → IsDivide o ask
+pub viable-divide : (o : OrganismState) (ask : DivideAsk) (genome_length : ℕ) (rules : RuleNumbers)
+    → IsMachine o.machine → genome_length ≡ length o.genome → 8 ≤ rules.least
+    → ask ≡ divide_question o.machine → IsViable ask genome_length rules → IsDivide o ask
 viable-divide o ask genome_length rules h long least asked viable = record {
   least_parent = omega (arith, least, viable.parent_not_short);
   least_child = omega (arith, least, viable.child_not_short);

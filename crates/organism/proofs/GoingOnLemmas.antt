@@ -9,7 +9,9 @@ use Rattle.organism.specs.UpdateLife.{is_old, age_of_death}
 use Rattle.organism.specs.SettingNumbers.{SettingNumbers}
 
 -- one step more
-pub goes_on-more : (settings : SettingNumbers) (steps : ℕ) (start now next : LifeNow) → GoesOn settings steps steps (65536 * steps) start now → GoesOn settings 1 1 65536 now next → GoesOn settings (steps + 1) (steps + 1) (65536 * (steps + 1)) start next
+pub goes_on-more : (settings : SettingNumbers) (steps : ℕ) (start now next : LifeNow)
+    → GoesOn settings steps steps (65536 * steps) start now → GoesOn settings 1 1 65536 now next
+    → GoesOn settings (steps + 1) (steps + 1) (65536 * (steps + 1)) start next
 goes_on-more settings steps start now next so_far more = record {
   age = omega (arith, so_far.age, more.age);
   births = omega (arith, so_far.births, more.births);
@@ -21,7 +23,11 @@ goes_on-more settings steps start now next so_far more = record {
 }
 
 -- a step of an organism, and what follows from it
-pub goes_on-after : (settings : SettingNumbers) (old next new : LifeNow) → next.organism.age ≡ old.organism.age + 1 → next.organism.merit ≡ old.organism.merit → next.organism.genome ≡ old.organism.genome → next.draws.taken ≤ old.draws.taken + 2 → next.births ≡ old.births → GoesOn settings 0 1 65534 next new → GoesOn settings 1 1 65536 old new
+pub goes_on-after : (settings : SettingNumbers) (old next new : LifeNow)
+    → next.organism.age ≡ old.organism.age + 1 → next.organism.merit ≡ old.organism.merit
+    → next.organism.genome ≡ old.organism.genome → next.draws.taken ≤ old.draws.taken + 2
+    → next.births ≡ old.births → GoesOn settings 0 1 65534 next new
+    → GoesOn settings 1 1 65536 old new
 goes_on-after settings old next new age merit genome words births goes = record {
   age = omega (arith, goes.age, age);
   births = omega (arith, goes.births, ap length births);
@@ -33,11 +39,13 @@ goes_on-after settings old next new age merit genome words births goes = record 
 }
 
 -- an organism is old just where it has the age of death that it had at the start
-pub old-at : (settings : SettingNumbers) (start now : OrganismState) → now.genome ≡ start.genome → now.age < 2 ^ 64 - 1 → (now.age == age_of_death settings start) ≡ is_old settings now
+pub old-at : (settings : SettingNumbers) (start now : OrganismState) → now.genome ≡ start.genome
+    → now.age < 2 ^ 64 - 1 → (now.age == age_of_death settings start) ≡ is_old settings now
 old-at settings start now genome young = go settings.death where
   never : (now.age == 2 ^ 64 - 1) ≡ false
   never = grind (arith, common_steps)
 
-  go : (death : Bool) → (now.age == cond death (settings.age_limit * length start.genome) (2 ^ 64 - 1)) ≡ (death && (now.age == settings.age_limit * length now.genome))
+  go : (death : Bool) → (now.age == cond death (settings.age_limit * length start.genome)
+      (2 ^ 64 - 1)) ≡ (death && (now.age == settings.age_limit * length now.genome))
   go true = rw genome refl
   go false = never

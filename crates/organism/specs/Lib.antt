@@ -1,4 +1,5 @@
 pub mod OrganismState
+pub mod Image
 pub mod View
 pub mod Life
 pub mod SettingNumbers

@@ -1,4 +1,5 @@
--- One step of a life, with a copy error or without, under any rules (docs/WORLD.md, "The life of one update").
+-- One step of a life, with a copy error or without, under any rules (docs/WORLD.md, "The life of
+-- one update").
 use Rattle.std.specs.Prelude.{ℕ, ℤ, ◌+◌, ◌*◌, ◌-◌, ◌≤◌, ◌%◌, Bool, List, Option, Some, None, length, slice_index_or, if◌then◌else◌}
 use Rattle.std.specs.Int.{cast_signed, w32}
 use Rattle.instruction_set.specs.declared.letter.Letter.{Letter}
@@ -38,7 +39,8 @@ abbrev pub new_to : List Bool → Option Task → Option Task
 new_to tasks None = None
 new_to tasks (Some task) = if has_task tasks task then None else Some task
 
--- the task that an output does with the inputs read before, where this gestation has not done it yet
+-- the task that an output does with the inputs read before, where this gestation has not done it
+-- yet
 abbrev pub newly_done : OrganismState → ℤ → Option Task
 newly_done o output = new_to o.gestation (task_done output o.inputs o.read)
 
@@ -67,7 +69,8 @@ after_did o rules (Asks ask) = (o, after_question o rules ask)
 after_did o rules _ = (o, outcome.Nothing)
 
 -- what the letter that was taken comes to
-unfoldable pub after_letter : OrganismState → Letter → Option Letter → RuleNumbers → OrganismState × Outcome
+unfoldable pub after_letter : OrganismState → Letter → Option Letter → RuleNumbers
+    → OrganismState × Outcome
 after_letter o letter copy rules =
     let effect = effect_of letter o.machine (next_input o) copy in
     after_did (older o effect.0) rules effect.1
@@ -91,7 +94,8 @@ renewed o ask = record o {
   machine = fresh_machine (parent_part o.machine.memory ask.read) o.machine.made o.machine.limit;
 }
 
--- a divide whose two parts are long enough for genomes and lie in memory, the parent's at most twice its genome
+-- a divide whose two parts are long enough for genomes and lie in memory, the parent's at most
+-- twice its genome
 pub record IsDivide (o : OrganismState) (ask : DivideAsk) : Type 0 where
   pub least_parent : 8 ≤ ask.read
   pub least_child : 8 ≤ ask.end - ask.read

@@ -50,7 +50,8 @@ traced_value t =
       remark = remark_value t.remark;
     }
 
--- the organism and the remark after an outcome: a viable divide renews the parent, and the child is what was written
+-- the organism and the remark after an outcome: a viable divide renews the parent, and the child is
+-- what was written
 abbrev pub remark_on : OrganismState → Outcome → OrganismState × TracedRemark
 remark_on o outcome.Nothing = (o, nothing)
 remark_on o (outcome.Task done) = (o, task done)

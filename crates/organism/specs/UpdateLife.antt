@@ -87,7 +87,8 @@ letters_made (Ok made) = made
 letters_made (Err stop) = []
 
 -- the letters that its record makes of the parent's genome
-unfoldable pub child_letters : SettingNumbers → (ℕ → ℕ) → ℕ → OrganismState → DivideAsk → List Letter
+unfoldable pub child_letters : SettingNumbers → (ℕ → ℕ) → ℕ → OrganismState → DivideAsk
+    → List Letter
 child_letters settings words k o ask =
     letters_made (child_of o.genome (birth_record settings words k o ask))
 

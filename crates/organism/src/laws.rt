@@ -15,7 +15,8 @@ pub fn limits()
     ensures trace_percent { TRACE_PERCENT ≡ 50 }
 {}
 
-/// A life leaves a sound organism sound, whatever the words are, and its newborns are made by their records.
+/// A life leaves a sound organism sound, whatever the words are, and its newborns are made by their
+/// records.
 pub fn lives_are_sound()
     ensures { (settings : SettingNumbers) (words : ℕ → ℕ) (start : OrganismState) (steps : ℕ)
         → AreRules settings.rules

@@ -2,6 +2,7 @@
 #![tactic(auto)]
 
 mod births;
+mod image;
 pub mod laws;
 mod newborn;
 mod organism;
@@ -13,6 +14,7 @@ mod trace_rules;
 mod traced;
 
 pub use births::Births;
+pub use image::Image;
 pub use newborn::Newborn;
 pub use organism::Organism;
 pub use ran::Ran;

@@ -1,18 +1,21 @@
-// An organism: its genome, its machine, and what it has done since its birth or its last viable divide.
+// An organism: its genome, its machine, and what it has done since its birth or its last viable
+// divide.
 ghost use Rattle.std.specs.Prelude.{◌≡◌, ◌≢◌, ◌+◌, ◌*◌, ◌-◌, ◌<◌, ◌≤◌, ◌^◌, IfOk, OnOk, length};
 ghost use Rattle.divide_rules.specs.Rules.{RuleNumbers, rule_numbers};
 ghost use Rattle.instruction_set.specs.declared.letter.Letter.TheVariants.{HDivide, Io};
 ghost use Rattle.genome.specs.Genome.{letters};
-ghost use Rattle.virtual_cpu.specs.Machine.{letter_under_ip, with_ip_marked};
+ghost use Rattle.virtual_cpu.specs.Image.{image_of};
+ghost use Rattle.virtual_cpu.specs.Machine.{IsMachine, letter_under_ip, with_ip_marked};
 ghost use Rattle.virtual_cpu.specs.Step.{AsksOf};
 ghost use Rattle.virtual_cpu.specs.Divide.{divide_question};
 ghost use Rattle.organism.specs.OrganismState.{new_organism, IsOrganism};
+ghost use Rattle.organism.specs.Image.{organism_of_image};
 ghost use Rattle.organism.specs.Life.{newly_done, after_output, after_question, after_did, after_letter, life_step, renewed, IsDivide, IsChildOf, OnViable};
 ghost use Rattle.organism.specs.TracedStep.{remark_value, traced_value, remark_on, trace_step_of};
 
 use crate::outcome::Outcome;
 use crate::trace_rules::trace_rules;
-use crate::{Remark, Traced};
+use crate::{Image, Remark, Traced};
 use avida_port::Memory;
 use divide_rules::{DivideAsk, DivideRules, Verdict, judge};
 use genome::Genome;
@@ -22,7 +25,7 @@ use merit_slices::merit;
 use std::alloc::Global;
 use std::marker::Model;
 use std::sync::Arc;
-use virtual_cpu::laws::{few_letters_tell, only_io_takes_an_input};
+use virtual_cpu::laws::{few_letters_tell, images_are_whole, only_io_takes_an_input};
 use virtual_cpu::{Cpu, Did};
 
 /// An organism, which lives by the steps of its machine.
@@ -76,6 +79,47 @@ impl Organism {
             read: 0,
             gestation: Tasks::none(),
             machine,
+        })
+    }
+
+    /// The organism with an image's values, whose machine has this limit of memory.
+    pub fn from_image(alloc: Global, image: &Image, memory_limit: u32) -> Result<Organism, Memory>
+        requires organism { IsOrganism (organism_of_image image.now memory_limit) }
+        requires machine { IsMachine (organism_of_image image.now memory_limit).machine }
+        ensures { IfOk result (λ organism. organism ≡ organism_of_image image.now memory_limit) }
+    {
+        let genome = Arc::try_clone(&image.genome)?;
+        let machine = Cpu::from_image(alloc, &image.cpu, &genome, memory_limit)?;
+        Ok(Organism {
+            genome,
+            inputs: image.inputs,
+            merit: image.merit,
+            credited: image.credited,
+            age: image.age,
+            read: image.read,
+            gestation: image.gestation,
+            machine,
+        })
+    }
+
+    /// The organism's values.
+    pub fn image(&self, alloc: Global) -> Result<Image, Memory>
+        ensures organism { IfOk result (λ image.
+            organism_of_image image self.now.machine.limit ≡ self.now) }
+        ensures cpu { IfOk result (λ image. image.cpu ≡ image_of self.now.machine) }
+    {
+        images_are_whole();
+        let genome = Arc::try_clone(&self.genome)?;
+        let cpu = self.machine.image(alloc)?;
+        Ok(Image {
+            merit: self.merit,
+            credited: self.credited,
+            age: self.age,
+            read: self.read,
+            gestation: self.gestation,
+            inputs: self.inputs,
+            genome,
+            cpu,
         })
     }
 
@@ -226,7 +270,8 @@ impl Organism {
         self.age += 1;
     }
 
-    /// The letter that was taken has its effect, and what follows from the machine's answer. IO takes the next input.
+    /// The letter that was taken has its effect, and what follows from the machine's answer. IO
+    /// takes the next input.
     #[inline(never)]
     #[tactic(auto, unfolding(crate::specs::Life::after_letter))]
     fn perform_telling(

@@ -19,8 +19,8 @@ use random_streams::Draws;
 use std::alloc::Global;
 
 impl Organism {
-    /// Runs the organism for one update, at most `slices` steps. If memory runs out, drop the organism and
-    /// its births.
+    /// Runs the organism for one update, at most `slices` steps. If memory runs out, drop the
+    /// organism and its births.
     #[tactic(auto, unfolding(crate::specs::UpdateLife::life))]
     pub fn run(
         &mut self,
@@ -35,10 +35,12 @@ impl Organism {
         requires fresh { draws.old.taken ≡ 0 }
         requires no_births { births.old ≡ [] }
         ensures life { IfOk result (λ ran. (life_state self.new births.new draws.new, ran)
-            ≡ life (setting_numbers settings.now) (word_of draws.old) (life_state self.old births.old draws.old)
+            ≡ life (setting_numbers settings.now) (word_of draws.old)
+            (life_state self.old births.old draws.old)
             slices) }
         ensures stream { OnOk result (draws.new ≡ record draws.old { taken = draws.new.taken }) }
-        ensures bounds { OnOk result (GoesOn (setting_numbers settings.now) slices slices (65536 * slices)
+        ensures bounds { OnOk result
+            (GoesOn (setting_numbers settings.now) slices slices (65536 * slices)
             (life_now self.old births.old draws.old)
             (life_now self.new births.new draws.new)) }
     {
@@ -52,7 +54,8 @@ impl Organism {
         Ok(Ran::Lives)
     }
 
-    /// The age of death, which no step changes. Where no age kills it is one that no organism reaches.
+    /// The age of death, which no step changes. Where no age kills it is one that no organism
+    /// reaches.
     fn age_of_death(&self, settings: &Settings) -> u64
         ensures { result ≡ age_of_death (setting_numbers settings.now) self.now }
     {
@@ -176,9 +179,11 @@ impl Organism {
         requires child { IsChildOf (rule_numbers settings.now.rules) ask.now }
         requires room { draws.old.taken < 2 ^ 45 }
         ensures origin { IfOk result (λ born. record_of born.origin
-            ≡ birth_record (setting_numbers settings.now) (word_of draws.old) draws.old.taken self.now ask.now) }
+            ≡ birth_record (setting_numbers settings.now) (word_of draws.old) draws.old.taken
+            self.now ask.now) }
         ensures genome { IfOk result (λ born. letters born.genome
-            ≡ child_letters (setting_numbers settings.now) (word_of draws.old) draws.old.taken self.now ask.now) }
+            ≡ child_letters (setting_numbers settings.now) (word_of draws.old) draws.old.taken
+            self.now ask.now) }
         ensures longest { IfOk result
             (λ born. length (letters born.genome) ≤ settings.now.rules.greatest) }
         ensures stream { OnOk result (draws.new ≡ record draws.old {

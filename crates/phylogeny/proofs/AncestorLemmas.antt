@@ -2,7 +2,7 @@
 use Rattle.std.proofs.Common.{◌≡◌, ℕ, zero, suc, ◌+◌, ◌-◌, ◌<◌, ◌≤◌, List, [], ◌∷◌, length, Option, Some, None, unwrap_or, refl, sym, ap, ◌∙◌, arith}
 use Rattle.std.specs.List.{last_or}
 use Rattle.std.specs.Option.{option_map_or}
-use Rattle.phylogeny.specs.Pedigree.{ancestors_within}
+use Rattle.lineage_log.specs.Ancestry.{ancestors_within}
 
 -- each parent has a lower id than its child
 abbrev pub Older : (ℕ → Option ℕ) → Type 0
@@ -13,14 +13,18 @@ abbrev pub line : (ℕ → Option ℕ) → ℕ → List ℕ
 line parent_of id = ancestors_within id parent_of id
 
 -- the line begins with the id
-pub line_head : (parent_of : ℕ → Option ℕ) (n id : ℕ) → (others : List ℕ) × (ancestors_within n parent_of id ≡ id ∷ others)
+pub line_head : (parent_of : ℕ → Option ℕ) (n id : ℕ) → (others : List ℕ)
+    × (ancestors_within n parent_of id ≡ id ∷ others)
 line_head parent_of zero id = ([], refl)
-line_head parent_of (suc n) id = (option_map_or (ancestors_within n parent_of) (parent_of id) [], refl)
+line_head parent_of (suc n) id =
+    (option_map_or (ancestors_within n parent_of) (parent_of id) [], refl)
 
-pub line_length : (parent_of : ℕ → Option ℕ) (n id : ℕ) → length (ancestors_within n parent_of id) ≤ n + 1
+pub line_length : (parent_of : ℕ → Option ℕ) (n id : ℕ)
+    → length (ancestors_within n parent_of id) ≤ n + 1
 line_length parent_of zero id = omega arith
 line_length parent_of (suc n) id =
-    let rest = elim (parent_of id) as (λ o. length (option_map_or (ancestors_within n parent_of) o []) ≤ n + 1) [
+    let rest = elim (parent_of id) as
+    (λ o. length (option_map_or (ancestors_within n parent_of) o []) ≤ n + 1) [
       | None ↦ omega arith
       | Some above ↦ line_length parent_of n above
     ] in
@@ -34,28 +38,45 @@ module _ (parent_of : ℕ → Option ℕ) (older : Older parent_of) where
   ]) refl
 
   -- more generations than the id has change nothing
-  pub enough : (n m id : ℕ) → id ≤ n → id ≤ m → ancestors_within n parent_of id ≡ ancestors_within m parent_of id
+  pub enough : (n m id : ℕ) → id ≤ n → id ≤ m
+      → ancestors_within n parent_of id ≡ ancestors_within m parent_of id
   enough zero zero id a b = refl
-  enough zero (suc m) id a b = ap (λ (o : Option ℕ). id ∷ option_map_or (ancestors_within m parent_of) o []) (sym (no_parent id a))
-  enough (suc n) zero id a b = ap (λ (o : Option ℕ). id ∷ option_map_or (ancestors_within n parent_of) o []) (no_parent id b)
-  enough (suc n) (suc m) id a b = ap (λ (xs : List ℕ). id ∷ xs) ((elim (parent_of id) as (λ o. parent_of id ≡ o → option_map_or (ancestors_within n parent_of) o [] ≡ option_map_or (ancestors_within m parent_of) o []) [
-    | None ↦ λ is. refl
-    | Some above ↦ λ is. enough n m above (omega (arith, older id above is)) (omega (arith, older id above is))
-  ]) refl)
+  enough zero (suc m) id a b =
+      ap (λ (o : Option ℕ). id ∷ option_map_or (ancestors_within m parent_of) o [])
+      (sym (no_parent id a))
+  enough (suc n) zero id a b =
+      ap (λ (o : Option ℕ). id ∷ option_map_or (ancestors_within n parent_of) o []) (no_parent id b)
+  enough (suc n) (suc m) id a b =
+      ap (λ (xs : List ℕ). id ∷ xs)
+      ((elim (parent_of id) as
+      (λ o. parent_of id ≡ o → option_map_or (ancestors_within n parent_of) o []
+      ≡ option_map_or (ancestors_within m parent_of) o []) [
+        | None ↦ λ is. refl
+        | Some above ↦ λ is. enough n m above (omega (arith, older id above is))
+            (omega (arith, older id above is))
+      ]) refl)
 
   -- the line of an id is itself, and the line of its parent
   pub line_is : (id : ℕ) → line parent_of id ≡ id ∷ option_map_or (line parent_of) (parent_of id) []
-  line_is zero = ap (λ (o : Option ℕ). zero ∷ option_map_or (line parent_of) o []) (sym (no_parent zero (omega arith)))
-  line_is (suc n) = ap (λ (xs : List ℕ). suc n ∷ xs) ((elim (parent_of (suc n)) as (λ o. parent_of (suc n) ≡ o → option_map_or (ancestors_within n parent_of) o [] ≡ option_map_or (line parent_of) o []) [
-    | None ↦ λ is. refl
-    | Some above ↦ λ is. enough n above above (omega (arith, older (suc n) above is)) (omega arith)
-  ]) refl)
+  line_is zero = ap (λ (o : Option ℕ). zero ∷ option_map_or (line parent_of) o [])
+      (sym (no_parent zero (omega arith)))
+  line_is (suc n) = ap (λ (xs : List ℕ). suc n ∷ xs)
+      ((elim (parent_of (suc n)) as
+      (λ o. parent_of (suc n) ≡ o
+      → option_map_or (ancestors_within n parent_of) o [] ≡ option_map_or (line parent_of) o []) [
+        | None ↦ λ is. refl
+        | Some above ↦ λ is. enough n above above (omega (arith, older (suc n) above is))
+            (omega arith)
+      ]) refl)
 
   line_of_founder : (id : ℕ) → parent_of id ≡ None → line parent_of id ≡ id ∷ []
-  line_of_founder id is = line_is id ∙ ap (λ (o : Option ℕ). id ∷ option_map_or (line parent_of) o []) is
+  line_of_founder id is =
+      line_is id ∙ ap (λ (o : Option ℕ). id ∷ option_map_or (line parent_of) o []) is
 
-  line_of_child : (id above : ℕ) → parent_of id ≡ Some above → line parent_of id ≡ id ∷ line parent_of above
-  line_of_child id above is = line_is id ∙ ap (λ (o : Option ℕ). id ∷ option_map_or (line parent_of) o []) is
+  line_of_child : (id above : ℕ) → parent_of id ≡ Some above
+      → line parent_of id ≡ id ∷ line parent_of above
+  line_of_child id above is =
+      line_is id ∙ ap (λ (o : Option ℕ). id ∷ option_map_or (line parent_of) o []) is
 
 -- how far a line leads up, and where it ends
 abbrev pub depth_in : List ℕ → ℕ
@@ -64,19 +85,28 @@ depth_in ids = length ids - 1
 abbrev pub founder_in : List ℕ → ℕ
 founder_in ids = unwrap_or (last_or None ids) 0
 
-longer : (id above : ℕ) (others : List ℕ) → (depth_in (id ∷ above ∷ others) ≡ depth_in (above ∷ others) + 1) × (founder_in (id ∷ above ∷ others) ≡ founder_in (above ∷ others))
+longer : (id above : ℕ) (others : List ℕ)
+    → (depth_in (id ∷ above ∷ others) ≡ depth_in (above ∷ others) + 1)
+    × (founder_in (id ∷ above ∷ others) ≡ founder_in (above ∷ others))
 longer id above others = (omega arith, refl)
 
 module _ (parent_of : ℕ → Option ℕ) (older : Older parent_of) where
-  pub founder_root : (id : ℕ) → parent_of id ≡ None → (depth_in (line parent_of id) ≡ 0) × (founder_in (line parent_of id) ≡ id)
-  founder_root id is = let e = line_of_founder parent_of older id is in (ap depth_in e, ap founder_in e)
+  pub founder_root : (id : ℕ) → parent_of id ≡ None → (depth_in (line parent_of id) ≡ 0)
+      × (founder_in (line parent_of id) ≡ id)
+  founder_root id is =
+      let e = line_of_founder parent_of older id is in (ap depth_in e, ap founder_in e)
 
-  pub child_root : (id above : ℕ) → parent_of id ≡ Some above → (depth_in (line parent_of id) ≡ depth_in (line parent_of above) + 1) × (founder_in (line parent_of id) ≡ founder_in (line parent_of above))
+  pub child_root : (id above : ℕ) → parent_of id ≡ Some above
+      → (depth_in (line parent_of id) ≡ depth_in (line parent_of above) + 1)
+      × (founder_in (line parent_of id) ≡ founder_in (line parent_of above))
   child_root id above is =
       let h = line_head parent_of above above in
       let e = line_of_child parent_of older id above is ∙ ap (λ (xs : List ℕ). id ∷ xs) h.1 in
-      let more = longer id above h.0 in
-      (ap depth_in e ∙ more.0 ∙ ap (λ n. n + 1) (sym (ap depth_in h.1)), ap founder_in e ∙ more.1 ∙ sym (ap founder_in h.1))
+      let more = longer id above h.0 in (
+        ap depth_in e ∙ more.0 ∙ ap (λ n. n + 1) (sym (ap depth_in h.1)),
+        ap founder_in e ∙ more.1
+            ∙ sym (ap founder_in h.1),
+      )
 
   pub depth_bound : (id : ℕ) → depth_in (line parent_of id) ≤ id
   depth_bound id = omega (arith, line_length parent_of id id)

@@ -9,19 +9,30 @@ use Rattle.std.proofs.lemmas.List.Sums.{sum_by-cons, count_by-le-length}
 abbrev pub bit : Bool → ℕ
 bit b = cond b 1 0
 
-pub count_cons : {X : Type 0} (p : X → Bool) (x : X) (xs : List X) → count_by p (x ∷ xs) ≡ bit (p x) + count_by p xs
+pub count_cons : {X : Type 0} (p : X → Bool) (x : X) (xs : List X)
+    → count_by p (x ∷ xs) ≡ bit (p x) + count_by p xs
 count_cons p x xs = sum_by-cons (λ y. cond (p y) 1 0) x xs
 
 -- tests that answer alike count alike
-pub count_same : {X : Type 0} (p q : X → Bool) → ((x : X) → p x ≡ q x) → (xs : List X) → count_by p xs ≡ count_by q xs
+pub count_same : {X : Type 0} (p q : X → Bool) → ((x : X) → p x ≡ q x) → (xs : List X)
+    → count_by p xs ≡ count_by q xs
 count_same p q same xs = λ i. count_by (λ x. same x i) xs
 
 -- where each passes p as often as q, and also r if t holds, so do all
-pub count_handed : {X : Type 0} (p q r : X → Bool) (t : Bool) → ((x : X) → bit (p x) ≡ bit (q x) + cond t (bit (r x)) 0) → (xs : List X) → count_by p xs ≡ count_by q xs + cond t (count_by r xs) 0
+pub count_handed : {X : Type 0} (p q r : X → Bool) (t : Bool)
+    → ((x : X) → bit (p x) ≡ bit (q x) + cond t (bit (r x)) 0) → (xs : List X)
+    → count_by p xs ≡ count_by q xs + cond t (count_by r xs) 0
 count_handed p q r true each [] = omega arith
 count_handed p q r false each [] = omega arith
 count_handed p q r true each (x ∷ xs) =
-    omega (arith, count_cons p x xs, count_cons q x xs, count_cons r x xs, each x, count_handed p q r true each xs)
+    omega (
+      arith,
+      count_cons p x xs,
+      count_cons q x xs,
+      count_cons r x xs,
+      each x,
+      count_handed p q r true each xs,
+    )
 count_handed p q r false each (x ∷ xs) =
     omega (arith, count_cons p x xs, count_cons q x xs, each x, count_handed p q r false each xs)
 
@@ -32,15 +43,20 @@ some_counted false c n m is more = grind (arith, nat_tests)
 -- some pass where at least one is counted
 pub any_counted : {X : Type 0} (p : X → Bool) (xs : List X) → list_any p xs ≡ ltb 0 (count_by p xs)
 any_counted p [] = refl
-any_counted p (x ∷ xs) = some_counted (p x) (list_any p xs) (count_by p xs) (count_by p (x ∷ xs)) (any_counted p xs) (count_cons p x xs)
+any_counted p (x ∷ xs) =
+    some_counted (p x) (list_any p xs) (count_by p xs) (count_by p (x ∷ xs)) (any_counted p xs)
+    (count_cons p x xs)
 
-all_counted_more : (b c : Bool) (n l m : ℕ) → c ≡ eqb n l → n ≤ l → m ≡ bit b + n → (b && c) ≡ eqb m (l + 1)
+all_counted_more : (b c : Bool) (n l m : ℕ) → c ≡ eqb n l → n ≤ l → m ≡ bit b + n
+    → (b && c) ≡ eqb m (l + 1)
 all_counted_more true c n l m is few more = grind (arith, nat_tests)
 all_counted_more false c n l m is few more = grind (arith, nat_tests)
 
 -- all pass where as many are counted as there are
-pub all_counted : {X : Type 0} (p : X → Bool) (xs : List X) → list_all p xs ≡ eqb (count_by p xs) (length xs)
+pub all_counted : {X : Type 0} (p : X → Bool) (xs : List X)
+    → list_all p xs ≡ eqb (count_by p xs) (length xs)
 all_counted p [] = refl
 all_counted p (x ∷ xs) =
-    all_counted_more (p x) (list_all p xs) (count_by p xs) (length xs) (count_by p (x ∷ xs)) (all_counted p xs) (count_by-le-length p xs) (count_cons p x xs)
+    all_counted_more (p x) (list_all p xs) (count_by p xs) (length xs) (count_by p (x ∷ xs))
+    (all_counted p xs) (count_by-le-length p xs) (count_cons p x xs)
     ∙ ap (eqb (count_by p (x ∷ xs))) (omega arith)

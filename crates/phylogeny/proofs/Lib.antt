@@ -5,3 +5,4 @@ pub mod TokenLemmas
 pub mod SlotLemmas
 pub mod WalkLemmas
 pub mod LogLemmas
+pub mod CommonLemmas

@@ -5,7 +5,8 @@ use Rattle.std.proofs.lemmas.Bool.{cases_lt}
 use Rattle.std.proofs.lemmas.List.{drop_more}
 use Rattle.std.proofs.lemmas.Option.{slice_get_within, get_or_from_slice_get}
 
-get_before : {A : Type 0} (xs : List A) (y : A) (i : ℕ) → i < length xs → slice_get (xs ++ y ∷ []) i ≡ slice_get xs i
+get_before : {A : Type 0} (xs : List A) (y : A) (i : ℕ) → i < length xs
+    → slice_get (xs ++ y ∷ []) i ≡ slice_get xs i
 get_before [] y i within = absurd (omega arith)
 get_before (x ∷ xs) y zero within = refl
 get_before (x ∷ xs) y (suc i) within = get_before xs y i (omega arith)
@@ -15,7 +16,9 @@ get_last [] y = refl
 get_last (x ∷ xs) y = get_last xs y
 
 -- a list that holds what is wanted at each place, and one item more
-pub each_pushed : {A : Type 0} (want : ℕ → A) (xs : List A) (y : A) (n : ℕ) → length xs ≡ n → ((i : ℕ) → i < n → slice_get xs i ≡ Some (want i)) → y ≡ want n → (i : ℕ) → i < n + 1 → slice_get (xs ++ y ∷ []) i ≡ Some (want i)
+pub each_pushed : {A : Type 0} (want : ℕ → A) (xs : List A) (y : A) (n : ℕ) → length xs ≡ n
+    → ((i : ℕ) → i < n → slice_get xs i ≡ Some (want i)) → y ≡ want n → (i : ℕ) → i < n + 1
+    → slice_get (xs ++ y ∷ []) i ≡ Some (want i)
 each_pushed want xs y n len each last i within = elim (cases_lt i n) [
   | inl before ↦ get_before xs y i (omega arith) ∙ each i before
   | inr not_before ↦
@@ -25,8 +28,10 @@ each_pushed want xs y n len each last i within = elim (cases_lt i n) [
 ]
 
 -- what is left begins with the item at this place
-pub drop_is : {A : Type 0} (xs : List A) (i : ℕ) (x : A) → slice_get xs i ≡ Some x → drop i xs ≡ x ∷ drop (i + 1) xs
-drop_is xs i x is = drop_more xs i x (slice_get_within xs i x is) ∙ ap (λ y. y ∷ drop (i + 1) xs) (get_or_from_slice_get xs i x x is)
+pub drop_is : {A : Type 0} (xs : List A) (i : ℕ) (x : A) → slice_get xs i ≡ Some x
+    → drop i xs ≡ x ∷ drop (i + 1) xs
+drop_is xs i x is = drop_more xs i x (slice_get_within xs i x is)
+    ∙ ap (λ y. y ∷ drop (i + 1) xs) (get_or_from_slice_get xs i x x is)
 
 -- there is an item at a place within the list
 pub not_past : {A : Type 0} (xs : List A) (i : ℕ) → i < length xs → None ≡ slice_get xs i → ⊥

@@ -28,18 +28,27 @@ use Rattle.phylogeny.specs.Slots.{AreBelow, AreOlder, IsPedigree, living_from, n
 
 -- ---- who stands in the cells
 
-set_below : (n m : ℕ) (slots : List (Option ℕ)) (cell : ℕ) (slot : Option ℕ) → n ≤ m → AreBelow n slots → ((id : ℕ) → slot ≡ Some id → id < m) → AreBelow m (set slots cell slot)
+set_below : (n m : ℕ) (slots : List (Option ℕ)) (cell : ℕ) (slot : Option ℕ) → n ≤ m
+    → AreBelow n slots → ((id : ℕ) → slot ≡ Some id → id < m) → AreBelow m (set slots cell slot)
 set_below n m [] cell slot few below new c id is = absurd cc
 set_below n m (s ∷ slots) zero slot few below new zero id is = new id is
-set_below n m (s ∷ slots) zero slot few below new (suc c) id is = let b = below (suc c) id is in omega arith
-set_below n m (s ∷ slots) (suc cell) slot few below new zero id is = let b = below zero id is in omega arith
-set_below n m (s ∷ slots) (suc cell) slot few below new (suc c) id is = set_below n m slots cell slot few (λ k i e. below (suc k) i e) new c id is
+set_below n m (s ∷ slots) zero slot few below new (suc c) id is =
+    let b = below (suc c) id is in omega arith
+set_below n m (s ∷ slots) (suc cell) slot few below new zero id is =
+    let b = below zero id is in omega arith
+set_below n m (s ∷ slots) (suc cell) slot few below new (suc c) id is =
+    set_below n m slots cell slot few (λ k i e. below (suc k) i e) new c id is
 
-below_without : (n : ℕ) (slots : List (Option ℕ)) (cell : ℕ) → AreBelow n slots → AreBelow n (set slots cell None)
-below_without n slots cell below = set_below n n slots cell None (omega arith) below (λ id is. absurd cc)
+below_without : (n : ℕ) (slots : List (Option ℕ)) (cell : ℕ) → AreBelow n slots
+    → AreBelow n (set slots cell None)
+below_without n slots cell below =
+    set_below n n slots cell None (omega arith) below (λ id is. absurd cc)
 
-below_with : (n : ℕ) (slots : List (Option ℕ)) (cell id : ℕ) → id ≡ n → AreBelow n slots → AreBelow (n + 1) (set slots cell (Some id))
-below_with n slots cell id next below = set_below n (n + 1) slots cell (Some id) (omega arith) below (λ x is. let same : id ≡ x = cc in omega arith)
+below_with : (n : ℕ) (slots : List (Option ℕ)) (cell id : ℕ) → id ≡ n → AreBelow n slots
+    → AreBelow (n + 1) (set slots cell (Some id))
+below_with n slots cell id next below =
+    set_below n (n + 1) slots cell (Some id) (omega arith) below
+    (λ x is. let same : id ≡ x = cc in omega arith)
 
 abbrev nobody : ℕ → List (Option ℕ)
 nobody cells = replicate cells None
@@ -53,9 +62,11 @@ nobody_length : (cells : ℕ) → length (nobody cells) ≡ cells
 nobody_length zero = refl
 nobody_length (suc cells) = ap suc (nobody_length cells)
 
-length_without : (ids : List ℕ) (people : List (Option (List Letter))) → length (without ids people) ≡ length people
+length_without : (ids : List ℕ) (people : List (Option (List Letter)))
+    → length (without ids people) ≡ length people
 length_without [] people = refl
-length_without (id ∷ ids) people = length_without ids (set people id None) ∙ length-set people id None
+length_without (id ∷ ids) people =
+    length_without ids (set people id None) ∙ length-set people id None
 
 length_pushed : {A : Type 0} (xs : List A) (y : A) → length (xs ++ y ∷ []) ≡ length xs + 1
 length_pushed [] y = omega arith
@@ -74,15 +85,18 @@ IsPlaceAt Before count standing = ⊥
 IsPlaceAt (Within r) count standing = IsAt r count standing
 IsPlaceAt (After r) count standing = IsAt r count standing
 
-went_on : (t : Result Place Reason) (next : Place → Result Place Reason) (q : Place) → and_on t next ≡ Ok q → (p : Place) × (t ≡ Ok p) × (next p ≡ Ok q)
+went_on : (t : Result Place Reason) (next : Place → Result Place Reason) (q : Place)
+    → and_on t next ≡ Ok q → (p : Place) × (t ≡ Ok p) × (next p ≡ Ok q)
 went_on (Ok p) next q is = (p, refl, is)
 went_on (Err reason) next q is = absurd cc
 
 place_is : (p q : Place) → ◌≡◌ {A = Result Place Reason} (Ok p) (Ok q) → p ≡ q
 place_is p q is = cc
 
-within_gives : (test : Bool) (r : Reader) (p : Place) (count : ℕ) (standing : List (Option ℕ)) → within_if test r ≡ Ok p → (test ≡ true → IsAt r count standing) → IsPlaceAt p count standing
-within_gives true r p count standing is gives = subst (λ (q : Place). IsPlaceAt q count standing) (place_is (Within r) p is) (gives refl)
+within_gives : (test : Bool) (r : Reader) (p : Place) (count : ℕ) (standing : List (Option ℕ))
+    → within_if test r ≡ Ok p → (test ≡ true → IsAt r count standing) → IsPlaceAt p count standing
+within_gives true r p count standing is gives =
+    subst (λ (q : Place). IsPlaceAt q count standing) (place_is (Within r) p is) (gives refl)
 within_gives false r p count standing is gives = absurd cc
 
 -- the test of a line that tells a newcomer
@@ -90,55 +104,84 @@ tested : (test : Bool) (r : Reader) (p : Place) → within_if test r ≡ Ok p �
 tested true r p is = refl
 tested false r p is = absurd cc
 
-death_at : (r : Reader) (stage : Stage) (cell id count : ℕ) (standing : List (Option ℕ)) → IsAt r count standing → IsAt (with_death r stage cell id) count (set standing cell None)
+death_at : (r : Reader) (stage : Stage) (cell id count : ℕ) (standing : List (Option ℕ))
+    → IsAt r count standing → IsAt (with_death r stage cell id) count (set standing cell None)
 death_at r stage cell id count standing now = record {
   as_many = now.as_many;
   same = ap (λ (slots : List (Option ℕ)). set slots cell None) now.same;
   below = below_without count standing cell now.below;
 }
 
-newcomer_at : (r : Reader) (stage : Stage) (cell id : ℕ) (over : Option ℕ) (genome : List Letter) (births count : ℕ) (standing : List (Option ℕ)) → id ≡ count → IsAt r count standing → IsAt (with_newcomer r stage cell over genome births) (count + 1) (set standing cell (Some id))
+newcomer_at : (r : Reader) (stage : Stage) (cell id : ℕ) (over : Option ℕ) (genome : List Letter)
+    (births count : ℕ) (standing : List (Option ℕ)) → id ≡ count → IsAt r count standing
+    → IsAt (with_newcomer r stage cell over genome births) (count + 1) (set standing cell (Some id))
 newcomer_at r stage cell id over genome births count standing next now = record {
   as_many = length_pushed r.people (Some genome) ∙ ap (λ n. n + 1) now.as_many;
   same = λ i. set (now.same i) cell (Some ((now.as_many ∙ sym next) i));
   below = below_with count standing cell id next now.below;
 }
 
-next_id : (a b c : Bool) (id count : ℕ) (people : List (Option (List Letter))) → length people ≡ count → (((a && b) && (id == length people)) && c) ≡ true → id ≡ count
+next_id : (a b c : Bool) (id count : ℕ) (people : List (Option (List Letter)))
+    → length people ≡ count → (((a && b) && (id == length people)) && c) ≡ true → id ≡ count
 next_id a b c id count people as_many test =
-    eqb-true id (length people) (and_parts (a && b) (id == length people) (and_parts ((a && b) && (id == length people)) c test).0).1 ∙ as_many
+    eqb-true id (length people)
+    (and_parts (a && b) (id == length people)
+    (and_parts ((a && b) && (id == length people)) c test).0).1 ∙ as_many
 
 -- ---- the parent of a birth
 
-found_within : (people : List (Option (List Letter))) (parent : ℕ) (letters : List Letter) (found : Option (Option (List Letter))) → slice_get people parent ≡ found → option_and_then (λ f. f) found ≡ Some letters → parent < length people
+found_within : (people : List (Option (List Letter))) (parent : ℕ) (letters : List Letter)
+    (found : Option (Option (List Letter))) → slice_get people parent ≡ found
+    → option_and_then (λ f. f) found ≡ Some letters → parent < length people
 found_within people parent letters None there is = absurd cc
-found_within people parent letters (Some found) there is = slice_get_within people parent found there
+found_within people parent letters (Some found) there is =
+    slice_get_within people parent found there
 
-parent_within : (r : Reader) (parent : ℕ) (letters : List Letter) (old : Bool) → (if old then option_and_then (λ f. f) (slice_get r.people parent) else None) ≡ Some letters → parent < length r.people
-parent_within r parent letters true is = found_within r.people parent letters (slice_get r.people parent) refl is
+parent_within : (r : Reader) (parent : ℕ) (letters : List Letter) (old : Bool)
+    → (if old then option_and_then (λ f. f) (slice_get r.people parent) else None) ≡ Some letters
+    → parent < length r.people
+parent_within r parent letters true is =
+    found_within r.people parent letters (slice_get r.people parent) refl is
 parent_within r parent letters false is = absurd cc
 
-child_at : (r : Reader) (cell id : ℕ) (over : Option ℕ) (child : Result (List Letter) ApplyStop) (p : Place) (count : ℕ) (standing : List (Option ℕ)) → id ≡ count → with_child r cell over child ≡ Ok p → IsAt r count standing → IsPlaceAt p (count + 1) (set standing cell (Some id))
+child_at : (r : Reader) (cell id : ℕ) (over : Option ℕ) (child : Result (List Letter) ApplyStop)
+    (p : Place) (count : ℕ) (standing : List (Option ℕ)) → id ≡ count
+    → with_child r cell over child ≡ Ok p → IsAt r count standing
+    → IsPlaceAt p (count + 1) (set standing cell (Some id))
 child_at r cell id over (Ok child) p count standing next is now =
-    subst (λ (q : Place). IsPlaceAt q (count + 1) (set standing cell (Some id))) (place_is (Within (with_newcomer r Placing cell over child (r.births + 1))) p is)
+    subst (λ (q : Place). IsPlaceAt q (count + 1) (set standing cell (Some id)))
+    (place_is (Within (with_newcomer r Placing cell over child (r.births + 1))) p is)
     (newcomer_at r Placing cell id over child (r.births + 1) count standing next now)
 child_at r cell id over (Err stop) p count standing next is now = absurd cc
 
-born_at : (r : Reader) (cell id parent : ℕ) (over : Option ℕ) (birth : BirthRecord) (found : Option (List Letter)) (p : Place) (count : ℕ) (standing : List (Option ℕ)) → id ≡ count → kept_parent r parent ≡ found → with_parent r cell over birth found ≡ Ok p → IsAt r count standing → (parent < count) × IsPlaceAt p (count + 1) (set standing cell (Some id))
+born_at : (r : Reader) (cell id parent : ℕ) (over : Option ℕ) (birth : BirthRecord)
+    (found : Option (List Letter)) (p : Place) (count : ℕ) (standing : List (Option ℕ)) → id ≡ count
+    → kept_parent r parent ≡ found → with_parent r cell over birth found ≡ Ok p
+    → IsAt r count standing → (parent < count)
+    × IsPlaceAt p (count + 1) (set standing cell (Some id))
 born_at r cell id parent over birth None p count standing next from is now = absurd cc
 born_at r cell id parent over birth (Some letters) p count standing next from is now = (
-  let within = parent_within r parent letters (nat_lt parent r.newest) from in omega (arith, within, now.as_many),
+  let within = parent_within r parent letters (nat_lt parent r.newest) from in
+      omega (arith, within, now.as_many),
   child_at r cell id over (child_of letters birth) p count standing next is now,
 )
 
-birth_at : (test : Bool) (r : Reader) (cell id parent : ℕ) (over : Option ℕ) (birth : BirthRecord) (p : Place) (count : ℕ) (standing : List (Option ℕ)) → (test ≡ true → id ≡ count) → (if test then with_parent r cell over birth (kept_parent r parent) else Err BadOrder) ≡ Ok p → IsAt r count standing → (id ≡ count) × (parent < count) × IsPlaceAt p (count + 1) (set standing cell (Some id))
+birth_at : (test : Bool) (r : Reader) (cell id parent : ℕ) (over : Option ℕ) (birth : BirthRecord)
+    (p : Place) (count : ℕ) (standing : List (Option ℕ)) → (test ≡ true → id ≡ count)
+    → (if test then with_parent r cell over birth (kept_parent r parent) else Err BadOrder) ≡ Ok p
+    → IsAt r count standing → (id ≡ count) × (parent < count)
+    × IsPlaceAt p (count + 1) (set standing cell (Some id))
 birth_at true r cell id parent over birth p count standing next is now =
-    let born = born_at r cell id parent over birth (kept_parent r parent) p count standing (next refl) refl is now in
+    let born = born_at r cell id parent over birth (kept_parent r parent) p count standing
+    (next refl) refl is now in
     (next refl, born.0, born.1)
 birth_at false r cell id parent over birth p count standing next is now = absurd cc
 
-end_at : (test : Bool) (r : Reader) (p : Place) (count : ℕ) (standing : List (Option ℕ)) → ◌≡◌ {A = Result Place Reason} (if test then Ok (After r) else Err BadOrder) (Ok p) → IsAt r count standing → IsPlaceAt p count standing
-end_at true r p count standing is now = subst (λ (q : Place). IsPlaceAt q count standing) (place_is (After r) p is) now
+end_at : (test : Bool) (r : Reader) (p : Place) (count : ℕ) (standing : List (Option ℕ))
+    → ◌≡◌ {A = Result Place Reason} (if test then Ok (After r) else Err BadOrder) (Ok p)
+    → IsAt r count standing → IsPlaceAt p count standing
+end_at true r p count standing is now =
+    subst (λ (q : Place). IsPlaceAt q count standing) (place_is (After r) p is) now
 end_at false r p count standing is now = absurd cc
 
 -- ---- what the lines that are left tell
@@ -151,7 +194,8 @@ record Follows (count : ℕ) (standing : List (Option ℕ)) (lines : List Line) 
   below : AreBelow (count + length (parents_in lines)) (standing_after standing lines)
   cells : length (standing_after standing lines) ≡ length standing
 
-nothing_follows : (count : ℕ) (standing : List (Option ℕ)) → AreBelow count standing → Follows count standing []
+nothing_follows : (count : ℕ) (standing : List (Option ℕ)) → AreBelow count standing
+    → Follows count standing []
 nothing_follows count standing below = record {
   older = λ i above is. absurd cc;
   early = λ id few. refl;
@@ -171,11 +215,21 @@ or_none : (o : Option ℕ) → option_or o None ≡ o
 or_none None = refl
 or_none (Some x) = refl
 
-older_still : (count : ℕ) (parent : Option ℕ) (parents others : List (Option ℕ)) → ((i : ℕ) → parent_at parents i ≡ parent_at (parent ∷ others) i) → ((above : ℕ) → parent ≡ Some above → above < count) → ((i above : ℕ) → parent_at others i ≡ Some above → above < count + 1 + i) → (i above : ℕ) → parent_at parents i ≡ Some above → above < count + i
-older_still count parent parents others at older later zero above is = let b = older above (sym (at 0) ∙ is) in omega arith
-older_still count parent parents others at older later (suc i) above is = let b = later i above (sym (at (suc i)) ∙ is) in omega arith
+older_still : (count : ℕ) (parent : Option ℕ) (parents others : List (Option ℕ))
+    → ((i : ℕ) → parent_at parents i ≡ parent_at (parent ∷ others) i)
+    → ((above : ℕ) → parent ≡ Some above → above < count)
+    → ((i above : ℕ) → parent_at others i ≡ Some above → above < count + 1 + i) → (i above : ℕ)
+    → parent_at parents i ≡ Some above → above < count + i
+older_still count parent parents others at older later zero above is =
+    let b = older above (sym (at 0) ∙ is) in omega arith
+older_still count parent parents others at older later (suc i) above is =
+    let b = later i above (sym (at (suc i)) ∙ is) in omega arith
 
-looked_still : (count : ℕ) (parent : Option ℕ) (parents others : List (Option ℕ)) (now later : ℕ → Option ℕ) → ((i : ℕ) → parent_at parents i ≡ parent_at (parent ∷ others) i) → ((id : ℕ) → count ≢ id → now id ≡ later id) → now count ≡ parent → ((i : ℕ) → later (count + 1 + i) ≡ parent_at others i) → (i : ℕ) → now (count + i) ≡ parent_at parents i
+looked_still : (count : ℕ) (parent : Option ℕ) (parents others : List (Option ℕ))
+    (now later : ℕ → Option ℕ) → ((i : ℕ) → parent_at parents i ≡ parent_at (parent ∷ others) i)
+    → ((id : ℕ) → count ≢ id → now id ≡ later id) → now count ≡ parent
+    → ((i : ℕ) → later (count + 1 + i) ≡ parent_at others i) → (i : ℕ)
+    → now (count + i) ≡ parent_at parents i
 looked_still count parent parents others now later at other here looked zero =
     let e : count + 0 ≡ count = omega arith in
     ap now e ∙ here ∙ sym (at 0)
@@ -187,116 +241,180 @@ either_way : (o : Option ℕ) (b : Bool) → o ≡ cond b o o
 either_way o true = refl
 either_way o false = refl
 
-founder_looked : (now : ℕ → Option ℕ) (parents : List (Option ℕ)) → now 0 ≡ None → ((i : ℕ) → now (1 + i) ≡ parent_at parents i) → (id : ℕ) → now id ≡ parent_at (None ∷ parents) id
+founder_looked : (now : ℕ → Option ℕ) (parents : List (Option ℕ)) → now 0 ≡ None
+    → ((i : ℕ) → now (1 + i) ≡ parent_at parents i) → (id : ℕ)
+    → now id ≡ parent_at (None ∷ parents) id
 founder_looked now parents founder looked zero = founder
-founder_looked now parents founder looked (suc i) = let e : suc i ≡ 1 + i = omega arith in ap now e ∙ looked i
+founder_looked now parents founder looked (suc i) =
+    let e : suc i ≡ 1 + i = omega arith in ap now e ∙ looked i
 
-founder_older : (parents : List (Option ℕ)) → ((i above : ℕ) → parent_at parents i ≡ Some above → above < 1 + i) → AreOlder (None ∷ parents)
+founder_older : (parents : List (Option ℕ))
+    → ((i above : ℕ) → parent_at parents i ≡ Some above → above < 1 + i) → AreOlder (None ∷ parents)
 founder_older parents older zero above is = absurd cc
 founder_older parents older (suc i) above is = let b = older i above is in omega arith
 
 -- a line by which nobody comes, and who stands in the cells after it
 stays : (count : ℕ) (standing next : List (Option ℕ)) (line : Line) (lines : List Line)
-    → newcomer line ≡ [] → newcomer_parent line ≡ [] → ((id : ℕ) → parent_told id line ≡ None) → standing_on standing line ≡ next → length next ≡ length standing
+    → newcomer line ≡ [] → newcomer_parent line ≡ [] → ((id : ℕ) → parent_told id line ≡ None)
+    → standing_on standing line ≡ next → length next ≡ length standing
     → Follows count next lines → Follows count standing (line ∷ lines)
 stays count standing next line lines nobody no_parent untold stands cells follows =
-    let parents : parents_in (line ∷ lines) ≡ parents_in lines = ap (λ (ps : List (Option ℕ)). ps ++ parents_in lines) no_parent in
-    let after : standing_after standing (line ∷ lines) ≡ standing_after next lines = ap (λ (slots : List (Option ℕ)). standing_after slots lines) stands in
-    let told : (id : ℕ) → parent_in (line ∷ lines) id ≡ parent_in lines id = λ id. ap (λ (o : Option ℕ). option_or o (parent_in lines id)) (untold id) in
+    let parents : parents_in (line ∷ lines) ≡ parents_in lines =
+    ap (λ (ps : List (Option ℕ)). ps ++ parents_in lines) no_parent in
+    let after : standing_after standing (line ∷ lines) ≡ standing_after next lines =
+    ap (λ (slots : List (Option ℕ)). standing_after slots lines) stands in
+    let told : (id : ℕ) → parent_in (line ∷ lines) id ≡ parent_in lines id =
+    λ id. ap (λ (o : Option ℕ). option_or o (parent_in lines id)) (untold id) in
     record {
-      older = λ i above is. follows.older i above (sym (ap (λ (ps : List (Option ℕ)). parent_at ps i) parents) ∙ is);
+      older = λ i above is. follows.older i above
+          (sym (ap (λ (ps : List (Option ℕ)). parent_at ps i) parents) ∙ is);
       early = λ id few. told id ∙ follows.early id few;
-      looked = λ i. told (count + i) ∙ follows.looked i ∙ sym (ap (λ (ps : List (Option ℕ)). parent_at ps i) parents);
-      ids = ap (λ (ids : List ℕ). ids ++ flat_map newcomer lines) nobody ∙ follows.ids ∙ sym (ap (λ (ps : List (Option ℕ)). range_with_len count (length ps)) parents);
+      looked = λ i. told (count + i) ∙ follows.looked i
+          ∙ sym (ap (λ (ps : List (Option ℕ)). parent_at ps i) parents);
+      ids = ap (λ (ids : List ℕ). ids ++ flat_map newcomer lines) nobody ∙ follows.ids
+          ∙ sym (ap (λ (ps : List (Option ℕ)). range_with_len count (length ps)) parents);
       below = λ cell id is.
-          let b = follows.below cell id (sym (ap (λ (slots : List (Option ℕ)). get_or slots cell None) after) ∙ is) in
+          let b = follows.below cell id
+          (sym (ap (λ (slots : List (Option ℕ)). get_or slots cell None) after) ∙ is) in
           let len = ap length parents in
           omega (arith, b, len);
       cells = ap length after ∙ follows.cells ∙ cells;
     }
 
 -- a line by which somebody comes, with the next id, of an older parent if of any
-comes : (count : ℕ) (standing next : List (Option ℕ)) (line : Line) (parent : Option ℕ) (lines : List Line)
-    → newcomer line ≡ count ∷ [] → newcomer_parent line ≡ parent ∷ [] → ((id : ℕ) → parent_told id line ≡ cond (eqb count id) parent None) → ((above : ℕ) → parent ≡ Some above → above < count) → standing_on standing line ≡ next → length next ≡ length standing
+comes : (count : ℕ) (standing next : List (Option ℕ)) (line : Line) (parent : Option ℕ)
+    (lines : List Line)
+    → newcomer line ≡ count ∷ [] → newcomer_parent line ≡ parent ∷ []
+    → ((id : ℕ) → parent_told id line ≡ cond (eqb count id) parent None)
+    → ((above : ℕ) → parent ≡ Some above → above < count) → standing_on standing line ≡ next
+    → length next ≡ length standing
     → Follows (count + 1) next lines → Follows count standing (line ∷ lines)
 comes count standing next line parent lines somebody its_parent told older stands cells follows =
-    let parents : parents_in (line ∷ lines) ≡ parent ∷ parents_in lines = ap (λ (ps : List (Option ℕ)). ps ++ parents_in lines) its_parent in
-    let after : standing_after standing (line ∷ lines) ≡ standing_after next lines = ap (λ (slots : List (Option ℕ)). standing_after slots lines) stands in
-    let at : (i : ℕ) → parent_at (parents_in (line ∷ lines)) i ≡ parent_at (parent ∷ parents_in lines) i = λ i. ap (λ (ps : List (Option ℕ)). parent_at ps i) parents in
-    let other : (id : ℕ) → count ≢ id → parent_in (line ∷ lines) id ≡ parent_in lines id = λ id apart.
-    ap (λ (o : Option ℕ). option_or o (parent_in lines id)) (told id ∙ ap (λ (b : Bool). cond b parent None) (eqb_apart count id apart)) in
+    let parents : parents_in (line ∷ lines) ≡ parent ∷ parents_in lines =
+    ap (λ (ps : List (Option ℕ)). ps ++ parents_in lines) its_parent in
+    let after : standing_after standing (line ∷ lines) ≡ standing_after next lines =
+    ap (λ (slots : List (Option ℕ)). standing_after slots lines) stands in
+    let at : (i : ℕ) → parent_at (parents_in (line ∷ lines)) i
+    ≡ parent_at (parent ∷ parents_in lines) i =
+    λ i. ap (λ (ps : List (Option ℕ)). parent_at ps i) parents in
+    let other : (id : ℕ) → count ≢ id → parent_in (line ∷ lines) id ≡ parent_in lines id =
+    λ id apart.
+    ap (λ (o : Option ℕ). option_or o (parent_in lines id))
+    (told id ∙ ap (λ (b : Bool). cond b parent None) (eqb_apart count id apart)) in
     record {
-      older = older_still count parent (parents_in (line ∷ lines)) (parents_in lines) at older follows.older;
+      older = older_still count parent (parents_in (line ∷ lines)) (parents_in lines) at older
+          follows.older;
       early = λ id few. other id (λ e. absurd (omega arith)) ∙ follows.early id (omega arith);
-      looked = looked_still count parent (parents_in (line ∷ lines)) (parents_in lines) (parent_in (line ∷ lines)) (parent_in lines) at other
-          (ap (λ (o : Option ℕ). option_or o (parent_in lines count)) (told count ∙ ap (λ (b : Bool). cond b parent None) (eqb_itself count))
+      looked = looked_still count parent (parents_in (line ∷ lines)) (parents_in lines)
+          (parent_in (line ∷ lines)) (parent_in lines) at other
+          (ap (λ (o : Option ℕ). option_or o (parent_in lines count))
+          (told count ∙ ap (λ (b : Bool). cond b parent None) (eqb_itself count))
           ∙ ap (option_or parent) (follows.early count (omega arith)) ∙ or_none parent)
           follows.looked;
-      ids = ap (λ (ids : List ℕ). ids ++ flat_map newcomer lines) somebody ∙ ap (λ (ids : List ℕ). count ∷ ids) follows.ids ∙ sym (ap (λ (ps : List (Option ℕ)). range_with_len count (length ps)) parents);
+      ids = ap (λ (ids : List ℕ). ids ++ flat_map newcomer lines) somebody
+          ∙ ap (λ (ids : List ℕ). count ∷ ids) follows.ids
+          ∙ sym (ap (λ (ps : List (Option ℕ)). range_with_len count (length ps)) parents);
       below = λ cell id is.
-          let b = follows.below cell id (sym (ap (λ (slots : List (Option ℕ)). get_or slots cell None) after) ∙ is) in
+          let b = follows.below cell id
+          (sym (ap (λ (slots : List (Option ℕ)). get_or slots cell None) after) ∙ is) in
           let len = ap length parents in
           omega (arith, b, len);
       cells = ap length after ∙ follows.cells ∙ cells;
     }
 
-set_cells : (slots : List (Option ℕ)) (cell : ℕ) (slot : Option ℕ) → length (set slots cell slot) ≡ length slots
+set_cells : (slots : List (Option ℕ)) (cell : ℕ) (slot : Option ℕ)
+    → length (set slots cell slot) ≡ length slots
 set_cells slots cell slot = length-set slots cell slot
 
 -- the lines from a place on, up to the end of the log
-follow : (p : Place) (lines : List Line) (q : Reader) (count : ℕ) (standing : List (Option ℕ)) → told_all p lines ≡ Ok (After q) → IsPlaceAt p count standing → Follows count standing lines
+follow : (p : Place) (lines : List Line) (q : Reader) (count : ℕ) (standing : List (Option ℕ))
+    → told_all p lines ≡ Ok (After q) → IsPlaceAt p count standing → Follows count standing lines
 unfolding told_death told_birth told_injected told_cleared told_rate told_count told_end
 follow Before [] q count standing is now = absurd now
 follow (Within r) [] q count standing is now = nothing_follows count standing now.below
 follow (After r) [] q count standing is now = nothing_follows count standing now.below
 follow Before (line ∷ lines) q count standing is now = absurd now
 follow (After r) (line ∷ lines) q count standing is now = absurd cc
-follow (Within r) (Start version width height cell genome ∷ lines) q count standing is now = absurd cc
+follow (Within r) (Start version width height cell genome ∷ lines) q count standing is now =
+    absurd cc
 follow (Within r) (Death id update cell ∷ lines) q count standing is now =
-    let step = went_on (told_within r (Death id update cell)) (λ p. told_all p lines) (After q) is in
-    let test = (update == r.due) && may_die r.stage cell && holds (slice_get r.standing cell) (Some id) in
-    let after = within_gives test (with_death r (Dying cell) cell id) step.0 count (set standing cell None) step.1 (λ _. death_at r (Dying cell) cell id count standing now) in
-    stays count standing (set standing cell None) (Death id update cell) lines refl refl (λ _. refl) refl (set_cells standing cell None) (follow step.0 lines q count (set standing cell None) step.2 after)
+    let step =
+    went_on (told_within r (Death id update cell)) (λ p. told_all p lines) (After q) is in
+    let test =
+    (update == r.due) && may_die r.stage cell && holds (slice_get r.standing cell) (Some id) in
+    let after = within_gives test (with_death r (Dying cell) cell id) step.0 count
+    (set standing cell None) step.1 (λ _. death_at r (Dying cell) cell id count standing now) in
+    stays count standing (set standing cell None) (Death id update cell) lines refl refl
+    (λ _. refl) refl (set_cells standing cell None)
+    (follow step.0 lines q count (set standing cell None) step.2 after)
 follow (Within r) (Birth id parent update cell over birth ∷ lines) q count standing is now =
-    let step = went_on (told_within r (Birth id parent update cell over birth)) (λ p. told_all p lines) (After q) is in
+    let step = went_on (told_within r (Birth id parent update cell over birth))
+    (λ p. told_all p lines) (After q) is in
     let a = update == r.due in
     let b = may_be_born r.stage in
     let d = holds (slice_get r.standing cell) over in
-    let born = birth_at (a && b && (id == length r.people) && d) r cell id parent over birth step.0 count standing (next_id a b d id count r.people now.as_many) step.1 now in
-    comes count standing (set standing cell (Some id)) (Birth id parent update cell over birth) (Some parent) lines
-    (ap (λ (n : ℕ). n ∷ []) born.0) refl (λ x. ap (λ (n : ℕ). cond (eqb n x) (Some parent) None) born.0)
+    let born = birth_at (a && b && (id == length r.people) && d) r cell id parent over birth step.0
+    count standing (next_id a b d id count r.people now.as_many) step.1 now in
+    comes count standing (set standing cell (Some id)) (Birth id parent update cell over birth)
+    (Some parent) lines
+    (ap (λ (n : ℕ). n ∷ []) born.0) refl
+    (λ x. ap (λ (n : ℕ). cond (eqb n x) (Some parent) None) born.0)
     (λ above same. let e : parent ≡ above = cc in subst (λ (n : ℕ). n < count) e born.1)
-    refl (set_cells standing cell (Some id)) (follow step.0 lines q (count + 1) (set standing cell (Some id)) step.2 born.2)
+    refl (set_cells standing cell (Some id))
+    (follow step.0 lines q (count + 1) (set standing cell (Some id)) step.2 born.2)
 follow (Within r) (Injected id update cell over genome ∷ lines) q count standing is now =
-    let step = went_on (told_within r (Injected id update cell over genome)) (λ p. told_all p lines) (After q) is in
+    let step = went_on (told_within r (Injected id update cell over genome)) (λ p. told_all p lines)
+    (After q) is in
     let a = r.version == 2 in
     let b = update == r.due in
     let d = holds (slice_get r.standing cell) over in
     let test = (a && b) && (id == length r.people) && d in
-    let next = next_id a b d id count r.people now.as_many (tested test (with_newcomer r Happening cell over genome r.births) step.0 step.1) in
-    let after = within_gives test (with_newcomer r Happening cell over genome r.births) step.0 (count + 1) (set standing cell (Some id)) step.1
+    let next = next_id a b d id count r.people now.as_many
+    (tested test (with_newcomer r Happening cell over genome r.births) step.0 step.1) in
+    let after = within_gives test (with_newcomer r Happening cell over genome r.births) step.0
+    (count + 1) (set standing cell (Some id)) step.1
     (λ _. newcomer_at r Happening cell id over genome r.births count standing next now) in
-    comes count standing (set standing cell (Some id)) (Injected id update cell over genome) None lines
-    (ap (λ (n : ℕ). n ∷ []) next) refl (λ x. either_way None (eqb count x)) (λ above same. absurd cc)
-    refl (set_cells standing cell (Some id)) (follow step.0 lines q (count + 1) (set standing cell (Some id)) step.2 after)
+    comes count standing (set standing cell (Some id)) (Injected id update cell over genome) None
+    lines
+    (ap (λ (n : ℕ). n ∷ []) next) refl (λ x. either_way None (eqb count x))
+    (λ above same. absurd cc)
+    refl (set_cells standing cell (Some id))
+    (follow step.0 lines q (count + 1) (set standing cell (Some id)) step.2 after)
 follow (Within r) (Cleared id update cell ∷ lines) q count standing is now =
-    let step = went_on (told_within r (Cleared id update cell)) (λ p. told_all p lines) (After q) is in
+    let step =
+    went_on (told_within r (Cleared id update cell)) (λ p. told_all p lines) (After q) is in
     let test = may_happen r update && holds (slice_get r.standing cell) (Some id) in
-    let after = within_gives test (with_death r Happening cell id) step.0 count (set standing cell None) step.1 (λ _. death_at r Happening cell id count standing now) in
-    stays count standing (set standing cell None) (Cleared id update cell) lines refl refl (λ _. refl) refl (set_cells standing cell None) (follow step.0 lines q count (set standing cell None) step.2 after)
+    let after = within_gives test (with_death r Happening cell id) step.0 count
+    (set standing cell None) step.1 (λ _. death_at r Happening cell id count standing now) in
+    stays count standing (set standing cell None) (Cleared id update cell) lines refl refl
+    (λ _. refl) refl (set_cells standing cell None)
+    (follow step.0 lines q count (set standing cell None) step.2 after)
 follow (Within r) (Rate update name ppm ∷ lines) q count standing is now =
-    let step = went_on (told_within r (Rate update name ppm)) (λ p. told_all p lines) (After q) is in
-    let after = within_gives (may_happen r update) (record r { stage = Happening }) step.0 count standing step.1 (λ _. record { as_many = now.as_many; same = now.same; below = now.below }) in
-    stays count standing standing (Rate update name ppm) lines refl refl (λ _. refl) refl refl (follow step.0 lines q count standing step.2 after)
+    let step =
+    went_on (told_within r (Rate update name ppm)) (λ p. told_all p lines) (After q) is in
+    let after = within_gives (may_happen r update) (record r { stage = Happening }) step.0 count
+    standing step.1 (λ _. record { as_many = now.as_many; same = now.same; below = now.below })
+    in
+    stays count standing standing (Rate update name ppm) lines refl refl (λ _. refl) refl refl
+    (follow step.0 lines q count standing step.2 after)
 follow (Within r) (Count s ∷ lines) q count standing is now =
     let step = went_on (told_within r (Count s)) (λ p. told_all p lines) (After q) is in
-    let test = (s.update == r.due) && (s.living == taken r.standing) && (s.births == r.births) && (s.deaths == length r.leaving) in
-    let after = within_gives test (renewed r) step.0 count standing step.1 (λ _. record { as_many = length_without r.leaving r.people ∙ now.as_many; same = now.same; below = now.below }) in
-    stays count standing standing (Count s) lines refl refl (λ _. refl) refl refl (follow step.0 lines q count standing step.2 after)
+    let test = (s.update == r.due) && (s.living == taken r.standing) && (s.births == r.births)
+    && (s.deaths == length r.leaving) in
+    let after = within_gives test (renewed r) step.0 count standing step.1
+    (λ _. record {
+      as_many = length_without r.leaving r.people ∙ now.as_many;
+      same = now.same;
+      below = now.below;
+    }) in
+    stays count standing standing (Count s) lines refl refl (λ _. refl) refl refl
+    (follow step.0 lines q count standing step.2 after)
 follow (Within r) (End updates ∷ lines) q count standing is now =
     let step = went_on (told_within r (End updates)) (λ p. told_all p lines) (After q) is in
-    let after = end_at (is_quiet r.stage && (updates + 1 == r.due)) r step.0 count standing step.1 now in
-    stays count standing standing (End updates) lines refl refl (λ _. refl) refl refl (follow step.0 lines q count standing step.2 after)
+    let after =
+    end_at (is_quiet r.stage && (updates + 1 == r.due)) r step.0 count standing step.1 now in
+    stays count standing standing (End updates) lines refl refl (λ _. refl) refl refl
+    (follow step.0 lines q count standing step.2 after)
 
 -- ---- a whole log
 
@@ -306,28 +424,43 @@ pub record IsToldBy (lines : List Line) : Type 0 where
   pub ids : flat_map newcomer lines ≡ range_with_len 0 (length (parents_in lines))
   pub sound : IsPedigree (parents_in lines) (standing_after [] lines)
 
-founded : (version width height cell : ℕ) (genome : List Letter) → IsAt (opened version (width * height) cell genome) 1 (standing_on [] (Start version width height cell genome))
+founded : (version width height cell : ℕ) (genome : List Letter)
+    → IsAt (opened version (width * height) cell genome) 1
+    (standing_on [] (Start version width height cell genome))
 founded version width height cell genome = record {
   as_many = refl;
   same = refl;
-  below = below_with 0 (nobody (width * height)) cell 0 refl (λ c id is. absurd (nobody_there (width * height) c id is));
+  below = below_with 0 (nobody (width * height)) cell 0 refl
+      (λ c id is. absurd (nobody_there (width * height) c id is));
 }
 
-start_told : (version width height cell : ℕ) (genome : List Letter) (lines : List Line) (q : Reader) → width ≤ 256 → height ≤ 256 → told_all Before (Start version width height cell genome ∷ lines) ≡ Ok (After q) → IsToldBy (Start version width height cell genome ∷ lines)
+start_told : (version width height cell : ℕ) (genome : List Letter) (lines : List Line) (q : Reader)
+    → width ≤ 256 → height ≤ 256 → told_all Before (Start version width height cell genome ∷ lines)
+    ≡ Ok (After q) → IsToldBy (Start version width height cell genome ∷ lines)
 unfolding told_start
 start_told version width height cell genome lines q w h is =
-    let step = went_on (told_start version width height cell genome) (λ p. told_all p lines) (After q) is in
+    let step = went_on (told_start version width height cell genome) (λ p. told_all p lines)
+    (After q) is in
     let slots = standing_on [] (Start version width height cell genome) in
-    let first = within_gives (nat_lt cell (width * height)) (opened version (width * height) cell genome) step.0 1 slots step.1 (λ _. founded version width height cell genome) in
+    let first = within_gives (nat_lt cell (width * height))
+    (opened version (width * height) cell genome) step.0 1 slots step.1
+    (λ _. founded version width height cell genome) in
     let rest = follow step.0 lines q 1 slots step.2 first in
     let few : width * height ≤ 65536 = mul-le-mul w h in
     record {
-      looked = founder_looked (parent_in lines) (parents_in lines) (rest.early 0 (omega arith)) rest.looked;
+      looked = founder_looked (parent_in lines) (parents_in lines) (rest.early 0 (omega arith))
+          rest.looked;
       ids = ap (λ (ids : List ℕ). 0 ∷ ids) rest.ids;
       sound = record {
         older = founder_older (parents_in lines) rest.older;
         among = λ c id there. let b = rest.below c id there in omega arith;
-        few = omega (arith, rest.cells, set_cells (nobody (width * height)) cell (Some 0), nobody_length (width * height), few);
+        few = omega (
+          arith,
+          rest.cells,
+          set_cells (nobody (width * height)) cell (Some 0),
+          nobody_length (width * height),
+          few,
+        );
       };
     }
 
@@ -337,9 +470,11 @@ whole_is (Ok (Within r)) whole = absurd whole
 whole_is (Ok (After r)) whole = (r, refl)
 whole_is (Err reason) whole = absurd whole
 
-told_by : (lines : List Line) (q : Reader) → IsGoodLog lines → told_all Before lines ≡ Ok (After q) → IsToldBy lines
+told_by : (lines : List Line) (q : Reader) → IsGoodLog lines → told_all Before lines ≡ Ok (After q)
+    → IsToldBy lines
 told_by [] q good is = absurd cc
-told_by (Start version width height cell genome ∷ lines) q good is = start_told version width height cell genome lines q good.forms.0.1.0.1 good.forms.0.1.1.0.1 is
+told_by (Start version width height cell genome ∷ lines) q good is =
+    start_told version width height cell genome lines q good.forms.0.1.0.1 good.forms.0.1.1.0.1 is
 told_by (Death id update cell ∷ lines) q good is = absurd cc
 told_by (Birth id parent update cell over birth ∷ lines) q good is = absurd cc
 told_by (Injected id update cell over genome ∷ lines) q good is = absurd cc
@@ -349,7 +484,8 @@ told_by (Count stats ∷ lines) q good is = absurd cc
 told_by (End updates ∷ lines) q good is = absurd cc
 
 pub good_tells : (lines : List Line) → IsGoodLog lines → IsToldBy lines
-good_tells lines good = let whole = whole_is (told_all Before lines) good.order in told_by lines whole.0 good whole.1
+good_tells lines good =
+    let whole = whole_is (told_all Before lines) good.order in told_by lines whole.0 good whole.1
 
 -- ---- who lives
 
@@ -363,23 +499,31 @@ seen_standing s (Rate update name ppm) = refl
 seen_standing s (Count stats) = refl
 seen_standing s (End updates) = refl
 
-seen_after : (s : Seen) (lines : List Line) → (seen_all s lines).standing ≡ standing_after s.standing lines
+seen_after : (s : Seen) (lines : List Line)
+    → (seen_all s lines).standing ≡ standing_after s.standing lines
 seen_after s [] = refl
-seen_after s (line ∷ lines) = seen_after (seen_on s line) lines ∙ ap (λ (slots : List (Option ℕ)). standing_after slots lines) (seen_standing s line)
+seen_after s (line ∷ lines) = seen_after (seen_on s line) lines
+    ∙ ap (λ (slots : List (Option ℕ)). standing_after slots lines) (seen_standing s line)
 
-dwellers : (cell : ℕ) (slots : List (Option ℕ)) (genomes : List (List Letter)) → living_from cell slots ≡ map dweller (residents_from cell slots genomes)
+dwellers : (cell : ℕ) (slots : List (Option ℕ)) (genomes : List (List Letter))
+    → living_from cell slots ≡ map dweller (residents_from cell slots genomes)
 dwellers cell [] genomes = refl
 dwellers cell (None ∷ slots) genomes = dwellers (suc cell) slots genomes
-dwellers cell (Some id ∷ slots) genomes = ap (λ (ds : List Dweller). record { cell = cell; id = id } ∷ ds) (dwellers (suc cell) slots genomes)
+dwellers cell (Some id ∷ slots) genomes =
+    ap (λ (ds : List Dweller). record { cell = cell; id = id } ∷ ds)
+    (dwellers (suc cell) slots genomes)
 
-living_is : (lines : List Line) → living_from 0 (standing_after [] lines) ≡ map dweller (replay_of lines)
+living_is : (lines : List Line)
+    → living_from 0 (standing_after [] lines) ≡ map dweller (replay_of lines)
 unfolding replay_of
 living_is lines =
     let none : Seen = record { standing = []; genomes = [] } in
-    ap (living_from 0) (sym (seen_after none lines)) ∙ dwellers 0 (seen_all none lines).standing (seen_all none lines).genomes
+    ap (living_from 0) (sym (seen_after none lines))
+    ∙ dwellers 0 (seen_all none lines).standing (seen_all none lines).genomes
 
 -- the lists that the lines make are the pedigree of the log
-pub pedigree_is : (lines : List Line) → IsToldBy lines → pedigree_with (parents_in lines) (standing_after [] lines) ≡ pedigree_of lines
+pub pedigree_is : (lines : List Line) → IsToldBy lines
+    → pedigree_with (parents_in lines) (standing_after [] lines) ≡ pedigree_of lines
 unfolding pedigree_of
 pedigree_is lines told = λ i. record {
   parent_of = λ id. sym (told.looked id) i;

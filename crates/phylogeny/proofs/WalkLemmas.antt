@@ -18,19 +18,23 @@ use Rattle.phylogeny.proofs.TokenLemmas.{handed, nothing_more, stops, stops-amon
 
 -- ---- lists of ids
 
-range_above : (least from len : ℕ) → least ≤ from → AllByRecursion (λ id. least ≤ id) (range_with_len from len)
+range_above : (least from len : ℕ) → least ≤ from
+    → AllByRecursion (λ id. least ≤ id) (range_with_len from len)
 range_above least from zero above = tt
 range_above least from (suc len) above = (above, range_above least (from + 1) len (omega arith))
 
-filter_all : (P : ℕ → Type 0) (p : ℕ → Bool) (xs : List ℕ) → AllByRecursion P xs → AllByRecursion P (filter p xs)
+filter_all : (P : ℕ → Type 0) (p : ℕ → Bool) (xs : List ℕ) → AllByRecursion P xs
+    → AllByRecursion P (filter p xs)
 filter_all P p [] all = tt
-filter_all P p (x ∷ xs) all = elim (p x) as (λ b. AllByRecursion P (cond b (x ∷ filter p xs) (filter p xs))) [
-  | true ↦ (all.0, filter_all P p xs all.1)
-  | false ↦ filter_all P p xs all.1
-]
+filter_all P p (x ∷ xs) all =
+    elim (p x) as (λ b. AllByRecursion P (cond b (x ∷ filter p xs) (filter p xs))) [
+      | true ↦ (all.0, filter_all P p xs all.1)
+      | false ↦ filter_all P p xs all.1
+    ]
 
 -- the greatest of some that are no less than one more
-greatest_more : (id : ℕ) (ids : List ℕ) → AllByRecursion (λ other. id ≤ other) ids → reduce max (id ∷ ids) ≡ option_or (reduce max ids) (Some id)
+greatest_more : (id : ℕ) (ids : List ℕ) → AllByRecursion (λ other. id ≤ other) ids
+    → reduce max (id ∷ ids) ≡ option_or (reduce max ids) (Some id)
 greatest_more id [] all = refl
 greatest_more id (other ∷ ids) all =
     let greater : max id other ≡ other = omega (arith, all.0) in
@@ -42,11 +46,13 @@ filter_yes p x xs kept = rw kept refl
 filter_no : (p : ℕ → Bool) (x : ℕ) (xs : List ℕ) → p x ≡ false → filter p (x ∷ xs) ≡ filter p xs
 filter_no p x xs left = rw left refl
 
-filter_length : (p : ℕ → Bool) (x : ℕ) (xs : List ℕ) → length (filter p (x ∷ xs)) ≡ length (filter p xs) + bit (p x)
-filter_length p x xs = elim (p x) as (λ b. length (cond b (x ∷ filter p xs) (filter p xs)) ≡ length (filter p xs) + bit b) [
-  | true ↦ omega arith
-  | false ↦ omega arith
-]
+filter_length : (p : ℕ → Bool) (x : ℕ) (xs : List ℕ)
+    → length (filter p (x ∷ xs)) ≡ length (filter p xs) + bit (p x)
+filter_length p x xs = elim (p x) as
+    (λ b. length (cond b (x ∷ filter p xs) (filter p xs)) ≡ length (filter p xs) + bit b) [
+      | true ↦ omega arith
+      | false ↦ omega arith
+    ]
 
 bit_few : (b : Bool) → bit b ≤ 1
 bit_few true = omega arith
@@ -54,13 +60,24 @@ bit_few false = omega arith
 
 filter_few : (p : ℕ → Bool) (from len : ℕ) → length (filter p (range_with_len from len)) ≤ len
 filter_few p from zero = omega arith
-filter_few p from (suc len) = omega (arith, filter_few p (from + 1) len, filter_length p from (range_with_len (from + 1) len), bit_few (p from))
+filter_few p from (suc len) =
+    omega (
+      arith,
+      filter_few p (from + 1) len,
+      filter_length p from (range_with_len (from + 1) len),
+      bit_few (p from),
+    )
 
-greatest_filtered : (p : ℕ → Bool) (id : ℕ) (ids : List ℕ) → AllByRecursion (λ other. id ≤ other) ids → reduce max (filter p (id ∷ ids)) ≡ cond (p id) (option_or (reduce max (filter p ids)) (Some id)) (reduce max (filter p ids))
-greatest_filtered p id ids all = elim (p id) as (λ b. reduce max (cond b (id ∷ filter p ids) (filter p ids)) ≡ cond b (option_or (reduce max (filter p ids)) (Some id)) (reduce max (filter p ids))) [
-  | true ↦ greatest_more id (filter p ids) (filter_all (λ other. id ≤ other) p ids all)
-  | false ↦ refl
-]
+greatest_filtered : (p : ℕ → Bool) (id : ℕ) (ids : List ℕ)
+    → AllByRecursion (λ other. id ≤ other) ids
+    → reduce max (filter p (id ∷ ids))
+    ≡ cond (p id) (option_or (reduce max (filter p ids)) (Some id)) (reduce max (filter p ids))
+greatest_filtered p id ids all =
+    elim (p id) as (λ b. reduce max (cond b (id ∷ filter p ids) (filter p ids))
+    ≡ cond b (option_or (reduce max (filter p ids)) (Some id)) (reduce max (filter p ids))) [
+      | true ↦ greatest_more id (filter p ids) (filter_all (λ other. id ≤ other) p ids all)
+      | false ↦ refl
+    ]
 
 -- one id more is kept: with these many children, and common to all or not
 pub record Keeps (id children : ℕ) (shared : Bool) (old new : Shape) : Type 0 where
@@ -88,60 +105,84 @@ module _ (parents standing : List (Option ℕ)) where
     pub as_many : length descendants ≡ length parents
     pub as_many_children : length children ≡ length parents
     pub descendants_at : (id : ℕ) → id < bound → get_or descendants id 0 ≡ stopped bound id
-    pub children_at : (id : ℕ) → id < bound → get_or children id 0 ≡ count_by (is_child tree id) (kept_from bound)
+    pub children_at : (id : ℕ) → id < bound
+        → get_or children id 0 ≡ count_by (is_child tree id) (kept_from bound)
     pub common_is : shape.common ≡ reduce max (filter (is_common tree) (kept_from bound))
     pub kept_is : shape.kept ≡ length (kept_from bound)
     pub branches_is : shape.branches ≡ length (filter (is_branch tree) (kept_from bound))
 
-  range_next : (bound : ℕ) → bound < length parents → range_with_len bound (length parents - bound) ≡ bound ∷ range_with_len (bound + 1) (length parents - (bound + 1))
+  range_next : (bound : ℕ) → bound < length parents
+      → range_with_len bound (length parents - bound)
+      ≡ bound ∷ range_with_len (bound + 1) (length parents - (bound + 1))
   range_next bound within =
       let e : length parents - bound ≡ suc (length parents - (bound + 1)) = omega arith in
       ap (range_with_len bound) e
 
-  kept_yes : (bound : ℕ) → bound < length parents → is_kept tree bound ≡ true → kept_from bound ≡ bound ∷ kept_from (bound + 1)
-  kept_yes bound within kept = ap (filter (is_kept tree)) (range_next bound within) ∙ filter_yes (is_kept tree) bound (range_with_len (bound + 1) (length parents - (bound + 1))) kept
+  kept_yes : (bound : ℕ) → bound < length parents → is_kept tree bound ≡ true
+      → kept_from bound ≡ bound ∷ kept_from (bound + 1)
+  kept_yes bound within kept = ap (filter (is_kept tree)) (range_next bound within)
+      ∙ filter_yes (is_kept tree) bound (range_with_len (bound + 1) (length parents - (bound + 1)))
+      kept
 
-  kept_no : (bound : ℕ) → bound < length parents → is_kept tree bound ≡ false → kept_from bound ≡ kept_from (bound + 1)
-  kept_no bound within left = ap (filter (is_kept tree)) (range_next bound within) ∙ filter_no (is_kept tree) bound (range_with_len (bound + 1) (length parents - (bound + 1))) left
+  kept_no : (bound : ℕ) → bound < length parents → is_kept tree bound ≡ false
+      → kept_from bound ≡ kept_from (bound + 1)
+  kept_no bound within left = ap (filter (is_kept tree)) (range_next bound within)
+      ∙ filter_no (is_kept tree) bound (range_with_len (bound + 1) (length parents - (bound + 1)))
+      left
 
   kept_above : (bound : ℕ) → AllByRecursion (λ id. bound ≤ id) (kept_from (bound + 1))
-  kept_above bound = filter_all (λ id. bound ≤ id) (is_kept tree) (range_with_len (bound + 1) (length parents - (bound + 1))) (range_above bound (bound + 1) (length parents - (bound + 1)) (omega arith))
+  kept_above bound = filter_all (λ id. bound ≤ id) (is_kept tree)
+      (range_with_len (bound + 1) (length parents - (bound + 1)))
+      (range_above bound (bound + 1) (length parents - (bound + 1)) (omega arith))
 
   pub kept_few : (bound : ℕ) → length (kept_from bound) ≤ length parents - bound
   kept_few bound = filter_few (is_kept tree) bound (length parents - bound)
 
   -- no more are counted anywhere than live
   pub stopped_few : (bound id : ℕ) → stopped bound id ≤ length everybody
-  stopped_few bound id = count_by-le-length (λ who. stops bound id (ancestors_of tree who.id)) everybody
+  stopped_few bound id =
+      count_by-le-length (λ who. stops bound id (ancestors_of tree who.id)) everybody
 
-  kept_is_all : kept_of tree ≡ kept_from 0
+  pub kept_is_all : kept_of tree ≡ kept_from 0
   unfolding kept_of
   kept_is_all = ap (λ (n : ℕ). filter (is_kept tree) (range_with_len 0 n)) (omega arith)
 
   module _ (older : AreOlder parents) where
     -- all who descend from an id are counted there when the walk comes to it
     pub stopped_here : (id : ℕ) → stopped (id + 1) id ≡ count_by (descends_from tree id) everybody
-    stopped_here id = count_same (λ who. stops (id + 1) id (ancestors_of tree who.id)) (descends_from tree id) (λ who. stops-among (parent_at parents) older who.id who.id id) everybody
+    stopped_here id = count_same (λ who. stops (id + 1) id (ancestors_of tree who.id))
+        (descends_from tree id) (λ who. stops-among (parent_at parents) older who.id who.id id)
+        everybody
 
     kept_test : (id : ℕ) → is_kept tree id ≡ ltb 0 (stopped (id + 1) id)
-    kept_test id = any_counted (descends_from tree id) everybody ∙ ap (ltb 0) (sym (stopped_here id))
+    kept_test id =
+        any_counted (descends_from tree id) everybody ∙ ap (ltb 0) (sym (stopped_here id))
 
     common_test : (id : ℕ) → is_common tree id ≡ eqb (stopped (id + 1) id) (length everybody)
-    common_test id = all_counted (descends_from tree id) everybody ∙ ap (λ (n : ℕ). eqb n (length everybody)) (sym (stopped_here id))
+    common_test id = all_counted (descends_from tree id) everybody
+        ∙ ap (λ (n : ℕ). eqb n (length everybody)) (sym (stopped_here id))
 
-    stopped_next : (bound id : ℕ) → id < bound → stopped bound id ≡ stopped (bound + 1) id + cond (is_child tree id bound) (stopped (bound + 1) bound) 0
+    stopped_next : (bound id : ℕ) → id < bound
+        → stopped bound id ≡ stopped (bound + 1) id + cond (is_child tree id bound)
+        (stopped (bound + 1) bound) 0
     stopped_next bound id below =
-        count_handed (λ who. stops bound id (ancestors_of tree who.id)) (λ who. stops (bound + 1) id (ancestors_of tree who.id)) (λ who. stops (bound + 1) bound (ancestors_of tree who.id)) (is_child tree id bound)
-        (λ who. handed (parent_at parents) older who.id who.id bound id (omega arith) below) everybody
+        count_handed (λ who. stops bound id (ancestors_of tree who.id))
+        (λ who. stops (bound + 1) id (ancestors_of tree who.id))
+        (λ who. stops (bound + 1) bound (ancestors_of tree who.id)) (is_child tree id bound)
+        (λ who. handed (parent_at parents) older who.id who.id bound id (omega arith) below)
+        everybody
 
     -- no id up to this one is a child of it
     not_child : (id child : ℕ) → child ≤ id → is_child tree id child ≡ false
-    not_child id child within = (elim (parent_at parents child) as (λ o. parent_at parents child ≡ o → option_map_or (λ above. eqb above id) o false ≡ false) [
-      | None ↦ λ is. refl
-      | Some above ↦ λ is. let lower = older child above is in grind (arith, nat_tests)
-    ]) refl
+    not_child id child within =
+        (elim (parent_at parents child) as
+        (λ o. parent_at parents child ≡ o → option_map_or (λ above. eqb above id) o false ≡ false) [
+          | None ↦ λ is. refl
+          | Some above ↦ λ is. let lower = older child above is in grind (arith, nat_tests)
+        ]) refl
 
-    children_from : (id bound : ℕ) → bound ≤ id + 1 → bound ≤ length parents → count_by (is_child tree id) (kept_from 0) ≡ count_by (is_child tree id) (kept_from bound)
+    children_from : (id bound : ℕ) → bound ≤ id + 1 → bound ≤ length parents
+        → count_by (is_child tree id) (kept_from 0) ≡ count_by (is_child tree id) (kept_from bound)
     children_from id zero few within = refl
     children_from id (suc bound) few within =
         children_from id bound (omega arith) (omega arith)
@@ -149,21 +190,29 @@ module _ (parents standing : List (Option ℕ)) where
           | inl kept ↦
               ap (count_by (is_child tree id)) (kept_yes bound (omega arith) kept)
               ∙ count_cons (is_child tree id) bound (kept_from (bound + 1))
-              ∙ ap (λ (b : Bool). bit b + count_by (is_child tree id) (kept_from (bound + 1))) (not_child id bound (omega arith))
-              ∙ (let e : 0 + count_by (is_child tree id) (kept_from (bound + 1)) ≡ count_by (is_child tree id) (kept_from (bound + 1)) = omega arith in e)
+              ∙ ap (λ (b : Bool). bit b + count_by (is_child tree id) (kept_from (bound + 1)))
+              (not_child id bound (omega arith))
+              ∙ (let e : 0 + count_by (is_child tree id) (kept_from (bound + 1))
+              ≡ count_by (is_child tree id) (kept_from (bound + 1)) = omega arith in e)
               ∙ ap (λ (n : ℕ). count_by (is_child tree id) (kept_from n)) (add-one bound)
           | inr left ↦
               ap (count_by (is_child tree id)) (kept_no bound (omega arith) left)
               ∙ ap (λ (n : ℕ). count_by (is_child tree id) (kept_from n)) (add-one bound)
         ]
 
-    branch_test : (id : ℕ) → id < length parents → is_branch tree id ≡ nat_le 2 (count_by (is_child tree id) (kept_from (id + 1)))
-    branch_test id within = ap (nat_le 2) (ap (count_by (is_child tree id)) kept_is_all ∙ children_from id (id + 1) (omega arith) (omega arith))
+    branch_test : (id : ℕ) → id < length parents
+        → is_branch tree id ≡ nat_le 2 (count_by (is_child tree id) (kept_from (id + 1)))
+    branch_test id within = ap (nat_le 2)
+        (ap (count_by (is_child tree id)) kept_is_all
+        ∙ children_from id (id + 1) (omega arith) (omega arith))
 
     -- nobody who lives descends from an id
-    pub walked_over : (id : ℕ) (descendants children : List ℕ) (shape : Shape) → id < length parents → get_or descendants id 0 ≡ 0 → IsWalked (id + 1) descendants children shape → IsWalked id descendants children shape
+    pub walked_over : (id : ℕ) (descendants children : List ℕ) (shape : Shape) → id < length parents
+        → get_or descendants id 0 ≡ 0 → IsWalked (id + 1) descendants children shape
+        → IsWalked id descendants children shape
     walked_over id descendants children shape within none walked =
-        let nobody : stopped (id + 1) id ≡ 0 = sym (walked.descendants_at id (omega arith)) ∙ none in
+        let nobody : stopped (id + 1) id ≡ 0 =
+        sym (walked.descendants_at id (omega arith)) ∙ none in
         let left : is_kept tree id ≡ false = kept_test id ∙ ap (ltb 0) nobody in
         let same = sym (kept_no id within left) in
         record {
@@ -171,27 +220,40 @@ module _ (parents standing : List (Option ℕ)) where
           as_many_children = walked.as_many_children;
           descendants_at = λ other below.
               walked.descendants_at other (omega arith)
-              ∙ sym (stopped_next id other below ∙ ap (λ (n : ℕ). stopped (id + 1) other + cond (is_child tree other id) n 0) nobody ∙ nothing_more (stopped (id + 1) other) (is_child tree other id));
-          children_at = λ other below. walked.children_at other (omega arith) ∙ ap (count_by (is_child tree other)) same;
-          common_is = walked.common_is ∙ ap (λ (ids : List ℕ). reduce max (filter (is_common tree) ids)) same;
+              ∙ sym (stopped_next id other below
+              ∙ ap (λ (n : ℕ). stopped (id + 1) other + cond (is_child tree other id) n 0)
+              nobody ∙ nothing_more (stopped (id + 1) other) (is_child tree other id));
+          children_at = λ other below. walked.children_at other (omega arith)
+              ∙ ap (count_by (is_child tree other)) same;
+          common_is = walked.common_is
+              ∙ ap (λ (ids : List ℕ). reduce max (filter (is_common tree) ids)) same;
           kept_is = walked.kept_is ∙ ap length same;
-          branches_is = walked.branches_is ∙ ap (λ (ids : List ℕ). length (filter (is_branch tree) ids)) same;
+          branches_is =
+              walked.branches_is ∙ ap (λ (ids : List ℕ). length (filter (is_branch tree) ids)) same;
         }
 
-    module _ (id : ℕ) (descendants children : List ℕ) (old new : Shape) (within : id < length parents) (some : 0 < get_or descendants id 0) (walked : IsWalked (id + 1) descendants children old) (keeps : Keeps id (get_or children id 0) (eqb (get_or descendants id 0) (length everybody)) old new) where
+    module _ (id : ℕ) (descendants children : List ℕ) (old new : Shape)
+        (within : id < length parents) (some : 0 < get_or descendants id 0)
+        (walked : IsWalked (id + 1) descendants children old)
+        (keeps : Keeps id (get_or children id 0) (eqb (get_or descendants id 0) (length everybody))
+        old new) where
       here_is : get_or descendants id 0 ≡ stopped (id + 1) id
       here_is = walked.descendants_at id (omega arith)
 
       kept_here : kept_from id ≡ id ∷ kept_from (id + 1)
       kept_here =
-          let more : ltb 0 (stopped (id + 1) id) ≡ true = ap (ltb 0) (sym here_is) ∙ grind (arith, nat_tests) in
+          let more : ltb 0 (stopped (id + 1) id) ≡ true =
+          ap (ltb 0) (sym here_is) ∙ grind (arith, nat_tests) in
           kept_yes id within (kept_test id ∙ more)
 
       common_here : new.common ≡ reduce max (filter (is_common tree) (kept_from id))
       common_here =
           keeps.common
-          ∙ (λ i. cond (eqb (here_is i) (length everybody)) (option_or (walked.common_is i) (Some id)) (walked.common_is i))
-          ∙ ap (λ (b : Bool). cond b (option_or (reduce max (filter (is_common tree) (kept_from (id + 1)))) (Some id)) (reduce max (filter (is_common tree) (kept_from (id + 1))))) (sym (common_test id))
+          ∙ (λ i. cond (eqb (here_is i) (length everybody))
+          (option_or (walked.common_is i) (Some id)) (walked.common_is i))
+          ∙ ap (λ (b : Bool). cond b
+          (option_or (reduce max (filter (is_common tree) (kept_from (id + 1)))) (Some id))
+          (reduce max (filter (is_common tree) (kept_from (id + 1))))) (sym (common_test id))
           ∙ sym (greatest_filtered (is_common tree) id (kept_from (id + 1)) (kept_above id))
           ∙ ap (λ (ids : List ℕ). reduce max (filter (is_common tree) ids)) (sym kept_here)
 
@@ -202,16 +264,22 @@ module _ (parents standing : List (Option ℕ)) where
       branches_here =
           keeps.branches
           ∙ (λ i. walked.branches_is i + bit (nat_le 2 (walked.children_at id (omega arith) i)))
-          ∙ ap (λ (b : Bool). length (filter (is_branch tree) (kept_from (id + 1))) + bit b) (sym (branch_test id within))
+          ∙ ap (λ (b : Bool). length (filter (is_branch tree) (kept_from (id + 1))) + bit b)
+          (sym (branch_test id within))
           ∙ sym (filter_length (is_branch tree) id (kept_from (id + 1)))
           ∙ ap (λ (ids : List ℕ). length (filter (is_branch tree) ids)) (sym kept_here)
 
-      descendants_next : (other : ℕ) → other < id → stopped id other ≡ get_or descendants other 0 + cond (is_child tree other id) (get_or descendants id 0) 0
+      descendants_next : (other : ℕ) → other < id
+          → stopped id other ≡ get_or descendants other 0 + cond (is_child tree other id)
+          (get_or descendants id 0) 0
       descendants_next other below =
           stopped_next id other below
-          ∙ (λ i. sym (walked.descendants_at other (omega arith)) i + cond (is_child tree other id) (sym here_is i) 0)
+          ∙ (λ i. sym (walked.descendants_at other (omega arith)) i + cond (is_child tree other id)
+          (sym here_is i) 0)
 
-      children_next : (other : ℕ) → other < id → count_by (is_child tree other) (kept_from id) ≡ get_or children other 0 + bit (is_child tree other id)
+      children_next : (other : ℕ) → other < id
+          → count_by (is_child tree other) (kept_from id)
+          ≡ get_or children other 0 + bit (is_child tree other id)
       children_next other below =
           ap (count_by (is_child tree other)) kept_here
           ∙ count_cons (is_child tree other) id (kept_from (id + 1))
@@ -224,38 +292,63 @@ module _ (parents standing : List (Option ℕ)) where
         as_many = walked.as_many;
         as_many_children = walked.as_many_children;
         descendants_at = λ other below.
-            sym (descendants_next other below ∙ ap (λ (b : Bool). get_or descendants other 0 + cond b (get_or descendants id 0) 0) (not_of other) ∙ omega arith);
+            sym (descendants_next other below
+            ∙ ap (λ (b : Bool). get_or descendants other 0 + cond b (get_or descendants id 0) 0)
+            (not_of other) ∙ omega arith);
         children_at = λ other below.
-            sym (children_next other below ∙ ap (λ (b : Bool). get_or children other 0 + bit b) (not_of other) ∙ omega arith);
+            sym (children_next other below
+            ∙ ap (λ (b : Bool). get_or children other 0 + bit b) (not_of other) ∙ omega arith);
         common_is = common_here;
         kept_is = length_here;
         branches_is = branches_here;
       }
         where
           not_of : (other : ℕ) → is_child tree other id ≡ false
-          not_of other = ap (λ (o : Option ℕ). option_map_or (λ above. eqb above other) o false) founder
+          not_of other =
+              ap (λ (o : Option ℕ). option_map_or (λ above. eqb above other) o false) founder
 
       -- anybody else hands on to its parent
-      pub walked_child : (above : ℕ) → parent_at parents id ≡ Some above → IsWalked id (set descendants above (get_or descendants above 0 + get_or descendants id 0)) (set children above (get_or children above 0 + 1)) new
+      pub walked_child : (above : ℕ) → parent_at parents id ≡ Some above
+          → IsWalked id (set descendants above
+          (get_or descendants above 0 + get_or descendants id 0))
+          (set children above (get_or children above 0 + 1)) new
       walked_child above is = record {
-        as_many = length-set descendants above (get_or descendants above 0 + get_or descendants id 0) ∙ walked.as_many;
-        as_many_children = length-set children above (get_or children above 0 + 1) ∙ walked.as_many_children;
+        as_many = length-set descendants above
+            (get_or descendants above 0 + get_or descendants id 0) ∙ walked.as_many;
+        as_many_children =
+            length-set children above (get_or children above 0 + 1) ∙ walked.as_many_children;
         descendants_at = λ other below. elim (eqb_tells above other) [
           | inl same ↦
-              ap (get_or (set descendants above (get_or descendants above 0 + get_or descendants id 0)) other) refl
-              ∙ subst (λ (k : ℕ). get_or (set descendants above (get_or descendants above 0 + get_or descendants id 0)) k 0 ≡ get_or descendants k 0 + get_or descendants id 0) same.1 (get_or-set_same descendants above (get_or descendants above 0 + get_or descendants id 0) 0 there)
-              ∙ sym (descendants_next other below ∙ ap (λ (b : Bool). get_or descendants other 0 + cond b (get_or descendants id 0) 0) (child_is other ∙ same.0))
+              ap (get_or (set descendants above
+              (get_or descendants above 0 + get_or descendants id 0)) other) refl
+              ∙ subst (λ (k : ℕ). get_or
+              (set descendants above (get_or descendants above 0 + get_or descendants id 0)) k 0
+              ≡ get_or descendants k 0 + get_or descendants id 0) same.1
+              (get_or-set_same descendants above
+              (get_or descendants above 0 + get_or descendants id 0) 0 there)
+              ∙ sym (descendants_next other below
+              ∙ ap (λ (b : Bool). get_or descendants other 0 + cond b (get_or descendants id 0)
+              0) (child_is other ∙ same.0))
           | inr apart ↦
-              get_or-set_other descendants above other (get_or descendants above 0 + get_or descendants id 0) 0 (λ e. apart.1 (sym e))
-              ∙ sym (descendants_next other below ∙ ap (λ (b : Bool). get_or descendants other 0 + cond b (get_or descendants id 0) 0) (child_is other ∙ apart.0) ∙ omega arith)
+              get_or-set_other descendants above other
+              (get_or descendants above 0 + get_or descendants id 0) 0 (λ e. apart.1 (sym e))
+              ∙ sym (descendants_next other below
+              ∙ ap (λ (b : Bool). get_or descendants other 0 + cond b (get_or descendants id 0)
+              0) (child_is other ∙ apart.0) ∙ omega arith)
         ];
         children_at = λ other below. elim (eqb_tells above other) [
           | inl same ↦
-              subst (λ (k : ℕ). get_or (set children above (get_or children above 0 + 1)) k 0 ≡ get_or children k 0 + 1) same.1 (get_or-set_same children above (get_or children above 0 + 1) 0 there_too)
-              ∙ sym (children_next other below ∙ ap (λ (b : Bool). get_or children other 0 + bit b) (child_is other ∙ same.0))
+              subst (λ (k : ℕ). get_or (set children above (get_or children above 0 + 1)) k 0
+              ≡ get_or children k 0 + 1) same.1
+              (get_or-set_same children above (get_or children above 0 + 1) 0 there_too)
+              ∙ sym (children_next other below
+              ∙ ap (λ (b : Bool). get_or children other 0 + bit b) (child_is other ∙ same.0))
           | inr apart ↦
-              get_or-set_other children above other (get_or children above 0 + 1) 0 (λ e. apart.1 (sym e))
-              ∙ sym (children_next other below ∙ ap (λ (b : Bool). get_or children other 0 + bit b) (child_is other ∙ apart.0) ∙ omega arith)
+              get_or-set_other children above other (get_or children above 0 + 1) 0
+              (λ e. apart.1 (sym e))
+              ∙ sym (children_next other below
+              ∙ ap (λ (b : Bool). get_or children other 0 + bit b) (child_is other ∙ apart.0)
+              ∙ omega arith)
         ];
         common_is = common_here;
         kept_is = length_here;
@@ -275,62 +368,106 @@ module _ (parents standing : List (Option ℕ)) where
           child_is other = ap (λ (o : Option ℕ). option_map_or (λ a. eqb a other) o false) is
 
     -- what is counted stays within the numbers of those who live and of the ids
-    pub descendants_few : (id above : ℕ) (descendants children : List ℕ) (shape : Shape) → parent_at parents id ≡ Some above → IsWalked (id + 1) descendants children shape → get_or descendants above 0 + get_or descendants id 0 ≤ length everybody
+    pub descendants_few : (id above : ℕ) (descendants children : List ℕ) (shape : Shape)
+        → parent_at parents id ≡ Some above → IsWalked (id + 1) descendants children shape
+        → get_or descendants above 0 + get_or descendants id 0 ≤ length everybody
     descendants_few id above descendants children shape is walked =
         let lower = older id above is in
-        let child : is_child tree above id ≡ true = ap (λ (o : Option ℕ). option_map_or (λ a. eqb a above) o false) is ∙ grind (arith, nat_tests) in
-        let next = stopped_next id above lower ∙ ap (λ (b : Bool). stopped (id + 1) above + cond b (stopped (id + 1) id) 0) child in
-        omega (arith, next, stopped_few id above, walked.descendants_at above (omega (arith, lower)), walked.descendants_at id (omega arith))
+        let child : is_child tree above id ≡ true =
+        ap (λ (o : Option ℕ). option_map_or (λ a. eqb a above) o false) is
+        ∙ grind (arith, nat_tests) in
+        let next = stopped_next id above lower
+        ∙ ap (λ (b : Bool). stopped (id + 1) above + cond b (stopped (id + 1) id) 0) child in
+        omega (
+          arith,
+          next,
+          stopped_few id above,
+          walked.descendants_at above (omega (arith, lower)),
+          walked.descendants_at id (omega arith),
+        )
 
-    pub children_few : (id above : ℕ) (descendants children : List ℕ) (shape : Shape) → parent_at parents id ≡ Some above → IsWalked (id + 1) descendants children shape → get_or children above 0 ≤ length parents - (id + 1)
+    pub children_few : (id above : ℕ) (descendants children : List ℕ) (shape : Shape)
+        → parent_at parents id ≡ Some above → IsWalked (id + 1) descendants children shape
+        → get_or children above 0 ≤ length parents - (id + 1)
     children_few id above descendants children shape is walked =
         let lower = older id above is in
-        omega (arith, walked.children_at above (omega (arith, lower)), count_by-le-length (is_child tree above) (kept_from (id + 1)), kept_few (id + 1))
+        omega (
+          arith,
+          walked.children_at above (omega (arith, lower)),
+          count_by-le-length (is_child tree above) (kept_from (id + 1)),
+          kept_few (id + 1),
+        )
 
-  pub shape_few : (bound : ℕ) (descendants children : List ℕ) (shape : Shape) → IsWalked bound descendants children shape → (shape.kept ≤ length parents - bound) × (shape.branches ≤ shape.kept)
+  pub shape_few : (bound : ℕ) (descendants children : List ℕ) (shape : Shape)
+      → IsWalked bound descendants children shape → (shape.kept ≤ length parents - bound)
+      × (shape.branches ≤ shape.kept)
   shape_few bound descendants children shape walked = (
     omega (arith, walked.kept_is, kept_few bound),
-    omega (arith, walked.kept_is, walked.branches_is, length-filter (is_branch tree) (kept_from bound), count_by-le-length (is_branch tree) (kept_from bound)),
+    omega (
+      arith,
+      walked.kept_is,
+      walked.branches_is,
+      length-filter (is_branch tree) (kept_from bound),
+      count_by-le-length (is_branch tree) (kept_from bound),
+    ),
   )
 
   -- before the walk each who lives is counted at its own id
-  stopped_first : (bound id cell : ℕ) (slots : List (Option ℕ)) → ((k who : ℕ) → get_or slots k None ≡ Some who → who < bound) → count_by (λ who. stops bound id (ancestors_of tree who.id)) (living_from cell slots) ≡ here id (living_from cell slots)
+  stopped_first : (bound id cell : ℕ) (slots : List (Option ℕ))
+      → ((k who : ℕ) → get_or slots k None ≡ Some who → who < bound)
+      → count_by (λ who. stops bound id (ancestors_of tree who.id)) (living_from cell slots)
+      ≡ here id (living_from cell slots)
   stopped_first bound id cell [] below = refl
-  stopped_first bound id cell (None ∷ slots) below = stopped_first bound id (suc cell) slots (λ k who is. below (suc k) who is)
+  stopped_first bound id cell (None ∷ slots) below =
+      stopped_first bound id (suc cell) slots (λ k who is. below (suc k) who is)
   stopped_first bound id cell (Some who ∷ slots) below =
       let h = line_head (parent_at parents) who who in
-      let at_itself : stops bound id (ancestors_of tree who) ≡ eqb who id = ap (stops bound id) h.1 ∙ stops_here bound id who h.0 (below zero who refl) in
-      count_cons (λ w. stops bound id (ancestors_of tree w.id)) (dweller_at cell who) (living_from (suc cell) slots)
-      ∙ (λ i. bit (at_itself i) + stopped_first bound id (suc cell) slots (λ k w is. below (suc k) w is) i)
+      let at_itself : stops bound id (ancestors_of tree who) ≡ eqb who id =
+      ap (stops bound id) h.1 ∙ stops_here bound id who h.0 (below zero who refl) in
+      count_cons (λ w. stops bound id (ancestors_of tree w.id)) (dweller_at cell who)
+      (living_from (suc cell) slots)
+      ∙ (λ i. bit (at_itself i) + stopped_first bound id (suc cell) slots
+      (λ k w is. below (suc k) w is) i)
       ∙ sym (count_cons (λ w. eqb w.id id) (dweller_at cell who) (living_from (suc cell) slots))
 
   none_kept : (bound : ℕ) → length parents ≤ bound → kept_from bound ≡ []
-  none_kept bound past = let e : length parents - bound ≡ 0 = omega arith in ap (λ (n : ℕ). filter (is_kept tree) (range_with_len bound n)) e
+  none_kept bound past = let e : length parents - bound ≡ 0 = omega arith in
+      ap (λ (n : ℕ). filter (is_kept tree) (range_with_len bound n)) e
 
-  pub walked_start : (bound : ℕ) (descendants children : List ℕ) (shape : Shape) → bound ≡ length parents → AreBelow (length parents) standing → length descendants ≡ length parents → length children ≡ length parents
+  pub walked_start : (bound : ℕ) (descendants children : List ℕ) (shape : Shape)
+      → bound ≡ length parents → AreBelow (length parents) standing
+      → length descendants ≡ length parents → length children ≡ length parents
       → ((id : ℕ) → id < length parents → get_or descendants id 0 ≡ here id everybody)
       → ((id : ℕ) → id < length parents → get_or children id 0 ≡ 0)
       → shape.common ≡ None → shape.kept ≡ 0 → shape.branches ≡ 0
       → IsWalked bound descendants children shape
-  walked_start bound descendants children shape start among as_many as_many_children counts zeros common kept branches =
+  walked_start bound descendants children shape start among as_many as_many_children counts zeros
+      common kept branches =
       let none = sym (none_kept bound (omega arith)) in
       record {
         as_many = as_many;
         as_many_children = as_many_children;
-        descendants_at = λ id below. counts id (omega arith) ∙ sym (stopped_first bound id 0 standing (λ k who is. let b = among k who is in omega arith));
+        descendants_at = λ id below. counts id (omega arith)
+            ∙ sym (stopped_first bound id 0 standing
+            (λ k who is. let b = among k who is in omega arith));
         children_at = λ id below. zeros id (omega arith) ∙ ap (count_by (is_child tree id)) none;
         common_is = common ∙ ap (λ (ids : List ℕ). reduce max (filter (is_common tree) ids)) none;
         kept_is = kept ∙ ap length none;
         branches_is = branches ∙ ap (λ (ids : List ℕ). length (filter (is_branch tree) ids)) none;
       }
 
-  pub walked_common : (descendants children : List ℕ) (shape : Shape) → IsWalked 0 descendants children shape → shape.common ≡ most_recent_common_ancestor tree
+  pub walked_common : (descendants children : List ℕ) (shape : Shape)
+      → IsWalked 0 descendants children shape → shape.common ≡ most_recent_common_ancestor tree
   unfolding most_recent_common_ancestor
-  walked_common descendants children shape walked = walked.common_is ∙ ap (λ (ids : List ℕ). reduce max (filter (is_common tree) ids)) (sym kept_is_all)
+  walked_common descendants children shape walked = walked.common_is
+      ∙ ap (λ (ids : List ℕ). reduce max (filter (is_common tree) ids)) (sym kept_is_all)
 
-  pub walked_kept : (descendants children : List ℕ) (shape : Shape) → IsWalked 0 descendants children shape → shape.kept ≡ length (kept_of tree)
+  pub walked_kept : (descendants children : List ℕ) (shape : Shape)
+      → IsWalked 0 descendants children shape → shape.kept ≡ length (kept_of tree)
   walked_kept descendants children shape walked = walked.kept_is ∙ ap length (sym kept_is_all)
 
-  pub walked_branches : (descendants children : List ℕ) (shape : Shape) → IsWalked 0 descendants children shape → shape.branches ≡ length (branches_of tree)
+  pub walked_branches : (descendants children : List ℕ) (shape : Shape)
+      → IsWalked 0 descendants children shape → shape.branches ≡ length (branches_of tree)
   unfolding branches_of
-  walked_branches descendants children shape walked = walked.branches_is ∙ ap (λ (ids : List ℕ). length (filter (is_branch tree) ids)) (sym kept_is_all)
+  walked_branches descendants children shape walked = walked.branches_is
+      ∙ ap (λ (ids : List ℕ). length (filter (is_branch tree) ids)) (sym kept_is_all)

@@ -1,6 +1,6 @@
 -- Who descends from whom (docs/WORLD.md, "Trees of descent").
-use Rattle.std.specs.Prelude.{ℕ, zero, suc, List, [], ◌∷◌, Option}
-use Rattle.std.specs.Option.{option_map_or}
+use Rattle.std.specs.Prelude.{ℕ, List, Option}
+use Rattle.lineage_log.specs.Ancestry.{ancestors_within}
 
 -- an organism that lives, and its cell
 pub record Dweller : Type 0 where
@@ -13,12 +13,6 @@ pub record Pedigree : Type 0 where
   pub parent_of : ℕ → Option ℕ
   pub everyone : List ℕ
   pub living : List Dweller
-
--- an id, and its ancestors up to so many generations back
-abbrev pub ancestors_within : ℕ → (ℕ → Option ℕ) → ℕ → List ℕ
-ancestors_within zero parent_of id = id ∷ []
-ancestors_within (suc generations) parent_of id =
-    id ∷ option_map_or (ancestors_within generations parent_of) (parent_of id) []
 
 -- an id, its parent, and so on to a founder; a parent's id is lower than its child's, so there are
 -- at most `id` generations

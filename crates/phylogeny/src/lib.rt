@@ -3,6 +3,7 @@
 #![tactic(auto)]
 
 mod depths;
+pub mod laws;
 mod pedigree;
 mod reading;
 mod shape;

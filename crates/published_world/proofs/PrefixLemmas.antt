@@ -21,7 +21,8 @@ module _ {A : Type 0} where
   take_is_prefix n xs = (drop n xs, take-append-drop n xs)
 
   -- of a list that goes on, the first elements stay
-  pub take_of_longer : (n : ℕ) (xs ys : List A) → IsPrefix xs ys → n ≤ length xs → take n ys ≡ take n xs
+  pub take_of_longer : (n : ℕ) (xs ys : List A) → IsPrefix xs ys → n ≤ length xs
+      → take n ys ≡ take n xs
   take_of_longer n xs ys p le = ap (take n) (sym p.1) ∙ take-append-le n xs p.0 le
 
   -- a prefix of the empty list is empty
@@ -32,7 +33,8 @@ module _ {A : Type 0} where
   prefix_of_none (x ∷ xs) (y ∷ ys) p e = absurd (omega (arith, e))
 
   -- what stands in a prefix stands in the whole, at the same place
-  pub get_in_longer : (xs ys : List A) (place : ℕ) (x : A) → IsPrefix xs ys → slice_get xs place ≡ Some x → slice_get ys place ≡ Some x
+  pub get_in_longer : (xs ys : List A) (place : ℕ) (x : A) → IsPrefix xs ys
+      → slice_get xs place ≡ Some x → slice_get ys place ≡ Some x
   get_in_longer [] ys place x p e = absurd cc
   get_in_longer (z ∷ xs) [] place x p e = absurd (cc (p.1))
   get_in_longer (z ∷ xs) (y ∷ ys) zero x p e = cc (p.1, e)
@@ -43,14 +45,17 @@ module _ {A : Type 0} where
   get_last (y ∷ xs) x = get_last xs x
 
   -- what stands in a list with one element more stood there before, or is that element
-  pub get_in_more : (xs : List A) (x : A) (place : ℕ) (y : A) → slice_get (xs ++ x ∷ []) place ≡ Some y → (slice_get xs place ≡ Some y) ⊎ ((place ≡ length xs) × (x ≡ y))
+  pub get_in_more : (xs : List A) (x : A) (place : ℕ) (y : A)
+      → slice_get (xs ++ x ∷ []) place ≡ Some y → (slice_get xs place ≡ Some y)
+      ⊎ ((place ≡ length xs) × (x ≡ y))
   get_in_more [] x zero y e = inr (refl, cc)
   get_in_more [] x (suc place) y e = absurd cc
   get_in_more (z ∷ xs) x zero y e = inl e
   get_in_more (z ∷ xs) x (suc place) y e =
       ⊎_elim (λ h. inl h) (λ h. inr (ap suc h.0, h.1)) (get_in_more xs x place y e)
 
-  pub get_at : (xs : List A) (place : ℕ) (d : A) → place < length xs → slice_get xs place ≡ Some (get_or xs place d)
+  pub get_at : (xs : List A) (place : ℕ) (d : A) → place < length xs
+      → slice_get xs place ≡ Some (get_or xs place d)
   get_at [] place d l = absurd (omega arith)
   get_at (x ∷ xs) zero d l = refl
   get_at (x ∷ xs) (suc place) d l = get_at xs place d (omega arith)

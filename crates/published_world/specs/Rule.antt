@@ -34,7 +34,8 @@ module _ {P : Type 0} where
     pub length_is : length log ≡ shown.count
     pub last_is : 0 < shown.count → last_of log ≡ Some shown.picture.value
 
-  -- who has seen a prefix of the history. The one that writes sits at this seat, and has seen it all
+  -- who has seen a prefix of the history. The one that writes sits at this seat, and has seen it
+  -- all
   pub record Fits (writer : ℕ) (log : List P) (seat : ℕ) (v : View P) : Type 0 where
     pub prefix : IsPrefix v.seen log
     pub whole : v.writes ≡ true → (seat ≡ writer) × (v.seen ≡ log) × (0 < length log)
@@ -46,10 +47,11 @@ module _ {P : Type 0} where
 
 module _ {P O : Type 0} (number : P → ℕ) (of : P → O) where
   -- there is one history, whose end is shown, and each view has seen a prefix of it
-  pub record KeepsAt (writer : ℕ) (log : List P) (shown : Shown P) (views : List (View P)) : Type 0 where
-    pub shows : Shows log shown
-    pub publication : IsPublication number of log
-    pub fits : (seat : ℕ) (v : View P) → get_elem? views seat ≡ some v → Fits writer log seat v
+  pub record KeepsAt (writer : ℕ) (log : List P) (shown : Shown P) (views : List (View P)) : Type 0
+    where
+      pub shows : Shows log shown
+      pub publication : IsPublication number of log
+      pub fits : (seat : ℕ) (v : View P) → get_elem? views seat ≡ some v → Fits writer log seat v
 
   abbrev pub Keeps : Shown P → List (View P) → Type 0
   Keeps shown views = (writer : ℕ) × (log : List P) × KeepsAt writer log shown views

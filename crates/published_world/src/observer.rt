@@ -43,7 +43,8 @@ impl<P: Picture> Observer<P> {
         ensures history { IsPublication P.number P.of self.new }
         ensures never_older { IfOk result
             (λ picture. All (λ seen. P.number seen ≤ P.number picture.value) self.old) }
-        ensures of { IfOk result (λ picture. All (λ seen. P.of seen ≡ P.of picture.value) self.old) }
+        ensures of { IfOk result
+            (λ picture. All (λ seen. P.of seen ≡ P.of picture.value) self.old) }
     {
         let Some(sight) = self.sight.take() else {
             unreachable!()

@@ -48,8 +48,8 @@ impl Model for Draws {
 }
 
 impl Draws {
-    /// The stream before its word 0. No word is computed yet. Each seed, update, cell and purpose has
-    /// a stream of its own.
+    /// The stream before its word 0. No word is computed yet. Each seed, update, cell and purpose
+    /// has a stream of its own.
     #[tactic(auto, unfolding(crate::specs::RandomStream::generator_at))]
     pub fn start(seed: u64, update: u32, cell: u32, purpose: Purpose) -> Draws
         requires { cell < cell_count }

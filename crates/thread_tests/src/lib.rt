@@ -7,3 +7,5 @@ mod banks;
 mod publications;
 #[cfg(test)]
 mod surveys;
+#[cfg(test)]
+mod worlds;

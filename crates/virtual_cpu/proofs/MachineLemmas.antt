@@ -22,7 +22,9 @@ use Rattle.virtual_cpu.specs.Allocation.{extra_places, can_allocate, with_alloca
 use Rattle.virtual_cpu.specs.Effects.{moving, allocating_if, effect_of}
 
 -- a machine at its start on a text
-pub fresh : (text : List Letter) (made limit : ℕ) → 8 ≤ length text → length text ≤ limit → length text ≤ 2 * made → made ≤ limit → limit ≤ 8192 → IsMachine (fresh_machine text made limit)
+pub fresh : (text : List Letter) (made limit : ℕ) → 8 ≤ length text → length text ≤ limit
+    → length text ≤ 2 * made → made ≤ limit → limit ≤ 8192
+    → IsMachine (fresh_machine text made limit)
 fresh text made limit least within twice room greatest = record {
   clean = refl;
   executed = length-replicate (length text) false;
@@ -43,7 +45,9 @@ fresh text made limit least within twice room greatest = record {
 }
 
 -- other heads, which are in memory
-with_heads : (m : Machine) (heads : Heads) → IsMachine m → heads.ip < length m.memory → heads.read < length m.memory → heads.write < length m.memory → heads.flow < length m.memory → IsMachine (record m { heads = heads })
+with_heads : (m : Machine) (heads : Heads) → IsMachine m → heads.ip < length m.memory
+    → heads.read < length m.memory → heads.write < length m.memory → heads.flow < length m.memory
+    → IsMachine (record m { heads = heads })
 with_heads m heads h ip read write flow = record {
   clean = h.clean;
   executed = h.executed;
@@ -64,7 +68,9 @@ with_heads m heads h ip read write flow = record {
 }
 
 -- other registers, other numbers on two stacks, and one of the two active
-with_numbers : (m : Machine) (registers : Registers) (stacks : List (List ℤ)) (active : ℕ) → IsMachine m → length stacks ≡ 2 → All (λ stack. length stack ≡ 10) stacks → active < 2 → IsMachine (record m { registers = registers; stacks = stacks; active = active })
+with_numbers : (m : Machine) (registers : Registers) (stacks : List (List ℤ)) (active : ℕ)
+    → IsMachine m → length stacks ≡ 2 → All (λ stack. length stack ≡ 10) stacks → active < 2
+    → IsMachine (record m { registers = registers; stacks = stacks; active = active })
 with_numbers m registers stacks active h two ten one_of = record {
   clean = h.clean;
   executed = h.executed;
@@ -106,13 +112,19 @@ marked m h = record {
 }
 
 -- a head is at another place of memory
-head_at : (m : Machine) (head : Head) (place : ℕ) → IsMachine m → place < length m.memory → IsMachine (with_head_at m head place)
-head_at m Ip place h within = with_heads m (record m.heads { ip = place }) h within h.read h.write h.flow
-head_at m Read place h within = with_heads m (record m.heads { read = place }) h h.ip within h.write h.flow
-head_at m Write place h within = with_heads m (record m.heads { write = place }) h h.ip h.read within h.flow
+head_at : (m : Machine) (head : Head) (place : ℕ) → IsMachine m → place < length m.memory
+    → IsMachine (with_head_at m head place)
+head_at m Ip place h within =
+    with_heads m (record m.heads { ip = place }) h within h.read h.write h.flow
+head_at m Read place h within =
+    with_heads m (record m.heads { read = place }) h h.ip within h.write h.flow
+head_at m Write place h within =
+    with_heads m (record m.heads { write = place }) h h.ip h.read within h.flow
 
-flow_at : (m : Machine) (place : ℕ) → IsMachine m → place < length m.memory → IsMachine (with_flow_at m place)
-flow_at m place h within = with_heads m (record m.heads { flow = place }) h h.ip h.read h.write within
+flow_at : (m : Machine) (place : ℕ) → IsMachine m → place < length m.memory
+    → IsMachine (with_flow_at m place)
+flow_at m place h within =
+    with_heads m (record m.heads { flow = place }) h h.ip h.read h.write within
 
 -- a remainder is a place of memory
 rem-within : (m : Machine) (number : ℕ) → IsMachine m → number % length m.memory < length m.memory
@@ -123,23 +135,30 @@ euclid-below : (number : ℤ) (n : ℕ) → 0 < n → unsigned_abs (int_rem_eucl
 euclid-below (pos a) n some = omega arith
 euclid-below (negsuc a) n some = omega arith
 
-number-within : (m : Machine) (number : ℤ) → IsMachine m → place_of_number m number < length m.memory
+number-within : (m : Machine) (number : ℤ) → IsMachine m
+    → place_of_number m number < length m.memory
 number-within m number h = euclid-below number (length m.memory) (omega (arith, h.least))
 
 advanced : (m : Machine) → IsMachine m → IsMachine (with_ip_advanced m)
 advanced m h = head_at m Ip (place_after m m.heads.ip) h (rem-within m (m.heads.ip + 1) h)
 
-with_registers : (m : Machine) (registers : Registers) → IsMachine m → IsMachine (record m { registers = registers })
+with_registers : (m : Machine) (registers : Registers) → IsMachine m
+    → IsMachine (record m { registers = registers })
 with_registers m registers h = with_numbers m registers m.stacks m.active h h.stacks h.ten h.active
 
-with_stack : (m : Machine) (numbers : List ℤ) → IsMachine m → length numbers ≡ 10 → IsMachine (with_active_stack m numbers)
-with_stack m numbers h ten = with_numbers m m.registers (set m.stacks m.active numbers) m.active h (length-set m.stacks m.active numbers ∙ h.stacks) (All-set (λ stack. length stack ≡ 10) m.stacks m.active numbers ten h.ten) h.active
+with_stack : (m : Machine) (numbers : List ℤ) → IsMachine m → length numbers ≡ 10
+    → IsMachine (with_active_stack m numbers)
+with_stack m numbers h ten =
+    with_numbers m m.registers (set m.stacks m.active numbers) m.active h
+    (length-set m.stacks m.active numbers ∙ h.stacks)
+    (All-set (λ stack. length stack ≡ 10) m.stacks m.active numbers ten h.ten) h.active
 
 -- the active stack has ten numbers, and as many after a push or a pop
 pub active-ten : (m : Machine) → IsMachine m → length (active_stack m) ≡ 10
 active-ten m h = h.ten m.active [] (omega (arith, h.stacks, h.active))
 
-pub pushed-ten : (number : ℤ) (stack : List ℤ) → length stack ≡ 10 → length (pushed number stack) ≡ 10
+pub pushed-ten : (number : ℤ) (stack : List ℤ) → length stack ≡ 10
+    → length (pushed number stack) ≡ 10
 pushed-ten number stack ten = omega (arith, length-take 9 stack)
 
 pub popped-ten : (stack : List ℤ) → length stack ≡ 10 → length (popped stack) ≡ 10
@@ -149,7 +168,8 @@ popped-ten stack ten = omega (arith, length-append (drop 1 stack) (pos 0 ∷ [])
 next_place : (m : Machine) → IsMachine m → IsMachine (on_next_place m)
 next_place m h = marked (with_ip_advanced m) (advanced m h)
 
-modifier_of-machine : (nop : Option Letter) (m : Machine) → IsMachine m → IsMachine (on_modifier_of nop m)
+modifier_of-machine : (nop : Option Letter) (m : Machine) → IsMachine m
+    → IsMachine (on_modifier_of nop m)
 modifier_of-machine (Some nop) m h = next_place m h
 modifier_of-machine None m h = h
 
@@ -186,7 +206,8 @@ if_less m h = skipping _ (on_modifier m) (on_modifier-machine m h)
 
 set_flow : (m : Machine) → IsMachine m → IsMachine (after_set_flow m)
 unfolding after_set_flow
-set_flow m h = flow_at (on_modifier m) _ (on_modifier-machine m h) (number-within (on_modifier m) _ (on_modifier-machine m h))
+set_flow m h = flow_at (on_modifier m) _ (on_modifier-machine m h)
+    (number-within (on_modifier m) _ (on_modifier-machine m h))
 
 shift_r : (m : Machine) → IsMachine m → IsMachine (after_shift_r m)
 unfolding after_shift_r
@@ -206,11 +227,15 @@ dec m h = picked-machine m _ h
 
 push : (m : Machine) → IsMachine m → IsMachine (after_push m)
 unfolding after_push
-push m h = let n = on_modifier-machine m h in with_stack (on_modifier m) _ n (pushed-ten (value m (picked m)) _ (active-ten (on_modifier m) n))
+push m h = let n = on_modifier-machine m h in
+    with_stack (on_modifier m) _ n
+    (pushed-ten (value m (picked m)) _ (active-ten (on_modifier m) n))
 
 pop : (m : Machine) → IsMachine m → IsMachine (after_pop m)
 unfolding after_pop
-pop m h = let n = on_modifier-machine m h in with_registers (with_active_stack (on_modifier m) _) _ (with_stack (on_modifier m) _ n (popped-ten _ (active-ten (on_modifier m) n)))
+pop m h = let n = on_modifier-machine m h in
+    with_registers (with_active_stack (on_modifier m) _) _
+    (with_stack (on_modifier m) _ n (popped-ten _ (active-ten (on_modifier m) n)))
 
 swap_stk : (m : Machine) → IsMachine m → IsMachine (after_swap_stk m)
 unfolding after_swap_stk
@@ -218,7 +243,8 @@ swap_stk m h = with_numbers m m.registers m.stacks (1 - m.active) h h.stacks h.t
 
 swap : (m : Machine) → IsMachine m → IsMachine (after_swap m)
 unfolding after_swap
-swap m h = with_registers (with_picked m (value m (next m))) _ (picked-machine m (value m (next m)) h)
+swap m h =
+    with_registers (with_picked m (value m (next m))) _ (picked-machine m (value m (next m)) h)
 
 sum : (m : Machine) → IsMachine m → IsMachine (after_add m)
 unfolding after_add
@@ -243,7 +269,8 @@ mov_head m h = let n = on_modifier-machine m h in head_at (on_modifier m) (head 
 
 jmp_head : (m : Machine) → IsMachine m → IsMachine (after_jmp_head m)
 unfolding after_jmp_head
-jmp_head m h = let n = on_modifier-machine m h in head_at (on_modifier m) (head m) _ n (number-within (on_modifier m) _ n)
+jmp_head m h = let n = on_modifier-machine m h in
+    head_at (on_modifier m) (head m) _ n (number-within (on_modifier m) _ n)
 
 get_head : (m : Machine) → IsMachine m → IsMachine (after_get_head m)
 unfolding after_get_head
@@ -254,10 +281,12 @@ if_label : (m : Machine) → IsMachine m → IsMachine (after_if_label m)
 unfolding after_if_label
 if_label m h = skipping _ (on_template m) (on_template-machine m h)
 
-searched : (m : Machine) (flow : ℕ) (bx : ℤ) (cx : ℕ) → IsMachine m → flow < length m.memory → IsMachine (with_search m flow bx cx)
+searched : (m : Machine) (flow : ℕ) (bx : ℤ) (cx : ℕ) → IsMachine m → flow < length m.memory
+    → IsMachine (with_search m flow bx cx)
 searched m flow bx cx h within = with_registers (with_flow_at m flow) _ (flow_at m flow h within)
 
-matched : (m : Machine) (count : ℕ) (first : Option ℕ) → IsMachine m → IsMachine (with_match m count first)
+matched : (m : Machine) (count : ℕ) (first : Option ℕ) → IsMachine m
+    → IsMachine (with_match m count first)
 matched m count (Some place) h = searched m _ _ count h (rem-within m (place + count) h)
 matched m count None h = searched m _ _ count h (rem-within m (m.heads.ip + 1) h)
 
@@ -275,8 +304,12 @@ few-nops true nops = omega (arith, length-drop (length nops - 10) nops)
 few-nops false nops = omega arith
 
 -- a further letter leaves nops alone
-only-nops : (nop : Bool) (nops : List Letter) (letter : Letter) → is_nop letter ≡ nop → All (λ l. is_nop l ≡ true) nops → All (λ l. is_nop l ≡ true) (cond nop (last_ten (nops ++ letter ∷ [])) [])
-only-nops true nops letter is are = All-drop (λ l. is_nop l ≡ true) _ (nops ++ letter ∷ []) (All-push (λ l. is_nop l ≡ true) nops letter are is)
+only-nops : (nop : Bool) (nops : List Letter) (letter : Letter) → is_nop letter ≡ nop
+    → All (λ l. is_nop l ≡ true) nops
+    → All (λ l. is_nop l ≡ true) (cond nop (last_ten (nops ++ letter ∷ [])) [])
+only-nops true nops letter is are =
+    All-drop (λ l. is_nop l ≡ true) _ (nops ++ letter ∷ [])
+    (All-push (λ l. is_nop l ≡ true) nops letter are is)
 only-nops false nops letter is are = All-nil (λ l. is_nop l ≡ true)
 
 -- h-copy
@@ -284,8 +317,11 @@ h_copy : (m : Machine) (copy : Option Letter) → IsMachine m → IsMachine (aft
 unfolding after_h_copy
 h_copy m copy h =
     let read : Letter = letter_at m m.heads.read in
-    let size : length (set m.memory m.heads.write (unwrap_or copy read)) ≡ length m.memory = length-set m.memory m.heads.write (unwrap_or copy read) in
-    let rest : (place : ℕ) → place < length m.memory → place < length (set m.memory m.heads.write (unwrap_or copy read)) = λ place. subst (λ (n : ℕ). place < n) (sym size) in
+    let size : length (set m.memory m.heads.write (unwrap_or copy read)) ≡ length m.memory =
+    length-set m.memory m.heads.write (unwrap_or copy read) in
+    let rest : (place : ℕ) → place < length m.memory
+    → place < length (set m.memory m.heads.write (unwrap_or copy read)) =
+    λ place. subst (λ (n : ℕ). place < n) (sym size) in
     record {
       clean = length-set m.clean m.heads.write read ∙ h.clean ∙ sym size;
       executed = h.executed ∙ sym size;
@@ -309,10 +345,13 @@ h_copy m copy h =
     }
 
 -- h-alloc, where it can
-longer : {A : Type 0} (xs : List A) (extra : ℕ) (x : A) → length (xs ++ replicate extra x) ≡ length xs + extra
-longer xs extra x = length-append xs (replicate extra x) ∙ ap (λ n. length xs + n) (length-replicate extra x)
+longer : {A : Type 0} (xs : List A) (extra : ℕ) (x : A)
+    → length (xs ++ replicate extra x) ≡ length xs + extra
+longer xs extra x =
+    length-append xs (replicate extra x) ∙ ap (λ n. length xs + n) (length-replicate extra x)
 
-not_pending : (pending room : Bool) → cond pending false room ≡ true → (pending ≡ false) × (room ≡ true)
+not_pending : (pending room : Bool) → cond pending false room ≡ true → (pending ≡ false)
+    × (room ≡ true)
 not_pending true room can = absurd cc
 not_pending false room can = (refl, can)
 
@@ -320,12 +359,15 @@ allocated : (m : Machine) → can_allocate m ≡ true → IsMachine m → IsMach
 unfolding with_allocation
 allocated m can h =
     let extra : ℕ = extra_places m in
-    let size : length (m.memory ++ replicate extra NopA) ≡ length m.memory + extra = longer m.memory extra NopA in
+    let size : length (m.memory ++ replicate extra NopA) ≡ length m.memory + extra =
+    longer m.memory extra NopA in
     let free : m.pending ≡ false = (not_pending m.pending (ltb (length m.memory) m.limit) can).0 in
-    let twice : length m.memory ≤ 2 * m.made = subst (λ (b : Bool). length m.memory ≤ cond b 6 2 * m.made) free h.growth in
+    let twice : length m.memory ≤ 2 * m.made =
+    subst (λ (b : Bool). length m.memory ≤ cond b 6 2 * m.made) free h.growth in
     let few : extra ≤ 2 * length m.memory = omega arith in
     let room : length m.memory + extra ≤ m.limit = omega (arith, h.greatest) in
-    let rest : (place : ℕ) → place < length m.memory → place < length (m.memory ++ replicate extra NopA) = λ place within. omega (arith, size) in
+    let rest : (place : ℕ) → place < length m.memory
+    → place < length (m.memory ++ replicate extra NopA) = λ place within. omega (arith, size) in
     record {
       clean = longer m.clean extra NopA ∙ ap (λ n. n + extra) h.clean ∙ sym size;
       executed = longer m.executed extra false ∙ ap (λ n. n + extra) h.executed ∙ sym size;
@@ -351,12 +393,14 @@ moved Ip m h = h
 moved Read m h = advanced m h
 moved Write m h = advanced m h
 
-allocating : (test : Bool) (m : Machine) → can_allocate m ≡ test → IsMachine m → IsMachine (allocating_if test m).0
+allocating : (test : Bool) (m : Machine) → can_allocate m ≡ test → IsMachine m
+    → IsMachine (allocating_if test m).0
 allocating true m can h = advanced (with_allocation m) (allocated m can h)
 allocating false m can h = advanced m h
 
 -- each row leaves a machine
-pub effect : (letter : Letter) (m : Machine) (input : ℤ) (copy : Option Letter) → IsMachine m → IsMachine (effect_of letter m input copy).0
+pub effect : (letter : Letter) (m : Machine) (input : ℤ) (copy : Option Letter) → IsMachine m
+    → IsMachine (effect_of letter m input copy).0
 effect NopA m input copy h = advanced m h
 effect NopB m input copy h = advanced m h
 effect NopC m input copy h = advanced m h

@@ -21,12 +21,14 @@ moving-asks Ip m = tt
 moving-asks Read m = tt
 moving-asks Write m = tt
 
-allocating-asks : (test : Bool) (m : Machine) → AsksOf (allocating_if test m).0 (allocating_if test m).1
+allocating-asks : (test : Bool) (m : Machine)
+    → AsksOf (allocating_if test m).0 (allocating_if test m).1
 allocating-asks true m = tt
 allocating-asks false m = tt
 
 -- the one row that asks
-pub effect-asks : (letter : Letter) (m : Machine) (input : ℤ) (copy : Option Letter) → AsksOf (effect_of letter m input copy).0 (effect_of letter m input copy).1
+pub effect-asks : (letter : Letter) (m : Machine) (input : ℤ) (copy : Option Letter)
+    → AsksOf (effect_of letter m input copy).0 (effect_of letter m input copy).1
 effect-asks HDivide m input copy = asked m
 effect-asks MovHead m input copy = moving-asks (head m) (after_mov_head m)
 effect-asks HAlloc m input copy = allocating-asks (can_allocate m) m

@@ -107,17 +107,21 @@ after_swap_stk-keeps m = record { made = refl; limit = refl }
 
 after_if_n_equ-keeps : (m : Machine) → KeepsLimits m (after_if_n_equ m)
 unfolding after_if_n_equ
-after_if_n_equ-keeps m = via m (on_modifier m) _ (on_modifier-keeps m) (skipping_if-keeps _ (on_modifier m))
+after_if_n_equ-keeps m =
+    via m (on_modifier m) _ (on_modifier-keeps m) (skipping_if-keeps _ (on_modifier m))
 
 after_if_less-keeps : (m : Machine) → KeepsLimits m (after_if_less m)
 unfolding after_if_less
-after_if_less-keeps m = via m (on_modifier m) _ (on_modifier-keeps m) (skipping_if-keeps _ (on_modifier m))
+after_if_less-keeps m =
+    via m (on_modifier m) _ (on_modifier-keeps m) (skipping_if-keeps _ (on_modifier m))
 
 after_if_label-keeps : (m : Machine) → KeepsLimits m (after_if_label m)
 unfolding after_if_label
-after_if_label-keeps m = via m (on_template m) _ (on_template-keeps m) (skipping_if-keeps _ (on_template m))
+after_if_label-keeps m =
+    via m (on_template m) _ (on_template-keeps m) (skipping_if-keeps _ (on_template m))
 
-with_match-keeps : (m : Machine) (count : ℕ) (first : Option ℕ) → KeepsLimits m (with_match m count first)
+with_match-keeps : (m : Machine) (count : ℕ) (first : Option ℕ)
+    → KeepsLimits m (with_match m count first)
 with_match-keeps m count (Some place) = record { made = refl; limit = refl }
 with_match-keeps m count None = record { made = refl; limit = refl }
 
@@ -127,7 +131,9 @@ with_search_for-keeps m (nop ∷ nops) = with_match-keeps m _ _
 
 after_h_search-keeps : (m : Machine) → KeepsLimits m (after_h_search m)
 unfolding after_h_search
-after_h_search-keeps m = via m (on_template m) _ (on_template-keeps m) (with_search_for-keeps (on_template m) (template_of m))
+after_h_search-keeps m =
+    via m (on_template m) _ (on_template-keeps m)
+    (with_search_for-keeps (on_template m) (template_of m))
 
 after_h_copy-keeps : (m : Machine) (copy : Option Letter) → KeepsLimits m (after_h_copy m copy)
 unfolding after_h_copy
@@ -143,45 +149,70 @@ moving-keeps Read m = record { made = refl; limit = refl }
 moving-keeps Write m = record { made = refl; limit = refl }
 
 allocating_if-keeps : (test : Bool) (m : Machine) → KeepsLimits m (allocating_if test m).0
-allocating_if-keeps true m = let k = with_allocation-keeps m in record { made = k.made; limit = k.limit }
+allocating_if-keeps true m =
+    let k = with_allocation-keeps m in record { made = k.made; limit = k.limit }
 allocating_if-keeps false m = record { made = refl; limit = refl }
 
-pub effect_of-keeps : (letter : Letter) (m : Machine) (input : ℤ) (copy : Option Letter) → KeepsLimits m (effect_of letter m input copy).0
+pub effect_of-keeps : (letter : Letter) (m : Machine) (input : ℤ) (copy : Option Letter)
+    → KeepsLimits m (effect_of letter m input copy).0
 effect_of-keeps NopA m input copy = record { made = refl; limit = refl }
 effect_of-keeps NopB m input copy = record { made = refl; limit = refl }
 effect_of-keeps NopC m input copy = record { made = refl; limit = refl }
 effect_of-keeps HDivide m input copy = record { made = refl; limit = refl }
-effect_of-keeps IfNEqu m input copy = let k = after_if_n_equ-keeps m in record { made = k.made; limit = k.limit }
-effect_of-keeps IfLess m input copy = let k = after_if_less-keeps m in record { made = k.made; limit = k.limit }
-effect_of-keeps IfLabel m input copy = let k = after_if_label-keeps m in record { made = k.made; limit = k.limit }
-effect_of-keeps JmpHead m input copy = let k = after_jmp_head-keeps m in record { made = k.made; limit = k.limit }
-effect_of-keeps GetHead m input copy = let k = after_get_head-keeps m in record { made = k.made; limit = k.limit }
-effect_of-keeps SetFlow m input copy = let k = after_set_flow-keeps m in record { made = k.made; limit = k.limit }
-effect_of-keeps ShiftR m input copy = let k = after_shift_r-keeps m in record { made = k.made; limit = k.limit }
-effect_of-keeps ShiftL m input copy = let k = after_shift_l-keeps m in record { made = k.made; limit = k.limit }
-effect_of-keeps Inc m input copy = let k = after_inc-keeps m in record { made = k.made; limit = k.limit }
-effect_of-keeps Dec m input copy = let k = after_dec-keeps m in record { made = k.made; limit = k.limit }
-effect_of-keeps Push m input copy = let k = after_push-keeps m in record { made = k.made; limit = k.limit }
-effect_of-keeps Pop m input copy = let k = after_pop-keeps m in record { made = k.made; limit = k.limit }
-effect_of-keeps SwapStk m input copy = let k = after_swap_stk-keeps m in record { made = k.made; limit = k.limit }
-effect_of-keeps Swap m input copy = let k = after_swap-keeps m in record { made = k.made; limit = k.limit }
-effect_of-keeps Add m input copy = let k = after_add-keeps m in record { made = k.made; limit = k.limit }
-effect_of-keeps Sub m input copy = let k = after_sub-keeps m in record { made = k.made; limit = k.limit }
-effect_of-keeps Nand m input copy = let k = after_nand-keeps m in record { made = k.made; limit = k.limit }
-effect_of-keeps HSearch m input copy = let k = after_h_search-keeps m in record { made = k.made; limit = k.limit }
-effect_of-keeps HCopy m input copy = let k = after_h_copy-keeps m copy in record { made = k.made; limit = k.limit }
-effect_of-keeps Io m input copy = let k = after_io-keeps m input in record { made = k.made; limit = k.limit }
-effect_of-keeps MovHead m input copy = via m (after_mov_head m) _ (after_mov_head-keeps m) (moving-keeps (head m) (after_mov_head m))
+effect_of-keeps IfNEqu m input copy =
+    let k = after_if_n_equ-keeps m in record { made = k.made; limit = k.limit }
+effect_of-keeps IfLess m input copy =
+    let k = after_if_less-keeps m in record { made = k.made; limit = k.limit }
+effect_of-keeps IfLabel m input copy =
+    let k = after_if_label-keeps m in record { made = k.made; limit = k.limit }
+effect_of-keeps JmpHead m input copy =
+    let k = after_jmp_head-keeps m in record { made = k.made; limit = k.limit }
+effect_of-keeps GetHead m input copy =
+    let k = after_get_head-keeps m in record { made = k.made; limit = k.limit }
+effect_of-keeps SetFlow m input copy =
+    let k = after_set_flow-keeps m in record { made = k.made; limit = k.limit }
+effect_of-keeps ShiftR m input copy =
+    let k = after_shift_r-keeps m in record { made = k.made; limit = k.limit }
+effect_of-keeps ShiftL m input copy =
+    let k = after_shift_l-keeps m in record { made = k.made; limit = k.limit }
+effect_of-keeps Inc m input copy =
+    let k = after_inc-keeps m in record { made = k.made; limit = k.limit }
+effect_of-keeps Dec m input copy =
+    let k = after_dec-keeps m in record { made = k.made; limit = k.limit }
+effect_of-keeps Push m input copy =
+    let k = after_push-keeps m in record { made = k.made; limit = k.limit }
+effect_of-keeps Pop m input copy =
+    let k = after_pop-keeps m in record { made = k.made; limit = k.limit }
+effect_of-keeps SwapStk m input copy =
+    let k = after_swap_stk-keeps m in record { made = k.made; limit = k.limit }
+effect_of-keeps Swap m input copy =
+    let k = after_swap-keeps m in record { made = k.made; limit = k.limit }
+effect_of-keeps Add m input copy =
+    let k = after_add-keeps m in record { made = k.made; limit = k.limit }
+effect_of-keeps Sub m input copy =
+    let k = after_sub-keeps m in record { made = k.made; limit = k.limit }
+effect_of-keeps Nand m input copy =
+    let k = after_nand-keeps m in record { made = k.made; limit = k.limit }
+effect_of-keeps HSearch m input copy =
+    let k = after_h_search-keeps m in record { made = k.made; limit = k.limit }
+effect_of-keeps HCopy m input copy =
+    let k = after_h_copy-keeps m copy in record { made = k.made; limit = k.limit }
+effect_of-keeps Io m input copy =
+    let k = after_io-keeps m input in record { made = k.made; limit = k.limit }
+effect_of-keeps MovHead m input copy =
+    via m (after_mov_head m) _ (after_mov_head-keeps m) (moving-keeps (head m) (after_mov_head m))
 effect_of-keeps HAlloc m input copy = allocating_if-keeps (can_allocate m) m
 
 -- a letter has its effect
-pub effect_keeps_limits : (m n : Machine) (letter : Letter) (input : ℤ) (copy : Option Letter) (did : Did) → (n, did) ≡ effect_of letter m input copy → KeepsLimits m n
+pub effect_keeps_limits : (m n : Machine) (letter : Letter) (input : ℤ) (copy : Option Letter)
+    (did : Did) → (n, did) ≡ effect_of letter m input copy → KeepsLimits m n
 effect_keeps_limits m n letter input copy did is_effect =
     let P : Machine × Did → Type 0 = λ p. KeepsLimits m p.0 in
     subst P (sym is_effect) (effect_of-keeps letter m input copy)
 
 -- a step marks a place, and keeps the limits after that
-pub step_keeps_limits : (m marked n : Machine) → marked ≡ with_ip_marked m → KeepsLimits marked n → KeepsLimits m n
+pub step_keeps_limits : (m marked n : Machine) → marked ≡ with_ip_marked m → KeepsLimits marked n
+    → KeepsLimits m n
 step_keeps_limits m marked n is_marked k = record {
   made = k.made ∙ ap (λ (x : Machine). x.made) is_marked;
   limit = k.limit ∙ ap (λ (x : Machine). x.limit) is_marked;

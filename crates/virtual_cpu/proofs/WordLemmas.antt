@@ -56,37 +56,52 @@ fresh-words text made limit = record {
   ax = small 0 (omega arith);
   bx = small 0 (omega arith);
   cx = small 0 (omega arith);
-  stacks = All-replicate AreWords 2 (replicate 10 (pos 0)) (All-replicate IsWord 10 (pos 0) (small 0 (omega arith)));
+  stacks = All-replicate AreWords 2 (replicate 10 (pos 0))
+      (All-replicate IsWord 10 (pos 0) (small 0 (omega arith)));
 }
 
 -- other registers and other stacks
-register-words : (m : Machine) (register : Register) → HoldsWords m → IsWord (value_of m.registers register)
+register-words : (m : Machine) (register : Register) → HoldsWords m
+    → IsWord (value_of m.registers register)
 register-words m Ax h = h.ax
 register-words m Bx h = h.bx
 register-words m Cx h = h.cx
 
-value-words : (m : Machine) (register : Register) (number : ℤ) → HoldsWords m → IsWord number → HoldsWords (with_value m register number)
+value-words : (m : Machine) (register : Register) (number : ℤ) → HoldsWords m → IsWord number
+    → HoldsWords (with_value m register number)
 value-words m Ax number h word = record { ax = word; bx = h.bx; cx = h.cx; stacks = h.stacks }
 value-words m Bx number h word = record { ax = h.ax; bx = word; cx = h.cx; stacks = h.stacks }
 value-words m Cx number h word = record { ax = h.ax; bx = h.bx; cx = word; stacks = h.stacks }
 
-stack-words : (m : Machine) (numbers : List ℤ) → HoldsWords m → AreWords numbers → HoldsWords (with_active_stack m numbers)
-stack-words m numbers h are = record { ax = h.ax; bx = h.bx; cx = h.cx; stacks = All-set AreWords m.stacks m.active numbers are h.stacks }
+stack-words : (m : Machine) (numbers : List ℤ) → HoldsWords m → AreWords numbers
+    → HoldsWords (with_active_stack m numbers)
+stack-words m numbers h are =
+    record {
+      ax = h.ax;
+      bx = h.bx;
+      cx = h.cx;
+      stacks = All-set AreWords m.stacks m.active numbers are h.stacks;
+    }
 
 active-words : (m : Machine) → IsMachine m → HoldsWords m → AreWords (active_stack m)
 active-words m is h = h.stacks m.active [] (omega (arith, is.stacks, is.active))
 
-pushed-words : (number : ℤ) (stack : List ℤ) → IsWord number → AreWords stack → AreWords (pushed number stack)
-pushed-words number stack word are = All-cons IsWord number (take 9 stack) word (All-take IsWord 9 stack are)
+pushed-words : (number : ℤ) (stack : List ℤ) → IsWord number → AreWords stack
+    → AreWords (pushed number stack)
+pushed-words number stack word are =
+    All-cons IsWord number (take 9 stack) word (All-take IsWord 9 stack are)
 
 popped-words : (stack : List ℤ) → AreWords stack → AreWords (popped stack)
-popped-words stack are = All-append IsWord (drop 1 stack) (pos 0 ∷ []) (All-drop IsWord 1 stack are) (All-cons IsWord (pos 0) [] (small 0 (omega arith)) (All-nil IsWord))
+popped-words stack are =
+    All-append IsWord (drop 1 stack) (pos 0 ∷ []) (All-drop IsWord 1 stack are)
+    (All-cons IsWord (pos 0) [] (small 0 (omega arith)) (All-nil IsWord))
 
 top-word : (stack : List ℤ) → length stack ≡ 10 → AreWords stack → IsWord (top_of stack)
 top-word stack ten are = are 0 (pos 0) (omega arith)
 
 -- IP on an operand
-modifier_of-words : (nop : Option Letter) (m : Machine) → HoldsWords m → HoldsWords (on_modifier_of nop m)
+modifier_of-words : (nop : Option Letter) (m : Machine) → HoldsWords m
+    → HoldsWords (on_modifier_of nop m)
 modifier_of-words (Some nop) m h = record { ax = h.ax; bx = h.bx; cx = h.cx; stacks = h.stacks }
 modifier_of-words None m h = h
 
@@ -106,40 +121,57 @@ skipping-words : (test : Bool) (m : Machine) → HoldsWords m → HoldsWords (sk
 skipping-words true m h = record { ax = h.ax; bx = h.bx; cx = h.cx; stacks = h.stacks }
 skipping-words false m h = h
 
-picked-words : (m : Machine) (number : ℤ) → HoldsWords m → IsWord number → HoldsWords (with_picked m number)
-picked-words m number h word = value-words (on_modifier m) (picked m) number (modifier-words m h) word
+picked-words : (m : Machine) (number : ℤ) → HoldsWords m → IsWord number
+    → HoldsWords (with_picked m number)
+picked-words m number h word =
+    value-words (on_modifier m) (picked m) number (modifier-words m h) word
 
 held : (m : Machine) (register : Register) → HoldsWords m → IsWord (value m register)
 held m register h = register-words (on_modifier m) register (modifier-words m h)
 
 -- a place that is found is one of those searched
-first-or : (here : Bool) (low n step : ℕ) (others : Option ℕ) → (others ≡ Some step → step < low + 1 + n) → cond here (Some low) others ≡ Some step → step < low + suc n
+first-or : (here : Bool) (low n step : ℕ) (others : Option ℕ)
+    → (others ≡ Some step → step < low + 1 + n) → cond here (Some low) others ≡ Some step
+    → step < low + suc n
 first-or true low n step others further found = let same : low ≡ step = cc in omega arith
-first-or false low n step others further found = let lt : step < low + 1 + n = further found in omega arith
+first-or false low n step others further found =
+    let lt : step < low + 1 + n = further found in omega arith
 
-found-below : (test : ℕ → Bool) (low n step : ℕ) → find test (range_with_len low n) ≡ Some step → step < low + n
+found-below : (test : ℕ → Bool) (low n step : ℕ) → find test (range_with_len low n) ≡ Some step
+    → step < low + n
 found-below test low zero step found = absurd cc
-found-below test low (suc n) step found = first-or (test low) low n step (find test (range_with_len (low + 1) n)) (found-below test (low + 1) n step) found
+found-below test low (suc n) step found =
+    first-or (test low) low n step (find test (range_with_len (low + 1) n))
+    (found-below test (low + 1) n step) found
 
 place-small : (m : Machine) → IsMachine m → (head : Head) → place_of m.heads head < 8192
 place-small m is Ip = omega (arith, is.ip, is.greatest, is.limit)
 place-small m is Read = omega (arith, is.read, is.greatest, is.limit)
 place-small m is Write = omega (arith, is.write, is.greatest, is.limit)
 
-search-words : (m : Machine) (flow : ℕ) (bx : ℤ) (cx : ℕ) → HoldsWords m → IsWord bx → cx ≤ 10 → HoldsWords (with_search m flow bx cx)
-search-words m flow bx cx h word few = record { ax = h.ax; bx = word; cx = small cx (omega arith); stacks = h.stacks }
+search-words : (m : Machine) (flow : ℕ) (bx : ℤ) (cx : ℕ) → HoldsWords m → IsWord bx → cx ≤ 10
+    → HoldsWords (with_search m flow bx cx)
+search-words m flow bx cx h word few =
+    record { ax = h.ax; bx = word; cx = small cx (omega arith); stacks = h.stacks }
 
-match-words : (m : Machine) (count : ℕ) (first : Option ℕ) → IsMachine m → HoldsWords m → count ≤ 10 → ((place : ℕ) → first ≡ Some place → place < 8192) → HoldsWords (with_match m count first)
+match-words : (m : Machine) (count : ℕ) (first : Option ℕ) → IsMachine m → HoldsWords m → count ≤ 10
+    → ((place : ℕ) → first ≡ Some place → place < 8192) → HoldsWords (with_match m count first)
 match-words m count (Some place) is h few low =
     let lt : place < 8192 = low place refl in
-    search-words m _ _ count h (distance (place + count - 1) m.heads.ip (omega arith) (omega (arith, place-small m is Ip))) few
+    search-words m _ _ count h
+    (distance (place + count - 1) m.heads.ip (omega arith) (omega (arith, place-small m is Ip)))
+    few
 match-words m count None is h few low = search-words m _ (pos 0) count h (small 0 (omega arith)) few
 
-search_for-words : (m : Machine) (nops : List Letter) → IsMachine m → HoldsWords m → length nops ≤ 10 → HoldsWords (with_search_for m nops)
+search_for-words : (m : Machine) (nops : List Letter) → IsMachine m → HoldsWords m
+    → length nops ≤ 10 → HoldsWords (with_search_for m nops)
 search_for-words m [] is h few = search-words m _ (pos 0) 0 h (small 0 (omega arith)) (omega arith)
 search_for-words m (nop ∷ nops) is h few =
-    match-words m (length (nop ∷ nops)) (first_match m.memory (complements_of (nop ∷ nops))) is h few
-    (λ place found. let lt : place < 0 + length m.memory = found-below (occurs_at m.memory (complements_of (nop ∷ nops))) 0 (length m.memory) place found in omega (arith, is.greatest, is.limit))
+    match-words m (length (nop ∷ nops)) (first_match m.memory (complements_of (nop ∷ nops))) is h
+    few
+    (λ place found. let lt : place < 0 + length m.memory =
+    found-below (occurs_at m.memory (complements_of (nop ∷ nops))) 0 (length m.memory) place
+    found in omega (arith, is.greatest, is.limit))
 
 -- a template has at most ten nops
 take_while-few : (test : Letter → Bool) (xs : List Letter) → length (take_while test xs) ≤ length xs
@@ -147,7 +179,12 @@ take_while-few test xs = omega (arith, length-take (prefix_len test xs) xs)
 
 template-few : (m : Machine) → length (template_of m) ≤ 10
 unfolding template_of template_after
-template-few m = omega (arith, take_while-few is_nop (letters_after m.memory m.heads.ip), length-map (range_with_len 1 10) (letter_after m.memory m.heads.ip), length-range_with_len 1 10)
+template-few m = omega (
+  arith,
+  take_while-few is_nop (letters_after m.memory m.heads.ip),
+  length-map (range_with_len 1 10) (letter_after m.memory m.heads.ip),
+  length-range_with_len 1 10,
+)
 
 -- the rows
 moving-words : (head : Head) (m : Machine) → HoldsWords m → HoldsWords (moving head m).0
@@ -155,53 +192,93 @@ moving-words Ip m h = h
 moving-words Read m h = record { ax = h.ax; bx = h.bx; cx = h.cx; stacks = h.stacks }
 moving-words Write m h = record { ax = h.ax; bx = h.bx; cx = h.cx; stacks = h.stacks }
 
-allocating-words : (test : Bool) (m : Machine) → IsMachine m → HoldsWords m → HoldsWords (allocating_if test m).0
+allocating-words : (test : Bool) (m : Machine) → IsMachine m → HoldsWords m
+    → HoldsWords (allocating_if test m).0
 unfolding with_allocation
-allocating-words true m is h = record { ax = small (length m.memory) (omega (arith, is.greatest, is.limit)); bx = h.bx; cx = h.cx; stacks = h.stacks }
+allocating-words true m is h =
+    record {
+      ax = small (length m.memory) (omega (arith, is.greatest, is.limit));
+      bx = h.bx;
+      cx = h.cx;
+      stacks = h.stacks;
+    }
 allocating-words false m is h = record { ax = h.ax; bx = h.bx; cx = h.cx; stacks = h.stacks }
 
 -- IP advances
 advanced-words : (m : Machine) → HoldsWords m → HoldsWords (going_on m).0
 advanced-words m h = record { ax = h.ax; bx = h.bx; cx = h.cx; stacks = h.stacks }
 
-head-words : (m : Machine) (which : Head) (place : ℕ) → HoldsWords m → HoldsWords (with_head_at m which place)
+head-words : (m : Machine) (which : Head) (place : ℕ) → HoldsWords m
+    → HoldsWords (with_head_at m which place)
 head-words m which place h = record { ax = h.ax; bx = h.bx; cx = h.cx; stacks = h.stacks }
 
-pub effect-words : (letter : Letter) (m : Machine) (input : ℤ) (copy : Option Letter) → IsMachine m → HoldsWords m → IsWord input → HoldsWords (effect_of letter m input copy).0
-unfolding after_if_n_equ after_if_less after_set_flow after_shift_r after_shift_l after_inc after_dec after_push after_pop after_swap_stk after_swap after_add after_sub after_nand after_io after_mov_head after_jmp_head after_get_head after_if_label after_h_search after_h_copy
+pub effect-words : (letter : Letter) (m : Machine) (input : ℤ) (copy : Option Letter) → IsMachine m
+    → HoldsWords m → IsWord input → HoldsWords (effect_of letter m input copy).0
+unfolding after_if_n_equ after_if_less after_set_flow after_shift_r after_shift_l after_inc
+    after_dec after_push after_pop after_swap_stk after_swap after_add after_sub after_nand after_io
+    after_mov_head after_jmp_head after_get_head after_if_label after_h_search after_h_copy
 effect-words NopA m input copy is h word = advanced-words m h
 effect-words NopB m input copy is h word = advanced-words m h
 effect-words NopC m input copy is h word = advanced-words m h
 effect-words HDivide m input copy is h word = advanced-words m h
-effect-words SwapStk m input copy is h word = record { ax = h.ax; bx = h.bx; cx = h.cx; stacks = h.stacks }
-effect-words HCopy m input copy is h word = record { ax = h.ax; bx = h.bx; cx = h.cx; stacks = h.stacks }
+effect-words SwapStk m input copy is h word =
+    record { ax = h.ax; bx = h.bx; cx = h.cx; stacks = h.stacks }
+effect-words HCopy m input copy is h word =
+    record { ax = h.ax; bx = h.bx; cx = h.cx; stacks = h.stacks }
 effect-words HAlloc m input copy is h word = allocating-words (can_allocate m) m is h
-effect-words IfNEqu m input copy is h word = advanced-words (after_if_n_equ m) (skipping-words _ (on_modifier m) (modifier-words m h))
-effect-words IfLess m input copy is h word = advanced-words (after_if_less m) (skipping-words _ (on_modifier m) (modifier-words m h))
-effect-words IfLabel m input copy is h word = advanced-words (after_if_label m) (skipping-words _ (on_template m) (template-words m h))
-effect-words SetFlow m input copy is h word = let k = modifier-words m h in record { ax = k.ax; bx = k.bx; cx = k.cx; stacks = k.stacks }
-effect-words ShiftR m input copy is h word = advanced-words (after_shift_r m) (picked-words m _ h (shifted (value m (picked m)) (held m (picked m) h)))
-effect-words ShiftL m input copy is h word = advanced-words (after_shift_l m) (picked-words m _ h (cast _))
+effect-words IfNEqu m input copy is h word =
+    advanced-words (after_if_n_equ m) (skipping-words _ (on_modifier m) (modifier-words m h))
+effect-words IfLess m input copy is h word =
+    advanced-words (after_if_less m) (skipping-words _ (on_modifier m) (modifier-words m h))
+effect-words IfLabel m input copy is h word =
+    advanced-words (after_if_label m) (skipping-words _ (on_template m) (template-words m h))
+effect-words SetFlow m input copy is h word =
+    let k = modifier-words m h in record { ax = k.ax; bx = k.bx; cx = k.cx; stacks = k.stacks }
+effect-words ShiftR m input copy is h word =
+    advanced-words (after_shift_r m)
+    (picked-words m _ h (shifted (value m (picked m)) (held m (picked m) h)))
+effect-words ShiftL m input copy is h word =
+    advanced-words (after_shift_l m) (picked-words m _ h (cast _))
 effect-words Inc m input copy is h word = advanced-words (after_inc m) (picked-words m _ h (cast _))
 effect-words Dec m input copy is h word = advanced-words (after_dec m) (picked-words m _ h (cast _))
 effect-words Add m input copy is h word = advanced-words (after_add m) (picked-words m _ h (cast _))
 effect-words Sub m input copy is h word = advanced-words (after_sub m) (picked-words m _ h (cast _))
-effect-words Nand m input copy is h word = advanced-words (after_nand m) (picked-words m _ h (cast _))
-effect-words Io m input copy is h word = advanced-words (after_io m input) (picked-words m input h word)
-effect-words Swap m input copy is h word = advanced-words (after_swap m) (value-words (with_picked m (value m (next m))) (next m) (value m (picked m)) (picked-words m (value m (next m)) h (held m (next m) h)) (held m (picked m) h))
+effect-words Nand m input copy is h word =
+    advanced-words (after_nand m) (picked-words m _ h (cast _))
+effect-words Io m input copy is h word =
+    advanced-words (after_io m input) (picked-words m input h word)
+effect-words Swap m input copy is h word =
+    advanced-words (after_swap m)
+    (value-words (with_picked m (value m (next m))) (next m) (value m (picked m))
+    (picked-words m (value m (next m)) h (held m (next m) h)) (held m (picked m) h))
 effect-words Push m input copy is h word =
     let n : Machine = on_modifier m in
     let k : HoldsWords n = modifier-words m h in
-    advanced-words (after_push m) (stack-words n (pushed (value m (picked m)) (active_stack n)) k (pushed-words (value m (picked m)) (active_stack n) (held m (picked m) h) (active-words n (on_modifier-machine m is) k)))
+    advanced-words (after_push m)
+    (stack-words n (pushed (value m (picked m)) (active_stack n)) k
+    (pushed-words (value m (picked m)) (active_stack n) (held m (picked m) h)
+    (active-words n (on_modifier-machine m is) k)))
 effect-words Pop m input copy is h word =
     let n : Machine = on_modifier m in
     let k : HoldsWords n = modifier-words m h in
     let i : IsMachine n = on_modifier-machine m is in
     let are : AreWords (active_stack n) = active-words n i k in
-    advanced-words (after_pop m) (value-words (with_active_stack n (popped (active_stack n))) (picked m) (top_of (active_stack n)) (stack-words n (popped (active_stack n)) k (popped-words (active_stack n) are)) (top-word (active_stack n) (active-ten n i) are))
-effect-words MovHead m input copy is h word = moving-words (head m) (after_mov_head m) (head-words (on_modifier m) (head m) _ (modifier-words m h))
-effect-words JmpHead m input copy is h word = advanced-words (after_jmp_head m) (head-words (on_modifier m) (head m) _ (modifier-words m h))
+    advanced-words (after_pop m)
+    (value-words (with_active_stack n (popped (active_stack n))) (picked m)
+    (top_of (active_stack n))
+    (stack-words n (popped (active_stack n)) k (popped-words (active_stack n) are))
+    (top-word (active_stack n) (active-ten n i) are))
+effect-words MovHead m input copy is h word =
+    moving-words (head m) (after_mov_head m)
+    (head-words (on_modifier m) (head m) _ (modifier-words m h))
+effect-words JmpHead m input copy is h word =
+    advanced-words (after_jmp_head m) (head-words (on_modifier m) (head m) _ (modifier-words m h))
 effect-words GetHead m input copy is h word =
-    let low : place_of (on_modifier m).heads (head m) < 8192 = place-small (on_modifier m) (on_modifier-machine m is) (head m) in
-    advanced-words (after_get_head m) (value-words (on_modifier m) Cx _ (modifier-words m h) (small _ (omega arith)))
-effect-words HSearch m input copy is h word = advanced-words (after_h_search m) (search_for-words (on_template m) (template_of m) (on_template-machine m is) (template-words m h) (template-few m))
+    let low : place_of (on_modifier m).heads (head m) < 8192 =
+    place-small (on_modifier m) (on_modifier-machine m is) (head m) in
+    advanced-words (after_get_head m)
+    (value-words (on_modifier m) Cx _ (modifier-words m h) (small _ (omega arith)))
+effect-words HSearch m input copy is h word =
+    advanced-words (after_h_search m)
+    (search_for-words (on_template m) (template_of m) (on_template-machine m is)
+    (template-words m h) (template-few m))

@@ -1,4 +1,5 @@
--- What each instruction on heads does before IP advances (docs/MACHINE.md, "The instruction table").
+-- What each instruction on heads does before IP advances (docs/MACHINE.md, "The instruction
+-- table").
 use Rattle.std.specs.Prelude.{pos, ◌+ℤ◌}
 use Rattle.virtual_cpu.specs.declared.registers.Register.TheVariants.{Cx}
 use Rattle.virtual_cpu.specs.declared.heads.Head.{Head}

@@ -2,6 +2,7 @@ pub mod Registers
 pub mod Heads
 pub mod Stack
 pub mod Machine
+pub mod Image
 pub mod Marks
 pub mod PackedMarks
 pub mod Operands

@@ -1,4 +1,5 @@
--- Which operand each letter takes (docs/MACHINE.md, "The instruction table", "Modifiers", "Templates").
+-- Which operand each letter takes (docs/MACHINE.md, "The instruction table", "Modifiers",
+-- "Templates").
 use Rattle.std.specs.Prelude.{◌≡◌, ℤ, ◌+◌, ◌%◌, List, Option, length}
 use Rattle.instruction_set.specs.declared.letter.Letter.{Letter}
 use Rattle.instruction_set.specs.declared.letter.Class.{Class}

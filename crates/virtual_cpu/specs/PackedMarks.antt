@@ -6,9 +6,11 @@ use Rattle.virtual_cpu.specs.declared.packed_marks.PackedMarks.TheInside.{Inside
 
 -- the marks that the words hold
 abbrev pub marks_of : Inside → Marks
-marks_of m = record { places = marks_in m.words.items m.places; room = 64 * length m.words.items - 1 }
+marks_of m =
+    record { places = marks_in m.words.items m.places; room = 64 * length m.words.items - 1 }
 
--- the places are within the words, of which there are few, no bit after them is set, and the count is theirs
+-- the places are within the words, of which there are few, no bit after them is set, and the count
+-- is theirs
 pub record IsPacked (m : Inside) : Type 0 where
   pub within : m.places < 64 * length m.words.items
   pub few : length m.words.items ≤ 129

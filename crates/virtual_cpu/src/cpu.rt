@@ -9,12 +9,14 @@ ghost use Rattle.virtual_cpu.specs.Registers.{value_of};
 ghost use Rattle.virtual_cpu.specs.Heads.{place_of};
 ghost use Rattle.virtual_cpu.specs.Stack.{pushed, popped, top_of};
 ghost use Rattle.virtual_cpu.specs.Machine.{IsMachine, fresh_machine, letter_under_ip, letter_at, place_after, place_of_number, with_ip_marked, with_ip_advanced, with_head_at, with_flow_at, with_value};
+ghost use Rattle.virtual_cpu.specs.Image.{image_of, machine_of_image};
 ghost use Rattle.virtual_cpu.specs.Operands.{on_modifier, register_picked, head_picked, template_of, on_template};
 ghost use Rattle.virtual_cpu.specs.RegisterEffects.{active_stack, with_active_stack};
 ghost use Rattle.virtual_cpu.specs.Copying.{after_h_copy};
 ghost use Rattle.virtual_cpu.specs.Allocation.{can_allocate, with_allocation};
 ghost use Rattle.virtual_cpu.specs.Divide.{divide_question, parent_part, child_part};
 
+use crate::cpu_image::{CpuImage, Letters, Marks};
 use crate::cut::Cut;
 use crate::heads::{Head, Heads};
 use crate::packed_marks::PackedMarks;
@@ -60,7 +62,8 @@ impl Model for Cpu {
 }
 
 impl Cpu {
-    /// A machine at its start. It reserves all the memory that it can grow to, so no step allocates.
+    /// A machine at its start. It reserves all the memory that it can grow to, so no step
+    /// allocates.
     pub fn new(alloc: Global, genome: &Genome, memory_limit: u32) -> Result<Cpu, Memory>
         requires genome_within { length (letters genome.now) ≤ memory_limit }
         requires greatest { memory_limit ≤ 8192 }
@@ -87,6 +90,65 @@ impl Cpu {
             pending: false,
             made,
             limit,
+        })
+    }
+
+    /// The machine with an image's values, made for this genome's length and under this limit.
+    pub fn from_image(
+        alloc: Global,
+        image: &CpuImage,
+        genome: &Genome,
+        memory_limit: u32,
+    ) -> Result<Cpu, Memory>
+        requires { IsMachine
+            (machine_of_image image.now (length (letters genome.now)) memory_limit) }
+        ensures { IfOk result (λ cpu. cpu ≡
+            machine_of_image image.now (length (letters genome.now)) memory_limit) }
+    {
+        let made = genome.len() as usize;
+        let limit = memory_limit as usize;
+        let room = (6 * made).min(limit);
+        let memory = letters_with_room(alloc, image.memory.as_slice(), room)?;
+        let clean = letters_with_room(alloc, image.clean.as_slice(), room)?;
+        let executed = PackedMarks::packed(alloc, image.executed.as_slice(), room)?;
+        let copied = PackedMarks::packed(alloc, image.copied.as_slice(), room)?;
+        Ok(Cpu {
+            memory,
+            clean,
+            executed,
+            copied,
+            registers: Registers::of(image.registers),
+            stacks: [Stack::of(image.first), Stack::of(image.second)],
+            active: image.active as usize,
+            heads: Heads::of(image.heads),
+            nops: image.nops.copy(),
+            pending: image.pending,
+            made,
+            limit,
+        })
+    }
+
+    /// The machine's values.
+    pub fn image(&self, alloc: Global) -> Result<CpuImage, Memory>
+        ensures image { IfOk result (λ image. image ≡ image_of self.now) }
+        ensures machine { IsMachine self.now }
+    {
+        let memory = copied_letters(alloc, self.memory.as_slice())?;
+        let clean = copied_letters(alloc, self.clean.as_slice())?;
+        let executed = Marks::from_vec(self.executed.unpacked(alloc)?);
+        let copied = Marks::from_vec(self.copied.unpacked(alloc)?);
+        Ok(CpuImage {
+            registers: self.registers(),
+            active: self.active as u8,
+            heads: self.heads.places(),
+            pending: self.pending,
+            nops: self.nops.copy(),
+            first: self.stacks[0].numbers(),
+            second: self.stacks[1].numbers(),
+            memory,
+            clean,
+            executed,
+            copied,
         })
     }
 
@@ -212,7 +274,8 @@ impl Cpu {
         picked
     }
 
-    /// Moves IP onto the last nop of the template after it, marks the first, and gives the complement.
+    /// Moves IP onto the last nop of the template after it, marks the first, and gives the
+    /// complement.
     #[inline(always)]
     #[tactic(auto, unfolding(crate::specs::Operands::template_of, crate::specs::Operands::on_template))]
     pub(crate) fn read_complement(&mut self) -> Template
@@ -391,5 +454,15 @@ impl Cpu {
             executed: executed as u32,
             copied: copied as u32,
         }
+    }
+}
+
+/// Letters, in a list of their own.
+fn copied_letters(alloc: Global, letters: &[Letter]) -> Result<Letters, Memory>
+    ensures { IfOk result (λ copy. copy ≡ letters.now) }
+{
+    match Vec::from_slice(alloc, letters) {
+        Ok(copy) => Ok(Letters::from_vec(copy)),
+        Err(_) => Err(Memory),
     }
 }

@@ -1,5 +1,6 @@
 ghost use Rattle.std.specs.Prelude.{◌≡◌};
-ghost use Rattle.virtual_cpu.specs.Heads.{place_of, with_head};
+ghost use Rattle.virtual_cpu.specs.Image.{heads_of};
+ghost use Rattle.virtual_cpu.specs.Heads.{ArePlaces, place_of, with_head};
 
 /// One of the heads that a modifier picks.
 #[derive(Clone, Copy)]
@@ -19,6 +20,32 @@ pub struct Heads {
 }
 
 impl Heads {
+    /// IP, READ, WRITE and FLOW at these places.
+    pub(crate) fn of(places: [u32; 4]) -> Heads
+        ensures { result ≡ heads_of places }
+    {
+        let [ip, read, write, flow] = places;
+        Heads {
+            ip: ip as usize,
+            read: read as usize,
+            write: write as usize,
+            flow: flow as usize,
+        }
+    }
+
+    /// The places of IP, READ, WRITE and FLOW.
+    pub(crate) fn places(&self) -> [u32; 4]
+        requires { ArePlaces self.now }
+        ensures { heads_of result ≡ self.now }
+    {
+        [
+            self.ip as u32,
+            self.read as u32,
+            self.write as u32,
+            self.flow as u32,
+        ]
+    }
+
     pub(crate) fn get(&self, head: Head) -> usize
         ensures { result ≡ place_of self.now head }
     {

@@ -6,13 +6,14 @@ ghost use Rattle.instruction_set.specs.declared.letter.Letter.TheVariants.{HDivi
 ghost use Rattle.instruction_set.specs.Letter.{class_of};
 ghost use Rattle.instruction_set.specs.Defaults.{default_of};
 ghost use Rattle.virtual_cpu.specs.Effects.{effect_of};
+ghost use Rattle.virtual_cpu.specs.Image.{image_of, machine_of_image};
 ghost use Rattle.virtual_cpu.specs.Machine.{Machine, IsMachine, fresh_machine};
 ghost use Rattle.virtual_cpu.specs.OperandUse.{TakesOperand};
 ghost use Rattle.virtual_cpu.specs.Step.{step, AsksOf, KeepsLimits, TellsNothing};
 ghost use Rattle.virtual_cpu.specs.Words.{HoldsWords};
 
-/// A step leaves a machine, for the same length of genome and under the same limit; a question that it tells is of
-/// that machine.
+/// A step leaves a machine, for the same length of genome and under the same limit; a question that
+/// it tells is of that machine.
 pub fn steps_leave_machines()
     ensures machine { (m : Machine) (input : ℤ) (copy : Option Letter)
         → IsMachine m → IsMachine (step m input copy).0 }
@@ -33,7 +34,14 @@ pub fn texts_start_machines()
         → IsMachine (fresh_machine text made limit) }
 {}
 
-/// The registers and the stacks hold numbers of 32 bits at the start and after each step that takes such an input.
+/// A machine is the machine of its image.
+pub fn images_are_whole()
+    ensures { (m : Machine) → IsMachine m
+        → machine_of_image (image_of m) m.made m.limit ≡ m }
+{}
+
+/// The registers and the stacks hold numbers of 32 bits at the start and after each step that takes
+/// such an input.
 pub fn machines_hold_words()
     ensures start { (text : List Letter) (made limit : ℕ)
         → HoldsWords (fresh_machine text made limit) }
@@ -44,8 +52,8 @@ pub fn machines_hold_words()
         → HoldsWords (step m input copy).0 }
 {}
 
-/// The letters of the classes Register and Head use the modifier, with the default of their row, those of the class
-/// Template use the template, and no other letter uses either.
+/// The letters of the classes Register and Head use the modifier, with the default of their row,
+/// those of the class Template use the template, and no other letter uses either.
 pub fn letters_take_their_operands()
     ensures { (letter : Letter) → TakesOperand (default_of letter) (class_of letter) letter }
 {}

@@ -2,6 +2,7 @@
 #![tactic(auto)]
 
 mod cpu;
+mod cpu_image;
 mod cut;
 mod did;
 mod heads;
@@ -14,5 +15,6 @@ mod reserved;
 mod stack;
 
 pub use cpu::Cpu;
+pub use cpu_image::{CpuImage, Letters, Marks};
 pub use cut::Cut;
 pub use did::Did;

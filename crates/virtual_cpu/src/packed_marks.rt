@@ -1,5 +1,5 @@
 // Marks on places, packed into words of 64 bits, with the count of all.
-ghost use Rattle.std.specs.Prelude.{◌≡◌, ◌+◌, ◌-◌, ◌*◌, ◌<◌, ◌≤◌, ◌++◌, IfOk, true, false, length, replicate, take, drop, slice_set};
+ghost use Rattle.std.specs.Prelude.{◌≡◌, ◌+◌, ◌-◌, ◌*◌, ◌<◌, ◌≤◌, ◌++◌, ◌∷◌, [], IfOk, true, false, length, replicate, take, drop, slice_set};
 ghost use Rattle.virtual_cpu.specs.Divide.{count_of};
 ghost use Rattle.virtual_cpu.specs.Marks.{bit_of, marks_in};
 
@@ -65,6 +65,44 @@ impl PackedMarks {
         ensures { self.new ≡ record self.old { places = self.old.places ++ replicate count false } }
     {
         self.places += count;
+    }
+
+    /// These places, and room for more of them.
+    pub(crate) fn packed(alloc: Global, marks: &[bool], room: usize) -> Result<PackedMarks, Memory>
+        requires within { length marks.now ≤ room }
+        requires few { room ≤ 8192 }
+        ensures places { IfOk result (λ packed. packed.places ≡ marks.now) }
+        ensures room { IfOk result (λ packed. room ≤ packed.room) }
+    {
+        let mut packed = PackedMarks::unmarked(alloc, 0, room)?;
+        for mark in marks {
+            packed.push(*mark);
+        }
+        Ok(packed)
+    }
+
+    /// Appends a place, for which there is room.
+    fn push(&mut self, is_marked: bool)
+        requires { length self.old.places + 1 ≤ self.old.room }
+        ensures { self.new ≡ record self.old { places = self.old.places ++ is_marked ∷ [] } }
+    {
+        let place = self.places;
+        self.append(1);
+        if is_marked {
+            self.mark(place);
+        }
+    }
+
+    /// The places, unpacked.
+    pub(crate) fn unpacked(&self, alloc: Global) -> Result<Vec<bool>, Memory>
+        ensures { IfOk result (λ marks. marks.items ≡ self.now.places) }
+    {
+        let words = self.words.as_slice();
+        let mut marks = Vec::with_capacity(alloc, self.places)?;
+        for place in 0..self.places {
+            marks.push(bit_at(words, place))?;
+        }
+        Ok(marks)
     }
 
     /// Begins anew with so many places, none of them marked.

@@ -1,4 +1,5 @@
 ghost use Rattle.std.specs.Prelude.{◌≡◌};
+ghost use Rattle.virtual_cpu.specs.Image.{registers_of};
 ghost use Rattle.virtual_cpu.specs.Registers.{register_after, value_of, with_register};
 
 /// One of the three registers.
@@ -30,6 +31,14 @@ pub struct Registers {
 }
 
 impl Registers {
+    /// The registers that hold these, in their order.
+    pub(crate) fn of(numbers: [i32; 3]) -> Registers
+        ensures { result ≡ registers_of numbers }
+    {
+        let [ax, bx, cx] = numbers;
+        Registers { ax, bx, cx }
+    }
+
     pub(crate) fn get(&self, register: Register) -> i32
         ensures { result ≡ value_of self.now register }
     {

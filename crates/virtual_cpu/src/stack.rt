@@ -22,6 +22,20 @@ impl Stack {
         Stack { numbers: [0; 10] }
     }
 
+    /// The stack of these numbers, the top first.
+    pub(crate) fn of(numbers: [i32; 10]) -> Stack
+        ensures { result ≡ numbers }
+    {
+        Stack { numbers }
+    }
+
+    /// Its numbers, the top first.
+    pub(crate) fn numbers(&self) -> [i32; 10]
+        ensures { result ≡ self.now }
+    {
+        self.numbers
+    }
+
     pub(crate) fn push(&mut self, number: i32)
         ensures { self.new ≡ pushed number self.old }
     {

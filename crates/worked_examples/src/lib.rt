@@ -2,5 +2,6 @@
 #![tactic(auto)]
 
 pub mod births;
+pub mod descent;
 pub mod organisms;
 pub mod texts;

@@ -49,7 +49,8 @@ found_by_byte HDivide = refl
 found_by_byte Io = refl
 found_by_byte HSearch = refl
 
-no_bad_byte : (ls : List Letter) (i : ℕ) → position_from (λ byte. is_none (letter_of_byte byte)) i (map byte_of ls) ≡ None
+no_bad_byte : (ls : List Letter) (i : ℕ)
+    → position_from (λ byte. is_none (letter_of_byte byte)) i (map byte_of ls) ≡ None
 no_bad_byte [] i = refl
 no_bad_byte (l ∷ ls) i = rw (found_by_byte l, no_bad_byte ls (i + 1)) refl
 
@@ -60,7 +61,8 @@ all_letters (l ∷ ls) = rw (found_by_byte l, all_letters ls) refl
 not_line_end : (l : Letter) → nat_eq 10 (byte_of l) ≡ false
 not_line_end l = let far : 10 ≢ byte_of l = omega arith in ne_eqb 10 (byte_of l) far
 
-no_line_end : (ls : List Letter) (k : ℕ) → pointwise nat_eq (10 ∷ []) (drop k (map byte_of ls)) ≡ false
+no_line_end : (ls : List Letter) (k : ℕ)
+    → pointwise nat_eq (10 ∷ []) (drop k (map byte_of ls)) ≡ false
 no_line_end [] zero = refl
 no_line_end [] (suc k) = refl
 no_line_end (l ∷ ls) zero = rw (not_line_end l) refl
@@ -74,9 +76,12 @@ genome_of-fits : (ls : List Letter) → 8 ≤ length ls → length ls ≤ 8192 �
 genome_of-fits ls low high = rw (le-ltb (length ls) 8 low, le-ltb 8192 (length ls) high) refl
 
 -- letters that are printed are read back
-pub spelled_by_letters-text : (ls : List Letter) → 8 ≤ length ls → length ls ≤ 8192 → spelled_by_letters (letters_text_of ls) ≡ Ok ls
+pub spelled_by_letters-text : (ls : List Letter) → 8 ≤ length ls → length ls ≤ 8192
+    → spelled_by_letters (letters_text_of ls) ≡ Ok ls
 spelled_by_letters-text ls low high =
-    ap genome_by_letters (ap (λ text. unless_faulty (first_bad_byte text) (filter_map letter_of_byte text)) (same_before_line_end ls)
+    ap genome_by_letters (ap
+    (λ text. unless_faulty (first_bad_byte text) (filter_map letter_of_byte text))
+    (same_before_line_end ls)
     ∙ ap (λ o. unless_faulty o (filter_map letter_of_byte (map byte_of ls))) (no_bad_byte ls 0)
     ∙ ap Ok (all_letters ls))
     ∙ genome_of-fits ls low high
@@ -90,13 +95,17 @@ rate_named-key SitePoint = refl
 rate_named-key SiteInsert = refl
 rate_named-key SiteDelete = refl
 
-number_from-pos : (least greatest n : ℕ) → least ≤ n → n ≤ greatest → number_from least greatest (Some (integer (pos n))) ≡ Some n
+number_from-pos : (least greatest n : ℕ) → least ≤ n → n ≤ greatest
+    → number_from least greatest (Some (integer (pos n))) ≡ Some n
 number_from-pos least greatest n low high = rw (le-leb least n low, le-leb n greatest high) refl
 
-both-some : {A B C : Type 0} (make : A → B → C) {a : Option A} {b : Option B} (x : A) (y : B) → a ≡ Some x → b ≡ Some y → both make a b ≡ Some (make x y)
+both-some : {A B C : Type 0} (make : A → B → C) {a : Option A} {b : Option B} (x : A) (y : B)
+    → a ≡ Some x → b ≡ Some y → both make a b ≡ Some (make x y)
 both-some make {b = b} x y h k = ap (λ o. both make o b) h ∙ ap (both make (Some x)) k
 
-sized-fits : (least greatest : ℕ) (ls : List Letter) → (nat_le least (length ls) && nat_le (length ls) greatest) ≡ true → sized least greatest (Ok ls) ≡ Some ls
+sized-fits : (least greatest : ℕ) (ls : List Letter)
+    → (nat_le least (length ls) && nat_le (length ls) greatest) ≡ true
+    → sized least greatest (Ok ls) ≡ Some ls
 sized-fits least greatest ls h = rw h refl
 
 -- the lengths of a frame are those of genomes
@@ -105,58 +114,97 @@ pub record IsFrame (frame : Frame) : Type 0 where
   pub greatest : frame.greatest_length ≤ 8192
 
 module _ (frame : Frame) (is : IsFrame frame) where
-  genome_from-text : (ls : List Letter) → (nat_le frame.least_length (length ls) && nat_le (length ls) frame.greatest_length) ≡ true
-      → genome_from frame.least_length frame.greatest_length (Some (string (letters_text_of ls))) ≡ Some ls
+  genome_from-text : (ls : List Letter)
+      → (nat_le frame.least_length (length ls) && nat_le (length ls) frame.greatest_length) ≡ true
+      → genome_from frame.least_length frame.greatest_length (Some (string (letters_text_of ls)))
+      ≡ Some ls
   genome_from-text ls h =
-      let (low, high) = and_parts (nat_le frame.least_length (length ls)) (nat_le (length ls) frame.greatest_length) h in
+      let (low, high) = and_parts (nat_le frame.least_length (length ls))
+      (nat_le (length ls) frame.greatest_length) h in
       let above : frame.least_length ≤ length ls = leb-true frame.least_length (length ls) low in
-      let below : length ls ≤ frame.greatest_length = leb-true (length ls) frame.greatest_length high in
+      let below : length ls ≤ frame.greatest_length =
+      leb-true (length ls) frame.greatest_length high in
       let least : 8 ≤ length ls = omega (arith, is.least) in
       let greatest : length ls ≤ 8192 = omega (arith, is.greatest) in
-      ap (sized frame.least_length frame.greatest_length) (spelled_by_letters-text ls least greatest) ∙ sized-fits frame.least_length frame.greatest_length ls h
+      ap (sized frame.least_length frame.greatest_length)
+      (spelled_by_letters-text ls least greatest)
+      ∙ sized-fits frame.least_length frame.greatest_length ls h
 
   -- what an event does is read back
-  what_of-members : (update : ℕ) (what : WhatValue) → what_fits frame what ≡ true → option_and_then (what_of frame (event_members update what)) (option_and_then as_str (get_member (codes "kind") (event_members update what))) ≡ Some what
+  what_of-members : (update : ℕ) (what : WhatValue) → what_fits frame what ≡ true
+      → option_and_then (what_of frame (event_members update what))
+      (option_and_then as_str (get_member (codes "kind") (event_members update what))) ≡ Some what
   what_of-members update (inject cell ls) h =
-      let (low, size) = and_parts (nat_le cell frame.last_cell) (nat_le frame.least_length (length ls) && nat_le (length ls) frame.greatest_length) h in
-      both-some inject cell ls (number_from-pos 0 frame.last_cell cell (omega arith) (leb-true cell frame.last_cell low)) (genome_from-text ls size)
+      let (low, size) = and_parts (nat_le cell frame.last_cell)
+      (nat_le frame.least_length (length ls) && nat_le (length ls) frame.greatest_length) h in
+      both-some inject cell ls
+      (number_from-pos 0 frame.last_cell cell (omega arith) (leb-true cell frame.last_cell low))
+      (genome_from-text ls size)
   what_of-members update (clear first last) h =
       let (low, high) = and_parts (nat_le first last) (nat_le last frame.last_cell) h in
-      ap (option_and_then (λ (last : ℕ). option_map (λ (first : ℕ). clear first last) (number_from 0 last (Some (integer (pos first)))))) (number_from-pos 0 frame.last_cell last (omega arith) (leb-true last frame.last_cell high))
-      ∙ ap (option_map (λ (first : ℕ). clear first last)) (number_from-pos 0 last first (omega arith) (leb-true first last low))
+      ap (option_and_then (λ (last : ℕ). option_map (λ (first : ℕ). clear first last)
+      (number_from 0 last (Some (integer (pos first))))))
+      (number_from-pos 0 frame.last_cell last (omega arith)
+      (leb-true last frame.last_cell high))
+      ∙ ap (option_map (λ (first : ℕ). clear first last))
+      (number_from-pos 0 last first (omega arith) (leb-true first last low))
   what_of-members update (rate name ppm) h =
-      both-some rate name ppm (rate_named-key name) (number_from-pos 0 1000000 ppm (omega arith) (leb-true ppm 1000000 h))
+      both-some rate name ppm (rate_named-key name)
+      (number_from-pos 0 1000000 ppm (omega arith) (leb-true ppm 1000000 h))
 
-  member_update : (least update : ℕ) (what : WhatValue) → least ≤ update → update ≤ frame.updates → number_from least frame.updates (get_member (codes "update") (event_members update what)) ≡ Some update
-  member_update least update (inject cell ls) low high = number_from-pos least frame.updates update low high
-  member_update least update (clear first last) low high = number_from-pos least frame.updates update low high
-  member_update least update (rate name ppm) low high = number_from-pos least frame.updates update low high
+  member_update : (least update : ℕ) (what : WhatValue) → least ≤ update → update ≤ frame.updates
+      → number_from least frame.updates (get_member (codes "update") (event_members update what))
+      ≡ Some update
+  member_update least update (inject cell ls) low high =
+      number_from-pos least frame.updates update low high
+  member_update least update (clear first last) low high =
+      number_from-pos least frame.updates update low high
+  member_update least update (rate name ppm) low high =
+      number_from-pos least frame.updates update low high
 
   -- an event is read back
-  event_of-members : (least : ℕ) (event : EventValue) → least ≤ event.update → event_fits frame event ≡ true → event_of frame least (table (event_members event.update event.what)) ≡ Some event
+  event_of-members : (least : ℕ) (event : EventValue) → least ≤ event.update
+      → event_fits frame event ≡ true
+      → event_of frame least (table (event_members event.update event.what)) ≡ Some event
   event_of-members least event low h =
-      let (in_updates, fits) = and_parts (nat_le 1 event.update && nat_le event.update frame.updates) (what_fits frame event.what) h in
-      let high : event.update ≤ frame.updates = leb-true event.update frame.updates (and_parts (nat_le 1 event.update) (nat_le event.update frame.updates) in_updates).1 in
-      both-some (λ (u : ℕ) (w : WhatValue). record { update = u; what = w }) event.update event.what (member_update least event.update event.what low high) (what_of-members event.update event.what fits)
+      let (in_updates, fits) =
+      and_parts (nat_le 1 event.update && nat_le event.update frame.updates)
+      (what_fits frame event.what) h in
+      let high : event.update ≤ frame.updates =
+      leb-true event.update frame.updates
+      (and_parts (nat_le 1 event.update) (nat_le event.update frame.updates) in_updates).1 in
+      both-some (λ (u : ℕ) (w : WhatValue). record { update = u; what = w }) event.update event.what
+      (member_update least event.update event.what low high)
+      (what_of-members event.update event.what fits)
 
-  events_from-items : (events : List EventValue) (nth least : ℕ) → ((j : ℕ) (d : EventValue) → j < length events → least ≤ (get_or events j d).update)
-      → IsNonDecreasingBy (λ event. event.update) events → AllPass (event_fits frame) events → events_from frame (items_for events) nth least ≡ Ok events
+  events_from-items : (events : List EventValue) (nth least : ℕ)
+      → ((j : ℕ) (d : EventValue) → j < length events → least ≤ (get_or events j d).update)
+      → IsNonDecreasingBy (λ event. event.update) events → AllPass (event_fits frame) events
+      → events_from frame (items_for events) nth least ≡ Ok events
   events_from-items [] nth least above rising fit = refl
   events_from-items (event ∷ events) nth least above rising fit =
       let some : 0 < length (event ∷ events) = omega arith in
-      ap (λ o. followed nth o (events_from frame (items_for events) (nth + 1))) (event_of-members least event (above 0 event some) (fit 0 event some))
+      ap (λ o. followed nth o (events_from frame (items_for events) (nth + 1)))
+      (event_of-members least event (above 0 event some) (fit 0 event some))
       ∙ ap (more_events event) (events_from-items events (nth + 1) event.update
-      (λ (j : ℕ) (d : EventValue) (h : j < length events). rising 0 (suc j) d (omega arith) (omega (arith, h)))
-      (λ (i j : ℕ) (d : EventValue) (le : i ≤ j) (h : j < length events). rising (suc i) (suc j) d (omega (arith, le)) (omega (arith, h)))
+      (λ (j : ℕ) (d : EventValue) (h : j < length events). rising 0 (suc j) d (omega arith)
+      (omega (arith, h)))
+      (λ (i j : ℕ) (d : EventValue) (le : i ≤ j) (h : j < length events). rising (suc i) (suc j) d
+      (omega (arith, le)) (omega (arith, h)))
       (λ (j : ℕ) (d : EventValue) (h : j < length events). fit (suc j) d (omega (arith, h))))
 
   -- events that are printed are read back
-  pub events_of-items : (events : List EventValue) → AreEvents frame events → events_of frame (items_for events) ≡ Ok events
+  pub events_of-items : (events : List EventValue) → AreEvents frame events
+      → events_of frame (items_for events) ≡ Ok events
   events_of-items events are =
       events_from-items events 1 1
       (λ (j : ℕ) (d : EventValue) (h : j < length events).
-      leb-true 1 (get_or events j d).update (and_parts (nat_le 1 (get_or events j d).update) (nat_le (get_or events j d).update frame.updates)
-      (and_parts (nat_le 1 (get_or events j d).update && nat_le (get_or events j d).update frame.updates) (what_fits frame (get_or events j d).what) (are.fit j d h)).0).0)
+      leb-true 1 (get_or events j d).update
+      (and_parts (nat_le 1 (get_or events j d).update)
+      (nat_le (get_or events j d).update frame.updates)
+      (and_parts (nat_le 1 (get_or events j d).update
+      && nat_le (get_or events j d).update frame.updates)
+      (what_fits frame (get_or events j d).what) (are.fit j d h)).0).0)
       are.rising are.fit
 
 pub count_of-items : (events : List EventValue) → count_of (items_for events) ≡ length events

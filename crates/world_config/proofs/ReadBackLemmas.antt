@@ -24,7 +24,9 @@ no_unknown : (v : ConfigValues) → least_unknown (members_for v) ≡ None
 unfolding is_known
 no_unknown v = refl
 
-frame_in-members : (v : ConfigValues) → frame_in (members_for v) ≡ frame_of v.width v.height v.updates v.least_length v.greatest_length
+frame_in-members : (v : ConfigValues)
+    → frame_in (members_for v)
+    ≡ frame_of v.width v.height v.updates v.least_length v.greatest_length
 unfolding number_at
 frame_in-members v = refl
 
@@ -32,22 +34,27 @@ items_at-members : (v : ConfigValues) → items_at Event (members_for v) ≡ ite
 unfolding items_at
 items_at-members v = refl
 
-values_in-members : (v : ConfigValues) → genome_at Ancestor (members_for v) ≡ v.ancestor → values_in (members_for v) v.event ≡ v
+values_in-members : (v : ConfigValues) → genome_at Ancestor (members_for v) ≡ v.ancestor
+    → values_in (members_for v) v.event ≡ v
 unfolding number_at flag_at
 values_in-members v h = ap (λ (ls : List Letter). record v { ancestor = ls }) h
 
-genome_at-members : (v : ConfigValues) → genome_at Ancestor (members_for v) ≡ letters_or_none (spelled_by_letters (letters_text_of v.ancestor))
+genome_at-members : (v : ConfigValues)
+    → genome_at Ancestor (members_for v)
+    ≡ letters_or_none (spelled_by_letters (letters_text_of v.ancestor))
 unfolding genome_at
 genome_at-members v = refl
 
 neither : {a b : Option ConfigStop} → a ≡ None → b ≡ None → earlier a b ≡ None
 neither {b = b} h k = ap (λ o. earlier o b) h ∙ k
 
-within : (key : Key) (least greatest n : ℕ) → IsWithin least greatest n → unless_within key least greatest (pos n) ≡ None
+within : (key : Key) (least greatest n : ℕ) → IsWithin least greatest n
+    → unless_within key least greatest (pos n) ≡ None
 within key least greatest n h = unless_within-none key least greatest n h.0 h.1
 
 -- no value of a configuration is refused
-all_accepted : (c : Config) → spelled_by_letters (letters_text_of (letters c.ancestor)) ≡ Ok (letters c.ancestor) → first_refusal keys (members_for (values_of c)) ≡ None
+all_accepted : (c : Config) → spelled_by_letters (letters_text_of (letters c.ancestor))
+    ≡ Ok (letters c.ancestor) → first_refusal keys (members_for (values_of c)) ≡ None
 unfolding refusal_at number_at
 all_accepted c read =
     let v = values_of c in
@@ -55,7 +62,8 @@ all_accepted c read =
     (neither (within Height 1 256 v.height c.height_bounds)
     (neither (within Updates 0 1000000 v.updates c.updates_bounds)
     (neither (within Seed 0 9223372036854775807 v.seed c.seed_bounds)
-    (neither (within FounderCell 0 (last_cell_of v.width v.height) v.founder_cell c.founder_cell_bounds)
+    (neither (within FounderCell 0 (last_cell_of v.width v.height) v.founder_cell
+    c.founder_cell_bounds)
     (neither (within AverageSlices 1 1000 v.average_slices c.average_slices_bounds)
     (neither refl
     (neither (within AgeLimit 1 1000 v.age_limit c.age_limit_bounds)
@@ -72,24 +80,34 @@ all_accepted c read =
     (neither (within LeastLength 8 8192 v.least_length c.least_length_bounds)
     (neither (within GreatestLength v.least_length 8192 v.greatest_length c.greatest_length_bounds)
     (neither (within MemoryLimit v.greatest_length 8192 v.memory_limit c.memory_limit_bounds)
-    (neither (ap (unless_genome Ancestor v.least_length v.greatest_length) read ∙ within Ancestor v.least_length v.greatest_length (length v.ancestor) c.ancestor_bounds)
-    (neither (ap (λ (n : ℕ). unless_within Event 0 1000 (pos n)) (count_of-items v.event) ∙ unless_within-none Event 0 1000 (length v.event) (omega arith) c.event_bounds.number) refl)))))))))))))))))))))))
+    (neither (ap (unless_genome Ancestor v.least_length v.greatest_length) read
+    ∙ within Ancestor v.least_length v.greatest_length (length v.ancestor) c.ancestor_bounds)
+    (neither (ap (λ (n : ℕ). unless_within Event 0 1000 (pos n)) (count_of-items v.event)
+    ∙ unless_within-none Event 0 1000 (length v.event) (omega arith) c.event_bounds.number)
+    refl)))))))))))))))))))))))
 
 -- the table of a configuration says what the configuration says
 pub config_in-members : (c : Config) → config_in (members_for (values_of c)) ≡ Ok (values_of c)
 config_in-members c =
     let v = values_of c in
     let low : 8 ≤ length v.ancestor = omega (arith, c.ancestor_bounds.0, c.least_length_bounds.0) in
-    let high : length v.ancestor ≤ 8192 = omega (arith, c.ancestor_bounds.1, c.greatest_length_bounds.1) in
-    let read : spelled_by_letters (letters_text_of v.ancestor) ≡ Ok v.ancestor = spelled_by_letters-text v.ancestor low high in
+    let high : length v.ancestor ≤ 8192 =
+    omega (arith, c.ancestor_bounds.1, c.greatest_length_bounds.1) in
+    let read : spelled_by_letters (letters_text_of v.ancestor) ≡ Ok v.ancestor =
+    spelled_by_letters-text v.ancestor low high in
     let ms : Members = members_for v in
-    let frame : IsFrame (frame_of v.width v.height v.updates v.least_length v.greatest_length) = record { least = c.least_length_bounds.0; greatest = c.greatest_length_bounds.1 } in
+    let frame : IsFrame (frame_of v.width v.height v.updates v.least_length v.greatest_length) =
+    record { least = c.least_length_bounds.0; greatest = c.greatest_length_bounds.1 } in
     let happening : events_of (frame_in ms) (items_at Event ms) ≡ Ok v.event =
     ap (λ f. events_of f (items_at Event ms)) (frame_in-members v)
-    ∙ ap (events_of (frame_of v.width v.height v.updates v.least_length v.greatest_length)) (items_at-members v)
-    ∙ events_of-items (frame_of v.width v.height v.updates v.least_length v.greatest_length) frame v.event c.event_bounds in
-    ap (λ o. unless_refused (earlier (unknown_refusal o) (first_refusal keys ms)) (values_with ms (events_of (frame_in ms) (items_at Event ms)))) (no_unknown v)
-    ∙ ap (λ o. unless_refused o (values_with ms (events_of (frame_in ms) (items_at Event ms)))) (all_accepted c read)
+    ∙ ap (events_of (frame_of v.width v.height v.updates v.least_length v.greatest_length))
+    (items_at-members v)
+    ∙ events_of-items (frame_of v.width v.height v.updates v.least_length v.greatest_length) frame
+    v.event c.event_bounds in
+    ap (λ o. unless_refused (earlier (unknown_refusal o) (first_refusal keys ms))
+    (values_with ms (events_of (frame_in ms) (items_at Event ms)))) (no_unknown v)
+    ∙ ap (λ o. unless_refused o (values_with ms (events_of (frame_in ms) (items_at Event ms))))
+    (all_accepted c read)
     ∙ ap (values_with ms) happening
     ∙ ap Ok (values_in-members v (genome_at-members v ∙ ap letters_or_none read))
 
@@ -105,4 +123,8 @@ widened n h = omega (arith, h)
 -- the table is not deep
 pub members_depth-for : (v : ConfigValues) → members_depth (members_for v) ≤ 80
 members_depth-for v =
-    widened (members_depth (members_for v)) (below _ (below _ (below _ (below _ (below _ (below _ (below _ (below _ (above_events (items_depth (items_for v.event)) (items_depth-events v.event))))))))))
+    widened (members_depth (members_for v))
+    (below _ (below _ (below _
+    (below _ (below _ (below _
+    (below _ (below _ (above_events (items_depth (items_for v.event))
+    (items_depth-events v.event))))))))))

@@ -12,22 +12,32 @@ use Rattle.world_config.specs.declared.event.Event.{Event}
 use Rattle.world_config.specs.Events.{EventValue, event_value, what_value}
 use Rattle.world_config.specs.Printing.{event_members, insert_member, items_for}
 
-match_members : (o : Ordering) (a b c : List Entry) → members_view (match_ordering o a b c) ≡ match_ordering o (members_view a) (members_view b) (members_view c)
+match_members : (o : Ordering) (a b c : List Entry)
+    → members_view (match_ordering o a b c) ≡ match_ordering o (members_view a) (members_view b)
+    (members_view c)
 match_members Less a b c = refl
 match_members Equal a b c = refl
 match_members Greater a b c = refl
 
-pub members_view-insert_entry : (es : List Entry) (k : String Global) (v : Value) → members_view (insert_entry string_cmp es k v) ≡ insert_member (string_bytes k) (view v) (members_view es)
+pub members_view-insert_entry : (es : List Entry) (k : String Global) (v : Value)
+    → members_view (insert_entry string_cmp es k v) ≡ insert_member (string_bytes k) (view v)
+    (members_view es)
 members_view-insert_entry [] k v = refl
-members_view-insert_entry (e ∷ es) k v = match_members (string_cmp k e.0) _ _ _ ∙ rw (members_view-insert_entry es k v)
+members_view-insert_entry (e ∷ es) k v =
+    match_members (string_cmp k e.0) _ _ _ ∙ rw (members_view-insert_entry es k v)
 
-items_for-last : (events : List EventValue) (event : EventValue) → items_for (events ++ event ∷ []) ≡ push_item (items_for events) (table (event_members event.update event.what))
+items_for-last : (events : List EventValue) (event : EventValue)
+    → items_for (events ++ event ∷ [])
+    ≡ push_item (items_for events) (table (event_members event.update event.what))
 items_for-last [] event = refl
 items_for-last (e ∷ events) event = rw (items_for-last events event) refl
 
 -- one more table at the end, for the next event
-pub items_view-more : (tables : List Value) (value : Value) (events : List Event) (i : ℕ) (event : Event) → i < length events → event ≡ get_or events i event
-    → items_view tables ≡ items_for (map event_value (take i events)) → view value ≡ table (event_members event.update (what_value event.what))
+pub items_view-more : (tables : List Value) (value : Value) (events : List Event) (i : ℕ)
+    (event : Event) → i < length events → event ≡ get_or events i event
+    → items_view tables ≡ items_for (map event_value (take i events))
+    → view value ≡ table (event_members event.update (what_value event.what))
     → items_view (tables ++ value ∷ []) ≡ items_for (map event_value (take (i + 1) events))
 items_view-more tables value events i event h is before seen =
-    items_view-push tables value ∙ rw (before, seen, take_more events i event h, ← is, map-append, items_for-last) refl
+    items_view-push tables value
+    ∙ rw (before, seen, take_more events i event h, ← is, map-append, items_for-last) refl

@@ -22,10 +22,12 @@ least_of-not_below : (key : List ℕ) (o : Option (List ℕ)) → IsNotBelow key
 least_of-not_below key None h = refl
 least_of-not_below key (Some other) h = rw h refl
 
-greater_reversed : (a b : List ℕ) → slice_cmp nat_cmp a b ≡ Less → is_lt (slice_cmp nat_cmp b a) ≡ false
+greater_reversed : (a b : List ℕ) → slice_cmp nat_cmp a b ≡ Less
+    → is_lt (slice_cmp nat_cmp b a) ≡ false
 greater_reversed a b h = rw (nat_list_cmp_total.antisymm b a, h) refl
 
-least_of-above : (key k : List ℕ) (o : Option (List ℕ)) → is_lt (slice_cmp nat_cmp k key) ≡ false → IsNotBelow key o → is_lt (slice_cmp nat_cmp (least_of k o) key) ≡ false
+least_of-above : (key k : List ℕ) (o : Option (List ℕ)) → is_lt (slice_cmp nat_cmp k key) ≡ false
+    → IsNotBelow key o → is_lt (slice_cmp nat_cmp (least_of k o) key) ≡ false
 least_of-above key k None h n = h
 least_of-above key k (Some other) h n =
     elim (cases_Bool (is_lt (slice_cmp nat_cmp other k))) [
@@ -33,16 +35,21 @@ least_of-above key k (Some other) h n =
       | inr more ↦ rw more h
     ]
 
-not_below : (key : String Global) (es : List Entry) → AllByRecursion (λ y. string_cmp key y ≡ Less) (keys_of es) → IsNotBelow (string_bytes key) (least_unknown (members_view es))
+not_below : (key : String Global) (es : List Entry)
+    → AllByRecursion (λ y. string_cmp key y ≡ Less) (keys_of es)
+    → IsNotBelow (string_bytes key) (least_unknown (members_view es))
 not_below key [] h = tt
 not_below key (e ∷ es) h =
     elim (cases_Bool (is_known (string_bytes e.0))) [
       | inl known ↦ rw known (not_below key es h.1)
-      | inr other ↦ rw other (least_of-above (string_bytes key) (string_bytes e.0) _ (greater_reversed (string_bytes key) (string_bytes e.0) h.0) (not_below key es h.1))
+      | inr other ↦ rw other (least_of-above (string_bytes key) (string_bytes e.0) _
+          (greater_reversed (string_bytes key) (string_bytes e.0) h.0) (not_below key es h.1))
     ]
 
 -- the first unknown key of ascending entries is the least
-pub first_is_least : (es : List Entry) → IsStrictlySortedBy string_cmp (keys_of es) → option_map string_bytes (find (λ k. not (is_known (string_bytes k))) (keys_of es)) ≡ least_unknown (members_view es)
+pub first_is_least : (es : List Entry) → IsStrictlySortedBy string_cmp (keys_of es)
+    → option_map string_bytes (find (λ k. not (is_known (string_bytes k))) (keys_of es))
+    ≡ least_unknown (members_view es)
 unfolding IsStrictlySortedBy
 first_is_least [] h = refl
 first_is_least (e ∷ es) h =
@@ -51,6 +58,7 @@ first_is_least (e ∷ es) h =
       | inr other ↦ rw (other, least_of-not_below (string_bytes e.0) _ (not_below e.0 es h.0)) refl
     ]
 
-pub bytes_of_ref : {X Y : Type 0} (f : X → Y) (o : Option (Rattle.std.specs.Borrow.Bor X)) → option_map (λ s. f s.now) o ≡ option_map f (option_map (λ s. s.now) o)
+pub bytes_of_ref : {X Y : Type 0} (f : X → Y) (o : Option (Rattle.std.specs.Borrow.Bor X))
+    → option_map (λ s. f s.now) o ≡ option_map f (option_map (λ s. s.now) o)
 bytes_of_ref f None = refl
 bytes_of_ref f (Some x) = refl

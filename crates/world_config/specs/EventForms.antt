@@ -99,7 +99,8 @@ abbrev pub followed :
 followed nth None others = Err nth
 followed nth (Some event) others = more_events event (others event.update)
 
--- the events that members are from this place and this update on, or the place of the first member that is none
+-- the events that members are from this place and this update on, or the place of the first member
+-- that is none
 abbrev pub events_from : Frame → Items → ℕ → ℕ → Result (List EventValue) ℕ
 events_from frame no_items nth least = Ok []
 events_from frame (item d ds) nth least =

@@ -1,4 +1,5 @@
--- The table that says what a configuration says, its keys in order. No public clause cites this file.
+-- The table that says what a configuration says, its keys in order. No public clause cites this
+-- file.
 use Rattle.std.specs.Prelude.{ℕ, pos, List, [], ◌∷◌, codes}
 use Rattle.std.specs.Ordering.{nat_cmp, match_ordering}
 use Rattle.std.specs.Cmp.Lexicographic.{slice_cmp}

@@ -11,7 +11,8 @@ pub enum ConfigStop {
     Memory,
     /// The bytes are no TOML document.
     BadToml,
-    /// The document has a key that the table of keys lacks: the least such key in the order of bytes.
+    /// The document has a key that the table of keys lacks: the least such key in the order of
+    /// bytes.
     UnknownKey { key: KeyText },
     /// The value is not of the key's kind.
     WrongKind { key: Key },

@@ -1,39 +1,143 @@
--- A whole seat that interns one more genome.
-use Rattle.std.proofs.Common.{◌≡◌, ◌∙◌, refl, sym, ap, ℕ, ◌+◌, true, false, cond, List, [], ◌∷◌, ◌++◌, append-nil, length, Some}
+-- A whole seat that interns more genomes.
+use Rattle.std.proofs.Common.{◌≡◌, ◌∙◌, refl, sym, ap, ℕ, zero, suc, ◌+◌, ◌<◌, ◌≤◌, ◌⊎◌, Bool, true, false, cond, List, [], ◌∷◌, append-nil, fold, get_or, length, map, Some, arith, inl, inr}
 use Rattle.std.specs.Prelude.{nat_lt, slice_get}
-use Rattle.std.proofs.lemmas.List.Elements.{filter_map-append}
+use Rattle.std.specs.List.{All, Contains}
+use Rattle.std.proofs.lemmas.Bool.{cases_lt, ltb-false, ltb-true}
+use Rattle.std.proofs.lemmas.List.{length-append}
+use Rattle.std.proofs.lemmas.List.Elements.{All-cons, All-head, All-nil, All-tail, Contains-append_cases, Contains-get_or}
+use Rattle.std.proofs.lemmas.Option.{slice_get-get_or}
+use Rattle.cell_shards.specs.Finishing.{genome_in}
+use Rattle.cell_shards.specs.declared.delivered.Delivered.{Delivered}
 use Rattle.instruction_set.specs.declared.letter.Letter.{Letter}
 use Rattle.genotype_bank.specs.declared.view.Entry.{Entry}
-use Rattle.genotype_bank.specs.BankHistory.{call_of, entry, genome_of, genomes_of, genotypes_of, with_genome}
-use Rattle.genotype_bank.specs.Seats.{MakesCall, NumbersAgree, SeatValue, all_shares}
+use Rattle.genotype_bank.specs.BankHistory.{genotypes_of, with_genome}
+use Rattle.genotype_bank.specs.Seats.{NumbersAgree, SeatValue}
+use Rattle.world_core.specs.Genotypes.{HasNumber, TakesIn}
 use Rattle.world_core.specs.Population.{AreDifferent}
-
--- the genomes that it has seen interned end with this one
-pub genomes_of-interned : (before after : SeatValue) (genome : List Letter) → before.share ≡ all_shares → MakesCall before after (call_of true genome) → genomes_of after.seen ≡ genomes_of before.seen ++ genome ∷ []
-genomes_of-interned before after genome whole made =
-    ap genomes_of (made.alone whole)
-    ∙ filter_map-append (λ (one : Entry). genome_of one.call) before.seen (entry made.number (call_of true genome) ∷ [])
-
--- they stay where memory ran out
-pub genomes_of-refused : (before after : SeatValue) (genome : List Letter) → before.share ≡ all_shares → MakesCall before after (call_of false genome) → genomes_of after.seen ≡ genomes_of before.seen
-genomes_of-refused before after genome whole made =
-    ap genomes_of (made.alone whole)
-    ∙ filter_map-append (λ (one : Entry). genome_of one.call) before.seen (entry made.number (call_of false genome) ∷ [])
-    ∙ append-nil (genomes_of before.seen)
+use Rattle.world_core.proofs.StandingLemmas.{prefix-stays}
 
 -- no two numbers have one genome
-pub genotypes-different : NumbersAgree → (history : List Entry) → AreDifferent (genotypes_of history)
+pub genotypes-different : NumbersAgree → (history : List Entry)
+    → AreDifferent (genotypes_of history)
 genotypes-different agree history number other genome at has =
-    (agree history history history number other genome genome ([], append-nil history) ([], append-nil history) at has).1 refl
+    (agree history history history number other genome genome ([], append-nil history)
+    ([], append-nil history) at has).1 refl
 
 -- how a genome more counts, by its number
 abbrev pub CountsOneMore : Type 0
 CountsOneMore =
-    (genotypes : List (List Letter)) (genome : List Letter) (number : ℕ) → slice_get (with_genome genotypes genome) number ≡ Some genome → length (with_genome genotypes genome) ≡ cond (nat_lt number (length genotypes)) (length genotypes) (number + 1)
+    (genotypes : List (List Letter)) (genome : List Letter) (number : ℕ)
+    → slice_get (with_genome genotypes genome) number ≡ Some genome
+    → length (with_genome genotypes genome) ≡ cond (nat_lt number (length genotypes))
+    (length genotypes) (number + 1)
 
 -- how many genotypes there are then
-pub genotypes-counted : CountsOneMore → (before after : SeatValue) (genome : List Letter) (number len next : ℕ) → genotypes_of after.seen ≡ with_genome (genotypes_of before.seen) genome → slice_get (genotypes_of after.seen) number ≡ Some genome → len ≡ length (genotypes_of before.seen) → next ≡ cond (nat_lt number len) len (number + 1) → next ≡ length (genotypes_of after.seen)
+pub genotypes-counted : CountsOneMore
+    → (before after : SeatValue) (genome : List Letter) (number len next : ℕ)
+    → genotypes_of after.seen ≡ with_genome (genotypes_of before.seen) genome
+    → slice_get (genotypes_of after.seen) number ≡ Some genome
+    → len ≡ length (genotypes_of before.seen) → next ≡ cond (nat_lt number len) len (number + 1)
+    → next ≡ length (genotypes_of after.seen)
 genotypes-counted count before after genome number len next more at is counted =
     counted
     ∙ ap (λ n. cond (nat_lt number n) n (number + 1)) is
-    ∙ sym (ap length more ∙ count (genotypes_of before.seen) genome number (sym (ap (λ gs. slice_get gs number) more) ∙ at))
+    ∙ sym (ap length more ∙ count (genotypes_of before.seen) genome number
+    (sym (ap (λ gs. slice_get gs number) more) ∙ at))
+
+-- how many genotypes have a number once this newborn was given its own
+abbrev pub next_len : ℕ → Delivered → ℕ
+next_len n birth = cond (nat_lt birth.handle.number n) n (birth.handle.number + 1)
+
+-- it is above the number, and no less than before
+next-above : (n : ℕ) (birth : Delivered) → (n ≤ next_len n birth)
+    × (birth.handle.number < next_len n birth)
+next-above n birth = by (nat_lt birth.handle.number n) refl where
+  by : (b : Bool) → nat_lt birth.handle.number n ≡ b → (n ≤ cond b n (birth.handle.number + 1))
+      × (birth.handle.number < cond b n (birth.handle.number + 1))
+  by true is = (omega arith, ltb-true birth.handle.number n is)
+  by false is = (omega (arith, ltb-false birth.handle.number n is), omega arith)
+
+-- where the number is below another, it stays within that
+next-within : (n most : ℕ) (birth : Delivered) → n ≤ most → birth.handle.number < most
+    → next_len n birth ≤ most
+next-within n most birth few below = by (nat_lt birth.handle.number n) where
+  by : (b : Bool) → cond b n (birth.handle.number + 1) ≤ most
+  by true = few
+  by false = omega (arith, below)
+
+len-grows : (n : ℕ) (births : List Delivered) → n ≤ fold next_len n births
+len-grows n [] = omega arith
+len-grows n (birth ∷ births) =
+    omega (arith, (next-above n birth).0, len-grows (next_len n birth) births)
+
+len-above : (n : ℕ) (births : List Delivered)
+    → All (λ birth. birth.handle.number < fold next_len n births) births
+len-above n [] = All-nil (λ birth. birth.handle.number < n)
+len-above n (birth ∷ births) =
+    All-cons (λ (one : Delivered). one.handle.number < fold next_len (next_len n birth) births)
+    birth births
+    (omega (arith, (next-above n birth).1, len-grows (next_len n birth) births))
+    (len-above (next_len n birth) births)
+
+len-within : (n most : ℕ) (births : List Delivered) → n ≤ most
+    → All (λ birth. birth.handle.number < most) births → fold next_len n births ≤ most
+len-within n most [] few below = few
+len-within n most (birth ∷ births) few below =
+    len-within (next_len n birth) most births
+    (next-within n most birth few
+    (All-head (λ (one : Delivered). one.handle.number < most) birth births below))
+    (All-tail (λ (one : Delivered). one.handle.number < most) birth births below)
+
+-- a number that has a genome is below their count
+number-within : (genomes : List (List Letter)) (number : ℕ) (genome : List Letter)
+    → slice_get genomes number ≡ Some genome → number < length genomes
+number-within [] number genome is = absurd cc
+number-within (g ∷ genomes) zero genome is = omega arith
+number-within (g ∷ genomes) (suc number) genome is =
+    omega (arith, number-within genomes number genome is)
+
+-- a genome of some newborns is that of one of them
+newborn-of : (P : Delivered → Type 0) (births : List Delivered) (genome : List Letter)
+    → All P births → Contains (map genome_in births) genome → (birth : Delivered) × P birth
+    × (genome_in birth ≡ genome)
+newborn-of P [] genome all has = absurd (omega (arith, has.1))
+newborn-of P (birth ∷ births) genome all (zero, within, is) =
+    (birth, All-head P birth births all, is)
+newborn-of P (birth ∷ births) genome all (suc k, within, is) =
+    newborn-of P births genome (All-tail P birth births all) (k, omega (arith, within), is)
+
+-- how many genotypes there are once the genomes of newborns were taken in
+pub len-taken : (old new : List (List Letter)) (births : List Delivered) → TakesIn old new births
+    → AreDifferent new → fold next_len (length old) births ≡ length new
+len-taken old new births takes different = by (cases_lt most (length new)) where
+  most : ℕ
+  most = fold next_len (length old) births
+
+  within : most ≤ length new
+  within =
+      len-within (length old) (length new) births
+      (omega (arith, length-append old takes.stays.0, ap length takes.stays.1))
+      (λ k d inside. number-within new _ _ (takes.numbers k d inside))
+
+  by : (most < length new) ⊎ (length new ≤ most) → most ≡ length new
+  by (inr above) = omega (arith, above, within)
+  by (inl below) =
+      let genome : List Letter = get_or new most [] in
+      let there : slice_get new most ≡ Some genome = slice_get-get_or new most [] below in
+      absurd (elim (Contains-append_cases old (map genome_in births) genome
+      ((takes.each.members genome).0 (Contains-get_or new most [] below))) [
+        | inl has ↦
+            let early : slice_get old has.0 ≡ Some genome =
+            slice_get-get_or old has.0 genome has.1 ∙ ap Some has.2 in
+            let same : has.0 ≡ most =
+            different has.0 most genome (prefix-stays old new has.0 genome takes.stays early)
+            there in
+            omega (arith, same, has.1, len-grows (length old) births)
+        | inr has ↦
+            let born = newborn-of (λ birth. HasNumber new birth × (birth.handle.number < most))
+            births genome (λ k d inside.
+            (takes.numbers k d inside, len-above (length old) births k d inside)) has in
+            let same : born.0.handle.number ≡ most =
+            different born.0.handle.number most genome (born.1.0 ∙ ap Some born.2) there in
+            omega (arith, same, born.1.1)
+      ])

@@ -7,9 +7,10 @@ use Rattle.census.specs.Changes.{CanAdd, CanRemove, genotype_with_one, genotype_
 use Rattle.census.specs.Counts.{Counts, genotype_at, living_of}
 use Rattle.instruction_set.specs.declared.letter.Letter.{Letter}
 use Rattle.world_rules.specs.World.{Occupant}
-use Rattle.genotype_bank.specs.BankHistory.{different_of, with_genome}
+use mathlib.Core.List.{IsPrefix}
+use Rattle.genotype_bank.specs.BankHistory.{with_genome}
 use Rattle.world_core.specs.Population.{IsKeptOf, AreCountedIn, AreDifferent, AreSummedIn, genome_of, genomes_of}
-use Rattle.world_core.proofs.StandingLemmas.{OneList, AreCountedIn-more, AreCountedIn-none, AreCountedIn-put, AreCountedIn-removed, some-counted}
+use Rattle.world_core.proofs.StandingLemmas.{OneList, AreCountedIn-more, AreCountedIn-none, AreCountedIn-put, AreCountedIn-removed, some-counted, with_genome-prefix}
 use Rattle.world_core.proofs.SumLemmas.{AreSummedIn-none, AreSummedIn-put, AreSummedIn-removed, credited-counted, merit-counted, merit-room, tasks-room}
 
 -- where nobody stands no genome does
@@ -18,33 +19,47 @@ nobody zero = refl
 nobody (suc n) = ap (λ slots. None ∷ slots) (nobody n)
 
 -- nobody stands anywhere
-pub IsKeptOf-none : (n : ℕ) (cells : List (Option Occupant)) (genomes : List (List Letter)) (keys : List ℕ) (counts : Counts) → cells ≡ replicate n None → genomes ≡ [] → length keys ≡ n → counts ≡ record { genotypes = []; merit = 0; tasks = replicate 9 0 } → n ≤ 65536 → IsKeptOf cells genomes keys counts
+pub IsKeptOf-none : (n : ℕ) (cells : List (Option Occupant)) (genomes : List (List Letter))
+    (keys : List ℕ) (counts : Counts) → cells ≡ replicate n None → genomes ≡ [] → length keys ≡ n
+    → counts ≡ record { genotypes = []; merit = 0; tasks = replicate 9 0 } → n ≤ 65536
+    → IsKeptOf cells genomes keys counts
 IsKeptOf-none n cells genomes keys counts empty unnumbered long nothing few =
     let standing : genomes_of (replicate n None) ≡ replicate n None = nobody n in
-    let start : IsKeptOf (replicate n None) [] keys (record { genotypes = []; merit = 0; tasks = replicate 9 0 }) = record {
+    let start : IsKeptOf (replicate n None) [] keys
+    (record { genotypes = []; merit = 0; tasks = replicate 9 0 }) = record {
       different = λ number other genome is has. cc;
-      genotypes = subst (λ (s : List (Option (List Letter))). AreCountedIn s [] keys []) (sym standing) (AreCountedIn-none n keys long);
+      genotypes = subst (λ (s : List (Option (List Letter))). AreCountedIn s [] keys [])
+          (sym standing) (AreCountedIn-none n keys long);
       sums = AreSummedIn-none n few;
     } in
     rw (empty, unnumbered, nothing) start
 
 -- the genome in a cell
-standing-at : (cells : List (Option Occupant)) (cell : ℕ) → cell < length cells → get_or (genomes_of cells) cell None ≡ genome_of (get_or cells cell None)
-standing-at cells cell within = get_or-map genome_of cells cell None None (omega (arith, within, length-map cells genome_of))
+standing-at : (cells : List (Option Occupant)) (cell : ℕ) → cell < length cells
+    → get_or (genomes_of cells) cell None ≡ genome_of (get_or cells cell None)
+standing-at cells cell within =
+    get_or-map genome_of cells cell None None (omega (arith, within, length-map cells genome_of))
 
 -- the key of a cell is the number of the genome that stands there
-pub key-is : (cells : List (Option Occupant)) (genomes : List (List Letter)) (keys : List ℕ) (counts : Counts) (cell : ℕ) (o : Occupant) → cell < length cells → get_or cells cell None ≡ Some o → IsKeptOf cells genomes keys counts → slice_get genomes (get_or keys cell 0) ≡ Some o.organism.genome
+pub key-is : (cells : List (Option Occupant)) (genomes : List (List Letter)) (keys : List ℕ)
+    (counts : Counts) (cell : ℕ) (o : Occupant) → cell < length cells
+    → get_or cells cell None ≡ Some o → IsKeptOf cells genomes keys counts
+    → slice_get genomes (get_or keys cell 0) ≡ Some o.organism.genome
 key-is cells genomes keys counts cell o within here kept =
     kept.genotypes.keyed cell o.organism.genome (standing-at cells cell within ∙ ap genome_of here)
 
-module _ (one_list : OneList) (cells : List (Option Occupant)) (genomes : List (List Letter)) (keys : List ℕ) (before after : Counts) (cell : ℕ) (within : cell < length cells) where
+module _ (one_list : OneList) (cells : List (Option Occupant)) (genomes : List (List Letter))
+    (keys : List ℕ) (before after : Counts) (cell : ℕ) (within : cell < length cells) where
   -- in an empty cell nobody dies
-  pub IsKeptOf-empty : get_or cells cell None ≡ None → IsKeptOf cells genomes keys before → IsKeptOf (set cells cell None) genomes keys before
+  pub IsKeptOf-empty : get_or cells cell None ≡ None → IsKeptOf cells genomes keys before
+      → IsKeptOf (set cells cell None) genomes keys before
   IsKeptOf-empty here kept =
-      let same : set cells cell None ≡ cells = ap (set cells cell) (sym here) ∙ set-get_or cells cell None in
+      let same : set cells cell None ≡ cells =
+      ap (set cells cell) (sym here) ∙ set-get_or cells cell None in
       subst (λ cells. IsKeptOf cells genomes keys before) (sym same) kept
 
-  module _ (o : Occupant) (kept : IsKeptOf cells genomes keys before) (here : get_or cells cell None ≡ Some o) where
+  module _ (o : Occupant) (kept : IsKeptOf cells genomes keys before)
+      (here : get_or cells cell None ≡ Some o) where
     stands : get_or (genomes_of cells) cell None ≡ Some o.organism.genome
     stands = standing-at cells cell within ∙ ap genome_of here
 
@@ -54,50 +69,99 @@ module _ (one_list : OneList) (cells : List (Option Occupant)) (genomes : List (
     -- an organism that stands in a cell may go
     pub can-remove : CanRemove before (get_or keys cell 0) o.organism.merit o.organism.credited
     can-remove = record {
-      counted = some-counted one_list (genomes_of cells) genomes keys before.genotypes cell o.organism.genome wide stands kept.genotypes;
+      counted = some-counted one_list (genomes_of cells) genomes keys before.genotypes cell
+          o.organism.genome wide stands kept.genotypes;
       merits = merit-counted cells cell o before.merit before.tasks within here kept.sums;
       tasks = credited-counted cells cell o before.merit before.tasks within here kept.sums;
     }
 
-    pub IsKeptOf-removed : after ≡ without_organism before (get_or keys cell 0) o.organism.merit o.organism.credited → ((other : ℕ) → genotype_at after.genotypes other ≡ genotype_without_one before.genotypes (get_or keys cell 0) other) → living_of after.genotypes + 1 ≡ living_of before.genotypes → IsKeptOf (set cells cell None) genomes keys after
+    pub IsKeptOf-removed : after ≡ without_organism before (get_or keys cell 0) o.organism.merit
+        o.organism.credited → ((other : ℕ)
+        → genotype_at after.genotypes other ≡ genotype_without_one before.genotypes
+        (get_or keys cell 0) other) → living_of after.genotypes + 1 ≡ living_of before.genotypes
+        → IsKeptOf (set cells cell None) genomes keys after
     IsKeptOf-removed is under living = record {
       different = kept.different;
-      genotypes = subst (λ (s : List (Option (List Letter))). AreCountedIn s genomes keys after.genotypes) (sym (map-set genome_of cells cell None)) (AreCountedIn-removed one_list (genomes_of cells) genomes keys before.genotypes after.genotypes cell o.organism.genome kept.different wide stands kept.genotypes under living);
-      sums = rw is (AreSummedIn-removed cells cell o before.merit before.tasks within here kept.sums);
+      genotypes = subst (λ (s : List (Option (List Letter))).
+          AreCountedIn s genomes keys after.genotypes) (sym (map-set genome_of cells cell None))
+          (AreCountedIn-removed one_list (genomes_of cells) genomes keys before.genotypes
+          after.genotypes cell o.organism.genome kept.different wide stands kept.genotypes under
+          living);
+      sums =
+          rw is (AreSummedIn-removed cells cell o before.merit before.tasks within here kept.sums);
     }
 
-  module _ (o : Occupant) (number : ℕ) (number_is : slice_get genomes number ≡ Some o.organism.genome) (empty : get_or cells cell None ≡ None) (fits : o.organism.merit ≤ 2 ^ 38) (kept : IsKeptOf cells genomes keys before) where
+  module _ (o : Occupant) (number : ℕ)
+      (number_is : slice_get genomes number ≡ Some o.organism.genome)
+      (empty : get_or cells cell None ≡ None) (fits : o.organism.merit ≤ 2 ^ 38)
+      (kept : IsKeptOf cells genomes keys before) where
     -- an organism may come into an empty cell
     pub can-add : CanAdd before number o.organism.genome o.organism.merit
     can-add = record {
-      one_genome = λ genotype at. (let some : Some genotype.genome ≡ Some o.organism.genome = sym (kept.genotypes.named number genotype at) ∙ number_is in cc);
-      one_key = λ other genotype at same. kept.different other number o.organism.genome (kept.genotypes.named other genotype at ∙ ap Some same) number_is;
-      living = omega (arith, kept.genotypes.living, kept.sums.few, length-map cells genome_of, count_by-le-length is_some (genomes_of cells));
+      one_genome = λ genotype at.
+          (let some : Some genotype.genome ≡ Some o.organism.genome =
+          sym (kept.genotypes.named number genotype at) ∙ number_is in cc);
+      one_key = λ other genotype at same. kept.different other number o.organism.genome
+          (kept.genotypes.named other genotype at ∙ ap Some same) number_is;
+      living = omega (
+        arith,
+        kept.genotypes.living,
+        kept.sums.few,
+        length-map cells genome_of,
+        count_by-le-length is_some (genomes_of cells),
+      );
       merits = omega (arith, fits, merit-room cells before.merit before.tasks kept.sums);
       tasks = tasks-room cells before.merit before.tasks kept.sums;
     }
 
-    pub IsKeptOf-put : after ≡ with_organism before number o.organism.genome o.organism.merit o.organism.credited → ((other : ℕ) → genotype_at after.genotypes other ≡ genotype_with_one before.genotypes number o.organism.genome other) → living_of after.genotypes ≡ living_of before.genotypes + 1 → IsKeptOf (set cells cell (Some o)) genomes (set keys cell number) after
+    pub IsKeptOf-put : after ≡ with_organism before number o.organism.genome o.organism.merit
+        o.organism.credited → ((other : ℕ)
+        → genotype_at after.genotypes other
+        ≡ genotype_with_one before.genotypes number o.organism.genome other)
+        → living_of after.genotypes ≡ living_of before.genotypes + 1
+        → IsKeptOf (set cells cell (Some o)) genomes (set keys cell number) after
     IsKeptOf-put is under living = record {
       different = kept.different;
-      genotypes = subst (λ (s : List (Option (List Letter))). AreCountedIn s genomes (set keys cell number) after.genotypes) (sym (map-set genome_of cells cell (Some o))) (AreCountedIn-put one_list (genomes_of cells) genomes keys before.genotypes after.genotypes cell number o.organism.genome kept.different (omega (arith, within, length-map cells genome_of)) (standing-at cells cell within ∙ ap genome_of empty) number_is kept.genotypes under living);
-      sums = rw is (AreSummedIn-put cells cell o before.merit before.tasks within empty fits kept.sums);
+      genotypes = subst (λ (s : List (Option (List Letter))). AreCountedIn s genomes
+          (set keys cell number) after.genotypes) (sym (map-set genome_of cells cell (Some o)))
+          (AreCountedIn-put one_list (genomes_of cells) genomes keys before.genotypes
+          after.genotypes cell number o.organism.genome kept.different
+          (omega (arith, within, length-map cells genome_of))
+          (standing-at cells cell within ∙ ap genome_of empty) number_is kept.genotypes under
+          living);
+      sums = rw is (AreSummedIn-put cells cell o before.merit before.tasks within empty fits
+          kept.sums);
     }
 
+-- where the bank grows what is kept stays
+pub IsKeptOf-more : OneList
+    → (cells : List (Option Occupant)) (before after : List (List Letter)) (keys : List ℕ)
+    (counts : Counts) → IsPrefix before after → AreDifferent after
+    → IsKeptOf cells before keys counts → IsKeptOf cells after keys counts
+IsKeptOf-more one_list cells before after keys counts prefix different kept = record {
+  different = different;
+  genotypes = AreCountedIn-more one_list (genomes_of cells) before keys counts.genotypes after
+      prefix different kept.genotypes;
+  sums = kept.sums;
+}
+
 -- a genome more has a number, or none where memory ran out, and nothing else is kept otherwise
-pub IsKeptOf-interned : {T E : Type 0} → OneList → (cells : List (Option Occupant)) (before after : List (List Letter)) (keys : List ℕ) (counts : Counts) (new : List Letter) (result : Result T E) → OnOk result (different_of after ≡ with_genome (different_of before) new) → OnErr result (after ≡ before) → AreDifferent (different_of after) → IsKeptOf cells (different_of before) keys counts → IsKeptOf cells (different_of after) keys counts
+pub IsKeptOf-interned : {T E : Type 0} → OneList
+    → (cells : List (Option Occupant)) (before after : List (List Letter)) (keys : List ℕ)
+    (counts : Counts) (new : List Letter) (result : Result T E)
+    → OnOk result (after ≡ with_genome before new) → OnErr result (after ≡ before)
+    → AreDifferent after → IsKeptOf cells before keys counts → IsKeptOf cells after keys counts
 IsKeptOf-interned one_list cells before after keys counts new (Ok value) more same different kept =
-    let apart : AreDifferent (with_genome (different_of before) new) = subst AreDifferent more different in
-    subst (λ (gs : List (List Letter)). IsKeptOf cells gs keys counts) (sym more) (record {
-      different = apart;
-      genotypes = AreCountedIn-more one_list (genomes_of cells) (different_of before) keys counts.genotypes new apart kept.genotypes;
-      sums = kept.sums;
-    })
+    IsKeptOf-more one_list cells before after keys counts
+    (subst (IsPrefix before) (sym more) (with_genome-prefix before new)) different kept
 IsKeptOf-interned one_list cells before after keys counts new (Err error) more same different kept =
-    subst (λ (gs : List (List Letter)). IsKeptOf cells (different_of gs) keys counts) (sym same) kept
+    subst (λ (gs : List (List Letter)). IsKeptOf cells gs keys counts) (sym same) kept
 
 -- all have lived
-pub IsKeptOf-lived : (cells next : List (Option Occupant)) (genomes : List (List Letter)) (keys : List ℕ) (before after : Counts) → IsKeptOf cells genomes keys before → after.genotypes ≡ before.genotypes → genomes_of next ≡ genomes_of cells → AreSummedIn next after.merit after.tasks → IsKeptOf next genomes keys after
+pub IsKeptOf-lived : (cells next : List (Option Occupant)) (genomes : List (List Letter))
+    (keys : List ℕ) (before after : Counts) → IsKeptOf cells genomes keys before
+    → after.genotypes ≡ before.genotypes → genomes_of next ≡ genomes_of cells
+    → AreSummedIn next after.merit after.tasks → IsKeptOf next genomes keys after
 IsKeptOf-lived cells next genomes keys before after kept same standing sums = record {
   different = kept.different;
   genotypes = rw (standing, same) kept.genotypes;

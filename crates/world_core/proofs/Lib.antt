@@ -1,7 +1,16 @@
 pub mod ScanLemmas
 pub mod SoundLemmas
 mod LifeLemmas
-mod LifeCountLemmas
+mod CountLemmas
+mod ResidentLemmas
+mod ShardLemmas
+mod BurialLemmas
+mod BoundLemmas
+mod JoinLemmas
+mod CutLemmas
+mod BirthLemmas
+mod GrowLemmas
+mod LivedLemmas
 mod LivesLemmas
 mod SettingsLemmas
 mod UpdateLemmas
@@ -10,7 +19,6 @@ mod StandingLemmas
 mod KeptOfLemmas
 mod StatLemmas
 mod SumLemmas
-mod DescentLemmas
+mod TreeLemmas
 mod EventLemmas
 mod GenotypeLemmas
-mod BankLemmas

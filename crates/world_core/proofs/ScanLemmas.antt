@@ -1,27 +1,36 @@
 -- A scan beside the fold of its states, one element after another.
-use Rattle.std.proofs.Common.{◌≡◌, ◌∙◌, refl, sym, ap, ℕ, ◌+◌, ◌<◌, List, [], ◌∷◌, ◌++◌, length, take, get_or, fold, Option, None, Some, append_assoc, append-nil}
-use Rattle.std.specs.List.{scan, filter_map, flat_map}
+use Rattle.std.proofs.Common.{◌≡◌, ◌∙◌, refl, sym, ap, ℕ, ◌+◌, ◌<◌, List, [], ◌∷◌, ◌++◌, length, map, take, get_or, fold, Option, None, Some, append_assoc, append-nil}
+use Rattle.std.specs.List.{scan, filter_map, flat_map, zip}
 use Rattle.std.specs.Option.{option_to_list}
 use Rattle.std.proofs.lemmas.List.{take_more}
 use Rattle.std.proofs.lemmas.List.Concat.{flat_map-append}
 use Rattle.std.proofs.lemmas.List.Elements.{filter_map-append}
 
 -- the outputs of a list and of one behind it
-pub scan-append : {S X Y : Type 0} (next : S → X → S) (out : S → X → Y) (a : S) (xs ys : List X) → scan next out a (xs ++ ys) ≡ scan next out a xs ++ scan next out (fold next a xs) ys
+pub scan-append : {S X Y : Type 0} (next : S → X → S) (out : S → X → Y) (a : S) (xs ys : List X)
+    → scan next out a (xs ++ ys) ≡ scan next out a xs ++ scan next out (fold next a xs) ys
 scan-append next out a [] ys = refl
 scan-append next out a (x ∷ xs) ys = ap (λ l. out a x ∷ l) (scan-append next out (next a x) xs ys)
 
 -- the outputs of one element more
-pub scan-more : {S X Y : Type 0} (next : S → X → S) (out : S → X → Y) (a : S) (xs : List X) (i : ℕ) (d : X) → i < length xs → scan next out a (take (i + 1) xs) ≡ scan next out a (take i xs) ++ out (fold next a (take i xs)) (get_or xs i d) ∷ []
-scan-more next out a xs i d within = ap (scan next out a) (take_more xs i d within) ∙ scan-append next out a (take i xs) (get_or xs i d ∷ [])
+pub scan-more : {S X Y : Type 0} (next : S → X → S) (out : S → X → Y) (a : S) (xs : List X) (i : ℕ)
+    (d : X) → i < length xs → scan next out a (take (i + 1) xs) ≡ scan next out a (take i xs)
+    ++ out (fold next a (take i xs)) (get_or xs i d) ∷ []
+scan-more next out a xs i d within = ap (scan next out a) (take_more xs i d within)
+    ∙ scan-append next out a (take i xs) (get_or xs i d ∷ [])
 
 -- what there is of one option
-pub filter_map-single : {Y : Type 0} (o : Option Y) → filter_map (λ y. y) (o ∷ []) ≡ option_to_list o
+pub filter_map-single : {Y : Type 0} (o : Option Y)
+    → filter_map (λ y. y) (o ∷ []) ≡ option_to_list o
 filter_map-single None = refl
 filter_map-single (Some y) = refl
 
 -- the text of what a scan tells, one element more, where each element tells something or nothing
-pub told-more : {S X Y : Type 0} (next : S → X → S) (out : S → X → Option Y) (text : Y → List ℕ) (a : S) (xs : List X) (i : ℕ) (d : X) → i < length xs → flat_map text (filter_map (λ y. y) (scan next out a (take (i + 1) xs))) ≡ flat_map text (filter_map (λ y. y) (scan next out a (take i xs))) ++ flat_map text (option_to_list (out (fold next a (take i xs)) (get_or xs i d)))
+pub told-more : {S X Y : Type 0} (next : S → X → S) (out : S → X → Option Y) (text : Y → List ℕ)
+    (a : S) (xs : List X) (i : ℕ) (d : X) → i < length xs
+    → flat_map text (filter_map (λ y. y) (scan next out a (take (i + 1) xs)))
+    ≡ flat_map text (filter_map (λ y. y) (scan next out a (take i xs)))
+    ++ flat_map text (option_to_list (out (fold next a (take i xs)) (get_or xs i d)))
 told-more next out text a xs i d within =
     let before = scan next out a (take i xs) in
     let here = out (fold next a (take i xs)) (get_or xs i d) in
@@ -31,7 +40,11 @@ told-more next out text a xs i d within =
     ∙ flat_map-append text (filter_map (λ y. y) before) (option_to_list here)
 
 -- the text of what a scan tells, one element more
-pub lines-more : {S X Y : Type 0} (next : S → X → S) (out : S → X → Y) (text : Y → List ℕ) (a : S) (xs : List X) (i : ℕ) (d : X) → i < length xs → flat_map text (scan next out a (take (i + 1) xs)) ≡ flat_map text (scan next out a (take i xs)) ++ text (out (fold next a (take i xs)) (get_or xs i d))
+pub lines-more : {S X Y : Type 0} (next : S → X → S) (out : S → X → Y) (text : Y → List ℕ) (a : S)
+    (xs : List X) (i : ℕ) (d : X) → i < length xs
+    → flat_map text (scan next out a (take (i + 1) xs))
+    ≡ flat_map text (scan next out a (take i xs))
+    ++ text (out (fold next a (take i xs)) (get_or xs i d))
 lines-more next out text a xs i d within =
     let before = scan next out a (take i xs) in
     let here = out (fold next a (take i xs)) (get_or xs i d) in
@@ -40,17 +53,49 @@ lines-more next out text a xs i d within =
     ∙ ap (λ l. flat_map text before ++ l) (append-nil (text here))
 
 -- one element more of what is told, where the state stands behind the first i
-pub told-step : {S X Y : Type 0} (next : S → X → S) (out : S → X → Option Y) (text : Y → List ℕ) (a s : S) (xs : List X) (i : ℕ) (d : X) (start old new : List ℕ) → i < length xs → s ≡ fold next a (take i xs) → old ≡ start ++ flat_map text (filter_map (λ y. y) (scan next out a (take i xs))) → new ≡ old ++ flat_map text (option_to_list (out s (get_or xs i d))) → new ≡ start ++ flat_map text (filter_map (λ y. y) (scan next out a (take (i + 1) xs)))
+pub told-step : {S X Y : Type 0} (next : S → X → S) (out : S → X → Option Y) (text : Y → List ℕ)
+    (a s : S) (xs : List X) (i : ℕ) (d : X) (start old new : List ℕ) → i < length xs
+    → s ≡ fold next a (take i xs)
+    → old ≡ start ++ flat_map text (filter_map (λ y. y) (scan next out a (take i xs)))
+    → new ≡ old ++ flat_map text (option_to_list (out s (get_or xs i d)))
+    → new ≡ start ++ flat_map text (filter_map (λ y. y) (scan next out a (take (i + 1) xs)))
 told-step {S = S} next out text a s xs i d start old new within state so_far one =
     let before = flat_map text (filter_map (λ y. y) (scan next out a (take i xs))) in
     let here = λ (at : S). flat_map text (option_to_list (out at (get_or xs i d))) in
-    one ∙ ap (λ l. l ++ here s) so_far ∙ append_assoc start before (here s) ∙ ap (λ at. start ++ (before ++ here at)) state
+    one ∙ ap (λ l. l ++ here s) so_far ∙ append_assoc start before (here s)
+    ∙ ap (λ at. start ++ (before ++ here at)) state
     ∙ ap (λ l. start ++ l) (sym (told-more next out text a xs i d within))
 
 -- one element more of the lines, where the state stands behind the first i
-pub lines-step : {S X Y : Type 0} (next : S → X → S) (out : S → X → Y) (text : Y → List ℕ) (a s : S) (xs : List X) (i : ℕ) (d : X) (start old new : List ℕ) → i < length xs → s ≡ fold next a (take i xs) → old ≡ start ++ flat_map text (scan next out a (take i xs)) → new ≡ old ++ text (out s (get_or xs i d)) → new ≡ start ++ flat_map text (scan next out a (take (i + 1) xs))
+pub lines-step : {S X Y : Type 0} (next : S → X → S) (out : S → X → Y) (text : Y → List ℕ) (a s : S)
+    (xs : List X) (i : ℕ) (d : X) (start old new : List ℕ) → i < length xs
+    → s ≡ fold next a (take i xs) → old ≡ start ++ flat_map text (scan next out a (take i xs))
+    → new ≡ old ++ text (out s (get_or xs i d))
+    → new ≡ start ++ flat_map text (scan next out a (take (i + 1) xs))
 lines-step {S = S} next out text a s xs i d start old new within state so_far one =
     let before = flat_map text (scan next out a (take i xs)) in
     let here = λ (at : S). text (out at (get_or xs i d)) in
-    one ∙ ap (λ l. l ++ here s) so_far ∙ append_assoc start before (here s) ∙ ap (λ at. start ++ (before ++ here at)) state
+    one ∙ ap (λ l. l ++ here s) so_far ∙ append_assoc start before (here s)
+    ∙ ap (λ at. start ++ (before ++ here at)) state
     ∙ ap (λ l. start ++ l) (sym (lines-more next out text a xs i d within))
+
+-- what is made of the first of each pair
+pub zip-map : {X Y Z : Type 0} (f : X → Y) (xs : List X) (zs : List Z)
+    → zip (map f xs) zs ≡ map (λ (pair : X × Z). (f pair.0, pair.1)) (zip xs zs)
+zip-map f [] zs = refl
+zip-map f (x ∷ xs) [] = refl
+zip-map f (x ∷ xs) (z ∷ zs) = ap (λ rest. (f x, z) ∷ rest) (zip-map f xs zs)
+
+-- a fold over what is made of each
+pub fold-map : {S X Y : Type 0} (next : S → Y → S) (f : X → Y) (a : S) (xs : List X)
+    → fold next a (map f xs) ≡ fold (λ s x. next s (f x)) a xs
+fold-map next f a [] = refl
+fold-map next f a (x ∷ xs) = fold-map next f (next a (f x)) xs
+
+-- so is a scan
+pub scan-map : {S X Y Z : Type 0} (next : S → Y → S) (out : S → Y → Z) (f : X → Y) (a : S)
+    (xs : List X) → scan next out a (map f xs)
+    ≡ scan (λ s x. next s (f x)) (λ s x. out s (f x)) a xs
+scan-map next out f a [] = refl
+scan-map next out f a (x ∷ xs) =
+    ap (λ rest. out a (f x) ∷ rest) (scan-map next out f (next a (f x)) xs)

@@ -8,18 +8,20 @@ use Rattle.std.proofs.lemmas.List.Elements.{All-map, All-same, All-set}
 use Rattle.std.proofs.lemmas.List.Folds.{sum_by-replicate}
 use Rattle.std.proofs.lemmas.List.Sums.{sum_by-set, sum_by-le, get_or-le-sum_by, count_by-le-length}
 use Rattle.census.specs.Changes.{AreCounted, CanRenew, tasks_with, tasks_without}
-use Rattle.census.specs.Counts.{Counts, GenotypeCount}
+use Rattle.census.specs.Counts.{GenotypeCount}
 use Rattle.logic_tasks.specs.declared.task.Task.{Task}
 use Rattle.logic_tasks.specs.declared.task.Task.TheVariants.{Not, Nand, And, Orn, Or, Andn, Nor, Xor, Equ}
 use Rattle.logic_tasks.specs.LogicTasks.{all_tasks, place_of}
 use Rattle.logic_tasks.specs.TaskSet.{has_task}
 use Rattle.world_rules.specs.World.{Occupant}
 use Rattle.world_rules.specs.Lives.{merit_in}
-use Rattle.world_core.specs.Population.{AreSummedIn, IsCounted, is_credited}
+use Rattle.world_core.specs.Population.{AreSummedIn, is_credited}
 
-pub map_alike : {A B : Type 0} (f g : A → B) → ((a : A) → f a ≡ g a) → (xs : List A) → map f xs ≡ map g xs
+pub map_alike : {A B : Type 0} (f g : A → B) → ((a : A) → f a ≡ g a) → (xs : List A)
+    → map f xs ≡ map g xs
 map_alike f g alike [] = refl
-map_alike f g alike (x ∷ xs) = ap (λ y. y ∷ map f xs) (alike x) ∙ ap (λ ys. g x ∷ ys) (map_alike f g alike xs)
+map_alike f g alike (x ∷ xs) =
+    ap (λ y. y ∷ map f xs) (alike x) ∙ ap (λ ys. g x ∷ ys) (map_alike f g alike xs)
 
 -- what stands at the place of a task in a list of one number a task
 pub at_task : (f : Task → ℕ) (task : Task) → slice_index (map f all_tasks) (place_of task) ≡ f task
@@ -45,7 +47,9 @@ from_bool-one false = refl
 abbrev pub cells_with : List (Option Occupant) → Task → ℕ
 cells_with cells task = count_by (is_credited task) cells
 
-pub task_sum : (cells : List (Option Occupant)) (merit : ℕ) (tasks : List ℕ) → AreSummedIn cells merit tasks → (task : Task) → slice_index tasks (place_of task) ≡ cells_with cells task
+pub task_sum : (cells : List (Option Occupant)) (merit : ℕ) (tasks : List ℕ)
+    → AreSummedIn cells merit tasks → (task : Task)
+    → slice_index tasks (place_of task) ≡ cells_with cells task
 task_sum cells merit tasks are task =
     ap (λ ts. slice_index ts (place_of task)) are.task_counts ∙ at_task (cells_with cells) task
 
@@ -53,40 +57,81 @@ task_sum cells merit tasks are task =
 pub AreSummedIn-none : (n : ℕ) → n ≤ 65536 → AreSummedIn (replicate n None) 0 (replicate 9 0)
 AreSummedIn-none n few = record {
   few = omega (arith, few, length-replicate {A = Option Occupant} n None);
-  fits = λ k d within. (let here = get_or-replicate n k None d (omega (arith, within, length-replicate {A = Option Occupant} n None)) in omega (arith, ap merit_in here));
+  fits = λ k d within. (let here =
+      get_or-replicate n k None d
+      (omega (arith, within, length-replicate {A = Option Occupant} n None)) in
+      omega (arith, ap merit_in here));
   merit_sum = omega (arith, sum_by-replicate merit_in n None);
-  task_counts = sym (map_alike (cells_with (replicate n None)) (λ task. 0) (λ task. omega (arith, sum_by-replicate (λ slot. one (is_credited task slot)) n None)) all_tasks);
+  task_counts = sym (map_alike (cells_with (replicate n None)) (λ task. 0)
+      (λ task. omega (arith, sum_by-replicate (λ slot. one (is_credited task slot)) n None))
+      all_tasks);
 }
 
 -- one cell has changed
-pub AreSummedIn-set : (cells : List (Option Occupant)) (cell : ℕ) (slot : Option Occupant) (merit next_merit : ℕ) (tasks next_tasks : List ℕ) (f : Task → ℕ) → cell < length cells → merit_in slot ≤ 2 ^ 38 → AreSummedIn cells merit tasks → next_merit + merit_in (get_or cells cell None) ≡ merit + merit_in slot → next_tasks ≡ map f all_tasks → ((task : Task) → f task + one (is_credited task (get_or cells cell None)) ≡ cells_with cells task + one (is_credited task slot)) → AreSummedIn (set cells cell slot) next_merit next_tasks
-AreSummedIn-set cells cell slot merit next_merit tasks next_tasks f within fits are sum list each = record {
-  few = omega (arith, are.few, length-set cells cell slot);
-  fits = All-set (λ slot. merit_in slot ≤ 2 ^ 38) cells cell slot fits are.fits;
-  merit_sum = omega (arith, sum, are.merit_sum, sum_by-set merit_in cells cell slot None within);
-  task_counts = list ∙ map_alike f (cells_with (set cells cell slot)) (λ task. omega (arith, each task, sum_by-set (λ slot. one (is_credited task slot)) cells cell slot None within)) all_tasks;
-}
+pub AreSummedIn-set : (cells : List (Option Occupant)) (cell : ℕ) (slot : Option Occupant)
+    (merit next_merit : ℕ) (tasks next_tasks : List ℕ) (f : Task → ℕ) → cell < length cells
+    → merit_in slot ≤ 2 ^ 38 → AreSummedIn cells merit tasks
+    → next_merit + merit_in (get_or cells cell None) ≡ merit + merit_in slot
+    → next_tasks ≡ map f all_tasks
+    → ((task : Task) → f task + one (is_credited task (get_or cells cell None))
+    ≡ cells_with cells task + one (is_credited task slot))
+    → AreSummedIn (set cells cell slot) next_merit next_tasks
+AreSummedIn-set cells cell slot merit next_merit tasks next_tasks f within fits are sum list each =
+    record {
+      few = omega (arith, are.few, length-set cells cell slot);
+      fits = All-set (λ slot. merit_in slot ≤ 2 ^ 38) cells cell slot fits are.fits;
+      merit_sum =
+          omega (arith, sum, are.merit_sum, sum_by-set merit_in cells cell slot None within);
+      task_counts = list ∙ map_alike f (cells_with (set cells cell slot))
+          (λ task. omega (
+            arith,
+            each task,
+            sum_by-set (λ slot. one (is_credited task slot)) cells cell slot None within,
+          )) all_tasks;
+    }
 
 -- who stands in a cell is in the sums
-pub credited-counted : (cells : List (Option Occupant)) (cell : ℕ) (o : Occupant) (merit : ℕ) (tasks : List ℕ) → cell < length cells → get_or cells cell None ≡ Some o → AreSummedIn cells merit tasks → AreCounted tasks o.organism.credited
+pub credited-counted : (cells : List (Option Occupant)) (cell : ℕ) (o : Occupant) (merit : ℕ)
+    (tasks : List ℕ) → cell < length cells → get_or cells cell None ≡ Some o
+    → AreSummedIn cells merit tasks → AreCounted tasks o.organism.credited
 credited-counted cells cell o merit tasks within here are task has =
-    let stands : is_credited task (get_or cells cell None) ≡ true = ap (is_credited task) here ∙ has in
-    omega (arith, task_sum cells merit tasks are task, get_or-le-sum_by (λ slot. one (is_credited task slot)) cells cell None within, ap one stands)
+    let stands : is_credited task (get_or cells cell None) ≡ true =
+    ap (is_credited task) here ∙ has in
+    omega (
+      arith,
+      task_sum cells merit tasks are task,
+      get_or-le-sum_by (λ slot. one (is_credited task slot)) cells cell None within,
+      ap one stands,
+    )
 
-pub merit-counted : (cells : List (Option Occupant)) (cell : ℕ) (o : Occupant) (merit : ℕ) (tasks : List ℕ) → cell < length cells → get_or cells cell None ≡ Some o → AreSummedIn cells merit tasks → o.organism.merit ≤ merit
+pub merit-counted : (cells : List (Option Occupant)) (cell : ℕ) (o : Occupant) (merit : ℕ)
+    (tasks : List ℕ) → cell < length cells → get_or cells cell None ≡ Some o
+    → AreSummedIn cells merit tasks → o.organism.merit ≤ merit
 merit-counted cells cell o merit tasks within here are =
     omega (arith, are.merit_sum, get_or-le-sum_by merit_in cells cell None within, ap merit_in here)
 
 -- the sums have room for one organism more
-pub merit-room : (cells : List (Option Occupant)) (merit : ℕ) (tasks : List ℕ) → AreSummedIn cells merit tasks → merit ≤ 65536 * 2 ^ 38
-merit-room cells merit tasks are = omega (arith, are.merit_sum, are.few, sum_by-le merit_in (2 ^ 38) cells are.fits)
+pub merit-room : (cells : List (Option Occupant)) (merit : ℕ) (tasks : List ℕ)
+    → AreSummedIn cells merit tasks → merit ≤ 65536 * 2 ^ 38
+merit-room cells merit tasks are =
+    omega (arith, are.merit_sum, are.few, sum_by-le merit_in (2 ^ 38) cells are.fits)
 
-pub tasks-room : (cells : List (Option Occupant)) (merit : ℕ) (tasks : List ℕ) → AreSummedIn cells merit tasks → All (λ count. count < 2 ^ 32) tasks
+pub tasks-room : (cells : List (Option Occupant)) (merit : ℕ) (tasks : List ℕ)
+    → AreSummedIn cells merit tasks → All (λ count. count < 2 ^ 32) tasks
 tasks-room cells merit tasks are =
     All-same (λ count. count < 2 ^ 32) tasks (map (cells_with cells) all_tasks) are.task_counts
-    (All-map (λ count. count < 2 ^ 32) (cells_with cells) all_tasks (λ k task within. omega (arith, are.few, count_by-le-length (is_credited (get_or all_tasks k task)) cells)))
+    (All-map (λ count. count < 2 ^ 32) (cells_with cells) all_tasks
+    (λ k task within. omega (
+      arith,
+      are.few,
+      count_by-le-length (is_credited (get_or all_tasks k task)) cells,
+    )))
 
-pub can-renew : (cells : List (Option Occupant)) (cell : ℕ) (o : Occupant) (merit : ℕ) (tasks : List ℕ) (genotypes : List (ℕ × GenotypeCount)) → cell < length cells → get_or cells cell None ≡ Some o → AreSummedIn cells merit tasks → CanRenew (record { genotypes = genotypes; merit = merit; tasks = tasks }) o.organism.merit o.organism.credited (2 ^ 38)
+pub can-renew : (cells : List (Option Occupant)) (cell : ℕ) (o : Occupant) (merit : ℕ)
+    (tasks : List ℕ) (genotypes : List (ℕ × GenotypeCount)) → cell < length cells
+    → get_or cells cell None ≡ Some o → AreSummedIn cells merit tasks
+    → CanRenew (record { genotypes = genotypes; merit = merit; tasks = tasks }) o.organism.merit
+    o.organism.credited (2 ^ 38)
 can-renew cells cell o merit tasks genotypes within here are = record {
   counted = merit-counted cells cell o merit tasks within here are;
   room = omega (arith, merit-room cells merit tasks are);
@@ -95,36 +140,79 @@ can-renew cells cell o merit tasks genotypes within here are = record {
 }
 
 -- an organism goes
-pub AreSummedIn-removed : (cells : List (Option Occupant)) (cell : ℕ) (o : Occupant) (merit : ℕ) (tasks : List ℕ) → cell < length cells → get_or cells cell None ≡ Some o → AreSummedIn cells merit tasks → AreSummedIn (set cells cell None) (merit - o.organism.merit) (tasks_without tasks o.organism.credited)
+pub AreSummedIn-removed : (cells : List (Option Occupant)) (cell : ℕ) (o : Occupant) (merit : ℕ)
+    (tasks : List ℕ) → cell < length cells → get_or cells cell None ≡ Some o
+    → AreSummedIn cells merit tasks
+    → AreSummedIn (set cells cell None) (merit - o.organism.merit)
+    (tasks_without tasks o.organism.credited)
 AreSummedIn-removed cells cell o merit tasks within here are =
-    AreSummedIn-set cells cell None merit (merit - o.organism.merit) tasks (tasks_without tasks o.organism.credited) (λ task. slice_index tasks (place_of task) - from_bool (has_task o.organism.credited task)) within (omega arith) are
+    AreSummedIn-set cells cell None merit (merit - o.organism.merit) tasks
+    (tasks_without tasks o.organism.credited)
+    (λ task. slice_index tasks (place_of task) - from_bool (has_task o.organism.credited task))
+    within (omega arith) are
     (omega (arith, merit-counted cells cell o merit tasks within here are, ap merit_in here)) refl
     (λ task. (let stands = ap (is_credited task) here in
     let least = get_or-le-sum_by (λ slot. one (is_credited task slot)) cells cell None within in
-    omega (arith, task_sum cells merit tasks are task, from_bool-one (has_task o.organism.credited task), ap one stands, least)))
+    omega (
+      arith,
+      task_sum cells merit tasks are task,
+      from_bool-one (has_task o.organism.credited task),
+      ap one stands,
+      least,
+    )))
 
 -- an organism comes
-pub AreSummedIn-put : (cells : List (Option Occupant)) (cell : ℕ) (o : Occupant) (merit : ℕ) (tasks : List ℕ) → cell < length cells → get_or cells cell None ≡ None → o.organism.merit ≤ 2 ^ 38 → AreSummedIn cells merit tasks → AreSummedIn (set cells cell (Some o)) (merit + o.organism.merit) (tasks_with tasks o.organism.credited)
+pub AreSummedIn-put : (cells : List (Option Occupant)) (cell : ℕ) (o : Occupant) (merit : ℕ)
+    (tasks : List ℕ) → cell < length cells → get_or cells cell None ≡ None
+    → o.organism.merit ≤ 2 ^ 38 → AreSummedIn cells merit tasks
+    → AreSummedIn (set cells cell (Some o)) (merit + o.organism.merit)
+    (tasks_with tasks o.organism.credited)
 AreSummedIn-put cells cell o merit tasks within here fits are =
-    AreSummedIn-set cells cell (Some o) merit (merit + o.organism.merit) tasks (tasks_with tasks o.organism.credited) (λ task. slice_index tasks (place_of task) + from_bool (has_task o.organism.credited task)) within fits are
+    AreSummedIn-set cells cell (Some o) merit (merit + o.organism.merit) tasks
+    (tasks_with tasks o.organism.credited)
+    (λ task. slice_index tasks (place_of task) + from_bool (has_task o.organism.credited task))
+    within fits are
     (omega (arith, ap merit_in here)) refl
-    (λ task. omega (arith, task_sum cells merit tasks are task, from_bool-one (has_task o.organism.credited task), ap one (ap (is_credited task) here)))
+    (λ task. omega (
+      arith,
+      task_sum cells merit tasks are task,
+      from_bool-one (has_task o.organism.credited task),
+      ap one (ap (is_credited task) here),
+    ))
 
 -- an organism has another merit and credited set
-pub AreSummedIn-renewed : (cells : List (Option Occupant)) (cell : ℕ) (o next : Occupant) (merit : ℕ) (tasks : List ℕ) → cell < length cells → get_or cells cell None ≡ Some o → next.organism.merit ≤ 2 ^ 38 → AreSummedIn cells merit tasks → AreSummedIn (set cells cell (Some next)) (merit - o.organism.merit + next.organism.merit) (tasks_with (tasks_without tasks o.organism.credited) next.organism.credited)
+pub AreSummedIn-renewed : (cells : List (Option Occupant)) (cell : ℕ) (o next : Occupant)
+    (merit : ℕ) (tasks : List ℕ) → cell < length cells → get_or cells cell None ≡ Some o
+    → next.organism.merit ≤ 2 ^ 38 → AreSummedIn cells merit tasks
+    → AreSummedIn (set cells cell (Some next)) (merit - o.organism.merit + next.organism.merit)
+    (tasks_with (tasks_without tasks o.organism.credited) next.organism.credited)
 AreSummedIn-renewed cells cell o next merit tasks within here fits are =
-    let fewer : Task → ℕ = λ task. slice_index tasks (place_of task) - from_bool (has_task o.organism.credited task) in
-    AreSummedIn-set cells cell (Some next) merit (merit - o.organism.merit + next.organism.merit) tasks (tasks_with (tasks_without tasks o.organism.credited) next.organism.credited) (λ task. slice_index (tasks_without tasks o.organism.credited) (place_of task) + from_bool (has_task next.organism.credited task)) within fits are
+    let fewer : Task → ℕ =
+    λ task. slice_index tasks (place_of task) - from_bool (has_task o.organism.credited task) in
+    AreSummedIn-set cells cell (Some next) merit (merit - o.organism.merit + next.organism.merit)
+    tasks (tasks_with (tasks_without tasks o.organism.credited) next.organism.credited)
+    (λ task. slice_index (tasks_without tasks o.organism.credited) (place_of task) + from_bool
+    (has_task next.organism.credited task)) within fits are
     (omega (arith, merit-counted cells cell o merit tasks within here are, ap merit_in here)) refl
     (λ task. (let stands = ap (is_credited task) here in
     let least = get_or-le-sum_by (λ slot. one (is_credited task slot)) cells cell None within in
-    omega (arith, task_sum cells merit tasks are task, at_task fewer task, from_bool-one (has_task o.organism.credited task), from_bool-one (has_task next.organism.credited task), ap one stands, least)))
+    omega (
+      arith,
+      task_sum cells merit tasks are task,
+      at_task fewer task,
+      from_bool-one (has_task o.organism.credited task),
+      from_bool-one (has_task next.organism.credited task),
+      ap one stands,
+      least,
+    )))
 
 -- an organism has its merit and credited set as before
-pub AreSummedIn-same : (cells : List (Option Occupant)) (cell : ℕ) (slot : Option Occupant) (merit : ℕ) (tasks : List ℕ) → cell < length cells → merit_in slot ≡ merit_in (get_or cells cell None) → ((task : Task) → is_credited task slot ≡ is_credited task (get_or cells cell None)) → AreSummedIn cells merit tasks → AreSummedIn (set cells cell slot) merit tasks
+pub AreSummedIn-same : (cells : List (Option Occupant)) (cell : ℕ) (slot : Option Occupant)
+    (merit : ℕ) (tasks : List ℕ) → cell < length cells
+    → merit_in slot ≡ merit_in (get_or cells cell None)
+    → ((task : Task) → is_credited task slot ≡ is_credited task (get_or cells cell None))
+    → AreSummedIn cells merit tasks → AreSummedIn (set cells cell slot) merit tasks
 AreSummedIn-same cells cell slot merit tasks within same alike are =
-    AreSummedIn-set cells cell slot merit merit tasks tasks (cells_with cells) within (omega (arith, same, are.fits cell None within)) are (omega (arith, same)) are.task_counts (λ task. omega (arith, ap one (alike task)))
-
-pub IsCounted-at : (cells : List (Option Occupant)) (cell : ℕ) (slot : Option Occupant) (counts : Counts) → cell < length cells → get_or cells cell None ≡ slot → AreSummedIn cells counts.merit counts.tasks → IsCounted counts slot
-IsCounted-at cells cell None counts within here are = tt
-IsCounted-at cells cell (Some o) counts within here are = can-renew cells cell o counts.merit counts.tasks counts.genotypes within here are
+    AreSummedIn-set cells cell slot merit merit tasks tasks (cells_with cells) within
+    (omega (arith, same, are.fits cell None within)) are (omega (arith, same)) are.task_counts
+    (λ task. omega (arith, ap one (alike task)))

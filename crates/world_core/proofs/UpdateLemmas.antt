@@ -1,5 +1,5 @@
 -- What every phase of an update keeps, and how their texts join.
-use Rattle.std.proofs.Common.{◌≡◌, ◌∙◌, refl, ℕ, ◌+◌, List, [], ◌∷◌, ◌++◌, Option, ap, length, map, append_assoc, append-nil, arith}
+use Rattle.std.proofs.Common.{◌≡◌, ◌∙◌, refl, sym, ℕ, ◌+◌, List, [], ◌∷◌, ◌++◌, Option, ap, length, map, append_assoc, append-nil, arith}
 use Rattle.std.specs.List.{fold}
 use Rattle.std.proofs.lemmas.Grind.{flat_map-append}
 use Rattle.std.proofs.lemmas.List.{length-map}
@@ -14,76 +14,145 @@ use Rattle.birth_board.specs.declared.placing.Placing.{Placing}
 use Rattle.world_config.specs.Events.{EventValue, WhatValue, inject, clear, rate}
 use Rattle.world_config.specs.Values.{ConfigValues}
 use Rattle.world_rules.specs.World.{Occupant, World}
-use Rattle.world_rules.specs.Lives.{life_at, lives_of}
+use Rattle.world_rules.specs.Lives.{CellLife, life_at, lives_of}
 use Rattle.world_rules.specs.Scene.{Scene, cells_from, with_death, with_deaths, with_newcomer}
-use Rattle.world_rules.specs.Statistics.{scene_stats}
-use Rattle.world_rules.specs.LogText.{death_lines, birth_lines, event_lines, lines_of_lives, update_lines}
-use Rattle.world_rules.specs.Update.{Delivery, after_lives, lives_after, deaths_of, births_of, turns_of, events_at, with_newborn, after_births, after_burials, after_what, after_event, after_events, last_scene}
+use Rattle.world_rules.specs.Statistics.{next_stats, scene_stats}
+use Rattle.world_rules.specs.LogText.{birth_lines, event_lines, lines_of_lives, update_lines}
+use Rattle.world_rules.specs.Update.{Delivery, after_lives, lives_after, births_of, turns_of, events_at, with_newborn, after_births, after_burials, after_what, after_event, after_events, last_scene, next_scene, scene_of_lives}
+use Rattle.world_core.specs.Lived.{departed_of, departure_line, staying_in}
+use Rattle.world_core.specs.declared.lived.Departed.{Departed}
+use Rattle.world_core.proofs.BurialLemmas.{burial-lines-are, burials-are}
 
 pub with_death-update : (scene : Scene) (cell : ℕ) → (with_death scene cell).update ≡ scene.update
 unfolding with_death
 with_death-update scene cell = refl
 
-pub with_newcomer-update : (scene : Scene) (link : Link) (organism : OrganismState) → (with_newcomer scene link organism).update ≡ scene.update
+pub with_newcomer-update : (scene : Scene) (link : Link) (organism : OrganismState)
+    → (with_newcomer scene link organism).update ≡ scene.update
 unfolding with_newcomer
 with_newcomer-update scene link organism = refl
 
-pub fold-update : {A : Type 0} (f : Scene → A → Scene) → ((scene : Scene) (x : A) → (f scene x).update ≡ scene.update) → (scene : Scene) (xs : List A) → (fold f scene xs).update ≡ scene.update
+pub fold-update : {A : Type 0} (f : Scene → A → Scene)
+    → ((scene : Scene) (x : A) → (f scene x).update ≡ scene.update) → (scene : Scene) (xs : List A)
+    → (fold f scene xs).update ≡ scene.update
 fold-update f keeps scene [] = refl
 fold-update f keeps scene (x ∷ xs) = fold-update f keeps (f scene x) xs ∙ keeps scene x
 
-pub with_deaths-update : (scene : Scene) (cells : List ℕ) → (with_deaths scene cells).update ≡ scene.update
+pub with_deaths-update : (scene : Scene) (cells : List ℕ)
+    → (with_deaths scene cells).update ≡ scene.update
 with_deaths-update scene cells = fold-update with_death with_death-update scene cells
 
-pub with_newborn-update : (config : ConfigValues) (scene : Scene) (turn : Delivery × Placing) → (with_newborn config scene turn).update ≡ scene.update
+pub with_newborn-update : (config : ConfigValues) (scene : Scene) (turn : Delivery × Placing)
+    → (with_newborn config scene turn).update ≡ scene.update
 unfolding with_newborn
 with_newborn-update config scene turn = with_newcomer-update scene _ _
 
-pub after_births-update : (config : ConfigValues) (scene : Scene) (births : List Delivery) → (after_births config scene births).update ≡ scene.update
+pub after_births-update : (config : ConfigValues) (scene : Scene) (births : List Delivery)
+    → (after_births config scene births).update ≡ scene.update
 unfolding after_births
-after_births-update config scene births = fold-update (with_newborn config) (with_newborn-update config) scene (turns_of config scene births)
+after_births-update config scene births =
+    fold-update (with_newborn config) (with_newborn-update config) scene
+    (turns_of config scene births)
 
-pub after_what-update : (config : ConfigValues) (scene : Scene) (nth : ℕ) (what : WhatValue) → (after_what config scene nth what).update ≡ scene.update
+pub after_what-update : (config : ConfigValues) (scene : Scene) (nth : ℕ) (what : WhatValue)
+    → (after_what config scene nth what).update ≡ scene.update
 after_what-update config scene nth (inject cell letters) = with_newcomer-update scene _ _
-after_what-update config scene nth (clear first last) = with_deaths-update scene (cells_from first last)
+after_what-update config scene nth (clear first last) =
+    with_deaths-update scene (cells_from first last)
 after_what-update config scene nth (rate name ppm) = refl
 
-pub after_event-update : (config : ConfigValues) (scene : Scene) (event : ℕ × EventValue) → (after_event config scene event).update ≡ scene.update
+pub after_event-update : (config : ConfigValues) (scene : Scene) (event : ℕ × EventValue)
+    → (after_event config scene event).update ≡ scene.update
 unfolding after_event
 after_event-update config scene event = after_what-update config scene event.0 event.1.what
 
-pub after_events-update : (config : ConfigValues) (scene : Scene) → (after_events config scene).update ≡ scene.update
+pub after_events-update : (config : ConfigValues) (scene : Scene)
+    → (after_events config scene).update ≡ scene.update
 unfolding after_events
-after_events-update config scene = fold-update (after_event config) (after_event-update config) scene (events_at config scene.update)
+after_events-update config scene =
+    fold-update (after_event config) (after_event-update config) scene
+    (events_at config scene.update)
 
 -- the texts of an update's phases are the text of its lines
-pub joined : (a b c : List Line) (d : Line) → ((([] ++ lines_text a) ++ lines_text b) ++ lines_text c) ++ line_text d ≡ lines_text (a ++ b ++ c ++ d ∷ [])
+pub joined : (a b c : List Line) (d : Line)
+    → ((([] ++ lines_text a) ++ lines_text b) ++ lines_text c) ++ line_text d
+    ≡ lines_text (a ++ b ++ c ++ d ∷ [])
 joined a b c d = grind (arith, flat_map-append, append_assoc, append-nil)
 
 -- each cell has its life
-pub length_lived : (config : ConfigValues) (update : ℕ) (cells : List (Option Occupant)) → length (map (λ l. l.occupant) (lives_of config update cells)) ≡ length cells
+pub length_lived : (config : ConfigValues) (update : ℕ) (cells : List (Option Occupant))
+    → length (map staying_in (lives_of config update cells)) ≡ length cells
 unfolding lives_of
-length_lived config update cells = length-map _ _ ∙ length-map-range_with_len (life_at config update cells) 0 (length cells)
+length_lived config update cells =
+    length-map _ _ ∙ length-map-range_with_len (life_at config update cells) 0 (length cells)
 
 -- the scenes of an update's phases, from the lives on
-pub record Phases (config : ConfigValues) (w : World) (dead : List ℕ) (births : List Delivery) (s0 s1 s2 s3 : Scene) (stats : Stats) : Type 0 where
-  pub lived : s0 ≡ after_lives (w.update + 1) w.everyone (lives_after config w)
-  pub dead_are : dead ≡ deaths_of (lives_after config w)
+pub record Phases (config : ConfigValues) (w : World) (dead : List Departed)
+    (births : List Delivery) (s0 s1 s2 s3 : Scene) (stats : Stats) : Type 0 where
+  pub lived : s0 ≡ record {
+    update = w.update + 1;
+    cells = map staying_in (lives_after config w);
+    everyone = w.everyone;
+    gone = [];
+  }
+  pub dead_are : dead ≡ departed_of 0 (lives_after config w)
   pub births_are : births ≡ births_of (lives_after config w)
-  pub buried : s1 ≡ with_deaths s0 dead
+  pub buried : s1 ≡ record s0 { gone = s0.gone ++ map (λ one. one.id) dead }
   pub placed : s2 ≡ after_births config s1 births
   pub happened : s3 ≡ after_events config s2
   pub counted : stats ≡ scene_stats s3 (length births)
 
--- their lines are those of the update
-pub lines_of_phases : (config : ConfigValues) (w : World) (dead : List ℕ) (births : List Delivery) (s0 s1 s2 s3 : Scene) (stats : Stats) → Phases config w dead births s0 s1 s2 s3 stats → death_lines s0 dead ++ birth_lines config s1 births ++ event_lines config s2 ++ Count stats ∷ [] ≡ update_lines config w
-unfolding update_lines lines_of_lives last_scene after_burials
-lines_of_phases config w dead births s0 s1 s2 s3 stats p = rw (p.counted, p.happened, p.placed, p.buried, p.births_are, p.dead_are, p.lived) refl
+module _ (config : ConfigValues) (w : World) (dead : List Departed) (births : List Delivery)
+    (s0 s1 s2 s3 : Scene) (stats : Stats) (p : Phases config w dead births s0 s1 s2 s3 stats) where
+  -- the lives, and the scene as they have ended
+  abbrev lives : List CellLife
+  lives = lives_after config w
 
--- an update is one more
-pub update_of_phases : (config : ConfigValues) (w : World) (dead : List ℕ) (births : List Delivery) (s0 s1 s2 s3 : Scene) (stats : Stats) → Phases config w dead births s0 s1 s2 s3 stats → s3.update ≡ w.update + 1
-update_of_phases config w dead births s0 s1 s2 s3 stats p =
-    let first : s0.update ≡ w.update + 1 = ap (λ (s : Scene). s.update) p.lived in
-    let second : s1.update ≡ s0.update = ap (λ (s : Scene). s.update) p.buried ∙ with_deaths-update s0 dead in
-    let third : s2.update ≡ s1.update = ap (λ (s : Scene). s.update) p.placed ∙ after_births-update config s1 births in
-    ap (λ (s : Scene). s.update) p.happened ∙ after_events-update config s2 ∙ third ∙ second ∙ first
+  abbrev lived_scene : Scene
+  lived_scene = after_lives (w.update + 1) w.everyone lives
+
+  -- the dead have left
+  buried_is : s1 ≡ after_burials lived_scene lives
+  buried_is = p.buried ∙ (λ i.
+      record (p.lived i) { gone = (p.lived i).gone ++ map (λ one. one.id) (p.dead_are i) })
+      ∙ sym (burials-are (w.update + 1) w.everyone lives)
+
+  -- the newborns stand in their cells
+  placed_is : s2 ≡ after_births config (after_burials lived_scene lives) (births_of lives)
+  placed_is = p.placed ∙ (λ i. after_births config (buried_is i) (p.births_are i))
+
+  -- the last scene is that of the update
+  pub scene_of_phases : s3 ≡ next_scene config w
+  unfolding next_scene scene_of_lives last_scene
+  scene_of_phases = p.happened ∙ ap (after_events config) placed_is
+
+  -- so is what is counted
+  pub stats_of_phases : stats ≡ next_stats config w
+  unfolding next_stats
+  stats_of_phases = p.counted ∙ (λ i. scene_stats (scene_of_phases i) (length (p.births_are i)))
+
+  counted_is : stats ≡ scene_stats (last_scene config lived_scene lives) (length (births_of lives))
+  unfolding last_scene
+  counted_is = p.counted ∙ (λ i. scene_stats ((p.happened ∙ ap (after_events config) placed_is) i)
+      (length (p.births_are i)))
+
+  -- their lines are those of the update
+  pub lines_of_phases : map (departure_line (w.update + 1)) dead ++ birth_lines config s1 births
+      ++ event_lines config s2 ++ Count stats ∷ [] ≡ update_lines config w
+  unfolding update_lines lines_of_lives
+  lines_of_phases = λ i.
+      (ap (map (departure_line (w.update + 1))) p.dead_are
+      ∙ sym (burial-lines-are (w.update + 1) w.everyone lives)) i
+      ++ birth_lines config (buried_is i) (p.births_are i)
+      ++ event_lines config (placed_is i)
+      ++ Count (counted_is i) ∷ []
+
+  -- an update is one more
+  pub update_of_phases : s3.update ≡ w.update + 1
+  update_of_phases =
+      let first : s0.update ≡ w.update + 1 = ap (λ (s : Scene). s.update) p.lived in
+      let second : s1.update ≡ s0.update = ap (λ (s : Scene). s.update) p.buried in
+      let third : s2.update ≡ s1.update =
+      ap (λ (s : Scene). s.update) p.placed ∙ after_births-update config s1 births in
+      ap (λ (s : Scene). s.update) p.happened ∙ after_events-update config s2 ∙ third ∙ second
+      ∙ first

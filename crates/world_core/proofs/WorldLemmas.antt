@@ -5,50 +5,79 @@ use Rattle.log_lines.specs.declared.stats.Stats.{Stats}
 use Rattle.world_config.specs.Values.{ConfigValues}
 use Rattle.world_config.specs.declared.limits.TheConstants.{GREATEST_UPDATES}
 use Rattle.world_rules.specs.World.{World}
-use Rattle.world_rules.specs.Scene.{Scene}
 use Rattle.world_rules.specs.Update.{next_scene, next_world, world_of}
 use Rattle.world_rules.specs.WorldRun.{world_after}
 use Rattle.world_rules.specs.Statistics.{next_stats, stats_of}
 use Rattle.world_rules.specs.LogText.{update_lines, update_text}
+use Rattle.world_core.specs.Scenes.{Grows, SceneValue, scene_in}
 use Rattle.world_core.specs.WorldValue.{IsWorldOf}
 
 one_more : (n : ℕ) → n + 1 ≡ suc n
 one_more n = omega arith
 
-pub world_after-more : (config : ConfigValues) (n : ℕ) → world_after config (n + 1) ≡ next_world config (world_after config n)
+pub world_after-more : (config : ConfigValues) (n : ℕ)
+    → world_after config (n + 1) ≡ next_world config (world_after config n)
 unfolding world_after
 world_after-more config n = rw one_more refl
 
-stats_of-more : (config : ConfigValues) (n : ℕ) → stats_of config (n + 1) ≡ next_stats config (world_after config n)
+stats_of-more : (config : ConfigValues) (n : ℕ)
+    → stats_of config (n + 1) ≡ next_stats config (world_after config n)
 unfolding stats_of
 stats_of-more config n = rw one_more refl
 
-update_text-more : (config : ConfigValues) (n : ℕ) → update_text config (n + 1) ≡ lines_text (update_lines config (world_after config n))
+update_text-more : (config : ConfigValues) (n : ℕ)
+    → update_text config (n + 1) ≡ lines_text (update_lines config (world_after config n))
 unfolding update_text
 update_text-more config n = rw one_more refl
 
 -- an update after a scene
-pub record IsNext (config : ConfigValues) (before after : Scene) (stats : Stats) : Type 0 where
-  pub scene : after ≡ next_scene config (world_of before)
-  pub counts : stats ≡ next_stats config (world_of before)
+pub record IsNext (config : ConfigValues) (before after : SceneValue) (stats : Stats) : Type 0 where
+  pub scene : scene_in after ≡ next_scene config (world_of (scene_in before))
+  pub counts : stats ≡ next_stats config (world_of (scene_in before))
   pub update : after.update ≡ before.update + 1
   pub size : length after.cells ≡ length before.cells
   pub few : length after.everyone ≤ length before.everyone + 2 ^ 33
+  pub first : after.first ≡ before.first
+  pub bank : Grows before.bank after.bank before.everyone after.everyone
 
-world_of-next : (config : ConfigValues) (before : Scene) → world_of (next_scene config (world_of before)) ≡ next_world config (world_of before)
+world_of-next : (config : ConfigValues) (before : SceneValue)
+    → world_of (next_scene config (world_of (scene_in before)))
+    ≡ next_world config (world_of (scene_in before))
 unfolding next_world
 world_of-next config before = refl
 
--- where the scene before was that of its configuration's world, so is the one after
-pub next_world_is : (config : ConfigValues) (before after : Scene) (old stats : Stats) → IsWorldOf config before old → IsNext config before after stats → before.update < GREATEST_UPDATES → IsWorldOf config after stats
+-- the scene with all of its organisms in the past
+abbrev pub settled_scene : SceneValue → SceneValue
+settled_scene s = record s { first = length s.everyone }
+
+-- where the scene before was that of its configuration's world, so is the one after once it is
+-- settled
+pub next_world_is : (config : ConfigValues) (before after : SceneValue) (old stats : Stats)
+    → IsWorldOf config before old → IsNext config before after stats
+    → before.update < GREATEST_UPDATES → IsWorldOf config (settled_scene after) stats
 next_world_is config before after old stats was is early = record {
-  world = ap world_of is.scene ∙ world_of-next config before ∙ ap (next_world config) was.world ∙ sym (world_after-more config before.update) ∙ ap (world_after config) (sym is.update);
-  counts = is.counts ∙ ap (next_stats config) was.world ∙ sym (stats_of-more config before.update) ∙ ap (stats_of config) (sym is.update);
+  world = ap world_of is.scene ∙ world_of-next config before ∙ ap (next_world config) was.world
+      ∙ sym (world_after-more config before.update) ∙ ap (world_after config) (sym is.update);
+  counts = is.counts ∙ ap (next_stats config) was.world ∙ sym (stats_of-more config before.update)
+      ∙ ap (stats_of config) (sym is.update);
   size = is.size ∙ was.size;
   few = omega (arith, is.few, was.few, is.update);
+  settled = refl;
   updates = omega (arith, is.update, early);
+  bank = is.bank.each was.bank;
 }
 
+-- all organisms in the scene at the end of an update are those of the next world
+pub everyone_after : (config : ConfigValues) (n : ℕ)
+    → (next_scene config (world_after config n)).everyone ≡ (world_after config (n + 1)).everyone
+unfolding next_world
+everyone_after config n = ap (λ (w : World). w.everyone) (sym (world_after-more config n))
+
 -- the text of the update after it
-pub next_text_is : (config : ConfigValues) (before : Scene) (old : Stats) (text : List ℕ) → IsWorldOf config before old → text ≡ lines_text (update_lines config (world_of before)) → text ≡ update_text config (before.update + 1)
-next_text_is config before old text was is = is ∙ ap (λ (w : World). lines_text (update_lines config w)) was.world ∙ sym (update_text-more config before.update)
+pub next_text_is : (config : ConfigValues) (before : SceneValue) (old : Stats) (text : List ℕ)
+    → IsWorldOf config before old
+    → text ≡ lines_text (update_lines config (world_of (scene_in before)))
+    → text ≡ update_text config (before.update + 1)
+next_text_is config before old text was is =
+    is ∙ ap (λ (w : World). lines_text (update_lines config w)) was.world
+    ∙ sym (update_text-more config before.update)

@@ -1,18 +1,24 @@
--- The bank of a world (docs/WORLD.md, "Genotypes and their numbers").
-use Rattle.std.specs.Prelude.{List, map}
+-- The genomes that a bank must have (docs/WORLD.md, "Genotypes and their numbers").
+use Rattle.std.specs.Prelude.{◌≡◌, ◌++◌, List, Some, map, slice_get}
+use mathlib.Core.List.{IsPrefix}
+use Rattle.std.specs.List.{All}
 use Rattle.instruction_set.specs.declared.letter.Letter.{Letter}
-use Rattle.genotype_bank.specs.BankHistory.{different_of}
+use Rattle.cell_shards.specs.Finishing.{genome_in}
+use Rattle.cell_shards.specs.declared.delivered.Delivered.{Delivered}
+use Rattle.genotype_bank.specs.BankHistory.{HasEachOnce}
 use Rattle.lineage_log.specs.Links.{Link}
-use Rattle.world_rules.specs.World.{World}
 
 -- the genomes of these organisms at birth, in their order
 abbrev pub genomes_ever : List Link → List (List Letter)
 genomes_ever everyone = map (λ link. link.genome) everyone
 
--- the different genomes of these organisms, in the order of the first id with each; a genome's number is its place among them
-abbrev pub bank_of : List Link → List (List Letter)
-bank_of everyone = different_of (genomes_ever everyone)
+-- the genome of a newborn has its number in this bank
+abbrev pub HasNumber : List (List Letter) → Delivered → Type 0
+HasNumber bank d = slice_get bank d.handle.number ≡ Some (genome_in d)
 
--- the bank of a world: the different genomes of all founders so far and of all births
-abbrev pub bank_in : World → List (List Letter)
-bank_in w = bank_of w.everyone
+-- a bank has taken in the genomes of these newborns: all numbers stay, each genome stands once, and
+-- each newborn has its number
+pub record TakesIn (old new : List (List Letter)) (births : List Delivered) : Type 0 where
+  pub stays : IsPrefix old new
+  pub each : HasEachOnce new (old ++ map genome_in births)
+  pub numbers : All (HasNumber new) births

@@ -1,4 +1,7 @@
 pub use Rattle.birth_board.specs.Placement
+pub use Rattle.cell_shards.specs.CellLives
+pub use Rattle.cell_shards.specs.Finishing
+pub use Rattle.cell_shards.specs.Shards
 pub use Rattle.genome.specs.Genome
 pub use Rattle.genotype_bank.specs.BankHistory
 pub use Rattle.lineage_log.specs.LogGrammar
@@ -17,8 +20,14 @@ pub use Rattle.world_rules.specs.Update
 pub use Rattle.world_rules.specs.WorldRun
 pub use Rattle.world_rules.specs.Statistics
 pub use Rattle.world_rules.specs.LogText
+pub use Rattle.world_tree.specs.WorldTrees
 pub mod Soundness
 pub mod WorldValue
 pub mod Genotypes
 pub mod Population
 pub mod Happening
+pub mod Residents
+pub mod Scenes
+pub mod Everyone
+pub mod Sharding
+pub mod Lived

@@ -1,20 +1,21 @@
 -- What is kept of the living beside their cells (docs/WORLD.md, "Statistics").
-use Rattle.std.specs.Prelude.{◌≡◌, ℕ, ◌<◌, ◌≤◌, ◌^◌, Bool, false, All, List, length, map, Option, None, Some, option_map, count_by, is_some, slice_get, slice_index, slice_index_or, slice_set}
+use Rattle.std.specs.Prelude.{◌≡◌, ◌⊎◌, ℕ, ◌+◌, ◌≤◌, ◌^◌, Bool, false, All, List, length, map, Option, None, Some, option_map, count_by, is_some, slice_get, slice_index, slice_index_or}
 use Rattle.std.specs.List.{sum_by}
-use Rattle.census.specs.Changes.{CanRenew, count_under}
+use Rattle.census.specs.Changes.{CanRemove, CanRenew, count_under, genotype_without_one, with_renewal, without_organism}
 use Rattle.census.specs.Counts.{Counts, GenotypeCount, genotype_at, living_of}
 use Rattle.instruction_set.specs.declared.letter.Letter.{Letter}
 use Rattle.instruction_set.specs.Letter.{same_letters}
 use Rattle.logic_tasks.specs.declared.task.Task.{Task}
 use Rattle.logic_tasks.specs.LogicTasks.{all_tasks}
 use Rattle.logic_tasks.specs.TaskSet.{has_task}
+use Rattle.organism.specs.OrganismState.{OrganismState}
 use Rattle.world_rules.specs.World.{Occupant}
 use Rattle.world_rules.specs.Lives.{merit_in}
 
--- who stands in each cell, and the genomes that the bank has interned, in order
+-- who stands in each cell, and the genomes of the bank, each at the place that is its number
 pub record PopulationValue : Type 0 where
   pub cells : List (Option Occupant)
-  pub interned : List (List Letter)
+  pub bank : List (List Letter)
 
 -- each of these genomes stands once, so that its place is its number
 abbrev pub AreDifferent : List (List Letter) → Type 0
@@ -41,7 +42,8 @@ abbrev pub is_credited : Task → Option Occupant → Bool
 is_credited task None = false
 is_credited task (Some o) = has_task o.organism.credited task
 
--- under the number of each genome is counted in how many cells it stands, and the key of a cell is the number of its genome
+-- under the number of each genome is counted in how many cells it stands, and the key of a cell is
+-- the number of its genome
 pub record AreCountedIn (standing : List (Option (List Letter))) (genomes : List (List Letter))
     (keys : List ℕ) (genotypes : List (ℕ × GenotypeCount)) : Type 0 where
   pub size : length keys ≡ length standing
@@ -56,7 +58,8 @@ pub record AreCountedIn (standing : List (Option (List Letter))) (genomes : List
       → count_under genotypes number ≡ count_by (is_genome genome) standing
   pub living : living_of genotypes ≡ count_by is_some standing
 
--- these are the sum of the merits in the cells, and for each task how many have it; a world has no more cells and no greater merits
+-- these are the sum of the merits in the cells, and for each task how many have it; a world has no
+-- more cells and no greater merits
 pub record AreSummedIn (cells : List (Option Occupant)) (merit : ℕ) (tasks : List ℕ) : Type 0 where
   pub few : length cells ≤ 65536
   pub fits : All (λ slot. merit_in slot ≤ 2 ^ 38) cells
@@ -70,17 +73,37 @@ pub record IsKeptOf (cells : List (Option Occupant)) (genomes : List (List Lette
   pub genotypes : AreCountedIn (genomes_of cells) genomes keys counts.genotypes
   pub sums : AreSummedIn cells counts.merit counts.tasks
 
--- who stands in a cell is among those that are counted, and there is room for the greatest merit
-abbrev pub IsCounted : Counts → Option Occupant → Type 0
-IsCounted counts None = Unit {0}
-IsCounted counts (Some o) = CanRenew counts o.organism.merit o.organism.credited (2 ^ 38)
+-- the merit of who stands in a cell, 0 where nobody does
+abbrev pub merit_of : Option OrganismState → ℕ
+merit_of None = 0
+merit_of (Some o) = o.merit
 
--- where the sums were those of some cells, they are those of the same cells once what stood in one of them has lived
-pub record KeepsCount (old slot : Option Occupant) (before after : Counts) : Type 0 where
-  pub genotypes : after.genotypes ≡ before.genotypes
-  pub genome : genome_of slot ≡ genome_of old
-  pub sums : (cells : List (Option Occupant)) (cell : ℕ)
-      → cell < length cells
-      → slice_index_or cells cell None ≡ old
-      → AreSummedIn cells before.merit before.tasks
-      → AreSummedIn (slice_set cells cell slot) after.merit after.tasks
+-- who stood in a cell with this key, merit and credited set may be counted again by who stands
+-- there now
+abbrev pub CanCountAgain : Counts → ℕ → ℕ → Option (List Bool) → Option OrganismState → Type 0
+CanCountAgain counts key merit None now = Unit {0}
+CanCountAgain counts key merit (Some credited) None = CanRemove counts key merit credited
+CanCountAgain counts key merit (Some credited) (Some o) =
+    CanRenew counts merit credited (2 ^ 38) × (o.merit ≤ 2 ^ 38)
+
+-- one organism fewer is counted
+pub record IsWithout (before after : Counts) (key merit : ℕ) (credited : List Bool) : Type 0 where
+  pub counts : after ≡ without_organism before key merit credited
+  pub under : (other : ℕ)
+      → genotype_at after.genotypes other ≡ genotype_without_one before.genotypes key other
+  pub living : living_of after.genotypes + 1 ≡ living_of before.genotypes
+
+-- an organism is counted with the merit and the credited set that it has now
+abbrev pub IsRenewed : Counts → Counts → ℕ → List Bool → OrganismState → Type 0
+IsRenewed before after merit credited o =
+    (after ≡ with_renewal before merit credited o.merit o.credited)
+    ⊎ ((after ≡ before) × (o.merit ≡ merit) × (o.credited ≡ credited))
+
+-- who stood in a cell is counted as who stands there now: nobody, or the same organism after its
+-- life
+abbrev pub CountsAgain : Counts → Counts → ℕ → ℕ → Option (List Bool) → Option OrganismState
+    → Type 0
+CountsAgain before after key merit None now = after ≡ before
+CountsAgain before after key merit (Some credited) None = IsWithout before after key merit credited
+CountsAgain before after key merit (Some credited) (Some o) =
+    IsRenewed before after merit credited o

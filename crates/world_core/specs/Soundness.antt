@@ -1,15 +1,11 @@
--- What holds of the numbers of every world, so that none leaves its range (docs/WORLD.md, "The end of an update").
-use Rattle.std.specs.Prelude.{◌≡◌, ℕ, ◌*◌, ◌<◌, ◌≤◌, ◌^◌, All, Option, None, Some, List, length, map}
+-- What holds of the numbers of every world, so that none leaves its range (docs/WORLD.md, "The end
+-- of an update").
+use Rattle.std.specs.Prelude.{ℕ, ◌*◌, ◌<◌, ◌≤◌, ◌^◌, All, Option, None, Some, List, length, map}
 use Rattle.std.specs.List.Sorted.{IsNonDecreasing}
-use Rattle.lineage_log.specs.Links.{Link}
-use Rattle.organism.specs.declared.newborn.Newborn.{Newborn}
-use Rattle.organism.specs.Newborns.{MeritsFit, LengthsFit}
 use Rattle.organism.specs.OrganismState.{OrganismState}
 use Rattle.world_config.specs.Values.{ConfigValues}
 use Rattle.world_rules.specs.World.{Occupant}
 use Rattle.world_rules.specs.Update.{Delivery}
-use Rattle.world_core.specs.Genotypes.{genomes_ever}
-use Rattle.world_core.specs.Population.{PopulationValue}
 
 -- an organism after so many updates has no greater age and merit
 pub record IsBounded (update : ℕ) (o : OrganismState) : Type 0 where
@@ -25,11 +21,6 @@ IsBoundedIn update (Some o) = IsBounded update o.organism
 abbrev pub AreBounded : ℕ → List (Option Occupant) → Type 0
 AreBounded update cells = All (IsBoundedIn update) cells
 
--- the organisms of a scene are bounded, and the genomes of all that were ever in the world are what was interned, by id
-pub record IsSound (update : ℕ) (population : PopulationValue) (everyone : List Link) : Type 0 where
-  pub bounds : AreBounded update population.cells
-  pub genomes : population.interned ≡ genomes_ever everyone
-
 -- a newborn of a cell of the world, which fits its machine
 pub record IsDelivery (config : ConfigValues) (cells : ℕ) (d : Delivery) : Type 0 where
   pub cell : d.cell < cells
@@ -42,17 +33,8 @@ pub record AreDeliveries (config : ConfigValues) (cells : ℕ) (births : List De
   pub rising : IsNonDecreasing (map (λ d. d.cell) births)
   pub few : length births < 2 ^ 32
 
--- a life of at most so many steps keeps the bounds of who stands in the cell and of its newborns
-pub record IsBoundedLife (config : ConfigValues) (update steps : ℕ) (slot : Option Occupant)
-    (newborns : List Newborn) : Type 0 where
-  pub cell : IsBoundedIn update slot
-  pub few : length newborns ≤ steps
-  pub merits : MeritsFit newborns
-  pub lengths : LengthsFit config.greatest_length newborns
-
--- the lives of an update keep the bounds of the cells and of the newborns, and who died is in one of the cells
+-- the lives of an update keep the bounds of the cells and of the newborns
 pub record AreBoundedLives (config : ConfigValues) (update : ℕ) (left : List (Option Occupant))
-    (born : List Delivery) (died : List ℕ) : Type 0 where
+    (born : List Delivery) : Type 0 where
   pub cells : AreBounded update left
   pub births : AreDeliveries config (length left) born
-  pub dead : All (λ cell. cell < length left) died

@@ -1,5 +1,6 @@
 // The newborns of an update are placed, one after another.
 ghost use Rattle.std.specs.Prelude.{◌≡◌, ◌+◌, ◌*◌, ◌++◌, ◌<◌, ◌≤◌, ◌^◌, All, OnOk, IfOk, length, map};
+ghost use Rattle.cell_shards.specs.Finishing.{genome_in};
 ghost use Rattle.lineage_log.specs.LogGrammar.{lines_text};
 ghost use Rattle.log_lines.specs.Line.{Birth};
 ghost use Rattle.log_lines.specs.LineText.{line_text};
@@ -9,25 +10,27 @@ ghost use Rattle.world_rules.specs.LogText.{birth_line, birth_lines};
 ghost use Rattle.world_rules.specs.Scene.{next_id, standing_at};
 ghost use Rattle.world_rules.specs.Update.{placings_of, with_newborn, after_births};
 ghost use Rattle.world_rules.specs.World.{ids_of};
+ghost use Rattle.world_core.specs.Genotypes.{HasNumber, genomes_ever};
+ghost use Rattle.world_core.specs.Lived.{delivery_in};
+ghost use Rattle.world_core.specs.Scenes.{scene_in};
 ghost use Rattle.world_core.specs.Soundness.{IsDelivery, AreDeliveries};
 
-use crate::delivery::Delivery;
-use crate::occupant::{Occupant, id_of};
+use crate::lived::Delivery;
+use crate::residents::Residents;
 use crate::scene::Scene;
 use crate::settings::{season_at, torus_of};
 use crate::telling::tell;
 use avida_port::Memory;
 use birth_board::{Occupants, Parents, Placing, Placings, place};
+use cell_shards::Delivered;
 use log_lines::LogLine;
 use mutations::Origin;
-use organism::{Newborn, Organism};
+use organism::Organism;
 use std::alloc::Global;
-use std::sync::Wait;
 use world_config::Config;
 
 /// Places the newborns, with a line for each. After `Memory` drop the scene.
-pub(crate) fn place_births<R: Wait>(
-    rt: &R,
+pub(crate) fn place_births(
     alloc: Global,
     config: &Config,
     scene: &mut Scene,
@@ -35,20 +38,26 @@ pub(crate) fn place_births<R: Wait>(
     text: &mut Vec<u8>,
 ) -> Result<(), Memory>
     requires size { length scene.old.cells ≡ config.now.width * config.now.height }
-    requires births { AreDeliveries (values_of config.now) (length scene.old.cells) births.items }
+    requires births { AreDeliveries (values_of config.now) (length scene.old.cells)
+        (map delivery_in births.items) }
+    requires numbers { All (λ birth. HasNumber scene.old.bank birth.newborn) births.items }
     requires few { length scene.old.everyone ≤ 2 ^ 60 }
-    ensures scene { OnOk result
-        (scene.new ≡ after_births (values_of config.now) scene.old births.items) }
+    ensures scene { OnOk result (scene_in scene.new ≡ after_births (values_of config.now)
+        (scene_in scene.old) (map delivery_in births.items)) }
     ensures text { OnOk result (text.new.items
-        ≡ text.old.items
-        ++ lines_text (birth_lines (values_of config.now) scene.old births.items)) }
+        ≡ text.old.items ++ lines_text (birth_lines (values_of config.now)
+        (scene_in scene.old) (map delivery_in births.items))) }
+    ensures bank { OnOk result (scene.new.bank ≡ scene.old.bank) }
+    ensures genomes { OnOk result (genomes_ever scene.new.everyone
+        ≡ genomes_ever scene.old.everyone ++ map (λ b. genome_in b.newborn) births.items) }
     ensures size { OnOk result (length scene.new.cells ≡ length scene.old.cells) }
     ensures everyone { OnOk result
         (length scene.new.everyone ≡ length scene.old.everyone + length births.items) }
+    ensures first { OnOk result (scene.new.first ≡ scene.old.first) }
 {
     let placings = placings_of(alloc, config, scene, &births)?;
     for (birth, placing) in births.into_iter().zip(placings.into_vec()) {
-        settle(rt, alloc, config, scene, birth, &placing, text)?;
+        settle(alloc, config, scene, birth, &placing, text)?;
     }
     Ok(())
 }
@@ -62,10 +71,11 @@ fn placings_of(
     births: &[Delivery],
 ) -> Result<Placings, Memory>
     requires size { length scene.now.cells ≡ config.now.width * config.now.height }
-    requires births { AreDeliveries (values_of config.now) (length scene.now.cells) births.now }
+    requires births { AreDeliveries (values_of config.now) (length scene.now.cells)
+        (map delivery_in births.now) }
     requires few { length scene.now.everyone ≤ 2 ^ 60 }
-    ensures placings { IfOk result (λ placings.
-        placings ≡ placings_of (values_of config.now) scene.now births.now) }
+    ensures placings { IfOk result (λ placings. placings
+        ≡ placings_of (values_of config.now) (scene_in scene.now) (map delivery_in births.now)) }
     ensures count { IfOk result (λ placings. length placings ≡ length births.now) }
     ensures in_world { IfOk result (λ placings.
         All (λ placing. placing.cell < length scene.now.cells) placings) }
@@ -79,24 +89,26 @@ fn placings_of(
 
 /// The cells of the newborns' parents.
 fn parents_of(alloc: Global, births: &[Delivery]) -> Result<Parents, Memory>
-    ensures { IfOk result (λ parents. parents ≡ map (λ b. b.cell) births.now) }
+    ensures { IfOk result (λ parents. parents ≡ map (λ b. b.newborn.cell) births.now) }
 {
-    let cells = births.iter().map(|birth| birth.cell).collect(alloc)?;
+    let cells = births
+        .iter()
+        .map(|birth| birth.newborn.cell)
+        .collect(alloc)?;
     Ok(Parents::from_vec(cells))
 }
 
 /// The id of who stands in each cell.
-fn board_of(alloc: Global, cells: &[Option<Occupant>]) -> Result<Occupants, Memory>
+fn board_of(alloc: Global, cells: &Residents) -> Result<Occupants, Memory>
     ensures { IfOk result (λ board. board ≡ ids_of cells.now) }
 {
-    let ids = cells.iter().map(id_of).collect(alloc)?;
+    let ids = cells.all_ids(alloc)?;
     Ok(Occupants::from_vec(ids))
 }
 
 /// A newborn stands in the cell of its placing, with the next id, and has its line.
 #[tactic(auto, unfolding(world_rules::specs::Update::with_newborn, world_rules::specs::Scene::with_newcomer, organism::specs::OrganismState::new_organism))]
-fn settle<R: Wait>(
-    rt: &R,
+fn settle(
     alloc: Global,
     config: &Config,
     scene: &mut Scene,
@@ -105,22 +117,22 @@ fn settle<R: Wait>(
     text: &mut Vec<u8>,
 ) -> Result<(), Memory>
     requires cell { placing.now.cell < length scene.old.cells }
-    requires birth { IsDelivery (values_of config.now) (length scene.old.cells) birth }
-    ensures scene { OnOk result
-        (scene.new ≡ with_newborn (values_of config.now) scene.old (birth, placing.now)) }
-    ensures text { OnOk result (text.new.items
-        ≡ text.old.items ++ line_text (birth_line scene.old (birth, placing.now))) }
+    requires birth { IsDelivery (values_of config.now) (length scene.old.cells)
+        (delivery_in birth) }
+    requires number { HasNumber scene.old.bank birth.newborn }
+    ensures scene { OnOk result (scene_in scene.new ≡ with_newborn (values_of config.now)
+        (scene_in scene.old) (delivery_in birth, placing.now)) }
+    ensures text { OnOk result (text.new.items ≡ text.old.items
+        ++ line_text (birth_line (scene_in scene.old) (delivery_in birth, placing.now))) }
+    ensures bank { OnOk result (scene.new.bank ≡ scene.old.bank) }
     ensures size { OnOk result (length scene.new.cells ≡ length scene.old.cells) }
     ensures everyone { OnOk result (length scene.new.everyone ≡ length scene.old.everyone + 1) }
+    ensures first { OnOk result (scene.new.first ≡ scene.old.first) }
 {
     let id = scene.next_id();
-    let Delivery {
-        parent,
-        newborn,
-        ..
-    } = birth;
-    let Newborn {
-        genome,
+    let Delivery { parent, newborn } = birth;
+    let Delivered {
+        handle,
         origin,
         merit,
         credited,
@@ -128,7 +140,7 @@ fn settle<R: Wait>(
     } = newborn;
     let cell = placing.cell;
     let origin = tell_birth(scene, parent, cell, origin, text)?;
-    let handle = scene.enroll(rt, alloc, Some(parent), cell, Some(origin), genome)?;
+    scene.enroll(Some(parent), cell, Some(origin), &handle.genome)?;
     let organism = Organism::found(
         alloc,
         handle.genome,
@@ -150,8 +162,9 @@ fn tell_birth(
 ) -> Result<Origin, Memory>
     requires { cell < length scene.now.cells }
     ensures text { OnOk result
-        (text.new.items ≡ text.old.items ++ line_text (Birth (next_id scene.now)
-        parent scene.now.update cell (standing_at scene.now cell) (record_of origin))) }
+        (text.new.items ≡ text.old.items ++ line_text (Birth
+        (next_id (scene_in scene.now)) parent scene.now.update cell
+        (standing_at (scene_in scene.now) cell) (record_of origin))) }
     ensures origin { IfOk result (λ kept. record_of kept ≡ record_of origin) }
 {
     let line = LogLine::Birth {

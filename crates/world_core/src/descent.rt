@@ -1,53 +1,61 @@
-// Lines of descent.
-ghost use Rattle.std.specs.Prelude.{◌≡◌, ◌<◌, IfOk, length, reverse};
+// The tree of a world goes on with its scene.
+ghost use Rattle.std.specs.Prelude.{◌≡◌, ◌+◌, ◌≤◌, ◌^◌, IfOk, OnOk, length};
+ghost use Rattle.world_config.specs.Shown.{values_of};
 ghost use Rattle.world_rules.specs.Update.{world_of};
-ghost use Rattle.world_rules.specs.Descent.{line_in, line_of, AreNumbered, IsNumberedWorld};
+ghost use Rattle.world_rules.specs.WorldRun.{world_after};
+ghost use Rattle.world_core.specs.Scenes.{scene_in};
+ghost use Rattle.world_tree.specs.WorldTrees.{IsTreeOf, scene_after};
 
-use crate::ancestor::Ancestor;
 use crate::scene::Scene;
 use avida_port::Memory;
-use lineage_log::{Link, Path};
 use std::alloc::Global;
-use world_rules::laws::lines_come_from_parents;
+use std::sync::Arc;
+use world_config::Config;
+use world_tree::WorldTree;
 
-/// The line of who stands in the cell, where somebody does.
-#[tactic(auto, unfolding(world_rules::specs::Descent::line_in))]
-pub(crate) fn descent_in(alloc: Global, scene: &Scene, cell: u32) -> Result<Option<Path>, Memory>
-    requires cell { cell < length scene.now.cells }
-    requires numbered { IsNumberedWorld (world_of scene.now) }
-    ensures { IfOk result (λ path. path ≡ line_in (world_of scene.now) cell) }
+/// The tree of the world of update 0. The scene's founder leaves the list of the latest. After
+/// `Memory` drop the scene.
+#[tactic(auto, unfolding(world_rules::specs::WorldRun::world_after, world_rules::specs::World::first_world))]
+pub(crate) fn first_tree(
+    alloc: Global,
+    config: &Arc<Config, Global>,
+    scene: &mut Scene,
+) -> Result<WorldTree, Memory>
+    requires world { world_of (scene_in scene.old)
+        ≡ world_after (values_of config.now.value) 0 }
+    requires first { scene.old.first ≡ 0 }
+    ensures scene { OnOk result
+        (scene.new ≡ record scene.old { first = length scene.old.everyone }) }
+    ensures tree { IfOk result
+        (λ tree. IsTreeOf (world_after (values_of config.now.value) 0) tree) }
 {
-    match scene.standing_at(cell) {
-        Some(id) => Ok(Some(descent_of(alloc, &scene.everyone, id)?)),
-        None => Ok(None),
+    let mut founders = scene.settle(alloc, config)?;
+    match founders.pop() {
+        Some(founder) => WorldTree::found(alloc, config, founder.genome),
+        None => unreachable!(),
     }
 }
 
-/// The line of the organism with this id, its founder first.
-fn descent_of(alloc: Global, everyone: &[Ancestor], id: u64) -> Result<Path, Memory>
-    requires numbered { AreNumbered everyone.now }
-    requires id { id < length everyone.now }
-    ensures { IfOk result (λ path. path ≡ line_of everyone.now id) }
+/// The tree of the world after so many updates goes on to the one that the scene leaves. Who came
+/// in the update leaves the list of the latest. After `Memory` drop the scene and the tree.
+pub(crate) fn grow_tree(
+    alloc: Global,
+    config: &Arc<Config, Global>,
+    update: u32,
+    scene: &mut Scene,
+    tree: &mut WorldTree,
+) -> Result<(), Memory>
+    requires scene { scene_in scene.old ≡ scene_after (values_of config.now.value) update }
+    requires update { scene.old.update ≡ update + 1 }
+    requires first { scene.old.first
+        ≡ length (world_after (values_of config.now.value) update).everyone }
+    requires few { length scene.old.everyone ≤ 2 ^ 60 }
+    requires tree { IsTreeOf (world_after (values_of config.now.value) update) tree.old }
+    ensures scene { OnOk result
+        (scene.new ≡ record scene.old { first = length scene.old.everyone }) }
+    ensures tree { OnOk result
+        (IsTreeOf (world_after (values_of config.now.value) (update + 1)) tree.new) }
 {
-    let mut links = links_back(alloc, everyone, id)?;
-    links.reverse();
-    Ok(Path::from_vec(links))
-}
-
-/// The same links, the founder last.
-fn links_back(alloc: Global, everyone: &[Ancestor], id: u64) -> Result<Vec<Link>, Memory>
-    requires numbered { AreNumbered everyone.now }
-    requires id { id < length everyone.now }
-    ensures { IfOk result (λ links. links.items ≡ reverse (line_of everyone.now id)) }
-{
-    lines_come_from_parents();
-    let mut links = Vec::new(alloc);
-    let mut next = Some(id);
-    while let Some(id) = next {
-        let ancestor = &everyone[id as usize];
-        let link = ancestor.link(alloc)?;
-        links.push(link)?;
-        next = ancestor.parent;
-    }
-    Ok(links)
+    let newcomers = scene.settle(alloc, config)?;
+    tree.grow(config, update, newcomers, &scene.gone)
 }

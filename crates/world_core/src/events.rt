@@ -10,12 +10,14 @@ ghost use Rattle.world_rules.specs.LogText.{event_lines, what_lines, cleared_lin
 ghost use Rattle.world_rules.specs.Scene.{cells_from, with_deaths};
 ghost use Rattle.world_rules.specs.Update.{after_events, after_what};
 ghost use Rattle.world_core.specs.Happening.{CanHappen};
+ghost use Rattle.world_core.specs.Scenes.{Grows, scene_in};
 
 use crate::founding::found_in;
 use crate::scene::Scene;
 use crate::telling::tell;
 use avida_port::Memory;
 use genome::Genome;
+use genotype_bank::laws::genotypes_are_what_was_interned;
 use log_lines::{LogLine, write_line};
 use mutations::RateName;
 use random_streams::CELLS;
@@ -32,12 +34,16 @@ pub(crate) fn happen<R: Wait>(
     text: &mut Vec<u8>,
 ) -> Result<(), Memory>
     requires size { length scene.old.cells ≡ config.now.width * config.now.height }
-    ensures scene { OnOk result (scene.new ≡ after_events (values_of config.now) scene.old) }
+    ensures scene { OnOk result
+        (scene_in scene.new ≡ after_events (values_of config.now) (scene_in scene.old)) }
     ensures text { OnOk result (text.new.items
-        ≡ text.old.items ++ lines_text (event_lines (values_of config.now) scene.old)) }
+        ≡ text.old.items ++ lines_text (event_lines (values_of config.now) (scene_in scene.old))) }
     ensures size { OnOk result (length scene.new.cells ≡ length scene.old.cells) }
     ensures everyone { OnOk result
         (length scene.new.everyone ≤ length scene.old.everyone + MOST_EVENTS) }
+    ensures first { OnOk result (scene.new.first ≡ scene.old.first) }
+    ensures bank { OnOk result
+        (Grows scene.old.bank scene.new.bank scene.old.everyone scene.new.everyone) }
 {
     let update = scene.update;
     for (at, event) in config.event.as_slice().iter().enumerate() {
@@ -62,12 +68,15 @@ fn occur<R: Wait>(
     requires nth { nth ≤ MOST_EVENTS }
     requires fits { CanHappen (length scene.old.cells) config.now.greatest_length
         (what_value what.now) }
-    ensures scene { OnOk result (scene.new
-        ≡ after_what (values_of config.now) scene.old nth (what_value what.now)) }
+    ensures scene { OnOk result (scene_in scene.new
+        ≡ after_what (values_of config.now) (scene_in scene.old) nth (what_value what.now)) }
     ensures text { OnOk result (text.new.items
-        ≡ text.old.items ++ lines_text (what_lines scene.old (what_value what.now))) }
+        ≡ text.old.items ++ lines_text (what_lines (scene_in scene.old) (what_value what.now))) }
     ensures size { OnOk result (length scene.new.cells ≡ length scene.old.cells) }
     ensures everyone { OnOk result (length scene.new.everyone ≤ length scene.old.everyone + 1) }
+    ensures first { OnOk result (scene.new.first ≡ scene.old.first) }
+    ensures bank { OnOk result
+        (Grows scene.old.bank scene.new.bank scene.old.everyone scene.new.everyone) }
 {
     match what {
         What::Inject { cell, genome } => inject(rt, alloc, config, scene, nth, *cell, genome, text),
@@ -91,15 +100,21 @@ fn inject<R: Wait>(
     requires cell { cell < length scene.old.cells }
     requires nth { nth ≤ MOST_EVENTS }
     requires genome { length (letters genome.now) ≤ config.now.greatest_length }
-    ensures scene { OnOk result (scene.new
-        ≡ after_what (values_of config.now) scene.old nth (inject cell (letters genome.now))) }
+    ensures scene { OnOk result (scene_in scene.new ≡ after_what (values_of config.now)
+        (scene_in scene.old) nth (inject cell (letters genome.now))) }
     ensures text { OnOk result (text.new.items
-        ≡ text.old.items ++ lines_text (what_lines scene.old (inject cell (letters genome.now)))) }
+        ≡ text.old.items ++ lines_text
+        (what_lines (scene_in scene.old) (inject cell (letters genome.now)))) }
     ensures size { OnOk result (length scene.new.cells ≡ length scene.old.cells) }
     ensures everyone { OnOk result (length scene.new.everyone ≡ length scene.old.everyone + 1) }
+    ensures first { OnOk result (scene.new.first ≡ scene.old.first) }
+    ensures bank { OnOk result
+        (Grows scene.old.bank scene.new.bank scene.old.everyone scene.new.everyone) }
 {
+    genotypes_are_what_was_interned();
     let genome = tell_injection(scene, cell, genome.copy(alloc)?, text)?;
-    found_in(rt, alloc, config, scene, nth, cell, genome)
+    found_in(rt, alloc, config, scene, nth, cell, genome)?;
+    Ok(())
 }
 
 /// The line of an injection; the genome comes back from it.
@@ -112,7 +127,8 @@ fn tell_injection(
     requires { cell < length scene.now.cells }
     ensures genome { IfOk result (λ same. letters same ≡ letters genome) }
     ensures text { OnOk result (text.new.items
-        ≡ text.old.items ++ lines_text (what_lines scene.now (inject cell (letters genome)))) }
+        ≡ text.old.items ++ lines_text
+        (what_lines (scene_in scene.now) (inject cell (letters genome)))) }
 {
     let line = LogLine::Injected {
         id: scene.next_id(),
@@ -131,11 +147,14 @@ fn tell_injection(
 fn clear(scene: &mut Scene, first: u32, last: u32, text: &mut Vec<u8>) -> Result<(), Memory>
     requires cells { length scene.old.cells ≤ CELLS }
     requires last { last < length scene.old.cells }
-    ensures scene { OnOk result (scene.new ≡ with_deaths scene.old (cells_from first last)) }
+    ensures scene { OnOk result (scene_in scene.new
+        ≡ with_deaths (scene_in scene.old) (cells_from first last)) }
     ensures text { OnOk result (text.new.items
-        ≡ text.old.items ++ lines_text (what_lines scene.old (clear first last))) }
+        ≡ text.old.items ++ lines_text (what_lines (scene_in scene.old) (clear first last))) }
     ensures size { OnOk result (length scene.new.cells ≡ length scene.old.cells) }
     ensures everyone { OnOk result (scene.new.everyone ≡ scene.old.everyone) }
+    ensures first { OnOk result (scene.new.first ≡ scene.old.first) }
+    ensures bank { OnOk result (scene.new.bank ≡ scene.old.bank) }
 {
     for cell in first..last + 1 {
         tell_clearing(scene, cell, text)?;
@@ -148,7 +167,7 @@ fn clear(scene: &mut Scene, first: u32, last: u32, text: &mut Vec<u8>) -> Result
 fn tell_clearing(scene: &Scene, cell: u32, text: &mut Vec<u8>) -> Result<(), Memory>
     requires { cell < length scene.now.cells }
     ensures { OnOk result (text.new.items
-        ≡ text.old.items ++ lines_text (option_to_list (cleared_line scene.now cell))) }
+        ≡ text.old.items ++ lines_text (option_to_list (cleared_line (scene_in scene.now) cell))) }
 {
     match scene.standing_at(cell) {
         Some(id) => {

@@ -7,11 +7,16 @@ ghost use Rattle.world_config.specs.Shown.{values_of};
 ghost use Rattle.world_rules.specs.Scene.{next_id, with_newcomer};
 ghost use Rattle.world_rules.specs.World.{founder_link, founder_of, founder_words, first_world};
 ghost use Rattle.world_rules.specs.Update.{world_of};
+ghost use Rattle.genotype_bank.specs.BankHistory.{HasEachOnce, with_genome};
+ghost use Rattle.world_core.specs.Genotypes.{genomes_ever};
+ghost use Rattle.world_core.specs.Scenes.{scene_in};
 
+use crate::everyone::Everyone;
 use crate::population::Population;
 use crate::scene::Scene;
 use avida_port::Memory;
 use genome::Genome;
+use genotype_bank::laws::genotypes_are_what_was_interned;
 use logic_tasks::{Inputs, Tasks};
 use organism::Organism;
 use random_streams::{CELLS, Draws, Purpose};
@@ -70,8 +75,8 @@ fn pass_over(draws: &mut Draws, words: u32)
     }
 }
 
-/// Founder number `nth` of a run stands in the cell, and who stood there dies. After `Memory` drop the
-/// scene.
+/// Founder number `nth` of a run stands in the cell, and who stood there dies. After `Memory` drop
+/// the scene.
 #[tactic(auto, unfolding(world_rules::specs::Scene::with_newcomer, world_rules::specs::World::founder_of, organism::specs::OrganismState::new_organism))]
 pub(crate) fn found_in<R: Wait>(
     rt: &R,
@@ -86,14 +91,18 @@ pub(crate) fn found_in<R: Wait>(
     requires cell { cell < length scene.old.cells }
     requires nth { nth ≤ MOST_EVENTS }
     requires genome { length (letters genome) ≤ config.now.greatest_length }
-    ensures scene { OnOk result (scene.new ≡ with_newcomer scene.old
-        (founder_link (next_id scene.old) scene.old.update cell (letters genome))
+    ensures scene { OnOk result (scene_in scene.new ≡ with_newcomer (scene_in scene.old)
+        (founder_link (next_id (scene_in scene.old)) scene.old.update cell (letters genome))
         (founder_of (values_of config.now) cell nth (letters genome))) }
+    ensures bank { OnOk result
+        (scene.new.bank ≡ with_genome scene.old.bank (letters genome)) }
     ensures size { OnOk result (length scene.new.cells ≡ length scene.old.cells) }
     ensures everyone { OnOk result (length scene.new.everyone ≡ length scene.old.everyone + 1) }
+    ensures first { OnOk result (scene.new.first ≡ scene.old.first) }
 {
     let id = scene.next_id();
-    let handle = scene.enroll(rt, alloc, None, cell, None, genome)?;
+    let handle = scene.intern(rt, alloc, genome)?;
+    scene.enroll(None, cell, None, &handle.genome)?;
     let organism = founder(alloc, config, cell, nth, handle.genome)?;
     scene.come(id, cell, handle.number, organism)
 }
@@ -101,17 +110,21 @@ pub(crate) fn found_in<R: Wait>(
 /// The scene of update 0: the configuration's founder alone.
 #[tactic(auto, unfolding(world_rules::specs::World::first_world, world_rules::specs::Scene::with_newcomer))]
 pub(crate) fn first_scene<R: Wait>(rt: &R, alloc: Global, config: &Config) -> Result<Scene, Memory>
-    ensures world { IfOk result (λ scene. world_of scene ≡ first_world (values_of config.now)) }
+    ensures world { IfOk result
+        (λ scene. world_of (scene_in scene) ≡ first_world (values_of config.now)) }
     ensures size { IfOk result
         (λ scene. length scene.cells ≡ config.now.width * config.now.height) }
     ensures nobody { IfOk result (λ scene. scene.gone ≡ []) }
     ensures one { IfOk result (λ scene. length scene.everyone ≡ 1) }
+    ensures first { IfOk result (λ scene. scene.first ≡ 0) }
+    ensures bank { IfOk result (λ scene. HasEachOnce scene.bank (genomes_ever scene.everyone)) }
 {
+    genotypes_are_what_was_interned();
     let genome = config.ancestor.copy(alloc)?;
     let mut scene = Scene {
         update: 0,
         cells: Population::none(alloc, config.width * config.height)?,
-        everyone: Vec::new(alloc),
+        everyone: Everyone::none(alloc),
         gone: Vec::new(alloc),
     };
     found_in(

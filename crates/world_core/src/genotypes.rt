@@ -1,10 +1,11 @@
 // The numbers of genotypes.
-ghost use Rattle.std.specs.Prelude.{◌≡◌, ◌+◌, ◌<◌, ◌^◌, ◌++◌, ◌∷◌, [], Some, IfOk, OnErr, OnOk, length, slice_get, nat_lt, if◌then◌else◌};
+ghost use Rattle.std.specs.Prelude.{◌≡◌, ◌+◌, ◌<◌, ◌^◌, [], All, Some, IfOk, OnErr, OnOk, fold, length, slice_get, nat_lt, if◌then◌else◌};
 ghost use Rattle.genome.specs.Genome.{letters};
-ghost use Rattle.genotype_bank.specs.BankHistory.{different_of, with_genome};
+ghost use Rattle.genotype_bank.specs.BankHistory.{with_genome};
 ghost use Rattle.world_core.specs.Population.{AreDifferent};
 
 use avida_port::Memory;
+use cell_shards::Delivered;
 use genome::Genome;
 use genotype_bank::laws::{calls_number_genotypes, numbers_agree};
 use genotype_bank::{Bank, Handle, Seat};
@@ -12,12 +13,13 @@ use std::alloc::Global;
 use std::marker::Model;
 use std::sync::Wait;
 
-/// A bank with its one seat, which is whole. Contracts see the genomes that were interned, in order.
+/// A bank with one seat, which is whole. Contracts see the genomes of the bank, each at the place
+/// that is its number.
 #[derive(Drop)]
 pub(crate) struct Genotypes {
-    bank: Bank,
-    seat: Seat,
-    len: u64,
+    pub(crate) bank: Bank,
+    pub(crate) seat: Seat,
+    pub(crate) len: u64,
 }
 
 impl Model for Genotypes {
@@ -27,10 +29,10 @@ impl Model for Genotypes {
     ghost Value = { List (List Letter) };
 
     ghost use Rattle.std.specs.Prelude.{◌≡◌, length};
-    ghost use Rattle.genotype_bank.specs.BankHistory.{genomes_of, genotypes_of};
+    ghost use Rattle.genotype_bank.specs.BankHistory.{genotypes_of};
     ghost use Rattle.genotype_bank.specs.Seats.{all_shares};
 
-    ghost view = { λ g. genomes_of g.seat.seen };
+    ghost view = { λ g. genotypes_of g.seat.seen };
 
     ghost invariant = { λ g. (g.seat.bank ≡ g.bank) × (g.seat.share ≡ all_shares)
         × (g.len ≡ length (genotypes_of g.seat.seen)) };
@@ -52,14 +54,12 @@ impl Genotypes {
         alloc: Global,
         genome: Genome,
     ) -> Result<Handle, Memory>
-        ensures ok { OnOk result (self.new ≡ self.old ++ letters genome ∷ []) }
+        ensures ok { OnOk result (self.new ≡ with_genome self.old (letters genome)) }
         ensures err { OnErr result (self.new ≡ self.old) }
         ensures genome { IfOk result (λ handle. letters handle.genome.value ≡ letters genome) }
         ensures number { IfOk result
-            (λ handle. slice_get (different_of self.new) handle.number ≡ Some (letters genome)) }
-        ensures genotypes { OnOk result
-            (different_of self.new ≡ with_genome (different_of self.old) (letters genome)) }
-        ensures different { AreDifferent (different_of self.new) }
+            (λ handle. slice_get self.new handle.number ≡ Some (letters genome)) }
+        ensures different { AreDifferent self.new }
     {
         calls_number_genotypes();
         numbers_agree();
@@ -70,10 +70,23 @@ impl Genotypes {
 
     /// How many genotypes have a number.
     pub(crate) fn len(&self) -> u64
-        ensures { result ≡ length (different_of self.now) }
+        ensures { result ≡ length self.now }
     {
         self.len
     }
+}
+
+/// How many genotypes have a number once these newborns were given theirs, from `len` on.
+pub(crate) fn len_after(len: u64, births: &[Delivered]) -> u64
+    requires { All (λ birth. birth.handle.number < 2 ^ 63) births.now }
+    ensures { result ≡ fold (λ n birth.
+        if nat_lt birth.handle.number n then n else birth.handle.number + 1) len births.now }
+{
+    let mut most = len;
+    for birth in births {
+        most = len_with(most, birth.handle.number);
+    }
+    most
 }
 
 /// How many genotypes have a number once this one was given: it is one of the `len` so far, or the

@@ -10,9 +10,26 @@ use avida_port::Memory;
 use census::Dominant;
 use genome::letters_text;
 use log_lines::write_number;
+use published_world::Picture;
 use std::alloc::Global;
+use std::marker::Model;
 use std::sync::Arc;
 use world_config::Config;
+
+/// A configuration as contracts see it, which all pictures of a run are of. No value of it is made.
+#[derive(Drop)]
+pub struct ConfigShown {
+    pub config: Arc<Config, Global>,
+}
+
+impl Model for ConfigShown {
+    ghost use Rattle.world_config.specs.Shown.{values_of};
+    ghost use Rattle.world_config.specs.Values.{ConfigValues};
+
+    ghost Value = { ConfigValues };
+
+    ghost view = { λ s. values_of s.config.value };
+}
 
 /// What a world shows after an update. Only `World::picture` makes one, and its type keeps that it
 /// shows that world.
@@ -32,6 +49,20 @@ pub struct WorldPicture {
       merit = merit;
       dominant = option_map dominant_value dominant;
     } },
+}
+
+impl Picture for WorldPicture {
+    ghost use Rattle.world_config.specs.Shown.{values_of};
+
+    type Of = ConfigShown;
+
+    ghost of = { λ p. values_of p.config.value };
+
+    ghost number = { λ p. p.update };
+
+    fn number(&self) -> u64 {
+        u64::from(self.update)
+    }
 }
 
 /// Appends the line of a picture, with its newline. When memory runs out `out` stays as it was.

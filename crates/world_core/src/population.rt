@@ -1,19 +1,26 @@
 // Who stands in each cell, and what is counted of them.
-ghost use Rattle.std.specs.Prelude.{◌≡◌, ◌+◌, ◌++◌, ◌∷◌, [], ◌<◌, ◌≤◌, ◌^◌, None, Some, IfOk, OnErr, OnOk, length, map, option_map, replicate, slice_get, slice_index_or, slice_set};
+ghost use Rattle.std.specs.Prelude.{◌≡◌, ◌+◌, ◌++◌, [], ◌<◌, ◌≤◌, ◌^◌, All, None, Some, IfOk, OnErr, OnOk, length, map, option_map, replicate, slice_get, slice_index_or, slice_set};
 ghost use Rattle.census.specs.Dominance.{dominant_value};
 ghost use Rattle.genome.specs.Genome.{letters};
-ghost use Rattle.genotype_bank.specs.BankHistory.{different_of};
+ghost use Rattle.genotype_bank.specs.BankHistory.{with_genome};
 ghost use Rattle.world_config.specs.Shown.{values_of};
 ghost use Rattle.world_rules.specs.Lives.{lives_of};
 ghost use Rattle.world_rules.specs.Statistics.{dominant_of, stats_in};
-ghost use Rattle.world_rules.specs.Update.{births_of, deaths_of};
+ghost use Rattle.world_rules.specs.Update.{births_of};
+ghost use Rattle.world_laws.specs.Keeping.{LiveOn};
+ghost use Rattle.world_core.specs.Genotypes.{TakesIn};
+ghost use Rattle.world_core.specs.Lived.{delivery_in, departed_of, staying_in};
 ghost use Rattle.world_core.specs.Population.{genome_of};
 ghost use Rattle.world_core.specs.Soundness.{AreBounded, AreBoundedLives};
 
 use crate::genotypes::Genotypes;
-use crate::lives::{Lived, live};
-use crate::occupant::Occupant;
-use avida_port::Memory;
+use crate::lived::Lived;
+use crate::lives::{
+    count_again, credits_of, merits_of, round_at, slices_by, with_ids, with_parents,
+};
+use crate::residents::Residents;
+use crate::sharding::{Ended, live_in_shards};
+use avida_port::{Gate, Memory};
 use census::laws::dominance_knows_no_order;
 use census::{Census, Dominant};
 use genome::Genome;
@@ -21,16 +28,18 @@ use genotype_bank::Handle;
 use genotype_bank::laws::genotypes_are_what_was_interned;
 use instruction_set::laws::one_index;
 use log_lines::Stats;
+use organism::Organism;
 use random_streams::CELLS;
 use std::alloc::Global;
 use std::marker::Model;
 use std::sync::Wait;
+use std::thread::Threads;
 use world_config::{Config, GREATEST_UPDATES};
 
 /// Who stands in each cell. The counts of the living change as organisms come and go.
 #[derive(Drop)]
 pub(crate) struct Population {
-    pub(crate) cells: Vec<Option<Occupant>>,
+    pub(crate) cells: Residents,
     /// The number of the genome in each cell where somebody stands.
     pub(crate) keys: Vec<u64>,
     pub(crate) genotypes: Genotypes,
@@ -42,13 +51,11 @@ impl Model for Population {
 
     ghost Value = { PopulationValue };
 
-    ghost use Rattle.genotype_bank.specs.BankHistory.{different_of};
     ghost use Rattle.world_core.specs.Population.{IsKeptOf};
 
-    ghost view = { λ p. record { cells = p.cells.items; interned = p.genotypes } };
+    ghost view = { λ p. record { cells = p.cells; bank = p.genotypes } };
 
-    ghost invariant = { λ p.
-        IsKeptOf p.cells.items (different_of p.genotypes) p.keys.items p.census };
+    ghost invariant = { λ p. IsKeptOf p.cells p.genotypes p.keys.items p.census };
 }
 
 impl Population {
@@ -56,10 +63,10 @@ impl Population {
     pub(crate) fn none(alloc: Global, cells: u32) -> Result<Population, Memory>
         requires { cells ≤ CELLS }
         ensures { IfOk result (λ population.
-            population ≡ record { cells = replicate cells None; interned = [] }) }
+            population ≡ record { cells = replicate cells None; bank = [] }) }
     {
         Ok(Population {
-            cells: empty_cells(alloc, cells)?,
+            cells: Residents::none(alloc, cells)?,
             keys: vec![in alloc; 0; cells as usize]?,
             genotypes: Genotypes::none(alloc)?,
             census: Census::start(alloc),
@@ -67,7 +74,7 @@ impl Population {
     }
 
     /// Who stands in each cell.
-    pub(crate) fn cells(&self) -> &[Option<Occupant>]
+    pub(crate) fn cells(&self) -> &Residents
         ensures cells { result.now ≡ self.now.cells }
         ensures few { length self.now.cells ≤ CELLS }
     {
@@ -76,7 +83,7 @@ impl Population {
 
     /// How many genotypes have a number.
     pub(crate) fn bank_len(&self) -> u64
-        ensures { result ≡ length (different_of self.now.interned) }
+        ensures { result ≡ length self.now.bank }
     {
         self.genotypes.len()
     }
@@ -84,11 +91,11 @@ impl Population {
     /// The number of the genome in the cell; None exactly where nobody stands there.
     pub(crate) fn number_at(&self, cell: u32) -> Option<u64>
         requires { cell < length self.now.cells }
-        ensures { option_map (λ number. slice_get (different_of self.now.interned) number) result
+        ensures { option_map (λ number. slice_get self.now.bank number) result
             ≡ option_map (λ genome. Some genome)
             (genome_of (slice_index_or self.now.cells cell None)) }
     {
-        match &self.cells[cell as usize] {
+        match self.cells.organism_at(cell as usize) {
             Some(_) => Some(self.keys[cell as usize]),
             None => None,
         }
@@ -102,11 +109,11 @@ impl Population {
         genome: Genome,
     ) -> Result<Handle, Memory>
         ensures ok { OnOk result (self.new
-            ≡ record self.old { interned = self.old.interned ++ letters genome ∷ [] }) }
+            ≡ record self.old { bank = with_genome self.old.bank (letters genome) }) }
         ensures err { OnErr result (self.new ≡ self.old) }
         ensures genome { IfOk result (λ handle. letters handle.genome.value ≡ letters genome) }
         ensures number { IfOk result (λ handle.
-            slice_get (different_of self.new.interned) handle.number ≡ Some (letters genome)) }
+            slice_get self.new.bank handle.number ≡ Some (letters genome)) }
     {
         one_index();
         self.genotypes.intern(rt, alloc, genome)
@@ -119,37 +126,41 @@ impl Population {
     {
         one_index();
         let at = cell as usize;
-        if let Some(occupant) = &self.cells[at] {
-            let organism = &occupant.organism;
+        if let Some(organism) = self.cells.organism_at(at) {
+            let key = self.keys[at];
             self.census
-                .remove(self.keys[at], organism.merit(), organism.credited());
+                .remove(key, organism.merit(), organism.credited());
         }
-        self.cells[at] = None;
+        self.cells.remove(at);
     }
 
     /// Somebody, whose genome has this number, stands in a cell that was empty. If memory runs out,
     /// nobody does.
-    pub(crate) fn put(&mut self, cell: u32, number: u64, occupant: Occupant) -> Result<(), Memory>
+    pub(crate) fn put(
+        &mut self,
+        cell: u32,
+        number: u64,
+        id: u64,
+        organism: Organism,
+    ) -> Result<(), Memory>
         requires cell { cell < length self.old.cells }
         requires empty { slice_index_or self.old.cells cell None ≡ None }
-        requires number { slice_get (different_of self.old.interned) number
-            ≡ Some occupant.organism.genome }
-        requires merit { occupant.organism.merit ≤ 2 ^ 38 }
-        ensures ok { OnOk result (self.new
-            ≡ record self.old { cells = slice_set self.old.cells cell (Some occupant) }) }
+        requires number { slice_get self.old.bank number ≡ Some organism.genome }
+        requires merit { organism.merit ≤ 2 ^ 38 }
+        ensures ok { OnOk result (self.new ≡ record self.old {
+          cells = slice_set self.old.cells cell (Some (record { id = id; organism = organism }));
+        }) }
         ensures err { OnErr result (self.new ≡ self.old) }
     {
         one_index();
-        let at = cell as usize;
-        let organism = &occupant.organism;
         self.census.add(
             number,
             organism.genome(),
             organism.merit(),
             organism.credited(),
         )?;
-        self.keys[at] = number;
-        self.cells[at] = Some(occupant);
+        self.keys[cell as usize] = number;
+        self.cells.put(cell as usize, id, organism);
         Ok(())
     }
 
@@ -160,49 +171,89 @@ impl Population {
         &mut self,
         cell: u32,
         number: u64,
-        occupant: Occupant,
+        id: u64,
+        organism: Organism,
     ) -> Result<(), Memory>
         requires cell { cell < length self.old.cells }
-        requires number { slice_get (different_of self.old.interned) number
-            ≡ Some occupant.organism.genome }
-        requires merit { occupant.organism.merit ≤ 2 ^ 38 }
-        ensures ok { OnOk result (self.new
-            ≡ record self.old { cells = slice_set self.old.cells cell (Some occupant) }) }
+        requires number { slice_get self.old.bank number ≡ Some organism.genome }
+        requires merit { organism.merit ≤ 2 ^ 38 }
+        ensures ok { OnOk result (self.new ≡ record self.old {
+          cells = slice_set self.old.cells cell (Some (record { id = id; organism = organism }));
+        }) }
         ensures err { OnErr result (self.new
             ≡ record self.old { cells = slice_set self.old.cells cell None }) }
     {
         self.remove(cell);
-        self.put(cell, number, occupant)
+        self.put(cell, number, id, organism)
     }
 
-    /// The lives of all cells in the update after this one; the dead stay in their cells.
-    pub(crate) fn live(
+    /// The lives of all cells in the update after this one, in as many shards as there are workers.
+    /// The dead leave their cells, and the genomes of the newborns are interned. After `Memory` no
+    /// population is left.
+    pub(crate) fn live<R: Threads + Wait + Sync, G: Gate + Sync>(
         self,
+        rt: &R,
         alloc: Global,
         config: &Config,
         update: u32,
+        workers: u32,
+        gate: &G,
     ) -> Result<(Population, Lived), Memory>
+        requires some { 1 ≤ length self.cells }
         requires update { update < GREATEST_UPDATES }
+        requires workers { (1 ≤ workers) × (workers ≤ 64) }
         requires sound { AreBounded update self.cells }
+        requires lives { LiveOn (values_of config.now)
+            (record { update = update; cells = self.cells; everyone = [] }) }
         ensures cells { IfOk result (λ next. next.0.cells
-            ≡ map (λ l. l.occupant) (lives_of (values_of config.now) (update + 1) self.cells)) }
-        ensures interned { IfOk result (λ next. next.0.interned ≡ self.interned) }
-        ensures births { IfOk result (λ next. next.1.births.items
+            ≡ map staying_in (lives_of (values_of config.now) (update + 1) self.cells)) }
+        ensures births { IfOk result (λ next. map delivery_in next.1.births.items
             ≡ births_of (lives_of (values_of config.now) (update + 1) self.cells)) }
         ensures dead { IfOk result (λ next. next.1.dead.items
-            ≡ deaths_of (lives_of (values_of config.now) (update + 1) self.cells)) }
+            ≡ departed_of 0 (lives_of (values_of config.now) (update + 1) self.cells)) }
+        ensures bank { IfOk result (λ next. TakesIn self.bank next.0.bank
+            (map (λ birth. birth.newborn) next.1.births.items)) }
         ensures bounds { IfOk result (λ next. AreBoundedLives (values_of config.now) (update + 1)
-            next.0.cells next.1.births.items next.1.dead.items) }
+            next.0.cells (map delivery_in next.1.births.items)) }
     {
+        one_index();
         let Population {
-            mut cells,
+            cells,
             keys,
-            genotypes,
+            genotypes: known,
             mut census,
         } = self;
-        let lived = live(alloc, config, update, &mut cells, &mut census)?;
+        let Residents { organisms, ids } = cells;
+        let merits = merits_of(alloc, &organisms)?;
+        let credits = credits_of(alloc, &organisms)?;
+        let slices = slices_by(alloc, config, &merits)?;
+        let round = round_at(config, update + 1);
+        let (genotypes, ended) = live_in_shards(
+            rt, alloc, known, organisms, slices, &round, workers, gate,
+        )?;
+        let Ended {
+            organisms: left,
+            births,
+            dead,
+        } = ended;
+        for cell in 0..left.len() {
+            count_again(
+                &mut census,
+                keys[cell],
+                merits[cell],
+                credits[cell],
+                &left[cell],
+            );
+        }
+        let lived = Lived {
+            births: with_parents(alloc, &ids, births)?,
+            dead: with_ids(alloc, &ids, &dead)?,
+        };
         let population = Population {
-            cells,
+            cells: Residents {
+                organisms: left,
+                ids,
+            },
             keys,
             genotypes,
             census,
@@ -237,15 +288,4 @@ impl Population {
         dominance_knows_no_order();
         self.census.dominant()
     }
-}
-
-/// So many cells in which nobody stands.
-fn empty_cells(alloc: Global, count: u32) -> Result<Vec<Option<Occupant>>, Memory>
-    ensures { IfOk result (λ cells. cells.items ≡ replicate count None) }
-{
-    let mut cells = Vec::with_capacity(alloc, count as usize)?;
-    for _ in 0..count {
-        cells.push(None)?;
-    }
-    Ok(cells)
 }

@@ -1,72 +1,97 @@
 // One update.
-ghost use Rattle.std.specs.Prelude.{◌≡◌, ◌+◌, ◌*◌, ◌<◌, ◌≤◌, ◌^◌, All, IfOk, length};
+ghost use Rattle.std.specs.Prelude.{◌≡◌, ◌+◌, ◌*◌, ◌<◌, ◌≤◌, ◌^◌, [], IfOk, length, map};
 ghost use Rattle.lineage_log.specs.LogGrammar.{lines_text};
 ghost use Rattle.world_config.specs.Shown.{values_of};
+ghost use Rattle.world_laws.specs.Keeping.{LiveOn};
 ghost use Rattle.world_rules.specs.Lives.{lives_of};
 ghost use Rattle.world_rules.specs.LogText.{update_lines};
 ghost use Rattle.world_rules.specs.Statistics.{next_stats};
-ghost use Rattle.world_rules.specs.Update.{after_lives, births_of, deaths_of, next_scene, world_of};
+ghost use Rattle.world_rules.specs.Update.{births_of, next_scene, world_of};
+ghost use Rattle.world_core.specs.Genotypes.{TakesIn};
+ghost use Rattle.world_core.specs.Lived.{delivery_in, departed_of, staying_in};
+ghost use Rattle.world_core.specs.Scenes.{Grows, scene_in};
 ghost use Rattle.world_core.specs.Soundness.{AreDeliveries};
 
 use crate::births::place_births;
 use crate::burials::bury;
 use crate::events::happen;
-use crate::lives::Lived;
+use crate::lived::Lived;
 use crate::scene::Scene;
-use avida_port::Memory;
+use avida_port::{Gate, Memory};
 use log_lines::{LogLine, Stats, write_line};
 use std::alloc::Global;
 use std::sync::Wait;
+use std::thread::Threads;
 use world_config::{Config, GREATEST_UPDATES};
 
 /// The scene at the end of the next update, what is counted of it, and its lines.
-#[tactic(auto, unfolding(world_rules::specs::Update::next_scene, world_rules::specs::Update::scene_of_lives, world_rules::specs::Update::last_scene, world_rules::specs::Update::after_burials, world_rules::specs::LogText::update_lines, world_rules::specs::LogText::lines_of_lives, world_rules::specs::Statistics::next_stats), using(crate::proofs::UpdateLemmas::joined))]
-pub(crate) fn next_scene<R: Wait>(
+#[tactic(auto, unfolding(world_rules::specs::Update::next_scene, world_rules::specs::Update::scene_of_lives, world_rules::specs::Update::last_scene, world_rules::specs::Update::after_burials, world_rules::specs::LogText::update_lines, world_rules::specs::LogText::lines_of_lives, world_rules::specs::Statistics::next_stats))]
+pub(crate) fn next_scene<R: Threads + Wait + Sync, G: Gate + Sync>(
     rt: &R,
     alloc: Global,
     config: &Config,
     scene: Scene,
+    workers: u32,
+    gate: &G,
 ) -> Result<(Scene, Stats, Vec<u8>), Memory>
     requires size { length scene.cells ≡ config.now.width * config.now.height }
     requires update { scene.update < GREATEST_UPDATES }
     requires few { length scene.everyone ≤ 2 ^ 60 }
-    ensures scene { IfOk result
-        (λ next. next.0 ≡ next_scene (values_of config.now) (world_of scene)) }
+    requires workers { (1 ≤ workers) × (workers ≤ 64) }
+    requires lives { LiveOn (values_of config.now) (world_of (scene_in scene)) }
+    ensures scene { IfOk result (λ next. scene_in next.0
+        ≡ next_scene (values_of config.now) (world_of (scene_in scene))) }
     ensures stats { IfOk result
-        (λ next. next.1 ≡ next_stats (values_of config.now) (world_of scene)) }
-    ensures text { IfOk result (λ next.
-        next.2.items ≡ lines_text (update_lines (values_of config.now) (world_of scene))) }
+        (λ next. next.1 ≡ next_stats (values_of config.now) (world_of (scene_in scene))) }
+    ensures text { IfOk result (λ next. next.2.items
+        ≡ lines_text (update_lines (values_of config.now) (world_of (scene_in scene)))) }
     ensures update { IfOk result (λ next. next.0.update ≡ scene.update + 1) }
     ensures size { IfOk result (λ next. length next.0.cells ≡ length scene.cells) }
     ensures few { IfOk result (λ next. length next.0.everyone ≤ length scene.everyone + 2 ^ 33) }
+    ensures first { IfOk result (λ next. next.0.first ≡ scene.first) }
+    ensures bank { IfOk result
+        (λ next. Grows scene.bank next.0.bank scene.everyone next.0.everyone) }
 {
-    let (mut scene, lived) = scene_of_lives(alloc, config, scene)?;
+    let (mut scene, lived) = scene_of_lives(rt, alloc, config, scene, workers, gate)?;
     let births = lived.births.len() as u64;
     let mut text = Vec::new(alloc);
     bury(&mut scene, &lived.dead, &mut text)?;
-    place_births(rt, alloc, config, &mut scene, lived.births, &mut text)?;
+    place_births(alloc, config, &mut scene, lived.births, &mut text)?;
     happen(rt, alloc, config, &mut scene, &mut text)?;
     let stats = scene.stats(births);
     write_line(&LogLine::Count(stats), &mut text)?;
     Ok((scene, stats, text))
 }
 
-/// The scene as all lives of the next update have ended.
-#[tactic(auto, using(crate::proofs::UpdateLemmas::length_lived))]
-fn scene_of_lives(alloc: Global, config: &Config, scene: Scene) -> Result<(Scene, Lived), Memory>
+/// The scene as all lives of the next update have ended, and the dead have left their cells.
+fn scene_of_lives<R: Threads + Wait + Sync, G: Gate + Sync>(
+    rt: &R,
+    alloc: Global,
+    config: &Config,
+    scene: Scene,
+    workers: u32,
+    gate: &G,
+) -> Result<(Scene, Lived), Memory>
     requires size { length scene.cells ≡ config.now.width * config.now.height }
     requires update { scene.update < GREATEST_UPDATES }
-    ensures scene { IfOk result (λ next. next.0 ≡ after_lives (scene.update + 1) scene.everyone
-        (lives_of (values_of config.now) (scene.update + 1) scene.cells)) }
-    ensures births { IfOk result (λ next. next.1.births.items
+    requires workers { (1 ≤ workers) × (workers ≤ 64) }
+    requires lives { LiveOn (values_of config.now) (world_of (scene_in scene)) }
+    ensures scene { IfOk result (λ next. scene_in next.0 ≡ record {
+      update = scene.update + 1;
+      cells = map staying_in (lives_of (values_of config.now) (scene.update + 1) scene.cells);
+      everyone = scene.everyone;
+      gone = [];
+    }) }
+    ensures births { IfOk result (λ next. map delivery_in next.1.births.items
         ≡ births_of (lives_of (values_of config.now) (scene.update + 1) scene.cells)) }
-    ensures deliveries { IfOk result (λ next.
-        AreDeliveries (values_of config.now) (length scene.cells) next.1.births.items) }
+    ensures deliveries { IfOk result (λ next. AreDeliveries (values_of config.now)
+        (length scene.cells) (map delivery_in next.1.births.items)) }
     ensures dead { IfOk result (λ next. next.1.dead.items
-        ≡ deaths_of (lives_of (values_of config.now) (scene.update + 1) scene.cells)) }
-    ensures in_world { IfOk result
-        (λ next. All (λ cell. cell < length scene.cells) next.1.dead.items) }
+        ≡ departed_of 0 (lives_of (values_of config.now) (scene.update + 1) scene.cells)) }
+    ensures bank { IfOk result (λ next. TakesIn scene.bank next.0.bank
+        (map (λ birth. birth.newborn) next.1.births.items)) }
     ensures size { IfOk result (λ next. length next.0.cells ≡ length scene.cells) }
+    ensures first { IfOk result (λ next. next.0.first ≡ scene.first) }
 {
     let Scene {
         update,
@@ -74,7 +99,7 @@ fn scene_of_lives(alloc: Global, config: &Config, scene: Scene) -> Result<(Scene
         everyone,
         mut gone,
     } = scene;
-    let (cells, lived) = cells.live(alloc, config, update)?;
+    let (cells, lived) = cells.live(rt, alloc, config, update, workers, gate)?;
     gone.clear();
     let scene = Scene {
         update: update + 1,

@@ -9,24 +9,27 @@ ghost use Rattle.world_config.specs.Shown.{values_of};
 ghost use Rattle.world_rules.specs.Descent.{line_in};
 ghost use Rattle.world_rules.specs.LogText.{head_text, update_text, end_text};
 ghost use Rattle.world_rules.specs.Statistics.{stats_of};
-ghost use Rattle.world_core.specs.Genotypes.{bank_in, genomes_ever};
+ghost use Rattle.world_tree.specs.WorldTrees.{living_and_ancestors};
+ghost use Rattle.world_core.specs.Genotypes.{genomes_ever};
 ghost use Rattle.world_core.specs.WorldValue.{WorldValue, world_in, genome_in};
 
-use crate::descent::descent_in;
+use crate::descent::{first_tree, grow_tree};
 use crate::founding::first_scene;
 use crate::picture::WorldPicture;
 use crate::scene::Scene;
 use crate::updating::next_scene;
 use avida_port::{Gate, Memory};
 use genome::Genome;
-use genotype_bank::laws::{calls_number_genotypes, genotypes_are_what_was_interned};
 use lineage_log::Path;
 use log_lines::{LAST_VERSION, LogLine, Stats, write_line};
 use std::alloc::Global;
 use std::marker::Model;
 use std::sync::{Arc, Wait};
+use std::thread::Threads;
 use world_config::Config;
+use world_laws::laws::organisms_live_on;
 use world_rules::laws::ids_are_places;
+use world_tree::WorldTree;
 
 /// The world of a configuration after so many updates. Only `found` and `advance` make one.
 #[derive(Drop)]
@@ -34,17 +37,28 @@ pub struct World {
     config: Arc<Config, Global>,
     scene: Scene,
     stats: Stats,
+    tree: WorldTree,
+    workers: u32,
 }
 
 impl Model for World {
+    ghost use Rattle.std.specs.Prelude.{◌≤◌};
     ghost use Rattle.world_config.specs.Shown.{values_of};
+    ghost use Rattle.world_rules.specs.WorldRun.{world_after};
+    ghost use Rattle.world_tree.specs.WorldTrees.{IsTreeOf};
     ghost use Rattle.world_core.specs.WorldValue.{WorldValue, IsWorldOf};
 
     ghost Value = { WorldValue };
 
-    ghost view = { λ w. record { config = values_of w.config.value; update = w.scene.update } };
+    ghost view = { λ w. record {
+      config = values_of w.config.value;
+      update = w.scene.update;
+      bank = w.scene.bank;
+    } };
 
-    ghost invariant = { λ w. IsWorldOf (values_of w.config.value) w.scene w.stats };
+    ghost invariant = { λ w. IsWorldOf (values_of w.config.value) w.scene w.stats
+        × (1 ≤ w.workers) × (w.workers ≤ 64)
+        × IsTreeOf (world_after (values_of w.config.value) w.scene.update) w.tree };
 }
 
 impl World {
@@ -58,42 +72,54 @@ impl World {
         workers: u32,
     ) -> Result<World, Memory>
         requires workers { (1 ≤ workers) × (workers ≤ 64) }
-        ensures { IfOk result (λ world. world ≡ record { config = values_of config; update = 0 }) }
+        ensures { IfOk result (λ world. (world.config ≡ values_of config) × (world.update ≡ 0)) }
     {
-        let _ = workers;
-        let scene = first_scene(rt, alloc, &config)?;
+        let mut scene = first_scene(rt, alloc, &config)?;
         let config = Arc::new(alloc, config)?;
+        let tree = first_tree(alloc, &config, &mut scene)?;
         let stats = scene.stats(0);
         Ok(World {
             config,
             scene,
             stats,
+            tree,
+            workers,
         })
     }
 
-    /// One update, and its lines. After `Memory` no world is left. It may wait, since it interns the
-    /// genomes of the newborns and of the injected.
-    pub fn advance<R: Wait, G: Gate + Sync>(
+    /// One update, and its lines, by as many threads as the world has workers. After `Memory` no
+    /// world is left. It may wait, since it interns the genomes of the newborns and of the
+    /// injected.
+    pub fn advance<R: Threads + Wait + Sync, G: Gate + Sync>(
         self,
         rt: &R,
         alloc: Global,
         gate: &G,
     ) -> Result<(World, Vec<u8>), Memory>
         requires { self.update < 1000000 }
-        ensures world { IfOk result (λ next. next.0 ≡ record self { update = self.update + 1 }) }
+        ensures config { IfOk result (λ next. next.0.config ≡ self.config) }
+        ensures update { IfOk result (λ next. next.0.update ≡ self.update + 1) }
         ensures text { IfOk result
             (λ next. next.1.items ≡ update_text self.config (self.update + 1)) }
-        ensures bank { IfOk result
-            (λ next. IsPrefix (bank_in (world_in self)) (bank_in (world_in next.0))) }
+        ensures bank { IfOk result (λ next. IsPrefix self.bank next.0.bank) }
     {
-        calls_number_genotypes();
-        let _ = gate;
-        let World { config, scene, .. } = self;
-        let (scene, stats, text) = next_scene(rt, alloc, &config, scene)?;
+        let World {
+            config,
+            scene,
+            mut tree,
+            workers,
+            ..
+        } = self;
+        let update = scene.update;
+        organisms_live_on(&config, update);
+        let (mut scene, stats, text) = next_scene(rt, alloc, &config, scene, workers, gate)?;
+        grow_tree(alloc, &config, update, &mut scene, &mut tree)?;
         let world = World {
             config,
             scene,
             stats,
+            tree,
+            workers,
         };
         Ok((world, text))
     }
@@ -141,11 +167,9 @@ impl World {
     /// The number of different genomes of all founders so far and of all births. The bank has each
     /// of them once.
     pub fn bank_len(&self) -> u64
-        ensures len { result ≡ length (bank_in (world_in self.now)) }
-        ensures each { HasEachOnce (bank_in (world_in self.now))
-            (genomes_ever (world_in self.now).everyone) }
+        ensures len { result ≡ length self.now.bank }
+        ensures each { HasEachOnce self.now.bank (genomes_ever (world_in self.now).everyone) }
     {
-        genotypes_are_what_was_interned();
         self.scene.bank_len()
     }
 
@@ -181,8 +205,8 @@ impl World {
         ensures { option_map (λ genome. letters genome.now) result
             ≡ genome_in (world_in self.now) cell }
     {
-        match &self.scene.cells.cells()[cell as usize] {
-            Some(occupant) => Some(occupant.organism.genome()),
+        match self.scene.cells.cells().organism_at(cell as usize) {
+            Some(organism) => Some(organism.genome()),
             None => None,
         }
     }
@@ -191,7 +215,7 @@ impl World {
     /// exactly where it is empty.
     pub fn handle_at(&self, cell: u32) -> Option<u64>
         requires { cell < self.now.config.width * self.now.config.height }
-        ensures { option_map (λ number. slice_get (bank_in (world_in self.now)) number) result
+        ensures { option_map (λ number. slice_get self.now.bank number) result
             ≡ option_map (λ genome. Some genome) (genome_in (world_in self.now) cell) }
     {
         self.scene.number_at(cell)
@@ -203,7 +227,18 @@ impl World {
         ensures { IfOk result (λ path. path ≡ line_in (world_in self.now) cell) }
     {
         ids_are_places();
-        descent_in(alloc, &self.scene, cell)
+        match self.scene.standing_at(cell) {
+            Some(id) => Ok(Some(self.tree.lineage(alloc, id)?)),
+            None => Ok(None),
+        }
+    }
+
+    /// How many organisms stand in a cell or are an ancestor of one that does. No others are in
+    /// memory.
+    pub fn nodes(&self) -> u64
+        ensures { result ≡ length (living_and_ancestors (world_in self.now)) }
+    {
+        self.tree.nodes()
     }
 }
 

@@ -15,27 +15,38 @@ use Rattle.world_laws.proofs.Configs.{IsConfig, size_of, FitsWhat, FitsEvent}
 
 -- the frame of a configuration's events
 abbrev frame : ConfigValues → Frame
-frame config = frame_of config.width config.height config.updates config.least_length config.greatest_length
+frame config =
+    frame_of config.width config.height config.updates config.least_length config.greatest_length
 
-what_within : (config : ConfigValues) → 1 ≤ size_of config → (what : WhatValue) → what_fits (frame config) what ≡ true → FitsWhat config what
+what_within : (config : ConfigValues) → 1 ≤ size_of config → (what : WhatValue)
+    → what_fits (frame config) what ≡ true → FitsWhat config what
 what_within config some (inject cell letters) h =
-    let first = and_parts (nat_le cell (size_of config - 1)) (nat_le config.least_length (length letters) && nat_le (length letters) config.greatest_length) h in
-    let lengths = and_parts (nat_le config.least_length (length letters)) (nat_le (length letters) config.greatest_length) first.1 in
+    let first = and_parts (nat_le cell (size_of config - 1))
+    (nat_le config.least_length (length letters)
+    && nat_le (length letters) config.greatest_length) h in
+    let lengths = and_parts (nat_le config.least_length (length letters))
+    (nat_le (length letters) config.greatest_length) first.1 in
     let low : cell ≤ size_of config - 1 = leb-true cell (size_of config - 1) first.0 in
     (omega arith, leb-true _ _ lengths.0, leb-true _ _ lengths.1)
 what_within config some (clear first last) h =
-    let low : last ≤ size_of config - 1 = leb-true last (size_of config - 1) (and_parts (nat_le first last) (nat_le last (size_of config - 1)) h).1 in
+    let low : last ≤ size_of config - 1 =
+    leb-true last (size_of config - 1)
+    (and_parts (nat_le first last) (nat_le last (size_of config - 1)) h).1 in
     omega arith
 what_within config some (rate name ppm) h = leb-true _ _ h
 
-events_within : (config : ConfigValues) → 1 ≤ size_of config → (events : List EventValue) → AllByRecursion (λ event. event_fits (frame config) event ≡ true) events → AllByRecursion (FitsEvent config) events
+events_within : (config : ConfigValues) → 1 ≤ size_of config → (events : List EventValue)
+    → AllByRecursion (λ event. event_fits (frame config) event ≡ true) events
+    → AllByRecursion (FitsEvent config) events
 events_within config some [] h = tt
-events_within config some (event ∷ events) h = (what_within config some event.what (and_parts _ _ h.0).1, events_within config some events h.1)
+events_within config some (event ∷ events) h =
+    (what_within config some event.what (and_parts _ _ h.0).1, events_within config some events h.1)
 
 -- what a configuration keeps in its type
 pub config_is : (config : Config) → IsConfig (values_of config)
 config_is config =
-    let some : 1 ≤ config.width * config.height = mul-le-mul config.width_bounds.0 config.height_bounds.0 in
+    let some : 1 ≤ config.width * config.height =
+    mul-le-mul config.width_bounds.0 config.height_bounds.0 in
     record {
       columns = config.width_bounds.0;
       few_columns = config.width_bounds.1;
@@ -54,5 +65,6 @@ config_is config =
       long_enough = config.ancestor_bounds.0;
       short_enough = config.ancestor_bounds.1;
       few_events = config.event_bounds.number;
-      events = events_within (values_of config) some (event_values config.event) (recursion_from_All _ (event_values config.event) config.event_bounds.fit);
+      events = events_within (values_of config) some (event_values config.event)
+          (recursion_from_All _ (event_values config.event) config.event_bounds.fit);
     }

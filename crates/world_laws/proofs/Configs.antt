@@ -20,7 +20,8 @@ size_of config = config.width * config.height
 
 -- an event's cell and genome fit, and its rate is one
 abbrev pub FitsWhat : ConfigValues → WhatValue → Type 0
-FitsWhat config (inject cell letters) = (cell < size_of config) × (config.least_length ≤ length letters) × (length letters ≤ config.greatest_length)
+FitsWhat config (inject cell letters) = (cell < size_of config)
+    × (config.least_length ≤ length letters) × (length letters ≤ config.greatest_length)
 FitsWhat config (clear first last) = last < size_of config
 FitsWhat config (rate name ppm) = ppm ≤ 1000000
 
@@ -52,7 +53,9 @@ pub record IsConfig (config : ConfigValues) : Type 0 where
   pub few_events : length config.event ≤ 1000
   pub events : AllByRecursion (FitsEvent config) config.event
 
-all_placed : (config : ConfigValues) (from : ℕ) (events : List EventValue) → AllByRecursion (FitsEvent config) events → AllByRecursion (FitsPlaced config) (enumerate_from from events)
+all_placed : (config : ConfigValues) (from : ℕ) (events : List EventValue)
+    → AllByRecursion (FitsEvent config) events
+    → AllByRecursion (FitsPlaced config) (enumerate_from from events)
 all_placed config from [] fit = tt
 all_placed config from (event ∷ events) fit = (fit.0, all_placed config (from + 1) events fit.1)
 
@@ -64,13 +67,19 @@ module _ (config : ConfigValues) (fit : IsConfig config) where
   -- the events of an update fit
   pub events_fit : (update : ℕ) → AllByRecursion (FitsPlaced config) (events_at config update)
   unfolding events_at
-  events_fit update = all_filtered (FitsPlaced config) _ (enumerate_from 1 config.event) (all_placed config 1 config.event fit.events)
+  events_fit update = all_filtered (FitsPlaced config) _ (enumerate_from 1 config.event)
+      (all_placed config 1 config.event fit.events)
 
   pub events_few : (update : ℕ) → length (events_at config update) ≤ 1000
   unfolding events_at
   events_few update =
       let test = λ (event : ℕ × EventValue). event.1.update == update in
-      omega (arith, filter_few test (enumerate_from 1 config.event), length-enumerate_from 1 config.event, fit.few_events)
+      omega (
+        arith,
+        filter_few test (enumerate_from 1 config.event),
+        length-enumerate_from 1 config.event,
+        fit.few_events,
+      )
 
   -- a world has few cells
   pub few_cells : size_of config ≤ 65536
@@ -88,7 +97,8 @@ module _ (config : ConfigValues) (fit : IsConfig config) where
     copied_is_percent = fit.copied_percent;
   }
 
-  pub genome_fits : (letters : List Letter) → config.least_length ≤ length letters → length letters ≤ config.greatest_length → IsGenome letters
+  pub genome_fits : (letters : List Letter) → config.least_length ≤ length letters
+      → length letters ≤ config.greatest_length → IsGenome letters
   genome_fits letters h k =
       let a = fit.least in
       let c = fit.room in

@@ -24,53 +24,84 @@ use Rattle.world_laws.proofs.Runs.{IsRun, ended, scene_ended, turns_are}
 use Rattle.world_laws.proofs.Wholes.{kept_after, run_after}
 
 -- who came from somebody did so among more
-comes_more : (everyone : List Link) (new : Link) (parent : Option ℕ) (link : Link) → ComesFrom everyone parent link → ComesFrom (everyone ++ new ∷ []) parent link
+comes_more : (everyone : List Link) (new : Link) (parent : Option ℕ) (link : Link)
+    → ComesFrom everyone parent link → ComesFrom (everyone ++ new ∷ []) parent link
 comes_more everyone new None link is = is
-comes_more everyone new (Some parent) link is = (is.0, get_more everyone (new ∷ []) parent is.0 is.1, is.2)
+comes_more everyone new (Some parent) link is =
+    (is.0, get_more everyone (new ∷ []) parent is.0 is.1, is.2)
 
-descended_more : (everyone : List Link) (new : Link) → AreDescended everyone → ComesFrom everyone new.parent new → AreDescended (everyone ++ new ∷ [])
+descended_more : (everyone : List Link) (new : Link) → AreDescended everyone
+    → ComesFrom everyone new.parent new → AreDescended (everyone ++ new ∷ [])
 descended_more everyone new are is place link h = elim (get_last everyone new place link h) [
   | inl before ↦ comes_more everyone new link.parent link (are place link before)
-  | inr last ↦ comes_more everyone new link.parent link (subst (λ (l : Link). ComesFrom everyone l.parent l) last is)
+  | inr last ↦ comes_more everyone new link.parent link
+      (subst (λ (l : Link). ComesFrom everyone l.parent l) last is)
 ]
 
 -- the link of a genome by its id
-link_there : (slot : Option Link) (letters : List Letter) → option_map (λ (l : Link). l.genome) slot ≡ Some letters → (before : Link) × (slot ≡ Some before) × (before.genome ≡ letters)
+link_there : (slot : Option Link) (letters : List Letter)
+    → option_map (λ (l : Link). l.genome) slot ≡ Some letters
+    → (before : Link) × (slot ≡ Some before) × (before.genome ≡ letters)
 link_there None letters e = absurd cc
 link_there (Some link) letters e = (link, refl, cc)
 
-descended_birth : (size : ℕ) (start : People) (config : ConfigValues) (scene : Scene) (turn : Delivery × Placing) → IsScene size start scene → IsTurn size start turn → AreDescended scene.everyone → AreDescended (with_newborn config scene turn).everyone
+descended_birth : (size : ℕ) (start : People) (config : ConfigValues) (scene : Scene)
+    (turn : Delivery × Placing) → IsScene size start scene → IsTurn size start turn
+    → AreDescended scene.everyone → AreDescended (with_newborn config scene turn).everyone
 unfolding with_newborn with_newcomer
 descended_birth size start config scene turn is lawful are =
     let b = turn.0 in
-    let wrote = sym (slice_get-map (λ (l : Link). l.genome) scene.everyone b.parent) ∙ is.agree b.parent lawful.letters lawful.lived in
+    let wrote = sym (slice_get-map (λ (l : Link). l.genome) scene.everyone b.parent)
+    ∙ is.agree b.parent lawful.letters lawful.lived in
     let found = link_there (slice_get scene.everyone b.parent) lawful.letters wrote in
-    let made : child_of found.0.genome b.newborn.origin ≡ Ok b.newborn.genome = ap (λ (g : List Letter). child_of g b.newborn.origin) found.2 ∙ lawful.made in
-    descended_more scene.everyone (birth_link (next_id scene) scene.update b turn.1.cell) are (found.0, found.1, record { record_of_birth = b.newborn.origin; recorded = refl; made = made })
+    let made : child_of found.0.genome b.newborn.origin ≡ Ok b.newborn.genome =
+    ap (λ (g : List Letter). child_of g b.newborn.origin) found.2 ∙ lawful.made in
+    descended_more scene.everyone (birth_link (next_id scene) scene.update b turn.1.cell) are (
+      found.0,
+      found.1,
+      record {
+        record_of_birth = b.newborn.origin;
+        recorded = refl;
+        made = made;
+      },
+    )
 
-descended_births : (size : ℕ) (start : People) (config : ConfigValues) (scene : Scene) (turns : List (Delivery × Placing)) → IsScene size start scene → AllByRecursion (IsTurn size start) turns → AreDescended scene.everyone → AreDescended (fold (with_newborn config) scene turns).everyone
+descended_births : (size : ℕ) (start : People) (config : ConfigValues) (scene : Scene)
+    (turns : List (Delivery × Placing)) → IsScene size start scene
+    → AllByRecursion (IsTurn size start) turns → AreDescended scene.everyone
+    → AreDescended (fold (with_newborn config) scene turns).everyone
 descended_births size start config scene [] is lawful are = are
 descended_births size start config scene (turn ∷ turns) is lawful are =
-    descended_births size start config (with_newborn config scene turn) turns (scene_birth size start config scene turn is) lawful.1 (descended_birth size start config scene turn is lawful.0 are)
+    descended_births size start config (with_newborn config scene turn) turns
+    (scene_birth size start config scene turn is) lawful.1
+    (descended_birth size start config scene turn is lawful.0 are)
 
 -- deaths change no link
-same_everyone : (scene : Scene) (cells : List ℕ) → (with_deaths scene cells).everyone ≡ scene.everyone
+same_everyone : (scene : Scene) (cells : List ℕ)
+    → (with_deaths scene cells).everyone ≡ scene.everyone
 unfolding with_death
 same_everyone scene [] = refl
 same_everyone scene (cell ∷ cells) = same_everyone (with_death scene cell) cells
 
-descended_what : (config : ConfigValues) (scene : Scene) (nth : ℕ) (what : WhatValue) → AreDescended scene.everyone → AreDescended (after_what config scene nth what).everyone
+descended_what : (config : ConfigValues) (scene : Scene) (nth : ℕ) (what : WhatValue)
+    → AreDescended scene.everyone → AreDescended (after_what config scene nth what).everyone
 unfolding with_newcomer
-descended_what config scene nth (inject cell letters) are = descended_more scene.everyone (founder_link (next_id scene) scene.update cell letters) are refl
-descended_what config scene nth (clear first last) are = subst AreDescended (sym (same_everyone scene (cells_from first last))) are
+descended_what config scene nth (inject cell letters) are =
+    descended_more scene.everyone (founder_link (next_id scene) scene.update cell letters) are refl
+descended_what config scene nth (clear first last) are =
+    subst AreDescended (sym (same_everyone scene (cells_from first last))) are
 descended_what config scene nth (rate name ppm) are = are
 
-descended_events : (config : ConfigValues) (scene : Scene) (events : List (ℕ × EventValue)) → AreDescended scene.everyone → AreDescended (fold (after_event config) scene events).everyone
+descended_events : (config : ConfigValues) (scene : Scene) (events : List (ℕ × EventValue))
+    → AreDescended scene.everyone → AreDescended (fold (after_event config) scene events).everyone
 unfolding after_event
 descended_events config scene [] are = are
-descended_events config scene (event ∷ events) are = descended_events config (after_what config scene event.0 event.1.what) events (descended_what config scene event.0 event.1.what are)
+descended_events config scene (event ∷ events) are =
+    descended_events config (after_what config scene event.0 event.1.what) events
+    (descended_what config scene event.0 event.1.what are)
 
-founder_descended : (config : ConfigValues) → AreDescended (founder_link 0 0 config.founder_cell config.ancestor ∷ [])
+founder_descended : (config : ConfigValues)
+    → AreDescended (founder_link 0 0 config.founder_cell config.ancestor ∷ [])
 founder_descended config zero link h =
     let founder = founder_link 0 0 config.founder_cell config.ancestor in
     let same : founder ≡ link = cc in
@@ -78,7 +109,8 @@ founder_descended config zero link h =
 founder_descended config (suc place) link h = absurd cc
 
 module _ (laws : LifeLaws) (config : ConfigValues) (fit : IsConfig config) where
-  descended_next : (n : ℕ) (start : People) (w : World) → IsRun config n start w → AreDescended w.everyone → AreDescended (next_world config w).everyone
+  descended_next : (n : ℕ) (start : People) (w : World) → IsRun config n start w
+      → AreDescended w.everyone → AreDescended (next_world config w).everyone
   unfolding next_world next_scene scene_of_lives last_scene after_burials after_births after_events
   descended_next n start w is are =
       let lives = lives_after config w in
@@ -87,12 +119,17 @@ module _ (laws : LifeLaws) (config : ConfigValues) (fit : IsConfig config) where
       let buried = after_burials scene lives in
       let born = after_births config buried (births_of lives) in
       let turns = turns_are laws config fit n start w is in
-      let still : AreDescended buried.everyone = subst AreDescended (sym (same_everyone scene (deaths_of lives))) are in
+      let still : AreDescended buried.everyone =
+      subst AreDescended (sym (same_everyone scene (deaths_of lives))) are in
       descended_events config born (events_at config born.update)
-      (descended_births (size_of config) start config buried (turns_of config buried (births_of lives)) (scene_deaths (size_of config) start scene (deaths_of lives) is_ended) turns.lawful still)
+      (descended_births (size_of config) start config buried
+      (turns_of config buried (births_of lives))
+      (scene_deaths (size_of config) start scene (deaths_of lives) is_ended) turns.lawful still)
 
   -- in each world of a run
   pub descended_after : (n : ℕ) → AreDescended (world_after config n).everyone
   unfolding world_after first_world
   descended_after zero = founder_descended config
-  descended_after (suc n) = descended_next n (kept_after config n) (world_after config n) (run_after laws config fit n) (descended_after n)
+  descended_after (suc n) =
+      descended_next n (kept_after config n) (world_after config n) (run_after laws config fit n)
+      (descended_after n)

@@ -24,11 +24,14 @@ use Rattle.world_laws.proofs.LivesLemmas.{IsNewborn, IsLife, AreLives}
 abbrev pub left_by : List CellLife → List (Option Occupant)
 left_by lives = map (λ l. l.occupant) lives
 
-slot_id : (config : ConfigValues) (steps : ℕ) (slot : Option Occupant) (l : CellLife) → IsLife config steps slot l → id_of l.occupant ≡ id_of slot
+slot_id : (config : ConfigValues) (steps : ℕ) (slot : Option Occupant) (l : CellLife)
+    → IsLife config steps slot l → id_of l.occupant ≡ id_of slot
 slot_id config steps None l is = ap id_of is.0
 slot_id config steps (Some o) l is = ap id_of is.stays ∙ ap Some is.id
 
-ids_stay : (config : ConfigValues) (steps : ℕ → ℕ) (from : ℕ) (cells : List (Option Occupant)) (lives : List CellLife) → AreLives config steps from cells lives → ids_of (left_by lives) ≡ ids_of cells
+ids_stay : (config : ConfigValues) (steps : ℕ → ℕ) (from : ℕ) (cells : List (Option Occupant))
+    (lives : List CellLife) → AreLives config steps from cells lives
+    → ids_of (left_by lives) ≡ ids_of cells
 ids_stay config steps from [] [] are = refl
 ids_stay config steps from [] (l ∷ lives) are = absurd are
 ids_stay config steps from (slot ∷ cells) [] are = absurd are
@@ -45,7 +48,9 @@ pub record WasThere (cells : List (Option Occupant)) (cell : ℕ) (o : Occupant)
   pub genome : who.organism.genome ≡ o.organism.genome
   pub sound : IsSoundOrganism o.organism
 
-slot_was : (config : ConfigValues) (steps : ℕ) (slot : Option Occupant) (l : CellLife) (cells : List (Option Occupant)) (o : Occupant) → IsLife config steps slot l → l.occupant ≡ Some o → WasThere (slot ∷ cells) 0 o
+slot_was : (config : ConfigValues) (steps : ℕ) (slot : Option Occupant) (l : CellLife)
+    (cells : List (Option Occupant)) (o : Occupant) → IsLife config steps slot l
+    → l.occupant ≡ Some o → WasThere (slot ∷ cells) 0 o
 slot_was config steps None l cells o is e = let n = is.0 in absurd cc
 slot_was config steps (Some x) l cells o is e =
     let f = is.stays in
@@ -58,86 +63,141 @@ slot_was config steps (Some x) l cells o is e =
       sound = subst (λ (y : Occupant). IsSoundOrganism y.organism) same is.sound;
     }
 
-pub was_there : (config : ConfigValues) (steps : ℕ → ℕ) (from : ℕ) (cells : List (Option Occupant)) (lives : List CellLife) → AreLives config steps from cells lives → (cell : ℕ) (o : Occupant) → Stands (left_by lives) cell o → WasThere cells cell o
+pub was_there : (config : ConfigValues) (steps : ℕ → ℕ) (from : ℕ) (cells : List (Option Occupant))
+    (lives : List CellLife) → AreLives config steps from cells lives → (cell : ℕ) (o : Occupant)
+    → Stands (left_by lives) cell o → WasThere cells cell o
 was_there config steps from [] [] are cell o h = absurd cc
 was_there config steps from [] (l ∷ lives) are cell o h = absurd are
 was_there config steps from (slot ∷ cells) [] are cell o h = absurd are
-was_there config steps from (slot ∷ cells) (l ∷ lives) are zero o h = let e : l.occupant ≡ Some o = cc in slot_was config (steps from) slot l cells o are.0 e
+was_there config steps from (slot ∷ cells) (l ∷ lives) are zero o h =
+    let e : l.occupant ≡ Some o = cc in slot_was config (steps from) slot l cells o are.0 e
 was_there config steps from (slot ∷ cells) (l ∷ lives) are (suc cell) o h =
     let there = was_there config steps (from + 1) cells lives are.1 cell o h in
-    record { who = there.who; stood = there.stood; id = there.id; genome = there.genome; sound = there.sound }
+    record {
+      who = there.who;
+      stood = there.stood;
+      id = there.id;
+      genome = there.genome;
+      sound = there.sound;
+    }
 
-pub folk_kept : (config : ConfigValues) (steps : ℕ → ℕ) (from : ℕ) (cells : List (Option Occupant)) (lives : List CellLife) → AreLives config steps from cells lives → KeepsFolk cells (left_by lives)
+pub folk_kept : (config : ConfigValues) (steps : ℕ → ℕ) (from : ℕ) (cells : List (Option Occupant))
+    (lives : List CellLife) → AreLives config steps from cells lives
+    → KeepsFolk cells (left_by lives)
 folk_kept config steps from cells lives are = record {
   ids = ids_stay config steps from cells lives are;
-  same = λ cell o h. let w = was_there config steps from cells lives are cell o h in (w.who, w.stood, w.id, w.genome);
+  same = λ cell o h. let w = was_there config steps from cells lives are cell o h in
+      (w.who, w.stood, w.id, w.genome);
 }
 
-pub sound_kept : (config : ConfigValues) (steps : ℕ → ℕ) (from : ℕ) (cells : List (Option Occupant)) (lives : List CellLife) → AreLives config steps from cells lives → Each IsSoundOrganism (left_by lives)
-sound_kept config steps from cells lives are = λ cell o h. (was_there config steps from cells lives are cell o h).sound
+pub sound_kept : (config : ConfigValues) (steps : ℕ → ℕ) (from : ℕ) (cells : List (Option Occupant))
+    (lives : List CellLife) → AreLives config steps from cells lives
+    → Each IsSoundOrganism (left_by lives)
+sound_kept config steps from cells lives are =
+    λ cell o h. (was_there config steps from cells lives are cell o h).sound
 
 -- the parent lived when the update began, and the newborn is as the rules want it
-pub record IsDelivery (config : ConfigValues) (size : ℕ) (start : People) (d : Delivery) : Type 0 where
-  pub letters : List Letter
-  pub lived : slice_get start d.parent ≡ Some (Some letters)
-  pub born : IsNewborn config letters d.newborn
-  pub within : d.cell < size
+pub record IsDelivery (config : ConfigValues) (size : ℕ) (start : People) (d : Delivery) : Type 0
+  where
+    pub letters : List Letter
+    pub lived : slice_get start d.parent ≡ Some (Some letters)
+    pub born : IsNewborn config letters d.newborn
+    pub within : d.cell < size
 
-deliveries : (config : ConfigValues) (size : ℕ) (start : People) (cell parent : ℕ) (letters : List Letter) (newborns : List NewbornValue) → cell < size → slice_get start parent ≡ Some (Some letters) → AllByRecursion (IsNewborn config letters) newborns → AllByRecursion (IsDelivery config size start) (map (delivery_of cell parent) newborns)
+deliveries : (config : ConfigValues) (size : ℕ) (start : People) (cell parent : ℕ)
+    (letters : List Letter) (newborns : List NewbornValue) → cell < size
+    → slice_get start parent ≡ Some (Some letters)
+    → AllByRecursion (IsNewborn config letters) newborns
+    → AllByRecursion (IsDelivery config size start) (map (delivery_of cell parent) newborns)
 deliveries config size start cell parent letters [] within lived born = tt
-deliveries config size start cell parent letters (n ∷ newborns) within lived born =
-    (record { letters = letters; lived = lived; born = born.0; within = within }, deliveries config size start cell parent letters newborns within lived born.1)
+deliveries config size start cell parent letters (n ∷ newborns) within lived born = (
+  record { letters = letters; lived = lived; born = born.0; within = within },
+  deliveries config size start cell parent letters newborns within lived born.1,
+)
 
-slot_births : (config : ConfigValues) (size : ℕ) (start : People) (steps cell : ℕ) (slot : Option Occupant) (l : CellLife) → IsLife config steps slot l → cell < size → ((o : Occupant) → slot ≡ Some o → slice_get start o.id ≡ Some (Some o.organism.genome)) → AllByRecursion (IsDelivery config size start) (births_by cell l.newborns l.occupant)
+slot_births : (config : ConfigValues) (size : ℕ) (start : People) (steps cell : ℕ)
+    (slot : Option Occupant) (l : CellLife) → IsLife config steps slot l → cell < size
+    → ((o : Occupant) → slot ≡ Some o → slice_get start o.id ≡ Some (Some o.organism.genome))
+    → AllByRecursion (IsDelivery config size start) (births_by cell l.newborns l.occupant)
 slot_births config size start steps cell None l is within known = rw is.0 tt
 slot_births config size start steps cell (Some o) l is within known =
-    let parent : slice_get start is.who.id ≡ Some (Some o.organism.genome) = ap (slice_get start) is.id ∙ known o refl in
-    rw is.stays (deliveries config size start cell is.who.id o.organism.genome l.newborns within parent is.newborns)
+    let parent : slice_get start is.who.id ≡ Some (Some o.organism.genome) =
+    ap (slice_get start) is.id ∙ known o refl in
+    rw is.stays (deliveries config size start cell is.who.id o.organism.genome l.newborns within
+    parent is.newborns)
 
-births_from : (config : ConfigValues) (size : ℕ) (start : People) (steps : ℕ → ℕ) (from : ℕ) (cells : List (Option Occupant)) (lives : List CellLife) → AreLives config steps from cells lives → from + length cells ≤ size → Known start cells
+births_from : (config : ConfigValues) (size : ℕ) (start : People) (steps : ℕ → ℕ) (from : ℕ)
+    (cells : List (Option Occupant)) (lives : List CellLife)
+    → AreLives config steps from cells lives → from + length cells ≤ size → Known start cells
     → AllByRecursion (IsDelivery config size start) (flat_map births_in (enumerate_from from lives))
 births_from config size start steps from [] [] are fits known = tt
 births_from config size start steps from [] (l ∷ lives) are fits known = absurd are
 births_from config size start steps from (slot ∷ cells) [] are fits known = absurd are
 births_from config size start steps from (slot ∷ cells) (l ∷ lives) are fits known =
-    all_append (IsDelivery config size start) (births_by from l.newborns l.occupant) (flat_map births_in (enumerate_from (from + 1) lives))
-    (slot_births config size start (steps from) from slot l are.0 (omega (arith, fits)) (λ o e. known 0 o (ap Some e)))
-    (births_from config size start steps (from + 1) cells lives are.1 (omega (arith, fits)) (λ cell o h. known (suc cell) o h))
+    all_append (IsDelivery config size start) (births_by from l.newborns l.occupant)
+    (flat_map births_in (enumerate_from (from + 1) lives))
+    (slot_births config size start (steps from) from slot l are.0 (omega (arith, fits))
+    (λ o e. known 0 o (ap Some e)))
+    (births_from config size start steps (from + 1) cells lives are.1 (omega (arith, fits))
+    (λ cell o h. known (suc cell) o h))
 
 -- the newborns of an update are lawful
-pub births_lawful : (config : ConfigValues) (size : ℕ) (start : People) (steps : ℕ → ℕ) (cells : List (Option Occupant)) (lives : List CellLife) → AreLives config steps 0 cells lives → length cells ≡ size → Known start cells → AllByRecursion (IsDelivery config size start) (births_of lives)
+pub births_lawful : (config : ConfigValues) (size : ℕ) (start : People) (steps : ℕ → ℕ)
+    (cells : List (Option Occupant)) (lives : List CellLife) → AreLives config steps 0 cells lives
+    → length cells ≡ size → Known start cells
+    → AllByRecursion (IsDelivery config size start) (births_of lives)
 unfolding births_of
-births_lawful config size start steps cells lives are sized known = births_from config size start steps 0 cells lives are (omega (arith, sized)) known
+births_lawful config size start steps cells lives are sized known =
+    births_from config size start steps 0 cells lives are (omega (arith, sized)) known
 
 -- so many numbers of a sequence, together
 abbrev pub steps_in_all : (ℕ → ℕ) → ℕ → ℕ → ℕ
 steps_in_all steps from zero = 0
 steps_in_all steps from (suc count) = steps from + steps_in_all steps (from + 1) count
 
-few_by : (cell steps : ℕ) (newborns : List NewbornValue) (slot : Option Occupant) → length newborns ≤ steps → length (births_by cell newborns slot) ≤ steps
+few_by : (cell steps : ℕ) (newborns : List NewbornValue) (slot : Option Occupant)
+    → length newborns ≤ steps → length (births_by cell newborns slot) ≤ steps
 few_by cell steps newborns None few = omega arith
-few_by cell steps newborns (Some o) few = omega (arith, few, length-map newborns (delivery_of cell o.id))
+few_by cell steps newborns (Some o) few =
+    omega (arith, few, length-map newborns (delivery_of cell o.id))
 
-slot_few : (config : ConfigValues) (steps : ℕ) (slot : Option Occupant) (l : CellLife) → IsLife config steps slot l → length l.newborns ≤ steps
+slot_few : (config : ConfigValues) (steps : ℕ) (slot : Option Occupant) (l : CellLife)
+    → IsLife config steps slot l → length l.newborns ≤ steps
 slot_few config steps None l is = is.1
 slot_few config steps (Some o) l is = is.few
 
-births_few_from : (config : ConfigValues) (steps : ℕ → ℕ) (from : ℕ) (cells : List (Option Occupant)) (lives : List CellLife) → AreLives config steps from cells lives → length (flat_map births_in (enumerate_from from lives)) ≤ steps_in_all steps from (length cells)
+births_few_from : (config : ConfigValues) (steps : ℕ → ℕ) (from : ℕ)
+    (cells : List (Option Occupant)) (lives : List CellLife)
+    → AreLives config steps from cells lives
+    → length (flat_map births_in (enumerate_from from lives)) ≤ steps_in_all steps from
+    (length cells)
 births_few_from config steps from [] [] are = omega arith
 births_few_from config steps from [] (l ∷ lives) are = absurd are
 births_few_from config steps from (slot ∷ cells) [] are = absurd are
 births_few_from config steps from (slot ∷ cells) (l ∷ lives) are =
-    let first : length (births_by from l.newborns l.occupant) ≤ steps from = few_by from (steps from) l.newborns l.occupant (slot_few config (steps from) slot l are.0) in
-    let rest : length (flat_map births_in (enumerate_from (from + 1) lives)) ≤ steps_in_all steps (from + 1) (length cells) = births_few_from config steps (from + 1) cells lives are.1 in
-    omega (arith, first, rest, length-append (births_by from l.newborns l.occupant) (flat_map births_in (enumerate_from (from + 1) lives)))
+    let first : length (births_by from l.newborns l.occupant) ≤ steps from =
+    few_by from (steps from) l.newborns l.occupant (slot_few config (steps from) slot l are.0)
+    in
+    let rest : length (flat_map births_in (enumerate_from (from + 1) lives)) ≤ steps_in_all steps
+    (from + 1) (length cells) = births_few_from config steps (from + 1) cells lives are.1 in
+    omega (
+      arith,
+      first,
+      rest,
+      length-append (births_by from l.newborns l.occupant)
+          (flat_map births_in (enumerate_from (from + 1) lives)),
+    )
 
 -- no more newborns than steps
-pub births_few : (config : ConfigValues) (steps : ℕ → ℕ) (cells : List (Option Occupant)) (lives : List CellLife) → AreLives config steps 0 cells lives → length (births_of lives) ≤ steps_in_all steps 0 (length cells)
+pub births_few : (config : ConfigValues) (steps : ℕ → ℕ) (cells : List (Option Occupant))
+    (lives : List CellLife) → AreLives config steps 0 cells lives
+    → length (births_of lives) ≤ steps_in_all steps 0 (length cells)
 unfolding births_of
 births_few config steps cells lives are = births_few_from config steps 0 cells lives are
 
 -- entries of a list from a place on are no more than the rest of its sum
-entries_from : (xs : List ℕ) (from count : ℕ) → sum (take from xs) + steps_in_all (λ i. slice_index_or xs i 0) from count ≤ sum xs
+entries_from : (xs : List ℕ) (from count : ℕ)
+    → sum (take from xs) + steps_in_all (λ i. slice_index_or xs i 0) from count ≤ sum xs
 entries_from xs from zero = omega (arith, sum_by-take-le (λ x. x) xs from)
 entries_from xs from (suc count) =
     let rest = entries_from xs (from + 1) count in
@@ -145,16 +205,28 @@ entries_from xs from (suc count) =
       | inl within ↦ omega (arith, rest, sum_by_more (λ x. x) xs from 0 within)
       | inr past ↦
           let nothing : slice_index_or xs from 0 ≡ 0 = get_or_past xs from 0 past in
-          let same : sum (take (from + 1) xs) ≡ sum (take from xs) = ap sum (take_all (from + 1) xs (omega (arith, past)) ∙ sym (take_all from xs past)) in
+          let same : sum (take (from + 1) xs) ≡ sum (take from xs) =
+          ap sum (take_all (from + 1) xs (omega (arith, past)) ∙ sym (take_all from xs past)) in
           omega (arith, rest, nothing, same)
     ]
 
-pub entries_few : (xs : List ℕ) (count : ℕ) → steps_in_all (λ i. slice_index_or xs i 0) 0 count ≤ sum xs
+pub entries_few : (xs : List ℕ) (count : ℕ)
+    → steps_in_all (λ i. slice_index_or xs i 0) 0 count ≤ sum xs
 entries_few xs count = omega (arith, entries_from xs 0 count)
 
 -- deliveries with placings in the world are turns
-pub turns_lawful : (config : ConfigValues) (size : ℕ) (start : People) (births : List Delivery) (placings : List Placing) → AllByRecursion (IsDelivery config size start) births → AllByRecursion (λ (p : Placing). p.cell < size) placings → AllByRecursion (IsTurn size start) (zip births placings)
+pub turns_lawful : (config : ConfigValues) (size : ℕ) (start : People) (births : List Delivery)
+    (placings : List Placing) → AllByRecursion (IsDelivery config size start) births
+    → AllByRecursion (λ (p : Placing). p.cell < size) placings
+    → AllByRecursion (IsTurn size start) (zip births placings)
 turns_lawful config size start [] placings lawful within = tt
 turns_lawful config size start (b ∷ births) [] lawful within = tt
-turns_lawful config size start (b ∷ births) (p ∷ placings) lawful within =
-    (record { letters = lawful.0.letters; lived = lawful.0.lived; made = lawful.0.born.child; within = within.0 }, turns_lawful config size start births placings lawful.1 within.1)
+turns_lawful config size start (b ∷ births) (p ∷ placings) lawful within = (
+  record {
+    letters = lawful.0.letters;
+    lived = lawful.0.lived;
+    made = lawful.0.born.child;
+    within = within.0;
+  },
+  turns_lawful config size start births placings lawful.1 within.1,
+)

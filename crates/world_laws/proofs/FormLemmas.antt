@@ -32,60 +32,103 @@ base_form None h = tt
 base_form (Some letters) h = h
 
 -- a record that a log can write has a row
-pub record_form : (birth : BirthRecord) → HasRecordForm birth → record_row.Fits (birth.written, birth.changes)
+pub record_form : (birth : BirthRecord) → HasRecordForm birth
+    → record_row.Fits (birth.written, birth.changes)
 record_form birth h = (base_form birth.written h.base, (h.changes, h.order))
 
 -- a genome has letters enough and not too many
-pub letters_form : (letters : List Letter) → IsGenome letters → is_genome_length (length letters) ≡ true
+pub letters_form : (letters : List Letter) → IsGenome letters
+    → is_genome_length (length letters) ≡ true
 letters_form letters h =
     let least = h.least in
     let greatest = h.greatest in
     grind (arith, nat_tests)
 
 -- an id, or none
-pub over_form : (slot : Option ℕ) (end : ℕ) → ((id : ℕ) → slot ≡ Some id → id < end) → end ≤ 18446744073709551615 → over_field.Fits slot
+pub over_form : (slot : Option ℕ) (end : ℕ) → ((id : ℕ) → slot ≡ Some id → id < end)
+    → end ≤ 18446744073709551615 → over_field.Fits slot
 over_form None end low few = tt
 over_form (Some id) end low few = (omega arith, omega (arith, low id refl, few))
 
-found_few : {Y : Type 0} (o : Option Y) (ys : List Y) (n : ℕ) → length ys ≤ n → length (cons_option o ys) ≤ suc n
+found_few : {Y : Type 0} (o : Option Y) (ys : List Y) (n : ℕ) → length ys ≤ n
+    → length (cons_option o ys) ≤ suc n
 found_few None ys n h = omega (arith, h)
 found_few (Some y) ys n h = omega (arith, h)
 
 organisms_few : (cells : List (Option Occupant)) → length (organisms_in cells) ≤ length cells
 organisms_few [] = omega arith
-organisms_few (slot ∷ cells) = found_few (organism_in slot) (organisms_in cells) (length cells) (organisms_few cells)
+organisms_few (slot ∷ cells) =
+    found_few (organism_in slot) (organisms_in cells) (length cells) (organisms_few cells)
 
 genotypes_of_few : (genomes : List (List Letter)) → length (genotypes_of genomes) ≤ length genomes
 genotypes_of_few [] = omega arith
-genotypes_of_few (genome ∷ genomes) = omega (arith, filter_few (λ other. not (same_letters genome other)) (genotypes_of genomes), genotypes_of_few genomes)
+genotypes_of_few (genome ∷ genomes) =
+    omega (
+      arith,
+      filter_few (λ other. not (same_letters genome other)) (genotypes_of genomes),
+      genotypes_of_few genomes,
+    )
 
-merits_first : (slot : Option Occupant) (os : List OrganismState) → ((o : Occupant) → slot ≡ Some o → o.organism.merit ≤ 2 ^ 38) → AllByRecursion (λ (o : OrganismState). o.merit ≤ 2 ^ 38) os → AllByRecursion (λ (o : OrganismState). o.merit ≤ 2 ^ 38) (cons_option (organism_in slot) os)
+merits_first : (slot : Option Occupant) (os : List OrganismState)
+    → ((o : Occupant) → slot ≡ Some o → o.organism.merit ≤ 2 ^ 38)
+    → AllByRecursion (λ (o : OrganismState). o.merit ≤ 2 ^ 38) os
+    → AllByRecursion (λ (o : OrganismState). o.merit ≤ 2 ^ 38) (cons_option (organism_in slot) os)
 merits_first None os first rest = rest
 merits_first (Some o) os first rest = (first o refl, rest)
 
-merits_fit : (cells : List (Option Occupant)) → Each IsSoundOrganism cells → AllByRecursion (λ (o : OrganismState). o.merit ≤ 2 ^ 38) (organisms_in cells)
+merits_fit : (cells : List (Option Occupant)) → Each IsSoundOrganism cells
+    → AllByRecursion (λ (o : OrganismState). o.merit ≤ 2 ^ 38) (organisms_in cells)
 merits_fit [] sound = tt
 merits_fit (slot ∷ cells) sound =
-    merits_first slot (organisms_in cells) (λ o e. (sound 0 o (ap Some e)).merit) (merits_fit cells (λ cell o h. sound (suc cell) o h))
+    merits_first slot (organisms_in cells) (λ o e. (sound 0 o (ap Some e)).merit)
+    (merits_fit cells (λ cell o h. sound (suc cell) o h))
 
 -- the merits together
-merits_sum : (cells : List (Option Occupant)) → Each IsSoundOrganism cells → sum_by (λ (o : OrganismState). o.merit) (organisms_in cells) ≤ length (organisms_in cells) * 2 ^ 38
-merits_sum cells sound = sum_by-le (λ (o : OrganismState). o.merit) (2 ^ 38) (organisms_in cells) (All-from_recursion (λ (o : OrganismState). o.merit ≤ 2 ^ 38) (organisms_in cells) (merits_fit cells sound))
+merits_sum : (cells : List (Option Occupant)) → Each IsSoundOrganism cells
+    → sum_by (λ (o : OrganismState). o.merit) (organisms_in cells) ≤ length (organisms_in cells)
+    * 2 ^ 38
+merits_sum cells sound =
+    sum_by-le (λ (o : OrganismState). o.merit) (2 ^ 38) (organisms_in cells)
+    (All-from_recursion (λ (o : OrganismState). o.merit ≤ 2 ^ 38) (organisms_in cells)
+    (merits_fit cells sound))
 
-tasks_form : (cells : List (Option Occupant)) (tasks : List Task) → length (organisms_in cells) ≤ 65536 → AllByRecursion large.Fits (map (credited_with cells) tasks)
+tasks_form : (cells : List (Option Occupant)) (tasks : List Task)
+    → length (organisms_in cells) ≤ 65536
+    → AllByRecursion large.Fits (map (credited_with cells) tasks)
 tasks_form cells [] few = tt
-tasks_form cells (t ∷ tasks) few = ((omega arith, omega (arith, count_by-le-length (λ (o : OrganismState). has_task o.credited t) (organisms_in cells), few)), tasks_form cells tasks few)
+tasks_form cells (t ∷ tasks) few = (
+  (
+    omega arith,
+    omega (
+      arith,
+      count_by-le-length (λ (o : OrganismState). has_task o.credited t) (organisms_in cells),
+      few,
+    ),
+  ),
+  tasks_form cells tasks few,
+)
 
 -- what is counted fits its fields
-pub count_form : (scene : Scene) (births : ℕ) → Each IsSoundOrganism scene.cells → length scene.cells ≤ 65536 → scene.update ≤ 4294967295 → births ≤ 18446744073709551615 → length scene.gone ≤ 18446744073709551615 → HasForm (Count (scene_stats scene births))
+pub count_form : (scene : Scene) (births : ℕ) → Each IsSoundOrganism scene.cells
+    → length scene.cells ≤ 65536 → scene.update ≤ 4294967295 → births ≤ 18446744073709551615
+    → length scene.gone ≤ 18446744073709551615 → HasForm (Count (scene_stats scene births))
 unfolding stats_in
 count_form scene births sound small early few gone =
     let cells = scene.cells in
     let organisms = organisms_few cells in
-    let living : taken (ids_of cells) ≤ 65536 = omega (arith, count_by-le-length is_some (ids_of cells), length-map cells id_of, small) in
-    let genomes : length (genomes_in cells) ≤ 65536 = omega (arith, length-map (organisms_in cells) (λ (o : OrganismState). o.genome), organisms, small) in
-    let genotypes : length (genotypes_of (genomes_in cells)) ≤ 65536 = omega (arith, genotypes_of_few (genomes_in cells), genomes) in
-    let merit : sum_by (λ (o : OrganismState). o.merit) (organisms_in cells) ≤ 18446744073709551615 = omega (arith, merits_sum cells sound, organisms, small) in (
+    let living : taken (ids_of cells) ≤ 65536 =
+    omega (arith, count_by-le-length is_some (ids_of cells), length-map cells id_of, small) in
+    let genomes : length (genomes_in cells) ≤ 65536 =
+    omega (
+      arith,
+      length-map (organisms_in cells) (λ (o : OrganismState). o.genome),
+      organisms,
+      small,
+    ) in
+    let genotypes : length (genotypes_of (genomes_in cells)) ≤ 65536 =
+    omega (arith, genotypes_of_few (genomes_in cells), genomes) in
+    let merit : sum_by (λ (o : OrganismState). o.merit) (organisms_in cells)
+    ≤ 18446744073709551615 = omega (arith, merits_sum cells sound, organisms, small) in (
       (omega arith, omega (arith, early)),
       (
         (omega arith, omega (arith, living)),

@@ -32,51 +32,87 @@ pub record HasRoom (scene : Scene) (more : ℕ) : Type 0 where
 
 module _ (size : ℕ) (start : People) (small : size ≤ 65536) where
   -- an id that stands in a cell
-  standing_low : (scene : Scene) → IsScene size start scene → (cell id : ℕ) → standing_at scene cell ≡ Some id → (id < length scene.everyone) × (cell < size)
+  standing_low : (scene : Scene) → IsScene size start scene → (cell id : ℕ)
+      → standing_at scene cell ≡ Some id → (id < length scene.everyone) × (cell < size)
   standing_low scene is cell id h =
-      let who = who_stands scene.cells cell id h in
-      (omega (arith, id_small size start scene is cell who.0 who.1, who.2), omega (arith, slice_get_within scene.cells cell (Some who.0) who.1, is.sized))
+      let who = who_stands scene.cells cell id h in (
+        omega (arith, id_small size start scene is cell who.0 who.1, who.2),
+        omega (arith, slice_get_within scene.cells cell (Some who.0) who.1, is.sized),
+      )
 
-  over_fits : (scene : Scene) (more : ℕ) → IsScene size start scene → HasRoom scene more → (cell : ℕ) → over_field.Fits (standing_at scene cell)
-  over_fits scene more is room cell = over_form (standing_at scene cell) (length scene.everyone) (λ id h. (standing_low scene is cell id h).0) (omega (arith, room.ids))
+  over_fits : (scene : Scene) (more : ℕ) → IsScene size start scene → HasRoom scene more
+      → (cell : ℕ) → over_field.Fits (standing_at scene cell)
+  over_fits scene more is room cell =
+      over_form (standing_at scene cell) (length scene.everyone)
+      (λ id h. (standing_low scene is cell id h).0) (omega (arith, room.ids))
 
-  room_death : (scene : Scene) (more cell : ℕ) → HasRoom scene more → HasRoom (with_death scene cell) more
+  room_death : (scene : Scene) (more cell : ℕ) → HasRoom scene more
+      → HasRoom (with_death scene cell) more
   unfolding with_death
   room_death scene more cell room = record { ids = room.ids; early = room.early }
 
-  first_fits : (scene : Scene) (more cell : ℕ) (slot : Option ℕ) (others : List Line) → IsScene size start scene → HasRoom scene more → standing_at scene cell ≡ slot → Forms others → Forms (cons_option (option_map (λ id. Death id scene.update cell) slot) others)
+  first_fits : (scene : Scene) (more cell : ℕ) (slot : Option ℕ) (others : List Line)
+      → IsScene size start scene → HasRoom scene more → standing_at scene cell ≡ slot → Forms others
+      → Forms (cons_option (option_map (λ id. Death id scene.update cell) slot) others)
   first_fits scene more cell None others is room e rest = rest
   first_fits scene more cell (Some id) others is room e rest =
-      let low = standing_low scene is cell id e in
-      (((omega arith, omega (arith, low.0, room.ids)), ((omega arith, room.early), (omega arith, omega (arith, low.1, small)))), rest)
+      let low = standing_low scene is cell id e in (
+        (
+          (omega arith, omega (arith, low.0, room.ids)),
+          ((omega arith, room.early), (omega arith, omega (arith, low.1, small))),
+        ),
+        rest,
+      )
 
   -- the lines of deaths
-  pub deaths_fit : (scene : Scene) (more : ℕ) (cells : List ℕ) → IsScene size start scene → HasRoom scene more → Forms (death_lines scene cells)
+  pub deaths_fit : (scene : Scene) (more : ℕ) (cells : List ℕ) → IsScene size start scene
+      → HasRoom scene more → Forms (death_lines scene cells)
   deaths_fit scene more [] is room = tt
   deaths_fit scene more (cell ∷ cells) is room =
       let next = with_death scene cell in
-      first_fits scene more cell (standing_at scene cell) (death_lines next cells) is room refl (deaths_fit next more cells (scene_death size start scene is cell) (room_death scene more cell room))
+      first_fits scene more cell (standing_at scene cell) (death_lines next cells) is room refl
+      (deaths_fit next more cells (scene_death size start scene is cell)
+      (room_death scene more cell room))
 
-  cleared_fits : (scene : Scene) (more cell : ℕ) (slot : Option ℕ) (others : List Line) → IsScene size start scene → HasRoom scene more → standing_at scene cell ≡ slot → Forms others → Forms (cons_option (option_map (λ id. Cleared id scene.update cell) slot) others)
+  cleared_fits : (scene : Scene) (more cell : ℕ) (slot : Option ℕ) (others : List Line)
+      → IsScene size start scene → HasRoom scene more → standing_at scene cell ≡ slot → Forms others
+      → Forms (cons_option (option_map (λ id. Cleared id scene.update cell) slot) others)
   cleared_fits scene more cell None others is room e rest = rest
   cleared_fits scene more cell (Some id) others is room e rest =
-      let low = standing_low scene is cell id e in
-      (((omega arith, omega (arith, low.0, room.ids)), ((omega arith, room.early), (omega arith, omega (arith, low.1, small)))), rest)
+      let low = standing_low scene is cell id e in (
+        (
+          (omega arith, omega (arith, low.0, room.ids)),
+          ((omega arith, room.early), (omega arith, omega (arith, low.1, small))),
+        ),
+        rest,
+      )
 
-  all_cleared_fit : (scene : Scene) (more : ℕ) (cells : List ℕ) → IsScene size start scene → HasRoom scene more → Forms (filter_map (λ line. line) (scan with_death cleared_line scene cells))
+  all_cleared_fit : (scene : Scene) (more : ℕ) (cells : List ℕ) → IsScene size start scene
+      → HasRoom scene more → Forms
+      (filter_map (λ line. line) (scan with_death cleared_line scene cells))
   all_cleared_fit scene more [] is room = tt
   all_cleared_fit scene more (cell ∷ cells) is room =
       let next = with_death scene cell in
-      cleared_fits scene more cell (standing_at scene cell) (filter_map (λ line. line) (scan with_death cleared_line next cells)) is room refl (all_cleared_fit next more cells (scene_death size start scene is cell) (room_death scene more cell room))
+      cleared_fits scene more cell (standing_at scene cell)
+      (filter_map (λ line. line) (scan with_death cleared_line next cells)) is room refl
+      (all_cleared_fit next more cells (scene_death size start scene is cell)
+      (room_death scene more cell room))
 
-  room_birth : (config : ConfigValues) (scene : Scene) (more : ℕ) (turn : Delivery × Placing) → HasRoom scene (suc more) → HasRoom (with_newborn config scene turn) more
+  room_birth : (config : ConfigValues) (scene : Scene) (more : ℕ) (turn : Delivery × Placing)
+      → HasRoom scene (suc more) → HasRoom (with_newborn config scene turn) more
   unfolding with_newborn with_newcomer
   room_birth config scene more turn room =
       let link = birth_link (next_id scene) scene.update turn.0 turn.1.cell in
-      record { ids = omega (arith, room.ids, length-append scene.everyone (link ∷ [])); early = room.early }
+      record {
+        ids = omega (arith, room.ids, length-append scene.everyone (link ∷ []));
+        early = room.early;
+      }
 
   -- the lines of births
-  pub births_fit : (config : ConfigValues) (scene : Scene) (births : List Delivery) (placings : List Placing) → IsScene size start scene → HasRoom scene (length births) → AllByRecursion (IsDelivery config size start) births → AllByRecursion (λ (p : Placing). p.cell < size) placings
+  pub births_fit : (config : ConfigValues) (scene : Scene) (births : List Delivery)
+      (placings : List Placing) → IsScene size start scene → HasRoom scene (length births)
+      → AllByRecursion (IsDelivery config size start) births
+      → AllByRecursion (λ (p : Placing). p.cell < size) placings
       → Forms (scan (with_newborn config) birth_line scene (zip births placings))
   births_fit config scene [] placings is room are within = tt
   births_fit config scene (b ∷ births) [] is room are within = tt
@@ -84,41 +120,76 @@ module _ (size : ℕ) (start : People) (small : size ≤ 65536) where
       let parent = slice_get_within start b.parent (Some are.0.letters) are.0.lived in
       let over = over_fits scene (length (b ∷ births)) is room p.cell in
       let record_fits = record_form b.newborn.origin are.0.born.form in
-      let first : HasForm (birth_line scene (b, p)) =
-      ((omega arith, omega (arith, room.ids)), ((omega arith, omega (arith, parent, is.grown, room.ids)), ((omega arith, room.early), ((omega arith, omega (arith, within.0, small)), (over, record_fits))))) in
-      (first, births_fit config (with_newborn config scene (b, p)) births placings (scene_birth size start config scene (b, p) is) (room_birth config scene (length births) (b, p) room) are.1 within.1)
+      let first : HasForm (birth_line scene (b, p)) = (
+        (omega arith, omega (arith, room.ids)),
+        (
+          (omega arith, omega (arith, parent, is.grown, room.ids)),
+          (
+            (omega arith, room.early),
+            ((omega arith, omega (arith, within.0, small)), (over, record_fits)),
+          ),
+        ),
+      ) in (
+        first,
+        births_fit config (with_newborn config scene (b, p)) births placings
+            (scene_birth size start config scene (b, p) is)
+            (room_birth config scene (length births) (b, p) room) are.1 within.1,
+      )
 
-room_deaths : (scene : Scene) (more : ℕ) (cells : List ℕ) → HasRoom scene more → HasRoom (with_deaths scene cells) more
+room_deaths : (scene : Scene) (more : ℕ) (cells : List ℕ) → HasRoom scene more
+    → HasRoom (with_deaths scene cells) more
 unfolding with_death
 room_deaths scene more [] room = room
-room_deaths scene more (cell ∷ cells) room = room_deaths (with_death scene cell) more cells (record { ids = room.ids; early = room.early })
+room_deaths scene more (cell ∷ cells) room =
+    room_deaths (with_death scene cell) more cells (record { ids = room.ids; early = room.early })
 
 module _ (start : People) (config : ConfigValues) (fit : IsConfig config) where
-  room_what : (scene : Scene) (more nth : ℕ) (what : WhatValue) → HasRoom scene (suc more) → HasRoom (after_what config scene nth what) more
+  room_what : (scene : Scene) (more nth : ℕ) (what : WhatValue) → HasRoom scene (suc more)
+      → HasRoom (after_what config scene nth what) more
   unfolding with_newcomer
   room_what scene more nth (inject cell letters) room =
       let link = founder_link (next_id scene) scene.update cell letters in
-      record { ids = omega (arith, room.ids, length-append scene.everyone (link ∷ [])); early = room.early }
-  room_what scene more nth (clear first last) room = room_deaths scene more (cells_from first last) (record { ids = omega (arith, room.ids); early = room.early })
-  room_what scene more nth (rate name ppm) room = record { ids = omega (arith, room.ids); early = room.early }
+      record {
+        ids = omega (arith, room.ids, length-append scene.everyone (link ∷ []));
+        early = room.early;
+      }
+  room_what scene more nth (clear first last) room =
+      room_deaths scene more (cells_from first last)
+      (record { ids = omega (arith, room.ids); early = room.early })
+  room_what scene more nth (rate name ppm) room =
+      record { ids = omega (arith, room.ids); early = room.early }
 
   -- the lines of an event
-  what_fit : (scene : Scene) (more : ℕ) (what : WhatValue) → IsScene (size_of config) start scene → HasRoom scene (suc more) → FitsWhat config what → Forms (what_lines scene what)
+  what_fit : (scene : Scene) (more : ℕ) (what : WhatValue) → IsScene (size_of config) start scene
+      → HasRoom scene (suc more) → FitsWhat config what → Forms (what_lines scene what)
   what_fit scene more (inject cell letters) is room fits =
       let small = few_cells config fit in
       let over = over_fits (size_of config) start small scene (suc more) is room cell in
-      let text = letters_form letters (genome_fits config fit letters fits.1 fits.2) in
-      (((omega arith, omega (arith, room.ids)), ((omega arith, room.early), ((omega arith, omega (arith, fits.0, small)), (over, text)))), tt)
-  what_fit scene more (clear first last) is room fits = all_cleared_fit (size_of config) start (few_cells config fit) scene (suc more) (cells_from first last) is room
-  what_fit scene more (rate name ppm) is room fits = (((omega arith, room.early), (tt, (omega arith, fits))), tt)
+      let text = letters_form letters (genome_fits config fit letters fits.1 fits.2) in (
+        (
+          (omega arith, omega (arith, room.ids)),
+          ((omega arith, room.early), ((omega arith, omega (arith, fits.0, small)), (over, text))),
+        ),
+        tt,
+      )
+  what_fit scene more (clear first last) is room fits =
+      all_cleared_fit (size_of config) start (few_cells config fit) scene (suc more)
+      (cells_from first last) is room
+  what_fit scene more (rate name ppm) is room fits =
+      (((omega arith, room.early), (tt, (omega arith, fits))), tt)
 
   -- the lines of events
-  pub events_fit_forms : (scene : Scene) (events : List (ℕ × EventValue)) → IsScene (size_of config) start scene → HasRoom scene (length events) → AllByRecursion (FitsPlaced config) events
+  pub events_fit_forms : (scene : Scene) (events : List (ℕ × EventValue))
+      → IsScene (size_of config) start scene → HasRoom scene (length events)
+      → AllByRecursion (FitsPlaced config) events
       → Forms (flat_map (λ lines. lines) (scan (after_event config) lines_of_event scene events))
   unfolding after_event
   events_fit_forms scene [] is room fits = tt
   events_fit_forms scene (event ∷ events) is room fits =
       let next = after_what config scene event.0 event.1.what in
-      all_append HasForm (lines_of_event scene event) (flat_map (λ lines. lines) (scan (after_event config) lines_of_event next events))
+      all_append HasForm (lines_of_event scene event)
+      (flat_map (λ lines. lines) (scan (after_event config) lines_of_event next events))
       (what_fit scene (length events) event.1.what is room fits.0)
-      (events_fit_forms next events (scene_what (size_of config) start config scene event.0 event.1.what is) (room_what scene (length events) event.0 event.1.what room) fits.1)
+      (events_fit_forms next events
+      (scene_what (size_of config) start config scene event.0 event.1.what is)
+      (room_what scene (length events) event.0 event.1.what room) fits.1)

@@ -30,12 +30,14 @@ output-alike o output =
     let done = done-alike read (newly_done o output) in
     record { genome = done.genome; merit = done.merit; credited = done.credited }
 
-did-alike : (o : OrganismState) (rules : RuleNumbers) (did : Did) → IsAlike o (after_did o rules did).0
+did-alike : (o : OrganismState) (rules : RuleNumbers) (did : Did)
+    → IsAlike o (after_did o rules did).0
 did-alike o rules (Output value) = output-alike o value
 did-alike o rules (Asks ask) = record { genome = refl; merit = refl; credited = refl }
 did-alike o rules _ = record { genome = refl; merit = refl; credited = refl }
 
-step-alike : (o : OrganismState) (copy : Option Letter) (rules : RuleNumbers) → IsAlike o (life_step o copy rules).0
+step-alike : (o : OrganismState) (copy : Option Letter) (rules : RuleNumbers)
+    → IsAlike o (life_step o copy rules).0
 unfolding life_step
 step-alike o copy rules =
     let aged = older o (machine_step o copy).0 in
@@ -47,7 +49,8 @@ one-more : {X : Type 0} (xs : List X) (x : X) → xs ++ x ∷ [] ≡ [] → ⊥
 one-more [] x is = absurd (cc)
 one-more (y ∷ ys) x is = absurd (cc)
 
-outcome-kept : (settings : SettingNumbers) (words : ℕ → ℕ) (start now : LifeState) (told : Outcome) → HasKept start now → HasKept start (after_outcome settings words now told)
+outcome-kept : (settings : SettingNumbers) (words : ℕ → ℕ) (start now : LifeState) (told : Outcome)
+    → HasKept start now → HasKept start (after_outcome settings words now told)
 unfolding renewed
 outcome-kept settings words start now (outcome.Viable ask) kept = record {
   genome = kept.genome;
@@ -56,24 +59,34 @@ outcome-kept settings words start now (outcome.Viable ask) kept = record {
 }
 outcome-kept settings words start now _ kept = kept
 
-more-kept : (settings : SettingNumbers) (words : ℕ → ℕ) (start now : LifeState) → HasKept start now → HasKept start (after_step settings words now)
+more-kept : (settings : SettingNumbers) (words : ℕ → ℕ) (start now : LifeState) → HasKept start now
+    → HasKept start (after_step settings words now)
 unfolding after_step
 more-kept settings words start now kept =
     let copy = copy_drawn words settings.rates.copy now.next now.organism in
     let stepped = life_step now.organism copy settings.rules in
     let same = step-alike now.organism copy settings.rules in
-    outcome-kept settings words start (record now { organism = stepped.0; next = after_copy words settings.rates.copy now.next now.organism }) stepped.1 (record {
+    outcome-kept settings words start
+    (record now {
+      organism = stepped.0;
+      next = after_copy words settings.rates.copy now.next now.organism;
+    }) stepped.1 (record {
       genome = same.genome ∙ kept.genome;
       merit = λ none. same.merit ∙ kept.merit none;
       credited = λ none. same.credited ∙ kept.credited none;
     })
 
-steps-kept : (settings : SettingNumbers) (words : ℕ → ℕ) (start : LifeState) (steps : ℕ) → HasKept start (state_after settings words start steps)
+steps-kept : (settings : SettingNumbers) (words : ℕ → ℕ) (start : LifeState) (steps : ℕ)
+    → HasKept start (state_after settings words start steps)
 unfolding state_after
-steps-kept settings words start zero = record { genome = refl; merit = λ none. refl; credited = λ none. refl }
-steps-kept settings words start (suc steps) = more-kept settings words start (state_after settings words start steps) (steps-kept settings words start steps)
+steps-kept settings words start zero =
+    record { genome = refl; merit = λ none. refl; credited = λ none. refl }
+steps-kept settings words start (suc steps) =
+    more-kept settings words start (state_after settings words start steps)
+    (steps-kept settings words start steps)
 
-pub life-kept : (settings : SettingNumbers) (words : ℕ → ℕ) (start : LifeState) (steps : ℕ) → HasKept start (life settings words start steps).0
+pub life-kept : (settings : SettingNumbers) (words : ℕ → ℕ) (start : LifeState) (steps : ℕ)
+    → HasKept start (life settings words start steps).0
 unfolding life
 life-kept settings words start steps = by (death_in settings words start steps) where
   by : (death : Option ℕ) → HasKept start (ended settings words start steps death).0

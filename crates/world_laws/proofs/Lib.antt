@@ -20,3 +20,4 @@ mod Descents
 mod LineDescents
 mod Merits
 pub mod Keepings
+mod Turnovers

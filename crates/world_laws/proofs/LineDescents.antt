@@ -18,18 +18,26 @@ use Rattle.world_laws.proofs.Descents.{descended_after}
 
 -- what world_rules proves of ids and of lines
 pub record LineLaws : Type 0 where
-  pub numbered : (config : ConfigValues) (updates : ℕ) → IsNumberedWorld (world_after config updates)
-  pub line : (everyone : List Link) (id : ℕ) (link : Link) → AreNumbered everyone → slice_get everyone id ≡ Some link → line_of everyone id ≡ line_of_parent (lines_of everyone) link.parent ++ link ∷ []
+  pub numbered : (config : ConfigValues) (updates : ℕ)
+      → IsNumberedWorld (world_after config updates)
+  pub line : (everyone : List Link) (id : ℕ) (link : Link) → AreNumbered everyone
+      → slice_get everyone id ≡ Some link
+      → line_of everyone id ≡ line_of_parent (lines_of everyone) link.parent ++ link ∷ []
 
 -- a line goes on with a child of its last
-descent_more : (front : List Link) (last link : Link) → IsDescent (front ++ last ∷ []) → IsChildOf last link → IsDescent ((front ++ last ∷ []) ++ link ∷ [])
+descent_more : (front : List Link) (last link : Link) → IsDescent (front ++ last ∷ [])
+    → IsChildOf last link → IsDescent ((front ++ last ∷ []) ++ link ∷ [])
 descent_more [] last link is child = (child, tt)
 descent_more (x ∷ []) last link is child = (is.0, (child, tt))
-descent_more (x ∷ y ∷ front) last link is child = (is.0, descent_more (y ∷ front) last link is.1 child)
+descent_more (x ∷ y ∷ front) last link is child =
+    (is.0, descent_more (y ∷ front) last link is.1 child)
 
-module _ (laws : LineLaws) (everyone : List Link) (are : AreNumbered everyone) (descended : AreDescended everyone) where
-  descent_from : (link : Link) (parent : Option ℕ) (bound : ℕ) → IsBelow bound parent → ComesFrom everyone parent link
-      → ((p : ℕ) (before : Link) → p < bound → slice_get everyone p ≡ Some before → IsDescent (line_of everyone p))
+module _ (laws : LineLaws) (everyone : List Link) (are : AreNumbered everyone)
+    (descended : AreDescended everyone) where
+  descent_from : (link : Link) (parent : Option ℕ) (bound : ℕ) → IsBelow bound parent
+      → ComesFrom everyone parent link
+      → ((p : ℕ) (before : Link) → p < bound → slice_get everyone p ≡ Some before
+      → IsDescent (line_of everyone p))
       → IsDescent (line_of_parent (lines_of everyone) parent ++ link ∷ [])
   descent_from link None bound below comes earlier = tt
   descent_from link (Some p) bound below comes earlier =
@@ -37,46 +45,60 @@ module _ (laws : LineLaws) (everyone : List Link) (are : AreNumbered everyone) (
       let line = laws.line everyone p before are comes.1 in
       let first = earlier p before below comes.1 in
       let front = line_of_parent (lines_of everyone) before.parent in
-      subst (λ (l : List Link). IsDescent (l ++ link ∷ [])) (sym line) (descent_more front before link (subst IsDescent line first) comes.2)
+      subst (λ (l : List Link). IsDescent (l ++ link ∷ [])) (sym line)
+      (descent_more front before link (subst IsDescent line first) comes.2)
 
-  descent_below : (bound id : ℕ) (link : Link) → id < bound → slice_get everyone id ≡ Some link → IsDescent (line_of everyone id)
+  descent_below : (bound id : ℕ) (link : Link) → id < bound → slice_get everyone id ≡ Some link
+      → IsDescent (line_of everyone id)
   descent_below zero id link h e = absurd (omega (arith, h))
   descent_below (suc bound) id link h e =
       let numbered = are id link e in
       subst IsDescent (sym (laws.line everyone id link are e))
-      (descent_from link link.parent id numbered.parent (descended id link e) (λ p before low there. descent_below bound p before (omega (arith, low, h)) there))
+      (descent_from link link.parent id numbered.parent (descended id link e)
+      (λ p before low there. descent_below bound p before (omega (arith, low, h)) there))
 
-  descent_of : (id : ℕ) (link : Link) → slice_get everyone id ≡ Some link → IsDescent (line_of everyone id)
+  descent_of : (id : ℕ) (link : Link) → slice_get everyone id ≡ Some link
+      → IsDescent (line_of everyone id)
   descent_of id link e = let low : id < suc id = omega arith in descent_below (suc id) id link low e
 
 -- a link that was written, with its genome
-written_there : (slot : Option Link) (letters : List Letter) → option_map written slot ≡ Some (Some letters) → (link : Link) × (slot ≡ Some link) × (link.genome ≡ letters)
+written_there : (slot : Option Link) (letters : List Letter)
+    → option_map written slot ≡ Some (Some letters) → (link : Link) × (slot ≡ Some link)
+    × (link.genome ≡ letters)
 written_there None letters e = absurd cc
 written_there (Some link) letters e = (link, refl, cc)
 
-descent_in : (laws : LineLaws) (w : World) → AreNumbered w.everyone → AreDescended w.everyone → Known (map written w.everyone) w.cells → (cell : ℕ) (slot : Option ℕ) → id_at w.cells cell ≡ slot → IfSome (option_map (line_of w.everyone) slot) IsDescent
+descent_in : (laws : LineLaws) (w : World) → AreNumbered w.everyone → AreDescended w.everyone
+    → Known (map written w.everyone) w.cells → (cell : ℕ) (slot : Option ℕ)
+    → id_at w.cells cell ≡ slot → IfSome (option_map (line_of w.everyone) slot) IsDescent
 descent_in laws w are descended known cell None e = tt
 descent_in laws w are descended known cell (Some id) e =
     let who = who_stands w.cells cell id e in
     let o : Occupant = who.0 in
     let wrote = sym (slice_get-map written w.everyone o.id) ∙ known cell o who.1 in
     let found = written_there (slice_get w.everyone o.id) o.organism.genome wrote in
-    descent_of laws w.everyone are descended id found.0 (ap (slice_get w.everyone) (sym who.2) ∙ found.1)
+    descent_of laws w.everyone are descended id found.0
+    (ap (slice_get w.everyone) (sym who.2) ∙ found.1)
 
 -- the line of who stands in a cell of a run's world
-pub line_descends : (laws : LineLaws) (lives : LifeLaws) (config : ConfigValues) → IsConfig config → (n cell : ℕ) → IfSome (line_in (world_after config n) cell) IsDescent
+pub line_descends : (laws : LineLaws) (lives : LifeLaws) (config : ConfigValues) → IsConfig config
+    → (n cell : ℕ) → IfSome (line_in (world_after config n) cell) IsDescent
 unfolding line_in
 line_descends laws lives config fit n cell =
     let w = world_after config n in
-    descent_in laws w (laws.numbered config n).everyone (descended_after lives config fit n) (run_after lives config fit n).world.kept cell (id_at w.cells cell) refl
+    descent_in laws w (laws.numbered config n).everyone (descended_after lives config fit n)
+    (run_after lives config fit n).world.kept cell (id_at w.cells cell) refl
 
-last_in : (laws : LineLaws) (w : World) → AreNumbered w.everyone → Known (map written w.everyone) w.cells → (cell : ℕ) (o : Occupant) → Stands w.cells cell o → IsLastOfLine w cell o
+last_in : (laws : LineLaws) (w : World) → AreNumbered w.everyone
+    → Known (map written w.everyone) w.cells → (cell : ℕ) (o : Occupant) → Stands w.cells cell o
+    → IsLastOfLine w cell o
 unfolding line_in
 last_in laws w are known cell o stands =
     let wrote = sym (slice_get-map written w.everyone o.id) ∙ known cell o stands in
     let found = written_there (slice_get w.everyone o.id) o.organism.genome wrote in
     let line = laws.line w.everyone o.id found.0 are found.1 in
-    let here : id_at w.cells cell ≡ Some o.id = ap id_of (get_or_from_slice_get w.cells cell (Some o) None stands) in
+    let here : id_at w.cells cell ≡ Some o.id =
+    ap id_of (get_or_from_slice_get w.cells cell (Some o) None stands) in
     record {
       last = found.0;
       recorded = found.1;
@@ -86,6 +108,9 @@ last_in laws w are known cell o stands =
     }
 
 -- who stands in a cell of a run's world
-pub line_ends : (laws : LineLaws) (lives : LifeLaws) (config : ConfigValues) → IsConfig config → (n cell : ℕ) (o : Occupant) → Stands (world_after config n).cells cell o → IsLastOfLine (world_after config n) cell o
+pub line_ends : (laws : LineLaws) (lives : LifeLaws) (config : ConfigValues) → IsConfig config
+    → (n cell : ℕ) (o : Occupant) → Stands (world_after config n).cells cell o
+    → IsLastOfLine (world_after config n) cell o
 line_ends laws lives config fit n cell o stands =
-    last_in laws (world_after config n) (laws.numbered config n).everyone (run_after lives config fit n).world.kept cell o stands
+    last_in laws (world_after config n) (laws.numbered config n).everyone
+    (run_after lives config fit n).world.kept cell o stands

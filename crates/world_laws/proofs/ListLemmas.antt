@@ -3,19 +3,22 @@ use Rattle.std.proofs.Common.{◌≡◌, ◌≢◌, ℕ, zero, suc, ◌+◌, ◌
 use Rattle.std.proofs.lemmas.List.{set-get_or}
 use Rattle.std.specs.Prelude.{slice_get, slice_set, slice_index_or, ◌==◌, replicate}
 
-pub get_written : {X : Type 0} (xs : List X) (i : ℕ) (x : X) → i < length xs → slice_get (slice_set xs i x) i ≡ Some x
+pub get_written : {X : Type 0} (xs : List X) (i : ℕ) (x : X) → i < length xs
+    → slice_get (slice_set xs i x) i ≡ Some x
 get_written [] i x h = absurd (omega (arith, h))
 get_written (y ∷ ys) zero x h = refl
 get_written (y ∷ ys) (suc i) x h = get_written ys i x (omega (arith, h))
 
-pub get_elsewhere : {X : Type 0} (xs : List X) (i j : ℕ) (x : X) → j ≢ i → slice_get (slice_set xs i x) j ≡ slice_get xs j
+pub get_elsewhere : {X : Type 0} (xs : List X) (i j : ℕ) (x : X) → j ≢ i
+    → slice_get (slice_set xs i x) j ≡ slice_get xs j
 get_elsewhere [] i j x h = refl
 get_elsewhere (y ∷ ys) zero zero x h = absurd (h refl)
 get_elsewhere (y ∷ ys) zero (suc j) x h = refl
 get_elsewhere (y ∷ ys) (suc i) zero x h = refl
 get_elsewhere (y ∷ ys) (suc i) (suc j) x h = get_elsewhere ys i j x (λ e. h (ap suc e))
 
-pub get_more : {X : Type 0} (xs ys : List X) (i : ℕ) (x : X) → slice_get xs i ≡ Some x → slice_get (xs ++ ys) i ≡ Some x
+pub get_more : {X : Type 0} (xs ys : List X) (i : ℕ) (x : X) → slice_get xs i ≡ Some x
+    → slice_get (xs ++ ys) i ≡ Some x
 get_more [] ys i x h = absurd cc
 get_more (y ∷ xs) ys zero x h = h
 get_more (y ∷ xs) ys (suc i) x h = get_more xs ys i x h
@@ -25,7 +28,8 @@ get_seam [] ys x = refl
 get_seam (y ∷ xs) ys x = get_seam xs ys x
 
 -- what stands in a list that grew by one item
-pub get_last : {X : Type 0} (xs : List X) (x : X) (i : ℕ) (y : X) → slice_get (xs ++ x ∷ []) i ≡ Some y → (slice_get xs i ≡ Some y) ⊎ (x ≡ y)
+pub get_last : {X : Type 0} (xs : List X) (x : X) (i : ℕ) (y : X)
+    → slice_get (xs ++ x ∷ []) i ≡ Some y → (slice_get xs i ≡ Some y) ⊎ (x ≡ y)
 get_last [] x zero y h = inr cc
 get_last [] x (suc i) y h = absurd cc
 get_last (z ∷ xs) x zero y h = inl h
@@ -34,30 +38,38 @@ get_last (z ∷ xs) x (suc i) y h = get_last xs x i y h
 pub eqb_same : (n : ℕ) → (n == n) ≡ true
 eqb_same n = eq-eqb n n refl
 
-pub map-replicate : {X Y : Type 0} (f : X → Y) (n : ℕ) (x : X) → map f (replicate n x) ≡ replicate n (f x)
+pub map-replicate : {X Y : Type 0} (f : X → Y) (n : ℕ) (x : X)
+    → map f (replicate n x) ≡ replicate n (f x)
 map-replicate f zero x = refl
 map-replicate f (suc n) x = ap (λ l. f x ∷ l) (map-replicate f n x)
 
 -- an empty place made empty
-pub set_nothing : {X : Type 0} (xs : List (Option X)) (i : ℕ) → slice_index_or xs i None ≡ None → slice_set xs i None ≡ xs
+pub set_nothing : {X : Type 0} (xs : List (Option X)) (i : ℕ) → slice_index_or xs i None ≡ None
+    → slice_set xs i None ≡ xs
 set_nothing xs i h = ap (slice_set xs i) (sym h) ∙ set-get_or xs i None
 
 -- somebody stands in a place
-pub got_some : {X : Type 0} (xs : List (Option X)) (i : ℕ) (x : X) → slice_index_or xs i None ≡ Some x → slice_get xs i ≡ Some (Some x)
+pub got_some : {X : Type 0} (xs : List (Option X)) (i : ℕ) (x : X)
+    → slice_index_or xs i None ≡ Some x → slice_get xs i ≡ Some (Some x)
 got_some [] i x h = absurd cc
 got_some (y ∷ xs) zero x h = ap Some h
 got_some (y ∷ xs) (suc i) x h = got_some xs i x h
 
-pub get_left : {X : Type 0} (xs ys : List X) (i : ℕ) → i < length xs → slice_get (xs ++ ys) i ≡ slice_get xs i
+pub get_left : {X : Type 0} (xs ys : List X) (i : ℕ) → i < length xs
+    → slice_get (xs ++ ys) i ≡ slice_get xs i
 get_left [] ys i h = absurd (omega (arith, h))
 get_left (x ∷ xs) ys zero h = refl
 get_left (x ∷ xs) ys (suc i) h = get_left xs ys i (omega (arith, h))
 
-pub get_right : {X : Type 0} (xs ys : List X) (j : ℕ) → slice_get (xs ++ ys) (length xs + j) ≡ slice_get ys j
+pub get_right : {X : Type 0} (xs ys : List X) (j : ℕ)
+    → slice_get (xs ++ ys) (length xs + j) ≡ slice_get ys j
 get_right [] ys j = let e : 0 + j ≡ j = omega arith in ap (slice_get ys) e
-get_right (x ∷ xs) ys j = let e : length (x ∷ xs) + j ≡ suc (length xs + j) = omega arith in rw e (get_right xs ys j)
+get_right (x ∷ xs) ys j =
+    let e : length (x ∷ xs) + j ≡ suc (length xs + j) = omega arith in rw e (get_right xs ys j)
 
-pub get_dropped : {X : Type 0} (n : ℕ) (xs : List X) (j : ℕ) → slice_get (drop n xs) j ≡ slice_get xs (n + j)
+pub get_dropped : {X : Type 0} (n : ℕ) (xs : List X) (j : ℕ)
+    → slice_get (drop n xs) j ≡ slice_get xs (n + j)
 get_dropped zero xs j = let e : j ≡ 0 + j = omega arith in ap (slice_get xs) e
 get_dropped (suc n) [] j = refl
-get_dropped (suc n) (x ∷ xs) j = let e : suc n + j ≡ suc (n + j) = omega arith in rw e (get_dropped n xs j)
+get_dropped (suc n) (x ∷ xs) j =
+    let e : suc n + j ≡ suc (n + j) = omega arith in rw e (get_dropped n xs j)

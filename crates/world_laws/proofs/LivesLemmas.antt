@@ -24,10 +24,16 @@ use Rattle.world_laws.proofs.Scenes.{Each}
 
 -- what the crates below prove of one life, of words, of new organisms and of slices
 pub record LifeLaws : Type 0 where
-  pub lives : (settings : SettingNumbers) (words : ℕ → ℕ) (start : OrganismState) (steps : ℕ) → AreRules settings.rules → ((k : ℕ) → words k < 2 ^ 32) → IsSoundOrganism start → HasLived settings start steps (life settings words (beginning start) steps).0
-  pub words : (seed update cell : ℕ) (purpose : Purpose) (k : ℕ) → draw seed update cell purpose k < 2 ^ 32
-  pub new : (letters : List Letter) (inputs : List ℕ) (merit : ℕ) (credited : List Bool) (limit : ℕ) → IsGenome letters → length letters ≤ limit → limit ≤ 8192 → 1 ≤ merit → merit ≤ 2 ^ 38 → IsSoundOrganism (new_organism letters inputs merit credited limit)
-  pub slices : (merits : List ℕ) (average : ℕ) → sum (slices_of merits average) ≤ average * length merits
+  pub lives : (settings : SettingNumbers) (words : ℕ → ℕ) (start : OrganismState) (steps : ℕ)
+      → AreRules settings.rules → ((k : ℕ) → words k < 2 ^ 32) → IsSoundOrganism start
+      → HasLived settings start steps (life settings words (beginning start) steps).0
+  pub words : (seed update cell : ℕ) (purpose : Purpose) (k : ℕ)
+      → draw seed update cell purpose k < 2 ^ 32
+  pub new : (letters : List Letter) (inputs : List ℕ) (merit : ℕ) (credited : List Bool) (limit : ℕ)
+      → IsGenome letters → length letters ≤ limit → limit ≤ 8192 → 1 ≤ merit → merit ≤ 2 ^ 38
+      → IsSoundOrganism (new_organism letters inputs merit credited limit)
+  pub slices : (merits : List ℕ) (average : ℕ)
+      → sum (slices_of merits average) ≤ average * length merits
 
 -- a newborn as its parent's genome and the configuration's rules want it
 abbrev pub IsNewborn : ConfigValues → List Letter → NewbornValue → Type 0
@@ -49,12 +55,16 @@ IsLife config steps None l = (l.occupant ≡ None) × (length l.newborns ≤ ste
 IsLife config steps (Some o) l = IsLifeOf config steps o l
 
 -- one life, by the laws
-life_is : (laws : LifeLaws) (config : ConfigValues) → AreRules (rules_of config) → (update cell steps : ℕ) (slot : Option Occupant) → ((o : Occupant) → slot ≡ Some o → IsSoundOrganism o.organism) → IsLife config steps slot (life_of config update cell steps slot)
+life_is : (laws : LifeLaws) (config : ConfigValues) → AreRules (rules_of config)
+    → (update cell steps : ℕ) (slot : Option Occupant)
+    → ((o : Occupant) → slot ≡ Some o → IsSoundOrganism o.organism)
+    → IsLife config steps slot (life_of config update cell steps slot)
 unfolding life_of settings_at
 life_is laws config are update cell steps None sound = (refl, omega arith)
 life_is laws config are update cell steps (Some o) sound =
     let settings = settings_at config update in
-    let lived = laws.lives settings (draw config.seed update cell Run) o.organism steps are (laws.words config.seed update cell Run) (sound o refl) in
+    let lived = laws.lives settings (draw config.seed update cell Run) o.organism steps are
+    (laws.words config.seed update cell Run) (sound o refl) in
     let ended = life settings (draw config.seed update cell Run) (beginning o.organism) steps in
     record {
       who = record { id = o.id; organism = ended.0.organism };
@@ -63,7 +73,8 @@ life_is laws config are update cell steps (Some o) sound =
       genome = lived.genome;
       sound = lived.sound;
       few = lived.few;
-      newborns = recursion_from_All (IsNewborn config o.organism.genome) ended.0.newborns lived.newborns;
+      newborns =
+          recursion_from_All (IsNewborn config o.organism.genome) ended.0.newborns lived.newborns;
     }
 
 -- lives stand beside their cells, each with its steps
@@ -71,23 +82,33 @@ abbrev pub AreLives : ConfigValues → (ℕ → ℕ) → ℕ → List (Option Oc
 AreLives config steps from [] [] = Unit {0}
 AreLives config steps from [] (l ∷ lives) = ⊥
 AreLives config steps from (slot ∷ cells) [] = ⊥
-AreLives config steps from (slot ∷ cells) (l ∷ lives) = IsLife config (steps from) slot l × AreLives config steps (from + 1) cells lives
+AreLives config steps from (slot ∷ cells) (l ∷ lives) =
+    IsLife config (steps from) slot l × AreLives config steps (from + 1) cells lives
 
-lives_beside : (config : ConfigValues) (steps : ℕ → ℕ) (run : ℕ → CellLife) (from : ℕ) (cells : List (Option Occupant)) → ((i : ℕ) → i < length cells → IsLife config (steps (from + i)) (slice_index_or cells i None) (run (from + i))) → AreLives config steps from cells (map run (range_with_len from (length cells)))
+lives_beside : (config : ConfigValues) (steps : ℕ → ℕ) (run : ℕ → CellLife) (from : ℕ)
+    (cells : List (Option Occupant))
+    → ((i : ℕ) → i < length cells
+    → IsLife config (steps (from + i)) (slice_index_or cells i None) (run (from + i)))
+    → AreLives config steps from cells (map run (range_with_len from (length cells)))
 lives_beside config steps run from [] each = tt
 lives_beside config steps run from (slot ∷ cells) each =
     let here : from + 0 ≡ from = omega arith in (
       subst (λ n. IsLife config (steps n) slot (run n)) here (each 0 (omega arith)),
       lives_beside config steps run (from + 1) cells (λ i h.
           let next : from + suc i ≡ from + 1 + i = omega arith in
-          subst (λ n. IsLife config (steps n) (slice_index_or cells i None) (run n)) next (each (suc i) (omega (arith, h)))),
+          subst (λ n. IsLife config (steps n) (slice_index_or cells i None) (run n)) next
+          (each (suc i) (omega (arith, h)))),
     )
 
 -- the lives of an update
-pub lives_are : (laws : LifeLaws) (config : ConfigValues) → AreRules (rules_of config) → (update : ℕ) (cells : List (Option Occupant)) → Each IsSoundOrganism cells → AreLives config (slice_at config cells) 0 cells (lives_of config update cells)
+pub lives_are : (laws : LifeLaws) (config : ConfigValues) → AreRules (rules_of config)
+    → (update : ℕ) (cells : List (Option Occupant)) → Each IsSoundOrganism cells
+    → AreLives config (slice_at config cells) 0 cells (lives_of config update cells)
 unfolding lives_of
 lives_are laws config are update cells sound =
     lives_beside config (slice_at config cells) (life_at config update cells) 0 cells (λ i h.
     let at : 0 + i ≡ i = omega arith in
-    subst (λ n. IsLife config (slice_at config cells n) (slice_index_or cells i None) (life_at config update cells n)) (sym at)
-    (life_is laws config are update i (slice_at config cells i) (slice_index_or cells i None) (λ o e. sound i o (got_some cells i o e))))
+    subst (λ n. IsLife config (slice_at config cells n) (slice_index_or cells i None)
+    (life_at config update cells n)) (sym at)
+    (life_is laws config are update i (slice_at config cells i) (slice_index_or cells i None)
+    (λ o e. sound i o (got_some cells i o e))))

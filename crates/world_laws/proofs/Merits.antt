@@ -15,19 +15,34 @@ use Rattle.world_laws.proofs.Configs.{IsConfig, few_cells}
 use Rattle.world_laws.proofs.Wholes.{run_after}
 
 -- no cell has more than the greatest merit
-merit_few : (slot : Option Occupant) → ((o : Occupant) → slot ≡ Some o → IsSoundOrganism o.organism) → merit_in slot ≤ 2 ^ 38
+merit_few : (slot : Option Occupant) → ((o : Occupant) → slot ≡ Some o → IsSoundOrganism o.organism)
+    → merit_in slot ≤ 2 ^ 38
 merit_few None sound = omega arith
 merit_few (Some o) sound = (sound o refl).merit
 
-merits_fit : (cells : List (Option Occupant)) → Each IsSoundOrganism cells → AllByRecursion (λ merit. merit ≤ 2 ^ 38) (map merit_in cells)
+merits_fit : (cells : List (Option Occupant)) → Each IsSoundOrganism cells
+    → AllByRecursion (λ merit. merit ≤ 2 ^ 38) (map merit_in cells)
 merits_fit [] sound = tt
-merits_fit (slot ∷ cells) sound = (merit_few slot (λ o e. sound 0 o (ap Some e)), merits_fit cells (λ cell o h. sound (suc cell) o h))
+merits_fit (slot ∷ cells) sound = (
+  merit_few slot (λ o e. sound 0 o (ap Some e)),
+  merits_fit cells (λ cell o h. sound (suc cell) o h),
+)
 
-merits_few : (cells : List (Option Occupant)) → Each IsSoundOrganism cells → sum (map merit_in cells) ≤ length (map merit_in cells) * 2 ^ 38
-merits_few cells sound = sum_by-le (λ merit. merit) (2 ^ 38) (map merit_in cells) (All-from_recursion (λ merit. merit ≤ 2 ^ 38) (map merit_in cells) (merits_fit cells sound))
+merits_few : (cells : List (Option Occupant)) → Each IsSoundOrganism cells
+    → sum (map merit_in cells) ≤ length (map merit_in cells) * 2 ^ 38
+merits_few cells sound =
+    sum_by-le (λ merit. merit) (2 ^ 38) (map merit_in cells)
+    (All-from_recursion (λ merit. merit ≤ 2 ^ 38) (map merit_in cells) (merits_fit cells sound))
 
 -- the merits of a world of a run
-pub merits_after : LifeLaws → (config : ConfigValues) → IsConfig config → (n : ℕ) → sum (map merit_in (world_after config n).cells) ≤ 2 ^ 54
+pub merits_after : LifeLaws → (config : ConfigValues) → IsConfig config → (n : ℕ)
+    → sum (map merit_in (world_after config n).cells) ≤ 2 ^ 54
 merits_after laws config fit n =
     let is = run_after laws config fit n in
-    omega (arith, merits_few (world_after config n).cells is.sound, length-map (world_after config n).cells merit_in, is.world.sized, few_cells config fit)
+    omega (
+      arith,
+      merits_few (world_after config n).cells is.sound,
+      length-map (world_after config n).cells merit_in,
+      is.world.sized,
+      few_cells config fit,
+    )

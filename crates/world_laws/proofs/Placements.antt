@@ -13,7 +13,8 @@ abbrev pub IsCell : TorusNumbers → ℕ → Type 0
 IsCell torus cell = cell < cells_of torus
 
 -- a column and a row make a cell
-in_row : (width height column row : ℕ) → column < width → row < height → row * width + column < width * height
+in_row : (width height column row : ℕ) → column < width → row < height
+    → row * width + column < width * height
 in_row width height column row c r =
     let next : row + 1 ≤ height = omega (arith, r) in
     omega (arith, mul-le-mul_left width next, c)
@@ -35,85 +36,124 @@ tall : (width height cell : ℕ) → cell < width * height → 1 ≤ height
 tall width zero cell h = omega (arith, h)
 tall width (suc height) cell h = omega arith
 
-around_in : (torus : TorusNumbers) (column row : ℕ) → 1 ≤ torus.width → 1 ≤ torus.height → column < torus.width → row < torus.height → AllByRecursion (IsCell torus) (around torus column row)
+around_in : (torus : TorusNumbers) (column row : ℕ) → 1 ≤ torus.width → 1 ≤ torus.height
+    → column < torus.width → row < torus.height
+    → AllByRecursion (IsCell torus) (around torus column row)
 around_in torus column row some rows c r =
     let west : west_of torus column < torus.width = omega (arith, some) in
     let east : east_of torus column < torus.width = omega (arith, some) in
     let north : north_of torus row < torus.height = omega (arith, rows) in
     let south : south_of torus row < torus.height = omega (arith, rows) in
-    let at = in_row torus.width torus.height in
-    (at _ _ west north, (at _ _ c north, (at _ _ east north, (at _ _ west r, (at _ _ east r, (at _ _ west south, (at _ _ c south, (at _ _ east south, tt))))))))
+    let at = in_row torus.width torus.height in (
+      at _ _ west north,
+      (
+        at _ _ c north,
+        (
+          at _ _ east north,
+          (
+            at _ _ west r,
+            (at _ _ east r, (at _ _ west south, (at _ _ c south, (at _ _ east south, tt)))),
+          ),
+        ),
+      ),
+    )
 
-neighbours_in : (torus : TorusNumbers) (cell : ℕ) → IsCell torus cell → AllByRecursion (IsCell torus) (neighbours_of torus cell)
+neighbours_in : (torus : TorusNumbers) (cell : ℕ) → IsCell torus cell
+    → AllByRecursion (IsCell torus) (neighbours_of torus cell)
 unfolding neighbours_of
 neighbours_in torus cell h =
     let some = wide torus.width torus.height cell h in
     let rows = tall torus.width torus.height cell h in
     let column : column_of torus cell < torus.width = omega (arith, some) in
-    around_in torus (column_of torus cell) (row_of torus cell) some rows column (row_in torus.width torus.height cell some h)
+    around_in torus (column_of torus cell) (row_of torus cell) some rows column
+    (row_in torus.width torus.height cell some h)
 
-filter_step : {X : Type 0} (P : X → Type 0) (b : Bool) (x : X) (xs : List X) → P x → AllByRecursion P xs → AllByRecursion P (cond b (x ∷ xs) xs)
+filter_step : {X : Type 0} (P : X → Type 0) (b : Bool) (x : X) (xs : List X) → P x
+    → AllByRecursion P xs → AllByRecursion P (cond b (x ∷ xs) xs)
 filter_step P true x xs h all = (h, all)
 filter_step P false x xs h all = all
 
 -- a part of a list has what all of it has
-pub all_filtered : {X : Type 0} (P : X → Type 0) (test : X → Bool) (xs : List X) → AllByRecursion P xs → AllByRecursion P (filter test xs)
+pub all_filtered : {X : Type 0} (P : X → Type 0) (test : X → Bool) (xs : List X)
+    → AllByRecursion P xs → AllByRecursion P (filter test xs)
 all_filtered P test [] all = tt
-all_filtered P test (x ∷ xs) all = filter_step P (test x) x (filter test xs) all.0 (all_filtered P test xs all.1)
+all_filtered P test (x ∷ xs) all =
+    filter_step P (test x) x (filter test xs) all.0 (all_filtered P test xs all.1)
 
-all_or : {X : Type 0} (P : X → Type 0) (b : Bool) (xs ys : List X) → AllByRecursion P xs → AllByRecursion P ys → AllByRecursion P (cond b xs ys)
+all_or : {X : Type 0} (P : X → Type 0) (b : Bool) (xs ys : List X) → AllByRecursion P xs
+    → AllByRecursion P ys → AllByRecursion P (cond b xs ys)
 all_or P true xs ys h k = h
 all_or P false xs ys h k = k
 
 -- an entry of a list, or the default
-all_at : (P : ℕ → Type 0) (xs : List ℕ) (i d : ℕ) → P d → AllByRecursion P xs → P (slice_index_or xs i d)
+all_at : (P : ℕ → Type 0) (xs : List ℕ) (i d : ℕ) → P d → AllByRecursion P xs
+    → P (slice_index_or xs i d)
 all_at P [] i d h all = h
 all_at P (x ∷ xs) zero d h all = all.0
 all_at P (x ∷ xs) (suc i) d h all = all_at P xs i d h all.1
 
 -- two lists, one after another
-pub all_append : {X : Type 0} (P : X → Type 0) (xs ys : List X) → AllByRecursion P xs → AllByRecursion P ys → AllByRecursion P (xs ++ ys)
+pub all_append : {X : Type 0} (P : X → Type 0) (xs ys : List X) → AllByRecursion P xs
+    → AllByRecursion P ys → AllByRecursion P (xs ++ ys)
 all_append P [] ys h k = k
 all_append P (x ∷ xs) ys h k = (h.0, all_append P xs ys h.1 k)
 
 -- a chosen cell lies in the torus
-chosen_in : (torus : TorusNumbers) (prefer : Bool) (occupants : List (Option ℕ)) (parent word : ℕ) → IsCell torus parent → IsCell torus (chosen_cell torus prefer occupants parent word)
+chosen_in : (torus : TorusNumbers) (prefer : Bool) (occupants : List (Option ℕ)) (parent word : ℕ)
+    → IsCell torus parent → IsCell torus (chosen_cell torus prefer occupants parent word)
 unfolding chosen_cell
 chosen_in torus prefer occupants parent word h =
     let near = neighbours_in torus parent h in
     let free = all_filtered (IsCell torus) (is_free occupants) (neighbours_of torus parent) near in
     let first : IsCell torus 0 = omega (arith, h) in
     all_at (IsCell torus) (choices_of torus prefer occupants parent) _ 0 first
-    (all_or (IsCell torus) _ (filter (is_free occupants) (neighbours_of torus parent)) (neighbours_of torus parent) free near)
+    (all_or (IsCell torus) _ (filter (is_free occupants) (neighbours_of torus parent))
+    (neighbours_of torus parent) free near)
 
 -- in the torus, as a placing
 abbrev pub PlacedIn : TorusNumbers → Placing → Type 0
 PlacedIn torus placing = IsCell torus placing.cell
 
-placing_in : (torus : TorusNumbers) (season : Season) (board : Board) (parent : ℕ) → IsCell torus parent → PlacedIn torus (next_placing torus season board parent)
+placing_in : (torus : TorusNumbers) (season : Season) (board : Board) (parent : ℕ)
+    → IsCell torus parent → PlacedIn torus (next_placing torus season board parent)
 unfolding placing_of
-placing_in torus season board parent h = chosen_in torus season.prefer_empty board.occupants parent _ h
+placing_in torus season board parent h =
+    chosen_in torus season.prefer_empty board.occupants parent _ h
 
 -- the placings of a board once the newborns of these parents are placed
-placed_in : (torus : TorusNumbers) (season : Season) (board : Board) (parents : List ℕ) → AllByRecursion (IsCell torus) parents → AllByRecursion (PlacedIn torus) board.placings
+placed_in : (torus : TorusNumbers) (season : Season) (board : Board) (parents : List ℕ)
+    → AllByRecursion (IsCell torus) parents → AllByRecursion (PlacedIn torus) board.placings
     → AllByRecursion (PlacedIn torus) (fold (next_board torus season) board parents).placings
 unfolding next_board
 placed_in torus season board [] cells before = before
 placed_in torus season board (parent ∷ parents) cells before =
     placed_in torus season (next_board torus season board parent) parents cells.1
-    (all_append (PlacedIn torus) board.placings (next_placing torus season board parent ∷ []) before (placing_in torus season board parent cells.0, tt))
+    (all_append (PlacedIn torus) board.placings (next_placing torus season board parent ∷ []) before
+    (placing_in torus season board parent cells.0, tt))
 
-placed_number : (torus : TorusNumbers) (season : Season) (board : Board) (parents : List ℕ) → length (fold (next_board torus season) board parents).placings ≡ length board.placings + length parents
+placed_number : (torus : TorusNumbers) (season : Season) (board : Board) (parents : List ℕ)
+    → length (fold (next_board torus season) board parents).placings
+    ≡ length board.placings + length parents
 unfolding next_board
 placed_number torus season board [] = omega arith
 placed_number torus season board (parent ∷ parents) =
-    omega (arith, placed_number torus season (next_board torus season board parent) parents, length-append board.placings (next_placing torus season board parent ∷ []))
+    omega (
+      arith,
+      placed_number torus season (next_board torus season board parent) parents,
+      length-append board.placings (next_placing torus season board parent ∷ []),
+    )
 
-pub placements_in : (torus : TorusNumbers) (parents : List ℕ) (occupants : List (Option ℕ)) (season : Season) → AllByRecursion (IsCell torus) parents → AllByRecursion (PlacedIn torus) (placements_of torus parents occupants season).placings
+pub placements_in : (torus : TorusNumbers) (parents : List ℕ) (occupants : List (Option ℕ))
+    (season : Season) → AllByRecursion (IsCell torus) parents
+    → AllByRecursion (PlacedIn torus) (placements_of torus parents occupants season).placings
 unfolding placements_of
-placements_in torus parents occupants season cells = placed_in torus season (record { occupants = occupants; placings = []; parents = [] }) parents cells tt
+placements_in torus parents occupants season cells =
+    placed_in torus season (record { occupants = occupants; placings = []; parents = [] }) parents
+    cells tt
 
-pub placements_number : (torus : TorusNumbers) (parents : List ℕ) (occupants : List (Option ℕ)) (season : Season) → length (placements_of torus parents occupants season).placings ≡ length parents
+pub placements_number : (torus : TorusNumbers) (parents : List ℕ) (occupants : List (Option ℕ))
+    (season : Season) → length (placements_of torus parents occupants season).placings
+    ≡ length parents
 unfolding placements_of
 placements_number torus parents occupants season =
     let empty : Board = record { occupants = occupants; placings = []; parents = [] } in

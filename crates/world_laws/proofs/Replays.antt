@@ -13,12 +13,18 @@ use Rattle.world_laws.proofs.RunForms.{run_forms, text_is}
 
 -- what is read as a log is a good log's text
 pub record ReadLaw : Type 0 where
-  pub reads : (bytes : List ℕ) (lines : List Line) → Reads bytes lines ↔ ((lines_text lines ≡ bytes) × IsGoodLog lines)
+  pub reads : (bytes : List ℕ) (lines : List Line) → Reads bytes lines
+      ↔ ((lines_text lines ≡ bytes) × IsGoodLog lines)
 
 -- the law, for a configuration within its bounds
-pub replays_to_living : LifeLaws → ReadLaw → (config : ConfigValues) → IsConfig config → (n : ℕ) → n ≤ 4294967295 → ReplaysToLiving config n
+pub replays_to_living : LifeLaws → ReadLaw → (config : ConfigValues) → IsConfig config → (n : ℕ)
+    → n ≤ 4294967295 → ReplaysToLiving config n
 replays_to_living laws read config fit n h = record {
   lines = run_lines config n;
-  good = (read.reads (log_text config n) (run_lines config n)).1 (text_is config n, record { forms = run_forms laws config fit n h; order = run_whole laws config fit n });
+  good = (read.reads (log_text config n) (run_lines config n)).1 (
+    text_is config n,
+    record
+        { forms = run_forms laws config fit n h; order = run_whole laws config fit n },
+  );
   replays = run_replays laws config fit n;
 }

@@ -24,8 +24,13 @@ use Rattle.world_laws.proofs.Wholes.{updates_lines, run_lines, kept_after, run_a
 use Rattle.world_laws.proofs.FormLemmas.{letters_form, count_form}
 use Rattle.world_laws.proofs.Forms.{Forms, HasRoom, deaths_fit, births_fit, events_fit_forms}
 
-room_after : (scene next : Scene) (count deaths more : ℕ) → Goes scene next count deaths → HasRoom scene (count + more) → HasRoom next more
-room_after scene next count deaths more goes room = record { ids = omega (arith, goes.few, room.ids); early = omega (arith, goes.update, room.early) }
+room_after : (scene next : Scene) (count deaths more : ℕ) → Goes scene next count deaths
+    → HasRoom scene (count + more) → HasRoom next more
+room_after scene next count deaths more goes room =
+    record {
+      ids = omega (arith, goes.few, room.ids);
+      early = omega (arith, goes.update, room.early);
+    }
 
 room_less : (scene : Scene) (more less : ℕ) → less ≤ more → HasRoom scene more → HasRoom scene less
 room_less scene more less h room = record { ids = omega (arith, room.ids, h); early = room.early }
@@ -35,7 +40,8 @@ module _ (laws : LifeLaws) (config : ConfigValues) (fit : IsConfig config) where
   size = size_of config
 
   -- the lines of an update from the scene as its lives have ended
-  update_forms : (n : ℕ) (start : People) (w : World) (is : IsRun config n start w) → n < 4294967295 → length w.everyone + 65537000 ≤ 18446744073709551615 → Forms (update_lines config w)
+  update_forms : (n : ℕ) (start : People) (w : World) (is : IsRun config n start w) → n < 4294967295
+      → length w.everyone + 65537000 ≤ 18446744073709551615 → Forms (update_lines config w)
   unfolding update_lines lines_of_lives after_burials after_births last_scene after_events
   update_forms n start w is early few =
       let lives = lives_after config w in
@@ -51,20 +57,38 @@ module _ (laws : LifeLaws) (config : ConfigValues) (fit : IsConfig config) where
       let events_number : length events ≤ 1000 = events_few config fit born.update in
       let is_ended = scene_ended laws config fit n start w is in
       let is_buried = scene_deaths size start scene (deaths_of lives) is_ended in
-      let is_born = scene_births size start config buried (turns_of config buried births) is_buried in
+      let is_born =
+      scene_births size start config buried (turns_of config buried births) is_buried in
       let lawful = deliveries_lawful laws config fit n start w is in
-      let room : HasRoom scene (0 + (length births + 1000)) = record { ids = omega (arith, few, number); early = omega (arith, is.update, early) } in
-      let room_buried : HasRoom buried (length births + 1000) = room_after scene buried 0 (length (deaths_of lives)) (length births + 1000) (goes_deaths scene (deaths_of lives)) room in
-      let room_born : HasRoom born 1000 = room_after buried born (length births) (length births) 1000 (goes_births laws config fit size start buried births placings lawful) room_buried in
+      let room : HasRoom scene (0 + (length births + 1000)) =
+      record { ids = omega (arith, few, number); early = omega (arith, is.update, early) } in
+      let room_buried : HasRoom buried (length births + 1000) =
+      room_after scene buried 0 (length (deaths_of lives)) (length births + 1000)
+      (goes_deaths scene (deaths_of lives)) room in
+      let room_born : HasRoom born 1000 =
+      room_after buried born (length births) (length births) 1000
+      (goes_births laws config fit size start buried births placings lawful) room_buried in
       let goes = update_goes laws config fit n start w is in
-      let deaths = deaths_fit size start small scene (0 + (length births + 1000)) (deaths_of lives) is_ended room in
-      let births_forms = births_fit size start small config buried births placings is_buried (room_less buried (length births + 1000) (length births) (omega arith) room_buried) lawful (placed_lawful laws config fit n start w is buried) in
-      let events_forms = events_fit_forms start config fit born events is_born (room_less born 1000 (length events) events_number room_born) (events_fit config fit born.update) in
+      let deaths = deaths_fit size start small scene (0 + (length births + 1000))
+      (deaths_of lives) is_ended room in
+      let births_forms = births_fit size start small config buried births placings is_buried
+      (room_less buried (length births + 1000) (length births) (omega arith) room_buried) lawful
+      (placed_lawful laws config fit n start w is buried) in
+      let events_forms = events_fit_forms start config fit born events is_born
+      (room_less born 1000 (length events) events_number room_born)
+      (events_fit config fit born.update) in
       let is_last = scene_last size start config scene lives is_ended in
-      let counted = count_form last (length births) (goes.sound (sound_kept config _ 0 w.cells lives (lives_lawful laws config fit n start w is))) (omega (arith, is_last.sized, small)) (omega (arith, goes.update, is.update, early)) (omega (arith, number)) (omega (arith, goes.gone, number)) in
-      all_append HasForm (death_lines scene (deaths_of lives) ++ birth_lines config buried births ++ event_lines config born) _
-      (all_append HasForm (death_lines scene (deaths_of lives) ++ birth_lines config buried births) (event_lines config born)
-      (all_append HasForm (death_lines scene (deaths_of lives)) (birth_lines config buried births) deaths births_forms) events_forms) (counted, tt)
+      let counted = count_form last (length births)
+      (goes.sound (sound_kept config _ 0 w.cells lives
+      (lives_lawful laws config fit n start w is))) (omega (arith, is_last.sized, small))
+      (omega (arith, goes.update, is.update, early)) (omega (arith, number))
+      (omega (arith, goes.gone, number)) in
+      all_append HasForm (death_lines scene (deaths_of lives) ++ birth_lines config buried births
+      ++ event_lines config born) _
+      (all_append HasForm (death_lines scene (deaths_of lives) ++ birth_lines config buried births)
+      (event_lines config born)
+      (all_append HasForm (death_lines scene (deaths_of lives)) (birth_lines config buried births)
+      deaths births_forms) events_forms) (counted, tt)
 
   -- all who ever were in a world are few
   everyone_few : (n : ℕ) → length (world_after config n).everyone ≤ 1 + 65537000 * n
@@ -72,30 +96,50 @@ module _ (laws : LifeLaws) (config : ConfigValues) (fit : IsConfig config) where
   everyone_few zero = omega arith
   everyone_few (suc n) =
       let before = everyone_few n in
-      let come = few_come laws config fit n (kept_after config n) (world_after config n) (run_after laws config fit n) in
+      let come = few_come laws config fit n (kept_after config n) (world_after config n)
+      (run_after laws config fit n) in
       omega (arith, before, come)
 
   updates_forms : (n : ℕ) → n ≤ 4294967295 → Forms (updates_lines config n)
   updates_forms zero h = tt
   updates_forms (suc n) h =
-      all_append HasForm (updates_lines config n) (update_lines config (world_after config n)) (updates_forms n (omega (arith, h)))
-      (update_forms n (kept_after config n) (world_after config n) (run_after laws config fit n) (omega (arith, h)) (omega (arith, everyone_few n, h)))
+      all_append HasForm (updates_lines config n) (update_lines config (world_after config n))
+      (updates_forms n (omega (arith, h)))
+      (update_forms n (kept_after config n) (world_after config n) (run_after laws config fit n)
+      (omega (arith, h)) (omega (arith, everyone_few n, h)))
 
   -- each line of a run
   pub run_forms : (n : ℕ) → n ≤ 4294967295 → Forms (run_lines config n)
   run_forms n h =
       let small = few_cells config fit in
-      let head : HasForm (head_line config) =
-      ((omega arith, omega arith), ((fit.columns, fit.few_columns), ((fit.rows, fit.few_rows), ((omega arith, omega (arith, fit.founder, small)), letters_form config.ancestor (genome_fits config fit config.ancestor fit.long_enough fit.short_enough))))) in
-      (head, all_append HasForm (updates_lines config n) (End n ∷ []) (updates_forms n h) ((omega arith, h), tt))
+      let head : HasForm (head_line config) = (
+        (omega arith, omega arith),
+        (
+          (fit.columns, fit.few_columns),
+          (
+            (fit.rows, fit.few_rows),
+            (
+              (omega arith, omega (arith, fit.founder, small)),
+              letters_form config.ancestor
+                  (genome_fits config fit config.ancestor fit.long_enough fit.short_enough),
+            ),
+          ),
+        ),
+      ) in (
+        head,
+        all_append HasForm (updates_lines config n) (End n ∷ []) (updates_forms n h)
+            ((omega arith, h), tt),
+      )
 
 -- the texts of updates are those of their lines
-updates_are : (config : ConfigValues) (n : ℕ) → lines_text (updates_lines config n) ≡ updates_text config n
+updates_are : (config : ConfigValues) (n : ℕ)
+    → lines_text (updates_lines config n) ≡ updates_text config n
 unfolding update_text
 updates_are config zero = refl
 updates_are config (suc n) =
     flat_map-append line_text (updates_lines config n) (update_lines config (world_after config n))
-    ∙ ap (λ (l : List ℕ). l ++ lines_text (update_lines config (world_after config n))) (updates_are config n)
+    ∙ ap (λ (l : List ℕ). l ++ lines_text (update_lines config (world_after config n)))
+    (updates_are config n)
 
 -- the text of a run's lines is its log
 pub text_is : (config : ConfigValues) (n : ℕ) → lines_text (run_lines config n) ≡ log_text config n

@@ -29,18 +29,24 @@ use Rattle.world_laws.proofs.FolkLemmas.{IsDelivery, left_by, folk_kept, sound_k
 use Rattle.world_laws.proofs.Configs.{IsConfig, filter_few, size_of, FitsWhat, FitsPlaced, events_fit, events_few, few_cells, rules_are}
 use Rattle.world_laws.proofs.Sounds.{Goes, goes_on, goes_more, goes_deaths, goes_births, goes_events}
 
-cells_in : (config : ConfigValues) (size : ℕ) (start : People) (births : List Delivery) → AllByRecursion (IsDelivery config size start) births → AllByRecursion (λ cell. cell < size) (map (λ b. b.cell) births)
+cells_in : (config : ConfigValues) (size : ℕ) (start : People) (births : List Delivery)
+    → AllByRecursion (IsDelivery config size start) births
+    → AllByRecursion (λ cell. cell < size) (map (λ b. b.cell) births)
 cells_in config size start [] are = tt
-cells_in config size start (b ∷ births) are = (are.0.within, cells_in config size start births are.1)
+cells_in config size start (b ∷ births) are =
+    (are.0.within, cells_in config size start births are.1)
 
-what_is : (config : ConfigValues) (what : WhatValue) → FitsWhat config what → IsWhat (size_of config) what
+what_is : (config : ConfigValues) (what : WhatValue) → FitsWhat config what
+    → IsWhat (size_of config) what
 what_is config (inject cell letters) fits = fits.0
 what_is config (clear first last) fits = tt
 what_is config (rate name ppm) fits = tt
 
-events_are : (config : ConfigValues) (events : List (ℕ × EventValue)) → AllByRecursion (FitsPlaced config) events → AllByRecursion (IsEvent (size_of config)) events
+pub events_are : (config : ConfigValues) (events : List (ℕ × EventValue))
+    → AllByRecursion (FitsPlaced config) events → AllByRecursion (IsEvent (size_of config)) events
 events_are config [] fits = tt
-events_are config (event ∷ events) fits = (what_is config event.1.what fits.0, events_are config events fits.1)
+events_are config (event ∷ events) fits =
+    (what_is config event.1.what fits.0, events_are config events fits.1)
 
 -- a world after so many updates, and what a reader keeps of it
 pub record IsRun (config : ConfigValues) (n : ℕ) (start : People) (w : World) : Type 0 where
@@ -48,7 +54,8 @@ pub record IsRun (config : ConfigValues) (n : ℕ) (start : People) (w : World) 
   pub sound : Each IsSoundOrganism w.cells
   pub update : w.update ≡ n
 
-module _ (laws : LifeLaws) (config : ConfigValues) (fit : IsConfig config) (n : ℕ) (start : People) (w : World) (is : IsRun config n start w) where
+module _ (laws : LifeLaws) (config : ConfigValues) (fit : IsConfig config) (n : ℕ) (start : People)
+    (w : World) (is : IsRun config n start w) where
   pub lives_lawful : AreLives config (slice_at config w.cells) 0 w.cells (lives_after config w)
   lives_lawful = lives_are laws config (rules_are config fit) (w.update + 1) w.cells is.sound
 
@@ -57,50 +64,67 @@ module _ (laws : LifeLaws) (config : ConfigValues) (fit : IsConfig config) (n : 
   ended = after_lives (w.update + 1) w.everyone (lives_after config w)
 
   pub scene_ended : IsScene (size_of config) start ended
-  scene_ended = scene_begun (size_of config) start w (lives_after config w) is.world (folk_kept config (slice_at config w.cells) 0 w.cells (lives_after config w) lives_lawful)
+  scene_ended = scene_begun (size_of config) start w (lives_after config w) is.world
+      (folk_kept config (slice_at config w.cells) 0 w.cells (lives_after config w) lives_lawful)
 
-  pub deliveries_lawful : AllByRecursion (IsDelivery config (size_of config) start) (births_of (lives_after config w))
-  deliveries_lawful = births_lawful config (size_of config) start (slice_at config w.cells) w.cells (lives_after config w) lives_lawful is.world.sized is.world.known
+  pub deliveries_lawful : AllByRecursion (IsDelivery config (size_of config) start)
+      (births_of (lives_after config w))
+  deliveries_lawful = births_lawful config (size_of config) start (slice_at config w.cells) w.cells
+      (lives_after config w) lives_lawful is.world.sized is.world.known
 
-  pub placed_lawful : (scene : Scene) → AllByRecursion (λ (p : Placing). p.cell < size_of config) (placings_of config scene (births_of (lives_after config w)))
+  pub placed_lawful : (scene : Scene)
+      → AllByRecursion (λ (p : Placing). p.cell < size_of config)
+      (placings_of config scene (births_of (lives_after config w)))
   unfolding placings_of
   placed_lawful scene =
       let births = births_of (lives_after config w) in
       let cells = cells_in config (size_of config) start births deliveries_lawful in
-      placements_in (torus_of config) (map (λ b. b.cell) births) (ids_of scene.cells) (season_at config scene.update (next_id scene)) cells
+      placements_in (torus_of config) (map (λ b. b.cell) births) (ids_of scene.cells)
+      (season_at config scene.update (next_id scene)) cells
 
-  pub placed_all : (scene : Scene) → length (placings_of config scene (births_of (lives_after config w))) ≡ length (births_of (lives_after config w))
+  pub placed_all : (scene : Scene)
+      → length (placings_of config scene (births_of (lives_after config w)))
+      ≡ length (births_of (lives_after config w))
   unfolding placings_of
   placed_all scene =
       let births = births_of (lives_after config w) in
-      placements_number (torus_of config) (map (λ b. b.cell) births) (ids_of scene.cells) (season_at config scene.update (next_id scene)) ∙ length-map births (λ b. b.cell)
+      placements_number (torus_of config) (map (λ b. b.cell) births) (ids_of scene.cells)
+      (season_at config scene.update (next_id scene)) ∙ length-map births (λ b. b.cell)
 
   pub turns_are : AreTurns (size_of config) start config ended (lives_after config w) scene_ended
   turns_are =
       let births = births_of (lives_after config w) in
       let buried = after_burials ended (lives_after config w) in
       record {
-        number = omega (arith, length-zip births (placings_of config buried births), placed_all buried);
-        lawful = turns_lawful config (size_of config) start births (placings_of config buried births) deliveries_lawful (placed_lawful buried);
+        number =
+            omega (arith, length-zip births (placings_of config buried births), placed_all buried);
+        lawful = turns_lawful config (size_of config) start births
+            (placings_of config buried births) deliveries_lawful (placed_lawful buried);
       }
 
   abbrev last : Scene
   last = last_scene config ended (lives_after config w)
 
   -- the lines of the next update
-  pub update_tells : Tells (Within (between start (w.update + 1) w.cells)) (seen_in w.cells w.everyone) (update_lines config w)
-      (Within (between (people_after start (next_scene config w)) ((next_world config w).update + 1) (next_world config w).cells)) (seen_in (next_world config w).cells (next_world config w).everyone)
+  pub update_tells : Tells (Within (between start (w.update + 1) w.cells))
+      (seen_in w.cells w.everyone) (update_lines config w)
+      (Within (between (people_after start (next_scene config w)) ((next_world config w).update + 1)
+      (next_world config w).cells))
+      (seen_in (next_world config w).cells (next_world config w).everyone)
   unfolding update_lines next_world next_scene scene_of_lives
   update_tells =
       let size = size_of config in
       let lives = lives_after config w in
       let folk = folk_kept config (slice_at config w.cells) 0 w.cells lives lives_lawful in
       let lines = lines_of_lives config ended lives in
-      let told = lives_tell size start config ended lives scene_ended turns_are (λ update. events_are config (events_at config update) (events_fit config fit update)) in
+      let told = lives_tell size start config ended lives scene_ended turns_are
+      (λ update. events_are config (events_at config update) (events_fit config fit update)) in
       let after : Place = Within (between (people_after start last) (last.update + 1) last.cells) in
       let later : Seen = seen_in last.cells last.everyone in
-      subst (λ (s : Seen). Tells (Within (between start (w.update + 1) w.cells)) s lines after later) (seen_begun size start w lives is.world folk)
-      (subst (λ r. Tells (Within r) (seen_in (left_by lives) w.everyone) lines after later) (begun_is size start w lives is.world folk) told)
+      subst (λ (s : Seen). Tells (Within (between start (w.update + 1) w.cells)) s lines after
+      later) (seen_begun size start w lives is.world folk)
+      (subst (λ r. Tells (Within r) (seen_in (left_by lives) w.everyone) lines after later)
+      (begun_is size start w lives is.world folk) told)
 
   -- few die of age
   pub few_deaths : length (deaths_of (lives_after config w)) ≤ size_of config
@@ -109,11 +133,20 @@ module _ (laws : LifeLaws) (config : ConfigValues) (fit : IsConfig config) (n : 
       let lives = lives_after config w in
       let test = λ (cell : ℕ). (slice_index_or lives cell no_life).died in
       let run = life_at config (w.update + 1) w.cells in
-      let number : length lives ≡ length w.cells = length-map (range_with_len 0 (length w.cells)) run ∙ length-range_with_len 0 (length w.cells) in
-      omega (arith, filter_few test (range_with_len 0 (length lives)), length-range_with_len 0 (length lives), number, is.world.sized)
+      let number : length lives ≡ length w.cells =
+      length-map (range_with_len 0 (length w.cells)) run
+      ∙ length-range_with_len 0 (length w.cells) in
+      omega (
+        arith,
+        filter_few test (range_with_len 0 (length lives)),
+        length-range_with_len 0 (length lives),
+        number,
+        is.world.sized,
+      )
 
   -- how an update goes
-  pub update_goes : Goes ended last (length (births_of (lives_after config w)) + 1000) (65536 + length (births_of (lives_after config w)) + 65536000)
+  pub update_goes : Goes ended last (length (births_of (lives_after config w)) + 1000)
+      (65536 + length (births_of (lives_after config w)) + 65536000)
   unfolding last_scene after_burials after_births after_events
   update_goes =
       let lives = lives_after config w in
@@ -121,20 +154,29 @@ module _ (laws : LifeLaws) (config : ConfigValues) (fit : IsConfig config) (n : 
       let buried = after_burials ended lives in
       let born = after_births config buried births in
       let events = events_at config born.update in
-      goes_more (0 + length births + length events) (length births + 1000) (length (deaths_of lives) + length births + 65536 * length events) (65536 + length births + 65536000)
-      (goes_on (goes_on (goes_deaths ended (deaths_of lives)) (goes_births laws config fit (size_of config) start buried births (placings_of config buried births) deliveries_lawful))
+      goes_more (0 + length births + length events) (length births + 1000)
+      (length (deaths_of lives) + length births + 65536 * length events)
+      (65536 + length births + 65536000)
+      (goes_on (goes_on (goes_deaths ended (deaths_of lives))
+      (goes_births laws config fit (size_of config) start buried births
+      (placings_of config buried births) deliveries_lawful))
       (goes_events laws config fit born events (events_fit config fit born.update)))
-      (let few = events_few config fit born.update in omega arith) (let few = events_few config fit born.update in omega (arith, few_deaths, few_cells config fit))
+      (let few = events_few config fit born.update in omega arith)
+      (let few = events_few config fit born.update in
+      omega (arith, few_deaths, few_cells config fit))
 
   -- the next world
-  pub run_next : IsRun config (suc n) (people_after start (next_scene config w)) (next_world config w)
+  pub run_next : IsRun config (suc n) (people_after start (next_scene config w))
+      (next_world config w)
   unfolding next_world next_scene scene_of_lives
   run_next =
       let lives = lives_after config w in
       let goes = update_goes in
       record {
-        world = world_left (size_of config) start last (scene_last (size_of config) start config ended lives scene_ended);
-        sound = goes.sound (sound_kept config (slice_at config w.cells) 0 w.cells lives lives_lawful);
+        world = world_left (size_of config) start last
+            (scene_last (size_of config) start config ended lives scene_ended);
+        sound =
+            goes.sound (sound_kept config (slice_at config w.cells) 0 w.cells lives lives_lawful);
         update = omega (arith, goes.update, is.update);
       }
 
@@ -147,8 +189,10 @@ module _ (laws : LifeLaws) (config : ConfigValues) (fit : IsConfig config) (n : 
       let merits = map merit_in w.cells in
       let entries = entries_few (slices_of merits config.average_slices) (length w.cells) in
       let all = laws.slices merits config.average_slices in
-      let cells : length merits ≤ 65536 = omega (arith, length-map w.cells merit_in, is.world.sized, few_cells config fit) in
-      let bound : config.average_slices * length merits ≤ 1000 * 65536 = mul-le-mul fit.average cells in
+      let cells : length merits ≤ 65536 =
+      omega (arith, length-map w.cells merit_in, is.world.sized, few_cells config fit) in
+      let bound : config.average_slices * length merits ≤ 1000 * 65536 =
+      mul-le-mul fit.average cells in
       omega (arith, few, entries, all, bound)
 
   -- and few come in it

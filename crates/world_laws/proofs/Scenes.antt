@@ -19,15 +19,18 @@ Stands cells cell o = slice_get cells cell ≡ Some (Some o)
 
 -- the genome of each who stands in a cell is at its id
 abbrev pub Known : People → List (Option Occupant) → Type 0
-Known genomes cells = (cell : ℕ) (o : Occupant) → Stands cells cell o → slice_get genomes o.id ≡ Some (Some o.organism.genome)
+Known genomes cells = (cell : ℕ) (o : Occupant) → Stands cells cell o
+    → slice_get genomes o.id ≡ Some (Some o.organism.genome)
 
 -- an id stands in one cell at most
 abbrev pub Apart : List (Option Occupant) → Type 0
-Apart cells = (cell other : ℕ) (o x : Occupant) → Stands cells cell o → Stands cells other x → o.id ≡ x.id → cell ≡ other
+Apart cells = (cell other : ℕ) (o x : Occupant) → Stands cells cell o → Stands cells other x
+    → o.id ≡ x.id → cell ≡ other
 
 -- who has gone stands nowhere
 abbrev pub Gone : List ℕ → List (Option Occupant) → Type 0
-Gone gone cells = (cell place : ℕ) (o : Occupant) → Stands cells cell o → slice_get gone place ≡ Some o.id → ⊥
+Gone gone cells =
+    (cell place : ℕ) (o : Occupant) → Stands cells cell o → slice_get gone place ≡ Some o.id → ⊥
 
 -- ids below a number
 abbrev pub Below : List ℕ → ℕ → Type 0
@@ -35,7 +38,8 @@ Below ids end = (place id : ℕ) → slice_get ids place ≡ Some id → id < en
 
 -- the genomes by id are those of the links
 abbrev pub Agree : People → List Link → Type 0
-Agree genomes everyone = (id : ℕ) (letters : List Letter) → slice_get genomes id ≡ Some (Some letters) → slice_get (genomes_of everyone) id ≡ Some letters
+Agree genomes everyone = (id : ℕ) (letters : List Letter)
+    → slice_get genomes id ≡ Some (Some letters) → slice_get (genomes_of everyone) id ≡ Some letters
 
 -- what holds of each organism
 abbrev pub Each : (OrganismState → Type 0) → List (Option Occupant) → Type 0
@@ -53,67 +57,107 @@ pub record IsScene (size : ℕ) (start : People) (scene : Scene) : Type 0 where
   pub agree : Agree start scene.everyone
 
 -- where somebody stands once a cell is empty
-pub stands_before : (cells : List (Option Occupant)) (cell at : ℕ) (o : Occupant) → Stands (slice_set cells at None) cell o → Stands cells cell o × (cell ≢ at)
+pub stands_before : (cells : List (Option Occupant)) (cell at : ℕ) (o : Occupant)
+    → Stands (slice_set cells at None) cell o → Stands cells cell o × (cell ≢ at)
 stands_before cells cell at o h = elim (cases_eq cell at) [
   | inl same ↦
-      let here : slice_get (slice_set cells at None) at ≡ Some (Some o) = subst (λ n. slice_get (slice_set cells at None) n ≡ Some (Some o)) same h in
-      let within : at < length cells = omega (arith, slice_get_within (slice_set cells at None) at (Some o) here, length-set cells at None) in
+      let here : slice_get (slice_set cells at None) at ≡ Some (Some o) =
+      subst (λ n. slice_get (slice_set cells at None) n ≡ Some (Some o)) same h in
+      let within : at < length cells =
+      omega (
+        arith,
+        slice_get_within (slice_set cells at None) at (Some o) here,
+        length-set cells at None,
+      ) in
       let e = get_written cells at None within in absurd cc
   | inr other ↦ (sym (get_elsewhere cells at cell None other) ∙ h, other)
 ]
 
 -- where somebody stands once somebody new does
-pub stands_with : (cells : List (Option Occupant)) (cell at : ℕ) (new o : Occupant) → Stands (slice_set cells at (Some new)) cell o → ((cell ≡ at) × (new ≡ o)) ⊎ (Stands cells cell o × (cell ≢ at))
+pub stands_with : (cells : List (Option Occupant)) (cell at : ℕ) (new o : Occupant)
+    → Stands (slice_set cells at (Some new)) cell o → ((cell ≡ at) × (new ≡ o))
+    ⊎ (Stands cells cell o × (cell ≢ at))
 stands_with cells cell at new o h = elim (cases_eq cell at) [
   | inl same ↦
-      let here : slice_get (slice_set cells at (Some new)) at ≡ Some (Some o) = subst (λ n. slice_get (slice_set cells at (Some new)) n ≡ Some (Some o)) same h in
-      let within : at < length cells = omega (arith, slice_get_within (slice_set cells at (Some new)) at (Some o) here, length-set cells at (Some new)) in
-      let e : slice_get (slice_set cells at (Some new)) at ≡ Some (Some new) = get_written cells at (Some new) within in
+      let here : slice_get (slice_set cells at (Some new)) at ≡ Some (Some o) =
+      subst (λ n. slice_get (slice_set cells at (Some new)) n ≡ Some (Some o)) same h in
+      let within : at < length cells =
+      omega (
+        arith,
+        slice_get_within (slice_set cells at (Some new)) at (Some o) here,
+        length-set cells at (Some new),
+      ) in
+      let e : slice_get (slice_set cells at (Some new)) at ≡ Some (Some new) =
+      get_written cells at (Some new) within in
       let is : new ≡ o = cc in
       inl (same, is)
   | inr other ↦ inr (sym (get_elsewhere cells at cell (Some new) other) ∙ h, other)
 ]
 
-known_empty : (genomes : People) (cells : List (Option Occupant)) (at : ℕ) → Known genomes cells → Known genomes (slice_set cells at None)
+known_empty : (genomes : People) (cells : List (Option Occupant)) (at : ℕ) → Known genomes cells
+    → Known genomes (slice_set cells at None)
 known_empty genomes cells at known cell o h = known cell o (stands_before cells cell at o h).0
 
-known_new : (genomes : People) (cells : List (Option Occupant)) (at : ℕ) (new : Occupant) → Known genomes cells → new.id ≡ length genomes → Known (genomes ++ Some new.organism.genome ∷ []) (slice_set cells at (Some new))
+known_new : (genomes : People) (cells : List (Option Occupant)) (at : ℕ) (new : Occupant)
+    → Known genomes cells → new.id ≡ length genomes
+    → Known (genomes ++ Some new.organism.genome ∷ []) (slice_set cells at (Some new))
 known_new genomes cells at new known is cell o h = elim (stands_with cells cell at new o h) [
   | inl here ↦
-      let seam : slice_get (genomes ++ Some new.organism.genome ∷ []) new.id ≡ Some (Some new.organism.genome) = rw is (get_seam genomes [] (Some new.organism.genome)) in
-      subst (λ (x : Occupant). slice_get (genomes ++ Some new.organism.genome ∷ []) x.id ≡ Some (Some x.organism.genome)) here.1 seam
-  | inr there ↦ get_more genomes (Some new.organism.genome ∷ []) o.id (Some o.organism.genome) (known cell o there.0)
+      let seam : slice_get (genomes ++ Some new.organism.genome ∷ []) new.id
+      ≡ Some (Some new.organism.genome) =
+      rw is (get_seam genomes [] (Some new.organism.genome)) in
+      subst (λ (x : Occupant). slice_get (genomes ++ Some new.organism.genome ∷ []) x.id
+      ≡ Some (Some x.organism.genome)) here.1 seam
+  | inr there ↦ get_more genomes (Some new.organism.genome ∷ []) o.id (Some o.organism.genome)
+      (known cell o there.0)
 ]
 
 -- an id that stands is below the number of genomes
-pub id_below : (genomes : People) (cells : List (Option Occupant)) (cell : ℕ) (o : Occupant) → Known genomes cells → Stands cells cell o → o.id < length genomes
-id_below genomes cells cell o known h = slice_get_within genomes o.id (Some o.organism.genome) (known cell o h)
+pub id_below : (genomes : People) (cells : List (Option Occupant)) (cell : ℕ) (o : Occupant)
+    → Known genomes cells → Stands cells cell o → o.id < length genomes
+id_below genomes cells cell o known h =
+    slice_get_within genomes o.id (Some o.organism.genome) (known cell o h)
 
 -- the id in a cell is of somebody who stands there
-pub who_stands : (cells : List (Option Occupant)) (cell id : ℕ) → id_at cells cell ≡ Some id → (o : Occupant) × Stands cells cell o × (o.id ≡ id)
+pub who_stands : (cells : List (Option Occupant)) (cell id : ℕ) → id_at cells cell ≡ Some id
+    → (o : Occupant) × Stands cells cell o × (o.id ≡ id)
 who_stands cells cell id h = found (slice_index_or cells cell None) refl h
   where
-    found : (slot : Option Occupant) → slice_index_or cells cell None ≡ slot → id_of slot ≡ Some id → (o : Occupant) × Stands cells cell o × (o.id ≡ id)
+    found : (slot : Option Occupant) → slice_index_or cells cell None ≡ slot → id_of slot ≡ Some id
+        → (o : Occupant) × Stands cells cell o × (o.id ≡ id)
     found None e f = absurd cc
     found (Some o) e f = (o, got_some cells cell o e, cc)
 
 -- the genomes are as many as the ids
-pub people_number : (start : People) (everyone : List Link) → length start ≤ length everyone → length (people_in start everyone) ≡ length everyone
+pub people_number : (start : People) (everyone : List Link) → length start ≤ length everyone
+    → length (people_in start everyone) ≡ length everyone
 people_number start everyone h =
     let tail = drop (length start) everyone in
-    omega (arith, h, length-append start (map written tail), length-map tail written, length-drop (length start) everyone)
+    omega (
+      arith,
+      h,
+      length-append start (map written tail),
+      length-map tail written,
+      length-drop (length start) everyone,
+    )
 
 -- the genomes with somebody new
-pub people_grown : (start : People) (everyone : List Link) (link : Link) → length start ≤ length everyone → people_in start (everyone ++ link ∷ []) ≡ people_in start everyone ++ Some link.genome ∷ []
+pub people_grown : (start : People) (everyone : List Link) (link : Link)
+    → length start ≤ length everyone
+    → people_in start (everyone ++ link ∷ []) ≡ people_in start everyone ++ Some link.genome ∷ []
 people_grown start everyone link h =
     let tail = drop (length start) everyone in
-    ap (λ (l : List Link). start ++ map written l) (drop-append-le (length start) everyone (link ∷ []) h)
+    ap (λ (l : List Link). start ++ map written l)
+    (drop-append-le (length start) everyone (link ∷ []) h)
     ∙ ap (λ (l : People). start ++ l) (map-append written tail (link ∷ []))
     ∙ sym (append_assoc start (map written tail) (Some link.genome ∷ []))
 
 -- who has gone with one more
-gone_more : (gone : List ℕ) (slot : Option ℕ) (place id : ℕ) → slice_get (gone ++ option_to_list slot) place ≡ Some id → (slice_get gone place ≡ Some id) ⊎ (slot ≡ Some id)
-gone_more gone None place id h = inl (subst (λ (l : List ℕ). slice_get l place ≡ Some id) (append-nil gone) h)
+pub gone_more : (gone : List ℕ) (slot : Option ℕ) (place id : ℕ)
+    → slice_get (gone ++ option_to_list slot) place ≡ Some id → (slice_get gone place ≡ Some id)
+    ⊎ (slot ≡ Some id)
+gone_more gone None place id h =
+    inl (subst (λ (l : List ℕ). slice_get l place ≡ Some id) (append-nil gone) h)
 gone_more gone (Some x) place id h = elim (get_last gone x place id h) [
   | inl before ↦ inl before
   | inr last ↦ inr (ap Some last)
@@ -121,10 +165,16 @@ gone_more gone (Some x) place id h = elim (get_last gone x place id h) [
 
 module _ (size : ℕ) (start : People) (scene : Scene) (is : IsScene size start scene) where
   -- ids in cells are below the next id
-  pub id_small : (cell : ℕ) (o : Occupant) → Stands scene.cells cell o → o.id < length scene.everyone
-  id_small cell o h = omega (arith, id_below (map written scene.everyone) scene.cells cell o is.kept h, length-map scene.everyone written)
+  pub id_small : (cell : ℕ) (o : Occupant) → Stands scene.cells cell o
+      → o.id < length scene.everyone
+  id_small cell o h = omega (
+    arith,
+    id_below (map written scene.everyone) scene.cells cell o is.kept h,
+    length-map scene.everyone written,
+  )
 
-  below_more : (cell : ℕ) → Below (scene.gone ++ option_to_list (standing_at scene cell)) (length scene.everyone)
+  below_more : (cell : ℕ) → Below (scene.gone ++ option_to_list (standing_at scene cell))
+      (length scene.everyone)
   below_more cell place id h = elim (gone_more scene.gone (standing_at scene cell) place id h) [
     | inl before ↦ is.below place id before
     | inr last ↦
@@ -140,7 +190,8 @@ module _ (size : ℕ) (start : People) (scene : Scene) (is : IsScene size start 
     grown = is.grown;
     known = known_empty (people_in start scene.everyone) scene.cells at is.known;
     kept = known_empty (map written scene.everyone) scene.cells at is.kept;
-    apart = λ cell other o x h k e. is.apart cell other o x (stands_before scene.cells cell at o h).0 (stands_before scene.cells other at x k).0 e;
+    apart = λ cell other o x h k e. is.apart cell other o x
+        (stands_before scene.cells cell at o h).0 (stands_before scene.cells other at x k).0 e;
     gone = λ cell place o h g.
         let stood = stands_before scene.cells cell at o h in
         elim (gone_more scene.gone (standing_at scene at) place o.id g) [
@@ -154,22 +205,35 @@ module _ (size : ℕ) (start : People) (scene : Scene) (is : IsScene size start 
   }
 
   -- so does a newcomer with the next id
-  pub scene_newcomer : (link : Link) (organism : OrganismState) → link.id ≡ length scene.everyone → organism.genome ≡ link.genome → IsScene size start (with_newcomer scene link organism)
+  pub scene_newcomer : (link : Link) (organism : OrganismState) → link.id ≡ length scene.everyone
+      → organism.genome ≡ link.genome → IsScene size start (with_newcomer scene link organism)
   unfolding with_newcomer
   scene_newcomer link organism is-next same =
       let new : Occupant = record { id = link.id; organism = organism } in
-      let number : length (people_in start scene.everyone) ≡ length scene.everyone = people_number start scene.everyone is.grown in
-      let grown : length (scene.everyone ++ link ∷ []) ≡ length scene.everyone + 1 = length-append scene.everyone (link ∷ []) in
-      let before : (cell : ℕ) (o : Occupant) → Stands scene.cells cell o → o.id ≡ link.id → ⊥ = λ cell o h e. omega (arith, id_small cell o h, e, is-next) in
+      let number : length (people_in start scene.everyone) ≡ length scene.everyone =
+      people_number start scene.everyone is.grown in
+      let grown : length (scene.everyone ++ link ∷ []) ≡ length scene.everyone + 1 =
+      length-append scene.everyone (link ∷ []) in
+      let before : (cell : ℕ) (o : Occupant) → Stands scene.cells cell o → o.id ≡ link.id → ⊥ =
+      λ cell o h e. omega (arith, id_small cell o h, e, is-next) in
       record {
         sized = length-set scene.cells link.cell (Some new) ∙ is.sized;
         grown = omega (arith, is.grown, grown);
-        known = rw (people_grown start scene.everyone link is.grown) (subst (λ (g : List Letter). Known (people_in start scene.everyone ++ Some g ∷ []) (slice_set scene.cells link.cell (Some new))) same (known_new (people_in start scene.everyone) scene.cells link.cell new is.known (is-next ∙ sym number)));
-        kept = rw (map-append written scene.everyone (link ∷ [])) (subst (λ (g : List Letter). Known (map written scene.everyone ++ Some g ∷ []) (slice_set scene.cells link.cell (Some new))) same (known_new (map written scene.everyone) scene.cells link.cell new is.kept (is-next ∙ sym (length-map scene.everyone written))));
+        known = rw (people_grown start scene.everyone link is.grown)
+            (subst (λ (g : List Letter). Known (people_in start scene.everyone ++ Some g ∷ [])
+            (slice_set scene.cells link.cell (Some new))) same
+            (known_new (people_in start scene.everyone) scene.cells link.cell new is.known
+            (is-next ∙ sym number)));
+        kept = rw (map-append written scene.everyone (link ∷ []))
+            (subst (λ (g : List Letter). Known (map written scene.everyone ++ Some g ∷ [])
+            (slice_set scene.cells link.cell (Some new))) same
+            (known_new (map written scene.everyone) scene.cells link.cell new is.kept
+            (is-next ∙ sym (length-map scene.everyone written))));
         apart = λ cell other o x h k e. elim (stands_with scene.cells cell link.cell new o h) [
           | inl here ↦ elim (stands_with scene.cells other link.cell new x k) [
             | inl too ↦ here.0 ∙ sym too.0
-            | inr there ↦ absurd (before other x there.0 (sym e ∙ sym (ap (λ (y : Occupant). y.id) here.1)))
+            | inr there ↦ absurd (before other x there.0
+                (sym e ∙ sym (ap (λ (y : Occupant). y.id) here.1)))
           ]
           | inr there ↦ elim (stands_with scene.cells other link.cell new x k) [
             | inl too ↦ absurd (before cell o there.0 (e ∙ sym (ap (λ (y : Occupant). y.id) too.1)))
@@ -188,17 +252,24 @@ module _ (size : ℕ) (start : People) (scene : Scene) (is : IsScene size start 
           ]
         ];
         below = λ place id h. omega (arith, below_more link.cell place id h, grown);
-        agree = λ id letters h. rw (map-append (λ (l : Link). l.genome) scene.everyone (link ∷ [])) (get_more (genomes_of scene.everyone) (link.genome ∷ []) id letters (is.agree id letters h));
+        agree = λ id letters h. rw (map-append (λ (l : Link). l.genome) scene.everyone (link ∷ []))
+            (get_more (genomes_of scene.everyone) (link.genome ∷ []) id letters
+            (is.agree id letters h));
       }
 
 -- where nobody stands, nobody dies
-pub no_death : (scene : Scene) (cell : ℕ) → standing_at scene cell ≡ None → with_death scene cell ≡ scene
+pub no_death : (scene : Scene) (cell : ℕ) → standing_at scene cell ≡ None
+    → with_death scene cell ≡ scene
 unfolding with_death
 no_death scene cell h =
     let empty : (slot : Option Occupant) → id_of slot ≡ None → slot ≡ None = nobody in
-    let cells : slice_set scene.cells cell None ≡ scene.cells = set_nothing scene.cells cell (empty (slice_index_or scene.cells cell None) h) in
-    let gone : scene.gone ++ option_to_list (standing_at scene cell) ≡ scene.gone = ap (λ s. scene.gone ++ option_to_list s) h ∙ append-nil scene.gone in
-    ap (λ (l : List (Option Occupant)). record scene { cells = l; gone = scene.gone ++ option_to_list (standing_at scene cell) }) cells
+    let cells : slice_set scene.cells cell None ≡ scene.cells =
+    set_nothing scene.cells cell (empty (slice_index_or scene.cells cell None) h) in
+    let gone : scene.gone ++ option_to_list (standing_at scene cell) ≡ scene.gone =
+    ap (λ s. scene.gone ++ option_to_list s) h ∙ append-nil scene.gone in
+    ap (λ (l : List (Option Occupant)).
+    record scene { cells = l; gone = scene.gone ++ option_to_list (standing_at scene cell) })
+    cells
     ∙ ap (λ (l : List ℕ). record scene { gone = l }) gone
   where
     nobody : (slot : Option Occupant) → id_of slot ≡ None → slot ≡ None

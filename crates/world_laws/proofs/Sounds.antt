@@ -42,9 +42,16 @@ goes_on {a} {b} {c} {m} {n} {k} {l} first second = record {
 }
 
 pub goes_more : {a b : Scene} (m n k l : ℕ) → Goes a b m k → m ≤ n → k ≤ l → Goes a b n l
-goes_more m n k l goes h i = record { sound = goes.sound; few = omega (arith, goes.few, h); gone = omega (arith, goes.gone, i); update = goes.update }
+goes_more m n k l goes h i =
+    record {
+      sound = goes.sound;
+      few = omega (arith, goes.few, h);
+      gone = omega (arith, goes.gone, i);
+      update = goes.update;
+    }
 
-gone_one : (gone : List ℕ) (slot : Option ℕ) → length (gone ++ option_to_list slot) ≤ length gone + 1
+gone_one : (gone : List ℕ) (slot : Option ℕ)
+    → length (gone ++ option_to_list slot) ≤ length gone + 1
 gone_one gone None = omega (arith, length-append gone [])
 gone_one gone (Some id) = omega (arith, length-append gone (id ∷ []))
 
@@ -57,11 +64,16 @@ goes_death scene at = record {
   update = refl;
 }
 
-pub goes_deaths : (scene : Scene) (cells : List ℕ) → Goes scene (with_deaths scene cells) 0 (length cells)
+pub goes_deaths : (scene : Scene) (cells : List ℕ)
+    → Goes scene (with_deaths scene cells) 0 (length cells)
 goes_deaths scene [] = goes_nowhere scene
-goes_deaths scene (cell ∷ cells) = goes_more (0 + 0) 0 (1 + length cells) (length (cell ∷ cells)) (goes_on (goes_death scene cell) (goes_deaths (with_death scene cell) cells)) (omega arith) (omega arith)
+goes_deaths scene (cell ∷ cells) =
+    goes_more (0 + 0) 0 (1 + length cells) (length (cell ∷ cells))
+    (goes_on (goes_death scene cell) (goes_deaths (with_death scene cell) cells)) (omega arith)
+    (omega arith)
 
-goes_newcomer : (scene : Scene) (link : Link) (organism : OrganismState) → IsSoundOrganism organism → Goes scene (with_newcomer scene link organism) 1 1
+goes_newcomer : (scene : Scene) (link : Link) (organism : OrganismState) → IsSoundOrganism organism
+    → Goes scene (with_newcomer scene link organism) 1 1
 unfolding with_newcomer
 goes_newcomer scene link organism sound =
     let new : Occupant = record { id = link.id; organism = organism } in
@@ -78,46 +90,81 @@ goes_newcomer scene link organism sound =
 
 module _ (laws : LifeLaws) (config : ConfigValues) (fit : IsConfig config) where
   -- a newborn makes a sound organism
-  sound_newborn : (size : ℕ) (start : People) (b : Delivery) (placing : Placing) → IsDelivery config size start b → IsSoundOrganism (child_of_birth config b placing)
+  sound_newborn : (size : ℕ) (start : People) (b : Delivery) (placing : Placing)
+      → IsDelivery config size start b → IsSoundOrganism (child_of_birth config b placing)
   sound_newborn size start b placing is =
       let least : (rules_of config).least ≤ length b.newborn.genome = is.born.least in
       let greatest : length b.newborn.genome ≤ (rules_of config).greatest = is.born.greatest in
       let low = fit.least in
       let high = fit.room in
       let top = fit.greatest in
-      let genome : IsGenome b.newborn.genome = record { least = omega (arith, least, low); greatest = omega (arith, greatest, high, top) } in
-      laws.new b.newborn.genome placing.inputs b.newborn.merit b.newborn.credited config.memory_limit genome (omega (arith, greatest, high)) (omega (arith, top)) is.born.some_merit is.born.merit
+      let genome : IsGenome b.newborn.genome =
+      record {
+        least = omega (arith, least, low);
+        greatest = omega (arith, greatest, high, top);
+      } in
+      laws.new b.newborn.genome placing.inputs b.newborn.merit b.newborn.credited
+      config.memory_limit genome (omega (arith, greatest, high)) (omega (arith, top))
+      is.born.some_merit is.born.merit
 
-  goes_birth : (size : ℕ) (start : People) (scene : Scene) (turn : Delivery × Placing) → IsDelivery config size start turn.0 → Goes scene (with_newborn config scene turn) 1 1
+  goes_birth : (size : ℕ) (start : People) (scene : Scene) (turn : Delivery × Placing)
+      → IsDelivery config size start turn.0 → Goes scene (with_newborn config scene turn) 1 1
   unfolding with_newborn
-  goes_birth size start scene turn is = goes_newcomer scene (birth_link (next_id scene) scene.update turn.0 turn.1.cell) (child_of_birth config turn.0 turn.1) (sound_newborn size start turn.0 turn.1 is)
+  goes_birth size start scene turn is =
+      goes_newcomer scene (birth_link (next_id scene) scene.update turn.0 turn.1.cell)
+      (child_of_birth config turn.0 turn.1) (sound_newborn size start turn.0 turn.1 is)
 
-  pub goes_births : (size : ℕ) (start : People) (scene : Scene) (births : List Delivery) (placings : List Placing) → AllByRecursion (IsDelivery config size start) births → Goes scene (fold (with_newborn config) scene (zip births placings)) (length births) (length births)
+  pub goes_births : (size : ℕ) (start : People) (scene : Scene) (births : List Delivery)
+      (placings : List Placing) → AllByRecursion (IsDelivery config size start) births
+      → Goes scene (fold (with_newborn config) scene (zip births placings)) (length births)
+      (length births)
   goes_births size start scene [] placings are = goes_nowhere scene
-  goes_births size start scene (b ∷ births) [] are = goes_more 0 (length (b ∷ births)) 0 (length (b ∷ births)) (goes_nowhere scene) (omega arith) (omega arith)
+  goes_births size start scene (b ∷ births) [] are =
+      goes_more 0 (length (b ∷ births)) 0 (length (b ∷ births)) (goes_nowhere scene) (omega arith)
+      (omega arith)
   goes_births size start scene (b ∷ births) (p ∷ placings) are =
-      goes_more (1 + length births) (length (b ∷ births)) (1 + length births) (length (b ∷ births)) (goes_on (goes_birth size start scene (b, p) are.0) (goes_births size start (with_newborn config scene (b, p)) births placings are.1)) (omega arith) (omega arith)
+      goes_more (1 + length births) (length (b ∷ births)) (1 + length births) (length (b ∷ births))
+      (goes_on (goes_birth size start scene (b, p) are.0)
+      (goes_births size start (with_newborn config scene (b, p)) births placings are.1))
+      (omega arith) (omega arith)
 
-  pub sound_founder : (cell nth : ℕ) (letters : List Letter) → config.least_length ≤ length letters → length letters ≤ config.greatest_length → IsSoundOrganism (founder_of config cell nth letters)
+  pub sound_founder : (cell nth : ℕ) (letters : List Letter) → config.least_length ≤ length letters
+      → length letters ≤ config.greatest_length
+      → IsSoundOrganism (founder_of config cell nth letters)
   unfolding founder_of
   sound_founder cell nth letters least greatest =
       let low = fit.least in
       let room = fit.room in
       let top = fit.greatest in
-      laws.new letters _ (length letters) no_tasks config.memory_limit (genome_fits config fit letters least greatest) (omega arith) (omega arith) (omega arith) (omega arith)
+      laws.new letters _ (length letters) no_tasks config.memory_limit
+      (genome_fits config fit letters least greatest) (omega arith) (omega arith) (omega arith)
+      (omega arith)
 
-  goes_what : (scene : Scene) (nth : ℕ) (what : WhatValue) → FitsWhat config what → Goes scene (after_what config scene nth what) 1 65536
-  goes_what scene nth (inject cell letters) fits = goes_more 1 1 1 65536 (goes_newcomer scene (founder_link (next_id scene) scene.update cell letters) (founder_of config cell nth letters) (sound_founder cell nth letters fits.1 fits.2)) (omega arith) (omega arith)
+  goes_what : (scene : Scene) (nth : ℕ) (what : WhatValue) → FitsWhat config what
+      → Goes scene (after_what config scene nth what) 1 65536
+  goes_what scene nth (inject cell letters) fits =
+      goes_more 1 1 1 65536 (goes_newcomer scene
+      (founder_link (next_id scene) scene.update cell letters) (founder_of config cell nth letters)
+      (sound_founder cell nth letters fits.1 fits.2)) (omega arith) (omega arith)
   goes_what scene nth (clear first last) fits =
       let few = few_cells config fit in
-      goes_more 0 1 (length (cells_from first last)) 65536 (goes_deaths scene (cells_from first last)) (omega arith) (omega (arith, length-range_with_len first (last + 1 - first), fits, few))
-  goes_what scene nth (rate name ppm) fits = goes_more 0 1 0 65536 (goes_nowhere scene) (omega arith) (omega arith)
+      goes_more 0 1 (length (cells_from first last)) 65536
+      (goes_deaths scene (cells_from first last)) (omega arith)
+      (omega (arith, length-range_with_len first (last + 1 - first), fits, few))
+  goes_what scene nth (rate name ppm) fits =
+      goes_more 0 1 0 65536 (goes_nowhere scene) (omega arith) (omega arith)
 
-  goes_event : (scene : Scene) (event : ℕ × EventValue) → FitsPlaced config event → Goes scene (after_event config scene event) 1 65536
+  goes_event : (scene : Scene) (event : ℕ × EventValue) → FitsPlaced config event
+      → Goes scene (after_event config scene event) 1 65536
   unfolding after_event
   goes_event scene event fits = goes_what scene event.0 event.1.what fits
 
-  pub goes_events : (scene : Scene) (events : List (ℕ × EventValue)) → AllByRecursion (FitsPlaced config) events → Goes scene (fold (after_event config) scene events) (length events) (65536 * length events)
+  pub goes_events : (scene : Scene) (events : List (ℕ × EventValue))
+      → AllByRecursion (FitsPlaced config) events
+      → Goes scene (fold (after_event config) scene events) (length events) (65536 * length events)
   goes_events scene [] fits = goes_nowhere scene
   goes_events scene (event ∷ events) fits =
-      goes_more (1 + length events) (length (event ∷ events)) (65536 + 65536 * length events) (65536 * length (event ∷ events)) (goes_on (goes_event scene event fits.0) (goes_events (after_event config scene event) events fits.1)) (omega arith) (omega arith)
+      goes_more (1 + length events) (length (event ∷ events)) (65536 + 65536 * length events)
+      (65536 * length (event ∷ events))
+      (goes_on (goes_event scene event fits.0)
+      (goes_events (after_event config scene event) events fits.1)) (omega arith) (omega arith)

@@ -32,115 +32,189 @@ same_self None = refl
 same_self (Some id) = eqb_same id
 
 -- a reader's cell holds who stands there
-holds_cell : (cells : List (Option Occupant)) (cell : ℕ) → cell < length cells → holds (slice_get (ids_of cells) cell) (id_at cells cell) ≡ true
+holds_cell : (cells : List (Option Occupant)) (cell : ℕ) → cell < length cells
+    → holds (slice_get (ids_of cells) cell) (id_at cells cell) ≡ true
 holds_cell cells cell h =
-    let slot : slice_get (ids_of cells) cell ≡ Some (id_at cells cell) = slice_get-map id_of cells cell ∙ ap (option_map id_of) (slice_get-get_or cells cell None h) in
+    let slot : slice_get (ids_of cells) cell ≡ Some (id_at cells cell) =
+    slice_get-map id_of cells cell
+    ∙ ap (option_map id_of) (slice_get-get_or cells cell None h) in
     rw slot (same_self (id_at cells cell))
 
-holds_who : (cells : List (Option Occupant)) (cell id : ℕ) → id_at cells cell ≡ Some id → holds (slice_get (ids_of cells) cell) (Some id) ≡ true
+holds_who : (cells : List (Option Occupant)) (cell id : ℕ) → id_at cells cell ≡ Some id
+    → holds (slice_get (ids_of cells) cell) (Some id) ≡ true
 holds_who cells cell id h =
     let who = who_stands cells cell id h in
     let within : cell < length cells = slice_get_within cells cell (Some who.0) who.1 in
-    subst (λ (slot : Option ℕ). holds (slice_get (ids_of cells) cell) slot ≡ true) h (holds_cell cells cell within)
+    subst (λ (slot : Option ℕ). holds (slice_get (ids_of cells) cell) slot ≡ true) h
+    (holds_cell cells cell within)
 
 -- the mirror of a scene with a death
-mirror_death : (start : People) (before stage : Stage) (births : ℕ) (scene : Scene) (cell id : ℕ) → standing_at scene cell ≡ Some id → reader.with_death (mirror start before births scene) stage cell id ≡ mirror start stage births (with_death scene cell)
+mirror_death : (start : People) (before stage : Stage) (births : ℕ) (scene : Scene) (cell id : ℕ)
+    → standing_at scene cell ≡ Some id
+    → reader.with_death (mirror start before births scene) stage cell id
+    ≡ mirror start stage births (with_death scene cell)
 unfolding with_death
 mirror_death start before stage births scene cell id h =
-    let ids : slice_set (ids_of scene.cells) cell None ≡ ids_of (slice_set scene.cells cell None) = sym (map-set id_of scene.cells cell None) in
-    let gone : scene.gone ++ id ∷ [] ≡ scene.gone ++ option_to_list (standing_at scene cell) = ap (λ s. scene.gone ++ option_to_list s) (sym h) in
-    ap (λ (l : List (Option ℕ)). record (mirror start stage births scene) { standing = l; leaving = scene.gone ++ id ∷ [] }) ids
-    ∙ ap (λ (l : List ℕ). record (mirror start stage births scene) { standing = ids_of (slice_set scene.cells cell None); leaving = l }) gone
+    let ids : slice_set (ids_of scene.cells) cell None ≡ ids_of (slice_set scene.cells cell None) =
+    sym (map-set id_of scene.cells cell None) in
+    let gone : scene.gone ++ id ∷ [] ≡ scene.gone ++ option_to_list (standing_at scene cell) =
+    ap (λ s. scene.gone ++ option_to_list s) (sym h) in
+    ap (λ (l : List (Option ℕ)). record (mirror start stage births scene)
+    { standing = l; leaving = scene.gone ++ id ∷ [] }) ids
+    ∙ ap (λ (l : List ℕ). record (mirror start stage births scene)
+    { standing = ids_of (slice_set scene.cells cell None); leaving = l }) gone
 
 -- the mirror of a scene with somebody new
-mirror_newcomer : (start : People) (before stage : Stage) (births more : ℕ) (scene : Scene) (link : Link) (organism : OrganismState) → length start ≤ length scene.everyone → link.id ≡ length scene.everyone
-    → reader.with_newcomer (mirror start before births scene) stage link.cell (standing_at scene link.cell) link.genome more ≡ mirror start stage more (with_newcomer scene link organism)
+mirror_newcomer : (start : People) (before stage : Stage) (births more : ℕ) (scene : Scene)
+    (link : Link) (organism : OrganismState) → length start ≤ length scene.everyone
+    → link.id ≡ length scene.everyone
+    → reader.with_newcomer (mirror start before births scene) stage link.cell
+    (standing_at scene link.cell) link.genome more
+    ≡ mirror start stage more (with_newcomer scene link organism)
 unfolding with_newcomer
 mirror_newcomer start before stage births more scene link organism grown is =
     let new : Option Occupant = Some (record { id = link.id; organism = organism }) in
     let people = people_in start scene.everyone in
     let number : length people ≡ link.id = people_number start scene.everyone grown ∙ sym is in
-    let ids : slice_set (ids_of scene.cells) link.cell (Some (length people)) ≡ ids_of (slice_set scene.cells link.cell new) =
-    ap (λ n. slice_set (ids_of scene.cells) link.cell (Some n)) number ∙ sym (map-set id_of scene.cells link.cell new) in
-    let kept : people ++ Some link.genome ∷ [] ≡ people_in start (scene.everyone ++ link ∷ []) = sym (people_grown start scene.everyone link grown) in
+    let ids : slice_set (ids_of scene.cells) link.cell (Some (length people))
+    ≡ ids_of (slice_set scene.cells link.cell new) =
+    ap (λ n. slice_set (ids_of scene.cells) link.cell (Some n)) number
+    ∙ sym (map-set id_of scene.cells link.cell new) in
+    let kept : people ++ Some link.genome ∷ [] ≡ people_in start (scene.everyone ++ link ∷ []) =
+    sym (people_grown start scene.everyone link grown) in
     let gone = scene.gone ++ option_to_list (standing_at scene link.cell) in
-    ap (λ (l : List (Option ℕ)). record (mirror start stage more scene) { standing = l; people = people ++ Some link.genome ∷ []; leaving = gone }) ids
-    ∙ ap (λ (l : People). record (mirror start stage more scene) { standing = ids_of (slice_set scene.cells link.cell new); people = l; leaving = gone }) kept
+    ap (λ (l : List (Option ℕ)).
+    record (mirror start stage more scene)
+    { standing = l; people = people ++ Some link.genome ∷ []; leaving = gone }) ids
+    ∙ ap (λ (l : People). record (mirror start stage more scene)
+    { standing = ids_of (slice_set scene.cells link.cell new); people = l; leaving = gone })
+    kept
 
 -- what a replay sees of a scene with a death
-seen_death : (scene : Scene) (cell : ℕ) → record (seen_in scene.cells scene.everyone) { standing = slice_set (ids_of scene.cells) cell None } ≡ seen_in (with_death scene cell).cells (with_death scene cell).everyone
+seen_death : (scene : Scene) (cell : ℕ)
+    → record (seen_in scene.cells scene.everyone)
+    { standing = slice_set (ids_of scene.cells) cell None } ≡ seen_in (with_death scene cell).cells
+    (with_death scene cell).everyone
 unfolding with_death
-seen_death scene cell = ap (λ (l : List (Option ℕ)). record (seen_in scene.cells scene.everyone) { standing = l }) (sym (map-set id_of scene.cells cell None))
+seen_death scene cell = ap
+    (λ (l : List (Option ℕ)). record (seen_in scene.cells scene.everyone) { standing = l })
+    (sym (map-set id_of scene.cells cell None))
 
 -- and with somebody new
-seen_newcomer : (scene : Scene) (link : Link) (organism : OrganismState) (cells : List (Option ℕ)) (genomes : List (List Letter)) → cells ≡ slice_set (ids_of scene.cells) link.cell (Some link.id) → genomes ≡ map (λ l. l.genome) scene.everyone ++ link.genome ∷ [] → record { standing = cells; genomes = genomes } ≡ seen_in (with_newcomer scene link organism).cells (with_newcomer scene link organism).everyone
+seen_newcomer : (scene : Scene) (link : Link) (organism : OrganismState) (cells : List (Option ℕ))
+    (genomes : List (List Letter)) → cells ≡ slice_set (ids_of scene.cells) link.cell (Some link.id)
+    → genomes ≡ map (λ l. l.genome) scene.everyone ++ link.genome ∷ []
+    → record { standing = cells; genomes = genomes }
+    ≡ seen_in (with_newcomer scene link organism).cells (with_newcomer scene link organism).everyone
 unfolding with_newcomer
 seen_newcomer scene link organism cells genomes e f =
     let new : Option Occupant = Some (record { id = link.id; organism = organism }) in
-    let ids : cells ≡ ids_of (slice_set scene.cells link.cell new) = e ∙ sym (map-set id_of scene.cells link.cell new) in
-    let all : genomes ≡ map (λ (l : Link). l.genome) (scene.everyone ++ link ∷ []) = f ∙ sym (map-append (λ (l : Link). l.genome) scene.everyone (link ∷ [])) in
+    let ids : cells ≡ ids_of (slice_set scene.cells link.cell new) =
+    e ∙ sym (map-set id_of scene.cells link.cell new) in
+    let all : genomes ≡ map (λ (l : Link). l.genome) (scene.everyone ++ link ∷ []) =
+    f ∙ sym (map-append (λ (l : Link). l.genome) scene.everyone (link ∷ [])) in
     cc
 
 -- the line of a death of age
-pub one_death : (start : People) (stage : Stage) (births : ℕ) (scene : Scene) (cell id : ℕ) → may_die stage cell ≡ true → standing_at scene cell ≡ Some id
-    → Passes start stage births scene (Death id scene.update cell ∷ []) (Dying cell) births (with_death scene cell)
+pub one_death : (start : People) (stage : Stage) (births : ℕ) (scene : Scene) (cell id : ℕ)
+    → may_die stage cell ≡ true → standing_at scene cell ≡ Some id
+    → Passes start stage births scene (Death id scene.update cell ∷ []) (Dying cell) births
+    (with_death scene cell)
 unfolding told_death
 one_death start stage births scene cell id may h =
     let stands = holds_who scene.cells cell id h in
-    let told : told_death (mirror start stage births scene) id scene.update cell ≡ on (reader.with_death (mirror start stage births scene) (Dying cell) cell id) = rw (eqb_same scene.update, may, stands) refl in
-    one_line _ _ _ _ _ (told ∙ ap on (mirror_death start stage (Dying cell) births scene cell id h)) (seen_death scene cell)
+    let told : told_death (mirror start stage births scene) id scene.update cell
+    ≡ on (reader.with_death (mirror start stage births scene) (Dying cell) cell id) =
+    rw (eqb_same scene.update, may, stands) refl in
+    one_line _ _ _ _ _ (told ∙ ap on (mirror_death start stage (Dying cell) births scene cell id h))
+    (seen_death scene cell)
 
 -- the line of who is cleared
-pub one_cleared : (start : People) (stage : Stage) (births : ℕ) (scene : Scene) (cell id : ℕ) → standing_at scene cell ≡ Some id
-    → Passes start stage births scene (Cleared id scene.update cell ∷ []) Happening births (with_death scene cell)
+pub one_cleared : (start : People) (stage : Stage) (births : ℕ) (scene : Scene) (cell id : ℕ)
+    → standing_at scene cell ≡ Some id
+    → Passes start stage births scene (Cleared id scene.update cell ∷ []) Happening births
+    (with_death scene cell)
 unfolding told_cleared
 one_cleared start stage births scene cell id h =
     let stands = holds_who scene.cells cell id h in
-    let told : told_cleared (mirror start stage births scene) id scene.update cell ≡ on (reader.with_death (mirror start stage births scene) Happening cell id) = rw (eqb_same scene.update, stands) refl in
-    one_line _ _ _ _ _ (told ∙ ap on (mirror_death start stage Happening births scene cell id h)) (seen_death scene cell)
+    let told : told_cleared (mirror start stage births scene) id scene.update cell
+    ≡ on (reader.with_death (mirror start stage births scene) Happening cell id) =
+    rw (eqb_same scene.update, stands) refl in
+    one_line _ _ _ _ _ (told ∙ ap on (mirror_death start stage Happening births scene cell id h))
+    (seen_death scene cell)
 
 -- the line of a rate
-pub one_rate : (start : People) (stage : Stage) (births : ℕ) (scene : Scene) (name : RateName) (ppm : ℕ)
+pub one_rate : (start : People) (stage : Stage) (births : ℕ) (scene : Scene) (name : RateName)
+    (ppm : ℕ)
     → Passes start stage births scene (Rate scene.update name ppm ∷ []) Happening births scene
 unfolding told_rate
 one_rate start stage births scene name ppm =
-    let told : told_rate (mirror start stage births scene) scene.update ≡ on (mirror start Happening births scene) = rw (eqb_same scene.update) refl in
+    let told : told_rate (mirror start stage births scene) scene.update
+    ≡ on (mirror start Happening births scene) = rw (eqb_same scene.update) refl in
     one_line _ _ _ _ _ told refl
 
 -- the line of an injected organism
-pub one_injected : (start : People) (stage : Stage) (births : ℕ) (scene : Scene) (link : Link) (organism : OrganismState) → length start ≤ length scene.everyone → link.cell < length scene.cells → link.id ≡ length scene.everyone
-    → Passes start stage births scene (Injected link.id scene.update link.cell (standing_at scene link.cell) link.genome ∷ []) Happening births (with_newcomer scene link organism)
+pub one_injected : (start : People) (stage : Stage) (births : ℕ) (scene : Scene) (link : Link)
+    (organism : OrganismState) → length start ≤ length scene.everyone
+    → link.cell < length scene.cells → link.id ≡ length scene.everyone
+    → Passes start stage births scene
+    (Injected link.id scene.update link.cell (standing_at scene link.cell) link.genome ∷ [])
+    Happening births (with_newcomer scene link organism)
 unfolding told_injected
 one_injected start stage births scene link organism grown within is =
     let people = people_in start scene.everyone in
-    let number : (link.id == length people) ≡ true = rw (is, people_number start scene.everyone grown) (eqb_same (length scene.everyone)) in
+    let number : (link.id == length people) ≡ true =
+    rw (is, people_number start scene.everyone grown) (eqb_same (length scene.everyone)) in
     let stands = holds_cell scene.cells link.cell within in
-    let told : told_injected (mirror start stage births scene) link.id scene.update link.cell (standing_at scene link.cell) link.genome ≡ on (reader.with_newcomer (mirror start stage births scene) Happening link.cell (standing_at scene link.cell) link.genome births) =
+    let told : told_injected (mirror start stage births scene) link.id scene.update link.cell
+    (standing_at scene link.cell) link.genome
+    ≡ on (reader.with_newcomer (mirror start stage births scene) Happening link.cell
+    (standing_at scene link.cell) link.genome births) =
     rw (eqb_same scene.update, number, stands) refl in
-    one_line _ _ _ _ _ (told ∙ ap on (mirror_newcomer start stage Happening births births scene link organism grown is)) (seen_newcomer scene link organism _ _ refl refl)
+    one_line _ _ _ _ _ (told
+    ∙ ap on (mirror_newcomer start stage Happening births births scene link organism grown is))
+    (seen_newcomer scene link organism _ _ refl refl)
 
 -- who lived when the update began has its genome in the mirror
-parent_is : (start : People) (stage : Stage) (births : ℕ) (scene : Scene) (parent : ℕ) (letters : List Letter) → slice_get start parent ≡ Some (Some letters) → parent_in (mirror start stage births scene) parent ≡ Some letters
+parent_is : (start : People) (stage : Stage) (births : ℕ) (scene : Scene) (parent : ℕ)
+    (letters : List Letter) → slice_get start parent ≡ Some (Some letters)
+    → parent_in (mirror start stage births scene) parent ≡ Some letters
 parent_is start stage births scene parent letters h =
     let low : parent < length start = slice_get_within start parent (Some letters) h in
     let test : nat_lt parent (length start) ≡ true = grind (arith, nat_tests) in
-    let found = get_more start (map written (drop (length start) scene.everyone)) parent (Some letters) h in
+    let found =
+    get_more start (map written (drop (length start) scene.everyone)) parent (Some letters) h in
     rw (test, found) refl
 
 -- the line of a birth
-pub one_birth : (start : People) (stage : Stage) (births : ℕ) (scene : Scene) (link : Link) (organism : OrganismState) (parent : ℕ) (origin : BirthRecord) (letters : List Letter)
-    → may_be_born stage ≡ true → length start ≤ length scene.everyone → link.cell < length scene.cells → link.id ≡ length scene.everyone
-    → slice_get start parent ≡ Some (Some letters) → slice_get (map (λ (l : Link). l.genome) scene.everyone) parent ≡ Some letters → child_of letters origin ≡ Ok link.genome
-    → Passes start stage births scene (Birth link.id parent scene.update link.cell (standing_at scene link.cell) origin ∷ []) Placing (births + 1) (with_newcomer scene link organism)
+pub one_birth : (start : People) (stage : Stage) (births : ℕ) (scene : Scene) (link : Link)
+    (organism : OrganismState) (parent : ℕ) (origin : BirthRecord) (letters : List Letter)
+    → may_be_born stage ≡ true → length start ≤ length scene.everyone
+    → link.cell < length scene.cells → link.id ≡ length scene.everyone
+    → slice_get start parent ≡ Some (Some letters)
+    → slice_get (map (λ (l : Link). l.genome) scene.everyone) parent ≡ Some letters
+    → child_of letters origin ≡ Ok link.genome
+    → Passes start stage births scene
+    (Birth link.id parent scene.update link.cell (standing_at scene link.cell) origin ∷ [])
+    Placing (births + 1) (with_newcomer scene link organism)
 unfolding told_birth
-one_birth start stage births scene link organism parent origin letters may grown within is lived wrote child =
+one_birth start stage births scene link organism parent origin letters may grown within is lived
+    wrote child =
     let people = people_in start scene.everyone in
-    let number : (link.id == length people) ≡ true = rw (is, people_number start scene.everyone grown) (eqb_same (length scene.everyone)) in
+    let number : (link.id == length people) ≡ true =
+    rw (is, people_number start scene.everyone grown) (eqb_same (length scene.everyone)) in
     let stands = holds_cell scene.cells link.cell within in
     let found = parent_is start stage births scene parent letters lived in
     let over = standing_at scene link.cell in
-    let first : told_birth (mirror start stage births scene) link.id parent scene.update link.cell over origin ≡ with_parent (mirror start stage births scene) link.cell over origin (parent_in (mirror start stage births scene) parent) =
+    let first : told_birth (mirror start stage births scene) link.id parent scene.update link.cell
+    over origin ≡ with_parent (mirror start stage births scene) link.cell over origin
+    (parent_in (mirror start stage births scene) parent) =
     rw (eqb_same scene.update, may, number, stands) refl in
-    let told : told_birth (mirror start stage births scene) link.id parent scene.update link.cell over origin ≡ on (reader.with_newcomer (mirror start stage births scene) Placing link.cell over link.genome (births + 1)) =
-    first ∙ ap (with_parent (mirror start stage births scene) link.cell over origin) found ∙ ap (with_child (mirror start stage births scene) link.cell over) child in
-    one_line _ _ _ _ _ (told ∙ ap on (mirror_newcomer start stage Placing births (births + 1) scene link organism grown is)) (seen_newcomer scene link organism _ _ refl (rw (wrote, child) refl))
+    let told : told_birth (mirror start stage births scene) link.id parent scene.update link.cell
+    over origin ≡ on (reader.with_newcomer (mirror start stage births scene) Placing link.cell
+    over link.genome (births + 1)) =
+    first ∙ ap (with_parent (mirror start stage births scene) link.cell over origin) found
+    ∙ ap (with_child (mirror start stage births scene) link.cell over) child in
+    one_line _ _ _ _ _ (told
+    ∙ ap on (mirror_newcomer start stage Placing births (births + 1) scene link organism grown
+    is)) (seen_newcomer scene link organism _ _ refl (rw (wrote, child) refl))

@@ -27,49 +27,73 @@ use Rattle.world_laws.proofs.Scenes.{Stands, Known, Apart, Agree, IsScene, peopl
 use Rattle.world_laws.proofs.Turns.{rising_part, ToBirths, ToEvents, scene_deaths, all_deaths, IsTurn, scene_births, all_births, IsEvent, scene_events, all_events}
 
 -- those who stay keep their genomes
-without_others : (ids : List ℕ) (people : People) (id : ℕ) → ((place : ℕ) → slice_get ids place ≡ Some id → ⊥) → slice_get (without ids people) id ≡ slice_get people id
+without_others : (ids : List ℕ) (people : People) (id : ℕ)
+    → ((place : ℕ) → slice_get ids place ≡ Some id → ⊥)
+    → slice_get (without ids people) id ≡ slice_get people id
 without_others [] people id h = refl
 without_others (x ∷ ids) people id h =
-    without_others ids (slice_set people x None) id (λ place e. h (place + 1) (at_next ids place id x e))
+    without_others ids (slice_set people x None) id
+    (λ place e. h (place + 1) (at_next ids place id x e))
     ∙ get_elsewhere people x id None (λ e. h 0 (ap Some (sym e)))
   where
-    at_next : (ids : List ℕ) (place id x : ℕ) → slice_get ids place ≡ Some id → slice_get (x ∷ ids) (place + 1) ≡ Some id
+    at_next : (ids : List ℕ) (place id x : ℕ) → slice_get ids place ≡ Some id
+        → slice_get (x ∷ ids) (place + 1) ≡ Some id
     at_next ids place id x e = let n : place + 1 ≡ suc place = omega arith in rw n e
 
 -- who is forgotten was known before
-without_fewer : (ids : List ℕ) (people : People) (id : ℕ) (letters : List Letter) → slice_get (without ids people) id ≡ Some (Some letters) → slice_get people id ≡ Some (Some letters)
+without_fewer : (ids : List ℕ) (people : People) (id : ℕ) (letters : List Letter)
+    → slice_get (without ids people) id ≡ Some (Some letters)
+    → slice_get people id ≡ Some (Some letters)
 without_fewer [] people id letters h = h
-without_fewer (x ∷ ids) people id letters h = unset (without_fewer ids (slice_set people x None) id letters h)
+without_fewer (x ∷ ids) people id letters h =
+    unset (without_fewer ids (slice_set people x None) id letters h)
   where
-    unset : slice_get (slice_set people x None) id ≡ Some (Some letters) → slice_get people id ≡ Some (Some letters)
+    unset : slice_get (slice_set people x None) id ≡ Some (Some letters)
+        → slice_get people id ≡ Some (Some letters)
     unset e = elim (cases_eq id x) [
       | inl same ↦
-          let here : slice_get (slice_set people x None) x ≡ Some (Some letters) = subst (λ n. slice_get (slice_set people x None) n ≡ Some (Some letters)) same e in
-          let within : x < length people = omega (arith, slice_get_within (slice_set people x None) x (Some letters) here, length-set people x None) in
+          let here : slice_get (slice_set people x None) x ≡ Some (Some letters) =
+          subst (λ n. slice_get (slice_set people x None) n ≡ Some (Some letters)) same e in
+          let within : x < length people =
+          omega (
+            arith,
+            slice_get_within (slice_set people x None) x (Some letters) here,
+            length-set people x None,
+          ) in
           let w = get_written people x None within in absurd cc
       | inr other ↦ sym (get_elsewhere people x id None other) ∙ e
     ]
 
 length-without : (ids : List ℕ) (people : People) → length (without ids people) ≡ length people
 length-without [] people = refl
-length-without (x ∷ ids) people = length-without ids (slice_set people x None) ∙ length-set people x None
+length-without (x ∷ ids) people =
+    length-without ids (slice_set people x None) ∙ length-set people x None
 
-unwritten : (slot : Option Link) (letters : List Letter) → option_map written slot ≡ Some (Some letters) → option_map (λ (l : Link). l.genome) slot ≡ Some letters
+unwritten : (slot : Option Link) (letters : List Letter)
+    → option_map written slot ≡ Some (Some letters)
+    → option_map (λ (l : Link). l.genome) slot ≡ Some letters
 unwritten None letters e = absurd cc
 unwritten (Some link) letters e = let same : link.genome ≡ letters = cc in ap Some same
 
 -- genomes within an update agree with the links
-agree_in : (start : People) (everyone : List Link) (id : ℕ) (letters : List Letter) → Agree start everyone → length start ≤ length everyone → slice_get (people_in start everyone) id ≡ Some (Some letters) → slice_get (genomes_of everyone) id ≡ Some letters
+agree_in : (start : People) (everyone : List Link) (id : ℕ) (letters : List Letter)
+    → Agree start everyone → length start ≤ length everyone
+    → slice_get (people_in start everyone) id ≡ Some (Some letters)
+    → slice_get (genomes_of everyone) id ≡ Some letters
 agree_in start everyone id letters agree grown h = elim (cases_lt id (length start)) [
-  | inl low ↦ agree id letters (sym (get_left start (map written (drop (length start) everyone)) id low) ∙ h)
+  | inl low ↦ agree id letters
+      (sym (get_left start (map written (drop (length start) everyone)) id low) ∙ h)
   | inr high ↦
       let n = length start in
       let tail = map written (drop n everyone) in
       let at : n + (id - n) ≡ id = omega (arith, high) in
-      let there : slice_get everyone id ≡ slice_get (drop n everyone) (id - n) = ap (slice_get everyone) (sym at) ∙ sym (get_dropped n everyone (id - n)) in
+      let there : slice_get everyone id ≡ slice_get (drop n everyone) (id - n) =
+      ap (slice_get everyone) (sym at) ∙ sym (get_dropped n everyone (id - n)) in
       let wrote : option_map written (slice_get everyone id) ≡ Some (Some letters) =
-      ap (option_map written) there ∙ sym (slice_get-map written (drop n everyone) (id - n)) ∙ sym (get_right start tail (id - n)) ∙ ap (slice_get (start ++ tail)) at ∙ h in
-      slice_get-map (λ (l : Link). l.genome) everyone id ∙ unwritten (slice_get everyone id) letters wrote
+      ap (option_map written) there ∙ sym (slice_get-map written (drop n everyone) (id - n))
+      ∙ sym (get_right start tail (id - n)) ∙ ap (slice_get (start ++ tail)) at ∙ h in
+      slice_get-map (λ (l : Link). l.genome) everyone id
+      ∙ unwritten (slice_get everyone id) letters wrote
 ]
 
 -- the genomes that a reader keeps after an update
@@ -77,7 +101,8 @@ abbrev pub people_after : People → Scene → People
 people_after start scene = without scene.gone (people_in start scene.everyone)
 
 -- what holds of a world and the genomes that a reader keeps
-pub record IsWorld (size : ℕ) (start : People) (cells : List (Option Occupant)) (everyone : List Link) : Type 0 where
+pub record IsWorld (size : ℕ) (start : People) (cells : List (Option Occupant))
+    (everyone : List Link) : Type 0 where
   pub sized : length cells ≡ size
   pub number : length start ≡ length everyone
   pub known : Known start cells
@@ -88,47 +113,76 @@ pub record IsWorld (size : ℕ) (start : People) (cells : List (Option Occupant)
 -- ids and genomes of the cells stay through lives
 pub record KeepsFolk (cells later : List (Option Occupant)) : Type 0 where
   pub ids : ids_of later ≡ ids_of cells
-  pub same : (cell : ℕ) (o : Occupant) → Stands later cell o → (x : Occupant) × Stands cells cell x × (x.id ≡ o.id) × (x.organism.genome ≡ o.organism.genome)
+  pub same : (cell : ℕ) (o : Occupant) → Stands later cell o → (x : Occupant) × Stands cells cell x
+      × (x.id ≡ o.id) × (x.organism.genome ≡ o.organism.genome)
 
 -- the line of what is counted
-one_count : (start : People) (stage : Stage) (births : ℕ) (scene : Scene) → told_count (mirror start stage births scene) (scene_stats scene births) ≡ Ok (Within (renewed (mirror start stage births scene)))
+one_count : (start : People) (stage : Stage) (births : ℕ) (scene : Scene)
+    → told_count (mirror start stage births scene) (scene_stats scene births)
+    ≡ Ok (Within (renewed (mirror start stage births scene)))
 unfolding told_count stats_in
-one_count start stage births scene = rw (eqb_same scene.update, eqb_same (taken (ids_of scene.cells)), eqb_same births, eqb_same (length scene.gone)) refl
+one_count start stage births scene =
+    rw (
+      eqb_same scene.update,
+      eqb_same (taken (ids_of scene.cells)),
+      eqb_same births,
+      eqb_same (length scene.gone),
+    ) refl
 
-renewed_is : (start : People) (stage : Stage) (births : ℕ) (scene : Scene) → renewed (mirror start stage births scene) ≡ between (people_after start scene) (scene.update + 1) scene.cells
+renewed_is : (start : People) (stage : Stage) (births : ℕ) (scene : Scene)
+    → renewed (mirror start stage births scene)
+    ≡ between (people_after start scene) (scene.update + 1) scene.cells
 renewed_is start stage births scene =
     let people = people_in start scene.everyone in
-    ap (λ n. record (between (people_after start scene) (scene.update + 1) scene.cells) { newest = n }) (sym (length-without scene.gone people))
+    ap (λ n. record (between (people_after start scene) (scene.update + 1) scene.cells)
+    { newest = n }) (sym (length-without scene.gone people))
 
 -- what is counted ends an update
-pub count_tells : (start : People) (stage : Stage) (births : ℕ) (scene : Scene) → Tells (Within (mirror start stage births scene)) (seen_in scene.cells scene.everyone) (Count (scene_stats scene births) ∷ []) (Within (between (people_after start scene) (scene.update + 1) scene.cells)) (seen_in scene.cells scene.everyone)
-count_tells start stage births scene = one_line _ _ _ _ _ (one_count start stage births scene ∙ ap (λ r. Ok (Within r)) (renewed_is start stage births scene)) refl
+pub count_tells : (start : People) (stage : Stage) (births : ℕ) (scene : Scene)
+    → Tells (Within (mirror start stage births scene)) (seen_in scene.cells scene.everyone)
+    (Count (scene_stats scene births) ∷ [])
+    (Within (between (people_after start scene) (scene.update + 1) scene.cells))
+    (seen_in scene.cells scene.everyone)
+count_tells start stage births scene =
+    one_line _ _ _ _ _ (one_count start stage births scene
+    ∙ ap (λ r. Ok (Within r)) (renewed_is start stage births scene)) refl
 
 -- an update leaves a world
-pub world_left : (size : ℕ) (start : People) (scene : Scene) → IsScene size start scene → IsWorld size (people_after start scene) scene.cells scene.everyone
+pub world_left : (size : ℕ) (start : People) (scene : Scene) → IsScene size start scene
+    → IsWorld size (people_after start scene) scene.cells scene.everyone
 world_left size start scene is = record {
   sized = is.sized;
-  number = length-without scene.gone (people_in start scene.everyone) ∙ people_number start scene.everyone is.grown;
-  known = λ cell o h. without_others scene.gone (people_in start scene.everyone) o.id (λ place e. is.gone cell place o h e) ∙ is.known cell o h;
+  number = length-without scene.gone (people_in start scene.everyone)
+      ∙ people_number start scene.everyone is.grown;
+  known = λ cell o h. without_others scene.gone (people_in start scene.everyone) o.id
+      (λ place e. is.gone cell place o h e) ∙ is.known cell o h;
   kept = is.kept;
   apart = is.apart;
-  agree = λ id letters h. agree_in start scene.everyone id letters is.agree is.grown (without_fewer scene.gone (people_in start scene.everyone) id letters h);
+  agree = λ id letters h. agree_in start scene.everyone id letters is.agree is.grown
+      (without_fewer scene.gone (people_in start scene.everyone) id letters h);
 }
 
 -- the genomes as an update begins
-people_begun : (start : People) (everyone : List Link) → length start ≡ length everyone → people_in start everyone ≡ start
-people_begun start everyone h = ap (λ (l : List Link). start ++ map written l) (drop_all (length start) everyone (omega (arith, h))) ∙ append-nil start
+people_begun : (start : People) (everyone : List Link) → length start ≡ length everyone
+    → people_in start everyone ≡ start
+people_begun start everyone h =
+    ap (λ (l : List Link). start ++ map written l)
+    (drop_all (length start) everyone (omega (arith, h))) ∙ append-nil start
 
-module _ (size : ℕ) (start : People) (w : World) (lives : List CellLife) (is : IsWorld size start w.cells w.everyone) (folk : KeepsFolk w.cells (map (λ l. l.occupant) lives)) where
+module _ (size : ℕ) (start : People) (w : World) (lives : List CellLife)
+    (is : IsWorld size start w.cells w.everyone)
+    (folk : KeepsFolk w.cells (map (λ l. l.occupant) lives)) where
   abbrev pub begun : Scene
   begun = after_lives (w.update + 1) w.everyone lives
 
   -- an update begins with a scene
   pub scene_begun : IsScene size start begun
   scene_begun = record {
-    sized = sym (length-map begun.cells id_of) ∙ ap length folk.ids ∙ length-map w.cells id_of ∙ is.sized;
+    sized = sym (length-map begun.cells id_of) ∙ ap length folk.ids ∙ length-map w.cells id_of
+        ∙ is.sized;
     grown = omega (arith, is.number);
-    known = rw (people_begun start w.everyone is.number) (λ cell o h. stays start is.known cell o h);
+    known =
+        rw (people_begun start w.everyone is.number) (λ cell o h. stays start is.known cell o h);
     kept = λ cell o h. stays (map written w.everyone) is.kept cell o h;
     apart = λ cell other o x h k e.
         let a = folk.same cell o h in
@@ -142,30 +196,39 @@ module _ (size : ℕ) (start : People) (w : World) (lives : List CellLife) (is :
       stays : (genomes : People) → Known genomes w.cells → Known genomes begun.cells
       stays genomes known cell o h =
           let a = folk.same cell o h in
-          ap (slice_get genomes) (sym a.2) ∙ known cell a.0 a.1 ∙ ap (λ (g : List Letter). Some (Some g)) a.3
+          ap (slice_get genomes) (sym a.2) ∙ known cell a.0 a.1
+          ∙ ap (λ (g : List Letter). Some (Some g)) a.3
 
   pub begun_is : mirror start Quiet 0 begun ≡ between start (w.update + 1) w.cells
   begun_is =
-      ap (λ (l : People). record (mirror start Quiet 0 begun) { people = l }) (people_begun start w.everyone is.number)
-      ∙ ap (λ (l : List (Option ℕ)). record (between start (w.update + 1) w.cells) { standing = l }) folk.ids
+      ap (λ (l : People). record (mirror start Quiet 0 begun) { people = l })
+      (people_begun start w.everyone is.number)
+      ∙ ap (λ (l : List (Option ℕ)). record (between start (w.update + 1) w.cells) { standing = l })
+      folk.ids
 
   pub seen_begun : seen_in begun.cells w.everyone ≡ seen_in w.cells w.everyone
-  seen_begun = ap (λ (l : List (Option ℕ)). record (seen_in w.cells w.everyone) { standing = l }) folk.ids
+  seen_begun =
+      ap (λ (l : List (Option ℕ)). record (seen_in w.cells w.everyone) { standing = l }) folk.ids
 
 -- an update from the scene as its lives have ended
-module _ (size : ℕ) (start : People) (config : ConfigValues) (scene : Scene) (lives : List CellLife) (is : IsScene size start scene) where
+module _ (size : ℕ) (start : People) (config : ConfigValues) (scene : Scene) (lives : List CellLife)
+    (is : IsScene size start scene) where
   -- its newborns are lawful
   pub record AreTurns : Type 0 where
-    pub number : length (turns_of config (after_burials scene lives) (births_of lives)) ≡ length (births_of lives)
-    pub lawful : AllByRecursion (IsTurn size start) (turns_of config (after_burials scene lives) (births_of lives))
+    pub number : length (turns_of config (after_burials scene lives) (births_of lives))
+        ≡ length (births_of lives)
+    pub lawful : AllByRecursion (IsTurn size start)
+        (turns_of config (after_burials scene lives) (births_of lives))
 
   scene_buried : IsScene size start (after_burials scene lives)
   unfolding after_burials
   scene_buried = scene_deaths size start scene (deaths_of lives) is
 
-  scene_born : IsScene size start (after_births config (after_burials scene lives) (births_of lives))
+  scene_born : IsScene size start
+      (after_births config (after_burials scene lives) (births_of lives))
   unfolding after_births
-  scene_born = scene_births size start config (after_burials scene lives) (turns_of config (after_burials scene lives) (births_of lives)) scene_buried
+  scene_born = scene_births size start config (after_burials scene lives)
+      (turns_of config (after_burials scene lives) (births_of lives)) scene_buried
 
   pub scene_last : IsScene size start (last_scene config scene lives)
   unfolding last_scene after_events
@@ -173,28 +236,45 @@ module _ (size : ℕ) (start : People) (config : ConfigValues) (scene : Scene) (
       let born = after_births config (after_burials scene lives) (births_of lives) in
       scene_events size start config born (events_at config born.update) scene_born
 
-  deaths_tell : ToBirths start Quiet 0 scene (death_lines scene (deaths_of lives)) 0 (after_burials scene lives)
+  deaths_tell : ToBirths start Quiet 0 scene (death_lines scene (deaths_of lives)) 0
+      (after_burials scene lives)
   unfolding after_burials deaths_of
-  deaths_tell = all_deaths start Quiet 0 0 scene (deaths_of lives) (rising_part _ 0 (length lives)) (λ cell h. refl) refl
+  deaths_tell = all_deaths start Quiet 0 0 scene (deaths_of lives) (rising_part _ 0 (length lives))
+      (λ cell h. refl) refl
 
-  births_tell : (stage : Stage) → may_be_born stage ≡ true → AreTurns → ToBirths start stage 0 (after_burials scene lives) (birth_lines config (after_burials scene lives) (births_of lives)) (length (births_of lives)) (after_births config (after_burials scene lives) (births_of lives))
+  births_tell : (stage : Stage) → may_be_born stage ≡ true → AreTurns
+      → ToBirths start stage 0 (after_burials scene lives)
+      (birth_lines config (after_burials scene lives) (births_of lives)) (length (births_of lives))
+      (after_births config (after_burials scene lives) (births_of lives))
   unfolding after_births
   births_tell stage may turns =
       let buried = after_burials scene lives in
       let list = turns_of config buried (births_of lives) in
       let e : 0 + length list ≡ length (births_of lives) = omega (arith, turns.number) in
-      subst (λ n. ToBirths start stage 0 buried (birth_lines config buried (births_of lives)) n (fold (with_newborn config) buried list)) e (all_births size start stage 0 config buried list scene_buried turns.lawful may)
+      subst (λ n. ToBirths start stage 0 buried (birth_lines config buried (births_of lives)) n
+      (fold (with_newborn config) buried list)) e
+      (all_births size start stage 0 config buried list scene_buried turns.lawful may)
 
-  events_tell : (stage : Stage) (births : ℕ) → ((update : ℕ) → AllByRecursion (IsEvent size) (events_at config update)) → ToEvents start stage births (after_births config (after_burials scene lives) (births_of lives)) (event_lines config (after_births config (after_burials scene lives) (births_of lives))) (last_scene config scene lives)
+  events_tell : (stage : Stage) (births : ℕ)
+      → ((update : ℕ) → AllByRecursion (IsEvent size) (events_at config update))
+      → ToEvents start stage births
+      (after_births config (after_burials scene lives) (births_of lives))
+      (event_lines config (after_births config (after_burials scene lives) (births_of lives)))
+      (last_scene config scene lives)
   unfolding last_scene after_events
   events_tell stage births events =
       let born = after_births config (after_burials scene lives) (births_of lives) in
-      all_events size start stage births config born (events_at config born.update) scene_born (events born.update)
+      all_events size start stage births config born (events_at config born.update) scene_born
+      (events born.update)
 
   -- its lines
-  pub lives_tell : AreTurns → ((update : ℕ) → AllByRecursion (IsEvent size) (events_at config update))
-      → Tells (Within (mirror start Quiet 0 scene)) (seen_in scene.cells scene.everyone) (lines_of_lives config scene lives)
-      (Within (between (people_after start (last_scene config scene lives)) ((last_scene config scene lives).update + 1) (last_scene config scene lives).cells)) (seen_in (last_scene config scene lives).cells (last_scene config scene lives).everyone)
+  pub lives_tell : AreTurns
+      → ((update : ℕ) → AllByRecursion (IsEvent size) (events_at config update))
+      → Tells (Within (mirror start Quiet 0 scene)) (seen_in scene.cells scene.everyone)
+      (lines_of_lives config scene lives)
+      (Within (between (people_after start (last_scene config scene lives))
+      ((last_scene config scene lives).update + 1) (last_scene config scene lives).cells))
+      (seen_in (last_scene config scene lives).cells (last_scene config scene lives).everyone)
   unfolding lines_of_lives
   lives_tell turns events =
       let buried = after_burials scene lives in
@@ -204,6 +284,10 @@ module _ (size : ℕ) (start : People) (config : ConfigValues) (scene : Scene) (
       let happened = events_tell births.later (length (births_of lives)) events in
       let last = last_scene config scene lives in
       let counted = count_tells start happened.later (length (births_of lives)) last in
-      more_lines (death_lines scene (deaths_of lives) ++ birth_lines config buried (births_of lives) ++ event_lines config born) (Count (scene_stats last (length (births_of lives))) ∷ [])
-      (more_lines (death_lines scene (deaths_of lives) ++ birth_lines config buried (births_of lives)) (event_lines config born)
-      (more_lines (death_lines scene (deaths_of lives)) (birth_lines config buried (births_of lives)) deaths.passes births.passes) happened.passes) counted
+      more_lines (death_lines scene (deaths_of lives) ++ birth_lines config buried (births_of lives)
+      ++ event_lines config born) (Count (scene_stats last (length (births_of lives))) ∷ [])
+      (more_lines (death_lines scene (deaths_of lives)
+      ++ birth_lines config buried (births_of lives)) (event_lines config born)
+      (more_lines (death_lines scene (deaths_of lives))
+      (birth_lines config buried (births_of lives)) deaths.passes births.passes)
+      happened.passes) counted

@@ -1,3 +1,4 @@
 pub use Rattle.world_rules.specs.Laws
 pub mod Heredity
 pub mod Keeping
+pub mod Turnover

@@ -7,10 +7,12 @@ ghost use Rattle.world_config.specs.Shown.{values_of};
 ghost use Rattle.world_rules.specs.Descent.{line_in};
 ghost use Rattle.world_rules.specs.Laws.{ReplaysToLiving};
 ghost use Rattle.world_rules.specs.Lives.{merit_in};
+ghost use Rattle.world_rules.specs.Update.{next_scene};
 ghost use Rattle.world_rules.specs.World.{Occupant};
 ghost use Rattle.world_rules.specs.WorldRun.{world_after};
-ghost use Rattle.world_laws.specs.Keeping.{HasKept};
+ghost use Rattle.world_laws.specs.Keeping.{HasKept, LiveOn};
 ghost use Rattle.world_laws.specs.Heredity.{AreDescended, IsDescent, IsLastOfLine};
+ghost use Rattle.world_laws.specs.Turnover.{IsTurnover};
 
 use world_config::Config;
 
@@ -69,8 +71,32 @@ pub fn organisms_are_sound(config: &Config, updates: u32)
     random_streams::laws::words_fit();
 }
 
+/// In each update, who stands or dies stood at its begin or comes in it, and all others stand or
+/// die. The parents of those who come stood at its begin.
+pub fn organisms_come_and_go(config: &Config, updates: u32)
+    ensures { IsTurnover (world_after (values_of config.now) updates).cells
+        (world_after (values_of config.now) updates).everyone
+        (next_scene (values_of config.now) (world_after (values_of config.now) updates)) }
+{
+    merit_slices::laws::slices_are_few();
+    organism::laws::lives_are_sound();
+    organism::laws::new_organisms_are_sound();
+    random_streams::laws::words_fit();
+}
+
 /// A life keeps the genome, and nothing but a birth changes the merit and the credited set.
 pub fn births_alone_change_merits()
     ensures { (settings : SettingNumbers) (words : ℕ → ℕ) (start : LifeState) (steps : ℕ)
         → HasKept start (life settings words start steps).0 }
 {}
+
+/// Whoever stands in a world lives through the update after it, however many steps it has: sound,
+/// of the same genome, and with few newborns, which the rules allow.
+pub fn organisms_live_on(config: &Config, updates: u32)
+    ensures { LiveOn (values_of config.now) (world_after (values_of config.now) updates) }
+{
+    merit_slices::laws::slices_are_few();
+    organism::laws::lives_are_sound();
+    organism::laws::new_organisms_are_sound();
+    random_streams::laws::words_fit();
+}

@@ -27,38 +27,50 @@ below_more few many None more below = tt
 below_more few many (Some id) more below = omega (arith, more, below)
 
 -- what stands in a list with one item more
-get_last : {X : Type 0} (xs : List X) (x : X) (i : ℕ) (y : X) → slice_get (xs ++ x ∷ []) i ≡ Some y → (slice_get xs i ≡ Some y) ⊎ ((length xs ≡ i) × (x ≡ y))
+get_last : {X : Type 0} (xs : List X) (x : X) (i : ℕ) (y : X) → slice_get (xs ++ x ∷ []) i ≡ Some y
+    → (slice_get xs i ≡ Some y) ⊎ ((length xs ≡ i) × (x ≡ y))
 get_last [] x zero y h = inr (refl, cc)
 get_last [] x (suc i) y h = absurd cc
 get_last (z ∷ xs) x zero y h = inl h
-get_last (z ∷ xs) x (suc i) y h = elim (get_last xs x i y h) [ inl before ↦ inl before | inr last ↦ inr (ap suc last.0, last.1) ]
+get_last (z ∷ xs) x (suc i) y h =
+    elim (get_last xs x i y h) [ inl before ↦ inl before | inr last ↦ inr (ap suc last.0, last.1) ]
 
-numbered_more : (everyone : List Link) (link : Link) → AreNumbered everyone → IsNumbered (length everyone) link → AreNumbered (everyone ++ link ∷ [])
-numbered_more everyone link are is place other there = elim (get_last everyone link place other there) [
-  | inl before ↦ are place other before
-  | inr last ↦ subst (λ n. IsNumbered n other) last.0 (subst (λ l. IsNumbered (length everyone) l) last.1 is)
-]
+numbered_more : (everyone : List Link) (link : Link) → AreNumbered everyone
+    → IsNumbered (length everyone) link → AreNumbered (everyone ++ link ∷ [])
+numbered_more everyone link are is place other there =
+    elim (get_last everyone link place other there) [
+      | inl before ↦ are place other before
+      | inr last ↦ subst (λ n. IsNumbered n other) last.0
+          (subst (λ l. IsNumbered (length everyone) l) last.1 is)
+    ]
 
-numbered_death : (scene : Scene) (cell : ℕ) → IsNumberedScene scene → IsNumberedScene (with_death scene cell)
+numbered_death : (scene : Scene) (cell : ℕ) → IsNumberedScene scene
+    → IsNumberedScene (with_death scene cell)
 unfolding with_death
 numbered_death scene cell is = record {
   everyone = is.everyone;
-  standing = All-set (λ slot. IsBelow (length scene.everyone) (id_of slot)) scene.cells cell None tt is.standing;
+  standing = All-set (λ slot. IsBelow (length scene.everyone) (id_of slot)) scene.cells cell None tt
+      is.standing;
 }
 
-numbered_deaths : (scene : Scene) (cells : List ℕ) → IsNumberedScene scene → IsNumberedScene (fold with_death scene cells)
+numbered_deaths : (scene : Scene) (cells : List ℕ) → IsNumberedScene scene
+    → IsNumberedScene (fold with_death scene cells)
 numbered_deaths scene [] is = is
-numbered_deaths scene (cell ∷ cells) is = numbered_deaths (with_death scene cell) cells (numbered_death scene cell is)
+numbered_deaths scene (cell ∷ cells) is =
+    numbered_deaths (with_death scene cell) cells (numbered_death scene cell is)
 
 death_keeps : (scene : Scene) (cell : ℕ) → (with_death scene cell).everyone ≡ scene.everyone
 unfolding with_death
 death_keeps scene cell = refl
 
-deaths_keep : (scene : Scene) (cells : List ℕ) → (fold with_death scene cells).everyone ≡ scene.everyone
+deaths_keep : (scene : Scene) (cells : List ℕ)
+    → (fold with_death scene cells).everyone ≡ scene.everyone
 deaths_keep scene [] = refl
-deaths_keep scene (cell ∷ cells) = deaths_keep (with_death scene cell) cells ∙ death_keeps scene cell
+deaths_keep scene (cell ∷ cells) =
+    deaths_keep (with_death scene cell) cells ∙ death_keeps scene cell
 
-numbered_newcomer : (scene : Scene) (link : Link) (organism : OrganismState) → IsNumberedScene scene → IsNumbered (length scene.everyone) link → IsNumberedScene (with_newcomer scene link organism)
+numbered_newcomer : (scene : Scene) (link : Link) (organism : OrganismState) → IsNumberedScene scene
+    → IsNumbered (length scene.everyone) link → IsNumberedScene (with_newcomer scene link organism)
 unfolding with_newcomer
 numbered_newcomer scene link organism is new =
     let few = length scene.everyone in
@@ -68,104 +80,149 @@ numbered_newcomer scene link organism is new =
     let mine : link.id < many = omega (arith, more, new.id) in
     record {
       everyone = numbered_more scene.everyone link is.everyone new;
-      standing = All-set (λ slot. IsBelow many (id_of slot)) scene.cells link.cell (Some (record { id = link.id; organism = organism })) mine
-          (All-weaker (λ slot. IsBelow few (id_of slot)) (λ slot. IsBelow many (id_of slot)) (λ slot. below_more few many (id_of slot) low) scene.cells is.standing);
+      standing = All-set (λ slot. IsBelow many (id_of slot)) scene.cells link.cell
+          (Some (record { id = link.id; organism = organism })) mine
+          (All-weaker (λ slot. IsBelow few (id_of slot)) (λ slot. IsBelow many (id_of slot))
+          (λ slot. below_more few many (id_of slot) low) scene.cells is.standing);
     }
 
-numbered_birth : (config : ConfigValues) (scene : Scene) (turn : Delivery × Placing) → turn.0.parent < length scene.everyone → IsNumberedScene scene → IsNumberedScene (with_newborn config scene turn)
+numbered_birth : (config : ConfigValues) (scene : Scene) (turn : Delivery × Placing)
+    → turn.0.parent < length scene.everyone → IsNumberedScene scene
+    → IsNumberedScene (with_newborn config scene turn)
 unfolding with_newborn
 numbered_birth config scene turn parent is =
-    numbered_newcomer scene (birth_link (next_id scene) scene.update turn.0 turn.1.cell) (child_of_birth config turn.0 turn.1) is (record { id = refl; parent = parent })
+    numbered_newcomer scene (birth_link (next_id scene) scene.update turn.0 turn.1.cell)
+    (child_of_birth config turn.0 turn.1) is (record { id = refl; parent = parent })
 
-birth_grows : (config : ConfigValues) (scene : Scene) (turn : Delivery × Placing) → length (with_newborn config scene turn).everyone ≡ length scene.everyone + 1
+birth_grows : (config : ConfigValues) (scene : Scene) (turn : Delivery × Placing)
+    → length (with_newborn config scene turn).everyone ≡ length scene.everyone + 1
 unfolding with_newborn with_newcomer
-birth_grows config scene turn = length-append scene.everyone (birth_link (next_id scene) scene.update turn.0 turn.1.cell ∷ [])
+birth_grows config scene turn =
+    length-append scene.everyone (birth_link (next_id scene) scene.update turn.0 turn.1.cell ∷ [])
 
 -- the parent is one of so many
 abbrev IsOf : ℕ → Delivery → Type 0
 IsOf count b = b.parent < count
 
-numbered_births : (config : ConfigValues) (count : ℕ) (scene : Scene) (births : List Delivery) (placings : List Placing) → count ≤ length scene.everyone → AllByRecursion (IsOf count) births → IsNumberedScene scene → IsNumberedScene (fold (with_newborn config) scene (zip births placings))
+numbered_births : (config : ConfigValues) (count : ℕ) (scene : Scene) (births : List Delivery)
+    (placings : List Placing) → count ≤ length scene.everyone → AllByRecursion (IsOf count) births
+    → IsNumberedScene scene → IsNumberedScene
+    (fold (with_newborn config) scene (zip births placings))
 numbered_births config count scene [] placings few of is = is
 numbered_births config count scene (b ∷ births) [] few of is = is
 numbered_births config count scene (b ∷ births) (p ∷ placings) few of is =
     let parent : b.parent < length scene.everyone = omega (arith, few, of.0) in
-    numbered_births config count (with_newborn config scene (b, p)) births placings (omega (arith, few, birth_grows config scene (b, p))) of.1 (numbered_birth config scene (b, p) parent is)
+    numbered_births config count (with_newborn config scene (b, p)) births placings
+    (omega (arith, few, birth_grows config scene (b, p))) of.1
+    (numbered_birth config scene (b, p) parent is)
 
-numbered_what : (config : ConfigValues) (scene : Scene) (nth : ℕ) (what : WhatValue) → IsNumberedScene scene → IsNumberedScene (after_what config scene nth what)
+numbered_what : (config : ConfigValues) (scene : Scene) (nth : ℕ) (what : WhatValue)
+    → IsNumberedScene scene → IsNumberedScene (after_what config scene nth what)
 numbered_what config scene nth (inject cell letters) is =
-    numbered_newcomer scene (founder_link (next_id scene) scene.update cell letters) (founder_of config cell nth letters) is (record { id = refl; parent = tt })
-numbered_what config scene nth (clear first last) is = numbered_deaths scene (cells_from first last) is
+    numbered_newcomer scene (founder_link (next_id scene) scene.update cell letters)
+    (founder_of config cell nth letters) is (record { id = refl; parent = tt })
+numbered_what config scene nth (clear first last) is =
+    numbered_deaths scene (cells_from first last) is
 numbered_what config scene nth (rate name ppm) is = is
 
-numbered_event : (config : ConfigValues) (scene : Scene) (event : ℕ × EventValue) → IsNumberedScene scene → IsNumberedScene (after_event config scene event)
+numbered_event : (config : ConfigValues) (scene : Scene) (event : ℕ × EventValue)
+    → IsNumberedScene scene → IsNumberedScene (after_event config scene event)
 unfolding after_event
 numbered_event config scene event is = numbered_what config scene event.0 event.1.what is
 
-numbered_events : (config : ConfigValues) (scene : Scene) (events : List (ℕ × EventValue)) → IsNumberedScene scene → IsNumberedScene (fold (after_event config) scene events)
+numbered_events : (config : ConfigValues) (scene : Scene) (events : List (ℕ × EventValue))
+    → IsNumberedScene scene → IsNumberedScene (fold (after_event config) scene events)
 numbered_events config scene [] is = is
-numbered_events config scene (event ∷ events) is = numbered_events config (after_event config scene event) events (numbered_event config scene event is)
+numbered_events config scene (event ∷ events) is =
+    numbered_events config (after_event config scene event) events
+    (numbered_event config scene event is)
 
 -- a life leaves the organism its id
-among_life : (config : ConfigValues) (count update cell steps : ℕ) (slot : Option Occupant) → IsBelow count (id_of slot) → IsBelow count (id_of (life_of config update cell steps slot).occupant)
+among_life : (config : ConfigValues) (count update cell steps : ℕ) (slot : Option Occupant)
+    → IsBelow count (id_of slot)
+    → IsBelow count (id_of (life_of config update cell steps slot).occupant)
 unfolding life_of
 among_life config count update cell steps None below = tt
 among_life config count update cell steps (Some o) below = below
 
-slot_among : (count : ℕ) (cells : List (Option Occupant)) (cell : ℕ) → AreAmong count cells → IsBelow count (id_of (slice_index_or cells cell None))
+slot_among : (count : ℕ) (cells : List (Option Occupant)) (cell : ℕ) → AreAmong count cells
+    → IsBelow count (id_of (slice_index_or cells cell None))
 slot_among count cells cell among = elim (cases_lt cell (length cells)) [
   | inl within ↦ among cell None within
-  | inr past ↦ subst (λ slot. IsBelow count (id_of slot)) (sym (get_or_past cells cell None past)) tt
+  | inr past ↦ subst (λ slot. IsBelow count (id_of slot)) (sym (get_or_past cells cell None past))
+      tt
 ]
 
-lives_among : (config : ConfigValues) (count update : ℕ) (cells : List (Option Occupant)) → AreAmong count cells → All (λ l. IsBelow count (id_of l.occupant)) (lives_of config update cells)
+lives_among : (config : ConfigValues) (count update : ℕ) (cells : List (Option Occupant))
+    → AreAmong count cells → All (λ l. IsBelow count (id_of l.occupant))
+    (lives_of config update cells)
 unfolding lives_of
 lives_among config count update cells among =
-    All-map (λ (l : CellLife). IsBelow count (id_of l.occupant)) (life_at config update cells) (range_with_len 0 (length cells))
+    All-map (λ (l : CellLife). IsBelow count (id_of l.occupant)) (life_at config update cells)
+    (range_with_len 0 (length cells))
     (λ k d within. let cell = slice_index_or (range_with_len 0 (length cells)) k d in
-    among_life config count update cell (slice_at config cells cell) (slice_index_or cells cell None) (slot_among count cells cell among))
+    among_life config count update cell (slice_at config cells cell)
+    (slice_index_or cells cell None) (slot_among count cells cell among))
 
-all_append : {X : Type 0} (P : X → Type 0) (xs ys : List X) → AllByRecursion P xs → AllByRecursion P ys → AllByRecursion P (xs ++ ys)
+all_append : {X : Type 0} (P : X → Type 0) (xs ys : List X) → AllByRecursion P xs
+    → AllByRecursion P ys → AllByRecursion P (xs ++ ys)
 all_append P [] ys first rest = rest
 all_append P (x ∷ xs) ys first rest = (first.0, all_append P xs ys first.1 rest)
 
-deliveries_of : (count cell parent : ℕ) (newborns : List NewbornValue) → parent < count → AllByRecursion (IsOf count) (map (delivery_of cell parent) newborns)
+deliveries_of : (count cell parent : ℕ) (newborns : List NewbornValue) → parent < count
+    → AllByRecursion (IsOf count) (map (delivery_of cell parent) newborns)
 deliveries_of count cell parent [] below = tt
-deliveries_of count cell parent (n ∷ newborns) below = (below, deliveries_of count cell parent newborns below)
+deliveries_of count cell parent (n ∷ newborns) below =
+    (below, deliveries_of count cell parent newborns below)
 
-births_by_of : (count cell : ℕ) (newborns : List NewbornValue) (slot : Option Occupant) → IsBelow count (id_of slot) → AllByRecursion (IsOf count) (births_by cell newborns slot)
+births_by_of : (count cell : ℕ) (newborns : List NewbornValue) (slot : Option Occupant)
+    → IsBelow count (id_of slot) → AllByRecursion (IsOf count) (births_by cell newborns slot)
 births_by_of count cell newborns None below = tt
 births_by_of count cell newborns (Some o) below = deliveries_of count cell o.id newborns below
 
-births_from_of : (count from : ℕ) (lives : List CellLife) → AllByRecursion (λ l. IsBelow count (id_of l.occupant)) lives → AllByRecursion (IsOf count) (flat_map births_in (enumerate_from from lives))
+births_from_of : (count from : ℕ) (lives : List CellLife)
+    → AllByRecursion (λ l. IsBelow count (id_of l.occupant)) lives
+    → AllByRecursion (IsOf count) (flat_map births_in (enumerate_from from lives))
 births_from_of count from [] among = tt
 births_from_of count from (l ∷ lives) among =
-    all_append (IsOf count) (births_by from l.newborns l.occupant) (flat_map births_in (enumerate_from (from + 1) lives))
-    (births_by_of count from l.newborns l.occupant among.0) (births_from_of count (from + 1) lives among.1)
+    all_append (IsOf count) (births_by from l.newborns l.occupant)
+    (flat_map births_in (enumerate_from (from + 1) lives))
+    (births_by_of count from l.newborns l.occupant among.0)
+    (births_from_of count (from + 1) lives among.1)
 
-births_of_of : (count : ℕ) (lives : List CellLife) → All (λ l. IsBelow count (id_of l.occupant)) lives → AllByRecursion (IsOf count) (births_of lives)
+births_of_of : (count : ℕ) (lives : List CellLife)
+    → All (λ l. IsBelow count (id_of l.occupant)) lives
+    → AllByRecursion (IsOf count) (births_of lives)
 unfolding births_of
-births_of_of count lives among = births_from_of count 0 lives (recursion_from_All (λ (l : CellLife). IsBelow count (id_of l.occupant)) lives among)
+births_of_of count lives among =
+    births_from_of count 0 lives
+    (recursion_from_All (λ (l : CellLife). IsBelow count (id_of l.occupant)) lives among)
 
-numbered_last : (config : ConfigValues) (scene : Scene) (lives : List CellLife) → All (λ l. IsBelow (length scene.everyone) (id_of l.occupant)) lives → IsNumberedScene scene → IsNumberedScene (last_scene config scene lives)
+numbered_last : (config : ConfigValues) (scene : Scene) (lives : List CellLife)
+    → All (λ l. IsBelow (length scene.everyone) (id_of l.occupant)) lives → IsNumberedScene scene
+    → IsNumberedScene (last_scene config scene lives)
 unfolding last_scene after_burials after_births after_events
 numbered_last config scene lives among is =
     let dead = fold with_death scene (deaths_of lives) in
     let births = births_of lives in
-    let same : length dead.everyone ≡ length scene.everyone = ap length (deaths_keep scene (deaths_of lives)) in
+    let same : length dead.everyone ≡ length scene.everyone =
+    ap length (deaths_keep scene (deaths_of lives)) in
     let born = fold (with_newborn config) dead (turns_of config dead births) in
     numbered_events config born (events_at config born.update)
-    (numbered_births config (length scene.everyone) dead births (placings_of config dead births) (omega (arith, same)) (births_of_of (length scene.everyone) lives among)
+    (numbered_births config (length scene.everyone) dead births (placings_of config dead births)
+    (omega (arith, same)) (births_of_of (length scene.everyone) lives among)
     (numbered_deaths scene (deaths_of lives) is))
 
-numbered_update : (config : ConfigValues) (w : World) → IsNumberedWorld w → IsNumberedWorld (next_world config w)
+numbered_update : (config : ConfigValues) (w : World) → IsNumberedWorld w
+    → IsNumberedWorld (next_world config w)
 unfolding next_world next_scene scene_of_lives
 numbered_update config w is =
     let lives = lives_after config w in
     let among = lives_among config (length w.everyone) (w.update + 1) w.cells is.standing in
     numbered_last config (after_lives (w.update + 1) w.everyone lives) lives among (record {
       everyone = is.everyone;
-      standing = All-map (λ slot. IsBelow (length w.everyone) (id_of slot)) (λ (l : CellLife). l.occupant) lives among;
+      standing = All-map (λ slot. IsBelow (length w.everyone) (id_of slot))
+          (λ (l : CellLife). l.occupant) lives among;
     })
 
 numbered_first : (config : ConfigValues) → IsNumberedWorld (first_world config)
@@ -174,8 +231,14 @@ numbered_first config =
     let founder = founder_link 0 0 config.founder_cell config.ancestor in
     let one : 0 < 1 = omega arith in
     record {
-      everyone = numbered_more [] founder (λ place link there. absurd cc) (record { id = refl; parent = tt });
-      standing = All-set (λ slot. IsBelow 1 (id_of slot)) (replicate (config.width * config.height) None) config.founder_cell (Some (record { id = 0; organism = founder_of config config.founder_cell 0 config.ancestor })) one
+      everyone = numbered_more [] founder (λ place link there. absurd cc)
+          (record { id = refl; parent = tt });
+      standing = All-set (λ slot. IsBelow 1 (id_of slot))
+          (replicate (config.width * config.height) None) config.founder_cell
+          (Some (record {
+            id = 0;
+            organism = founder_of config config.founder_cell 0 config.ancestor;
+          })) one
           (All-replicate (λ slot. IsBelow 1 (id_of slot)) (config.width * config.height) None tt);
     }
 

@@ -41,25 +41,45 @@ chosen (Some id) word = zero_at (scaled word 8)
 
 -- a placing in this cell
 abbrev pub placed : ℕ → List (Option ℕ) → ℕ → List ℕ → Placing
-placed cell occupants id words = record { id = id; cell = cell; over = slice_index_or occupants cell None; inputs = inputs_of (slice_index_or words 1 0 ∷ slice_index_or words 2 0 ∷ slice_index_or words 3 0 ∷ []) }
+placed cell occupants id words =
+    record {
+      id = id;
+      cell = cell;
+      over = slice_index_or occupants cell None;
+      inputs =
+          inputs_of (slice_index_or words 1 0 ∷ slice_index_or words 2 0 ∷ slice_index_or words 3 0
+          ∷ []);
+    }
 
 -- the board with this placing, of a newborn of cell 0
 abbrev with_placing : Board → Placing → Board
-with_placing board placing = record { occupants = slice_set board.occupants placing.cell (Some placing.id); placings = board.placings ++ placing ∷ []; parents = board.parents ++ 0 ∷ [] }
+with_placing board placing =
+    record {
+      occupants = slice_set board.occupants placing.cell (Some placing.id);
+      placings = board.placings ++ placing ∷ [];
+      parents = board.parents ++ 0 ∷ [];
+    }
 
 -- the words of the next newborn
 abbrev words_at : List ℕ → List ℕ
 words_at parents = words_of season 0 (count_by (λ cell. cell == 0) parents)
 
-turn : (slot : Option ℕ) (placings : List Placing) (parents : List ℕ) → next_board torus season (record { occupants = slot ∷ []; placings = placings; parents = parents }) 0 ≡ with_placing (record { occupants = slot ∷ []; placings = placings; parents = parents }) (placed 0 (slot ∷ []) (1 + length parents) (words_at parents))
+turn : (slot : Option ℕ) (placings : List Placing) (parents : List ℕ)
+    → next_board torus season
+    (record { occupants = slot ∷ []; placings = placings; parents = parents }) 0
+    ≡ with_placing (record { occupants = slot ∷ []; placings = placings; parents = parents })
+    (placed 0 (slot ∷ []) (1 + length parents) (words_at parents))
 unfolding next_board placing_of
 turn slot placings parents =
     let board : Board = record { occupants = slot ∷ []; placings = placings; parents = parents } in
-    ap (λ cell. with_placing board (placed cell (slot ∷ []) (1 + length parents) (words_at parents))) (chosen slot (slice_index_or (words_at parents) 0 0))
+    ap (λ cell. with_placing board
+    (placed cell (slot ∷ []) (1 + length parents) (words_at parents)))
+    (chosen slot (slice_index_or (words_at parents) 0 0))
 
 -- the placings of two newborns of its organism, which died
 abbrev pub two_placings : List Placing
-two_placings = placed 0 (None ∷ []) 1 (words_at []) ∷ placed 0 (Some 1 ∷ []) 2 (words_at (0 ∷ [])) ∷ []
+two_placings =
+    placed 0 (None ∷ []) 1 (words_at []) ∷ placed 0 (Some 1 ∷ []) 2 (words_at (0 ∷ [])) ∷ []
 
 pub two_placed : (placements_of torus (0 ∷ 0 ∷ []) (None ∷ []) season).placings ≡ two_placings
 unfolding placements_of

@@ -43,7 +43,8 @@ AreNumbered everyone =
 abbrev pub AreAmong : ℕ → List (Option Occupant) → Type 0
 AreAmong count cells = All (λ slot. IsBelow count (id_of slot)) cells
 
--- each organism ever in a world has its place as its id, its parent came before it, and who stands in a cell is one of them
+-- each organism ever in a world has its place as its id, its parent came before it, and who stands
+-- in a cell is one of them
 pub record IsNumberedWorld (w : World) : Type 0 where
   pub everyone : AreNumbered w.everyone
   pub standing : AreAmong (length w.everyone) w.cells

@@ -1,4 +1,5 @@
--- The lives of an update, all from one start (docs/WORLD.md, "Time slices" and "The life of one update").
+-- The lives of an update, all from one start (docs/WORLD.md, "Time slices" and "The life of one
+-- update").
 use Rattle.std.specs.Prelude.{ℕ, Bool, true, false, List, [], length, map, Option, None, Some, slice_index_or}
 use Rattle.std.specs.List.{range_with_len}
 use Rattle.random_streams.specs.declared.purpose.Purpose.TheVariants.{Run}
@@ -13,7 +14,8 @@ use Rattle.world_config.specs.Values.{ConfigValues}
 use Rattle.world_rules.specs.World.{Occupant}
 use Rattle.world_rules.specs.Settings.{settings_at}
 
--- what the life of a cell comes to: its organism after the last step, whether it died of age, and its newborns
+-- what the life of a cell comes to: its organism after the last step, whether it died of age, and
+-- its newborns
 pub record CellLife : Type 0 where
   pub occupant : Option Occupant
   pub died : Bool
@@ -49,7 +51,8 @@ cell_life id ended = record {
   newborns = ended.0.newborns;
 }
 
--- the life of who stands in a cell, with the run stream of this cell and update, of at most so many steps
+-- the life of who stands in a cell, with the run stream of this cell and update, of at most so many
+-- steps
 unfoldable pub life_of : ConfigValues → ℕ → ℕ → ℕ → Option Occupant → CellLife
 life_of config update cell steps None = no_life
 life_of config update cell steps (Some o) =

@@ -7,7 +7,8 @@ use Rattle.world_config.specs.Values.{ConfigValues}
 use Rattle.world_rules.specs.Statistics.{stats_of, dominant_of}
 use Rattle.world_rules.specs.WorldRun.{world_after}
 
--- the update, the living, their genotypes, the sum of their merits, and the dominant genome with its count
+-- the update, the living, their genotypes, the sum of their merits, and the dominant genome with
+-- its count
 pub record PictureValue : Type 0 where
   pub update : ℕ
   pub living : ℕ

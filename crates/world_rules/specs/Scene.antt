@@ -1,4 +1,5 @@
--- A world within an update, and how organisms leave it and come into it (docs/WORLD.md, "The end of an update").
+-- A world within an update, and how organisms leave it and come into it (docs/WORLD.md, "The end of
+-- an update").
 use Rattle.std.specs.Prelude.{ℕ, ◌+◌, ◌-◌, List, [], ◌∷◌, ◌++◌, length, Option, None, Some, slice_set, fold}
 use Rattle.std.specs.List.{range_with_len}
 use Rattle.std.specs.Option.{option_to_list}
@@ -6,7 +7,8 @@ use Rattle.organism.specs.OrganismState.{OrganismState}
 use Rattle.lineage_log.specs.Links.{Link}
 use Rattle.world_rules.specs.World.{Occupant, id_at}
 
--- the update, who stands in each cell, all organisms ever in the world by id, and the ids of those that died in this update, in order
+-- the update, who stands in each cell, all organisms ever in the world by id, and the ids of those
+-- that died in this update, in order
 pub record Scene : Type 0 where
   pub update : ℕ
   pub cells : List (Option Occupant)

@@ -72,8 +72,8 @@ stats_of config (suc n) = next_stats config (world_after config n)
 abbrev pub counted_in : List (List Letter) → List Letter → GenotypeCount
 counted_in genomes genome = record { genome = genome; count = count_of genomes genome }
 
--- the genome that most of the living in some cells have, and of equally frequent ones the least in the order of letters,
--- with its count
+-- the genome that most of the living in some cells have, and of equally frequent ones the least in
+-- the order of letters, with its count
 unfoldable pub dominant_of : List (Option Occupant) → Option GenotypeCount
 dominant_of cells =
     let genomes = genomes_in cells in

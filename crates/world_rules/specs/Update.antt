@@ -1,4 +1,5 @@
--- One update: lives, burials, births, events (docs/WORLD.md, "The end of an update", "Placing births" and "Events").
+-- One update: lives, burials, births, events (docs/WORLD.md, "The end of an update", "Placing
+-- births" and "Events").
 use Rattle.std.specs.Prelude.{ℕ, ◌+◌, ◌==◌, List, [], length, map, filter, fold, Option, None, Some, slice_index_or}
 use Rattle.std.specs.List.{range_with_len, flat_map, zip, enumerate_from}
 use Rattle.birth_board.specs.declared.placing.Placing.{Placing}

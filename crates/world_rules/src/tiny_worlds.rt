@@ -1,4 +1,5 @@
-// What the definitions give for tiny worlds, worked out by hand (docs/WORLD.md, "The log of a run").
+// What the definitions give for tiny worlds, worked out by hand (docs/WORLD.md, "The log of a
+// run").
 ghost use Rattle.std.specs.Prelude.{◌≡◌, [], ◌∷◌, Some, None, true, false, codes};
 ghost use Rattle.instruction_set.specs.declared.letter.Letter.TheVariants.{NopB};
 ghost use Rattle.mutations.specs.declared.rate_name.RateName.TheVariants.{Copy};

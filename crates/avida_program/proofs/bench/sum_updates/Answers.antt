@@ -1,5 +1,6 @@
 use Rattle.std.proofs.Common.{◌∙◌, ◌+◌, ap, arith, refl, sym}
-use Rattle.avida_program.proofs.BenchLemmas.{births_next, births_none, bytes_next}
+use Rattle.assay.proofs.SumLemmas.{births_none}
+use Rattle.avida_program.proofs.BenchLemmas.{births_next, bytes_next}
 use Rattle.avida_program.proofs.bench.sum_updates.Goals as goal
 
 pub loop-init : goal.loop-init
@@ -18,10 +19,12 @@ loop-preserved g c =
     let here = c.in_ok-world.ensures in
     let start = c.args.world.config in
     record {
-      config = ap (λ w. w.config) here.world ∙ so.config;
-      update = ap (λ w. w.update) here.world ∙ ap (λ n. n + 1) so.update;
-      births = births_next start c.loop.world.config c.loop.counter c.loop.world.update c.loop.sums.births _ so.births here.births so.config so.update;
-      bytes = bytes_next start c.loop.world.config c.loop.counter c.loop.world.update c.loop.sums.bytes _ so.bytes here.bytes so.config so.update;
+      config = here.config ∙ so.config;
+      update = here.update ∙ ap (λ n. n + 1) so.update;
+      births = births_next start c.loop.world.config c.loop.counter c.loop.world.update
+          c.loop.sums.births _ so.births here.births so.config so.update;
+      bytes = bytes_next start c.loop.world.config c.loop.counter c.loop.world.update
+          c.loop.sums.bytes _ so.bytes here.bytes so.config so.update;
       few_births = omega arith;
       few_bytes = omega arith;
     }

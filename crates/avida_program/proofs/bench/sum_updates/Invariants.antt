@@ -1,7 +1,7 @@
 -- The world has come so far, and the sums are those of the updates so far.
 use Rattle.std.proofs.Common.{◌≡◌, ◌≤◌, ◌*◌, ◌^◌, length}
 use Rattle.world_rules.specs.LogText.{updates_text}
-use Rattle.avida_program.specs.BenchText.{births_until}
+use Rattle.assay.specs.Assay.{births_until}
 use Rattle.avida_program.proofs.bench.sum_updates.Given as goal
 
 abbrev pub invariant-loop : goal.invariant-loop

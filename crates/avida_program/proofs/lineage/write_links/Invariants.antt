@@ -7,4 +7,5 @@ use Rattle.avida_program.proofs.lineage.write_links.Given as goal
 
 abbrev pub invariant-loop-link : goal.invariant-loop-link
 invariant-loop-link g l =
-    Writes (g.O.Sink.seen l.fn.out) (g.O.Sink.seen l.out) [] l.piece.items (flat_map path_line (take l.link-index l.links)) (Ok tt)
+    Writes (g.O.Sink.seen l.fn.out) (g.O.Sink.seen l.out) [] l.piece.items
+    (flat_map path_line (take l.link-index l.links)) (Ok tt)

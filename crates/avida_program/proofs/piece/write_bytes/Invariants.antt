@@ -5,4 +5,5 @@ use Rattle.avida_program.proofs.piece.write_bytes.Given as goal
 
 abbrev pub invariant-loop-byte : goal.invariant-loop-byte
 invariant-loop-byte g l =
-    Writes (g.O.Sink.seen l.fn.out) (g.O.Sink.seen l.out) l.fn.piece.items l.piece.items (take l.byte-index l.text) (Ok tt)
+    Writes (g.O.Sink.seen l.fn.out) (g.O.Sink.seen l.out) l.fn.piece.items l.piece.items
+    (take l.byte-index l.text) (Ok tt)

@@ -9,11 +9,20 @@ pub returns-in_err-write_byte : goal.returns-in_err-write_byte
 returns-in_err-write_byte g c =
     let p = err_from_is_err_and c.from_residual.result c.from_residual.ensures.1 in
     let i = c.loop-letter.letter-index in
-    let wrote = writes_then {r = Err c.in_err-write_byte.field-0.0} (c.byte.result ∷ []) c.loop-letter.invariant c.in_err-write_byte.ensures in
-    rw (p.1, p.2, map_cut byte_of c.args.letters.now i NopA c.loop-letter-test.true, ← c.byte.ensures)
+    let wrote = writes_then {r = Err c.in_err-write_byte.field-0.0} (c.byte.result ∷ [])
+    c.loop-letter.invariant c.in_err-write_byte.ensures in
+    rw (
+      p.1,
+      p.2,
+      map_cut byte_of c.args.letters.now i NopA c.loop-letter-test.true,
+      ← c.byte.ensures,
+    )
     (writes_short (map byte_of (drop (i + 1) c.args.letters.now)) wrote)
 
 pub loop-letter-preserved : goal.loop-letter-preserved
 loop-letter-preserved g c =
-    rw (map_next byte_of c.args.letters.now c.loop-letter.letter-index NopA c.loop-letter-test.true, ← c.byte.ensures)
+    rw (
+      map_next byte_of c.args.letters.now c.loop-letter.letter-index NopA c.loop-letter-test.true,
+      ← c.byte.ensures,
+    )
     (writes_then (c.byte.result ∷ []) c.loop-letter.invariant c.in_ok-write_byte.ensures)

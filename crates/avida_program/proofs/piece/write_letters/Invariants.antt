@@ -6,4 +6,5 @@ use Rattle.avida_program.proofs.piece.write_letters.Given as goal
 
 abbrev pub invariant-loop-letter : goal.invariant-loop-letter
 invariant-loop-letter g l =
-    Writes (g.O.Sink.seen l.fn.out) (g.O.Sink.seen l.out) l.fn.piece.items l.piece.items (map byte_of (take l.letter-index l.letters)) (Ok tt)
+    Writes (g.O.Sink.seen l.fn.out) (g.O.Sink.seen l.out) l.fn.piece.items l.piece.items
+    (map byte_of (take l.letter-index l.letters)) (Ok tt)

@@ -7,17 +7,23 @@ use Rattle.avida_program.proofs.replay.write_living.Goals as goal
 
 pub returns-in_err-write_letters : goal.returns-in_err-write_letters
 returns-in_err-write_letters g c =
-    let p = err_from_is_err_and c.from_residual-in_err-write_letters.result c.from_residual-in_err-write_letters.ensures.1 in
-    let place = decimal c.args.living.now.cell ++ codes " " ++ decimal c.args.living.now.id ++ codes " " in
+    let p = err_from_is_err_and c.from_residual-in_err-write_letters.result
+    c.from_residual-in_err-write_letters.ensures.1 in
+    let place =
+    decimal c.args.living.now.cell ++ codes " " ++ decimal c.args.living.now.id ++ codes " " in
     let held = writes_held (g.O.Sink.seen c.make_room.new.out) _ _ place c.push_place.ensures in
-    let wrote = writes_then {r = Err c.in_err-write_letters.field-0.0} (map byte_of c.letters.result.now) (writes_then place c.in_ok-make_room.ensures.writes held) c.in_err-write_letters.ensures in
+    let wrote = writes_then {r = Err c.in_err-write_letters.field-0.0}
+    (map byte_of c.letters.result.now) (writes_then place c.in_ok-make_room.ensures.writes held)
+    c.in_err-write_letters.ensures in
     let genome = c.letters.ensures.letters ∙ ap (λ (r : Resident). r.genome) c.living.view_is in
     rw (p.1, p.2, ← genome) (writes_short (10 ∷ []) wrote)
 
 pub returns : goal.returns
 returns g c =
-    let place = decimal c.args.living.now.cell ++ codes " " ++ decimal c.args.living.now.id ++ codes " " in
+    let place =
+    decimal c.args.living.now.cell ++ codes " " ++ decimal c.args.living.now.id ++ codes " " in
     let held = writes_held (g.O.Sink.seen c.make_room.new.out) _ _ place c.push_place.ensures in
-    let wrote = writes_then (map byte_of c.letters.result.now) (writes_then place c.in_ok-make_room.ensures.writes held) c.in_ok-write_letters.ensures in
+    let wrote = writes_then (map byte_of c.letters.result.now)
+    (writes_then place c.in_ok-make_room.ensures.writes held) c.in_ok-write_letters.ensures in
     let genome = c.letters.ensures.letters ∙ ap (λ (r : Resident). r.genome) c.living.view_is in
     rw (← genome) (writes_then (10 ∷ []) wrote c.write_byte.ensures)

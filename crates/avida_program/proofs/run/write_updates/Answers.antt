@@ -8,15 +8,18 @@ returns-in_err-world-clause-text g c =
     let p = err_from_is_err_and c.from_residual.result c.from_residual.ensures.1 in
     let so = c.loop.invariant in
     let within : c.loop.counter + 1 ≤ c.args.updates = omega arith in
-    let wrote = update_written c.args.world.config c.loop.world.config c.loop.counter c.loop.world.update so.written c.in_err-world.ensures.text so.config so.update in
-    rw (p.1, p.2) (update_stopped c.args.world.config (c.loop.counter + 1) c.args.updates wrote within)
+    let wrote = update_written c.args.world.config c.loop.world.config c.loop.counter
+    c.loop.world.update so.written c.in_err-world.ensures.text so.config so.update in
+    rw (p.1, p.2) (update_stopped c.args.world.config (c.loop.counter + 1) c.args.updates wrote
+    within)
 
 pub loop-preserved : goal.loop-preserved
 loop-preserved g c =
     let so = c.loop.invariant in
-    let next = c.in_ok-world.ensures.world in
+    let next = c.in_ok-world.ensures in
     record {
-      config = ap (λ w. w.config) next ∙ so.config;
-      update = ap (λ w. w.update) next ∙ ap (λ n. n + 1) so.update;
-      written = writes_same (update_written c.args.world.config c.loop.world.config c.loop.counter c.loop.world.update so.written c.in_ok-world.ensures.text so.config so.update);
+      config = next.config ∙ so.config;
+      update = next.update ∙ ap (λ n. n + 1) so.update;
+      written = writes_same (update_written c.args.world.config c.loop.world.config c.loop.counter
+          c.loop.world.update so.written c.in_ok-world.ensures.text so.config so.update);
     }

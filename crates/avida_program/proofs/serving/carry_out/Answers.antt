@@ -1,7 +1,8 @@
 use Rattle.avida_program.proofs.serving.carry_out.Goals as goal
 
 pub returns-in-Trace : goal.returns-in-Trace
-returns-in-Trace g c = rw c.in-Trace.is (c.trace.ensures (g.W.Sink.seen c.args.watch.now) c.args.last.now)
+returns-in-Trace g c =
+    rw c.in-Trace.is (c.trace.ensures (g.W.Sink.seen c.args.watch.now) c.args.last.now)
 
 pub returns-in-Run : goal.returns-in-Run
 returns-in-Run g c = rw c.in-Run.is c.run.ensures
@@ -10,10 +11,25 @@ pub returns-in-Lineage : goal.returns-in-Lineage
 returns-in-Lineage g c = rw c.in-Lineage.is (c.lineage.ensures (g.W.Sink.seen c.args.watch.now))
 
 pub returns-in-Bench : goal.returns-in-Bench
-returns-in-Bench g c = rw c.in-Bench.is (c.bench.ensures (g.S.Source.seen c.args.source.now) (g.W.Sink.seen c.args.watch.now))
+returns-in-Bench g c = rw c.in-Bench.is
+    (c.bench.ensures (g.S.Source.seen c.args.source.now) (g.W.Sink.seen c.args.watch.now))
+
+pub returns-in-Assay : goal.returns-in-Assay
+returns-in-Assay g c =
+    rw c.in-Assay.is (c.assay.ensures (g.W.Sink.seen c.args.watch.now) c.args.last.now)
 
 pub returns-in-Replay : goal.returns-in-Replay
-returns-in-Replay g c = rw c.in-Replay.is (c.replay.ensures (g.W.Sink.seen c.args.watch.now) c.args.last.now)
+returns-in-Replay g c =
+    rw c.in-Replay.is (c.replay.ensures (g.W.Sink.seen c.args.watch.now) c.args.last.now)
 
 pub returns-in-Upgrade : goal.returns-in-Upgrade
-returns-in-Upgrade g c = rw c.in-Upgrade.is (c.upgrade.ensures (g.W.Sink.seen c.args.watch.now) c.args.last.now)
+returns-in-Upgrade g c =
+    rw c.in-Upgrade.is (c.upgrade.ensures (g.W.Sink.seen c.args.watch.now) c.args.last.now)
+
+pub returns-in-Tree : goal.returns-in-Tree
+returns-in-Tree g c =
+    rw c.in-Tree.is (c.tree.ensures (g.W.Sink.seen c.args.watch.now) c.args.last.now)
+
+pub returns-in-Landscape : goal.returns-in-Landscape
+returns-in-Landscape g c =
+    rw c.in-Landscape.is (c.landscape.ensures (g.W.Sink.seen c.args.watch.now) c.args.last.now)

@@ -1,12 +1,14 @@
 -- The lines so far are written, and the organism has come so far.
 use Rattle.std.proofs.Common.{◌≡◌, ◌≤◌, [], Ok}
 use Rattle.avida_program.specs.Pieces.{Writes}
-use Rattle.avida_program.specs.TraceText.{lines_of, organism_after}
+use Rattle.landscape.specs.Trace.{organism_after}
+use Rattle.avida_program.specs.TraceText.{lines_of}
 use Rattle.avida_program.proofs.trace.write_steps.Given as goal
 
 abbrev pub invariant-loop-step : goal.invariant-loop-step
 invariant-loop-step g l = record {
   age : l.organism.age ≤ l.step;
   stepped : l.organism ≡ organism_after l.fn.organism l.step;
-  written : Writes (g.O.Sink.seen l.fn.out) (g.O.Sink.seen l.out) [] l.piece.items (lines_of l.fn.organism l.step) (Ok tt);
+  written : Writes (g.O.Sink.seen l.fn.out) (g.O.Sink.seen l.out) [] l.piece.items
+      (lines_of l.fn.organism l.step) (Ok tt);
 }

@@ -13,4 +13,5 @@ text_of line = line_text (values_of line)
 
 abbrev pub invariant-loop-line : goal.invariant-loop-line
 invariant-loop-line g l =
-    Writes (g.O.Sink.seen l.fn.out) (g.O.Sink.seen l.out) [] l.piece.items (flat_map text_of (take l.line-index l.lines)) (Ok tt)
+    Writes (g.O.Sink.seen l.fn.out) (g.O.Sink.seen l.out) [] l.piece.items
+    (flat_map text_of (take l.line-index l.lines)) (Ok tt)

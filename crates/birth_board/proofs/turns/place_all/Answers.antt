@@ -22,36 +22,62 @@ loop-parent-preserved c =
     let within : i < length parents = c.loop-parent-test.true in
     let many : length before ≡ i = omega (arith, length-take i parents) in
     let order : turn.cell ≤ parent = c.loop-parent.invariant.order i (omega arith) within in
-    let taken = words-taken turn.cell parent turn.draws.taken before order (ap (λ s. s.taken) c.loop-parent.invariant.stream) c.loop-parent.invariant.later in
+    let taken = words-taken turn.cell parent turn.draws.taken before order
+    (ap (λ s. s.taken) c.loop-parent.invariant.stream) c.loop-parent.invariant.later in
     let stream = c.turn_to-turn.ensures.draws ∙ ap (place_stream season parent) taken in
     let id : c.loop-parent.id ≡ season.next_id + length before = omega arith in
-    let placed = placing-next torus season board parent before c.loop-parent.occupants c.loop-parent.id c.turn_to-turn.result.draws c.place_one-placing.result (board-parents torus season _ before) c.loop-parent.invariant.occupants id stream c.place_one-placing.ensures.placing in
+    let placed = placing-next torus season board parent before c.loop-parent.occupants
+    c.loop-parent.id c.turn_to-turn.result.draws c.place_one-placing.result
+    (board-parents torus season _ before) c.loop-parent.invariant.occupants id stream
+    c.place_one-placing.ensures.placing in
     let more = board_after-more torus season c.args.occupants.now parents i within in
-    let counted : count_by (λ p. p == parent) (take (i + 1) parents) ≡ count_by (λ p. p == parent) before + 1 = count_by_more_yes (λ p. p == parent) parents i 0 within (eqb-self parent) in
-    let words : 4 * count_by (λ p. p == parent) before + 4 ≡ 4 * count_by (λ p. p == parent) (take (i + 1) parents) = omega arith in
+    let counted : count_by (λ p. p == parent) (take (i + 1) parents)
+    ≡ count_by (λ p. p == parent) before + 1 =
+    count_by_more_yes (λ p. p == parent) parents i 0 within (eqb-self parent) in
+    let words : 4 * count_by (λ p. p == parent) before + 4
+    ≡ 4 * count_by (λ p. p == parent) (take (i + 1) parents) = omega arith in
     let in_torus : Placing → Type 0 = λ placing. placing.cell < cells_of torus in
     record {
-      stream = c.place_one-placing.ensures.draws ∙ ap (after 4) stream ∙ ap (place_stream season parent) words ∙ ap (λ q. place_stream season q (4 * count_by (λ p. p == q) (take (i + 1) parents))) (sym c.turn_to-turn.ensures.cell);
+      stream = c.place_one-placing.ensures.draws ∙ ap (after 4) stream
+          ∙ ap (place_stream season parent) words
+          ∙ ap (λ q. place_stream season q (4 * count_by (λ p. p == q) (take (i + 1) parents)))
+          (sym c.turn_to-turn.ensures.cell);
       later = λ q above.
           let below : parent < q = omega arith in
-          count_by_more_no (λ p. p == q) parents i 0 within (eqb-below parent q below) ∙ c.loop-parent.invariant.later q (omega arith);
+          count_by_more_no (λ p. p == q) parents i 0 within (eqb-below parent q below)
+          ∙ c.loop-parent.invariant.later q (omega arith);
       order = λ k low high. omega (arith, c.requires.can.rising i k 0 (omega arith) high);
       id = omega arith;
-      occupants = next_board-occupants torus season board parent c.loop-parent.occupants c.place_one-placing.new.occupants c.place_one-placing.result c.loop-parent.invariant.occupants placed c.place_one-placing.ensures.occupants ∙ ap (λ b. b.occupants) (sym more);
-      placings = next_board-placings torus season board parent c.loop-parent.placings.items c.push_reserved.new.self.items c.place_one-placing.result c.loop-parent.invariant.placings placed c.push_reserved.ensures.items ∙ ap (λ b. b.placings) (sym more);
-      count = omega (arith, ap length c.push_reserved.ensures.items, length-append c.loop-parent.placings.items (c.place_one-placing.result ∷ []));
+      occupants = next_board-occupants torus season board parent c.loop-parent.occupants
+          c.place_one-placing.new.occupants c.place_one-placing.result
+          c.loop-parent.invariant.occupants placed c.place_one-placing.ensures.occupants
+          ∙ ap (λ b. b.occupants) (sym more);
+      placings = next_board-placings torus season board parent c.loop-parent.placings.items
+          c.push_reserved.new.self.items c.place_one-placing.result c.loop-parent.invariant.placings
+          placed c.push_reserved.ensures.items ∙ ap (λ b. b.placings) (sym more);
+      count = omega (
+        arith,
+        ap length c.push_reserved.ensures.items,
+        length-append c.loop-parent.placings.items (c.place_one-placing.result ∷ []),
+      );
       room = omega (arith, c.push_reserved.ensures.capacity);
-      cells = ap length c.place_one-placing.ensures.occupants ∙ length-set c.loop-parent.occupants _ _ ∙ c.loop-parent.invariant.cells;
-      in_torus = All-same in_torus _ _ c.push_reserved.ensures.items (All-push in_torus c.loop-parent.placings.items c.place_one-placing.result c.loop-parent.invariant.in_torus c.place_one-placing.ensures.in_torus);
+      cells = ap length c.place_one-placing.ensures.occupants
+          ∙ length-set c.loop-parent.occupants _ _ ∙ c.loop-parent.invariant.cells;
+      in_torus = All-same in_torus _ _ c.push_reserved.ensures.items
+          (All-push in_torus c.loop-parent.placings.items c.place_one-placing.result
+          c.loop-parent.invariant.in_torus c.place_one-placing.ensures.in_torus);
     }
 
 pub returns-clause-placings : goal.returns-clause-placings
 unfolding placements_of
 returns-clause-placings c =
     let torus = torus_numbers c.args.torus.now in
-    let all : take c.loop-parent.parent-index c.args.parents.now ≡ c.args.parents.now = take_all c.loop-parent.parent-index c.args.parents.now (omega arith) in
+    let all : take c.loop-parent.parent-index c.args.parents.now ≡ c.args.parents.now =
+    take_all c.loop-parent.parent-index c.args.parents.now (omega arith) in
     record {
-      placings = c.loop-parent.invariant.placings ∙ ap (λ parents. (board_after torus c.args.season.now c.args.occupants.now parents).placings) all;
+      placings = c.loop-parent.invariant.placings
+          ∙ ap (λ parents. (board_after torus c.args.season.now c.args.occupants.now
+          parents).placings) all;
       count = omega arith;
       in_torus = c.loop-parent.invariant.in_torus;
     }
@@ -60,8 +86,11 @@ pub returns-clause-occupants : goal.returns-clause-occupants
 unfolding placements_of
 returns-clause-occupants c =
     let torus = torus_numbers c.args.torus.now in
-    let all : take c.loop-parent.parent-index c.args.parents.now ≡ c.args.parents.now = take_all c.loop-parent.parent-index c.args.parents.now (omega arith) in
+    let all : take c.loop-parent.parent-index c.args.parents.now ≡ c.args.parents.now =
+    take_all c.loop-parent.parent-index c.args.parents.now (omega arith) in
     record {
-      occupants = c.loop-parent.invariant.occupants ∙ ap (λ parents. (board_after torus c.args.season.now c.args.occupants.now parents).occupants) all;
+      occupants = c.loop-parent.invariant.occupants
+          ∙ ap (λ parents. (board_after torus c.args.season.now c.args.occupants.now
+          parents).occupants) all;
       cells = c.loop-parent.invariant.cells;
     }

@@ -14,8 +14,14 @@ loop-birth-preserved g c =
     let laws = c.calls_number_genotypes.ensures in
     let told = c.in_ok-delivered.ensures in
     let kept = c.deliver_one.ensures.kept in
-    let taken : into_iter_items c.loop-birth.birth-iterator ≡ c.in-Some.birth ∷ into_iter_items c.next.new.self = search rules in
+    let taken : into_iter_items c.loop-birth.birth-iterator
+    ≡ c.in-Some.birth ∷ into_iter_items c.next.new.self = search rules in
     record {
-      births = births-more c.loop-birth.deliveries c.push.new.self c.in_ok-delivered.delivered c.in-Some.birth (into_iter_items c.next.new.self) (into_iter_items c.loop-birth.birth-iterator) _ c.in_ok-push.ensures.ok told.birth taken c.loop-birth.invariant.births;
-      seat = HasInterned-more laws.seen laws.stay c.args.seat.now c.loop-birth.seat c.deliver_one.new.seat c.loop-birth.deliveries c.push.new.self c.in_ok-delivered.delivered c.loop-birth.invariant.seat kept.0 kept.1 told.call told.number c.in_ok-push.ensures.ok;
+      births = births-more c.loop-birth.deliveries c.push.new.self c.in_ok-delivered.delivered
+          c.in-Some.birth (into_iter_items c.next.new.self)
+          (into_iter_items c.loop-birth.birth-iterator) _ c.in_ok-push.ensures.ok told.birth taken
+          c.loop-birth.invariant.births;
+      seat = HasInterned-more laws.seen laws.stay c.args.seat.now c.loop-birth.seat
+          c.deliver_one.new.seat c.loop-birth.deliveries c.push.new.self c.in_ok-delivered.delivered
+          c.loop-birth.invariant.seat kept.0 kept.1 told.call told.number c.in_ok-push.ensures.ok;
     }

@@ -5,6 +5,7 @@ use Rattle.cell_shards.proofs.delivering.deliver.Given as goal
 
 abbrev pub invariant-loop-birth : goal.invariant-loop-birth
 invariant-loop-birth g l = record {
-  births : map birth_of l.deliveries ++ into_iter_items l.birth-iterator ≡ into_iter_items l.initial.birth-iterator;
+  births : map birth_of l.deliveries ++ into_iter_items l.birth-iterator
+      ≡ into_iter_items l.initial.birth-iterator;
   seat : HasInterned l.initial.seat l.seat l.deliveries;
 }

@@ -10,10 +10,12 @@ pub returns-clause-next : goal.returns-clause-next
 returns-clause-next c = λ cells workers shard. refl
 
 pub returns-clause-rising : goal.returns-clause-rising
-returns-clause-rising c = λ cells workers shard some. first_cell-rises cells workers shard (shard + 1) some (omega arith)
+returns-clause-rising c =
+    λ cells workers shard some. first_cell-rises cells workers shard (shard + 1) some (omega arith)
 
 pub returns-clause-end : goal.returns-clause-end
-returns-clause-end c = λ cells workers last is. ap (first_cell cells workers) (sym is) ∙ first_cell-end cells workers (omega (arith, is))
+returns-clause-end c = λ cells workers last is. ap (first_cell cells workers) (sym is)
+    ∙ first_cell-end cells workers (omega (arith, is))
 
 pub returns-clause-one : goal.returns-clause-one
 returns-clause-one c = shard_of

@@ -7,4 +7,5 @@ use Rattle.cell_shards.proofs.lives.add.Given as goal
 abbrev pub invariant-loop-newborn : goal.invariant-loop-newborn
 invariant-loop-newborn l =
     l.births.items ++ map (birth_in l.cell) (map newborn_value (into_iter_items l.newborn-iterator))
-    ≡ l.initial.births.items ++ map (birth_in l.cell) (map newborn_value (into_iter_items l.initial.newborn-iterator))
+    ≡ l.initial.births.items
+    ++ map (birth_in l.cell) (map newborn_value (into_iter_items l.initial.newborn-iterator))

@@ -6,18 +6,30 @@ use Rattle.cell_shards.proofs.LivesLemmas.{HaveLived-none, HaveLived-next, HaveL
 use Rattle.cell_shards.proofs.lives.live.Goals as goal
 
 pub loop-place-init : goal.loop-place-init
-loop-place-init c = HaveLived-none (round_numbers c.args.round.now) (part_from c.args.first c.args.cells.now c.args.slices.now) c.new.result.items c.new-2.result.items c.new.ensures.items c.new-2.ensures.items
+loop-place-init c = HaveLived-none (round_numbers c.args.round.now)
+    (part_from c.args.first c.args.cells.now c.args.slices.now) c.new.result.items
+    c.new-2.result.items c.new.ensures.items c.new-2.ensures.items
 
 pub live_in-requires-clause-young : goal.live_in-requires-clause-young
 live_in-requires-clause-young c =
-    HaveLived-next (round_numbers c.args.round.now) (part_from c.args.first c.args.cells.now c.args.slices.now) c.loop-place.place c.loop-place.cells c.loop-place.lived.births.items c.loop-place.lived.dead.items c.index-cells-place.result c.loop-place.invariant (omega arith) c.requires.young
+    HaveLived-next (round_numbers c.args.round.now)
+    (part_from c.args.first c.args.cells.now c.args.slices.now) c.loop-place.place
+    c.loop-place.cells c.loop-place.lived.births.items c.loop-place.lived.dead.items
+    c.index-cells-place.result c.loop-place.invariant (omega arith) c.requires.young
 
 pub loop-place-preserved : goal.loop-place-preserved
 loop-place-preserved c =
     let within : c.loop-place.place < length c.args.cells.now = omega arith in
     let inside : c.loop-place.place < length c.loop-place.cells = omega arith in
-    let old = get_or_default c.loop-place.cells c.loop-place.place c.index-cells-place.result None inside in
-    HaveLived-more (round_numbers c.args.round.now) (part_from c.args.first c.args.cells.now c.args.slices.now) c.loop-place.place c.loop-place.cells c.loop-place.lived.births.items c.tell.new.self.births.items c.loop-place.lived.dead.items c.tell.new.self.dead.items (c.args.first + c.loop-place.place) _ _ c.live_in.new.slot c.bury.new.slot c.in_ok-life.life.died (map newborn_value c.in_ok-life.life.births) c.loop-place.invariant within refl refl old c.in_ok-life.ensures c.bury.ensures c.in_ok-tell.ensures.births c.in_ok-tell.ensures.dead
+    let old = get_or_default c.loop-place.cells c.loop-place.place c.index-cells-place.result None
+    inside in
+    HaveLived-more (round_numbers c.args.round.now)
+    (part_from c.args.first c.args.cells.now c.args.slices.now) c.loop-place.place
+    c.loop-place.cells c.loop-place.lived.births.items c.tell.new.self.births.items
+    c.loop-place.lived.dead.items c.tell.new.self.dead.items (c.args.first + c.loop-place.place)
+    _ _ c.live_in.new.slot c.bury.new.slot c.in_ok-life.life.died
+    (map newborn_value c.in_ok-life.life.births) c.loop-place.invariant within refl refl old
+    c.in_ok-life.ensures c.bury.ensures c.in_ok-tell.ensures.births c.in_ok-tell.ensures.dead
 
 pub returns-clause-cells : goal.returns-clause-cells
 returns-clause-cells c = all-cells _ _ _ _ _ _ c.loop-place.invariant (omega arith)

@@ -9,9 +9,14 @@ use Rattle.cell_shards.proofs.lives.live_once.Goals as goal
 
 pub returns : goal.returns
 returns c =
-    let begins : life_state c.args.organism.now c.none-births.result c.start-draws.result ≡ beginning c.args.organism.now = λ i. record {
+    let begins : life_state c.args.organism.now c.none-births.result c.start-draws.result
+    ≡ beginning c.args.organism.now = λ i. record {
       organism = c.args.organism.now;
       newborns = map newborn_value (c.none-births.ensures i);
       next = (c.start-draws.ensures i).taken;
     } in
-    life_of-run (round_numbers c.args.round.now) c.args.cell c.args.steps c.args.organism.now (word_of c.start-draws.result) _ (life_state c.run.new.self c.run.new.births c.run.new.draws) c.in_ok-ran.ran c.is_death.result (ap word_of c.start-draws.ensures) begins c.in_ok-ran.ensures.life c.is_death.ensures
+    life_of-run (round_numbers c.args.round.now) c.args.cell c.args.steps c.args.organism.now
+    (word_of c.start-draws.result) _
+    (life_state c.run.new.self c.run.new.births c.run.new.draws) c.in_ok-ran.ran
+    c.is_death.result (ap word_of c.start-draws.ensures) begins c.in_ok-ran.ensures.life
+    c.is_death.ensures

@@ -5,4 +5,5 @@ use Rattle.census.proofs.genotypes.best_of.Given as goal
 
 -- what the rest makes of the best so far
 abbrev pub invariant-loop-genotype : goal.invariant-loop-genotype
-invariant-loop-genotype l = best_of outranks l.best l.genotype-iterator ≡ best_of outranks l.first l.fn.rest
+invariant-loop-genotype l =
+    best_of outranks l.best l.genotype-iterator ≡ best_of outranks l.first l.fn.rest

@@ -11,4 +11,6 @@ returns-then-count_under-gt1-clause-living c =
 pub returns-else-count_under-gt1-clause-living : goal.returns-else-count_under-gt1-clause-living
 returns-else-count_under-gt1-clause-living c =
     ap (λ genotypes. living_of genotypes + 1) c.remove.ensures.entries
-    ∙ living-removed c.args.genotypes.now.entries c.args.key (count_under-some c.args.genotypes.now.entries c.args.key c.requires.genotypes c.requires.counted) (omega arith)
+    ∙ living-removed c.args.genotypes.now.entries c.args.key
+    (count_under-some c.args.genotypes.now.entries c.args.key c.requires.genotypes
+    c.requires.counted) (omega arith)

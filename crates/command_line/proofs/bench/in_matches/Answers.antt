@@ -12,17 +12,22 @@ values seed workers = record { seed = seed; workers = workers }
 pub returns-in_err-get_str : goal.returns-in_err-get_str
 returns-in_err-get_str c =
     let f = found_of c.args.matches.now in
-    c.from_residual.ensures ∙ nothing_taken values 9223372036854775807 (codes "seed") (rows_of f) (c.in_err-get_str.ensures ∙ first_value-rows f (codes "seed"))
+    c.from_residual.ensures ∙ nothing_taken values 9223372036854775807 (codes "seed") (rows_of f)
+    (c.in_err-get_str.ensures ∙ first_value-rows f (codes "seed"))
 
 pub returns-in_err-seed : goal.returns-in_err-seed
 returns-in_err-seed c =
     let f = found_of c.args.matches.now in
-    c.from_residual-in_err-seed.ensures ∙ taken values 9223372036854775807 (codes "seed") (rows_of f) c.in_ok-get_str.field-0.now None
+    c.from_residual-in_err-seed.ensures
+    ∙ taken values 9223372036854775807 (codes "seed") (rows_of f) c.in_ok-get_str.field-0.now
+    None
     (option_and_then (number_of 1 64) (first_of (codes "workers") (rows_of f)))
     (c.in_ok-get_str.ensures ∙ first_value-rows f (codes "seed")) c.in_err-seed.ensures refl
 
 pub returns : goal.returns
 returns c =
     let f = found_of c.args.matches.now in
-    taken values 9223372036854775807 (codes "seed") (rows_of f) c.in_ok-get_str.field-0.now (Some c.in_ok-seed.seed) (Some c.in_ok-workers.workers)
-    (c.in_ok-get_str.ensures ∙ first_value-rows f (codes "seed")) c.in_ok-seed.ensures c.in_ok-workers.ensures
+    taken values 9223372036854775807 (codes "seed") (rows_of f) c.in_ok-get_str.field-0.now
+    (Some c.in_ok-seed.seed) (Some c.in_ok-workers.workers)
+    (c.in_ok-get_str.ensures ∙ first_value-rows f (codes "seed")) c.in_ok-seed.ensures
+    c.in_ok-workers.ensures

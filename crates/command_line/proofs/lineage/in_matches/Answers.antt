@@ -12,17 +12,21 @@ values cell workers = record { cell = cell; workers = workers }
 pub returns-in_err-get_str : goal.returns-in_err-get_str
 returns-in_err-get_str c =
     let f = found_of c.args.matches.now in
-    c.from_residual.ensures ∙ nothing_taken values 65535 (codes "cell") (rows_of f) (c.in_err-get_str.ensures ∙ first_value-rows f (codes "cell"))
+    c.from_residual.ensures ∙ nothing_taken values 65535 (codes "cell") (rows_of f)
+    (c.in_err-get_str.ensures ∙ first_value-rows f (codes "cell"))
 
 pub returns-in_err-cell : goal.returns-in_err-cell
 returns-in_err-cell c =
     let f = found_of c.args.matches.now in
-    c.from_residual-in_err-cell.ensures ∙ taken values 65535 (codes "cell") (rows_of f) c.in_ok-get_str.field-0.now None
+    c.from_residual-in_err-cell.ensures
+    ∙ taken values 65535 (codes "cell") (rows_of f) c.in_ok-get_str.field-0.now None
     (option_and_then (number_of 1 64) (first_of (codes "workers") (rows_of f)))
     (c.in_ok-get_str.ensures ∙ first_value-rows f (codes "cell")) c.in_err-cell.ensures refl
 
 pub returns : goal.returns
 returns c =
     let f = found_of c.args.matches.now in
-    taken values 65535 (codes "cell") (rows_of f) c.in_ok-get_str.field-0.now (Some c.in_ok-cell.cell) (Some c.in_ok-workers.workers)
-    (c.in_ok-get_str.ensures ∙ first_value-rows f (codes "cell")) c.in_ok-cell.ensures c.in_ok-workers.ensures
+    taken values 65535 (codes "cell") (rows_of f) c.in_ok-get_str.field-0.now
+    (Some c.in_ok-cell.cell) (Some c.in_ok-workers.workers)
+    (c.in_ok-get_str.ensures ∙ first_value-rows f (codes "cell")) c.in_ok-cell.ensures
+    c.in_ok-workers.ensures

@@ -12,7 +12,8 @@ some_kind k [] h r = absurd h
 some_kind k (x ∷ xs) h Memory = tt
 some_kind k (x ∷ xs) h BadWords = tt
 
-refused_kind : (e : Error) (k : ErrorKind) (r : Refused) (kinds : Kinds) → HasKind kinds e → k ≡ kind_of e → r ≡ refused_by k → IsRefusedBy kinds r
+refused_kind : (e : Error) (k : ErrorKind) (r : Refused) (kinds : Kinds) → HasKind kinds e
+    → k ≡ kind_of e → r ≡ refused_by k → IsRefusedBy kinds r
 refused_kind e k r kinds (inl memory) same by = rw (by, same, memory) tt
 refused_kind e k r kinds (inr among) same by = some_kind (kind_of e) kinds among r
 

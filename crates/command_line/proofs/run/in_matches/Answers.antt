@@ -7,10 +7,12 @@ use Rattle.numerals.specs.Numeral.{number_of}
 use Rattle.command_line.specs.Parsers.{told_in}
 use Rattle.command_line.proofs.run.in_matches.Goals as goal
 
-taken : (rows : List Row) (workers : ℕ) (watch : Option Text) → watch ≡ first_of (codes "watch") rows
+taken : (rows : List Row) (workers : ℕ) (watch : Option Text)
+    → watch ≡ first_of (codes "watch") rows
     → Some workers ≡ option_and_then (number_of 1 64) (first_of (codes "workers") rows)
     → run_with watch workers ≡ option_and_then run_of (told_in run_form [] rows)
-taken rows workers watch read number = rw read (ap (option_and_then (run_with (first_of (codes "watch") rows))) number)
+taken rows workers watch read number =
+    rw read (ap (option_and_then (run_with (first_of (codes "watch") rows))) number)
 
 pub returns : goal.returns
 returns c =

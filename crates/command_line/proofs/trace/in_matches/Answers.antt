@@ -7,23 +7,28 @@ use Rattle.numerals.specs.Numeral.{number_of}
 use Rattle.command_line.specs.Parsers.{is_given_true, told_in, trace_texts}
 use Rattle.command_line.proofs.trace.in_matches.Goals as goal
 
-taken : (rows : List Row) (text : Text) (n : Option ℕ) (org : Option Text) (is_org : Bool) → Some text ≡ first_of (codes "steps") rows
+taken : (rows : List Row) (text : Text) (n : Option ℕ) (org : Option Text) (is_org : Bool)
+    → Some text ≡ first_of (codes "steps") rows
     → n ≡ number_of 0 1000000 text → org ≡ first_of (codes "org") rows → is_org ≡ is_given_true org
-    → option_map (λ steps. record { steps = steps; org = is_org }) n ≡ option_and_then trace_of (told_in trace_form trace_texts rows)
+    → option_map (λ steps. record { steps = steps; org = is_org }) n
+    ≡ option_and_then trace_of (told_in trace_form trace_texts rows)
 taken rows text n org is_org read number org_read flag = rw (flag, org_read, number, ← read) refl
 
-nothing_taken : (rows : List Row) → None ≡ first_of (codes "steps") rows → None ≡ option_and_then trace_of (told_in trace_form trace_texts rows)
+nothing_taken : (rows : List Row) → None ≡ first_of (codes "steps") rows
+    → None ≡ option_and_then trace_of (told_in trace_form trace_texts rows)
 nothing_taken rows read = rw (← read) refl
 
 pub returns-in_err-get_str : goal.returns-in_err-get_str
 returns-in_err-get_str c =
     let f = found_of c.args.matches.now in
-    c.from_residual.ensures ∙ nothing_taken (rows_of f) (c.in_err-get_str.ensures ∙ first_value-rows f (codes "steps"))
+    c.from_residual.ensures ∙ nothing_taken (rows_of f)
+    (c.in_err-get_str.ensures ∙ first_value-rows f (codes "steps"))
 
 pub returns-in_err-steps : goal.returns-in_err-steps
 returns-in_err-steps c =
     let f = found_of c.args.matches.now in
-    c.from_residual-in_err-steps.ensures ∙ taken (rows_of f) c.in_ok-get_str.field-0.now None (first_of (codes "org") (rows_of f)) _
+    c.from_residual-in_err-steps.ensures
+    ∙ taken (rows_of f) c.in_ok-get_str.field-0.now None (first_of (codes "org") (rows_of f)) _
     (c.in_ok-get_str.ensures ∙ first_value-rows f (codes "steps")) c.in_err-steps.ensures refl refl
 
 pub returns : goal.returns

@@ -10,11 +10,15 @@ returns-in_err-matches c =
     let words = map string_bytes c.args.words.now in
     let some : 0 < length words = rw (length-map c.args.words.now string_bytes) c.requires in
     let p = err_from_is_err_and c.from_residual.result c.from_residual.ensures.1 in
-    rw (p.1, p.2) (stops (trace_reads c.one_spelling.ensures.no_minus) words (app_of c.in-Ok.command) c.in_err-matches.field-0.0 some c.in-Ok.ensures c.in_err-matches.ensures)
+    rw (p.1, p.2) (stops (trace_reads c.one_spelling.ensures.no_minus) words
+    (app_of c.in-Ok.command) c.in_err-matches.field-0.0 some c.in-Ok.ensures
+    c.in_err-matches.ensures)
 
 pub returns : goal.returns
 returns c =
     let words = map string_bytes c.args.words.now in
     let some : 0 < length words = rw (length-map c.args.words.now string_bytes) c.requires in
-    ends (trace_reads c.one_spelling.ensures.no_minus) words (app_of c.in-Ok.command) (rows_of (found_of c.in_ok-matches.matches)) c.in_matches.result c.ok_or.result some c.in-Ok.ensures
+    ends (trace_reads c.one_spelling.ensures.no_minus) words (app_of c.in-Ok.command)
+    (rows_of (found_of c.in_ok-matches.matches)) c.in_matches.result c.ok_or.result some
+    c.in-Ok.ensures
     c.in_ok-matches.ensures.0 c.in_ok-matches.ensures.1 c.in_matches.ensures c.ok_or.ensures.value

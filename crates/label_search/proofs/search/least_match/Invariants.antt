@@ -5,4 +5,6 @@ use Rattle.label_search.proofs.search.least_match.Given as goal
 
 -- the first match is among the places that are left
 abbrev pub invariant-loop-place : goal.invariant-loop-place
-invariant-loop-place l = find (occurs_at l.memory l.what) (range_with_len l.place (length l.memory - l.place)) ≡ first_match l.memory l.what
+invariant-loop-place l =
+    find (occurs_at l.memory l.what) (range_with_len l.place (length l.memory - l.place))
+    ≡ first_match l.memory l.what

@@ -17,23 +17,46 @@ loop-init c = record {
 
 pub returns-then-not-is_nop-clause-complement : goal.returns-then-not-is_nop-clause-complement
 returns-then-not-is_nop-clause-complement c =
-    let place : c.next_place-place.result ≡ (c.args.ip + (1 + c.loop.counter)) % length c.args.memory.now = rw c.loop.invariant.place at c.next_place-place.ensures ∙ mod-next c.args.ip c.loop.counter _ ∙ ap (λ k. (c.args.ip + k) % length c.args.memory.now) (omega arith) in
-    let other : is_nop (letter_after c.args.memory.now c.args.ip (1 + c.loop.counter)) ≡ false = rw (← place) (sym c.is_nop.ensures ∙ c.if-not-is_nop.true) in
+    let place : c.next_place-place.result
+    ≡ (c.args.ip + (1 + c.loop.counter)) % length c.args.memory.now =
+    rw c.loop.invariant.place at c.next_place-place.ensures
+    ∙ mod-next c.args.ip c.loop.counter _
+    ∙ ap (λ k. (c.args.ip + k) % length c.args.memory.now) (omega arith) in
+    let other : is_nop (letter_after c.args.memory.now c.args.ip (1 + c.loop.counter)) ≡ false =
+    rw (← place) (sym c.is_nop.ensures ∙ c.if-not-is_nop.true) in
     let none = nops-end c.args.memory.now c.args.ip c.loop.counter (omega arith) other [] in
-    sym (append-nil c.loop.complement) ∙ sym (ap (λ nops. c.loop.complement ++ complements_of nops) none) ∙ c.loop.invariant.nops
+    sym (append-nil c.loop.complement)
+    ∙ sym (ap (λ nops. c.loop.complement ++ complements_of nops) none) ∙ c.loop.invariant.nops
 
 pub loop-preserved : goal.loop-preserved
 loop-preserved c =
-    let next : c.next_place-place.result ≡ (c.args.ip + (c.loop.counter + 1)) % length c.args.memory.now = rw c.loop.invariant.place at c.next_place-place.ensures ∙ mod-next c.args.ip c.loop.counter _ in
-    let place : c.next_place-place.result ≡ (c.args.ip + (1 + c.loop.counter)) % length c.args.memory.now = next ∙ ap (λ k. (c.args.ip + k) % length c.args.memory.now) (omega arith) in
+    let next : c.next_place-place.result
+    ≡ (c.args.ip + (c.loop.counter + 1)) % length c.args.memory.now =
+    rw c.loop.invariant.place at c.next_place-place.ensures
+    ∙ mod-next c.args.ip c.loop.counter _ in
+    let place : c.next_place-place.result
+    ≡ (c.args.ip + (1 + c.loop.counter)) % length c.args.memory.now =
+    next ∙ ap (λ k. (c.args.ip + k) % length c.args.memory.now) (omega arith) in
     let letter = letter_after c.args.memory.now c.args.ip (1 + c.loop.counter) in
     let nop : is_nop letter ≡ true = rw (← place) (sym c.is_nop.ensures ∙ c.if-not-is_nop.false) in
-    let rest = nops-next c.args.memory.now c.args.ip c.loop.counter (10 - (c.loop.counter + 1)) (omega arith) nop in
-    let nop-too : is_nop (unwrap_or (complement_of letter) letter) ≡ true = is_nop-complement letter nop in
-    let other : c.complement_of.result ≡ unwrap_or (complement_of letter) letter = rw place at c.complement_of.ensures in
-    let noted : c.note.new.self ≡ c.loop.complement ++ unwrap_or (complement_of letter) letter ∷ [] = rw other at c.note.ensures.read ∙ nops_read-room c.loop.complement (unwrap_or (complement_of letter) letter) nop-too (omega arith) in
+    let rest = nops-next c.args.memory.now c.args.ip c.loop.counter (10 - (c.loop.counter + 1))
+    (omega arith) nop in
+    let nop-too : is_nop (unwrap_or (complement_of letter) letter) ≡ true =
+    is_nop-complement letter nop in
+    let other : c.complement_of.result ≡ unwrap_or (complement_of letter) letter =
+    rw place at c.complement_of.ensures in
+    let noted : c.note.new.self ≡ c.loop.complement ++ unwrap_or (complement_of letter) letter
+    ∷ [] = rw other at c.note.ensures.read
+    ∙ nops_read-room c.loop.complement (unwrap_or (complement_of letter) letter) nop-too
+    (omega arith) in
     record {
       place = next;
-      count = rw (noted, length-append c.loop.complement (unwrap_or (complement_of letter) letter ∷ [])) (omega arith);
-      nops = rw (noted, append_assoc) (ap (λ nops. c.loop.complement ++ complements_of nops) (sym rest) ∙ c.loop.invariant.nops);
+      count = rw (
+        noted,
+        length-append c.loop.complement
+            (unwrap_or (complement_of letter) letter ∷ []),
+      ) (omega arith);
+      nops = rw (noted, append_assoc)
+          (ap (λ nops. c.loop.complement ++ complements_of nops) (sym rest)
+          ∙ c.loop.invariant.nops);
     }

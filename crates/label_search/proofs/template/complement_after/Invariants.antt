@@ -8,5 +8,8 @@ abbrev pub invariant-loop : goal.invariant-loop
 invariant-loop l = record {
   place : l.last ≡ (l.ip + l.counter) % length l.memory;
   count : length l.complement ≡ l.counter;
-  nops : l.complement ++ complements_of (take_while is_nop (map (letter_after l.memory l.ip) (range_with_len (1 + l.counter) (10 - l.counter)))) ≡ complements_of (template_after l.memory l.ip);
+  nops : l.complement ++ complements_of
+      (take_while is_nop (map (letter_after l.memory l.ip)
+      (range_with_len (1 + l.counter) (10 - l.counter))))
+      ≡ complements_of (template_after l.memory l.ip);
 }

@@ -17,9 +17,15 @@ loop-init c = record {
 
 pub returns-then-not-is_nop-clause-nops : goal.returns-then-not-is_nop-clause-nops
 returns-then-not-is_nop-clause-nops c =
-    let place : c.next_place-place.result ≡ (c.args.ip + (1 + c.loop.counter)) % length c.args.memory.now = rw c.loop.invariant.place at c.next_place-place.ensures ∙ mod-next c.args.ip c.loop.counter _ ∙ ap (λ k. (c.args.ip + k) % length c.args.memory.now) (omega arith) in
-    let other : is_nop (letter_after c.args.memory.now c.args.ip (1 + c.loop.counter)) ≡ false = rw (← place) (sym c.is_nop.ensures ∙ c.if-not-is_nop.true) in
-    sym (nops-end c.args.memory.now c.args.ip c.loop.counter (omega arith) other c.loop.template) ∙ c.loop.invariant.nops
+    let place : c.next_place-place.result
+    ≡ (c.args.ip + (1 + c.loop.counter)) % length c.args.memory.now =
+    rw c.loop.invariant.place at c.next_place-place.ensures
+    ∙ mod-next c.args.ip c.loop.counter _
+    ∙ ap (λ k. (c.args.ip + k) % length c.args.memory.now) (omega arith) in
+    let other : is_nop (letter_after c.args.memory.now c.args.ip (1 + c.loop.counter)) ≡ false =
+    rw (← place) (sym c.is_nop.ensures ∙ c.if-not-is_nop.true) in
+    sym (nops-end c.args.memory.now c.args.ip c.loop.counter (omega arith) other c.loop.template)
+    ∙ c.loop.invariant.nops
 
 pub returns-then-not-is_nop-clause-template : goal.returns-then-not-is_nop-clause-template
 returns-then-not-is_nop-clause-template c = c.loop.invariant.template
@@ -29,15 +35,23 @@ returns-clause-template c = c.loop.invariant.template
 
 pub loop-preserved : goal.loop-preserved
 loop-preserved c =
-    let next : c.next_place-place.result ≡ (c.args.ip + (c.loop.counter + 1)) % length c.args.memory.now = rw c.loop.invariant.place at c.next_place-place.ensures ∙ mod-next c.args.ip c.loop.counter _ in
-    let place : c.next_place-place.result ≡ (c.args.ip + (1 + c.loop.counter)) % length c.args.memory.now = next ∙ ap (λ k. (c.args.ip + k) % length c.args.memory.now) (omega arith) in
+    let next : c.next_place-place.result
+    ≡ (c.args.ip + (c.loop.counter + 1)) % length c.args.memory.now =
+    rw c.loop.invariant.place at c.next_place-place.ensures
+    ∙ mod-next c.args.ip c.loop.counter _ in
+    let place : c.next_place-place.result
+    ≡ (c.args.ip + (1 + c.loop.counter)) % length c.args.memory.now =
+    next ∙ ap (λ k. (c.args.ip + k) % length c.args.memory.now) (omega arith) in
     let letter = letter_after c.args.memory.now c.args.ip (1 + c.loop.counter) in
     let nop : is_nop letter ≡ true = rw (← place) (sym c.is_nop.ensures ∙ c.if-not-is_nop.false) in
-    let rest = nops-next c.args.memory.now c.args.ip c.loop.counter (10 - (c.loop.counter + 1)) (omega arith) nop in
-    let noted : c.note.new.self ≡ c.loop.template ++ letter ∷ [] = rw place at c.note.ensures.read ∙ nops_read-room c.loop.template letter nop (omega arith) in
+    let rest = nops-next c.args.memory.now c.args.ip c.loop.counter (10 - (c.loop.counter + 1))
+    (omega arith) nop in
+    let noted : c.note.new.self ≡ c.loop.template ++ letter ∷ [] =
+    rw place at c.note.ensures.read ∙ nops_read-room c.loop.template letter nop (omega arith) in
     record {
       place = next;
       count = rw (noted, length-append c.loop.template (letter ∷ [])) (omega arith);
       template = c.note.ensures.template;
-      nops = rw (noted, append_assoc) (ap (λ l. c.loop.template ++ l) (sym rest) ∙ c.loop.invariant.nops);
+      nops = rw (noted, append_assoc)
+          (ap (λ l. c.loop.template ++ l) (sym rest) ∙ c.loop.invariant.nops);
     }

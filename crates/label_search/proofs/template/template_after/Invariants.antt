@@ -9,5 +9,7 @@ invariant-loop l = record {
   place : l.place ≡ (l.ip + l.counter) % length l.memory;
   count : length l.template ≡ l.counter;
   template : IsTemplate l.template;
-  nops : l.template ++ take_while is_nop (map (letter_after l.memory l.ip) (range_with_len (1 + l.counter) (10 - l.counter))) ≡ template_after l.memory l.ip;
+  nops : l.template ++ take_while is_nop
+      (map (letter_after l.memory l.ip) (range_with_len (1 + l.counter) (10 - l.counter)))
+      ≡ template_after l.memory l.ip;
 }

@@ -20,8 +20,10 @@ returns-then-is_some c =
     let traced = c.in_ok-traced.traced in
     let shown = c.trial_at-shown.ensures
     ∙ ap (λ (k : ℕ). trial_at genome (k + 1) (remark_value traced.remark)) c.from-number.ensures
-    ∙ shown_after genome n c.loop-step.organism (traced_value traced) c.loop-step.invariant.stepped c.in_ok-traced.ensures.traced in
-    found genome n c.args.steps c.trial_at-shown.result c.loop-step-test.true shown (sym c.is_some.ensures ∙ c.if-is_some.true) ∙ c.loop-step.invariant.left
+    ∙ shown_after genome n c.loop-step.organism (traced_value traced) c.loop-step.invariant.stepped
+    c.in_ok-traced.ensures.traced in
+    found genome n c.args.steps c.trial_at-shown.result c.loop-step-test.true shown
+    (sym c.is_some.ensures ∙ c.if-is_some.true) ∙ c.loop-step.invariant.left
 
 pub loop-step-preserved : goal.loop-step-preserved
 loop-step-preserved c =
@@ -30,12 +32,14 @@ loop-step-preserved c =
     let traced = c.in_ok-traced.traced in
     let shown = c.trial_at-shown.ensures
     ∙ ap (λ (k : ℕ). trial_at genome (k + 1) (remark_value traced.remark)) c.from-number.ensures
-    ∙ shown_after genome n c.loop-step.organism (traced_value traced) c.loop-step.invariant.stepped c.in_ok-traced.ensures.traced in
+    ∙ shown_after genome n c.loop-step.organism (traced_value traced) c.loop-step.invariant.stepped
+    c.in_ok-traced.ensures.traced in
     record {
       age = omega (arith, c.in_ok-traced.ensures.age, c.loop-step.invariant.age);
       stepped =
           c.in_ok-traced.ensures.steps
           ∙ (λ i. (trace_step_of (c.loop-step.invariant.stepped i)).0)
           ∙ sym (ap (organism_after (traced_organism genome)) (add-one n));
-      left = sym (missed genome n c.args.steps c.trial_at-shown.result c.loop-step-test.true shown (sym c.is_some.ensures ∙ c.if-is_some.false)) ∙ c.loop-step.invariant.left;
+      left = sym (missed genome n c.args.steps c.trial_at-shown.result c.loop-step-test.true shown
+          (sym c.is_some.ensures ∙ c.if-is_some.false)) ∙ c.loop-step.invariant.left;
     }

@@ -10,6 +10,7 @@ pub returns-in-Divide : goal.returns-in-Divide
 returns-in-Divide c =
     let genome = letters c.args.genome.now in
     let number = c.args.number in
-    let same = c.eq.ensures ∙ genome_eq c.one_index.ensures.list c.in-Divide.child c.args.genome.now in
+    let same =
+    c.eq.ensures ∙ genome_eq c.one_index.ensures.list c.in-Divide.child c.args.genome.now in
     (λ i. Some (record { step = number; merit = c.in-Divide.merit; same = same i }))
     ∙ sym (ap (λ (r : Remark). trial_at genome number (remark_value r)) c.in-Divide.is)

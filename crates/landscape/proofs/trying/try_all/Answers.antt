@@ -13,5 +13,6 @@ returns g c =
     let slice = ap (λ it. it.slice.now) c.with_min_len.ensures.base ∙ c.par_iter.ensures in
     let h = c.in_ok-entries.ensures in
     let chain = rw (c.map.ensures.base, c.map.ensures.f) at h.1 in
-    gathered Memory f (λ (v : Vec Entry Global). v.items) c.args.changes.now h.0 c.in_ok-entries.entries
+    gathered Memory f (λ (v : Vec Entry Global). v.items) c.args.changes.now h.0
+    c.in_ok-entries.entries
     (slice-AllZip chain.0 c.args.changes.now (chain.1 ∙ slice) (IsResult Memory f) h.0 chain.2) h.2

@@ -16,8 +16,11 @@ returns-in_default-2 c =
     let at = place_of c.args.reader.now.place in
     let piece = c.split_at.result.0.now in
     let rest = c.in-Some.behind.now in
-    let start = next_piece n at c.args.reader.now.rest.now piece c.split_at.result.1 c.in-Some.behind c.split_at.ensures.pieces c.in-Some.is in
-    λ other. ap answer_of (start ∙ bad_line n at piece rest (sym c.in_ok-line.ensures ∙ ap (option_map values_of) c.in_default-2.is))
+    let start = next_piece n at c.args.reader.now.rest.now piece c.split_at.result.1
+    c.in-Some.behind c.split_at.ensures.pieces c.in-Some.is in
+    λ other. ap answer_of (start
+    ∙ bad_line n at piece rest
+    (sym c.in_ok-line.ensures ∙ ap (option_map values_of) c.in_default-2.is))
 
 pub returns-in-Err : goal.returns-in-Err
 returns-in-Err c =
@@ -26,11 +29,15 @@ returns-in-Err c =
     let next = place_of c.tell.new.place in
     let piece = c.split_at.result.0.now in
     let rest = c.in-Some.behind.now in
-    let start = next_piece n at c.args.reader.now.rest.now piece c.split_at.result.1 c.in-Some.behind c.split_at.ensures.pieces c.in-Some.is in
+    let start = next_piece n at c.args.reader.now.rest.now piece c.split_at.result.1
+    c.in-Some.behind c.split_at.ensures.pieces c.in-Some.is in
     let one = values_of c.in-Some-2.line in
-    let is : line_of piece ≡ Some one = sym c.in_ok-line.ensures ∙ ap (option_map values_of) c.in-Some-2.is in
-    let bad = subst (λ (t : Result (Unit {0}) Refusal). TellsPlace t next (told at one)) c.in-Err.is c.tell.ensures in
-    λ other. refused c.in-Err.refusal n c.stop_for.result next (told at one) (left_of c.args.reader.now) c.stop_for.ensures other bad
+    let is : line_of piece ≡ Some one =
+    sym c.in_ok-line.ensures ∙ ap (option_map values_of) c.in-Some-2.is in
+    let bad = subst (λ (t : Result (Unit {0}) Refusal). TellsPlace t next (told at one)) c.in-Err.is
+    c.tell.ensures in
+    λ other. refused c.in-Err.refusal n c.stop_for.result next (told at one)
+    (left_of c.args.reader.now) c.stop_for.ensures other bad
     (λ reason faulty. start ∙ bad_order n at piece rest one reason is faulty)
 
 pub returns : goal.returns
@@ -40,12 +47,18 @@ returns c =
     let next = place_of c.tell.new.place in
     let piece = c.split_at.result.0.now in
     let rest = c.in-Some.behind.now in
-    let start = next_piece n at c.args.reader.now.rest.now piece c.split_at.result.1 c.in-Some.behind c.split_at.ensures.pieces c.in-Some.is in
+    let start = next_piece n at c.args.reader.now.rest.now piece c.split_at.result.1
+    c.in-Some.behind c.split_at.ensures.pieces c.in-Some.is in
     let one = values_of c.in-Some-2.line in
-    let is : line_of piece ≡ Some one = sym c.in_ok-line.ensures ∙ ap (option_map values_of) c.in-Some-2.is in
-    let good = subst (λ (t : Result (Unit {0}) Refusal). TellsPlace t next (told at one)) c.in_default-tell.is c.tell.ensures in
+    let is : line_of piece ≡ Some one =
+    sym c.in_ok-line.ensures ∙ ap (option_map values_of) c.in-Some-2.is in
+    let good = subst (λ (t : Result (Unit {0}) Refusal). TellsPlace t next (told at one))
+    c.in_default-tell.is c.tell.ensures in
     record {
-      left = start ∙ good_line n at piece rest one next c.in-Some-checked_add.next is good c.in-Some-checked_add.ensures.1;
+      left = start ∙ good_line n at piece rest one next c.in-Some-checked_add.next is good
+          c.in-Some-checked_add.ensures.1;
       told = good;
-      shorter = subst (λ (o : Option (Bor (List ℕ))). IfSome o (λ behind. length behind.now < length c.args.reader.now.rest.now)) c.in-Some.is c.split_at.ensures.shorter;
+      shorter = subst (λ (o : Option (Bor (List ℕ))).
+          IfSome o (λ behind. length behind.now < length c.args.reader.now.rest.now)) c.in-Some.is
+          c.split_at.ensures.shorter;
     }

@@ -9,5 +9,7 @@ use Rattle.lineage_log.proofs.read.read_lines.Goals as goal
 pub loop-reader-init : goal.loop-reader-init
 loop-reader-init c =
     let reader = c.reader_of_bytes-reader.result in
-    ap (λ (lines : List LogLine). with_front (lines_of lines) (left_of reader)) c.new-lines.ensures.items
-    ∙ front_none (left_of reader) ∙ left_at_start c.args.bytes.now reader c.reader_of_bytes-reader.ensures
+    ap (λ (lines : List LogLine). with_front (lines_of lines) (left_of reader))
+    c.new-lines.ensures.items
+    ∙ front_none (left_of reader)
+    ∙ left_at_start c.args.bytes.now reader c.reader_of_bytes-reader.ensures

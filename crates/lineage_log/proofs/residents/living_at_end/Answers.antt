@@ -18,4 +18,5 @@ returns c =
     let told = c.in_ok-reader.ensures in
     let good = good_read c.read_exactly.ensures c.args.bytes.now told.0 told.1.read_so in
     let left = leaves told.0 (reader_of c.in_ok-reader.reader) good told.1.told in
-    λ other. ap (λ (livings : List Resident). Ok livings) (c.in_ok-living_in.ensures ∙ left.living) ∙ sym (ap living_of told.1.read_so)
+    λ other. ap (λ (livings : List Resident). Ok livings) (c.in_ok-living_in.ensures ∙ left.living)
+    ∙ sym (ap living_of told.1.read_so)

@@ -14,8 +14,11 @@ loop-cell-preserved c =
     let all = residents_from 0 slots genomes in
     elim c.match-get.branch [
       | in-Some+in_ok-living_at+in_ok-push w ↦
-          let more = w.in_ok-push.ensures.items ∙ ap (λ (rs : List Resident). items ++ rs) w.in_ok-living_at.ensures in
-          rw w.livings-is (cell_walked items w.push.new.self.items slots genomes cell (Some w.in-Some.id) all w.in-Some.ensures more c.loop-cell.invariant)
+          let more = w.in_ok-push.ensures.items
+          ∙ ap (λ (rs : List Resident). items ++ rs) w.in_ok-living_at.ensures in
+          rw w.livings-is (cell_walked items w.push.new.self.items slots genomes cell
+          (Some w.in-Some.id) all w.in-Some.ensures more c.loop-cell.invariant)
       | in_default w ↦
-          rw w.livings-is (cell_walked items items slots genomes cell None all w.in_default.ensures (sym (append-nil items)) c.loop-cell.invariant)
+          rw w.livings-is (cell_walked items items slots genomes cell None all w.in_default.ensures
+          (sym (append-nil items)) c.loop-cell.invariant)
     ]

@@ -7,4 +7,5 @@ use Rattle.log_lines.specs.Words.{after_items}
 use Rattle.log_lines.proofs.fields.items.Given as goal
 
 abbrev pub invariant-loop : goal.invariant-loop
-invariant-loop l = after_items l.found.items (slice_split (λ b. b == 44) l.rest) ≡ (list_of change).read l.word
+invariant-loop l =
+    after_items l.found.items (slice_split (λ b. b == 44) l.rest) ≡ (list_of change).read l.word

@@ -6,6 +6,7 @@ use Rattle.log_lines.proofs.fields.letters.Given as goal
 
 abbrev pub invariant-loop-byte : goal.invariant-loop-byte
 invariant-loop-byte l = record {
-  read : option_map (λ others. l.letters.items ++ others) (each letter_of_byte (drop l.byte-index l.word)) ≡ each letter_of_byte l.word;
+  read : option_map (λ others. l.letters.items ++ others)
+      (each letter_of_byte (drop l.byte-index l.word)) ≡ each letter_of_byte l.word;
   room : vec_len l.letters + (length l.word - l.byte-index) ≤ vec_capacity l.letters;
 }

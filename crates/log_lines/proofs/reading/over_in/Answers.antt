@@ -6,4 +6,5 @@ pub returns-in-empty : goal.returns-in-empty
 returns-in-empty c = no_first c.args.bytes.now c.in-empty.len_below
 
 pub returns-in-None : goal.returns-in-None
-returns-in-None c = dash_first c.args.bytes.now None c.in-len1-up.len_at_least c.if-first-eq45.true c.in-None.ensures
+returns-in-None c = dash_first c.args.bytes.now None c.in-len1-up.len_at_least c.if-first-eq45.true
+    c.in-None.ensures

@@ -10,11 +10,15 @@ returns-in_default c = short_line c.args.text.now c.in_default.len_below
 
 pub returns-then-mark-ne32 : goal.returns-then-mark-ne32
 returns-then-mark-ne32 c =
-    let is = marked c.args.text.now c.in-len2-up.len_at_least c.if-part-eq32.true c.if-mark-ne32.true in
-    subst (λ (o : Option Line). IfOk c.read_form.result (λ found. option_map values_of found ≡ o)) is c.read_form.ensures
+    let is =
+    marked c.args.text.now c.in-len2-up.len_at_least c.if-part-eq32.true c.if-mark-ne32.true in
+    subst (λ (o : Option Line). IfOk c.read_form.result (λ found. option_map values_of found ≡ o))
+    is c.read_form.ensures
 
 pub returns-else-part-eq32 : goal.returns-else-part-eq32
 returns-else-part-eq32 c = elim c.else-part-eq32.branch [
-  | else-part-eq32-via-then-part-eq32+else-mark-ne32 w ↦ blank_mark c.args.text.now c.in-len2-up.len_at_least w.if-mark-ne32.false
-  | else-part-eq32-via-else-part-eq32 w ↦ long_marked c.args.text.now c.in-len2-up.len_at_least w.if-part-eq32.false
+  | else-part-eq32-via-then-part-eq32+else-mark-ne32 w ↦ blank_mark c.args.text.now
+      c.in-len2-up.len_at_least w.if-mark-ne32.false
+  | else-part-eq32-via-else-part-eq32 w ↦ long_marked c.args.text.now c.in-len2-up.len_at_least
+      w.if-part-eq32.false
 ]

@@ -10,7 +10,10 @@ use Rattle.log_lines.proofs.reading.tasks_last.Goals as goal
 one_more : (ns : List ℕ) (k n : ℕ) → k < length ns → take (k + 1) (set ns k n) ≡ take k ns ++ n ∷ []
 one_more ns k n h =
     let within : k < length (set ns k n) = omega (arith, h, length-set ns k n) in
-    take_more (set ns k n) k 0 within ∙ ap (λ (l : List ℕ). l ++ get_or (set ns k n) k 0 ∷ []) (take-set-le k ns k n (omega arith)) ∙ ap (λ (m : ℕ). take k ns ++ m ∷ []) (get_or-set_same ns k n 0 h)
+    take_more (set ns k n) k 0 within
+    ∙ ap (λ (l : List ℕ). l ++ get_or (set ns k n) k 0 ∷ [])
+    (take-set-le k ns k n (omega arith))
+    ∙ ap (λ (m : ℕ). take k ns ++ m ∷ []) (get_or-set_same ns k n 0 h)
 
 pub loop-at-preserved : goal.loop-at-preserved
 loop-at-preserved c =
@@ -20,9 +23,13 @@ loop-at-preserved c =
     let at = c.loop-at.at in
     let long : length tasks ≡ 9 = c.loop-at.invariant.long in
     let within : at < length tasks = omega (arith, c.loop-at-test.true, long) in
-    let more = read_more read words (words_of (option_copied c.loop-at.left)) (words_of (option_copied c.in_ok-count.others)) (take at tasks) c.in_ok-count.count c.loop-at.invariant.read c.in_ok-count.ensures in
+    let more = read_more read words (words_of (option_copied c.loop-at.left))
+    (words_of (option_copied c.in_ok-count.others)) (take at tasks) c.in_ok-count.count
+    c.loop-at.invariant.read c.in_ok-count.ensures in
     record {
-      read = subst (λ (l : List ℕ). HasRead read words (words_of (option_copied c.in_ok-count.others)) l) (sym (one_more tasks at c.in_ok-count.count within)) more;
+      read = subst (λ (l : List ℕ).
+          HasRead read words (words_of (option_copied c.in_ok-count.others)) l)
+          (sym (one_more tasks at c.in_ok-count.count within)) more;
       long = length-set tasks at c.in_ok-count.count ∙ long;
     }
 
@@ -33,8 +40,11 @@ returns-in-None c =
     let tasks = c.loop-at.tasks in
     let at = c.loop-at.at in
     let long : length tasks ≡ 9 = c.loop-at.invariant.long in
-    let whole : take at tasks ≡ tasks = take_all at tasks (omega (arith, long, c.loop-at-test.false)) in
-    let end : HasRead read words [] (take at tasks) = subst (λ (o : Option (Bor (List ℕ))). HasRead read words (words_of (option_copied o)) (take at tasks)) c.in-None.is c.loop-at.invariant.read in
+    let whole : take at tasks ≡ tasks =
+    take_all at tasks (omega (arith, long, c.loop-at-test.false)) in
+    let end : HasRead read words [] (take at tasks) =
+    subst (λ (o : Option (Bor (List ℕ))). HasRead read words (words_of (option_copied o))
+    (take at tasks)) c.in-None.is c.loop-at.invariant.read in
     read_all read 9 words tasks (subst (λ (l : List ℕ). HasRead read words [] l) whole end) long
 
 pub returns-in-Some : goal.returns-in-Some
@@ -45,6 +55,11 @@ returns-in-Some c =
     let at = c.loop-at.at in
     let behind = words_of (option_copied (Some c.in-Some.field-0)) in
     let long : length tasks ≡ 9 = c.loop-at.invariant.long in
-    let front : length (take at tasks) ≡ 9 = ap (λ (l : List ℕ). length l) (take_all at tasks (omega (arith, long, c.loop-at-test.false))) ∙ long in
-    let has : HasRead read words behind (take at tasks) = subst (λ (o : Option (Bor (List ℕ))). HasRead read words (words_of (option_copied o)) (take at tasks)) c.in-Some.is c.loop-at.invariant.read in
-    read_too_many read 9 words behind (take at tasks) has front (split_some 32 c.in-Some.field-0.now)
+    let front : length (take at tasks) ≡ 9 =
+    ap (λ (l : List ℕ). length l)
+    (take_all at tasks (omega (arith, long, c.loop-at-test.false))) ∙ long in
+    let has : HasRead read words behind (take at tasks) =
+    subst (λ (o : Option (Bor (List ℕ))). HasRead read words (words_of (option_copied o))
+    (take at tasks)) c.in-Some.is c.loop-at.invariant.read in
+    read_too_many read 9 words behind (take at tasks) has front
+    (split_some 32 c.in-Some.field-0.now)

@@ -7,6 +7,7 @@ use Rattle.log_lines.proofs.reading.tasks_last.Given as goal
 
 abbrev pub invariant-loop-at : goal.invariant-loop-at
 invariant-loop-at l = record {
-  read : HasRead (number_of 0 18446744073709551615) (words_of (option_copied l.rest)) (words_of (option_copied l.left)) (take l.at l.tasks);
+  read : HasRead (number_of 0 18446744073709551615) (words_of (option_copied l.rest))
+      (words_of (option_copied l.left)) (take l.at l.tasks);
   long : length l.tasks ≡ 9;
 }

@@ -9,18 +9,27 @@ pub returns-in-Some-after_word : goal.returns-in-Some-after_word
 returns-in-Some-after_word c =
     let found = c.in-Some-leading_number in
     let bytes = c.in-Some.bytes.now in
-    let end = c.in-Some-after_word.ensures ∙ ap after_word (tail_is found.len bytes found.ensures.within) in
-    front_number 0 18446744073709551615 bytes found.value found.len (Some (option_copied c.in-Some-after_word.others)) found.ensures.number found.ensures.len end
-    ∙ ap (λ (o : Option (Bor (List ℕ))). read_first (number_of 0 18446744073709551615) (words_of (option_copied o))) (sym c.in-Some.is)
+    let end = c.in-Some-after_word.ensures
+    ∙ ap after_word (tail_is found.len bytes found.ensures.within) in
+    front_number 0 18446744073709551615 bytes found.value found.len
+    (Some (option_copied c.in-Some-after_word.others)) found.ensures.number found.ensures.len
+    end
+    ∙ ap (λ (o : Option (Bor (List ℕ))). read_first (number_of 0 18446744073709551615)
+    (words_of (option_copied o))) (sym c.in-Some.is)
 
 pub returns-in-None-after_word : goal.returns-in-None-after_word
 returns-in-None-after_word c =
     let found = c.in-Some-leading_number in
     let bytes = c.in-Some.bytes.now in
-    let end = c.in-None-after_word.ensures ∙ ap after_word (tail_is found.len bytes found.ensures.within) in
-    front_number 0 18446744073709551615 bytes found.value found.len None found.ensures.number found.ensures.len end
-    ∙ ap (λ (o : Option (Bor (List ℕ))). read_first (number_of 0 18446744073709551615) (words_of (option_copied o))) (sym c.in-Some.is)
+    let end = c.in-None-after_word.ensures
+    ∙ ap after_word (tail_is found.len bytes found.ensures.within) in
+    front_number 0 18446744073709551615 bytes found.value found.len None found.ensures.number
+    found.ensures.len end
+    ∙ ap (λ (o : Option (Bor (List ℕ))). read_first (number_of 0 18446744073709551615)
+    (words_of (option_copied o))) (sym c.in-Some.is)
 
 pub returns-in-None-leading_number : goal.returns-in-None-leading_number
 returns-in-None-leading_number c =
-    front_none 0 18446744073709551615 c.in-Some.bytes.now c.in-None-leading_number.ensures.number ∙ ap (λ (o : Option (Bor (List ℕ))). read_first (number_of 0 18446744073709551615) (words_of (option_copied o))) (sym c.in-Some.is)
+    front_none 0 18446744073709551615 c.in-Some.bytes.now c.in-None-leading_number.ensures.number
+    ∙ ap (λ (o : Option (Bor (List ℕ))). read_first (number_of 0 18446744073709551615)
+    (words_of (option_copied o))) (sym c.in-Some.is)

@@ -9,18 +9,28 @@ pub returns-in-Some-after_word : goal.returns-in-Some-after_word
 returns-in-Some-after_word c =
     let found = c.in-Some-leading_small_number in
     let bytes = c.in-Some.bytes.now in
-    let end = c.in-Some-after_word.ensures ∙ ap after_word (tail_is found.len bytes found.ensures.within) in
-    front_number c.args.least c.args.greatest bytes found.value found.len (Some (option_copied c.in-Some-after_word.others)) found.ensures.number found.ensures.len end
-    ∙ ap (λ (o : Option (Bor (List ℕ))). read_first (number_of c.args.least c.args.greatest) (words_of (option_copied o))) (sym c.in-Some.is)
+    let end = c.in-Some-after_word.ensures
+    ∙ ap after_word (tail_is found.len bytes found.ensures.within) in
+    front_number c.args.least c.args.greatest bytes found.value found.len
+    (Some (option_copied c.in-Some-after_word.others)) found.ensures.number found.ensures.len
+    end
+    ∙ ap (λ (o : Option (Bor (List ℕ))). read_first (number_of c.args.least c.args.greatest)
+    (words_of (option_copied o))) (sym c.in-Some.is)
 
 pub returns-in-None-after_word : goal.returns-in-None-after_word
 returns-in-None-after_word c =
     let found = c.in-Some-leading_small_number in
     let bytes = c.in-Some.bytes.now in
-    let end = c.in-None-after_word.ensures ∙ ap after_word (tail_is found.len bytes found.ensures.within) in
-    front_number c.args.least c.args.greatest bytes found.value found.len None found.ensures.number found.ensures.len end
-    ∙ ap (λ (o : Option (Bor (List ℕ))). read_first (number_of c.args.least c.args.greatest) (words_of (option_copied o))) (sym c.in-Some.is)
+    let end = c.in-None-after_word.ensures
+    ∙ ap after_word (tail_is found.len bytes found.ensures.within) in
+    front_number c.args.least c.args.greatest bytes found.value found.len None found.ensures.number
+    found.ensures.len end
+    ∙ ap (λ (o : Option (Bor (List ℕ))). read_first (number_of c.args.least c.args.greatest)
+    (words_of (option_copied o))) (sym c.in-Some.is)
 
 pub returns-in-None-leading_small_number : goal.returns-in-None-leading_small_number
 returns-in-None-leading_small_number c =
-    front_none c.args.least c.args.greatest c.in-Some.bytes.now c.in-None-leading_small_number.ensures.number ∙ ap (λ (o : Option (Bor (List ℕ))). read_first (number_of c.args.least c.args.greatest) (words_of (option_copied o))) (sym c.in-Some.is)
+    front_none c.args.least c.args.greatest c.in-Some.bytes.now
+    c.in-None-leading_small_number.ensures.number
+    ∙ ap (λ (o : Option (Bor (List ℕ))). read_first (number_of c.args.least c.args.greatest)
+    (words_of (option_copied o))) (sym c.in-Some.is)

@@ -7,7 +7,8 @@ use Rattle.log_lines.proofs.TextLemmas.{items_text_more}
 use Rattle.log_lines.proofs.writing.changes.Goals.{in-Some+in_ok-change, then-at-eq0, else-at-eq0, in_default}
 use Rattle.log_lines.proofs.writing.changes.Goals as goal
 
-slice_get_some : (cs : List Change) (k : ℕ) → k < length cs → (c : Change) × (slice_get cs k ≡ Some c)
+slice_get_some : (cs : List Change) (k : ℕ) → k < length cs
+    → (c : Change) × (slice_get cs k ≡ Some c)
 slice_get_some [] k h = absurd (omega (arith, h))
 slice_get_some (c ∷ cs) k h = (get_or (c ∷ cs) k c, slice_get-get_or (c ∷ cs) k c h)
 
@@ -22,13 +23,15 @@ loop-at-preserved c =
             | else-at-eq0 x ↦ grind (arith, nat_tests, x.before-is, x.if-at-eq0.false)
           ] in
           let found : slice_get changes at ≡ Some w.in-Some.next.now = sym w.in-Some.ensures in
-          let more = items_text_more changes at w.in-Some.next.now w.if-at-eq0.before found before in
+          let more =
+          items_text_more changes at w.in-Some.next.now w.if-at-eq0.before found before in
           rw (w.out-is, w.in_ok-change.ensures.ok, c.loop-at.invariant, more, append_assoc)
       | in_default w ↦
           let changes = c.args.changes.now in
           let at = c.loop-at.at in
           let within : at < length changes = omega arith in
-          let none : None ≡ slice_get changes at = ap option_copied (sym w.in_default.is) ∙ c.get.ensures in
+          let none : None ≡ slice_get changes at =
+          ap option_copied (sym w.in_default.is) ∙ c.get.ensures in
           let some = slice_get_some changes at within in
           absurd (cc (none, some.1))
     ]

@@ -5,4 +5,7 @@ use Rattle.logic_tasks.proofs.check.does_with.Given as goal
 
 -- what the places that are left say
 abbrev pub invariant-loop-second : goal.invariant-loop-second
-invariant-loop-second l = list_any (does_pair l.task l.output l.known l.first) (range_with_len l.second (length l.known - l.second)) ≡ does_with l.task l.output l.known l.first
+invariant-loop-second l =
+    list_any (does_pair l.task l.output l.known l.first)
+    (range_with_len l.second (length l.known - l.second))
+    ≡ does_with l.task l.output l.known l.first

@@ -7,13 +7,17 @@ pub returns-clause-merit : goal.returns-clause-merit
 unfolding merit_of
 returns-clause-merit c =
     let power = shifted c.doublings.result c.doublings.ensures.bounded in
-    let least : c.from.result ≡ min (min c.args.length c.args.executed) c.args.copied = c.from.ensures ∙ c.min-least.ensures ∙ ap (λ n. min n c.args.copied) c.min.ensures in
-    rw power (ap (λ n. n * 2 ^ c.doublings.result) least ∙ ap (λ n. min (min c.args.length c.args.executed) c.args.copied * 2 ^ n) c.doublings.ensures.sum)
+    let least : c.from.result ≡ min (min c.args.length c.args.executed) c.args.copied =
+    c.from.ensures ∙ c.min-least.ensures ∙ ap (λ n. min n c.args.copied) c.min.ensures in
+    rw power (ap (λ n. n * 2 ^ c.doublings.result) least
+    ∙ ap (λ n. min (min c.args.length c.args.executed) c.args.copied * 2 ^ n)
+    c.doublings.ensures.sum)
 
 pub returns-clause-bounded : goal.returns-clause-bounded
 returns-clause-bounded c =
     let power = shifted c.doublings.result c.doublings.ensures.bounded in
-    rw power (merit_of-le c.from.result c.doublings.result (omega arith) c.doublings.ensures.bounded)
+    rw power (merit_of-le c.from.result c.doublings.result
+    (omega arith) c.doublings.ensures.bounded)
 
 pub returns-clause-positive : goal.returns-clause-positive
 returns-clause-positive c length executed copied =

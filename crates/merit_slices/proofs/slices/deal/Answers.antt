@@ -12,17 +12,26 @@ loop-cell-preserved c =
     let merits = c.args.merits.now in
     let cell = c.loop-cell.cell in
     let share = share_of merits c.args.steps in
-    let before : c.loop-cell.before + slice_index_or merits cell 0 ≡ sum (take (cell + 1) merits) = rw c.loop-cell.invariant.before (sym (sum_by_more (λ x. x) merits cell 0 c.loop-cell-test.true)) in
-    let due : c.quotient-due.result ≡ steps_before merits c.args.steps (cell + 1) = rw (before, c.requires.all) at c.quotient-due.ensures.value in
-    let value : c.quotient-due.result - c.loop-cell.given ≡ share cell = rw (due, c.loop-cell.invariant.given) refl in
+    let before : c.loop-cell.before + slice_index_or merits cell 0 ≡ sum (take (cell + 1) merits) =
+    rw c.loop-cell.invariant.before
+    (sym (sum_by_more (λ x. x) merits cell 0 c.loop-cell-test.true)) in
+    let due : c.quotient-due.result ≡ steps_before merits c.args.steps (cell + 1) =
+    rw (before, c.requires.all) at c.quotient-due.ensures.value in
+    let value : c.quotient-due.result - c.loop-cell.given ≡ share cell =
+    rw (due, c.loop-cell.invariant.given) refl in
     record {
       before = before;
       given = due;
-      made = take_more_set c.loop-cell.out cell _ (omega arith) ∙ ap (λ xs. xs ++ (c.quotient-due.result - c.loop-cell.given) ∷ []) c.loop-cell.invariant.made ∙ ap (λ x. map share (range_with_len 0 cell) ++ x ∷ []) value ∙ sym (map-range_with_len_more share 0 cell cell (omega arith));
+      made = take_more_set c.loop-cell.out cell _ (omega arith)
+          ∙ ap (λ xs. xs ++ (c.quotient-due.result - c.loop-cell.given) ∷ [])
+          c.loop-cell.invariant.made ∙ ap (λ x. map share (range_with_len 0 cell) ++ x ∷ []) value
+          ∙ sym (map-range_with_len_more share 0 cell cell (omega arith));
     }
 
 pub returns : goal.returns
 returns c =
     let all : c.loop-cell.cell ≡ length c.args.merits.now = omega arith in
     let whole : c.loop-cell.cell ≡ length c.loop-cell.out = omega arith in
-    sym (ap (λ n. take n c.loop-cell.out) whole ∙ take-length c.loop-cell.out) ∙ c.loop-cell.invariant.made ∙ ap (λ n. map (share_of c.args.merits.now c.args.steps) (range_with_len 0 n)) all
+    sym (ap (λ n. take n c.loop-cell.out) whole ∙ take-length c.loop-cell.out)
+    ∙ c.loop-cell.invariant.made
+    ∙ ap (λ n. map (share_of c.args.merits.now c.args.steps) (range_with_len 0 n)) all

@@ -9,7 +9,14 @@ loop-tested-preserved c =
     let rest = drop (c.loop-tested.tested + 1) c.args.text.now in
     record {
       stream = grind (arith, common_steps);
-      walk = InsertionsLeft-step (word_of c.args.draws.now) (word_of c.loop-tested.draws) (ap word_of c.loop-tested.invariant.stream) c.args.rate c.args.greatest _ c.args.text.now c.loop-tested.longer.items c.test_site.new.longer.items c.args.changes.now.items c.loop-tested.changes.items c.test_site.new.changes.items c.loop-tested.draws.taken c.loop-tested.tested c.loop-tested.draws c.test_site.new.draws c.loop-tested-test.true (c.in_ok-test_site.ensures.passed rest (omega (arith, length-drop (c.loop-tested.tested + 1) c.args.text.now))) c.in_ok-test_site.ensures.longer c.loop-tested.invariant.walk;
+      walk = InsertionsLeft-step (word_of c.args.draws.now) (word_of c.loop-tested.draws)
+          (ap word_of c.loop-tested.invariant.stream) c.args.rate c.args.greatest _ c.args.text.now
+          c.loop-tested.longer.items c.test_site.new.longer.items c.args.changes.now.items
+          c.loop-tested.changes.items c.test_site.new.changes.items c.loop-tested.draws.taken
+          c.loop-tested.tested c.loop-tested.draws c.test_site.new.draws c.loop-tested-test.true
+          (c.in_ok-test_site.ensures.passed rest
+          (omega (arith, length-drop (c.loop-tested.tested + 1) c.args.text.now)))
+          c.in_ok-test_site.ensures.longer c.loop-tested.invariant.walk;
       longest = omega (arith, c.in_ok-test_site.ensures.within);
       shortest = omega (arith, c.in_ok-test_site.ensures.longer);
       doubled = omega (arith, c.in_ok-test_site.ensures.doubled);
@@ -20,4 +27,7 @@ loop-tested-preserved c =
 pub returns-clause-passed : goal.returns-clause-passed
 returns-clause-passed c =
     let none : drop c.loop-tested.tested c.args.text.now ≡ [] = grind (arith, common_steps) in
-    InsertionsLeft-end (word_of c.args.draws.now) c.args.rate c.args.greatest _ c.args.text.now c.loop-tested.longer.items _ c.args.changes.now.items c.loop-tested.changes.items c.loop-tested.draws.taken c.args.draws.now c.loop-tested.draws none c.loop-tested.invariant.walk c.loop-tested.invariant.stream
+    InsertionsLeft-end (word_of c.args.draws.now) c.args.rate c.args.greatest _ c.args.text.now
+    c.loop-tested.longer.items _ c.args.changes.now.items c.loop-tested.changes.items
+    c.loop-tested.draws.taken c.args.draws.now c.loop-tested.draws none
+    c.loop-tested.invariant.walk c.loop-tested.invariant.stream

@@ -7,7 +7,10 @@ use Rattle.mutations.proofs.insertions.test_sites.Given as goal
 abbrev pub invariant-loop-tested : goal.invariant-loop-tested
 invariant-loop-tested l = record {
   stream : l.draws ≡ record l.initial.draws { taken = l.draws.taken };
-  walk : InsertionsLeft (word_of l.initial.draws) l.rate l.greatest (insertions_from (word_of l.initial.draws) l.rate l.greatest 0 (length l.text) l.initial.draws.taken) l.text l.longer.items (drop l.tested l.text) l.initial.changes.items l.changes.items l.draws.taken;
+  walk : InsertionsLeft (word_of l.initial.draws) l.rate l.greatest
+      (insertions_from (word_of l.initial.draws) l.rate l.greatest 0
+      (length l.text) l.initial.draws.taken) l.text l.longer.items (drop l.tested l.text)
+      l.initial.changes.items l.changes.items l.draws.taken;
   longest : length l.longer.items + (length l.text - l.tested) ≤ l.greatest;
   shortest : l.tested ≤ length l.longer.items;
   doubled : length l.longer.items ≤ 2 * l.tested;

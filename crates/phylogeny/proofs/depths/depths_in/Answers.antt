@@ -12,7 +12,8 @@ pub index-requires : goal.index-requires
 index-requires c =
     let id = c.in-Some.id in
     let few = c.requires.among c.loop-cell.cell id c.in-Some.is in
-    let there : id < length c.in_ok-roots.roots.items = slice_get_within c.in_ok-roots.roots.items id _ (c.in_ok-roots.ensures id few) in
+    let there : id < length c.in_ok-roots.roots.items =
+    slice_get_within c.in_ok-roots.roots.items id _ (c.in_ok-roots.ensures id few) in
     omega (arith, there, c.in_ok-roots.roots.ok.0)
 
 pub loop-cell-preserved : goal.loop-cell-preserved
@@ -26,11 +27,23 @@ loop-cell-preserved c =
       | in-Some+in_ok-push w ↦
           let id = w.in-Some.id in
           let few = c.requires.among cell id w.in-Some.is in
-          let root : w.index.result.now ≡ record { depth = depth_of tree id; founder = founder_of tree id } = w.index.ensures ∙ get_or_from_slice_get c.in_ok-roots.roots.items id _ w.index.result.now (c.in_ok-roots.ensures id few) in
-          let more : w.push.new.self.items ≡ old ++ depth_at tree (record { cell = cell; id = id }) ∷ [] = w.in_ok-push.ensures.items ∙ ap (λ (r : Root). old ++ record { cell = cell; id = id; depth = r.depth; founder = r.founder } ∷ []) root in
-          rw w.depths-is (mapped_with (depth_at tree) old w.push.new.self.items all standing cell id c.loop-cell-test.true w.in-Some.is more c.loop-cell.invariant)
+          let root : w.index.result.now
+          ≡ record { depth = depth_of tree id; founder = founder_of tree id } = w.index.ensures
+          ∙ get_or_from_slice_get c.in_ok-roots.roots.items id _ w.index.result.now
+          (c.in_ok-roots.ensures id few) in
+          let more : w.push.new.self.items ≡ old ++ depth_at tree (record { cell = cell; id = id })
+          ∷ [] = w.in_ok-push.ensures.items
+          ∙ ap (λ (r : Root). old ++ record {
+            cell = cell;
+            id = id;
+            depth = r.depth;
+            founder = r.founder;
+          } ∷ []) root in
+          rw w.depths-is (mapped_with (depth_at tree) old w.push.new.self.items all standing cell id
+          c.loop-cell-test.true w.in-Some.is more c.loop-cell.invariant)
       | in_default w ↦
-          rw w.depths-is (mapped_without (depth_at tree) old all standing cell c.loop-cell-test.true w.in_default.is c.loop-cell.invariant)
+          rw w.depths-is (mapped_without (depth_at tree) old all standing cell c.loop-cell-test.true
+          w.in_default.is c.loop-cell.invariant)
     ]
 
 pub returns : goal.returns
@@ -41,5 +54,6 @@ returns c =
     let none = drop_all c.loop-cell.cell c.args.standing.now (omega arith) in
     c.from_vec.ensures
     ∙ sym (append-nil items)
-    ∙ sym (ap (λ (slots : List (Option ℕ)). items ++ map (depth_at tree) (living_from c.loop-cell.cell slots)) none)
+    ∙ sym (ap (λ (slots : List (Option ℕ)). items
+    ++ map (depth_at tree) (living_from c.loop-cell.cell slots)) none)
     ∙ c.loop-cell.invariant

@@ -13,8 +13,10 @@ loop-at-preserved c = elim c.match-get.branch [
       let old = c.loop-at.pedigree in
       let new = w.tell.new.self in
       rw w.pedigree-is (record {
-        parents = parents_more lines c.loop-at.at line old.parents.items new.parents.items w.in-Some.ensures w.in_ok-tell.ensures.parents ∙ c.loop-at.invariant.parents;
-        standing = standing_more lines c.loop-at.at line old.standing.items new.standing.items w.in-Some.ensures w.in_ok-tell.ensures.standing ∙ c.loop-at.invariant.standing;
+        parents = parents_more lines c.loop-at.at line old.parents.items new.parents.items
+            w.in-Some.ensures w.in_ok-tell.ensures.parents ∙ c.loop-at.invariant.parents;
+        standing = standing_more lines c.loop-at.at line old.standing.items new.standing.items
+            w.in-Some.ensures w.in_ok-tell.ensures.standing ∙ c.loop-at.invariant.standing;
       })
   | in_default w ↦
       let within : c.loop-at.at < length c.args.log.now = omega arith in

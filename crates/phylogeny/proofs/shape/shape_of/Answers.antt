@@ -21,22 +21,31 @@ zero_at zero i = refl
 zero_at (suc n) zero = refl
 zero_at (suc n) (suc i) = zero_at n i
 
-module _ (parents standing : List (Option ℕ)) (bound : ℕ) (descendants children : List ℕ) (shape : Shape) (left : 0 < bound) (walked : IsWalked parents standing bound descendants children shape) where
+module _ (parents standing : List (Option ℕ)) (bound : ℕ) (descendants children : List ℕ)
+    (shape : Shape) (left : 0 < bound)
+    (walked : IsWalked parents standing bound descendants children shape) where
   before : IsWalked parents standing ((bound - 1) + 1) descendants children shape
   before =
       let e : bound ≡ (bound - 1) + 1 = omega arith in
       subst (λ (n : ℕ). IsWalked parents standing n descendants children shape) e walked
 
-  keeps_by : (below count living : ℕ) (new : Shape) → below ≡ get_or descendants (bound - 1) 0 → count ≡ get_or children (bound - 1) 0 → living ≡ length (everybody parents standing)
-      → new.kept ≡ shape.kept + 1 → new.branches ≡ shape.branches + bit (nat_le 2 count) → new.common ≡ cond (eqb below living) (option_or shape.common (Some (bound - 1))) shape.common
-      → Keeps (bound - 1) (get_or children (bound - 1) 0) (eqb (get_or descendants (bound - 1) 0) (length (everybody parents standing))) shape new
+  keeps_by : (below count living : ℕ) (new : Shape) → below ≡ get_or descendants (bound - 1) 0
+      → count ≡ get_or children (bound - 1) 0 → living ≡ length (everybody parents standing)
+      → new.kept ≡ shape.kept + 1 → new.branches ≡ shape.branches + bit (nat_le 2 count)
+      → new.common ≡ cond (eqb below living) (option_or shape.common (Some (bound - 1)))
+      shape.common
+      → Keeps (bound - 1) (get_or children (bound - 1) 0)
+      (eqb (get_or descendants (bound - 1) 0) (length (everybody parents standing))) shape new
   keeps_by below count living new below_is count_is living_is kept branches common = record {
     kept = kept;
     branches = branches ∙ ap (λ (n : ℕ). shape.branches + bit (nat_le 2 n)) count_is;
-    common = common ∙ (λ i. cond (eqb (below_is i) (living_is i)) (option_or shape.common (Some (bound - 1))) shape.common);
+    common = common ∙ (λ i. cond (eqb (below_is i) (living_is i))
+        (option_or shape.common (Some (bound - 1))) shape.common);
   }
 
-at_end : (parents standing : List (Option ℕ)) (bound : ℕ) (descendants children : List ℕ) (shape : Shape) → bound ≤ 0 → IsWalked parents standing bound descendants children shape → IsWalked parents standing 0 descendants children shape
+at_end : (parents standing : List (Option ℕ)) (bound : ℕ) (descendants children : List ℕ)
+    (shape : Shape) → bound ≤ 0 → IsWalked parents standing bound descendants children shape
+    → IsWalked parents standing 0 descendants children shape
 at_end parents standing bound descendants children shape ended walked =
     let e : bound ≡ 0 = omega arith in
     subst (λ (n : ℕ). IsWalked parents standing n descendants children shape) e walked
@@ -45,10 +54,14 @@ pub loop-id-init : goal.loop-id-init
 unfolding zeros
 loop-id-init c =
     let none = c.in_ok-children.ensures.items_if_clones_equal (λ y e. e) in
-    let as_many : length c.in_ok-children.children.items ≡ length c.args.parents.now = omega (arith, c.in_ok-children.ensures.len, c.in_ok-children.children.ok.0) in
-    walked_start c.args.parents.now c.args.standing.now (length c.args.parents.now) c.in_ok-descendants.descendants.items c.in_ok-children.children.items _ refl c.requires.among c.in_ok-descendants.ensures.len as_many
+    let as_many : length c.in_ok-children.children.items ≡ length c.args.parents.now =
+    omega (arith, c.in_ok-children.ensures.len, c.in_ok-children.children.ok.0) in
+    walked_start c.args.parents.now c.args.standing.now (length c.args.parents.now)
+    c.in_ok-descendants.descendants.items c.in_ok-children.children.items _ refl
+    c.requires.among c.in_ok-descendants.ensures.len as_many
     c.in_ok-descendants.ensures.counts
-    (λ id within. ap (λ (xs : List ℕ). get_or xs id 0) none ∙ zero_at (length c.args.parents.now) id)
+    (λ id within. ap (λ (xs : List ℕ). get_or xs id 0) none
+    ∙ zero_at (length c.args.parents.now) id)
     refl refl refl
 
 pub loop-id-preserved-then-below-eq0 : goal.loop-id-preserved-then-below-eq0
@@ -56,31 +69,48 @@ loop-id-preserved-then-below-eq0 c =
     let parents = c.args.parents.now in
     let standing = c.args.standing.now in
     let l = c.loop-id in
-    let walked = before parents standing l.id l.descendants.items l.children.items l.shape c.loop-id-test.true l.invariant in
+    let walked = before parents standing l.id l.descendants.items l.children.items l.shape
+    c.loop-id-test.true l.invariant in
     let within : l.id - 1 < length parents = omega (arith, c.loop-id-test.true, l.auto.id) in
-    let none = sym (read_is l.descendants.items (l.id - 1) c.index-below.result.now (length parents) walked.as_many within c.index-below.ensures) ∙ c.if-below-eq0.true in
-    walked_over parents standing c.requires.older (l.id - 1) l.descendants.items l.children.items l.shape within none walked
+    let none = sym (read_is l.descendants.items (l.id - 1) c.index-below.result.now
+    (length parents) walked.as_many within c.index-below.ensures) ∙ c.if-below-eq0.true in
+    walked_over parents standing c.requires.older (l.id - 1) l.descendants.items l.children.items
+    l.shape within none walked
 
 pub keep-requires-clause-kept : goal.keep-requires-clause-kept
 keep-requires-clause-kept c =
-    let few = shape_few c.args.parents.now c.args.standing.now c.loop-id.id c.loop-id.descendants.items c.loop-id.children.items c.loop-id.shape c.loop-id.invariant in
-    omega (arith, few.0, c.loop-id-test.true, c.loop-id.auto.id, c.in_ok-children.ensures.len, c.in_ok-children.children.ok.1, c.in_ok-children.children.small)
+    let few = shape_few c.args.parents.now c.args.standing.now c.loop-id.id
+    c.loop-id.descendants.items c.loop-id.children.items c.loop-id.shape c.loop-id.invariant in
+    omega (
+      arith,
+      few.0,
+      c.loop-id-test.true,
+      c.loop-id.auto.id,
+      c.in_ok-children.ensures.len,
+      c.in_ok-children.children.ok.1,
+      c.in_ok-children.children.small,
+    )
 
 pub keep-requires-clause-branches : goal.keep-requires-clause-branches
 keep-requires-clause-branches c =
-    (shape_few c.args.parents.now c.args.standing.now c.loop-id.id c.loop-id.descendants.items c.loop-id.children.items c.loop-id.shape c.loop-id.invariant).1
+    (shape_few c.args.parents.now c.args.standing.now c.loop-id.id c.loop-id.descendants.items
+    c.loop-id.children.items c.loop-id.shape c.loop-id.invariant).1
 
 pub overflow_add-index_mut : goal.overflow_add-index_mut
 overflow_add-index_mut c =
     let parents = c.args.parents.now in
     let standing = c.args.standing.now in
     let l = c.loop-id in
-    let walked = before parents standing l.id l.descendants.items l.children.items l.shape c.loop-id-test.true l.invariant in
+    let walked = before parents standing l.id l.descendants.items l.children.items l.shape
+    c.loop-id-test.true l.invariant in
     let within : l.id - 1 < length parents = omega (arith, c.loop-id-test.true, l.auto.id) in
     let older = c.requires.older (l.id - 1) c.in-Some.parent c.in-Some.is in
-    let here = read_is l.descendants.items (l.id - 1) c.index-below.result.now (length parents) walked.as_many within c.index-below.ensures in
-    let above = read_is l.descendants.items c.in-Some.parent c.index_mut.result.now (length parents) walked.as_many (omega (arith, older, within)) c.index_mut.ensures.value in
-    let few = descendants_few parents standing c.requires.older (l.id - 1) c.in-Some.parent l.descendants.items l.children.items l.shape c.in-Some.is walked in
+    let here = read_is l.descendants.items (l.id - 1) c.index-below.result.now
+    (length parents) walked.as_many within c.index-below.ensures in
+    let above = read_is l.descendants.items c.in-Some.parent c.index_mut.result.now
+    (length parents) walked.as_many (omega (arith, older, within)) c.index_mut.ensures.value in
+    let few = descendants_few parents standing c.requires.older (l.id - 1) c.in-Some.parent
+    l.descendants.items l.children.items l.shape c.in-Some.is walked in
     let living = living_count 0 standing in
     let cells = count_by-le-length is_some standing in
     omega (arith, here, above, few, living, cells, c.requires.few)
@@ -90,33 +120,60 @@ overflow_add-index_mut-in-Some c =
     let parents = c.args.parents.now in
     let standing = c.args.standing.now in
     let l = c.loop-id in
-    let walked = before parents standing l.id l.descendants.items l.children.items l.shape c.loop-id-test.true l.invariant in
+    let walked = before parents standing l.id l.descendants.items l.children.items l.shape
+    c.loop-id-test.true l.invariant in
     let within : l.id - 1 < length parents = omega (arith, c.loop-id-test.true, l.auto.id) in
     let older = c.requires.older (l.id - 1) c.in-Some.parent c.in-Some.is in
-    let above = read_is l.children.items c.in-Some.parent c.index_mut-in-Some.result.now (length parents) walked.as_many_children (omega (arith, older, within)) c.index_mut-in-Some.ensures.value in
-    let few = children_few parents standing c.requires.older (l.id - 1) c.in-Some.parent l.descendants.items l.children.items l.shape c.in-Some.is walked in
-    omega (arith, above, few, c.in_ok-children.ensures.len, c.in_ok-children.children.ok.1, c.in_ok-children.children.small)
+    let above = read_is l.children.items c.in-Some.parent c.index_mut-in-Some.result.now
+    (length parents) walked.as_many_children (omega (arith, older, within))
+    c.index_mut-in-Some.ensures.value in
+    let few = children_few parents standing c.requires.older (l.id - 1) c.in-Some.parent
+    l.descendants.items l.children.items l.shape c.in-Some.is walked in
+    omega (
+      arith,
+      above,
+      few,
+      c.in_ok-children.ensures.len,
+      c.in_ok-children.children.ok.1,
+      c.in_ok-children.children.small,
+    )
 
 pub loop-id-preserved-in-Some : goal.loop-id-preserved-in-Some
 loop-id-preserved-in-Some c =
     let parents = c.args.parents.now in
     let standing = c.args.standing.now in
     let l = c.loop-id in
-    let walked = before parents standing l.id l.descendants.items l.children.items l.shape c.loop-id-test.true l.invariant in
+    let walked = before parents standing l.id l.descendants.items l.children.items l.shape
+    c.loop-id-test.true l.invariant in
     let within : l.id - 1 < length parents = omega (arith, c.loop-id-test.true, l.auto.id) in
     let older = c.requires.older (l.id - 1) c.in-Some.parent c.in-Some.is in
     let lower : c.in-Some.parent < length parents = omega (arith, older, within) in
-    let below = read_is l.descendants.items (l.id - 1) c.index-below.result.now (length parents) walked.as_many within c.index-below.ensures in
-    let count = read_is l.children.items (l.id - 1) c.index.result.now (length parents) walked.as_many_children within c.index.ensures in
-    let above = read_is l.descendants.items c.in-Some.parent c.index_mut.result.now (length parents) walked.as_many lower c.index_mut.ensures.value in
-    let above_too = read_is l.children.items c.in-Some.parent c.index_mut-in-Some.result.now (length parents) walked.as_many_children lower c.index_mut-in-Some.ensures.value in
+    let below = read_is l.descendants.items (l.id - 1) c.index-below.result.now
+    (length parents) walked.as_many within c.index-below.ensures in
+    let count = read_is l.children.items (l.id - 1) c.index.result.now
+    (length parents) walked.as_many_children within c.index.ensures in
+    let above = read_is l.descendants.items c.in-Some.parent c.index_mut.result.now
+    (length parents) walked.as_many lower c.index_mut.ensures.value in
+    let above_too = read_is l.children.items c.in-Some.parent c.index_mut-in-Some.result.now
+    (length parents) walked.as_many_children lower c.index_mut-in-Some.ensures.value in
     let living = c.count_living-living.ensures ∙ sym (living_count 0 standing) in
-    let keeps = keeps_by parents standing l.id l.descendants.items l.children.items l.shape c.loop-id-test.true l.invariant c.index-below.result.now c.index.result.now c.count_living-living.result c.keep.new.self below count living c.keep.ensures.kept c.keep.ensures.branches c.keep.ensures.common in
-    let some : 0 < get_or l.descendants.items (l.id - 1) 0 = omega (arith, below, c.if-below-eq0.false) in
-    let now = walked_child parents standing c.requires.older (l.id - 1) l.descendants.items l.children.items l.shape c.keep.new.self within some walked keeps c.in-Some.parent c.in-Some.is in
-    subst (λ (ds : List ℕ). IsWalked parents standing (l.id - 1) ds (set l.children.items c.in-Some.parent (c.index_mut-in-Some.result.now + 1)) c.keep.new.self)
+    let keeps = keeps_by parents standing l.id l.descendants.items l.children.items l.shape
+    c.loop-id-test.true l.invariant c.index-below.result.now c.index.result.now
+    c.count_living-living.result c.keep.new.self below count living c.keep.ensures.kept
+    c.keep.ensures.branches c.keep.ensures.common in
+    let some : 0 < get_or l.descendants.items (l.id - 1) 0 =
+    omega (arith, below, c.if-below-eq0.false) in
+    let now = walked_child parents standing c.requires.older (l.id - 1) l.descendants.items
+    l.children.items l.shape c.keep.new.self within some walked keeps c.in-Some.parent
+    c.in-Some.is in
+    subst (λ (ds : List ℕ). IsWalked parents standing (l.id - 1) ds
+    (set l.children.items c.in-Some.parent (c.index_mut-in-Some.result.now + 1))
+    c.keep.new.self)
     (λ i. set l.descendants.items c.in-Some.parent (sym above i + sym below i))
-    (subst (λ (cs : List ℕ). IsWalked parents standing (l.id - 1) (set l.descendants.items c.in-Some.parent (get_or l.descendants.items c.in-Some.parent 0 + get_or l.descendants.items (l.id - 1) 0)) cs c.keep.new.self)
+    (subst (λ (cs : List ℕ). IsWalked parents standing (l.id - 1)
+    (set l.descendants.items c.in-Some.parent
+    (get_or l.descendants.items c.in-Some.parent 0 + get_or l.descendants.items (l.id - 1) 0))
+    cs c.keep.new.self)
     (λ i. set l.children.items c.in-Some.parent (sym above_too i + 1)) now)
 
 pub loop-id-preserved : goal.loop-id-preserved
@@ -124,26 +181,40 @@ loop-id-preserved c =
     let parents = c.args.parents.now in
     let standing = c.args.standing.now in
     let l = c.loop-id in
-    let walked = before parents standing l.id l.descendants.items l.children.items l.shape c.loop-id-test.true l.invariant in
+    let walked = before parents standing l.id l.descendants.items l.children.items l.shape
+    c.loop-id-test.true l.invariant in
     let within : l.id - 1 < length parents = omega (arith, c.loop-id-test.true, l.auto.id) in
-    let below = read_is l.descendants.items (l.id - 1) c.index-below.result.now (length parents) walked.as_many within c.index-below.ensures in
-    let count = read_is l.children.items (l.id - 1) c.index.result.now (length parents) walked.as_many_children within c.index.ensures in
+    let below = read_is l.descendants.items (l.id - 1) c.index-below.result.now
+    (length parents) walked.as_many within c.index-below.ensures in
+    let count = read_is l.children.items (l.id - 1) c.index.result.now
+    (length parents) walked.as_many_children within c.index.ensures in
     let living = c.count_living-living.ensures ∙ sym (living_count 0 standing) in
-    let keeps = keeps_by parents standing l.id l.descendants.items l.children.items l.shape c.loop-id-test.true l.invariant c.index-below.result.now c.index.result.now c.count_living-living.result c.keep.new.self below count living c.keep.ensures.kept c.keep.ensures.branches c.keep.ensures.common in
-    let some : 0 < get_or l.descendants.items (l.id - 1) 0 = omega (arith, below, c.if-below-eq0.false) in
-    walked_founder parents standing c.requires.older (l.id - 1) l.descendants.items l.children.items l.shape c.keep.new.self within some walked keeps c.in_default.is
+    let keeps = keeps_by parents standing l.id l.descendants.items l.children.items l.shape
+    c.loop-id-test.true l.invariant c.index-below.result.now c.index.result.now
+    c.count_living-living.result c.keep.new.self below count living c.keep.ensures.kept
+    c.keep.ensures.branches c.keep.ensures.common in
+    let some : 0 < get_or l.descendants.items (l.id - 1) 0 =
+    omega (arith, below, c.if-below-eq0.false) in
+    walked_founder parents standing c.requires.older (l.id - 1) l.descendants.items l.children.items
+    l.shape c.keep.new.self within some walked keeps c.in_default.is
 
 pub returns-clause-common : goal.returns-clause-common
 returns-clause-common c =
     let l = c.loop-id in
-    walked_common c.args.parents.now c.args.standing.now l.descendants.items l.children.items l.shape (at_end c.args.parents.now c.args.standing.now l.id l.descendants.items l.children.items l.shape c.loop-id-test.false l.invariant)
+    walked_common c.args.parents.now c.args.standing.now l.descendants.items l.children.items
+    l.shape (at_end c.args.parents.now c.args.standing.now l.id l.descendants.items
+    l.children.items l.shape c.loop-id-test.false l.invariant)
 
 pub returns-clause-kept : goal.returns-clause-kept
 returns-clause-kept c =
     let l = c.loop-id in
-    walked_kept c.args.parents.now c.args.standing.now l.descendants.items l.children.items l.shape (at_end c.args.parents.now c.args.standing.now l.id l.descendants.items l.children.items l.shape c.loop-id-test.false l.invariant)
+    walked_kept c.args.parents.now c.args.standing.now l.descendants.items l.children.items l.shape
+    (at_end c.args.parents.now c.args.standing.now l.id l.descendants.items l.children.items
+    l.shape c.loop-id-test.false l.invariant)
 
 pub returns-clause-branches : goal.returns-clause-branches
 returns-clause-branches c =
     let l = c.loop-id in
-    walked_branches c.args.parents.now c.args.standing.now l.descendants.items l.children.items l.shape (at_end c.args.parents.now c.args.standing.now l.id l.descendants.items l.children.items l.shape c.loop-id-test.false l.invariant)
+    walked_branches c.args.parents.now c.args.standing.now l.descendants.items l.children.items
+    l.shape (at_end c.args.parents.now c.args.standing.now l.id l.descendants.items
+    l.children.items l.shape c.loop-id-test.false l.invariant)

@@ -9,10 +9,12 @@ pub returns-in-Ok-clause-later : goal.returns-in-Ok-clause-later
 returns-in-Ok-clause-later g c =
     let looked = c.in-Ok.ensures.1 in
     let copied = rw c.get.ensures at c.copy-shown.ensures in
-    rw c.leave.ensures.1 (read_later g.P.Picture.number g.P.Picture.of c.copy-shown.result _ _ c.args.last.now _ copied looked.prefix looked.shows)
+    rw c.leave.ensures.1 (read_later g.P.Picture.number g.P.Picture.of c.copy-shown.result _ _
+    c.args.last.now _ copied looked.prefix looked.shows)
 
 pub returns-in-Ok-clause-shown : goal.returns-in-Ok-clause-shown
 returns-in-Ok-clause-shown g c =
     let looked = c.in-Ok.ensures.1 in
     let copied = rw c.get.ensures at c.copy-shown.ensures in
-    rw c.leave.ensures.1 (read_shown g.P.Picture.number g.P.Picture.of c.copy-shown.result _ _ c.args.last.now _ copied c.requires looked.prefix looked.shows looked.publication)
+    rw c.leave.ensures.1 (read_shown g.P.Picture.number g.P.Picture.of c.copy-shown.result _ _
+    c.args.last.now _ copied c.requires looked.prefix looked.shows looked.publication)

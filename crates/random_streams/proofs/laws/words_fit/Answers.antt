@@ -6,7 +6,8 @@ use Rattle.random_streams.specs.RandomStream.{draw}
 use Rattle.random_streams.proofs.laws.words_fit.Goals as goal
 
 -- a word is a sum without its carry
-draw-fits : (seed update cell : ℕ) (purpose : Purpose) (k : ℕ) → draw seed update cell purpose k < 2 ^ 32
+draw-fits : (seed update cell : ℕ) (purpose : Purpose) (k : ℕ)
+    → draw seed update cell purpose k < 2 ^ 32
 unfolding draw block_word
 draw-fits seed update cell purpose k = mod-lt _ (lit< tt)
 

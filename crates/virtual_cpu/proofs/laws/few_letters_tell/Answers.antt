@@ -1,6 +1,6 @@
 use Rattle.std.proofs.Common.{◌≢◌, refl, ℤ, Bool, true, false, Option}
 use Rattle.instruction_set.specs.declared.letter.Letter.{Letter}
-use Rattle.instruction_set.specs.declared.letter.Letter.TheVariants.{NopA, NopB, NopC, IfNEqu, IfLess, IfLabel, MovHead, JmpHead, GetHead, SetFlow, ShiftR, ShiftL, Inc, Dec, Push, Pop, SwapStk, Swap, Add, Sub, Nand, HCopy, HAlloc, HDivide, Io, HSearch}
+use Rattle.instruction_set.specs.declared.letter.Letter.TheVariants.{MovHead, HAlloc, HDivide, Io}
 use Rattle.virtual_cpu.specs.declared.heads.Head.{Head}
 use Rattle.virtual_cpu.specs.declared.heads.Head.TheVariants.{Ip, Read, Write}
 use Rattle.virtual_cpu.specs.Allocation.{can_allocate}

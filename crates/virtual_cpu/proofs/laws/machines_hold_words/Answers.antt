@@ -9,4 +9,6 @@ returns-clause-start c = fresh-words
 
 pub returns-clause-step : goal.returns-clause-step
 unfolding step
-returns-clause-step c = λ m input copy is h word. effect-words (letter_under_ip m) (with_ip_marked m) input copy (marked m is) (record { ax = h.ax; bx = h.bx; cx = h.cx; stacks = h.stacks }) word
+returns-clause-step c = λ m input copy is h word. effect-words (letter_under_ip m)
+    (with_ip_marked m) input copy (marked m is)
+    (record { ax = h.ax; bx = h.bx; cx = h.cx; stacks = h.stacks }) word

@@ -1,11 +1,12 @@
 use Rattle.std.proofs.Common.{◌≡◌, ◌≢◌, refl, ℤ, Option}
 use Rattle.instruction_set.specs.declared.letter.Letter.{Letter}
-use Rattle.instruction_set.specs.declared.letter.Letter.TheVariants.{NopA, NopB, NopC, IfNEqu, IfLess, IfLabel, MovHead, JmpHead, GetHead, SetFlow, ShiftR, ShiftL, Inc, Dec, Push, Pop, SwapStk, Swap, Add, Sub, Nand, HCopy, HAlloc, HDivide, Io, HSearch}
+use Rattle.instruction_set.specs.declared.letter.Letter.TheVariants.{Io}
 use Rattle.virtual_cpu.specs.Machine.{Machine}
 use Rattle.virtual_cpu.specs.Effects.{effect_of}
 use Rattle.virtual_cpu.proofs.laws.only_io_takes_an_input.Goals as goal
 
-no-input : (letter : Letter) (m : Machine) (input other : ℤ) (copy : Option Letter) → letter ≢ Io → effect_of letter m input copy ≡ effect_of letter m other copy
+no-input : (letter : Letter) (m : Machine) (input other : ℤ) (copy : Option Letter) → letter ≢ Io
+    → effect_of letter m input copy ≡ effect_of letter m other copy
 no-input Io m input other copy differs = absurd (differs refl)
 no-input _ m input other copy differs = refl
 

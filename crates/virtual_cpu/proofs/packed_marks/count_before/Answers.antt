@@ -17,13 +17,20 @@ loop-at-preserved c =
     let words = c.args.words.now in
     let at = c.loop-at.at in
     let small : get_or words at 0 < 2 ^ 64 = grind (arith, common_steps, c.type_inv.words at) in
-    ap (λ n. n + count_ones (get_or words at 0)) c.loop-at.invariant ∙ sym (count_word words at small)
+    ap (λ n. n + count_ones (get_or words at 0)) c.loop-at.invariant
+    ∙ sym (count_word words at small)
 
 pub overflow_add-result : goal.overflow_add-result
 overflow_add-result c =
     let whole : c.loop-at.at ≡ c.args.end / 64 = omega arith in
     let so_far = rw whole at c.loop-at.invariant in
-    omega (arith, so_far, count_rest c.args.words.now c.args.end, count_bound c.args.words.now c.args.end, c.ranges.end)
+    omega (
+      arith,
+      so_far,
+      count_rest c.args.words.now c.args.end,
+      count_bound c.args.words.now c.args.end,
+      c.ranges.end,
+    )
 
 pub returns : goal.returns
 returns c =

@@ -14,7 +14,8 @@ loop-place-init c = record {
 
 pub returns-in-None-clause-refused : goal.returns-in-None-clause-refused
 returns-in-None-clause-refused c = λ _.
-    ap event_refusal (events_of-stopped (frame_value c.args.frame.now) c.args.members.now c.loop-place.place c.loop-place.least
+    ap event_refusal (events_of-stopped (frame_value c.args.frame.now) c.args.members.now
+    c.loop-place.place c.loop-place.least
     (event_values c.loop-place.events.items) c.loop-place.invariant.read
     c.index-members-place.result c.loop-place-test.true c.index-members-place.is
     (sym c.in_ok-event.ensures ∙ ap (option_map event_value) c.in-None.is))
@@ -23,9 +24,11 @@ pub loop-place-preserved : goal.loop-place-preserved
 loop-place-preserved c = record {
   read =
       rw (c.push_reserved.ensures.items, map-append)
-      (events_of-kept (frame_value c.args.frame.now) c.args.members.now c.loop-place.place c.loop-place.least
+      (events_of-kept (frame_value c.args.frame.now) c.args.members.now c.loop-place.place
+      c.loop-place.least
       (event_values c.loop-place.events.items) c.loop-place.invariant.read
-      c.index-members-place.result (event_value c.in-Some.event) c.loop-place-test.true c.index-members-place.is
+      c.index-members-place.result (event_value c.in-Some.event) c.loop-place-test.true
+      c.index-members-place.is
       (sym c.in_ok-event.ensures ∙ ap (option_map event_value) c.in-Some.is));
   number = omega (arith, c.push_reserved.ensures.len, c.loop-place.invariant.number);
   room = omega (arith, c.push_reserved.ensures.capacity, c.loop-place.invariant.room);
@@ -34,6 +37,7 @@ loop-place-preserved c = record {
 pub returns-clause-value : goal.returns-clause-value
 returns-clause-value c =
     rw c.from_vec.ensures
-    (events_of-ended (frame_value c.args.frame.now) c.args.members.now c.loop-place.place c.loop-place.least
+    (events_of-ended (frame_value c.args.frame.now) c.args.members.now c.loop-place.place
+    c.loop-place.least
     (event_values c.loop-place.events.items) c.loop-place.invariant.read
     (drop_all c.loop-place.place c.args.members.now c.loop-place-test.false))

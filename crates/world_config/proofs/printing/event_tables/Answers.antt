@@ -7,5 +7,7 @@ use Rattle.world_config.proofs.printing.event_tables.Goals as goal
 pub loop-event-preserved : goal.loop-event-preserved
 loop-event-preserved c =
     rw c.in_ok-push.ensures.items
-    (items_view-more c.loop-event.tables.items _ c.args.events.now c.loop-event.event-index c.event-item.result c.loop-event-test.true c.event-item.is
-    c.loop-event.invariant (view-Table c.in_ok-event_table.field-0 ∙ ap table c.in_ok-event_table.ensures))
+    (items_view-more c.loop-event.tables.items _ c.args.events.now c.loop-event.event-index
+    c.event-item.result c.loop-event-test.true c.event-item.is
+    c.loop-event.invariant (view-Table c.in_ok-event_table.field-0
+    ∙ ap table c.in_ok-event_table.ensures))

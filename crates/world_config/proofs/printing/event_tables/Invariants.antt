@@ -5,4 +5,5 @@ use Rattle.world_config.specs.Printing.{items_for}
 use Rattle.world_config.proofs.printing.event_tables.Given as goal
 
 abbrev pub invariant-loop-event : goal.invariant-loop-event
-invariant-loop-event l = items_view l.tables.items ≡ items_for (map event_value (take l.event-index l.events))
+invariant-loop-event l =
+    items_view l.tables.items ≡ items_for (map event_value (take l.event-index l.events))

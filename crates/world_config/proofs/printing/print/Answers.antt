@@ -13,5 +13,7 @@ returns-in-Ok-table_to_string c =
     let v = values_of c.args.config.now in
     let seen : table_view c.in-Ok.table ≡ members_for v = c.in-Ok.ensures in
     let deep : members_depth (table_view c.in-Ok.table) ≤ 80 = rw seen (members_depth-for v) in
-    let back : parse_document (string_bytes c.in-Ok-table_to_string.text) ≡ Some (members_for v) = c.in-Ok-table_to_string.ensures.reads_back deep ∙ ap Some seen in
-    rw (is_utf8-from_IsUtf8 _ (IsUtf8-string_bytes c.in-Ok-table_to_string.text), back) (config_in-members c.args.config.now)
+    let back : parse_document (string_bytes c.in-Ok-table_to_string.text) ≡ Some (members_for v) =
+    c.in-Ok-table_to_string.ensures.reads_back deep ∙ ap Some seen in
+    rw (is_utf8-from_IsUtf8 _ (IsUtf8-string_bytes c.in-Ok-table_to_string.text), back)
+    (config_in-members c.args.config.now)

@@ -8,4 +8,5 @@ pub returns : goal.returns
 returns c =
     ap members_view c.in_ok-insert.ensures.entries
     ∙ members_view-insert_entry c.args.table.now.entries c.in_ok-key.key c.args.value
-    ∙ ap (λ k. insert_member k (view c.args.value) (table_view c.args.table.now)) c.in_ok-key.ensures.ok
+    ∙ ap (λ k. insert_member k (view c.args.value) (table_view c.args.table.now))
+    c.in_ok-key.ensures.ok

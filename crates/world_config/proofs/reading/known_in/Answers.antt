@@ -9,19 +9,28 @@ use Rattle.world_config.proofs.reading.known_in.Goals as goal
 
 pub returns-in_err-ancestor-clause-refused : goal.returns-in_err-ancestor-clause-refused
 returns-in_err-ancestor-clause-refused c =
-    let p = err_from_is_err_and c.from_residual-in_err-ancestor.result c.from_residual-in_err-ancestor.ensures.1 in
-    rw (p.1, p.2) (λ some. refused_by_ancestor (table_view c.args.table.now) c.in_ok-numbers.numbers c.in_ok-numbers.ensures.value c.in_ok-numbers.ensures.accepted _ _ (c.in_err-ancestor.ensures.refused some))
+    let p = err_from_is_err_and c.from_residual-in_err-ancestor.result
+    c.from_residual-in_err-ancestor.ensures.1 in
+    rw (p.1, p.2) (λ some. refused_by_ancestor (table_view c.args.table.now) c.in_ok-numbers.numbers
+    c.in_ok-numbers.ensures.value c.in_ok-numbers.ensures.accepted _ _
+    (c.in_err-ancestor.ensures.refused some))
 
 pub returns-in_err-members-clause-refused : goal.returns-in_err-members-clause-refused
 returns-in_err-members-clause-refused c =
-    let p = err_from_is_err_and c.from_residual-in_err-members.result c.from_residual-in_err-members.ensures.1 in
-    rw (p.1, p.2) (λ _. refused_by_members (table_view c.args.table.now) c.in_ok-numbers.numbers c.in_ok-numbers.ensures.value c.in_ok-numbers.ensures.accepted _ _ c.in_ok-ancestor.ensures.accepted c.in_err-members.ensures.refused)
+    let p = err_from_is_err_and c.from_residual-in_err-members.result
+    c.from_residual-in_err-members.ensures.1 in
+    rw (p.1, p.2) (λ _. refused_by_members (table_view c.args.table.now) c.in_ok-numbers.numbers
+    c.in_ok-numbers.ensures.value c.in_ok-numbers.ensures.accepted _ _
+    c.in_ok-ancestor.ensures.accepted c.in_err-members.ensures.refused)
 
 pub returns-in_err-event-clause-refused : goal.returns-in_err-event-clause-refused
 returns-in_err-event-clause-refused c =
-    let p = err_from_is_err_and c.from_residual-in_err-event.result c.from_residual-in_err-event.ensures.1 in
-    rw (p.1, p.2) (λ some. refused_by_events (table_view c.args.table.now) c.in_ok-numbers.numbers c.in_ok-numbers.ensures.value c.in_ok-numbers.ensures.accepted
-    c.in_ok-members.members.now _ c.in_ok-ancestor.ensures.accepted c.in_ok-members.ensures.accepted c.in_ok-members.ensures.value (c.in_err-event.ensures.refused some))
+    let p = err_from_is_err_and c.from_residual-in_err-event.result
+    c.from_residual-in_err-event.ensures.1 in
+    rw (p.1, p.2) (λ some. refused_by_events (table_view c.args.table.now) c.in_ok-numbers.numbers
+    c.in_ok-numbers.ensures.value c.in_ok-numbers.ensures.accepted
+    c.in_ok-members.members.now _ c.in_ok-ancestor.ensures.accepted c.in_ok-members.ensures.accepted
+    c.in_ok-members.ensures.value (c.in_err-event.ensures.refused some))
 
 pub invariant_of-result : goal.invariant_of-result
 invariant_of-result c =
@@ -50,13 +59,18 @@ invariant_of-result c =
       greatest_length_bounds = lengths.greatest_length_bounds;
       memory_limit_bounds = lengths.memory_limit_bounds;
       ancestor_bounds = c.in_ok-ancestor.ensures.within;
-      event_bounds = AreEvents-read (numbers_frame c.in_ok-numbers.numbers) (items_view c.in_ok-members.members.now) (event_values c.in_ok-event.event)
+      event_bounds = AreEvents-read (numbers_frame c.in_ok-numbers.numbers)
+          (items_view c.in_ok-members.members.now) (event_values c.in_ok-event.event)
           (rw count_of_view c.in_ok-members.ensures.within) c.in_ok-event.ensures.value;
     }
 
 pub returns-clause-value : goal.returns-clause-value
 returns-clause-value c =
-    accepted_values (table_view c.args.table.now) c.in_ok-numbers.numbers c.in_ok-numbers.ensures.value c.in_ok-numbers.ensures.accepted
-    c.in_ok-members.members.now (event_values c.in_ok-event.event) c.in_ok-ancestor.ensures.accepted c.in_ok-members.ensures.accepted c.in_ok-members.ensures.value c.in_ok-event.ensures.value
-    ∙ ap Ok (values_in-numbers (table_view c.args.table.now) c.in_ok-numbers.numbers (letters c.in_ok-ancestor.ancestor) (event_values c.in_ok-event.event)
-    c.in_ok-numbers.ensures.value (genome_at-ancestor (table_view c.args.table.now) ∙ c.in_ok-ancestor.ensures.value))
+    accepted_values (table_view c.args.table.now) c.in_ok-numbers.numbers
+    c.in_ok-numbers.ensures.value c.in_ok-numbers.ensures.accepted
+    c.in_ok-members.members.now (event_values c.in_ok-event.event) c.in_ok-ancestor.ensures.accepted
+    c.in_ok-members.ensures.accepted c.in_ok-members.ensures.value c.in_ok-event.ensures.value
+    ∙ ap Ok (values_in-numbers (table_view c.args.table.now) c.in_ok-numbers.numbers
+    (letters c.in_ok-ancestor.ancestor) (event_values c.in_ok-event.event)
+    c.in_ok-numbers.ensures.value
+    (genome_at-ancestor (table_view c.args.table.now) ∙ c.in_ok-ancestor.ensures.value))

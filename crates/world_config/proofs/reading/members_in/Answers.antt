@@ -6,4 +6,5 @@ use Rattle.world_config.proofs.reading.members_in.Goals as goal
 pub returns-clause-accepted : goal.returns-clause-accepted
 returns-clause-accepted c =
     rw (c.in_ok-members.ensures.value, count_of_view)
-    (unless_within-none Event 0 1000 (length c.in_ok-members.members.now) (omega arith) c.if-members.false)
+    (unless_within-none Event 0 1000 (length c.in_ok-members.members.now)
+    (omega arith) c.if-members.false)

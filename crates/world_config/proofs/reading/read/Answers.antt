@@ -6,15 +6,22 @@ use Rattle.world_config.proofs.reading.read.Goals as goal
 
 pub returns-in-Ok-clause-ok : goal.returns-in-Ok-clause-ok
 returns-in-Ok-clause-ok c =
-    rw (is_utf8-from_IsUtf8 c.args.bytes.now c.in-Ok.ensures.ok.0, c.in-Ok.ensures.ok.1) c.config_in.ensures.value
+    rw (is_utf8-from_IsUtf8 c.args.bytes.now c.in-Ok.ensures.ok.0, c.in-Ok.ensures.ok.1)
+    c.config_in.ensures.value
 
 pub returns-in-Ok-clause-refused : goal.returns-in-Ok-clause-refused
 returns-in-Ok-clause-refused c =
-    rw (is_utf8-from_IsUtf8 c.args.bytes.now c.in-Ok.ensures.ok.0, c.in-Ok.ensures.ok.1) c.config_in.ensures.refused
+    rw (is_utf8-from_IsUtf8 c.args.bytes.now c.in-Ok.ensures.ok.0, c.in-Ok.ensures.ok.1)
+    c.config_in.ensures.refused
 
 pub returns-else-is_memory-clause-refused : goal.returns-else-is_memory-clause-refused
 returns-else-is_memory-clause-refused c = λ _.
     elim (cases_Bool (is_utf8 c.args.bytes.now)) [
-      | inl text ↦ rw (text, c.in-Err.ensures.refused (λ m. false≢true (sym c.if-is_memory.false ∙ c.is_memory.ensures.1 m)) (IsUtf8-from_is_utf8 c.args.bytes.now text))
+      | inl text ↦ rw (
+        text,
+        c.in-Err.ensures.refused
+            (λ m. false≢true (sym c.if-is_memory.false ∙ c.is_memory.ensures.1 m))
+            (IsUtf8-from_is_utf8 c.args.bytes.now text),
+      )
       | inr other ↦ rw other
     ]

@@ -1,12 +1,19 @@
-use Rattle.std.proofs.Common.{◌≡◌, ◌∙◌, ◌<◌, ◌*◌, ℕ, All, length, get_or, subst, sym, arith, ap, map}
+use Rattle.std.proofs.Common.{◌≡◌, ◌∙◌, ◌<◌, ◌*◌, ℕ, get_or, length, subst, sym, arith, ap, map}
 use Rattle.std.specs.List.Sorted.{IsNonDecreasing}
 use Rattle.std.proofs.lemmas.List.{length-map}
 use Rattle.std.proofs.lemmas.List.Elements.{All-map, All-same}
 use Rattle.birth_board.specs.declared.season.Season.{Season}
 use Rattle.birth_board.specs.Torus.{TorusNumbers}
-use Rattle.world_rules.specs.Scene.{Scene}
-use Rattle.world_rules.specs.Update.{Delivery}
-use Rattle.world_rules.specs.World.{id_of}
+use Rattle.world_config.specs.Shown.{values_of}
+use Rattle.std.proofs.lemmas.Result.{IfOk-weaker}
+use Rattle.birth_board.specs.Placement.{placements_of}
+use Rattle.world_rules.specs.Settings.{season_at}
+use Rattle.world_rules.specs.Update.{Delivery, placings_of}
+use Rattle.world_rules.specs.World.{id_of, ids_of}
+use Rattle.world_core.specs.Lived.{delivery_in}
+use Rattle.world_core.specs.Scenes.{SceneValue, scene_in}
+use Rattle.world_core.specs.Soundness.{IsDelivery}
+use Rattle.world_core.proofs.LivesLemmas.{All-unmap, map-both}
 use Rattle.world_core.proofs.births.placings_of.Goals as goal
 
 pub place-requires : goal.place-requires
@@ -19,12 +26,45 @@ place-requires c =
     let height = ap (λ (t : TorusNumbers). t.height) c.torus_of-torus.ensures in
     let same : length cells ≡ torus.width * torus.height = rw (width, height) c.requires.size in
     let below : ℕ → Type 0 = λ cell. cell < torus.width * torus.height in
-    let each : All (λ (b : Delivery). below b.cell) births = λ k d within. subst (λ (n : ℕ). (get_or births k d).cell < n) same (c.requires.births.each k d within).cell in
-    let number : length parents ≡ length births = ap length c.in_ok-parents.ensures ∙ length-map births (λ (b : Delivery). b.cell) in
+    let fit = All-unmap (IsDelivery (values_of c.args.config.now) (length cells)) delivery_in births
+    c.requires.births.each in
+    let number : length parents ≡ length births =
+    ap length c.in_ok-parents.ensures ∙ length-map births _ in
     record {
-      cells = ap length c.in_ok-board.ensures ∙ length-map c.cells.result.now id_of ∙ ap length c.cells.ensures.cells ∙ ap (λ (s : Scene). length s.cells) c.scene.view_is ∙ same;
-      in_torus = All-same below parents (map (λ (b : Delivery). b.cell) births) c.in_ok-parents.ensures (All-map below (λ (b : Delivery). b.cell) births each);
-      rising = subst IsNonDecreasing (sym c.in_ok-parents.ensures) c.requires.births.rising;
-      few = omega (arith, number, c.requires.births.few);
-      ids = omega (arith, number, c.requires.births.few, c.requires.few, c.next_id.ensures, ap (λ (s : Season). s.next_id) c.season_at-season.ensures);
+      cells = ap length c.in_ok-board.ensures ∙ length-map c.cells.result.now id_of
+          ∙ ap length c.cells.ensures.cells
+          ∙ ap (λ (s : SceneValue). length s.cells) c.scene.view_is ∙ same;
+      in_torus = All-same below parents (map _ births) c.in_ok-parents.ensures
+          (All-map below _ births (λ k d within.
+          subst (λ (n : ℕ). (get_or births k d).newborn.cell < n) same (fit k d within).cell));
+      rising = subst IsNonDecreasing
+          (map-both delivery_in (λ (d : Delivery). d.cell) births ∙ sym c.in_ok-parents.ensures)
+          c.requires.births.rising;
+      few = omega (arith, number, c.requires.births.few, length-map births delivery_in);
+      ids = omega (
+        arith,
+        number,
+        c.requires.births.few,
+        length-map births delivery_in,
+        c.requires.few,
+        c.next_id.ensures,
+        ap (λ (s : Season). s.next_id) c.season_at-season.ensures,
+      );
     }
+
+pub returns-clause-placings : goal.returns-clause-placings
+unfolding placings_of
+returns-clause-placings c =
+    let births = c.args.births.now in
+    let scene = scene_in c.args.scene.now in
+    let parents =
+    c.in_ok-parents.ensures ∙ sym (map-both delivery_in (λ (d : Delivery). d.cell) births) in
+    let board = c.in_ok-board.ensures
+    ∙ ap ids_of (c.cells.ensures.cells ∙ ap (λ (s : SceneValue). s.cells) c.scene.view_is) in
+    let season = c.season_at-season.ensures
+    ∙ (λ i. season_at (values_of c.args.config.now) (c.scene.view_is i).update
+    (c.next_id.ensures i)) in
+    IfOk-weaker c.place.result _ _
+    (λ placings is. is.placings
+    ∙ (λ i. (placements_of (c.torus_of-torus.ensures i) (parents i) (board i)
+    (season i)).placings)) c.place.ensures.placings

@@ -8,6 +8,7 @@ use Rattle.lineage_log.specs.LogGrammar.{lines_text}
 use Rattle.log_lines.specs.LineText.{line_text}
 use Rattle.world_rules.specs.LogText.{cleared_line}
 use Rattle.world_rules.specs.Scene.{cells_from, with_death, with_deaths}
+use Rattle.world_core.specs.Scenes.{scene_in}
 use Rattle.world_core.proofs.ScanLemmas.{told-step}
 use Rattle.world_core.proofs.events.clear.Goals as goal
 
@@ -15,33 +16,54 @@ pub loop-cell-preserved : goal.loop-cell-preserved
 loop-cell-preserved c =
     let cells = cells_from c.args.first c.args.last in
     let i = c.loop-cell.cell - c.args.first in
-    let first = c.args.scene.now in
+    let first = scene_in c.args.scene.now in
     let before = c.loop-cell.invariant in
     let turn = c.in_ok-die.ensures in
     let low : c.args.first ≤ c.loop-cell.cell = omega arith in
     let width : c.loop-cell.cell < c.args.last + 1 = c.loop-cell-test.true in
-    let within : i < length cells = omega (arith, length-range_with_len c.args.first (c.args.last + 1 - c.args.first)) in
+    let within : i < length cells =
+    omega (arith, length-range_with_len c.args.first (c.args.last + 1 - c.args.first)) in
     let next : i + 1 ≡ c.loop-cell.cell + 1 - c.args.first = omega arith in
-    let here : get_or cells i 0 ≡ c.loop-cell.cell = get_or-range_with_len c.args.first (c.args.last + 1 - c.args.first) i 0 (omega arith) ∙ omega arith in
-    let scene = turn.scene ∙ ap (λ s. with_death s c.loop-cell.cell) before.scene ∙ ap (with_death (with_deaths first (take i cells))) (sym here) ∙ sym (fold_more with_death first cells i 0 within) in
-    let one = c.in_ok-tell_clearing.ensures ∙ ap (λ cell. c.loop-cell.text.items ++ lines_text (option_to_list (cleared_line c.loop-cell.scene cell))) (sym here) in
-    let text = told-step with_death cleared_line line_text first c.loop-cell.scene cells i 0 c.args.text.now.items c.loop-cell.text.items c.tell_clearing.new.text.items within before.scene before.text one in
+    let here : get_or cells i 0 ≡ c.loop-cell.cell =
+    get_or-range_with_len c.args.first (c.args.last + 1 - c.args.first) i 0 (omega arith)
+    ∙ omega arith in
+    let scene = turn.scene ∙ ap (λ s. with_death s c.loop-cell.cell) before.scene
+    ∙ ap (with_death (with_deaths first (take i cells))) (sym here)
+    ∙ sym (fold_more with_death first cells i 0 within) in
+    let one = c.in_ok-tell_clearing.ensures
+    ∙ ap (λ cell. c.loop-cell.text.items
+    ++ lines_text (option_to_list (cleared_line (scene_in c.loop-cell.scene) cell)))
+    (sym here) in
+    let text = told-step with_death cleared_line line_text first (scene_in c.loop-cell.scene) cells
+    i 0 c.args.text.now.items c.loop-cell.text.items c.tell_clearing.new.text.items within
+    before.scene before.text one in
     record {
       scene = scene ∙ ap (λ n. with_deaths first (take n cells)) next;
-      text = text ∙ ap (λ n. c.args.text.now.items ++ lines_text (filter_map (λ line. line) (scan with_death cleared_line first (take n cells)))) next;
+      text = text ∙ ap (λ n. c.args.text.now.items
+          ++ lines_text (filter_map (λ line. line)
+          (scan with_death cleared_line first (take n cells)))) next;
       size = turn.size ∙ before.size;
       everyone = turn.everyone ∙ before.everyone;
+      first = turn.first ∙ before.first;
+      bank = turn.bank ∙ before.bank;
     }
 
 pub returns-clause-scene : goal.returns-clause-scene
 returns-clause-scene c =
     let cells = cells_from c.args.first c.args.last in
     let i = c.loop-cell.cell - c.args.first in
-    c.loop-cell.invariant.scene ∙ ap (with_deaths c.args.scene.now) (take_all i cells (omega (arith, length-range_with_len c.args.first (c.args.last + 1 - c.args.first))))
+    c.loop-cell.invariant.scene
+    ∙ ap (with_deaths (scene_in c.args.scene.now))
+    (take_all i cells (omega
+    (arith, length-range_with_len c.args.first (c.args.last + 1 - c.args.first))))
 
 pub returns-clause-text : goal.returns-clause-text
 returns-clause-text c =
     let cells = cells_from c.args.first c.args.last in
     let i = c.loop-cell.cell - c.args.first in
     c.loop-cell.invariant.text
-    ∙ ap (λ cells. c.args.text.now.items ++ lines_text (filter_map (λ line. line) (scan with_death cleared_line c.args.scene.now cells))) (take_all i cells (omega (arith, length-range_with_len c.args.first (c.args.last + 1 - c.args.first))))
+    ∙ ap (λ cells. c.args.text.now.items
+    ++ lines_text (filter_map (λ line. line)
+    (scan with_death cleared_line (scene_in c.args.scene.now) cells)))
+    (take_all i cells (omega
+    (arith, length-range_with_len c.args.first (c.args.last + 1 - c.args.first))))

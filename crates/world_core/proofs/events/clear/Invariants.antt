@@ -3,13 +3,20 @@ use Rattle.lineage_log.specs.LogGrammar.{lines_text}
 use Rattle.std.specs.List.{scan, filter_map}
 use Rattle.world_rules.specs.LogText.{cleared_line}
 use Rattle.world_rules.specs.Scene.{cells_from, with_death, with_deaths}
+use Rattle.world_core.specs.Scenes.{scene_in}
 use Rattle.world_core.proofs.events.clear.Given as goal
 
 -- who stands in the cells so far is dead and told
 abbrev pub invariant-loop-cell : goal.invariant-loop-cell
 invariant-loop-cell l = record {
-  scene : l.scene ≡ with_deaths l.fn.scene (take (l.cell - l.first) (cells_from l.first l.last));
-  text : l.text.items ≡ l.fn.text.items ++ lines_text (filter_map (λ line. line) (scan with_death cleared_line l.fn.scene (take (l.cell - l.first) (cells_from l.first l.last))));
+  scene : scene_in l.scene
+      ≡ with_deaths (scene_in l.fn.scene) (take (l.cell - l.first) (cells_from l.first l.last));
+  text : l.text.items ≡ l.fn.text.items
+      ++ lines_text (filter_map (λ line. line)
+      (scan with_death cleared_line (scene_in l.fn.scene)
+      (take (l.cell - l.first) (cells_from l.first l.last))));
   size : length l.scene.cells ≡ length l.fn.scene.cells;
   everyone : l.scene.everyone ≡ l.fn.scene.everyone;
+  first : l.scene.first ≡ l.fn.scene.first;
+  bank : l.scene.bank ≡ l.fn.scene.bank;
 }

@@ -7,4 +7,5 @@ use Rattle.world_core.proofs.settings.rates_at.Given as goal
 
 abbrev pub invariant-loop-event : goal.invariant-loop-event
 invariant-loop-event l =
-    numbers_of l.rates ≡ rates_by (first_rates (values_of l.config)) l.update (take l.event-index l.event-items)
+    numbers_of l.rates ≡ rates_by (first_rates (values_of l.config)) l.update
+    (take l.event-index l.event-items)

@@ -13,16 +13,19 @@ use Rattle.world_rules.proofs.tiny_worlds.newborns_take_the_only_cell.Goals as g
 
 -- the scene with the newborns in these places
 abbrev born : OrganismState → List Placing → Scene
-born o placings = fold (with_newborn (tiny [])) (after_burials (after_fertile o) (fertile o)) (zip (births_of (fertile o)) placings)
+born o placings = fold (with_newborn (tiny [])) (after_burials (after_fertile o) (fertile o))
+    (zip (births_of (fertile o)) placings)
 
 -- the lines with them
 abbrev lines_with : OrganismState → List Placing → List Line
 lines_with o placings =
     death_lines (after_fertile o) (deaths_of (fertile o))
-    ++ scan (with_newborn (tiny [])) birth_line (after_burials (after_fertile o) (fertile o)) (zip (births_of (fertile o)) placings)
+    ++ scan (with_newborn (tiny [])) birth_line (after_burials (after_fertile o) (fertile o))
+    (zip (births_of (fertile o)) placings)
     ++ event_lines (tiny []) (born o placings)
     ++ Count (scene_stats (after_events (tiny []) (born o placings)) 2) ∷ []
 
 pub returns : goal.returns
-unfolding lines_of_lives last_scene deaths_of after_burials births_of placings_of after_births with_newborn events_at after_event after_events with_death with_newcomer stats_in new_organism
+unfolding lines_of_lives last_scene deaths_of after_burials births_of placings_of after_births
+    with_newborn events_at after_event after_events with_death with_newcomer stats_in new_organism
 returns c o = ap (lines_with o) two_placed

@@ -9,5 +9,7 @@ pub raise_tasks-requires : goal.raise_tasks-requires
 raise_tasks-requires c =
     let tasks = c.self.inside.tasks in
     let same = ap (λ (counts : Counts). counts.tasks) c.self.view_is in
-    All-same (λ count. count < 2 ^ 32) c.lower_tasks.new.counts (tasks_without tasks c.args.credited) c.lower_tasks.ensures
-    (fewer-small tasks c.args.credited (2 ^ 32) (omega arith) (All-same (λ count. count < 2 ^ 32) tasks c.args.self.now.tasks same c.requires.few))
+    All-same (λ count. count < 2 ^ 32) c.lower_tasks.new.counts
+    (tasks_without tasks c.args.credited) c.lower_tasks.ensures
+    (fewer-small tasks c.args.credited (2 ^ 32) (omega arith)
+    (All-same (λ count. count < 2 ^ 32) tasks c.args.self.now.tasks same c.requires.few))

@@ -13,5 +13,6 @@ fetch_add-requires c =
       search rules,
       search rules,
       releases _ _ _ back.0 back.1 turn.0 turn.1
-          (back.2 ∙ ap (λ call. genotypes_of (m.0.seen ++ entry (number_of m.0) call ∷ [])) (sym (ap call_in back.1))),
+          (back.2 ∙ ap (λ call. genotypes_of (m.0.seen ++ entry (number_of m.0) call ∷ []))
+          (sym (ap call_in back.1))),
     )

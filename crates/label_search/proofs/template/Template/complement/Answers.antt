@@ -16,9 +16,16 @@ loop-at-preserved c =
     let nop = get_or nops at NopA in
     let is : is_nop nop ≡ true = c.len-at-end.ensures.template.nops at NopA within in
     let comp = unwrap_or (complement_of nop) nop in
-    let read : c.complement_of.result ≡ unwrap_or (complement_of nop) nop = rw c.nop.ensures at c.complement_of.ensures in
+    let read : c.complement_of.result ≡ unwrap_or (complement_of nop) nop =
+    rw c.nop.ensures at c.complement_of.ensures in
     let more : take (at + 1) nops ≡ take at nops ++ nop ∷ [] = grind (arith, common_steps) in
-    let same : length (complements_of (take at nops)) ≡ length (take at nops) = rw length-map refl in
-    let long : length c.loop-at.complement ≡ length (take at nops) = ap length c.loop-at.invariant ∙ same in
-    let noted = rw read at c.note.ensures.read ∙ nops_read-room c.loop-at.complement (unwrap_or (complement_of nop) nop) (is_nop-complement nop is) (omega (arith, long, length-take at nops, c.len-at-end.ensures.few)) in
-    noted ∙ ap (λ l. l ++ unwrap_or (complement_of nop) nop ∷ []) c.loop-at.invariant ∙ sym (ap complements_of more ∙ map-append _ (take at nops) (nop ∷ []))
+    let same : length (complements_of (take at nops)) ≡ length (take at nops) =
+    rw length-map refl in
+    let long : length c.loop-at.complement ≡ length (take at nops) =
+    ap length c.loop-at.invariant ∙ same in
+    let noted = rw read at c.note.ensures.read
+    ∙ nops_read-room c.loop-at.complement (unwrap_or (complement_of nop) nop)
+    (is_nop-complement nop is)
+    (omega (arith, long, length-take at nops, c.len-at-end.ensures.few)) in
+    noted ∙ ap (λ l. l ++ unwrap_or (complement_of nop) nop ∷ []) c.loop-at.invariant
+    ∙ sym (ap complements_of more ∙ map-append _ (take at nops) (nop ∷ []))

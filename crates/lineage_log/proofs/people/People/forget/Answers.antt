@@ -10,7 +10,9 @@ use Rattle.lineage_log.proofs.people.People.forget.Goals as goal
 pub returns-then-place-len : goal.returns-then-place-len
 returns-then-place-len c =
     let genomes = c.self.inside.genomes.items in
-    let seen = map-set (λ (found : Option (Rc Genome Global)). option_map (λ shared. letters shared.value) found) genomes c.args.id None ∙ ap (λ (l : List (Option (List Letter))). set l c.args.id None) c.self.view_is in
+    let seen = map-set (λ (found : Option (Rc Genome Global)).
+    option_map (λ shared. letters shared.value) found) genomes c.args.id None
+    ∙ ap (λ (l : List (Option (List Letter))). set l c.args.id None) c.self.view_is in
     elim c.match-index_mut.branch [
       | in-Some-1 w ↦ w.self-is ∙ seen
       | in-None-1 w ↦ w.self-is ∙ seen

@@ -15,7 +15,15 @@ loop-step-init c =
       state = sym (state_after-zero (setting_numbers c.args.settings.now) words start);
       search = search-all (setting_numbers c.args.settings.now) words start c.args.slices;
       stream = refl;
-      bounds = record { age = omega arith; births = omega arith; taken = omega arith; genome = refl; merit = λ h. h; merits = λ h. h; lengths = λ h. h };
+      bounds = record {
+        age = omega arith;
+        births = omega arith;
+        taken = omega arith;
+        genome = refl;
+        merit = λ h. h;
+        merits = λ h. h;
+        lengths = λ h. h;
+      };
     }
 
 -- the state after the step, by the words of the stream at its start
@@ -24,25 +32,49 @@ returns-then-has_age-clause-life c =
     let settings = setting_numbers c.args.settings.now in
     let words = word_of c.args.draws.now in
     let start = life_state c.args.self.now c.args.births.now c.args.draws.now in
-    let here : life_state c.live.new.self c.live.new.births c.live.new.draws ≡ state_after settings words start (c.loop-step.step + 1) = state-next settings words (word_of c.loop-step.draws) start _ _ c.loop-step.step c.loop-step.invariant.state (ap word_of c.loop-step.invariant.stream) c.in_ok-live.ensures.state in
-    let bounds = goes_on-more settings c.loop-step.step _ _ _ c.loop-step.invariant.bounds c.in_ok-live.ensures.bounds in
-    let old = rw (← c.age_of_death-death.ensures) at (old-at settings c.args.self.now c.live.new.self bounds.genome (omega (arith, bounds.age, c.requires.age, c.requires.slices))) in
-    let dies : dies_at settings words start c.loop-step.step ≡ true = dies-now settings words start _ c.loop-step.step true here (sym c.if-has_age.true ∙ c.has_age.ensures ∙ old) in
-    let first = search-here (dies_at settings words start) c.loop-step.step c.args.slices _ c.loop-step-test.true c.loop-step.invariant.search dies in
-    ap (λ (s : LifeState). (s, Died (c.loop-step.step + 1))) here ∙ sym (life-dies settings words start c.args.slices c.loop-step.step first)
+    let here : life_state c.live.new.self c.live.new.births c.live.new.draws
+    ≡ state_after settings words start (c.loop-step.step + 1) =
+    state-next settings words (word_of c.loop-step.draws) start _ _ c.loop-step.step
+    c.loop-step.invariant.state (ap word_of c.loop-step.invariant.stream)
+    c.in_ok-live.ensures.state in
+    let bounds = goes_on-more settings c.loop-step.step _ _ _ c.loop-step.invariant.bounds
+    c.in_ok-live.ensures.bounds in
+    let old = rw (← c.age_of_death-death.ensures) at
+    (old-at settings c.args.self.now c.live.new.self bounds.genome
+    (omega (arith, bounds.age, c.requires.age, c.requires.slices))) in
+    let dies : dies_at settings words start c.loop-step.step ≡ true =
+    dies-now settings words start _ c.loop-step.step true here
+    (sym c.if-has_age.true ∙ c.has_age.ensures ∙ old) in
+    let first = search-here (dies_at settings words start) c.loop-step.step c.args.slices _
+    c.loop-step-test.true c.loop-step.invariant.search dies in
+    ap (λ (s : LifeState). (s, Died (c.loop-step.step + 1))) here
+    ∙ sym (life-dies settings words start c.args.slices c.loop-step.step first)
 
 pub loop-step-preserved : goal.loop-step-preserved
 loop-step-preserved c =
     let settings = setting_numbers c.args.settings.now in
     let words = word_of c.args.draws.now in
     let start = life_state c.args.self.now c.args.births.now c.args.draws.now in
-    let here : life_state c.live.new.self c.live.new.births c.live.new.draws ≡ state_after settings words start (c.loop-step.step + 1) = state-next settings words (word_of c.loop-step.draws) start _ _ c.loop-step.step c.loop-step.invariant.state (ap word_of c.loop-step.invariant.stream) c.in_ok-live.ensures.state in
-    let bounds = goes_on-more settings c.loop-step.step _ _ _ c.loop-step.invariant.bounds c.in_ok-live.ensures.bounds in
-    let old = rw (← c.age_of_death-death.ensures) at (old-at settings c.args.self.now c.live.new.self bounds.genome (omega (arith, bounds.age, c.requires.age, c.requires.slices))) in
-    let lives : dies_at settings words start c.loop-step.step ≡ false = dies-now settings words start _ c.loop-step.step false here (sym c.if-has_age.false ∙ c.has_age.ensures ∙ old) in
+    let here : life_state c.live.new.self c.live.new.births c.live.new.draws
+    ≡ state_after settings words start (c.loop-step.step + 1) =
+    state-next settings words (word_of c.loop-step.draws) start _ _ c.loop-step.step
+    c.loop-step.invariant.state (ap word_of c.loop-step.invariant.stream)
+    c.in_ok-live.ensures.state in
+    let bounds = goes_on-more settings c.loop-step.step _ _ _ c.loop-step.invariant.bounds
+    c.in_ok-live.ensures.bounds in
+    let old = rw (← c.age_of_death-death.ensures) at
+    (old-at settings c.args.self.now c.live.new.self bounds.genome
+    (omega (arith, bounds.age, c.requires.age, c.requires.slices))) in
+    let lives : dies_at settings words start c.loop-step.step ≡ false =
+    dies-now settings words start _ c.loop-step.step false here
+    (sym c.if-has_age.false ∙ c.has_age.ensures ∙ old) in
     record {
       state = here;
-      search = search-next (dies_at settings words start) c.loop-step.step c.args.slices _ c.loop-step-test.true c.loop-step.invariant.search lives;
-      stream = c.in_ok-live.ensures.stream ∙ ap (λ (s : Stream). record s { taken = c.live.new.draws.taken }) c.loop-step.invariant.stream;
-      bounds = goes_on-more (setting_numbers c.args.settings.now) c.loop-step.step _ _ _ c.loop-step.invariant.bounds c.in_ok-live.ensures.bounds;
+      search = search-next (dies_at settings words start) c.loop-step.step c.args.slices _
+          c.loop-step-test.true c.loop-step.invariant.search lives;
+      stream = c.in_ok-live.ensures.stream
+          ∙ ap (λ (s : Stream). record s { taken = c.live.new.draws.taken })
+          c.loop-step.invariant.stream;
+      bounds = goes_on-more (setting_numbers c.args.settings.now) c.loop-step.step _ _ _
+          c.loop-step.invariant.bounds c.in_ok-live.ensures.bounds;
     }

@@ -8,5 +8,6 @@ new-requires g c =
     let same = c.reader.ensures.history ∙ sym c.in-Some-reader.ensures.reader in record {
       length_is = ap length whole ∙ sym c.count.ensures;
       last_is = ap last_of whole ∙ c.requires;
-      publication = subst (IsPublication g.P.Picture.number g.P.Picture.of) same c.reader.ensures.publication;
+      publication =
+          subst (IsPublication g.P.Picture.number g.P.Picture.of) same c.reader.ensures.publication;
     }

@@ -1,36 +1,42 @@
-use Rattle.std.proofs.Common.{◌∙◌, ap, rules, sym, length, [], ◌∷◌, ◌++◌}
+use Rattle.std.proofs.Common.{◌∙◌, ap, rules, sym, length}
 use Rattle.genome.specs.Genome.{letters}
-use Rattle.genotype_bank.specs.BankHistory.{different_of, with_genome}
-use Rattle.world_core.proofs.GenotypeLemmas.{genomes_of-interned, genomes_of-refused, genotypes-counted, genotypes-different}
+use Rattle.genotype_bank.specs.BankHistory.{with_genome}
+use Rattle.world_core.proofs.GenotypeLemmas.{genotypes-counted, genotypes-different}
 use Rattle.world_core.proofs.genotypes.Genotypes.intern.Goals as goal
 
 pub invariant_of-self : goal.invariant_of-self
 invariant_of-self g c =
-    let turn = c.in_err-handle.ensures in
-    (turn.kept.0 ∙ c.self.invariant.0, turn.kept.1 ∙ c.self.invariant.1, c.self.invariant.2 ∙ ap length (sym (turn.alone c.self.invariant.1)))
+    let turn = c.in_err-handle.ensures in (
+      turn.kept.0 ∙ c.self.invariant.0,
+      turn.kept.1 ∙ c.self.invariant.1,
+      c.self.invariant.2
+          ∙ ap length (sym (turn.alone c.self.invariant.1)),
+    )
 
 pub returns-in_err-handle-clause-err : goal.returns-in_err-handle-clause-err
 returns-in_err-handle-clause-err g c =
-    let same = genomes_of-refused c.self.inside.seat c.intern.new.seat (letters c.args.genome) c.self.invariant.1 c.in_err-handle.ensures.call ∙ c.self.view_is in
+    let same = c.in_err-handle.ensures.alone c.self.invariant.1 ∙ c.self.view_is in
     search (rules, same)
 
 pub returns-in_err-handle-clause-different : goal.returns-in_err-handle-clause-different
-returns-in_err-handle-clause-different g c = genotypes-different c.numbers_agree.ensures c.intern.new.seat.seen
+returns-in_err-handle-clause-different g c =
+    genotypes-different c.numbers_agree.ensures c.intern.new.seat.seen
 
 pub invariant_of-self-2 : goal.invariant_of-self-2
 invariant_of-self-2 g c =
-    let turn = c.in_ok-handle.ensures in
-    (turn.kept.0 ∙ c.self.invariant.0, turn.kept.1 ∙ c.self.invariant.1, genotypes-counted c.calls_number_genotypes.ensures.count c.self.inside.seat c.intern.new.seat (letters c.args.genome) c.in_ok-handle.handle.number c.self.inside.len _ (turn.alone c.self.invariant.1) turn.number c.self.invariant.2 c.len_with-self-inside.ensures)
+    let turn = c.in_ok-handle.ensures in (
+      turn.kept.0 ∙ c.self.invariant.0,
+      turn.kept.1 ∙ c.self.invariant.1,
+      genotypes-counted c.calls_number_genotypes.ensures.count c.self.inside.seat
+          c.intern.new.seat (letters c.args.genome) c.in_ok-handle.handle.number c.self.inside.len _
+          (turn.alone c.self.invariant.1) turn.number c.self.invariant.2
+          c.len_with-self-inside.ensures,
+    )
 
 pub returns-clause-ok : goal.returns-clause-ok
 returns-clause-ok g c =
-    genomes_of-interned c.self.inside.seat c.intern.new.seat (letters c.args.genome) c.self.invariant.1 c.in_ok-handle.ensures.call
-    ∙ ap (λ genomes. genomes ++ letters c.args.genome ∷ []) c.self.view_is
-
-pub returns-clause-genotypes : goal.returns-clause-genotypes
-returns-clause-genotypes g c =
     c.in_ok-handle.ensures.alone c.self.invariant.1
-    ∙ ap (λ genomes. with_genome (different_of genomes) (letters c.args.genome)) c.self.view_is
+    ∙ ap (λ genomes. with_genome genomes (letters c.args.genome)) c.self.view_is
 
 pub returns-clause-different : goal.returns-clause-different
 returns-clause-different g c = genotypes-different c.numbers_agree.ensures c.intern.new.seat.seen

@@ -1,6 +1,5 @@
 use Rattle.std.proofs.Common.{◌∙◌, ap}
 use Rattle.std.proofs.lemmas.Result.{IfOk-weaker}
-use Rattle.genotype_bank.specs.BankHistory.{different_of}
 use Rattle.world_rules.specs.Statistics.{dominant_of}
 use Rattle.world_core.specs.Population.{PopulationValue}
 use Rattle.world_core.proofs.StatLemmas.{same-members}
@@ -10,6 +9,9 @@ pub returns : goal.returns
 unfolding dominant_of
 returns c =
     let kept = c.self.invariant in
-    let members = same-members c.one_index.ensures.list c.self.inside.cells.items (different_of c.self.inside.genotypes) c.self.inside.keys.items c.self.inside.census.genotypes c.dominant.ensures.genotypes kept.genotypes in
-    let same = c.dominance_knows_no_order.ensures _ _ members ∙ ap (λ (population : PopulationValue). dominant_of population.cells) c.self.view_is in
+    let members = same-members c.one_index.ensures.list c.self.inside.cells c.self.inside.genotypes
+    c.self.inside.keys.items c.self.inside.census.genotypes c.dominant.ensures.genotypes
+    kept.genotypes in
+    let same = c.dominance_knows_no_order.ensures _ _ members
+    ∙ ap (λ (population : PopulationValue). dominant_of population.cells) c.self.view_is in
     IfOk-weaker c.dominant.result _ _ (λ found is. is ∙ same) c.dominant.ensures.dominant

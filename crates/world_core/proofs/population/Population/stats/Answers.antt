@@ -1,7 +1,6 @@
 use Rattle.std.proofs.Common.{◌∙◌, ap, List, Option}
 use Rattle.logic_tasks.specs.LogicTasks.{all_tasks}
 use Rattle.world_rules.specs.World.{Occupant}
-use Rattle.genotype_bank.specs.BankHistory.{different_of}
 use Rattle.world_rules.specs.Statistics.{credited_with, genomes_in, stats_in}
 use Rattle.world_core.specs.Population.{PopulationValue}
 use Rattle.world_core.proofs.StatLemmas.{living-in, merits-in, credited-in, genotype-number}
@@ -11,11 +10,24 @@ use Rattle.world_core.proofs.population.Population.stats.Goals as goal
 pub returns : goal.returns
 unfolding stats_in
 returns c =
-    let cells : List (Option Occupant) = c.self.inside.cells.items in
+    let cells : List (Option Occupant) = c.self.inside.cells in
     let kept = c.self.invariant in
     let living = c.living.ensures ∙ kept.genotypes.living ∙ living-in cells in
-    let genotypes = c.genotypes.ensures.count ∙ genotype-number c.one_index.ensures.list cells (different_of c.self.inside.genotypes) c.self.inside.keys.items c.self.inside.census.genotypes c.genotypes.ensures.genotypes kept.genotypes (c.genotypes_are_what_was_interned.ensures.each (genomes_in cells)) in
+    let genotypes = c.genotypes.ensures.count
+    ∙ genotype-number c.one_index.ensures.list cells c.self.inside.genotypes
+    c.self.inside.keys.items c.self.inside.census.genotypes c.genotypes.ensures.genotypes
+    kept.genotypes (c.genotypes_are_what_was_interned.ensures.each (genomes_in cells)) in
     let merit = c.merit.ensures ∙ kept.sums.merit_sum ∙ merits-in cells in
-    let tasks = c.tasks.ensures ∙ kept.sums.task_counts ∙ map_alike (cells_with cells) (credited_with cells) (credited-in cells) all_tasks in
-    (λ i. record { update = c.args.update; living = living i; births = c.args.births; deaths = c.args.deaths; genotypes = genotypes i; merit = merit i; tasks = tasks i })
-    ∙ ap (λ (population : PopulationValue). stats_in c.args.update population.cells c.args.births c.args.deaths) c.self.view_is
+    let tasks = c.tasks.ensures ∙ kept.sums.task_counts
+    ∙ map_alike (cells_with cells) (credited_with cells) (credited-in cells) all_tasks in
+    (λ i. record {
+      update = c.args.update;
+      living = living i;
+      births = c.args.births;
+      deaths = c.args.deaths;
+      genotypes = genotypes i;
+      merit = merit i;
+      tasks = tasks i;
+    })
+    ∙ ap (λ (population : PopulationValue). stats_in c.args.update population.cells c.args.births
+    c.args.deaths) c.self.view_is

@@ -1,12 +1,15 @@
-use Rattle.std.proofs.Common.{◌∙◌, ap, length}
+use Rattle.std.proofs.Common.{◌∙◌, List, ap, subst}
+use Rattle.instruction_set.specs.declared.letter.Letter.{Letter}
+use Rattle.genotype_bank.specs.BankHistory.{HasEachOnce}
 use Rattle.world_rules.specs.World.{World}
-use Rattle.world_core.specs.Genotypes.{bank_in, genomes_ever}
-use Rattle.world_core.specs.WorldValue.{world_in}
+use Rattle.world_core.specs.Genotypes.{genomes_ever}
+use Rattle.world_core.specs.WorldValue.{WorldValue, world_in}
 use Rattle.world_core.proofs.world.World.bank_len.Goals as goal
 
-pub returns-clause-len : goal.returns-clause-len
-returns-clause-len c =
-    c.bank_len.ensures ∙ ap (λ (w : World). length (bank_in w)) (c.self.invariant.world ∙ ap world_in c.self.view_is)
-
 pub returns-clause-each : goal.returns-clause-each
-returns-clause-each c = c.genotypes_are_what_was_interned.ensures.each (genomes_ever (world_in c.args.self.now).everyone)
+returns-clause-each c =
+    subst (λ (w : World). HasEachOnce c.args.self.now.bank (genomes_ever w.everyone))
+    (c.self.invariant.0.world ∙ ap world_in c.self.view_is)
+    (subst (λ (bank : List (List Letter)).
+    HasEachOnce bank (genomes_ever c.self.inside.scene.everyone))
+    (ap (λ (v : WorldValue). v.bank) c.self.view_is) c.self.invariant.0.bank)

@@ -1,0 +1,3 @@
+pub mod SumLemmas
+mod PictureLemmas
+mod SeedLemmas

@@ -1,0 +1,8 @@
+-- The numbers so far are written.
+use Rattle.std.proofs.Common.{◌≡◌, ◌++◌, take, map, decimal}
+use Rattle.log_lines.specs.LineText.{words_text}
+use Rattle.avida_program.proofs.seeds.add_numbers.Given as goal
+
+abbrev pub invariant-loop-number : goal.invariant-loop-number
+invariant-loop-number l =
+    l.text.items ≡ l.fn.text.items ++ words_text (map decimal (take l.number-index l.numbers))

@@ -1,0 +1,35 @@
+use Rattle.std.proofs.Common.{◌≡◌, ◌∙◌, List, ◌++◌, ap, sym, subst, append_assoc, length}
+use Rattle.std.specs.Prelude.{flat_map}
+use Rattle.log_lines.specs.Line.{Line}
+use Rattle.phylogeny.specs.declared.tree.Phylogeny.{Phylogeny}
+use Rattle.phylogeny.specs.CommonAncestor.{branches_of, depths_of, kept_of, most_recent_common_ancestor}
+use Rattle.phylogeny.specs.LogPedigree.{pedigree_of}
+use Rattle.phylogeny.specs.TreeText.{ancestor_line, depth_line, shape_line, tree_text}
+use Rattle.avida_program.specs.Changes.{change}
+use Rattle.avida_program.specs.Outcomes.{WritesText}
+use Rattle.avida_program.specs.TreeText.{counts_line, last_lines, lines_of_tree}
+use Rattle.avida_program.proofs.tree.write_tree.Goals as goal
+
+-- the lines of what was found are the tree of the log
+lines_are : (found : Phylogeny) (lines : List Line) → found.depths ≡ depths_of (pedigree_of lines)
+    → found.common ≡ most_recent_common_ancestor (pedigree_of lines)
+    → found.kept ≡ length (kept_of (pedigree_of lines))
+    → found.branches ≡ length (branches_of (pedigree_of lines))
+    → lines_of_tree found ≡ tree_text lines
+lines_are found lines depths common kept branches =
+    let living = flat_map depth_line (depths_of (pedigree_of lines)) in
+    let ancestor = ancestor_line (most_recent_common_ancestor (pedigree_of lines)) in
+    ap (λ l. flat_map depth_line l ++ last_lines found) depths
+    ∙ ap (λ a. living ++ (ancestor_line a ++ counts_line found.kept found.branches)) common
+    ∙ ap (λ n. living ++ (ancestor ++ counts_line n found.branches)) kept
+    ∙ ap (λ n. living ++ (ancestor ++ counts_line (length (kept_of (pedigree_of lines))) n))
+    branches
+    ∙ sym (append_assoc living ancestor (shape_line (pedigree_of lines)))
+
+pub returns-in-Ok : goal.returns-in-Ok
+returns-in-Ok g c =
+    let so = c.in-Ok.ensures in
+    let same = lines_are c.in-Ok.found c.args.log.now so.depths so.common so.kept so.branches in
+    subst (λ l. WritesText l
+    (change (g.O.Sink.seen c.args.out.now) (g.O.Sink.seen c.write_found.new.out))
+    c.write_found.result) same c.write_found.ensures

@@ -1,0 +1,190 @@
+// The command `landscape`.
+ghost use Rattle.std.specs.Prelude.{◌≡◌, ◌+◌, ◌++◌, ◌≤◌, Option, cond, flat_map};
+ghost use Rattle.arrayvec.specs.ArrayVec.{array_vec_len};
+ghost use Rattle.avida_port.specs.Ports.{SinkState};
+ghost use Rattle.genome.specs.Genome.{letters};
+ghost use Rattle.landscape.specs.LandscapeText.{base_line, entry_line, landscape_text, neighbour_line, survey_text, totals_line, trial_text};
+ghost use Rattle.world_core.specs.WorldValue.{WorldValue};
+ghost use Rattle.avida_program.specs.declared.command.Command.TheVariants.{Landscape};
+ghost use Rattle.avida_program.specs.Changes.{change, unchanged};
+ghost use Rattle.avida_program.specs.Outcomes.{WritesText};
+ghost use Rattle.avida_program.specs.Pieces.{Writes};
+ghost use Rattle.avida_program.specs.Work.{CarriesOut};
+
+use crate::fixed_text::{push_natural, push_spaced, push_text};
+use crate::input::{read_bytes, read_genome};
+use crate::outcome::ended;
+use crate::piece::{PIECE_SIZE, Piece, make_room};
+use crate::{INPUT_LIMIT, Outcome, Spelling};
+use avida_port::{Memory, Sink, SinkStop, Source};
+use genome::Genome;
+use instruction_set::Letter;
+use landscape::{Entry, Survey, Totals, Trial, survey};
+use std::alloc::Global;
+use std::thread::Threads;
+
+/// No line is longer.
+const LINE_ROOM: usize = 96;
+
+fn same_number(same: bool) -> u64
+    ensures { result ≡ cond same 1 0 }
+{
+    if same { 1 } else { 0 }
+}
+
+fn push_trial(piece: &mut Piece, trial: &Trial)
+    requires { array_vec_len piece.old + 63 ≤ PIECE_SIZE }
+    ensures items { piece.new.items ≡ piece.old.items ++ trial_text trial.now }
+    ensures len { array_vec_len piece.new ≤ array_vec_len piece.old + 63 }
+{
+    push_spaced(piece, trial.step);
+    push_spaced(piece, trial.merit);
+    push_spaced(piece, same_number(trial.same));
+}
+
+fn push_base(piece: &mut Piece, base: &Option<Trial>)
+    requires { array_vec_len piece.old + 65 ≤ PIECE_SIZE }
+    ensures { piece.new.items ≡ piece.old.items ++ base_line base.now }
+{
+    match base {
+        Some(trial) => {
+            piece.push(b'G');
+            push_trial(piece, trial);
+            piece.push(b'\n');
+        }
+        None => push_text(piece, "G -\n"),
+    }
+}
+
+fn push_neighbour(piece: &mut Piece, at: u32, letter: Letter, trial: &Trial)
+    requires { array_vec_len piece.old + 88 ≤ PIECE_SIZE }
+    ensures { piece.new.items ≡ piece.old.items ++ neighbour_line at letter trial.now }
+{
+    push_text(piece, "N ");
+    push_natural(piece, u64::from(at));
+    piece.push(b' ');
+    piece.push(letter.byte());
+    push_trial(piece, trial);
+    piece.push(b'\n');
+}
+
+fn push_totals(piece: &mut Piece, totals: &Totals)
+    requires { array_vec_len piece.old + 86 ≤ PIECE_SIZE }
+    ensures { piece.new.items ≡ piece.old.items ++ totals_line totals.now }
+{
+    piece.push(b'T');
+    push_spaced(piece, totals.entries);
+    push_spaced(piece, totals.trials);
+    push_spaced(piece, totals.same);
+    push_spaced(piece, totals.better);
+    piece.push(b'\n');
+}
+
+/// An entry without a trial has no line.
+fn write_entry<O: Sink>(piece: &mut Piece, entry: &Entry, out: &mut O) -> Result<(), SinkStop>
+    ensures { Writes (O.seen out.old) (O.seen out.new) piece.old.items piece.new.items
+        (entry_line entry.now) result }
+{
+    let Some(trial) = &entry.trial else {
+        return Ok(());
+    };
+    make_room(piece, LINE_ROOM, out)?;
+    push_neighbour(piece, entry.at, entry.letter, trial);
+    Ok(())
+}
+
+fn write_entries<O: Sink>(piece: &mut Piece, entries: &[Entry], out: &mut O) -> Result<(), SinkStop>
+    ensures { Writes (O.seen out.old) (O.seen out.new) piece.old.items piece.new.items
+        (flat_map entry_line entries.now) result }
+{
+    for entry in entries {
+        write_entry(piece, entry, out)?;
+    }
+    Ok(())
+}
+
+fn write_lines<O: Sink>(
+    piece: &mut Piece,
+    base: &Option<Trial>,
+    entries: &[Entry],
+    totals: &Totals,
+    out: &mut O,
+) -> Result<(), SinkStop>
+    ensures { Writes (O.seen out.old) (O.seen out.new) piece.old.items piece.new.items
+        (base_line base.now ++ flat_map entry_line entries.now ++ totals_line totals.now) result }
+{
+    make_room(piece, LINE_ROOM, out)?;
+    push_base(piece, base);
+    write_entries(piece, entries, out)?;
+    make_room(piece, LINE_ROOM, out)?;
+    push_totals(piece, totals);
+    Ok(())
+}
+
+fn write_parts<O: Sink>(
+    base: &Option<Trial>,
+    entries: &[Entry],
+    totals: &Totals,
+    out: &mut O,
+) -> Outcome
+    ensures { WritesText
+        (base_line base.now ++ flat_map entry_line entries.now ++ totals_line totals.now)
+        (change (O.seen out.old) (O.seen out.new)) result }
+{
+    let mut piece = Piece::new();
+    if let Err(stop) = write_lines(&mut piece, base, entries, totals, out) {
+        return ended(Err(stop));
+    }
+    ended(out.put(piece.as_slice()))
+}
+
+fn write_found<O: Sink>(found: &Survey, out: &mut O) -> Outcome
+    ensures { WritesText (survey_text found.now)
+        (change (O.seen out.old) (O.seen out.new)) result }
+{
+    let totals = found.totals();
+    write_parts(&found.base, found.entries.as_slice(), &totals, out)
+}
+
+/// Tries a genome and those that differ from it in one letter, and writes their trials.
+fn write_landscape<R: Threads + Sync, O: Sink>(
+    rt: &R,
+    alloc: Global,
+    genome: &Genome,
+    steps: u32,
+    out: &mut O,
+) -> Outcome
+    ensures { WritesText (landscape_text (letters genome.now) steps)
+        (change (O.seen out.old) (O.seen out.new)) result }
+{
+    match survey(rt, alloc, genome, steps) {
+        Ok(found) => write_found(&found, out),
+        Err(Memory) => Outcome::NoMemory,
+    }
+}
+
+/// Reads a genome, and writes how it and each genome that differs from it in one letter do alone.
+pub fn landscape<R: Threads + Sync, S: Source, O: Sink>(
+    rt: &R,
+    alloc: Global,
+    steps: u32,
+    source: &mut S,
+    out: &mut O,
+) -> Outcome
+    ensures { (watch : SinkState) (last : Option WorldValue)
+        → CarriesOut (Landscape steps) (record {
+          source = change (S.seen source.old) (S.seen source.new);
+          out = change (O.seen out.old) (O.seen out.new);
+          watch = unchanged watch;
+          last = unchanged last;
+        }) result }
+{
+    let bytes = match read_bytes(alloc, source, INPUT_LIMIT) {
+        Ok(bytes) => bytes,
+        Err(outcome) => return outcome,
+    };
+    match read_genome(alloc, Spelling::Letters, bytes) {
+        Ok(genome) => write_landscape(rt, alloc, &genome, steps, out),
+        Err(outcome) => outcome,
+    }
+}

@@ -1,0 +1,186 @@
+// The command `assay`.
+ghost use Rattle.std.specs.Prelude.{◌≡◌, ◌≤◌, ◌∷◌, ◌++◌, IfOk, OnOk, Option, decimal, map, option_map};
+ghost use Rattle.avida_port.specs.Ports.{SinkState};
+ghost use Rattle.genome.specs.Genome.{letters};
+ghost use Rattle.log_lines.specs.LineText.{words_text};
+ghost use Rattle.world_config.specs.Shown.{values_of};
+ghost use Rattle.world_core.specs.WorldValue.{WorldValue};
+ghost use Rattle.assay.specs.AssayText.{assay_line, assay_numbers, assay_text, assays_text, dominant_word, tally_line};
+ghost use Rattle.avida_program.specs.declared.command.Command.TheVariants as command;
+ghost use Rattle.avida_program.specs.Changes.{change, unchanged};
+ghost use Rattle.avida_program.specs.Outcomes.{WritesText};
+ghost use Rattle.avida_program.specs.Work.{CarriesOut};
+
+use crate::input::{read_bytes, read_config_for};
+use crate::outcome::ended;
+use crate::{INPUT_LIMIT, Outcome};
+use assay::{Assay, seeds_with_each};
+use avida_port::{Gate, Memory, Sink, Source};
+use genome::{Genome, letters_text};
+use log_lines::write_number;
+use std::alloc::Global;
+use std::sync::Wait;
+use std::thread::Threads;
+use world_config::Config;
+
+/// Appends a space and a sum.
+fn add_sum(text: &mut Vec<u8>, sum: u128) -> Result<(), Memory>
+    ensures { OnOk result (text.new.items ≡ text.old.items ++ 32 ∷ decimal sum) }
+{
+    let mut digits = itoa::Buffer::new();
+    text.push(b' ')?;
+    text.extend_from_slice(digits.format(sum).as_bytes())?;
+    Ok(())
+}
+
+/// Appends numbers, each behind a space.
+fn add_numbers(text: &mut Vec<u8>, numbers: &[u64]) -> Result<(), Memory>
+    ensures { OnOk result (text.new.items
+        ≡ text.old.items ++ words_text (map decimal numbers.now)) }
+{
+    for number in numbers {
+        write_number(b' ', *number, text)?;
+    }
+    Ok(())
+}
+
+/// Appends what is counted of a seed's run.
+fn add_counts(text: &mut Vec<u8>, assay: &Assay) -> Result<(), Memory>
+    ensures { OnOk result (text.new.items
+        ≡ text.old.items ++ words_text (map decimal (assay_numbers assay.now))) }
+{
+    write_number(b' ', assay.seed, text)?;
+    write_number(b' ', assay.last.living, text)?;
+    add_sum(text, assay.births)?;
+    add_sum(text, assay.deaths)?;
+    write_number(b' ', assay.last.genotypes, text)?;
+    write_number(b' ', assay.last.merit, text)?;
+    add_numbers(text, &assay.last.tasks)?;
+    Ok(())
+}
+
+/// Appends the letters of a dominant genome, or a dash.
+fn add_dominant(text: &mut Vec<u8>, dominant: &Option<Genome>) -> Result<(), Memory>
+    ensures { OnOk result (text.new.items
+        ≡ text.old.items ++ dominant_word (option_map letters dominant.now)) }
+{
+    match dominant {
+        Some(genome) => letters_text(genome, text),
+        None => {
+            text.push(b'-')?;
+            Ok(())
+        }
+    }
+}
+
+/// Appends the line of a seed.
+#[tactic(auto, unfolding(assay::specs::AssayText::assay_line))]
+fn add_assay(text: &mut Vec<u8>, assay: &Assay) -> Result<(), Memory>
+    ensures { OnOk result (text.new.items ≡ text.old.items ++ assay_line assay.now) }
+{
+    text.push(b'A')?;
+    add_counts(text, assay)?;
+    text.push(b' ')?;
+    add_dominant(text, &assay.dominant)?;
+    text.push(b'\n')?;
+    Ok(())
+}
+
+/// Appends the last line.
+#[tactic(auto, unfolding(assay::specs::AssayText::tally_line))]
+fn add_tally(text: &mut Vec<u8>, assays: &[Assay]) -> Result<(), Memory>
+    ensures { OnOk result (text.new.items ≡ text.old.items ++ tally_line assays.now) }
+{
+    text.push(b'M')?;
+    write_number(b' ', assays.len() as u64, text)?;
+    add_numbers(text, &seeds_with_each(assays))?;
+    text.push(b'\n')?;
+    Ok(())
+}
+
+/// The lines of the seeds, and the last line.
+fn text_of(alloc: Global, assays: &[Assay]) -> Result<Vec<u8>, Memory>
+    ensures { IfOk result (λ text. text.items ≡ assays_text assays.now) }
+{
+    let mut text = Vec::new(alloc);
+    for assay in assays {
+        add_assay(&mut text, assay)?;
+    }
+    add_tally(&mut text, assays)?;
+    Ok(text)
+}
+
+/// Runs a configuration with so many seeds, from the first one on, and gives the lines.
+fn run_and_tell<R: Threads + Wait + Sync, G: Gate + Sync>(
+    rt: &R,
+    alloc: Global,
+    config: &Config,
+    count: u32,
+    first: u64,
+    workers: u32,
+    gate: &G,
+) -> Result<Vec<u8>, Memory>
+    requires count { (1 ≤ count) × (count ≤ 64) }
+    requires first { first ≤ 9223372036854775744 }
+    requires workers { (1 ≤ workers) × (workers ≤ 64) }
+    ensures { IfOk result (λ text. text.items ≡ assay_text (values_of config.now) first count) }
+{
+    let assays = assay::assay(rt, alloc, config, first, count, workers, gate)?;
+    text_of(alloc, assays.as_slice())
+}
+
+/// Runs a configuration with so many seeds, from the first one on, and writes what becomes of them.
+fn write_assay<R: Threads + Wait + Sync, O: Sink, G: Gate + Sync>(
+    rt: &R,
+    alloc: Global,
+    config: &Config,
+    count: u32,
+    first: u64,
+    workers: u32,
+    out: &mut O,
+    gate: &G,
+) -> Outcome
+    requires count { (1 ≤ count) × (count ≤ 64) }
+    requires first { first ≤ 9223372036854775744 }
+    requires workers { (1 ≤ workers) × (workers ≤ 64) }
+    ensures { WritesText (assay_text (values_of config.now) first count)
+        (change (O.seen out.old) (O.seen out.new)) result }
+{
+    match run_and_tell(rt, alloc, config, count, first, workers, gate) {
+        Ok(text) => ended(out.put(&text)),
+        Err(Memory) => Outcome::NoMemory,
+    }
+}
+
+/// Reads a configuration, runs it with so many seeds, from the first one on, and writes what
+/// becomes of them.
+pub fn assay<R: Threads + Wait + Sync, S: Source, O: Sink, G: Gate + Sync>(
+    rt: &R,
+    alloc: Global,
+    count: u32,
+    first: u64,
+    workers: u32,
+    source: &mut S,
+    out: &mut O,
+    gate: &G,
+) -> Outcome
+    requires count { (1 ≤ count) × (count ≤ 64) }
+    requires first { first ≤ 9223372036854775744 }
+    requires workers { (1 ≤ workers) × (workers ≤ 64) }
+    ensures { (watch : SinkState) (last : Option WorldValue)
+        → CarriesOut (command.Assay count first workers) (record {
+          source = change (S.seen source.old) (S.seen source.new);
+          out = change (O.seen out.old) (O.seen out.new);
+          watch = unchanged watch;
+          last = unchanged last;
+        }) result }
+{
+    let bytes = match read_bytes(alloc, source, INPUT_LIMIT) {
+        Ok(bytes) => bytes,
+        Err(outcome) => return outcome,
+    };
+    match read_config_for(alloc, bytes, count) {
+        Ok(config) => write_assay(rt, alloc, &config, count, first, workers, out, gate),
+        Err(outcome) => outcome,
+    }
+}

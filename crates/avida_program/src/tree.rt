@@ -1,0 +1,139 @@
+// The command `tree`.
+ghost use Rattle.std.specs.Prelude.{◌≡◌, ◌+◌, ◌++◌, ◌≤◌, Option, flat_map};
+ghost use Rattle.arrayvec.specs.ArrayVec.{array_vec_len};
+ghost use Rattle.avida_port.specs.Ports.{SinkState};
+ghost use Rattle.phylogeny.specs.TreeText.{ancestor_line, depth_line, tree_text};
+ghost use Rattle.world_core.specs.WorldValue.{WorldValue};
+ghost use Rattle.avida_program.specs.declared.command.Command.TheVariants.{Tree};
+ghost use Rattle.avida_program.specs.Changes.{change, unchanged};
+ghost use Rattle.avida_program.specs.Outcomes.{WritesText};
+ghost use Rattle.avida_program.specs.Pieces.{Writes};
+ghost use Rattle.avida_program.specs.TreeText.{counts_line, last_lines, lines_of_tree};
+ghost use Rattle.avida_program.specs.Work.{CarriesOut};
+
+use crate::Outcome;
+use crate::fixed_text::{push_spaced, push_text};
+use crate::input::{read_bytes, read_lines};
+use crate::outcome::ended;
+use crate::piece::{PIECE_SIZE, Piece, make_room};
+use avida_port::{LONGEST_INPUT, Memory, Sink, SinkStop, Source};
+use lineage_log::Log;
+use phylogeny::{Depth, Phylogeny, phylogeny};
+use std::alloc::Global;
+
+/// No line is longer, and the last two together aren't either.
+const LINE_ROOM: usize = 96;
+
+fn push_depth(piece: &mut Piece, depth: &Depth)
+    requires { array_vec_len piece.old + 86 ≤ PIECE_SIZE }
+    ensures { piece.new.items ≡ piece.old.items ++ depth_line depth.now }
+{
+    piece.push(b'T');
+    push_spaced(piece, u64::from(depth.cell));
+    push_spaced(piece, depth.id);
+    push_spaced(piece, depth.depth);
+    push_spaced(piece, depth.founder);
+    piece.push(b'\n');
+}
+
+fn push_ancestor(piece: &mut Piece, common: Option<u64>)
+    requires { array_vec_len piece.old + 23 ≤ PIECE_SIZE }
+    ensures items { piece.new.items ≡ piece.old.items ++ ancestor_line common }
+    ensures len { array_vec_len piece.new ≤ array_vec_len piece.old + 23 }
+{
+    match common {
+        Some(id) => {
+            piece.push(b'A');
+            push_spaced(piece, id);
+            piece.push(b'\n');
+        }
+        None => push_text(piece, "A -\n"),
+    }
+}
+
+fn push_counts(piece: &mut Piece, kept: u64, branches: u64)
+    requires { array_vec_len piece.old + 44 ≤ PIECE_SIZE }
+    ensures { piece.new.items ≡ piece.old.items ++ counts_line kept branches }
+{
+    piece.push(b'K');
+    push_spaced(piece, kept);
+    push_spaced(piece, branches);
+    piece.push(b'\n');
+}
+
+fn push_last(piece: &mut Piece, found: &Phylogeny)
+    requires { array_vec_len piece.old + 67 ≤ PIECE_SIZE }
+    ensures { piece.new.items ≡ piece.old.items ++ last_lines found.now }
+{
+    push_ancestor(piece, found.common);
+    push_counts(piece, found.kept, found.branches);
+}
+
+fn write_depth<O: Sink>(piece: &mut Piece, depth: &Depth, out: &mut O) -> Result<(), SinkStop>
+    ensures { Writes (O.seen out.old) (O.seen out.new) piece.old.items piece.new.items
+        (depth_line depth.now) result }
+{
+    make_room(piece, LINE_ROOM, out)?;
+    push_depth(piece, depth);
+    Ok(())
+}
+
+fn write_depths<O: Sink>(piece: &mut Piece, depths: &[Depth], out: &mut O) -> Result<(), SinkStop>
+    ensures { Writes (O.seen out.old) (O.seen out.new) piece.old.items piece.new.items
+        (flat_map depth_line depths.now) result }
+{
+    for depth in depths {
+        write_depth(piece, depth, out)?;
+    }
+    Ok(())
+}
+
+fn write_lines<O: Sink>(piece: &mut Piece, found: &Phylogeny, out: &mut O) -> Result<(), SinkStop>
+    ensures { Writes (O.seen out.old) (O.seen out.new) piece.old.items piece.new.items
+        (lines_of_tree found.now) result }
+{
+    write_depths(piece, found.depths.as_slice(), out)?;
+    make_room(piece, LINE_ROOM, out)?;
+    push_last(piece, found);
+    Ok(())
+}
+
+fn write_found<O: Sink>(found: &Phylogeny, out: &mut O) -> Outcome
+    ensures { WritesText (lines_of_tree found.now)
+        (change (O.seen out.old) (O.seen out.new)) result }
+{
+    let mut piece = Piece::new();
+    if let Err(stop) = write_lines(&mut piece, found, out) {
+        return ended(Err(stop));
+    }
+    ended(out.put(piece.as_slice()))
+}
+
+/// Writes the tree of a log.
+fn write_tree<O: Sink>(alloc: Global, log: &Log, out: &mut O) -> Outcome
+    ensures { WritesText (tree_text log.now) (change (O.seen out.old) (O.seen out.new)) result }
+{
+    match phylogeny(alloc, log) {
+        Ok(found) => write_found(&found, out),
+        Err(Memory) => Outcome::NoMemory,
+    }
+}
+
+/// Reads a log, and writes how those who live at its end descend from each other.
+pub fn tree<S: Source, O: Sink>(alloc: Global, source: &mut S, out: &mut O) -> Outcome
+    ensures { (watch : SinkState) (last : Option WorldValue) → CarriesOut Tree (record {
+      source = change (S.seen source.old) (S.seen source.new);
+      out = change (O.seen out.old) (O.seen out.new);
+      watch = unchanged watch;
+      last = unchanged last;
+    }) result }
+{
+    let bytes = match read_bytes(alloc, source, LONGEST_INPUT) {
+        Ok(bytes) => bytes,
+        Err(outcome) => return outcome,
+    };
+    match read_lines(alloc, bytes) {
+        Ok(log) => write_tree(alloc, &log, out),
+        Err(outcome) => outcome,
+    }
+}

@@ -1,0 +1,289 @@
+-- The genomes of all organisms that were ever in a world, through an update.
+use Rattle.std.proofs.Common.{◌≡◌, ◌∙◌, refl, sym, ap, ℕ, zero, suc, ◌+◌, List, [], ◌∷◌, ◌++◌, length, map, fold, Option, None, Some, arith, append_assoc, append-nil, length-append, add-one}
+use Rattle.std.specs.List.{AllByRecursion, zip, flat_map, filter_map, cons_option, enumerate_from, range_with_len}
+use Rattle.std.specs.Option.{option_to_list}
+use Rattle.std.proofs.lemmas.List.{map-append, length-map}
+use Rattle.birth_board.specs.declared.placing.Placing.{Placing}
+use Rattle.birth_board.specs.declared.season.Season.{Season}
+use Rattle.birth_board.specs.Placement.{Board, next_placing, next_board, placements_of}
+use Rattle.birth_board.specs.Torus.{TorusNumbers}
+use Rattle.instruction_set.specs.declared.letter.Letter.{Letter}
+use Rattle.lineage_log.specs.Links.{Link}
+use Rattle.organism.specs.Newborns.{NewbornValue}
+use Rattle.organism.specs.OrganismState.{OrganismState}
+use Rattle.world_config.specs.Events.{EventValue, WhatValue, inject, clear, rate}
+use Rattle.world_config.specs.Values.{ConfigValues}
+use Rattle.world_rules.specs.World.{Occupant, World, founder_of, founder_link, first_world, ids_of}
+use Rattle.world_rules.specs.Settings.{torus_of, season_at}
+use Rattle.world_rules.specs.Lives.{CellLife, life_of, life_at, slice_at}
+use Rattle.world_rules.specs.Scene.{Scene, next_id, with_death, cells_from, with_newcomer}
+use Rattle.world_rules.specs.Update.{Delivery, delivery_of, births_by, births_in, births_of, deaths_of, after_lives, after_burials, placings_of, birth_link, child_of_birth, with_newborn, after_births, after_what, after_event, events_at, after_events, last_scene, scene_of_lives, world_of, lives_after, next_scene, next_world}
+use Rattle.world_rules.specs.WorldRun.{world_after}
+use Rattle.event_orders.specs.State.{newborn_genomes, injected_by, injections_at}
+
+-- the genomes of these organisms at birth
+abbrev pub genomes_ever : List Link → List (List Letter)
+genomes_ever everyone = map (λ link. link.genome) everyone
+
+-- the genome of a newborn that is to be placed
+abbrev pub birth_genome : Delivery → List Letter
+birth_genome b = b.newborn.genome
+
+-- a newcomer is one more
+newcomer_comes : (scene : Scene) (link : Link) (organism : OrganismState)
+    → genomes_ever (with_newcomer scene link organism).everyone ≡ genomes_ever scene.everyone
+    ++ link.genome ∷ []
+unfolding with_newcomer
+newcomer_comes scene link organism = map-append (λ (l : Link). l.genome) scene.everyone (link ∷ [])
+
+-- a newcomer leaves the update
+newcomer_update : (scene : Scene) (link : Link) (organism : OrganismState)
+    → (with_newcomer scene link organism).update ≡ scene.update
+unfolding with_newcomer
+newcomer_update scene link organism = refl
+
+-- a death changes neither the list of all nor the update
+death_keeps : (scene : Scene) (cell : ℕ) → ((with_death scene cell).everyone ≡ scene.everyone)
+    × ((with_death scene cell).update ≡ scene.update)
+unfolding with_death
+death_keeps scene cell = (refl, refl)
+
+-- nor do several deaths
+deaths_keep : (scene : Scene) (cells : List ℕ)
+    → ((fold with_death scene cells).everyone ≡ scene.everyone)
+    × ((fold with_death scene cells).update ≡ scene.update)
+deaths_keep scene [] = (refl, refl)
+deaths_keep scene (cell ∷ cells) =
+    let rest = deaths_keep (with_death scene cell) cells in
+    let one = death_keeps scene cell in
+    (rest.0 ∙ one.0, rest.1 ∙ one.1)
+
+-- a newborn is one more
+birth_comes : (config : ConfigValues) (scene : Scene) (turn : Delivery × Placing)
+    → genomes_ever (with_newborn config scene turn).everyone ≡ genomes_ever scene.everyone
+    ++ birth_genome turn.0 ∷ []
+unfolding with_newborn
+birth_comes config scene turn =
+    newcomer_comes scene (birth_link (next_id scene) scene.update turn.0 turn.1.cell)
+    (child_of_birth config turn.0 turn.1)
+
+-- a newborn leaves the update
+birth_update : (config : ConfigValues) (scene : Scene) (turn : Delivery × Placing)
+    → (with_newborn config scene turn).update ≡ scene.update
+unfolding with_newborn
+birth_update config scene turn =
+    newcomer_update scene (birth_link (next_id scene) scene.update turn.0 turn.1.cell)
+    (child_of_birth config turn.0 turn.1)
+
+-- the newborns come, each with its placing
+births_come : (config : ConfigValues) (scene : Scene) (births : List Delivery)
+    (placings : List Placing) → length placings ≡ length births
+    → genomes_ever (fold (with_newborn config) scene (zip births placings)).everyone
+    ≡ genomes_ever scene.everyone ++ map birth_genome births
+births_come config scene [] placings as_many = sym (append-nil (genomes_ever scene.everyone))
+births_come config scene (b ∷ births) [] as_many = absurd (omega (arith, as_many))
+births_come config scene (b ∷ births) (p ∷ placings) as_many =
+    births_come config (with_newborn config scene (b, p)) births placings (omega (arith, as_many))
+    ∙ ap (λ l. l ++ map birth_genome births) (birth_comes config scene (b, p))
+    ∙ append_assoc (genomes_ever scene.everyone) (birth_genome b ∷ []) (map birth_genome births)
+
+-- so do several newborns
+births_update : (config : ConfigValues) (scene : Scene) (births : List Delivery)
+    (placings : List Placing) → (fold (with_newborn config) scene (zip births placings)).update
+    ≡ scene.update
+births_update config scene [] placings = refl
+births_update config scene (b ∷ births) [] = refl
+births_update config scene (b ∷ births) (p ∷ placings) =
+    births_update config (with_newborn config scene (b, p)) births placings
+    ∙ birth_update config scene (b, p)
+
+-- what an event brings
+what_comes : (config : ConfigValues) (scene : Scene) (nth : ℕ) (what : WhatValue)
+    → genomes_ever (after_what config scene nth what).everyone ≡ genomes_ever scene.everyone
+    ++ option_to_list (injected_by what)
+what_comes config scene nth (inject cell letters) =
+    newcomer_comes scene (founder_link (next_id scene) scene.update cell letters)
+    (founder_of config cell nth letters)
+what_comes config scene nth (clear first last) =
+    ap genomes_ever (deaths_keep scene (cells_from first last)).0
+    ∙ sym (append-nil (genomes_ever scene.everyone))
+what_comes config scene nth (rate name ppm) = sym (append-nil (genomes_ever scene.everyone))
+
+-- what an event does leaves the update
+what_update : (config : ConfigValues) (scene : Scene) (nth : ℕ) (what : WhatValue)
+    → (after_what config scene nth what).update ≡ scene.update
+what_update config scene nth (inject cell letters) =
+    newcomer_update scene (founder_link (next_id scene) scene.update cell letters)
+    (founder_of config cell nth letters)
+what_update config scene nth (clear first last) = (deaths_keep scene (cells_from first last)).1
+what_update config scene nth (rate name ppm) = refl
+
+-- the same of an event
+event_comes : (config : ConfigValues) (scene : Scene) (event : ℕ × EventValue)
+    → genomes_ever (after_event config scene event).everyone ≡ genomes_ever scene.everyone
+    ++ option_to_list (injected_by event.1.what)
+unfolding after_event
+event_comes config scene event = what_comes config scene event.0 event.1.what
+
+-- an event leaves the update
+event_update : (config : ConfigValues) (scene : Scene) (event : ℕ × EventValue)
+    → (after_event config scene event).update ≡ scene.update
+unfolding after_event
+event_update config scene event = what_update config scene event.0 event.1.what
+
+-- what may be there, before a list
+in_front : {X : Type 0} (o : Option X) (xs : List X) → option_to_list o ++ xs ≡ cons_option o xs
+in_front None xs = refl
+in_front (Some x) xs = refl
+
+-- the genome that an event injects, given with its place
+abbrev injected : ℕ × EventValue → Option (List Letter)
+injected event = injected_by event.1.what
+
+-- what these events bring
+events_come : (config : ConfigValues) (scene : Scene) (events : List (ℕ × EventValue))
+    → genomes_ever (fold (after_event config) scene events).everyone ≡ genomes_ever scene.everyone
+    ++ filter_map injected events
+events_come config scene [] = sym (append-nil (genomes_ever scene.everyone))
+events_come config scene (event ∷ events) =
+    events_come config (after_event config scene event) events
+    ∙ ap (λ l. l ++ filter_map injected events) (event_comes config scene event)
+    ∙ append_assoc (genomes_ever scene.everyone) (option_to_list (injected event))
+    (filter_map injected events)
+    ∙ ap (λ l. genomes_ever scene.everyone ++ l)
+    (in_front (injected event) (filter_map injected events))
+
+-- these events leave the update
+events_update : (config : ConfigValues) (scene : Scene) (events : List (ℕ × EventValue))
+    → (fold (after_event config) scene events).update ≡ scene.update
+events_update config scene [] = refl
+events_update config scene (event ∷ events) =
+    events_update config (after_event config scene event) events ∙ event_update config scene event
+
+-- a board has a placing for each parent
+placed_number : (torus : TorusNumbers) (season : Season) (board : Board) (parents : List ℕ)
+    → length (fold (next_board torus season) board parents).placings
+    ≡ length board.placings + length parents
+unfolding next_board
+placed_number torus season board [] = omega arith
+placed_number torus season board (parent ∷ parents) =
+    omega (
+      arith,
+      placed_number torus season
+          (next_board torus season board parent) parents,
+      length-append board.placings
+          (next_placing torus season board parent ∷ []),
+    )
+
+-- there is a placing for each newborn
+placings_number : (config : ConfigValues) (scene : Scene) (births : List Delivery)
+    → length (placings_of config scene births) ≡ length births
+unfolding placings_of placements_of
+placings_number config scene births =
+    let empty : Board = record { occupants = ids_of scene.cells; placings = []; parents = [] } in
+    omega (
+      arith,
+      placed_number (torus_of config)
+          (season_at config scene.update (next_id scene)) empty
+          (map (λ b. b.cell) births),
+      length-map births (λ (b : Delivery). b.cell),
+    )
+
+module _ (config : ConfigValues) (w : World) (lives : List CellLife) where
+  -- the scene once the dead have left
+  abbrev buried : Scene
+  buried = fold with_death (after_lives (w.update + 1) w.everyone lives) (deaths_of lives)
+
+  -- and once the newborns are placed
+  abbrev borne : Scene
+  borne =
+      fold (with_newborn config) buried (zip (births_of lives)
+      (placings_of config buried (births_of lives)))
+
+  -- that scene is of the update after the world
+  borne_update : borne.update ≡ w.update + 1
+  borne_update =
+      births_update config buried (births_of lives) (placings_of config buried (births_of lives))
+      ∙ (deaths_keep (after_lives (w.update + 1) w.everyone lives) (deaths_of lives)).1
+
+  -- its genomes are those of the world and those of the births
+  borne_genomes : genomes_ever borne.everyone ≡ genomes_ever w.everyone ++ map birth_genome
+      (births_of lives)
+  borne_genomes =
+      births_come config buried (births_of lives) (placings_of config buried (births_of lives))
+      (placings_number config buried (births_of lives))
+      ∙ ap (λ l. genomes_ever l ++ map birth_genome (births_of lives))
+      (deaths_keep (after_lives (w.update + 1) w.everyone lives) (deaths_of lives)).0
+
+  -- an update adds its births and its injected founders
+  pub genomes_next : genomes_ever (world_of (scene_of_lives config w lives)).everyone
+      ≡ genomes_ever w.everyone ++ (map birth_genome (births_of lives) ++ injections_at config
+      (w.update + 1))
+  unfolding scene_of_lives last_scene after_burials after_births after_events
+  genomes_next =
+      events_come config borne (events_at config borne.update)
+      ∙ ap (λ l. l ++ filter_map injected (events_at config borne.update)) borne_genomes
+      ∙ ap (λ u. genomes_ever w.everyone ++ map birth_genome (births_of lives)
+      ++ filter_map injected (events_at config u)) borne_update
+      ∙ append_assoc (genomes_ever w.everyone) (map birth_genome (births_of lives))
+      (injections_at config (w.update + 1))
+
+  -- an update raises the number by one
+  pub update_next : (world_of (scene_of_lives config w lives)).update ≡ w.update + 1
+  unfolding scene_of_lives last_scene after_burials after_births after_events
+  update_next = events_update config borne (events_at config borne.update) ∙ borne_update
+
+-- the update of a world is its number
+pub update_after : (config : ConfigValues) (n : ℕ) → (world_after config n).update ≡ n
+unfolding world_after first_world next_world next_scene
+update_after config zero = refl
+update_after config (suc n) =
+    update_next config (world_after config n) (lives_after config (world_after config n))
+    ∙ (ap (λ u. u + 1) (update_after config n) ∙ add-one n)
+
+-- the newborns of a life are all born
+abbrev Bears : CellLife → Type 0
+Bears l = (cell : ℕ) → map birth_genome (births_by cell l.newborns l.occupant) ≡ newborn_genomes l
+
+-- the genomes of newborns that are delivered are theirs
+delivered : (cell parent : ℕ) (newborns : List NewbornValue)
+    → map birth_genome (map (delivery_of cell parent) newborns) ≡ map
+    (λ (n : NewbornValue). n.genome) newborns
+delivered cell parent [] = refl
+delivered cell parent (n ∷ newborns) = ap (λ l. n.genome ∷ l) (delivered cell parent newborns)
+
+-- this holds of the life of a cell
+life_bears : (config : ConfigValues) (update cell steps : ℕ) (slot : Option Occupant)
+    → Bears (life_of config update cell steps slot)
+unfolding life_of
+life_bears config update cell steps None at = refl
+life_bears config update cell steps (Some o) at = delivered at o.id _
+
+-- and of those of several cells
+all_bear : (f : ℕ → CellLife) (cells : List ℕ) → ((cell : ℕ) → Bears (f cell))
+    → AllByRecursion Bears (map f cells)
+all_bear f [] each = tt
+all_bear f (cell ∷ cells) each = (each cell, all_bear f cells each)
+
+-- the births of some lives are their newborns
+births_borne : (first : ℕ) (lives : List CellLife) → AllByRecursion Bears lives
+    → map birth_genome (flat_map births_in (enumerate_from first lives))
+    ≡ flat_map newborn_genomes lives
+births_borne first [] bear = refl
+births_borne first (l ∷ lives) bear =
+    map-append birth_genome (births_by first l.newborns l.occupant)
+    (flat_map births_in (enumerate_from (first + 1) lives))
+    ∙ (ap (λ gs. gs ++ map birth_genome (flat_map births_in (enumerate_from (first + 1) lives)))
+    (bear.0 first)
+    ∙ ap (λ gs. newborn_genomes l ++ gs) (births_borne (first + 1) lives bear.1))
+
+-- the births of an update are the newborns of its lives
+pub births_are : (config : ConfigValues) (update : ℕ) (cells : List (Option Occupant))
+    → map birth_genome (births_of (map (life_at config update cells)
+    (range_with_len 0 (length cells)))) ≡ flat_map newborn_genomes
+    (map (life_at config update cells) (range_with_len 0 (length cells)))
+unfolding births_of
+births_are config update cells =
+    births_borne 0 (map (life_at config update cells) (range_with_len 0 (length cells)))
+    (all_bear (life_at config update cells) (range_with_len 0 (length cells))
+    (λ cell. life_bears config update cell (slice_at config cells cell) _))

@@ -1,0 +1,7 @@
+mod Members
+mod Everyone
+mod Between
+mod Going
+mod Serial
+mod Pairs
+mod Interleaving

@@ -1,0 +1,91 @@
+-- Members of lists that are made of others.
+use Rattle.std.proofs.Common.{◌≡◌, ◌++◌, Some, ◌⊎◌, ℕ, zero, suc, ◌<◌, List, [], ◌∷◌, length, get_or, map, Contains, refl, sym, subst, ap, ◌∙◌, inl, inr, ⊎_elim, arith, length-append}
+use Rattle.std.specs.Prelude.{◌-◌, slice_get}
+use Rattle.std.specs.List.{flat_map, range_with_len}
+use Rattle.std.proofs.lemmas.List.Elements.{Contains-get_or, Contains-append_left, Contains-append_right, Contains-append_cases}
+use Rattle.std.proofs.lemmas.List.FromFn.{length-map-range_with_len, get_or-map-range_with_len}
+use Rattle.std.proofs.lemmas.Option.{slice_get_within}
+use Rattle.published_world.specs.PublicationHistory.{last_of}
+
+module _ {X : Type 0} where
+  -- nothing is in the empty list
+  pub Contains-nil : (x : X) → Contains [] x → ⊥
+  Contains-nil x h = let l : h.0 < 0 = h.1 in absurd (omega arith)
+
+  -- a member is the first or one of the rest
+  pub Contains-cons_cases : (y : X) (xs : List X) (x : X) → Contains (y ∷ xs) x
+      → (y ≡ x) ⊎ Contains xs x
+  Contains-cons_cases y xs x h = by h.0 h.1 h.2
+    where
+      by : (k : ℕ) → k < length (y ∷ xs) → get_or (y ∷ xs) k x ≡ x → (y ≡ x) ⊎ Contains xs x
+      by zero l e = inl e
+      by (suc k) l e = inr (k, (omega arith), e)
+
+  -- a member of the rest is one
+  pub Contains-cons : (y : X) (xs : List X) (x : X) → Contains xs x → Contains (y ∷ xs) x
+  Contains-cons y xs x h = Contains-append_right (y ∷ []) xs x h
+
+  -- the first is a member
+  pub Contains-here : (y : X) (xs : List X) (x : X) → y ≡ x → Contains (y ∷ xs) x
+  Contains-here y xs x e = subst (Contains (y ∷ xs)) e (Contains-get_or (y ∷ xs) 0 y (omega arith))
+
+module _ {X A : Type 0} (f : X → List A) where
+  -- a member of what one of the items gives is a member of all that they give
+  pub Contains-flat_map : (xs : List X) (x : X) (a : A) → Contains xs x → Contains (f x) a
+      → Contains (flat_map f xs) a
+  Contains-flat_map [] x a h k = absurd (Contains-nil x h)
+  Contains-flat_map (y ∷ xs) x a h k = ⊎_elim
+      (λ (e : y ≡ x). Contains-append_left (f y) (flat_map f xs) a
+      (subst (λ z. Contains (f z) a) (sym e) k))
+      (λ (r : Contains xs x). Contains-append_right (f y) (flat_map f xs) a
+      (Contains-flat_map xs x a r k))
+      (Contains-cons_cases y xs x h)
+
+  -- each such member is of what some item gives
+  pub Contains-flat_map_cases : (xs : List X) (a : A) → Contains (flat_map f xs) a → (x : X)
+      × Contains xs x × Contains (f x) a
+  Contains-flat_map_cases [] a h = absurd (Contains-nil a h)
+  Contains-flat_map_cases (y ∷ xs) a h = ⊎_elim
+      (λ (e : Contains (f y) a). (y, Contains-here y xs y refl, e))
+      (λ (r : Contains (flat_map f xs) a). let t =
+      Contains-flat_map_cases xs a r in (t.0, Contains-cons y xs t.0 t.1, t.2))
+      (Contains-append_cases (f y) (flat_map f xs) a h)
+
+-- the members of a list made from a function of the index
+module _ {X : Type 0} (f : ℕ → X) (n : ℕ) where
+  -- what the function gives at an index is a member
+  pub Contains-from_fn : (k : ℕ) → k < n → Contains (map f (range_with_len 0 n)) (f k)
+  Contains-from_fn k h = (
+    k,
+    (omega (arith, length-map-range_with_len f 0 n)),
+    get_or-map-range_with_len f 0 n k k
+        (f k) h (omega arith),
+  )
+
+  -- each member is what it gives at some index
+  pub Contains-from_fn_cases : (x : X) → Contains (map f (range_with_len 0 n)) x → (k : ℕ) × (k < n)
+      × (f k ≡ x)
+  Contains-from_fn_cases x h =
+      let l : h.0 < n = omega (arith, h.1, length-map-range_with_len f 0 n) in
+      (h.0, l, sym (get_or-map-range_with_len f 0 n h.0 h.0 x l (omega arith)) ∙ h.2)
+
+-- what stands in a list with one item more
+pub get_last : {X : Type 0} (xs : List X) (x : X) (i : ℕ) (y : X)
+    → slice_get (xs ++ x ∷ []) i ≡ Some y → (slice_get xs i ≡ Some y) ⊎ ((length xs ≡ i) × (x ≡ y))
+get_last [] x zero y h = inr (refl, cc)
+get_last [] x (suc i) y h = absurd cc
+get_last (z ∷ xs) x zero y h = inl h
+get_last (z ∷ xs) x (suc i) y h = elim (get_last xs x i y h)
+    [ inl before ↦ inl before | inr last ↦ inr (ap suc last.0, last.1) ]
+
+-- the last item of a list with one item more
+pub last_pushed : {X : Type 0} (xs : List X) (x y : X) → last_of (xs ++ x ∷ []) ≡ Some y → x ≡ y
+last_pushed xs x y h = elim (get_last xs x (length (xs ++ x ∷ []) - 1) y h) [
+  | inl before ↦ absurd (omega (
+    arith,
+    slice_get_within xs
+        (length (xs ++ x ∷ []) - 1) y before,
+    length-append xs (x ∷ []),
+  ))
+  | inr last ↦ last.1
+]

@@ -1,0 +1,146 @@
+-- Lists of pairs of a cell and the number of a newborn, of which each stands once.
+use Rattle.std.proofs.Common.{◌≡◌, ◌⊎◌, ℕ, zero, suc, ◌+◌, ◌<◌, ◌≤◌, Bool, true, false, List, [], ◌∷◌, ◌++◌, map, Contains, refl, sym, subst, ap, ◌∙◌, inl, inr, ⊎_elim, arith}
+use Rattle.std.specs.Prelude.{if◌then◌else◌, ◌==◌}
+use Rattle.std.specs.List.{flat_map, range_with_len}
+use Rattle.std.proofs.lemmas.Bool.{cases_lt, eqb-true, eq-eqb}
+use Rattle.std.proofs.lemmas.List.Elements.{Contains-append_left, Contains-append_right, Contains-append_cases}
+use Rattle.event_orders.proofs.Members.{Contains-nil, Contains-cons, Contains-cons_cases, Contains-here}
+
+-- a cell and the number of a newborn
+abbrev pub Pair : Type 0
+Pair = ℕ × ℕ
+
+-- each stands once
+abbrev pub Apart : List Pair → Type 0
+Apart [] = Unit {0}
+Apart (p ∷ ps) = (Contains ps p → ⊥) × Apart ps
+
+-- two lists without a common pair
+apart_append : (ps qs : List Pair) → Apart ps → Apart qs
+    → ((p : Pair) → Contains ps p → Contains qs p → ⊥) → Apart (ps ++ qs)
+apart_append [] qs first rest common = rest
+apart_append (p ∷ ps) qs first rest common = (
+  (λ h. ⊎_elim (λ (l : Contains ps p). first.0 l)
+      (λ (r : Contains qs p). common p (Contains-here p ps p refl) r)
+      (Contains-append_cases ps qs p h)),
+  apart_append ps qs first.1 rest (λ q l r. common q (Contains-cons p ps q l) r),
+)
+
+-- a number that is not below another is above it or the same
+apart_or_same : (low high : ℕ) → low ≤ high → (low + 1 ≤ high) ⊎ (low ≡ high)
+apart_or_same low high h = elim (cases_lt low high)
+    [ inl above ↦ inl (omega (arith, above)) | inr not ↦ inr (omega (arith, h, not)) ]
+
+-- the pairs of a cell, from a number on
+abbrev from_nth : ℕ → ℕ → ℕ → List Pair
+from_nth c first n = map (λ k. (c, k)) (range_with_len first n)
+
+-- these are of the cell, and their numbers are in the range
+in_from_nth : (c first n : ℕ) (p : Pair) → Contains (from_nth c first n) p → (p.0 ≡ c)
+    × (first ≤ p.1) × (p.1 < first + n)
+in_from_nth c first zero p h = absurd (Contains-nil p h)
+in_from_nth c first (suc n) p h = ⊎_elim
+    (λ (e : (c, first) ≡ p). let nth : first ≡ p.1 =
+    ap (λ (q : Pair). q.1) e in (sym (ap (λ (q : Pair). q.0) e), (omega arith), (omega arith)))
+    (λ (r : Contains (from_nth c (first + 1) n) p). let rest =
+    in_from_nth c (first + 1) n p r in (
+      rest.0,
+      (omega (arith, rest.1)),
+      (omega (arith, rest.2)),
+    ))
+    (Contains-cons_cases (c, first) (from_nth c (first + 1) n) p h)
+
+-- each number of the range is there
+from_nth_has : (c first n k : ℕ) → first ≤ k → k < first + n → Contains (from_nth c first n) (c, k)
+from_nth_has c first zero k low high = absurd (omega (arith, low, high))
+from_nth_has c first (suc n) k low high = elim (apart_or_same first k low) [
+  | inl above ↦ Contains-cons (c, first) (from_nth c (first + 1) n) (c, k)
+      (from_nth_has c (first + 1) n k above (omega (arith, high)))
+  | inr same ↦ Contains-here (c, first) (from_nth c (first + 1) n) (c, k) (ap (λ k. (c, k)) same)
+]
+
+-- each stands once
+from_nth_apart : (c first n : ℕ) → Apart (from_nth c first n)
+from_nth_apart c first zero = tt
+from_nth_apart c first (suc n) = (
+  (λ h. let in_rest = in_from_nth c (first + 1) n (c, first) h in let low : first + 1 ≤ first =
+      in_rest.1 in absurd (omega (arith, low))),
+  from_nth_apart c (first + 1) n,
+)
+
+-- the pairs of a seat's cells, of which each has so many newborns
+module _ (seat_of : ℕ → ℕ) (many : ℕ → ℕ) (seat : ℕ) where
+  -- those of one cell
+  abbrev pub pairs_at : ℕ → List Pair
+  pairs_at c = if seat_of c == seat then from_nth c 0 (many c) else []
+
+  -- those of so many cells, from a cell on
+  abbrev pub pairs_from : ℕ → ℕ → List Pair
+  pairs_from first n = flat_map pairs_at (range_with_len first n)
+
+  -- a pair of a cell is of that cell, which is the seat's
+  in_pairs_at : (c : ℕ) (p : Pair) → Contains (pairs_at c) p → (p.0 ≡ c) × (p.1 < many c)
+      × (seat_of c ≡ seat)
+  in_pairs_at c p = by (seat_of c == seat) (eqb-true (seat_of c) seat)
+    where
+      by : (b : Bool) → (b ≡ true → seat_of c ≡ seat)
+          → Contains (if b then from_nth c 0 (many c) else []) p → (p.0 ≡ c) × (p.1 < many c)
+          × (seat_of c ≡ seat)
+      by true e h =
+          let in_cell = in_from_nth c 0 (many c) p h in
+          (in_cell.0, (omega (arith, in_cell.2)), e refl)
+      by false e h = absurd (Contains-nil p h)
+
+  -- each newborn of a cell of the seat is there
+  pairs_at_has : (c k : ℕ) → seat_of c ≡ seat → k < many c → Contains (pairs_at c) (c, k)
+  pairs_at_has c k is low =
+      subst (λ (b : Bool). Contains (if b then from_nth c 0 (many c) else []) (c, k))
+      (sym (eq-eqb (seat_of c) seat is)) (from_nth_has c 0 (many c) k (omega arith)
+      (omega (arith, low)))
+
+  -- each stands once
+  pairs_at_apart : (c : ℕ) → Apart (pairs_at c)
+  pairs_at_apart c = by (seat_of c == seat)
+    where
+      by : (b : Bool) → Apart (if b then from_nth c 0 (many c) else [])
+      by true = from_nth_apart c 0 (many c)
+      by false = tt
+
+  -- a pair of these is of one of the cells, which is the seat's
+  pub in_pairs : (first n : ℕ) (p : Pair) → Contains (pairs_from first n) p → (first ≤ p.0)
+      × (p.0 < first + n) × (p.1 < many p.0) × (seat_of p.0 ≡ seat)
+  in_pairs first zero p h = absurd (Contains-nil p h)
+  in_pairs first (suc n) p h = ⊎_elim
+      (λ (l : Contains (pairs_at first) p).
+      let here = in_pairs_at first p l in
+      let is : p.0 ≡ first = here.0 in
+      let low : p.1 < many p.0 = subst (λ c. p.1 < many c) (sym is) here.1 in
+      ((omega (arith, is)), (omega (arith, is)), low, ap seat_of is ∙ here.2))
+      (λ (r : Contains (pairs_from (first + 1) n) p). let rest =
+      in_pairs (first + 1) n p r in (
+        (omega (arith, rest.0)),
+        (omega (arith, rest.1)),
+        rest.2,
+        rest.3,
+      ))
+      (Contains-append_cases (pairs_at first) (pairs_from (first + 1) n) p h)
+
+  -- and each of those is among them
+  pub pairs_have : (first n c k : ℕ) → first ≤ c → c < first + n → seat_of c ≡ seat → k < many c
+      → Contains (pairs_from first n) (c, k)
+  pairs_have first zero c k low high is within = absurd (omega (arith, low, high))
+  pairs_have first (suc n) c k low high is within = elim (apart_or_same first c low) [
+    | inl above ↦ Contains-append_right (pairs_at first) (pairs_from (first + 1) n) (c, k)
+        (pairs_have (first + 1) n c k above (omega (arith, high)) is within)
+    | inr same ↦ Contains-append_left (pairs_at first) (pairs_from (first + 1) n) (c, k)
+        (subst (λ f. Contains (pairs_at f) (c, k)) (sym same) (pairs_at_has c k is within))
+  ]
+
+  -- each stands once
+  pub pairs_apart : (first n : ℕ) → Apart (pairs_from first n)
+  pairs_apart first zero = tt
+  pairs_apart first (suc n) =
+      apart_append (pairs_at first) (pairs_from (first + 1) n) (pairs_at_apart first)
+      (pairs_apart (first + 1) n)
+      (λ p l r. let here = (in_pairs_at first p l).0 in let there =
+      (in_pairs (first + 1) n p r).0 in absurd (omega (arith, here, there)))

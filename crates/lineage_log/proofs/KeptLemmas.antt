@@ -1,0 +1,594 @@
+-- Where each node is needed, the links that are left are those of the living and of their
+-- ancestors.
+use Rattle.std.proofs.Common.{◌≡◌, ◌≢◌, ◌⊎◌, zero, eq-eqb, inl, inr, ⊎_elim, ◌∙◌, refl, sym, ap, subst, true≢false, ℕ, suc, ◌+◌, ◌<◌, ◌≤◌, Bool, true, false, cond, eqb, List, [], ◌∷◌, ◌++◌, append_assoc, length, get_or, Option, Some, None, nat_cmp, eqb-true, arith}
+use Rattle.std.specs.Prelude.{All, Contains, IfSome, IsSome, filter, filter_map, is_some, option_and_then}
+use Rattle.std.specs.List.{cons_option}
+use Rattle.std.specs.BTreeMap.{insert_entry, is_at}
+use Rattle.std.specs.Cmp.{nat_cmp_total}
+use Rattle.std.specs.List.Sorted.{IsStrictlySortedBy}
+use Rattle.std.specs.Map.{keys_of, set_value}
+use Rattle.std.specs.Option.{option_map, option_map_or, unwrap_or}
+use Rattle.std.proofs.lemmas.Map.Entries.{sum_by-insert_entry}
+use Rattle.std.proofs.lemmas.Bool.{cases_Bool, cases_lt, cond-true, cond-false, false_from_ne_true}
+use Rattle.lineage_log.specs.Links.{Link}
+use Rattle.lineage_log.specs.Ancestry.{ancestors_of, is_kept, kept_of, link_of, parent_of}
+use Rattle.lineage_log.specs.Trees.{CanCome, IsKept, genome_in, with_death, with_newcomer, without}
+use Rattle.lineage_log.specs.Nodes.{NodeValue, AreFamilies, AreFewer, AreNeededBut, AreNodes, IsInFamily, as_child, children_of, links_of, living_of, node_at, node_link, tree_of}
+use Rattle.lineage_log.proofs.AncestorLemmas.{AreLeft, AreWanted, Older, kept_left, line_is, wanted_kept}
+use Rattle.lineage_log.proofs.NodeLemmas.{below_top, by_key, child_apart, child_exists, child_is, children_few, founder_is, insert_last, is_some_link, link_there, links_newcomer, links_set, lives_there, living_dead, living_newcomer, living_set, newest_above, node_told, none_newest, parent_there, some_of, there_lives, top_of}
+use Rattle.lineage_log.proofs.TreeLemmas.{IsSet, fewer_same, is_there, one_node, set_from, set_is, set_still}
+
+-- the link of an id among those whose id passes a test
+pub find_left : (left : ℕ → Bool) (id : ℕ) (links : List Link)
+    → link_of (filter (λ (link : Link). left link.id) links) id
+    ≡ cond (left id) (link_of links id) None
+find_left left id [] = none (left id) where
+  none : (b : Bool) → ◌≡◌ {A = Option Link} None (cond b None None)
+  none true = refl
+  none false = refl
+find_left left id (link ∷ links) =
+    by (left link.id) refl (eqb link.id id) refl (find_left left id links) where
+      by : (b : Bool) → left link.id ≡ b → (t : Bool) → eqb link.id id ≡ t
+          → link_of (filter (λ (link : Link). left link.id) links) id
+          ≡ cond (left id) (link_of links id) None
+          → link_of (cond b (link ∷ filter (λ (link : Link). left link.id) links)
+          (filter (λ (link : Link). left link.id) links)) id
+          ≡ cond (left id) (cond t (Some link) (link_of links id)) None
+      by true l true e rest =
+          cond-true (eqb link.id id) (Some link)
+          (link_of (filter (λ (link : Link). left link.id) links) id) e
+          ∙ sym (cond-true (left id) (Some link) None (ap left (sym (eqb-true link.id id e)) ∙ l))
+      by true l false e rest =
+          cond-false (eqb link.id id) (Some link)
+          (link_of (filter (λ (link : Link). left link.id) links) id) e ∙ rest
+      by false l true e rest =
+          let out = ap left (sym (eqb-true link.id id e)) ∙ l in
+          rest ∙ cond-false (left id) (link_of links id) None out
+          ∙ sym (cond-false (left id) (Some link) None out)
+      by false l false e rest = rest
+
+-- two tests that agree on each element filter alike
+pub filter_alike : (p q : Link → Bool) (links : List Link) → All (λ link. p link ≡ q link) links
+    → filter p links ≡ filter q links
+filter_alike p q [] same = refl
+filter_alike p q (link ∷ links) same =
+    ap (λ b. cond b (link ∷ filter p links) (filter p links)) (same 0 link (omega arith))
+    ∙ ap (λ (others : List Link). cond (q link) (link ∷ others) others)
+    (filter_alike p q links (λ k d low. same (suc k) d (omega (arith, low))))
+
+-- each of some links is found by its id
+pub found_at : (links : List Link) (k : ℕ) (d : Link) → k < length links
+    → is_some (link_of links (get_or links k d).id) ≡ true
+found_at [] k d low = absurd (omega (arith, low))
+found_at (link ∷ links) zero d low =
+    ap is_some (cond-true (eqb link.id link.id) (Some link) (link_of links link.id)
+    (eq-eqb link.id link.id refl))
+found_at (link ∷ links) (suc k) d low =
+    by (eqb link.id (get_or links k d).id) (found_at links k d (omega (arith, low))) where
+      by : (b : Bool) → is_some (link_of links (get_or links k d).id) ≡ true
+          → is_some (cond b (Some link) (link_of links (get_or links k d).id)) ≡ true
+      by true rest = refl
+      by false rest = rest
+
+-- nothing isn't something
+none_some : (id : ℕ) → None ≡ Some id → ⊥
+none_some id same = true≢false (sym (ap is_some same))
+
+module _ (before after : List (ℕ × NodeValue)) (old : AreFamilies before) (new : AreNodes after)
+    (fewer : AreFewer before after) where
+  abbrev has : ℕ → Bool
+  has id = is_some (node_at after id)
+
+  -- the link of an id then
+  at : (id : ℕ) → link_of (links_of after) id
+      ≡ cond (fewer.left id) (link_of (links_of before) id) None
+  at id = ap (λ (links : List Link). link_of links id) fewer.links
+      ∙ find_left fewer.left id (links_of before)
+
+  -- who has a node then had a link that is left
+  has_is : (id : ℕ) → is_some (node_at after id)
+      ≡ is_some (cond (fewer.left id) (link_of (links_of before) id) None)
+  has_is id = sym (is_some_link after id) ∙ ap is_some (at id)
+
+  -- who has a node then has the link of before
+  same_link : (id : ℕ) → is_some (node_at after id) ≡ true
+      → link_of (links_of after) id ≡ link_of (links_of before) id
+  same_link id h = ⊎_elim
+      (λ (inside : fewer.left id ≡ true). at id
+      ∙ cond-true (fewer.left id) (link_of (links_of before) id) None inside)
+      (λ (out : fewer.left id ≡ false).
+      absurd (true≢false (sym h ∙ has_is id
+      ∙ ap is_some (cond-false (fewer.left id) (link_of (links_of before) id) None out))))
+      (cases_Bool (fewer.left id))
+
+  -- and the parent of before
+  same_parent : (id : ℕ) → is_some (node_at after id) ≡ true
+      → parent_of (links_of after) id ≡ parent_of (links_of before) id
+  same_parent id h = ap (option_and_then (λ (link : Link). link.parent)) (same_link id h)
+
+  -- parents were older
+  pub older_before : Older (parent_of (links_of before))
+  older_before id above is =
+      let node = node_told before id above is in
+      (old.each id node.0 node.1).older above node.2
+
+  -- with each of them its parent is left
+  pub are_left : AreLeft (parent_of (links_of before)) (parent_of (links_of after)) has
+  are_left = record {
+    same = same_parent;
+    closed = λ id above h is.
+        let node = node_told after id above (same_parent id h ∙ is) in
+        (new.families.each id node.0 node.1).there above node.2;
+  }
+
+  -- each of them lives or has a child among them
+  wanted : AreWanted (parent_of (links_of before)) has (living_of after)
+  wanted id h =
+      let found = some_of (node_at after id) h in
+      ⊎_elim
+      (λ (lives : found.0.lives ≡ true). inl (there_lives after id found.0 found.1 lives))
+      (λ (dies : found.0.lives ≡ false).
+      let some : 0 < children_of after id =
+      omega (
+        arith,
+        new.needed id found.0 found.1 dies (none_some id),
+        (new.families.each id found.0 found.1).counted,
+      ) in
+      let child = child_exists after id new.families.rising some in
+      let is : is_some (node_at after child.0) ≡ true =
+      is_there (node_at after child.0) child.1 child.2 in
+      inr (
+        child.0,
+        is,
+        sym (same_parent child.0 is) ∙ parent_there after child.0 child.1 child.2
+            ∙ child.3,
+      ))
+      (cases_Bool found.0.lives)
+
+  -- who is kept is who is left
+  pub kept_is : (id : ℕ) → is_kept (links_of before) (living_of after) id
+      ≡ is_some (node_at after id)
+  kept_is id = ⊎_elim
+      (λ (inside : is_some (node_at after id) ≡ true). wanted_kept (parent_of (links_of before)) has
+      (living_of after) older_before wanted (top_of after) (top_of after) id (below_top after)
+      (omega arith) inside ∙ sym inside)
+      (λ (out : is_some (node_at after id) ≡ false).
+      false_from_ne_true (is_kept (links_of before) (living_of after) id)
+      (λ h. true≢false (sym (kept_left (parent_of (links_of before))
+      (parent_of (links_of after)) has older_before are_left (living_of after) id lives_left h)
+      ∙ out)) ∙ sym out)
+      (cases_Bool (is_some (node_at after id)))
+    where
+      lives_left : (one : ℕ) → Contains (living_of after) one → is_some (node_at after one) ≡ true
+      lives_left one lives =
+          let found = lives_there after one new.families.rising lives in
+          is_there (node_at after one) found.0 found.1
+
+  -- the links that are left are those of the living and of their ancestors
+  pub links_kept : links_of after ≡ kept_of (links_of before) (living_of after)
+  unfolding kept_of
+  links_kept = fewer.links
+      ∙ filter_alike (λ (link : Link). fewer.left link.id)
+      (λ (link : Link). is_kept (links_of before) (living_of after) link.id) (links_of before)
+      (λ k d low. all (link_of (links_of before) (get_or (links_of before) k d).id)
+      (fewer.left (get_or (links_of before) k d).id) (found_at (links_of before) k d low)
+      ∙ sym (has_is (get_or (links_of before) k d).id)
+      ∙ sym (kept_is (get_or (links_of before) k d).id))
+    where
+      all : (found : Option Link) (b : Bool) → is_some found ≡ true
+          → b ≡ is_some (cond b found None)
+      all found true some = sym some
+      all found false some = refl
+
+-- the links of nodes are kept
+pub nodes_kept : (nodes : List (ℕ × NodeValue)) → AreNodes nodes → IsKept (tree_of nodes)
+nodes_kept nodes are = sym (links_kept nodes nodes are.families are (fewer_same nodes))
+
+-- ---- an organism dies
+
+-- one that lived no longer does, and perhaps its node is there in vain
+pub record IsLaid (before after : List (ℕ × NodeValue)) (id : ℕ) : Type 0 where
+  pub families : AreFamilies after
+  pub needed : AreNeededBut (Some id) after
+  pub there : IsSome (node_at after id)
+  pub links : links_of after ≡ links_of before
+  pub living : living_of after ≡ without id (living_of before)
+
+-- so it is where its node was set to that
+pub laid : (before after : List (ℕ × NodeValue)) (id : ℕ) → AreNodes before
+    → Contains (living_of before) id
+    → ((node : NodeValue) → node_at before id ≡ Some node
+    → after ≡ set_value (is_at (nat_cmp id)) before (record node { lives = false }))
+    → IsLaid before after id
+laid before after id are lives change =
+    let found = lives_there before id are.families.rising lives in
+    let old = found.0 in
+    let is = found.1 in
+    let new : NodeValue = record old { lives = false } in
+    let e = change old is in
+    let set = set_is before after id old new are.families.rising is refl e in
+    let fit : (other : ℕ) (node : NodeValue) → IsInFamily before other node
+    → IsInFamily after other node =
+    λ other node fits. record {
+      older = fits.older;
+      there = λ above parent. set_still before after id new above set (fits.there above parent);
+      counted = fits.counted ∙ sym (set.kids other);
+    } in
+    let fit_new : IsInFamily before id new = let fits = are.families.each id old is in
+    record { older = fits.older; there = fits.there; counted = fits.counted } in
+    record {
+      families = record {
+        rising = set.rising;
+        each = λ other node has. ⊎_elim
+            (λ here. subst (λ (n : NodeValue). IsInFamily after other n) here.1
+            (subst (λ n. IsInFamily after n new) here.0 (fit id new fit_new)))
+            (λ apart. fit other node (are.families.each other node apart.1))
+            (set_from before after id new other node set has);
+      };
+      needed = λ other node has dies hole. ⊎_elim
+          (λ here. absurd (hole (ap (λ (n : ℕ). Some n) here.0)))
+          (λ apart. are.needed other node apart.1 dies (none_some other))
+          (set_from before after id new other node set has);
+      there = set_still before after id new id set (is_there (node_at before id) old is);
+      links = ap links_of e ∙ links_set before id old new is (λ key. refl);
+      living = ap living_of e ∙ living_dead before id old new are.families.rising is refl;
+    }
+
+-- what is left then
+pub buried : (before mid after : List (ℕ × NodeValue)) (id : ℕ) → IsLaid before mid id
+    → AreNodes after → AreFewer mid after → tree_of after ≡ with_death (tree_of before) id
+buried before mid after id lays are fewer =
+    let living = fewer.living ∙ lays.living in
+    let links : links_of after ≡ kept_of (links_of before) (without id (living_of before)) =
+    links_kept mid after lays.families are fewer ∙ (λ i. kept_of (lays.links i) (living i)) in
+    λ i. record { links = links i; living = living i }
+
+-- ---- an organism comes
+
+-- there is one node more
+pub record HasCome (before after : List (ℕ × NodeValue)) (id : ℕ) (new : NodeValue) : Type 0 where
+  pub rising : IsStrictlySortedBy nat_cmp (keys_of after)
+  pub at : (other : ℕ) → node_at after other ≡ cond (is_at (nat_cmp id) other) (Some new)
+      (node_at before other)
+  pub kids : (other : ℕ) → children_of after other ≡ children_of before other + as_child other new
+
+-- so it is where its entry was inserted
+pub has_come : (before after : List (ℕ × NodeValue)) (id : ℕ) (new : NodeValue)
+    → IsStrictlySortedBy nat_cmp (keys_of before) → IsStrictlySortedBy nat_cmp (keys_of after)
+    → node_at before id ≡ None → after ≡ insert_entry nat_cmp before id new
+    → ((other : ℕ) → node_at after other ≡ cond (is_at (nat_cmp id) other) (Some new)
+    (node_at before other)) → HasCome before after id new
+has_come before after id new rising rises none e at = record {
+  rising = rises;
+  at = at;
+  kids = λ other.
+      let was = ap (λ (o : Option NodeValue). unwrap_or (option_map (as_child other) o) 0) none in
+      omega (
+        arith,
+        ap (λ (nodes : List (ℕ × NodeValue)). children_of nodes other) e,
+        sum_by-insert_entry (as_child other) nat_cmp_total before id new rising,
+        was,
+      );
+}
+
+-- nobody is a child of who is not there
+no_children : (nodes : List (ℕ × NodeValue)) (id : ℕ) → AreFamilies nodes → node_at nodes id ≡ None
+    → children_of nodes id ≤ 0
+no_children nodes id are none = ⊎_elim
+    (λ (some : 0 < children_of nodes id).
+    let child = child_exists nodes id are.rising some in
+    absurd (true≢false (sym ((are.each child.0 child.1 child.2).there id child.3)
+    ∙ ap is_some none)))
+    (λ (few : children_of nodes id ≤ 0). few)
+    (cases_lt 0 (children_of nodes id))
+
+module _ (before mid : List (ℕ × NodeValue)) (id : ℕ) (new : NodeValue) (are : AreNodes before)
+    (none : node_at before id ≡ None) (childless : new.children ≡ 0) (lives : new.lives ≡ true)
+    (come : HasCome before mid id new) where
+  -- who was there is there
+  stays : (other : ℕ) → IsSome (node_at before other) → IsSome (node_at mid other)
+  stays other is = ⊎_elim
+      (λ (here : (id ≡ other) × (is_at (nat_cmp id) other ≡ true)). is_there (node_at mid other) new
+      (come.at other ∙ cond-true (is_at (nat_cmp id) other) (Some new) (node_at before other)
+      here.1))
+      (λ (apart : (id ≢ other) × (is_at (nat_cmp id) other ≡ false)).
+      subst IsSome (sym (come.at other
+      ∙ cond-false (is_at (nat_cmp id) other) (Some new) (node_at before other) apart.1)) is)
+      (by_key id other)
+
+  -- the newcomer, or one that was there
+  pub come_from : (other : ℕ) (node : NodeValue) → node_at mid other ≡ Some node
+      → ((id ≡ other) × (new ≡ node)) ⊎ ((id ≢ other) × (node_at before other ≡ Some node))
+  come_from other node is = ⊎_elim
+      (λ (here : (id ≡ other) × (is_at (nat_cmp id) other ≡ true)).
+      inl (
+        here.0,
+        one_node (node_at mid other) new node
+            (come.at other ∙ cond-true (is_at (nat_cmp id) other) (Some new) (node_at before other)
+            here.1) is,
+      ))
+      (λ (apart : (id ≢ other) × (is_at (nat_cmp id) other ≡ false)).
+      inr (
+        apart.0,
+        sym (come.at other
+            ∙ cond-false (is_at (nat_cmp id) other) (Some new) (node_at before other) apart.1) ∙ is,
+      ))
+      (by_key id other)
+
+  -- a founder comes
+  pub founder_comes : new.parent ≡ None → AreNodes mid
+  founder_comes founder = record {
+    families = record {
+      rising = come.rising;
+      each = λ other node has. ⊎_elim
+          (λ (here : (id ≡ other) × (new ≡ node)). subst (λ (n : NodeValue). IsInFamily mid other n)
+          here.1 (subst (λ n. IsInFamily mid n new) here.0 (record {
+            older = λ above parent. absurd (true≢false (sym (ap is_some (sym founder ∙ parent))));
+            there = λ above parent. absurd (true≢false (sym (ap is_some (sym founder ∙ parent))));
+            counted = omega (
+              arith,
+              childless,
+              come.kids id,
+              founder_is id new founder,
+              no_children before id are.families none,
+            );
+          })))
+          (λ (apart : (id ≢ other) × (node_at before other ≡ Some node)).
+          let fits = are.families.each other node apart.1 in
+          record {
+            older = fits.older;
+            there = λ above parent. stays above (fits.there above parent);
+            counted = omega (arith, fits.counted, come.kids other, founder_is other new founder);
+          })
+          (come_from other node has);
+    };
+    needed = λ other node has dies hole. ⊎_elim
+        (λ (here : (id ≡ other) × (new ≡ node)).
+        absurd (true≢false (sym lives ∙ ap (λ (n : NodeValue). n.lives) here.1 ∙ dies)))
+        (λ (apart : (id ≢ other) × (node_at before other ≡ Some node)).
+        are.needed other node apart.1 dies hole)
+        (come_from other node has);
+  }
+
+  module _ (after : List (ℕ × NodeValue)) (above : ℕ) (parent more : NodeValue)
+      (child : new.parent ≡ Some above) (older : above < id)
+      (above_is : node_at before above ≡ Some parent)
+      (raised : more ≡ record parent { children = parent.children + 1 })
+      (set : IsSet mid after above more) where
+    differs : id ≢ above
+    differs same = omega (arith, same, older)
+
+    -- the parent is as it should be
+    fit_parent : IsInFamily after above more
+    fit_parent =
+        let fits = are.families.each above parent above_is in
+        let same : more.parent ≡ parent.parent = ap (λ (n : NodeValue). n.parent) raised in
+        record {
+          older = λ higher h. fits.older higher (sym same ∙ h);
+          there = λ higher h. set_still mid after above more higher set
+              (stays higher (fits.there higher (sym same ∙ h)));
+          counted = ap (λ (n : NodeValue). n.children) raised
+              ∙ omega (
+                arith,
+                fits.counted,
+                set.kids above,
+                come.kids above,
+                child_is above new child,
+              );
+        }
+
+    -- so is the child
+    fit_child : IsInFamily after id new
+    fit_child = record {
+      older = λ higher h. subst (λ n. n < id) (ap (λ (o : Option ℕ). unwrap_or o 0) (sym child ∙ h))
+          older;
+      there = λ higher h. set_still mid after above more higher set
+          (stays higher (is_there (node_at before higher) parent
+          (ap (node_at before) (ap (λ (o : Option ℕ). unwrap_or o 0) (sym h ∙ child)) ∙ above_is)));
+      counted = omega (
+        arith,
+        childless,
+        set.kids id,
+        come.kids id,
+        child_apart id above new child (λ same. differs (sym same)),
+        no_children before id are.families none,
+      );
+    }
+
+    -- a child comes, and its parent counts one child more
+    pub child_comes : AreNodes after
+    child_comes = record {
+      families = record {
+        rising = set.rising;
+        each = λ other node has. ⊎_elim
+            (λ (one : (above ≡ other) × (more ≡ node)).
+            subst (λ (n : NodeValue). IsInFamily after other n) one.1
+            (subst (λ n. IsInFamily after n more) one.0 fit_parent))
+            (λ (far : (above ≢ other) × (node_at mid other ≡ Some node)). ⊎_elim
+            (λ (here : (id ≡ other) × (new ≡ node)).
+            subst (λ (n : NodeValue). IsInFamily after other n) here.1
+            (subst (λ n. IsInFamily after n new) here.0 fit_child))
+            (λ (apart : (id ≢ other) × (node_at before other ≡ Some node)).
+            let fits = are.families.each other node apart.1 in
+            record {
+              older = fits.older;
+              there = λ higher h. set_still mid after above more higher set
+                  (stays higher (fits.there higher h));
+              counted = omega (
+                arith,
+                fits.counted,
+                set.kids other,
+                come.kids other,
+                child_apart other above new child far.0,
+              );
+            })
+            (come_from other node far.1))
+            (set_from mid after above more other node set has);
+      };
+      needed = λ other node has dies hole. ⊎_elim
+          (λ (one : (above ≡ other) × (more ≡ node)).
+          let many : 0 < more.children = omega (arith, ap (λ (n : NodeValue). n.children) raised) in
+          subst (λ (n : NodeValue). 0 < n.children) one.1 many)
+          (λ (far : (above ≢ other) × (node_at mid other ≡ Some node)). ⊎_elim
+          (λ (here : (id ≡ other) × (new ≡ node)).
+          absurd (true≢false (sym lives ∙ ap (λ (n : NodeValue). n.lives) here.1 ∙ dies)))
+          (λ (apart : (id ≢ other) × (node_at before other ≡ Some node)).
+          are.needed other node apart.1 dies hole)
+          (come_from other node far.1))
+          (set_from mid after above more other node set has);
+    }
+
+-- the tree with a newcomer
+pub tree_come : (before after : List (ℕ × NodeValue)) (id : ℕ) (new : NodeValue)
+    → All (λ (link : Link). link.id < id) (links_of before) → new.lives ≡ true
+    → after ≡ insert_entry nat_cmp before id new
+    → tree_of after ≡ with_newcomer (tree_of before) (node_link id new)
+tree_come before after id new newest lives e =
+    let last = e ∙ insert_last before id new newest in
+    let links = ap links_of last ∙ links_newcomer before id new in
+    let living = ap living_of last ∙ living_newcomer before id new lives in
+    λ i. record { links = links i; living = living i }
+
+-- a node has another number of children
+pub tree_set : (before after : List (ℕ × NodeValue)) (id children : ℕ) (old : NodeValue)
+    → node_at before id ≡ Some old
+    → after ≡ set_value (is_at (nat_cmp id)) before (record old { children = children })
+    → tree_of after ≡ tree_of before
+tree_set before after id children old is e =
+    let links = ap links_of e
+    ∙ links_set before id old (record old { children = children }) is (λ key. refl) in
+    let living =
+    ap living_of e ∙ living_set before id old (record old { children = children }) is refl in
+    λ i. record { links = links i; living = living i }
+
+-- what a newcomer does to the nodes before its parent has another child
+pub record Comes (before mid : List (ℕ × NodeValue)) (link : Link) (new : NodeValue) : Type 0 where
+  pub none : node_at before link.id ≡ None
+  pub childless : new.children ≡ 0
+  pub lives : new.lives ≡ true
+  pub parent : new.parent ≡ link.parent
+  pub come : HasCome before mid link.id new
+  pub tree : tree_of mid ≡ with_newcomer (tree_of before) link
+
+-- the node of a newcomer
+abbrev pub new_node : Link → NodeValue
+new_node link = record {
+  parent = link.parent;
+  update = link.update;
+  cell = link.cell;
+  origin = link.origin;
+  genome = link.genome;
+  children = 0;
+  lives = true;
+}
+
+-- so it is where its entry was inserted
+pub comes : (before mid : List (ℕ × NodeValue)) (link : Link) (new : NodeValue) → AreNodes before
+    → CanCome (tree_of before) link.id link.parent → new ≡ new_node link
+    → IsStrictlySortedBy nat_cmp (keys_of mid) → mid ≡ insert_entry nat_cmp before link.id new
+    → ((other : ℕ) → node_at mid other ≡ cond (is_at (nat_cmp link.id) other) (Some new)
+    (node_at before other)) → Comes before mid link new
+comes before mid link new are can is rising e at =
+    let none = none_newest before link.id can.newest in
+    let lives : new.lives ≡ true = ap (λ (n : NodeValue). n.lives) is in
+    record {
+      none = none;
+      childless = ap (λ (n : NodeValue). n.children) is;
+      lives = lives;
+      parent = ap (λ (n : NodeValue). n.parent) is;
+      come = has_come before mid link.id new are.families.rising rising none e at;
+      tree = tree_come before mid link.id new can.newest lives e
+          ∙ ap (λ (n : NodeValue). with_newcomer (tree_of before) (node_link link.id n)) is;
+    }
+
+-- there is room for one child more
+pub has_room : (before mid : List (ℕ × NodeValue)) (link : Link) (new : NodeValue) (bound id : ℕ)
+    (node : NodeValue) → AreNodes before → Comes before mid link new → length before < bound
+    → node_at mid id ≡ Some node → node.children < bound
+has_room before mid link new bound id node are is few there = ⊎_elim
+    (λ (here : (link.id ≡ id) × (new ≡ node)).
+    omega (arith, few, is.childless, ap (λ (n : NodeValue). n.children) here.1))
+    (λ (apart : (link.id ≢ id) × (node_at before id ≡ Some node)).
+    omega (arith, few, (are.families.each id node apart.1).counted, children_few before id))
+    (come_from before mid link.id new are is.none is.childless is.lives is.come id node there)
+
+-- a child enters
+pub child_enters : (before mid after : List (ℕ × NodeValue)) (link : Link) (new : NodeValue)
+    (above : ℕ) → AreNodes before → CanCome (tree_of before) link.id link.parent
+    → Comes before mid link new → link.parent ≡ Some above
+    → ((node : NodeValue) → node_at mid above ≡ Some node
+    → after ≡ set_value (is_at (nat_cmp above)) mid (record node { children = node.children + 1 }))
+    → AreNodes after × (tree_of after ≡ with_newcomer (tree_of before) link)
+child_enters before mid after link new above are can is child raise =
+    let found =
+    some_of (node_at before above) (sym (is_some_link before above) ∙ can.there above child) in
+    let parent = found.0 in
+    let older = newest_above before link.id above parent can.newest found.1 in
+    let stays : node_at mid above ≡ Some parent = is.come.at above ∙ apart older ∙ found.1 in
+    let e = raise parent stays in
+    let more : NodeValue = record parent { children = parent.children + 1 } in
+    let set = set_is mid after above parent more is.come.rising stays refl e in (
+      child_comes before mid link.id new are is.none is.childless is.lives is.come after above
+          parent
+          more (is.parent ∙ child) older found.1 refl set,
+      tree_set mid after above (parent.children + 1) parent stays e ∙ is.tree,
+    )
+  where
+    apart : above < link.id → cond (is_at (nat_cmp link.id) above) (Some new) (node_at before above)
+        ≡ node_at before above
+    apart older = ⊎_elim
+        (λ (here : (link.id ≡ above) × (is_at (nat_cmp link.id) above ≡ true)).
+        absurd (omega (arith, older, here.0)))
+        (λ (far : (link.id ≢ above) × (is_at (nat_cmp link.id) above ≡ false)).
+        cond-false (is_at (nat_cmp link.id) above) (Some new) (node_at before above) far.1)
+        (by_key link.id above)
+
+-- a founder enters
+pub founder_enters : (before mid : List (ℕ × NodeValue)) (link : Link) (new : NodeValue)
+    → AreNodes before → Comes before mid link new → link.parent ≡ None → AreNodes mid
+founder_enters before mid link new are is founder =
+    founder_comes before mid link.id new are is.none is.childless is.lives is.come
+    (is.parent ∙ founder)
+
+-- ---- the line of an organism
+
+-- a parent has a lower id
+pub nodes_older : (nodes : List (ℕ × NodeValue)) → AreFamilies nodes
+    → Older (parent_of (links_of nodes))
+nodes_older nodes are id above is =
+    let node = node_told nodes id above is in
+    (are.each id node.0 node.1).older above node.2
+
+-- the genome of an organism of a tree is that of its node
+pub genome_there : (nodes : List (ℕ × NodeValue)) (id : ℕ) (node : NodeValue)
+    → node_at nodes id ≡ Some node → genome_in (tree_of nodes) id ≡ node.genome
+genome_there nodes id node is =
+    ap (λ (found : Option Link). option_map_or (λ (link : Link). link.genome) found [])
+    (link_there nodes id ∙ ap (option_map (node_link id)) is)
+
+-- the links of an id's ancestors, the id first
+abbrev pub links_back : List (ℕ × NodeValue) → Option ℕ → List Link
+links_back nodes next =
+    filter_map (link_of (links_of nodes)) (option_map_or (ancestors_of (links_of nodes)) next [])
+
+-- one step back
+pub back_once : (nodes : List (ℕ × NodeValue)) (front links : List Link) (id : ℕ) (node : NodeValue)
+    → AreFamilies nodes → node_at nodes id ≡ Some node → front ++ links_back nodes (Some id) ≡ links
+    → (front ++ node_link id node ∷ []) ++ links_back nodes node.parent ≡ links
+back_once nodes front links id node are is all =
+    let line = line_is (parent_of (links_of nodes)) (nodes_older nodes are) id
+    ∙ ap (λ (parent : Option ℕ). id ∷ option_map_or (ancestors_of (links_of nodes)) parent [])
+    (parent_there nodes id node is) in
+    let here : links_back nodes (Some id) ≡ node_link id node ∷ links_back nodes node.parent =
+    ap (filter_map (link_of (links_of nodes))) line
+    ∙ ap (λ (found : Option Link). cons_option found (links_back nodes node.parent))
+    (link_there nodes id ∙ ap (option_map (node_link id)) is) in
+    append_assoc front (node_link id node ∷ []) (links_back nodes node.parent)
+    ∙ ap (λ (rest : List Link). front ++ rest) (sym here) ∙ all
+
+-- a parent is there
+pub parent_stands : (nodes : List (ℕ × NodeValue)) (id : ℕ) (node : NodeValue) (next : Option ℕ)
+    → AreFamilies nodes → node_at nodes id ≡ Some node → next ≡ node.parent
+    → IfSome next (λ above. IsSome (node_at nodes above))
+parent_stands nodes id node None are is same = tt
+parent_stands nodes id node (Some above) are is same = (are.each id node is).there above (sym same)

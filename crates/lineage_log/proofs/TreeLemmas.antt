@@ -1,0 +1,361 @@
+-- What the steps of a tree do to its nodes.
+use Rattle.std.proofs.Common.{◌≡◌, ◌≢◌, ◌⊎◌, inl, inr, ⊎_elim, ◌∙◌, refl, sym, ap, subst, ℕ, ◌+◌, ◌-◌, ◌<◌, ◌≤◌, true, false, cond, not, ◌&&◌, eqb, List, [], ◌∷◌, Option, Some, None, nat_cmp, arith}
+use Rattle.std.specs.Prelude.{IsSome, filter}
+use Rattle.std.specs.BTreeMap.{is_at}
+use Rattle.std.specs.Cmp.{nat_cmp_total}
+use Rattle.std.specs.List.Sorted.{IsStrictlySortedBy}
+use Rattle.std.specs.Map.{keys_of, remove_entry, set_value}
+use Rattle.std.specs.Option.{option_map, unwrap_or}
+use Rattle.std.specs.Ordering.{eq_by_cmp}
+use Rattle.std.proofs.lemmas.Bool.{cond-true, cond-false}
+use Rattle.std.proofs.lemmas.Cmp.{eq_by_cmp_equiv}
+use Rattle.std.proofs.lemmas.Map.{lookup-remove_entry, lookup-set_value, keys-set_value}
+use Rattle.std.proofs.lemmas.Map.Entries.{sum_by-remove_entry, sum_by-set_value}
+use Rattle.std.proofs.lemmas.Map.Keys.{IsDistinct-from_sorted}
+use Rattle.lineage_log.specs.Links.{Link}
+use Rattle.lineage_log.specs.Nodes.{NodeValue, AreFamilies, AreFewer, AreNeededBut, IsInFamily, as_child, children_of, links_of, living_of, node_at}
+use Rattle.lineage_log.proofs.NodeLemmas.{Rises, by_key, child_apart, child_counts, child_is, founder_is, links_gone, links_set, living_gone, living_set, one_for, some_of}
+
+-- what is there is something
+pub is_there : {X : Type 0} (found : Option X) (x : X) → found ≡ Some x → IsSome found
+is_there found x is = subst IsSome (sym is) refl
+
+-- one thing isn't two
+pub one_node : (found : Option NodeValue) (one other : NodeValue) → found ≡ Some one
+    → found ≡ Some other → one ≡ other
+one_node found one other is has = ap (λ (o : Option NodeValue). unwrap_or o one) (sym is ∙ has)
+
+-- ---- a node that changes, but not its parent
+
+-- under an id there is another node, with the parent of before
+pub record IsSet (before after : List (ℕ × NodeValue)) (id : ℕ) (new : NodeValue) : Type 0 where
+  pub rising : Rises after
+  pub at : (other : ℕ) → node_at after other ≡ cond (is_at (nat_cmp id) other) (Some new)
+      (node_at before other)
+  pub kids : (other : ℕ) → children_of after other ≡ children_of before other
+
+-- so it is where the value under the id was set
+pub set_is : (before after : List (ℕ × NodeValue)) (id : ℕ) (old new : NodeValue) → Rises before
+    → node_at before id ≡ Some old → new.parent ≡ old.parent
+    → after ≡ set_value (is_at (nat_cmp id)) before new → IsSet before after id new
+set_is before after id old new rising is same e =
+    let laws = eq_by_cmp_equiv nat_cmp_total in
+    record {
+      rising = subst (IsStrictlySortedBy nat_cmp)
+          (sym (ap keys_of e ∙ keys-set_value (is_at (nat_cmp id)) before new)) rising;
+      at = λ other. ap (λ (nodes : List (ℕ × NodeValue)). node_at nodes other) e
+          ∙ lookup-set_value {eq = eq_by_cmp nat_cmp} laws (is_at (nat_cmp id))
+          (λ x y h. laws.congr id x y h) other new before (is_there (node_at before id) old is);
+      kids = λ other.
+          let one : as_child other new ≡ as_child other old = ap (one_for other) same in
+          ap (λ (nodes : List (ℕ × NodeValue)). children_of nodes other) e
+          ∙ omega (
+            arith,
+            sum_by-set_value (as_child other) (is_at (nat_cmp id)) before old new
+                is,
+            one,
+          );
+    }
+
+-- what stands there then
+pub set_from : (before after : List (ℕ × NodeValue)) (id : ℕ) (new : NodeValue) (other : ℕ)
+    (node : NodeValue) → IsSet before after id new → node_at after other ≡ Some node
+    → ((id ≡ other) × (new ≡ node)) ⊎ ((id ≢ other) × (node_at before other ≡ Some node))
+set_from before after id new other node set is = ⊎_elim
+    (λ here. inl (
+      here.0,
+      one_node (node_at after other) new node
+          (set.at other ∙ cond-true (is_at (nat_cmp id) other) (Some new) (node_at before other)
+          here.1) is,
+    ))
+    (λ apart. inr (
+      apart.0,
+      sym
+          (set.at other ∙ cond-false (is_at (nat_cmp id) other) (Some new) (node_at before other)
+          apart.1) ∙ is,
+    ))
+    (by_key id other)
+
+-- what was there is there
+pub set_still : (before after : List (ℕ × NodeValue)) (id : ℕ) (new : NodeValue) (other : ℕ)
+    → IsSet before after id new → IsSome (node_at before other) → IsSome (node_at after other)
+set_still before after id new other set is = ⊎_elim
+    (λ here. is_there (node_at after other) new
+    (set.at other ∙ cond-true (is_at (nat_cmp id) other) (Some new) (node_at before other)
+    here.1))
+    (λ apart. subst IsSome (sym
+    (set.at other ∙ cond-false (is_at (nat_cmp id) other) (Some new) (node_at before other)
+    apart.1)) is)
+    (by_key id other)
+
+-- ---- a node that goes
+
+-- under an id there is no node any longer
+pub record IsGone (before after : List (ℕ × NodeValue)) (id : ℕ) (old : NodeValue) : Type 0 where
+  pub rising : Rises after
+  pub at : (other : ℕ) → node_at after other
+      ≡ cond (is_at (nat_cmp id) other) None (node_at before other)
+  pub kids : (other : ℕ) → children_of after other + as_child other old ≡ children_of before other
+
+-- so it is where the entry of the id was removed
+pub gone_is : (before after : List (ℕ × NodeValue)) (id : ℕ) (old : NodeValue) → Rises before
+    → Rises after → node_at before id ≡ Some old → after ≡ remove_entry (is_at (nat_cmp id)) before
+    → IsGone before after id old
+gone_is before after id old rising rises is e =
+    let laws = eq_by_cmp_equiv nat_cmp_total in
+    record {
+      rising = rises;
+      at = λ other. ap (λ (nodes : List (ℕ × NodeValue)). node_at nodes other) e
+          ∙ lookup-remove_entry {eq = eq_by_cmp nat_cmp} laws (is_at (nat_cmp id))
+          (λ x y h. laws.congr id x y h) other before
+          (IsDistinct-from_sorted nat_cmp (keys_of before) rising);
+      kids = λ other.
+          let was = ap (λ (o : Option NodeValue). unwrap_or (option_map (as_child other) o) 0) is in
+          omega (
+            arith,
+            ap (λ (nodes : List (ℕ × NodeValue)). children_of nodes other) e,
+            sum_by-remove_entry (as_child other) (is_at (nat_cmp id)) before,
+            was,
+          );
+    }
+
+-- what stands there then stood there
+pub gone_from : (before after : List (ℕ × NodeValue)) (id : ℕ) (old : NodeValue) (other : ℕ)
+    (node : NodeValue) → IsGone before after id old → node_at after other ≡ Some node
+    → (id ≢ other) × (node_at before other ≡ Some node)
+gone_from before after id old other node gone is = ⊎_elim
+    (λ here. absurd (let none = gone.at other
+    ∙ cond-true (is_at (nat_cmp id) other) None (node_at before other) here.1 in cc))
+    (λ apart. (
+      apart.0,
+      sym (gone.at other
+          ∙ cond-false (is_at (nat_cmp id) other) None (node_at before other) apart.1) ∙ is,
+    ))
+    (by_key id other)
+
+-- what stood there stands there then, but for one
+pub gone_still : (before after : List (ℕ × NodeValue)) (id : ℕ) (old : NodeValue) (other : ℕ)
+    → IsGone before after id old → id ≢ other → node_at after other ≡ node_at before other
+gone_still before after id old other gone differs = ⊎_elim
+    (λ here. absurd (differs here.0))
+    (λ apart. gone.at other ∙ cond-false (is_at (nat_cmp id) other) None (node_at before other)
+    apart.1)
+    (by_key id other)
+
+-- ---- a node that is there in vain goes
+
+module _ (before mid : List (ℕ × NodeValue)) (id : ℕ) (old : NodeValue)
+    (families : AreFamilies before) (needed : AreNeededBut (Some id) before)
+    (is : node_at before id ≡ Some old) (vain : old.children ≤ 0) (gone : IsGone before mid id old)
+  where
+    -- it is nobody's parent
+    no_parent : (other : ℕ) (node : NodeValue) → node_at before other ≡ Some node
+        → node.parent ≢ Some id
+    no_parent other node has child =
+        omega (
+          arith,
+          child_counts before id other node has,
+          child_is id node child,
+          (families.each id old is).counted,
+          vain,
+        )
+
+    -- a parent of others stays
+    pub parent_stays : (other above : ℕ) (node : NodeValue) → node_at before other ≡ Some node
+        → node.parent ≡ Some above → IsSome (node_at mid above)
+    parent_stays other above node has parent =
+        let differs : id ≢ above =
+        λ same. no_parent other node has (parent ∙ ap (λ (n : ℕ). Some n) (sym same)) in
+        subst IsSome (sym (gone_still before mid id old above gone differs))
+        ((families.each other node has).there above parent)
+
+    -- its parent has it as a child
+    pub parent_counts : (above : ℕ) (parent : NodeValue) → old.parent ≡ Some above
+        → node_at mid above ≡ Some parent → 0 < parent.children
+    parent_counts above parent child above_is =
+        let was = gone_from before mid id old above parent gone above_is in
+        omega (
+          arith,
+          (families.each above parent was.1).counted,
+          child_counts before above id old is,
+          child_is above old child,
+        )
+
+    -- a founder goes
+    pub founder_goes : old.parent ≡ None → AreFamilies mid × AreNeededBut None mid
+    founder_goes founder = (
+      record {
+        rising = gone.rising;
+        each = λ other node has.
+            let was = gone_from before mid id old other node gone has in
+            let fit = families.each other node was.1 in
+            record {
+              older = fit.older;
+              there = λ above parent. parent_stays other above node was.1 parent;
+              counted = omega (arith, fit.counted, gone.kids other, founder_is other old founder);
+            };
+      },
+      λ other node has dies hole.
+          let was = gone_from before mid id old other node gone has in
+          needed other node was.1 dies (λ same. was.0 (ap (λ (o : Option ℕ). unwrap_or o 0) same)),
+    )
+
+    module _ (after : List (ℕ × NodeValue)) (above : ℕ) (parent new : NodeValue)
+        (child : old.parent ≡ Some above) (above_is : node_at mid above ≡ Some parent)
+        (fewer : new ≡ record parent { children = parent.children - 1 })
+        (set : IsSet mid after above new) where
+      fit_parent : IsInFamily after above new
+      fit_parent =
+          let was = gone_from before mid id old above parent gone above_is in
+          let fit = families.each above parent was.1 in
+          let same : new.parent ≡ parent.parent = ap (λ (n : NodeValue). n.parent) fewer in
+          record {
+            older = λ higher h. fit.older higher (sym same ∙ h);
+            there = λ higher h. set_still mid after above new higher set
+                (parent_stays above higher parent was.1 (sym same ∙ h));
+            counted = ap (λ (n : NodeValue). n.children) fewer
+                ∙ omega (
+                  arith,
+                  fit.counted,
+                  set.kids above,
+                  gone.kids above,
+                  child_is above old child,
+                  parent_counts above parent child above_is,
+                );
+          }
+
+      -- all others stay as they should be
+      fit_other : (other : ℕ) (node : NodeValue) → above ≢ other → node_at mid other ≡ Some node
+          → IsInFamily after other node
+      fit_other other node differs has =
+          let was = gone_from before mid id old other node gone has in
+          let fit = families.each other node was.1 in
+          record {
+            older = fit.older;
+            there = λ higher h. set_still mid after above new higher set
+                (parent_stays other higher node was.1 h);
+            counted = omega (
+              arith,
+              fit.counted,
+              set.kids other,
+              gone.kids other,
+              child_apart other above old child differs,
+            );
+          }
+
+      -- a child goes, and its parent counts one child fewer
+      pub child_goes : AreFamilies after × AreNeededBut (Some above) after
+      child_goes = (
+        record {
+          rising = set.rising;
+          each = λ other node has. ⊎_elim
+              (λ here. subst (λ (n : NodeValue). IsInFamily after other n) here.1
+              (subst (λ n. IsInFamily after n new) here.0 fit_parent))
+              (λ apart. fit_other other node apart.0 apart.1)
+              (set_from mid after above new other node set has);
+        },
+        λ other node has dies hole. ⊎_elim
+            (λ here. absurd (hole (ap (λ (n : ℕ). Some n) here.0)))
+            (λ apart.
+            let was = gone_from before mid id old other node gone apart.1 in
+            needed other node was.1 dies
+            (λ same. was.0 (ap (λ (o : Option ℕ). unwrap_or o 0) same)))
+            (set_from mid after above new other node set has),
+      )
+
+-- ---- fewer nodes
+
+-- none fewer
+pub fewer_same : (nodes : List (ℕ × NodeValue)) → AreFewer nodes nodes
+fewer_same nodes = record { left = λ id. true; links = all (links_of nodes); living = refl } where
+  all : (links : List Link) → links ≡ filter (λ (link : Link). true) links
+  all [] = refl
+  all (link ∷ links) = ap (λ (others : List Link). link ∷ others) (all links)
+
+-- fewer, and fewer again
+pub fewer_again : (before mid after : List (ℕ × NodeValue)) → AreFewer before mid
+    → AreFewer mid after → AreFewer before after
+fewer_again before mid after one two = record {
+  left = λ id. one.left id && two.left id;
+  links = two.links ∙ ap (λ (links : List Link). filter (λ (link : Link). two.left link.id) links)
+      one.links ∙ both (links_of before);
+  living = two.living ∙ one.living;
+}
+  where
+    both : (links : List Link)
+        → filter (λ (link : Link). two.left link.id)
+        (filter (λ (link : Link). one.left link.id) links)
+        ≡ filter (λ (link : Link). one.left link.id && two.left link.id) links
+    both [] = refl
+    both (link ∷ links) = (elim (one.left link.id) as
+        (λ b. filter (λ (link : Link). two.left link.id)
+        (cond b (link ∷ filter (λ (link : Link). one.left link.id) links)
+        (filter (λ (link : Link). one.left link.id) links))
+        ≡ cond (b && two.left link.id)
+        (link ∷ filter (λ (link : Link). one.left link.id && two.left link.id) links)
+        (filter (λ (link : Link). one.left link.id && two.left link.id) links)) [
+          | true ↦ ap (λ (others : List Link). cond (two.left link.id) (link ∷ others) others)
+              (both links)
+          | false ↦ both links
+        ])
+
+-- one fewer
+pub fewer_gone : (before after : List (ℕ × NodeValue)) (id : ℕ) (old : NodeValue) → Rises before
+    → node_at before id ≡ Some old → old.lives ≡ false
+    → after ≡ remove_entry (is_at (nat_cmp id)) before → AreFewer before after
+fewer_gone before after id old rising is dead e = record {
+  left = λ other. not (eqb other id);
+  links = ap links_of e ∙ links_gone before id rising;
+  living = ap living_of e ∙ living_gone before id old is dead;
+}
+
+-- none fewer where a node has another number of children
+pub fewer_set : (before after : List (ℕ × NodeValue)) (id children : ℕ) (old : NodeValue)
+    → node_at before id ≡ Some old
+    → after ≡ set_value (is_at (nat_cmp id)) before (record old { children = children })
+    → AreFewer before after
+fewer_set before after id children old is e =
+    let same = fewer_same before in
+    record {
+      left = same.left;
+      links = ap links_of e ∙ links_set before id old (record old { children = children }) is
+          (λ key. refl) ∙ same.links;
+      living =
+          ap living_of e ∙ living_set before id old (record old { children = children }) is refl;
+    }
+
+-- ---- a child goes
+
+-- what is left: all is as it should be but for the parent, which may be there in vain
+pub record LetsGo (before after : List (ℕ × NodeValue)) (above : ℕ) : Type 0 where
+  pub families : AreFamilies after
+  pub needed : AreNeededBut (Some above) after
+  pub there : IsSome (node_at after above)
+  pub fewer : AreFewer before after
+
+-- so it is where the node of a child is removed and its parent has one child fewer
+pub lets_go : (before mid after : List (ℕ × NodeValue)) (id above : ℕ) (old : NodeValue)
+    → AreFamilies before → AreNeededBut (Some id) before → node_at before id ≡ Some old
+    → old.lives ≡ false → old.children ≤ 0 → IsGone before mid id old
+    → mid ≡ remove_entry (is_at (nat_cmp id)) before → old.parent ≡ Some above
+    → ((node : NodeValue) → node_at mid above ≡ Some node
+    → after ≡ set_value (is_at (nat_cmp above)) mid (record node { children = node.children - 1 }))
+    → LetsGo before after above
+lets_go before mid after id above old families needed is dead vain gone removed child lowered =
+    let stays = parent_stays before mid id old families needed is vain gone id above old is child in
+    let parent = (some_of (node_at mid above) stays).0 in
+    let above_is = (some_of (node_at mid above) stays).1 in
+    let new : NodeValue = record parent { children = parent.children - 1 } in
+    let set =
+    set_is mid after above parent new gone.rising above_is refl (lowered parent above_is) in
+    let both = child_goes before mid id old families needed is vain gone after above parent new
+    child above_is refl set in
+    record {
+      families = both.0;
+      needed = both.1;
+      there = set_still mid after above new above set stays;
+      fewer = fewer_again before mid after
+          (fewer_gone before mid id old families.rising is dead removed)
+          (fewer_set mid after above (parent.children - 1) parent above_is
+          (lowered parent above_is));
+    }

@@ -1,0 +1,21 @@
+use Rattle.std.proofs.Common.{◌∙◌, ℕ, subst}
+use Rattle.std.specs.Prelude.{Contains, IsSome}
+use Rattle.lineage_log.specs.Ancestry.{link_of}
+use Rattle.lineage_log.specs.Trees.{TreeValue, IsKept}
+use Rattle.lineage_log.specs.Nodes.{node_at}
+use Rattle.lineage_log.proofs.NodeLemmas.{is_some_link, lives_there}
+use Rattle.lineage_log.proofs.TreeLemmas.{is_there}
+use Rattle.lineage_log.proofs.KeptLemmas.{nodes_kept}
+use Rattle.lineage_log.proofs.tree.Tree.nodes.Goals as goal
+
+pub returns-clause-kept : goal.returns-clause-kept
+returns-clause-kept c =
+    subst IsKept c.self.view_is (nodes_kept c.self.inside.nodes.entries c.self.invariant)
+
+pub returns-clause-living : goal.returns-clause-living
+returns-clause-living c =
+    let nodes = c.self.inside.nodes.entries in
+    subst (λ (t : TreeValue). (id : ℕ) → Contains t.living id → IsSome (link_of t.links id))
+    c.self.view_is (λ id lives.
+    let found = lives_there nodes id c.self.invariant.families.rising lives in
+    is_some_link nodes id ∙ is_there (node_at nodes id) found.0 found.1)

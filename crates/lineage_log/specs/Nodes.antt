@@ -1,0 +1,88 @@
+-- The nodes of a tree, as they are kept: under each id an organism, with the number of its children
+-- that are nodes.
+use Rattle.std.specs.Prelude.{◌≡◌, ◌≢◌, ℕ, ◌<◌, ◌==◌, Bool, false, List, filter, map, if◌then◌else◌, Option, None, Some, IsSome}
+use Rattle.std.specs.BTreeMap.{is_at}
+use Rattle.std.specs.List.{sum_by}
+use Rattle.std.specs.List.Sorted.{IsStrictlySortedBy}
+use Rattle.std.specs.Map.{keys_of, values_of, lookup}
+use Rattle.std.specs.Option.{option_map_or}
+use Rattle.std.specs.Ordering.{nat_cmp}
+use Rattle.instruction_set.specs.declared.letter.Letter.{Letter}
+use Rattle.mutations.specs.BirthRecord.{BirthRecord}
+use Rattle.lineage_log.specs.Links.{Link}
+use Rattle.lineage_log.specs.Trees.{TreeValue}
+
+-- an organism without its id, how many of its children are nodes, and whether it lives
+pub record NodeValue : Type 0 where
+  pub parent : Option ℕ
+  pub update : ℕ
+  pub cell : ℕ
+  pub origin : Option BirthRecord
+  pub genome : List Letter
+  pub children : ℕ
+  pub lives : Bool
+
+-- the link of a node
+abbrev pub node_link : ℕ → NodeValue → Link
+node_link id node = record {
+  id = id;
+  parent = node.parent;
+  update = node.update;
+  cell = node.cell;
+  origin = node.origin;
+  genome = node.genome;
+}
+
+-- the node of an id
+abbrev pub node_at : List (ℕ × NodeValue) → ℕ → Option NodeValue
+node_at nodes id = lookup (is_at (nat_cmp id)) nodes
+
+-- the links of the nodes
+abbrev pub links_of : List (ℕ × NodeValue) → List Link
+links_of nodes = map (λ (e : ℕ × NodeValue). node_link e.0 e.1) nodes
+
+-- the ids of those that live
+abbrev pub living_of : List (ℕ × NodeValue) → List ℕ
+living_of nodes = keys_of (filter (λ (e : ℕ × NodeValue). e.1.lives) nodes)
+
+-- the tree of the nodes
+abbrev pub tree_of : List (ℕ × NodeValue) → TreeValue
+tree_of nodes = record { links = links_of nodes; living = living_of nodes }
+
+-- one for a child of this id
+abbrev pub as_child : ℕ → NodeValue → ℕ
+as_child id node = option_map_or (λ above. if above == id then 1 else 0) node.parent 0
+
+-- how many of an id's children are nodes
+abbrev pub children_of : List (ℕ × NodeValue) → ℕ → ℕ
+children_of nodes id = sum_by (as_child id) (values_of nodes)
+
+-- the parent has a lower id and is a node too, and the children are counted
+pub record IsInFamily (nodes : List (ℕ × NodeValue)) (id : ℕ) (node : NodeValue) : Type 0 where
+  pub older : (above : ℕ) → node.parent ≡ Some above → above < id
+  pub there : (above : ℕ) → node.parent ≡ Some above → IsSome (node_at nodes above)
+  pub counted : node.children ≡ children_of nodes id
+
+-- ids rise, and so is each node
+pub record AreFamilies (nodes : List (ℕ × NodeValue)) : Type 0 where
+  pub rising : IsStrictlySortedBy nat_cmp (keys_of nodes)
+  pub each : (id : ℕ) (node : NodeValue)
+      → node_at nodes id ≡ Some node → IsInFamily nodes id node
+
+-- each node lives or has a child, but perhaps this one
+abbrev pub AreNeededBut : Option ℕ → List (ℕ × NodeValue) → Type 0
+AreNeededBut hole nodes =
+    (id : ℕ) (node : NodeValue)
+    → node_at nodes id ≡ Some node → node.lives ≡ false → hole ≢ Some id → 0 < node.children
+
+-- the nodes of a tree: no node is there in vain
+pub record AreNodes (nodes : List (ℕ × NodeValue)) : Type 0 where
+  pub families : AreFamilies nodes
+  pub needed : AreNeededBut None nodes
+
+-- after some nodes were removed, none of which lived: those that are left have the links that they
+-- had
+pub record AreFewer (before after : List (ℕ × NodeValue)) : Type 0 where
+  pub left : ℕ → Bool
+  pub links : links_of after ≡ filter (λ (link : Link). left link.id) (links_of before)
+  pub living : living_of after ≡ living_of before

@@ -1,0 +1,31 @@
+use Rattle.std.proofs.Common.{◌≡◌, ◌∙◌, sym, ap, List, length}
+use Rattle.instruction_set.specs.declared.letter.Letter.{Letter}
+use Rattle.genome.specs.Genome.{letters}
+use Rattle.virtual_cpu.specs.Machine.{Machine}
+use Rattle.organism.specs.OrganismState.{OrganismState}
+use Rattle.organism.proofs.ImageLemmas.{machine-again}
+use Rattle.organism.proofs.organism.Organism.image.Goals as goal
+
+pub returns-clause-organism : goal.returns-clause-organism
+returns-clause-organism c =
+    let old = c.self.inside in
+    let same : letters c.in_ok-genome.genome.value ≡ letters old.genome.value =
+    ap letters c.in_ok-genome.ensures in
+    let limit : c.args.self.now.machine.limit ≡ old.machine.limit =
+    sym (ap (λ (o : OrganismState). o.machine.limit) c.self.view_is) in
+    let made : length (letters c.in_ok-genome.genome.value) ≡ old.machine.made =
+    ap length same ∙ sym c.self.invariant.made in
+    let machine = machine-again c.images_are_whole.ensures old.machine c.in_ok-cpu.cpu _ _
+    c.in_ok-cpu.ensures.machine c.in_ok-cpu.ensures.image made limit in
+    let of : List Letter → Machine → OrganismState = λ genome machine. record {
+      genome = genome;
+      inputs = old.inputs;
+      merit = old.merit;
+      credited = old.credited;
+      age = old.age;
+      read = old.read;
+      gestation = old.gestation;
+      machine = machine;
+    } in
+    ap (of (letters c.in_ok-genome.genome.value)) machine
+    ∙ ap (λ (genome : List Letter). of genome old.machine) same ∙ c.self.view_is

@@ -1,0 +1,345 @@
+-- The latest common ancestor is an ancestor of all who live, and no greater id is.
+use Rattle.std.proofs.Common.{◌≡◌, ◌≢◌, ℕ, zero, suc, ◌+◌, ◌-◌, ◌<◌, ◌≤◌, Bool, true, false, cond, eqb, List, [], ◌∷◌, Option, Some, None, length, get_or, max, unwrap_or, refl, sym, ap, subst, ◌∙◌, arith, inl, inr}
+use Rattle.std.specs.Prelude.{◌⊎◌, ◌||◌, ◌&&◌, All, Contains, filter}
+use Rattle.std.specs.List.{fold, last_or, list_all, list_any, range_with_len, reduce}
+use Rattle.std.specs.Option.{option_map_or}
+use Rattle.std.proofs.lemmas.Bool.{cases_Bool, cases_lt, or_cases}
+use Rattle.std.proofs.lemmas.Bool.Decides.{eqb_tells, nat_tests}
+use Rattle.std.proofs.lemmas.List.Elements.{All-contains, Contains-get_or}
+use Rattle.std.proofs.lemmas.List.Sums.{AllPass-from_list_all, list_all-from_AllPass}
+use Rattle.lineage_log.specs.Ancestry.{ancestors_within}
+use Rattle.phylogeny.specs.Pedigree.{Dweller, Pedigree}
+use Rattle.phylogeny.specs.CommonAncestor.{descends_from, founder_of, is_common, is_kept, most_recent_common_ancestor}
+use Rattle.phylogeny.specs.LatestCommon.{HaveTwoFounders, IsLatestCommon, TellsLatestCommon}
+use Rattle.phylogeny.specs.Slots.{AreBelow, IsPedigree, living_from, parent_at}
+use Rattle.phylogeny.proofs.AncestorLemmas.{Older, child_root, founder_in, line, line_head}
+use Rattle.phylogeny.proofs.TokenLemmas.{is_among, none_above}
+use Rattle.phylogeny.proofs.WalkLemmas.{everybody, kept_from, kept_is_all, tree}
+
+-- ---- lists of numbers
+
+eqb_itself : (a : ℕ) → eqb a a ≡ true
+eqb_itself a = grind (arith, nat_tests)
+
+eqb_same : (a b : ℕ) → eqb a b ≡ true → a ≡ b
+eqb_same a b is = grind (arith, nat_tests)
+
+eqb_equal : (a b : ℕ) → a ≡ b → eqb a b ≡ true
+eqb_equal a b same = grind (arith, nat_tests)
+
+or_first : (a b : Bool) → a ≡ true → (a || b) ≡ true
+or_first true b is = refl
+or_first false b is = absurd cc
+
+or_second : (a b : Bool) → b ≡ true → (a || b) ≡ true
+or_second true b is = refl
+or_second false b is = is
+
+among_here : (x : ℕ) (xs : List ℕ) → is_among x (x ∷ xs) ≡ true
+among_here x xs = or_first (eqb x x) (is_among x xs) (eqb_itself x)
+
+-- the greatest is among them, and none is greater
+fold_greatest : (x : ℕ) (xs : List ℕ) → (is_among (fold max x xs) (x ∷ xs) ≡ true)
+    × ((y : ℕ) → is_among y (x ∷ xs) ≡ true → y ≤ fold max x xs)
+fold_greatest x [] = (
+  among_here x [],
+  λ y is. elim (or_cases (eqb x y) false is) [
+    | inl same ↦ let e = eqb_same x y same in omega arith
+    | inr none ↦ absurd cc
+  ],
+)
+fold_greatest x (z ∷ zs) =
+    let so = fold_greatest (max x z) zs in (
+      elim (or_cases (eqb (max x z) (fold max (max x z) zs)) (is_among (fold max (max x z) zs) zs)
+          so.0) [
+            | inl same ↦ either_max x z zs (fold max (max x z) zs)
+                (eqb_same (max x z) (fold max (max x z) zs) same)
+            | inr later ↦ or_second (eqb x (fold max (max x z) zs))
+                (eqb z (fold max (max x z) zs) || is_among (fold max (max x z) zs) zs)
+                (or_second (eqb z (fold max (max x z) zs)) (is_among (fold max (max x z) zs) zs)
+                later)
+          ],
+      λ y is. elim (or_cases (eqb x y) (eqb z y || is_among y zs) is) [
+        | inl first ↦
+            let e = eqb_same x y first in
+            let b = so.1 (max x z) (among_here (max x z) zs) in
+            omega arith
+        | inr others ↦ elim (or_cases (eqb z y) (is_among y zs) others) [
+          | inl second ↦
+              let e = eqb_same z y second in
+              let b = so.1 (max x z) (among_here (max x z) zs) in
+              omega arith
+          | inr later ↦ so.1 y (or_second (eqb (max x z) y) (is_among y zs) later)
+        ]
+      ],
+    )
+  where
+    either_max : (x z : ℕ) (zs : List ℕ) (m : ℕ) → max x z ≡ m → is_among m (x ∷ z ∷ zs) ≡ true
+    either_max x z zs m is = elim (cases_lt x z) [
+      | inl less ↦
+          let e : z ≡ m = omega arith in
+          or_second (eqb x m) (eqb z m || is_among m zs)
+          (or_first (eqb z m) (is_among m zs)
+          (let t : eqb z m ≡ true = grind (arith, nat_tests) in t))
+      | inr not_less ↦
+          let e : x ≡ m = omega arith in
+          or_first (eqb x m) (eqb z m || is_among m zs)
+          (let t : eqb x m ≡ true = grind (arith, nat_tests) in t)
+    ]
+
+greatest_is : (xs : List ℕ) (m : ℕ) → reduce max xs ≡ Some m → (is_among m xs ≡ true)
+    × ((y : ℕ) → is_among y xs ≡ true → y ≤ m)
+greatest_is [] m is = absurd cc
+greatest_is (x ∷ xs) m is =
+    let e : fold max x xs ≡ m = cc in
+    subst (λ (n : ℕ). (is_among n (x ∷ xs) ≡ true) × ((y : ℕ) → is_among y (x ∷ xs) ≡ true → y ≤ n))
+    e (fold_greatest x xs)
+
+no_greatest : (xs : List ℕ) → reduce max xs ≡ None → xs ≡ []
+no_greatest [] is = refl
+no_greatest (x ∷ xs) is = absurd cc
+
+-- what a filter leaves
+filter_holds : (p : ℕ → Bool) (xs : List ℕ) (x : ℕ) → is_among x (filter p xs) ≡ true
+    → (p x ≡ true) × (is_among x xs ≡ true)
+filter_holds p [] x is = absurd cc
+filter_holds p (y ∷ ys) x is =
+    (elim (p y) as (λ b. p y ≡ b → is_among x (cond b (y ∷ filter p ys) (filter p ys)) ≡ true
+    → (p x ≡ true) × (is_among x (y ∷ ys) ≡ true)) [
+      | true ↦ λ passes there. elim (or_cases (eqb y x) (is_among x (filter p ys)) there) [
+        | inl same ↦ (
+          ap p (sym (eqb_same y x same)) ∙ passes,
+          or_first (eqb y x) (is_among x ys) same,
+        )
+        | inr later ↦ let so =
+            filter_holds p ys x later in (so.0, or_second (eqb y x) (is_among x ys) so.1)
+      ]
+      | false ↦ λ passes there. let so =
+          filter_holds p ys x there in (so.0, or_second (eqb y x) (is_among x ys) so.1)
+    ]) refl is
+
+filter_keeps : (p : ℕ → Bool) (xs : List ℕ) (x : ℕ) → is_among x xs ≡ true → p x ≡ true
+    → is_among x (filter p xs) ≡ true
+filter_keeps p [] x is passes = absurd cc
+filter_keeps p (y ∷ ys) x is passes =
+    (elim (p y) as (λ b. p y ≡ b → is_among x (cond b (y ∷ filter p ys) (filter p ys)) ≡ true) [
+      | true ↦ λ here. elim (or_cases (eqb y x) (is_among x ys) is) [
+        | inl same ↦ or_first (eqb y x) (is_among x (filter p ys)) same
+        | inr later ↦ or_second (eqb y x) (is_among x (filter p ys))
+            (filter_keeps p ys x later passes)
+      ]
+      | false ↦ λ here. elim (or_cases (eqb y x) (is_among x ys) is) [
+        | inl same ↦ let e = ap p (eqb_same y x same) in absurd cc
+        | inr later ↦ filter_keeps p ys x later passes
+      ]
+    ]) refl
+
+range_has : (from len x : ℕ) → from ≤ x → x < from + len
+    → is_among x (range_with_len from len) ≡ true
+range_has from zero x above below = absurd (omega arith)
+range_has from (suc len) x above below = elim (eqb_tells from x) [
+  | inl same ↦ or_first (eqb from x) (is_among x (range_with_len (from + 1) len)) same.0
+  | inr other ↦
+      let apart : from ≢ x = other.1 in
+      let more : from + 1 ≤ x = omega arith in
+      or_second (eqb from x) (is_among x (range_with_len (from + 1) len))
+      (range_has (from + 1) len x more (omega arith))
+]
+
+last_among : (x : ℕ) (xs : List ℕ) → is_among (unwrap_or (last_or (Some x) xs) 0) (x ∷ xs) ≡ true
+last_among x [] = among_here x []
+last_among x (y ∷ ys) = or_second (eqb x (unwrap_or (last_or (Some y) ys) 0))
+    (is_among (unwrap_or (last_or (Some y) ys) 0) (y ∷ ys)) (last_among y ys)
+
+-- ---- lists of those who live
+
+contains_later : {X : Type 0} (x y : X) (xs : List X) → Contains xs x → Contains (y ∷ xs) x
+contains_later x y xs there =
+    (suc there.0, (let within : there.0 < length xs = there.1 in omega arith), there.2)
+
+first_fails : {X : Type 0} (p : X → Bool) (xs : List X) → list_all p xs ≡ false
+    → (x : X) × Contains xs x × (p x ≡ false)
+first_fails p [] is = absurd cc
+first_fails {X} p (x ∷ xs) is = elim (cases_Bool (p x)) [
+  | inl passes ↦
+      let rest : list_all p xs ≡ false = sym (ap (λ (b : Bool). b && list_all p xs) passes) ∙ is in
+      let so = first_fails p xs rest in
+      (so.0, contains_later so.0 x xs so.1, so.2)
+  | inr fails ↦ (x, (0, omega arith, refl), fails)
+]
+
+some_passes : {X : Type 0} (p : X → Bool) (xs : List X) → list_any p xs ≡ true
+    → (x : X) × Contains xs x × (p x ≡ true)
+some_passes p [] is = absurd cc
+some_passes p (x ∷ xs) is = elim (or_cases (p x) (list_any p xs) is) [
+  | inl passes ↦ (x, (0, omega arith, refl), passes)
+  | inr later ↦ let so = some_passes p xs later in (so.0, contains_later so.0 x xs so.1, so.2)
+]
+
+any_passes : {X : Type 0} (p : X → Bool) (xs : List X) (x : X) → Contains xs x → p x ≡ true
+    → list_any p xs ≡ true
+any_passes p [] x there passes = absurd (omega (arith, there.1))
+any_passes p (y ∷ ys) x (zero, within, is) passes =
+    or_first (p y) (list_any p ys) (ap p is ∙ passes)
+any_passes p (y ∷ ys) x (suc k, within, is) passes =
+    or_second (p y) (list_any p ys) (any_passes p ys x (k, omega arith, is) passes)
+
+each_passes : {X : Type 0} (p : X → Bool) (xs : List X) → list_all p xs ≡ true → (x : X)
+    → Contains xs x → p x ≡ true
+each_passes p xs all x there =
+    All-contains (λ y. p y ≡ true) xs x (AllPass-from_list_all p xs all) there
+
+All-from_contained : {X : Type 0} (P : X → Type 0) (xs : List X) → ((x : X) → Contains xs x → P x)
+    → All P xs
+All-from_contained P xs each = λ k d within. each (get_or xs k d) (Contains-get_or xs k d within)
+
+-- who lives has an id below the next one
+living_below : (bound cell : ℕ) (slots : List (Option ℕ)) → AreBelow bound slots → (who : Dweller)
+    → Contains (living_from cell slots) who → who.id < bound
+living_below bound cell [] below who there = absurd (omega (arith, there.1))
+living_below bound cell (None ∷ slots) below who there =
+    living_below bound (suc cell) slots (λ c id is. below (suc c) id is) who there
+living_below bound cell (Some id ∷ slots) below who (zero, within, is) =
+    let e : id ≡ who.id = ap (λ (d : Dweller). d.id) is in
+    subst (λ (n : ℕ). n < bound) e (below zero id refl)
+living_below bound cell (Some id ∷ slots) below who (suc k, within, is) =
+    living_below bound (suc cell) slots (λ c i e. below (suc c) i e) who (k, omega arith, is)
+
+-- ---- lines
+
+module _ (parent_of : ℕ → Option ℕ) (older : Older parent_of) where
+  line_below : (n id at : ℕ) → is_among at (ancestors_within n parent_of id) ≡ true → at ≤ id
+  line_below n id at is = elim (cases_lt id at) [
+    | inl below ↦ let none = none_above parent_of older n id at below in absurd cc
+    | inr not_below ↦ not_below
+  ]
+
+  -- who stands in a line has its founder
+  founder_same : (n id at : ℕ) → id ≤ n → is_among at (ancestors_within n parent_of id) ≡ true
+      → founder_in (line parent_of id) ≡ founder_in (line parent_of at)
+  founder_same zero id at few is = elim (or_cases (eqb id at) false is) [
+    | inl same ↦ ap (λ (n : ℕ). founder_in (line parent_of n)) (eqb_same id at same)
+    | inr none ↦ absurd cc
+  ]
+  founder_same (suc n) id at few is =
+      elim (or_cases (eqb id at)
+      (is_among at (option_map_or (ancestors_within n parent_of) (parent_of id) [])) is) [
+        | inl same ↦ ap (λ (n : ℕ). founder_in (line parent_of n)) (eqb_same id at same)
+        | inr later ↦ (elim (parent_of id) as
+            (λ o. parent_of id ≡ o → is_among at (option_map_or (ancestors_within n parent_of) o [])
+            ≡ true → founder_in (line parent_of id) ≡ founder_in (line parent_of at)) [
+              | None ↦ λ none there. absurd cc
+              | Some above ↦ λ some there.
+                  (child_root parent_of older id above some).1
+                  ∙ founder_same n above at (omega (arith, older id above some)) there
+            ]) refl later
+      ]
+
+  founder_among : (id : ℕ) → is_among (founder_in (line parent_of id)) (line parent_of id) ≡ true
+  founder_among id =
+      let h = line_head parent_of id id in
+      subst (λ (ids : List ℕ). is_among (founder_in ids) ids ≡ true) (sym h.1) (last_among id h.0)
+
+-- ---- a pedigree
+
+module _ (parents standing : List (Option ℕ)) (sound : IsPedigree parents standing) where
+  abbrev here : Pedigree
+  here = tree parents standing
+
+  lives_below : (who : Dweller) → Contains (everybody parents standing) who
+      → who.id < length parents
+  lives_below who there = living_below (length parents) 0 standing sound.among who there
+
+  everyone_has : (id : ℕ) → id < length parents
+      → is_among id (range_with_len 0 (length parents - 0)) ≡ true
+  everyone_has id within = range_has 0 (length parents - 0) id (omega arith) (omega arith)
+
+  -- an id in the line of everybody is found among the kept ones, if somebody lives
+  common_is_found : (id : ℕ) (who : Dweller) → Contains (everybody parents standing) who
+      → is_common here id ≡ true
+      → is_among id (filter (is_common here) (kept_from parents standing 0)) ≡ true
+  common_is_found id who lives common =
+      let descends =
+      each_passes (descends_from here id) (everybody parents standing) common who lives in
+      let bound = lives_below who lives in
+      let below = line_below (parent_at parents) sound.older who.id who.id id descends in
+      let kept =
+      any_passes (descends_from here id) (everybody parents standing) who lives descends in
+      let in_kept = filter_keeps (is_kept here) (range_with_len 0 (length parents - 0)) id
+      (everyone_has id (omega (arith, bound, below))) kept in
+      filter_keeps (is_common here) (kept_from parents standing 0) id in_kept common
+
+  some_is_latest : (id : ℕ) → reduce max (filter (is_common here) (kept_from parents standing 0))
+      ≡ Some id → IsLatestCommon here id
+  some_is_latest id is =
+      let greatest = greatest_is (filter (is_common here) (kept_from parents standing 0)) id is in
+      let among = filter_holds (is_common here) (kept_from parents standing 0) id greatest.0 in
+      let kept = filter_holds (is_kept here) (range_with_len 0 (length parents - 0)) id among.1 in
+      let someone = some_passes (descends_from here id) (everybody parents standing) kept.0 in
+      record {
+        shared = among.0;
+        latest =
+            λ other shared. greatest.1 other (common_is_found other someone.0 someone.1 shared);
+        one_founder = All-from_contained (λ who. founder_of here who.id ≡ founder_of here id)
+            (everybody parents standing) (λ who lives.
+            founder_same (parent_at parents) sound.older who.id who.id id (omega arith)
+            (each_passes (descends_from here id) (everybody parents standing) among.0 who
+            lives));
+      }
+
+  abbrev same_founder : Dweller → Dweller → Bool
+  same_founder one other = eqb (founder_of here other.id) (founder_of here one.id)
+
+  -- where all have one founder, it is common
+  founder_is_common : (who : Dweller)
+      → list_all (same_founder who) (everybody parents standing) ≡ true
+      → is_common here (founder_of here who.id) ≡ true
+  founder_is_common who all =
+      list_all-from_AllPass (descends_from here (founder_of here who.id))
+      (everybody parents standing)
+      (All-from_contained (λ other. descends_from here (founder_of here who.id) other ≡ true)
+      (everybody parents standing) (λ other lives.
+      let one : founder_of here other.id ≡ founder_of here who.id =
+      eqb_same (founder_of here other.id) (founder_of here who.id)
+      (each_passes (same_founder who) (everybody parents standing) all other lives) in
+      subst (λ (f : ℕ). is_among f (line (parent_at parents) other.id) ≡ true) one
+      (founder_among (parent_at parents) sound.older other.id)))
+
+  none_by : (living : List Dweller) → everybody parents standing ≡ living
+      → filter (is_common here) (kept_from parents standing 0) ≡ []
+      → (everybody parents standing ≡ []) ⊎ HaveTwoFounders here
+  none_by [] is none = inl is
+  none_by (who ∷ others) is none =
+      let lives : Contains (everybody parents standing) who =
+      subst (λ (ds : List Dweller). Contains ds who) (sym is) (0, omega arith, refl) in
+      elim (cases_Bool (list_all (same_founder who) (everybody parents standing))) [
+        | inl all ↦
+            let found =
+            common_is_found (founder_of here who.id) who lives (founder_is_common who all) in
+            let there : is_among (founder_of here who.id) [] ≡ true =
+            subst (λ (ids : List ℕ). is_among (founder_of here who.id) ids ≡ true) none found in
+            absurd cc
+        | inr not_all ↦
+            let fails = first_fails (same_founder who) (everybody parents standing) not_all in
+            inr (record {
+              one = fails.0;
+              other = who;
+              one_lives = fails.1;
+              other_lives = lives;
+              apart = λ same. let t : same_founder who fails.0 ≡ true =
+                  eqb_equal (founder_of here fails.0.id) (founder_of here who.id) same in absurd cc;
+            })
+      ]
+
+  tells_by : (common : Option ℕ)
+      → reduce max (filter (is_common here) (kept_from parents standing 0)) ≡ common
+      → TellsLatestCommon here common
+  tells_by (Some id) is = some_is_latest id is
+  tells_by None is = none_by (everybody parents standing) refl
+      (no_greatest (filter (is_common here) (kept_from parents standing 0)) is)
+
+  pub tells_latest : TellsLatestCommon here (most_recent_common_ancestor here)
+  unfolding most_recent_common_ancestor
+  tells_latest = tells_by (most_recent_common_ancestor here)
+      (ap (λ (ids : List ℕ). reduce max (filter (is_common here) ids))
+      (sym (kept_is_all parents standing)))

@@ -1,0 +1,14 @@
+ghost use Rattle.std.specs.Prelude.{List};
+ghost use Rattle.log_lines.specs.Line.{Line};
+ghost use Rattle.lineage_log.specs.LogGrammar.{IsGoodLog};
+ghost use Rattle.phylogeny.specs.CommonAncestor.{most_recent_common_ancestor};
+ghost use Rattle.phylogeny.specs.LatestCommon.{TellsLatestCommon};
+ghost use Rattle.phylogeny.specs.LogPedigree.{pedigree_of};
+
+/// In a good log the latest common ancestor is the greatest id in the lines of all who live. There
+/// is none exactly if nobody lives, or if two who live have different founders.
+pub fn common_ancestors_are_latest()
+    ensures { (lines : List Line) → IsGoodLog lines
+        → TellsLatestCommon (pedigree_of lines)
+        (most_recent_common_ancestor (pedigree_of lines)) }
+{}

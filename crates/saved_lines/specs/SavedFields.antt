@@ -1,0 +1,69 @@
+-- The fields of a saved world that no log has (docs/FORMATS.md, "Saved worlds").
+use Rattle.std.specs.Prelude.{ℕ, ℤ, pos, negsuc, ◌-◌, ◌<◌, ◌==◌, ◌&&◌, Bool, true, false, nat_lt, nat_le, List, [], ◌∷◌, map, length, Option, Some, None, option_and_then, option_map, if◌then◌else◌, FitsSigned}
+use Rattle.std.specs.Int.{w32}
+use Rattle.std.specs.Fmt.{signed_decimal}
+use Rattle.std.specs.List.{list_all}
+use Rattle.std.specs.Str.{bytes_eq}
+use Rattle.instruction_set.specs.declared.letter.Letter.{Letter}
+use Rattle.instruction_set.specs.Letter.{byte_of, letter_of_byte}
+use Rattle.label_search.specs.Template.{is_nop, IsTemplate}
+use Rattle.numerals.specs.Numeral.{number_of}
+use Rattle.log_lines.specs.Fields.{Field, each, given}
+
+-- the number behind a minus
+abbrev pub below_zero : ℕ → ℤ
+below_zero n = negsuc (n - 1)
+
+-- the number of 32 bits that a word spells
+abbrev pub read_signed : List ℕ → Option ℤ
+read_signed [] = None
+read_signed (byte ∷ rest) =
+    if byte == 45 then option_map below_zero (number_of 1 2147483648 rest)
+    else option_map pos (number_of 0 2147483647 (byte ∷ rest))
+
+-- a number of 32 bits; one below 0 has a minus
+abbrev pub signed : Field ℤ
+signed =
+    record { text = signed_decimal; read = read_signed; Fits = λ number. FitsSigned w32 number }
+
+-- 1 for a marked place, and 0 for another
+abbrev pub digit_of : Bool → ℕ
+digit_of true = 49
+digit_of false = 48
+
+-- the place that a digit is of
+abbrev pub mark_of : ℕ → Option Bool
+mark_of byte = if byte == 49 then Some true else if byte == 48 then Some false else None
+
+-- the list that is not empty
+abbrev pub if_any : {A : Type 0} → List A → Option (List A)
+if_any items = given (nat_lt 0 (length items)) items
+
+-- a digit for each place, of which there is at least one
+abbrev pub marks : Field (List Bool)
+marks =
+    record {
+      text = map digit_of;
+      read = λ word. option_and_then if_any (each mark_of word);
+      Fits = λ places. 0 < length places;
+    }
+
+-- a dash for no nops, or their letters
+abbrev pub nops_text : List Letter → List ℕ
+nops_text [] = 45 ∷ []
+nops_text (nop ∷ nops) = map byte_of (nop ∷ nops)
+
+-- from one to ten letters, all of them nops
+abbrev pub are_nops : List Letter → Bool
+are_nops letters =
+    nat_lt 0 (length letters) && nat_le (length letters) 10 && list_all is_nop letters
+
+-- the nops that a word spells
+abbrev pub read_nops : List ℕ → Option (List Letter)
+read_nops word =
+    if bytes_eq word (45 ∷ []) then Some []
+    else option_and_then (λ letters. given (are_nops letters) letters) (each letter_of_byte word)
+
+-- at most ten nops
+abbrev pub nops : Field (List Letter)
+nops = record { text = nops_text; read = read_nops; Fits = IsTemplate }

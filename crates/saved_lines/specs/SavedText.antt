@@ -1,0 +1,207 @@
+-- The text of each line of a saved world (docs/FORMATS.md, "Saved worlds").
+use Rattle.std.specs.Prelude.{ℕ, ℤ, Bool, List, [], ◌∷◌, ◌++◌, if◌then◌else◌, slice_index_or}
+use Rattle.instruction_set.specs.declared.letter.Letter.{Letter}
+use Rattle.logic_tasks.specs.Inputs.{low_of}
+use Rattle.logic_tasks.specs.TaskBits.{number_of}
+use Rattle.log_lines.specs.Fields.{letters}
+use Rattle.log_lines.specs.Kinds.{large}
+use Rattle.log_lines.specs.LineText.{form_text}
+use Rattle.log_lines.specs.Rows.{Row, last, ◌◂◌}
+use Rattle.virtual_cpu.specs.declared.cpu_image.CpuImage.{CpuImage}
+use Rattle.saved_lines.specs.SavedFields.{signed, nops, marks}
+use Rattle.saved_lines.specs.SavedRows.{Range, from_to, Front, several, within, whole, ◌◁◌}
+use Rattle.saved_lines.specs.SavedValues.{HeadValues, OrganismValues}
+
+-- a number below 2 ^ 32
+abbrev pub any_small : Range
+any_small = from_to 0 4294967295
+
+-- a number below 2 ^ 64
+abbrev pub any_large : Range
+any_large = from_to 0 18446744073709551615
+
+-- 0 or 1
+abbrev pub any_flag : Range
+any_flag = from_to 0 1
+
+-- parts per million
+abbrev pub any_rate : Range
+any_rate = from_to 0 1000000
+
+-- the number of a set of tasks
+abbrev pub any_tasks : Range
+any_tasks = from_to 0 511
+
+-- the low 24 bits of an input
+abbrev pub any_input : Range
+any_input = from_to 0 16777215
+
+-- the ranges of the first line: its version, and the values of a head in their order
+abbrev pub head_ranges : List Range
+head_ranges =
+    from_to 1 1
+    ∷ from_to 1 256
+    ∷ from_to 1 256
+    ∷ from_to 0 1000000
+    ∷ from_to 1 4611686018427387904
+    ∷ from_to 0 9223372036854775807
+    ∷ from_to 1 1000
+    ∷ any_flag
+    ∷ from_to 1 1000
+    ∷ any_rate
+    ∷ any_rate
+    ∷ any_rate
+    ∷ any_rate
+    ∷ any_rate
+    ∷ any_rate
+    ∷ any_flag
+    ∷ any_flag
+    ∷ from_to 1 100
+    ∷ from_to 1 100
+    ∷ from_to 8 8192
+    ∷ from_to 8 8192
+    ∷ from_to 8 8192
+    ∷ []
+
+-- 1 for true, and 0 for false
+abbrev pub flag_number : Bool → ℕ
+flag_number is_set = if is_set then 1 else 0
+
+-- the numbers of the first line
+abbrev pub head_numbers : HeadValues → List ℕ
+head_numbers head =
+    1
+    ∷ head.width
+    ∷ head.height
+    ∷ head.update
+    ∷ head.next_id
+    ∷ head.seed
+    ∷ head.average_slices
+    ∷ flag_number head.death
+    ∷ head.age_limit
+    ∷ head.rates.copy
+    ∷ head.rates.insert
+    ∷ head.rates.delete
+    ∷ head.rates.site_point
+    ∷ head.rates.site_insert
+    ∷ head.rates.site_delete
+    ∷ flag_number head.prefer_empty
+    ∷ flag_number head.need_alloc
+    ∷ head.executed_percent
+    ∷ head.copied_percent
+    ∷ head.least_length
+    ∷ head.greatest_length
+    ∷ head.memory_limit
+    ∷ []
+
+-- the first line
+abbrev pub head_row : Row (List ℕ)
+head_row = whole (within head_ranges)
+
+-- cell, id, merit, credited set, age, inputs read, gestation set, and three inputs
+abbrev pub organism_ranges : List Range
+organism_ranges =
+    any_small
+    ∷ any_large
+    ∷ any_large
+    ∷ any_tasks
+    ∷ any_large
+    ∷ any_large
+    ∷ any_tasks
+    ∷ any_input
+    ∷ any_input
+    ∷ any_input
+    ∷ []
+
+-- the numbers of an organism's line
+abbrev pub organism_numbers : OrganismValues → List ℕ
+organism_numbers o =
+    o.cell
+    ∷ o.id
+    ∷ o.merit
+    ∷ number_of o.credited
+    ∷ o.age
+    ∷ o.read
+    ∷ number_of o.gestation
+    ∷ slice_index_or (low_of o.inputs) 0 0
+    ∷ slice_index_or (low_of o.inputs) 1 0
+    ∷ slice_index_or (low_of o.inputs) 2 0
+    ∷ []
+
+-- the line of an organism: numbers, and its genome
+abbrev pub organism_row : Row (List ℕ × List Letter)
+organism_row = within organism_ranges ◁ last letters
+
+-- active stack, IP, READ, WRITE, FLOW, and whether an allocation is pending
+abbrev pub machine_ranges : List Range
+machine_ranges =
+    any_flag ∷ any_small ∷ any_small ∷ any_small ∷ any_small ∷ any_flag ∷ []
+
+-- the numbers of a machine's line
+abbrev pub machine_numbers : CpuImage → List ℕ
+machine_numbers image =
+    image.active
+    ∷ slice_index_or image.heads 0 0
+    ∷ slice_index_or image.heads 1 0
+    ∷ slice_index_or image.heads 2 0
+    ∷ slice_index_or image.heads 3 0
+    ∷ flag_number image.pending
+    ∷ []
+
+-- memory, clean text, and the places that are marked executed and copied
+abbrev pub texts_row : Row (List Letter × (List Letter × (List Bool × List Bool)))
+texts_row = letters ◂ (letters ◂ (marks ◂ last marks))
+
+-- the four texts of a machine
+abbrev pub texts_of : CpuImage → List Letter × (List Letter × (List Bool × List Bool))
+texts_of image = (image.memory, (image.clean, (image.executed, image.copied)))
+
+-- the line of a machine: registers, numbers, nops read last, both stacks, and the four texts
+abbrev pub machine_row :
+    Row (List ℤ × (List ℕ × (List Letter × (List ℤ × (List ℤ
+    × (List Letter × (List Letter × (List Bool × List Bool))))))))
+machine_row =
+    several 3 signed ◁ (within machine_ranges ◁ (nops ◂ (several 10 signed
+    ◁ (several 10 signed ◁ texts_row))))
+
+-- the fields of a machine's line
+abbrev pub machine_fields :
+    CpuImage
+    → List ℤ × (List ℕ × (List Letter × (List ℤ × (List ℤ
+    × (List Letter × (List Letter × (List Bool × List Bool)))))))
+machine_fields image = (
+  image.registers,
+  (
+    machine_numbers image,
+    (
+      image.nops,
+      (
+        image.first,
+        (
+          image.second,
+          texts_of image,
+        ),
+      ),
+    ),
+  ),
+)
+
+-- the line of a head
+unfoldable pub head_text : HeadValues → List ℕ
+head_text head = form_text 83 head_row (head_numbers head) ++ 10 ∷ []
+
+-- the line of an organism
+unfoldable pub organism_text : OrganismValues → List ℕ
+organism_text o = form_text 79 organism_row (organism_numbers o, o.genome) ++ 10 ∷ []
+
+-- the line of a machine
+unfoldable pub machine_text : CpuImage → List ℕ
+machine_text image = form_text 77 machine_row (machine_fields image) ++ 10 ∷ []
+
+-- the two lines of an organism
+abbrev pub resident_text : OrganismValues → CpuImage → List ℕ
+resident_text o image = organism_text o ++ machine_text image
+
+-- the last line, with the number of organisms
+unfoldable pub count_text : ℕ → List ℕ
+count_text organisms = form_text 90 (last large) organisms ++ 10 ∷ []

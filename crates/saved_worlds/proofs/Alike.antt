@@ -1,0 +1,197 @@
+-- Scenes that differ in nothing but what is told of those that ever were.
+use Rattle.std.proofs.Common.{◌≡◌, ℕ, ◌+◌, Option, Some, None, List, [], ◌∷◌, ◌++◌, map, length, refl, sym, ap, subst, ◌∙◌, length-append}
+use Rattle.std.specs.Prelude.{fold, option_map, slice_set}
+use Rattle.std.specs.List.{filter_map, scan, zip}
+use Rattle.std.specs.Option.{option_to_list}
+use Rattle.birth_board.specs.Placement.{placements_of}
+use Rattle.birth_board.specs.declared.placing.Placing.{Placing}
+use Rattle.organism.specs.OrganismState.{OrganismState}
+use Rattle.lineage_log.specs.Links.{Link}
+use Rattle.log_lines.specs.declared.stats.Stats.{Stats}
+use Rattle.log_lines.specs.Line.{Line, Death, Birth}
+use Rattle.world_config.specs.Values.{ConfigValues}
+use Rattle.world_rules.specs.World.{Occupant, id_at, ids_of}
+use Rattle.world_rules.specs.Settings.{torus_of, season_at}
+use Rattle.world_rules.specs.Lives.{CellLife}
+use Rattle.world_rules.specs.Scene.{Scene, next_id, with_death, with_deaths, with_newcomer}
+use Rattle.world_rules.specs.Statistics.{stats_in, scene_stats}
+use Rattle.world_rules.specs.Update.{Delivery, deaths_of, after_burials, birth_link, child_of_birth, placings_of, with_newborn, turns_of, after_births}
+use Rattle.world_rules.specs.LogText.{death_line, death_lines, birth_line, birth_lines}
+use Rattle.saved_worlds.specs.SavedState.{head_at}
+use Rattle.saved_worlds.specs.Resuming.{config_of}
+
+-- both are of this update, and agree in cells, in those that died, and in how many ever were
+pub record Alike (update : ℕ) (a b : Scene) : Type 0 where
+  pub here : a.update ≡ update
+  pub there : b.update ≡ update
+  pub cells : a.cells ≡ b.cells
+  pub gone : a.gone ≡ b.gone
+  pub count : length a.everyone ≡ length b.everyone
+
+module _ (u : ℕ) where
+  -- both are of one update
+  same_update : (a b : Scene) → Alike u a b → a.update ≡ b.update
+  same_update a b h = h.here ∙ sym h.there
+
+  -- those that died, with who stands in a cell
+  gone_same : {a b : Scene} (cell : ℕ) → Alike u a b
+      → a.gone ++ option_to_list (id_at a.cells cell) ≡ b.gone
+      ++ option_to_list (id_at b.cells cell)
+  gone_same {a = a} {b = b} cell h =
+      let gone : List ℕ → List (Option Occupant) → List ℕ =
+      λ dead cells. dead ++ option_to_list (id_at cells cell) in
+      ap (λ (dead : List ℕ). gone dead a.cells) h.gone ∙ ap (gone b.gone) h.cells
+
+  -- the same death
+  death_alike : (a b : Scene) (cell : ℕ) → Alike u a b
+      → Alike u (with_death a cell) (with_death b cell)
+  unfolding with_death
+  death_alike a b cell h = record {
+    here = h.here;
+    there = h.there;
+    cells = ap (λ (cells : List (Option Occupant)). slice_set cells cell None) h.cells;
+    gone = gone_same cell h;
+    count = h.count;
+  }
+
+  -- the same deaths
+  pub deaths_alike : (cells : List ℕ) (a b : Scene) → Alike u a b
+      → Alike u (with_deaths a cells) (with_deaths b cells)
+  deaths_alike [] a b h = h
+  deaths_alike (cell ∷ cells) a b h =
+      deaths_alike cells (with_death a cell) (with_death b cell) (death_alike a b cell h)
+
+  -- and their lines
+  death_line_same : (a b : Scene) (cell : ℕ) → Alike u a b → death_line a cell ≡ death_line b cell
+  death_line_same a b cell h =
+      let line : ℕ → List (Option Occupant) → Option Line =
+      λ update cells. option_map (λ id. Death id update cell) (id_at cells cell) in
+      ap (λ k. line k a.cells) (same_update a b h) ∙ ap (line b.update) h.cells
+
+  death_lines_scan : (cells : List ℕ) (a b : Scene) → Alike u a b
+      → scan with_death death_line a cells ≡ scan with_death death_line b cells
+  death_lines_scan [] a b h = refl
+  death_lines_scan (cell ∷ cells) a b h =
+      ap (λ (line : Option Line). line ∷ scan with_death death_line (with_death a cell) cells)
+      (death_line_same a b cell h)
+      ∙ ap (λ (lines : List (Option Line)). death_line b cell ∷ lines)
+      (death_lines_scan cells (with_death a cell) (with_death b cell) (death_alike a b cell h))
+
+  pub death_lines_same : (cells : List ℕ) (a b : Scene) → Alike u a b
+      → death_lines a cells ≡ death_lines b cells
+  death_lines_same cells a b h =
+      ap (λ (lines : List (Option Line)). filter_map (λ line. line) lines)
+      (death_lines_scan cells a b h)
+
+  -- the same burials
+  pub burials_alike : (lives : List CellLife) (a b : Scene) → Alike u a b
+      → Alike u (after_burials a lives) (after_burials b lives)
+  unfolding after_burials
+  burials_alike lives a b h = deaths_alike (deaths_of lives) a b h
+
+  -- the same newcomer
+  newcomer_alike : (a b : Scene) (link : Link) (o : OrganismState) → Alike u a b
+      → Alike u (with_newcomer a link o) (with_newcomer b link o)
+  unfolding with_newcomer
+  newcomer_alike a b link o h = record {
+    here = h.here;
+    there = h.there;
+    cells = ap (λ (cells : List (Option Occupant)). slice_set cells link.cell
+        (Some (record { id = link.id; organism = o }))) h.cells;
+    gone = gone_same link.cell h;
+    count = length-append a.everyone (link ∷ []) ∙ ap (λ k. k + 1) h.count
+        ∙ sym (length-append b.everyone (link ∷ []));
+  }
+
+  module _ (config : ConfigValues) (update id : ℕ) where
+    -- the head of the configuration, as a configuration
+    abbrev headed : ConfigValues
+    headed = config_of (head_at config update id)
+
+    -- the same newborn
+    link_same : (a b : Scene) (d : Delivery) (cell : ℕ) → Alike u a b
+        → birth_link (next_id a) a.update d cell ≡ birth_link (next_id b) b.update d cell
+    link_same a b d cell h =
+        ap (λ k. birth_link k a.update d cell) h.count
+        ∙ ap (λ k. birth_link (next_id b) k d cell) (same_update a b h)
+
+    newborn_alike : (a b : Scene) (turn : Delivery × Placing) → Alike u a b
+        → Alike u (with_newborn headed a turn) (with_newborn config b turn)
+    unfolding with_newborn
+    newborn_alike a b turn h =
+        let o = child_of_birth config turn.0 turn.1 in
+        let link = birth_link (next_id b) b.update turn.0 turn.1.cell in
+        subst (λ (l : Link). Alike u (with_newcomer a l o) (with_newcomer b link o))
+        (sym (link_same a b turn.0 turn.1.cell h)) (newcomer_alike a b link o h)
+
+    newborns_alike : (turns : List (Delivery × Placing)) (a b : Scene) → Alike u a b
+        → Alike u (fold (with_newborn headed) a turns) (fold (with_newborn config) b turns)
+    newborns_alike [] a b h = h
+    newborns_alike (turn ∷ turns) a b h =
+        newborns_alike turns (with_newborn headed a turn) (with_newborn config b turn)
+        (newborn_alike a b turn h)
+
+    -- the same placings
+    placings_same : (births : List Delivery) (a b : Scene) → Alike u a b
+        → placings_of headed a births ≡ placings_of config b births
+    unfolding placings_of
+    placings_same births a b h =
+        let placed : ℕ → ℕ → List (Option Occupant) → List Placing =
+        λ now first cells. (placements_of (torus_of config)
+        (map (λ (d : Delivery). d.cell) births) (ids_of cells)
+        (season_at config now first)).placings in
+        ap (λ k. placed k (next_id a) a.cells) (same_update a b h)
+        ∙ ap (λ k. placed b.update k a.cells) h.count ∙ ap (placed b.update (next_id b)) h.cells
+
+    turns_same : (births : List Delivery) (a b : Scene) → Alike u a b
+        → turns_of headed a births ≡ turns_of config b births
+    turns_same births a b h =
+        ap (λ (placings : List Placing). zip births placings) (placings_same births a b h)
+
+    -- the same births
+    pub births_alike : (births : List Delivery) (a b : Scene) → Alike u a b
+        → Alike u (after_births headed a births) (after_births config b births)
+    unfolding after_births
+    births_alike births a b h =
+        subst (λ (turns : List (Delivery × Placing)). Alike u (fold (with_newborn headed) a turns)
+        (fold (with_newborn config) b (turns_of config b births)))
+        (sym (turns_same births a b h)) (newborns_alike (turns_of config b births) a b h)
+
+    -- and their lines
+    birth_line_same : (a b : Scene) (turn : Delivery × Placing) → Alike u a b
+        → birth_line a turn ≡ birth_line b turn
+    birth_line_same a b turn h =
+        let line : ℕ → ℕ → List (Option Occupant)
+        → Line = λ newest now cells. Birth newest turn.0.parent now turn.1.cell
+        (id_at cells turn.1.cell) turn.0.newborn.origin in
+        ap (λ k. line k a.update a.cells) h.count
+        ∙ ap (λ k. line (next_id b) k a.cells) (same_update a b h)
+        ∙ ap (line (next_id b) b.update) h.cells
+
+    birth_lines_scan : (turns : List (Delivery × Placing)) (a b : Scene) → Alike u a b
+        → scan (with_newborn headed) birth_line a turns
+        ≡ scan (with_newborn config) birth_line b turns
+    birth_lines_scan [] a b h = refl
+    birth_lines_scan (turn ∷ turns) a b h =
+        ap (λ (line : Line). line ∷ scan (with_newborn headed) birth_line
+        (with_newborn headed a turn) turns) (birth_line_same a b turn h)
+        ∙ ap (λ (lines : List Line). birth_line b turn ∷ lines)
+        (birth_lines_scan turns (with_newborn headed a turn) (with_newborn config b turn)
+        (newborn_alike a b turn h))
+
+    pub birth_lines_same : (births : List Delivery) (a b : Scene) → Alike u a b
+        → birth_lines headed a births ≡ birth_lines config b births
+    birth_lines_same births a b h =
+        subst (λ (turns : List (Delivery × Placing)). scan (with_newborn headed) birth_line a turns
+        ≡ birth_lines config b births) (sym (turns_same births a b h))
+        (birth_lines_scan (turns_of config b births) a b h)
+
+  -- the same counts
+  pub stats_same : (a b : Scene) (births : ℕ) → Alike u a b
+      → scene_stats a births ≡ scene_stats b births
+  stats_same a b births h =
+      let stats : ℕ → List (Option Occupant) → List ℕ → Stats =
+      λ now cells dead. stats_in now cells births (length dead) in
+      ap (λ k. stats k a.cells a.gone) (same_update a b h)
+      ∙ ap (λ (cells : List (Option Occupant)). stats b.update cells a.gone) h.cells
+      ∙ ap (stats b.update b.cells) h.gone

@@ -1,0 +1,4 @@
+pub mod Updates
+pub mod Alike
+pub mod Quiet
+pub mod Resumes

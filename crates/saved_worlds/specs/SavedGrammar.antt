@@ -1,0 +1,180 @@
+-- The state that bytes are the text of, or the first faulty line (docs/FORMATS.md, "Saved worlds").
+use Rattle.std.specs.Prelude.{ℕ, ◌+◌, ◌*◌, ◌^◌, ◌==◌, ◌&&◌, Bool, true, not, nat_lt, nat_le, List, [], ◌∷◌, ◌++◌, length, fold, replicate, Option, None, Some, Result, Ok, Err, if◌then◌else◌, slice_set}
+use Rattle.std.specs.List.{slice_split, list_all}
+use Rattle.organism.specs.OrganismState.{OrganismState}
+use Rattle.virtual_cpu.specs.declared.cpu_image.CpuImage.{CpuImage}
+use Rattle.virtual_cpu.specs.Image.{machine_of_image}
+use Rattle.world_rules.specs.World.{Occupant}
+use Rattle.saved_lines.specs.SavedValues.{HeadValues, OrganismValues}
+use Rattle.saved_lines.specs.SavedReading.{SavedLine, Head, Organism, Machine as MachineLine, Count, saved_line_of}
+use Rattle.saved_worlds.specs.SavedState.{SavedState}
+
+-- an organism of a saved world, in its cell
+pub record Placed : Type 0 where
+  pub cell : ℕ
+  pub occupant : Occupant
+
+-- before the first line, between organisms, behind the line of an organism, or after the last line
+pub data Place : Type 0 where
+  Before : Place
+  Among : HeadValues → List Placed → Place
+  Halfway : HeadValues → List Placed → OrganismValues → Place
+  After : SavedState → Place
+
+-- the cell is above those that came before
+abbrev pub is_above : ℕ → List Placed → Bool
+is_above cell placed = list_all (λ p. nat_lt p.cell cell) placed
+
+-- nobody before has this id
+abbrev pub is_new : ℕ → List Placed → Bool
+is_new id placed = list_all (λ p. not (p.occupant.id == id)) placed
+
+-- it has not reached the age of death
+abbrev pub is_young : HeadValues → OrganismValues → Bool
+is_young head o =
+    if head.death then nat_lt o.age (head.age_limit * length o.genome) else true
+
+-- the line of an organism may come: its cell, its id, its merit, its genome's length and its age
+-- are in order
+abbrev pub may_stand : HeadValues → List Placed → OrganismValues → Bool
+may_stand head placed o =
+    nat_lt o.cell (head.width * head.height)
+    && is_above o.cell placed
+    && nat_lt o.id head.next_id
+    && is_new o.id placed
+    && (nat_le 1 o.merit && nat_le o.merit (2 ^ 38))
+    && (nat_le head.least_length (length o.genome) && nat_le (length o.genome) head.greatest_length)
+    && (nat_lt o.age (2 ^ 48) && nat_le o.read o.age)
+    && is_young head o
+
+-- a head is within memory
+abbrev pub are_within : CpuImage → Bool
+are_within image = list_all (λ head. nat_lt head (length image.memory)) image.heads
+
+-- the line of a machine may follow that of its organism: its texts have one length, which is not
+-- too long, and its heads are within it
+abbrev pub may_follow : HeadValues → OrganismValues → CpuImage → Bool
+may_follow head o image =
+    (length image.clean == length image.memory)
+    && (length image.executed == length image.memory)
+    && (length image.copied == length image.memory)
+    && nat_le (length image.memory) head.memory_limit
+    && nat_le (length image.memory) ((if image.pending then 6 else 2) * length o.genome)
+    && are_within image
+
+-- the organism of its two lines
+abbrev pub organism_of_lines : HeadValues → OrganismValues → CpuImage → OrganismState
+organism_of_lines head o image = record {
+  genome = o.genome;
+  inputs = o.inputs;
+  merit = o.merit;
+  credited = o.credited;
+  age = o.age;
+  read = o.read;
+  gestation = o.gestation;
+  machine = machine_of_image image (length o.genome) head.memory_limit;
+}
+
+-- and its cell
+abbrev pub placed_of : HeadValues → OrganismValues → CpuImage → Placed
+placed_of head o image =
+    record {
+      cell = o.cell;
+      occupant = record { id = o.id; organism = organism_of_lines head o image };
+    }
+
+-- an organism stands in its cell
+abbrev pub with_placed : List (Option Occupant) → Placed → List (Option Occupant)
+with_placed cells placed = slice_set cells placed.cell (Some placed.occupant)
+
+-- the state of a head and its organisms
+abbrev pub state_of_lines : HeadValues → List Placed → SavedState
+state_of_lines head placed = record {
+  head = head;
+  cells = fold with_placed (replicate (head.width * head.height) None) placed;
+}
+
+-- the place where the test holds
+abbrev pub place_if : Bool → Place → Option Place
+place_if test place = if test then Some place else None
+
+-- the place after a line between organisms
+abbrev pub told_among : HeadValues → List Placed → SavedLine → Option Place
+told_among head placed (Head other) = None
+told_among head placed (Organism o) = place_if (may_stand head placed o) (Halfway head placed o)
+told_among head placed (MachineLine image) = None
+told_among head placed (Count organisms) =
+    place_if (organisms == length placed) (After (state_of_lines head placed))
+
+-- the place after the line behind that of an organism
+abbrev pub told_halfway : HeadValues → List Placed → OrganismValues → SavedLine → Option Place
+told_halfway head placed o (Head other) = None
+told_halfway head placed o (Organism other) = None
+told_halfway head placed o (MachineLine image) =
+    place_if (may_follow head o image) (Among head (placed ++ placed_of head o image ∷ []))
+told_halfway head placed o (Count organisms) = None
+
+-- the place after the first line
+abbrev pub told_first : SavedLine → Option Place
+told_first (Head head) = Some (Among head [])
+told_first (Organism o) = None
+told_first (MachineLine image) = None
+told_first (Count organisms) = None
+
+-- the place after a line; none where the line doesn't fit
+abbrev pub told : Place → SavedLine → Option Place
+told Before line = told_first line
+told (Among head placed) line = told_among head placed line
+told (Halfway head placed o) line = told_halfway head placed o line
+told (After state) line = None
+
+-- why a line is faulty
+pub data SavedCause : Type 0 where
+  BadLine : SavedCause
+  BadState : SavedCause
+  Unended : SavedCause
+
+-- the first faulty line, numbered from 1
+pub record SavedFault : Type 0 where
+  pub line : ℕ
+  pub cause : SavedCause
+
+-- a fault at a line
+abbrev pub fault : ℕ → SavedCause → Result SavedState SavedFault
+fault number cause = Err (record { line = number; cause = cause })
+
+-- the end of the bytes, behind the last newline
+abbrev pub saved_end : ℕ → Place → Result SavedState SavedFault
+saved_end number (After state) = Ok state
+saved_end number Before = fault number Unended
+saved_end number (Among head placed) = fault number Unended
+saved_end number (Halfway head placed o) = fault number Unended
+
+-- the last piece, which has no newline
+abbrev pub last_piece : ℕ → Place → List ℕ → Result SavedState SavedFault
+last_piece number place [] = saved_end number place
+last_piece number place (b ∷ bs) = fault number BadLine
+
+-- a place or none, and what follows
+abbrev pub after_told :
+    ℕ → Option Place → (Place → Result SavedState SavedFault) → Result SavedState SavedFault
+after_told number None others = fault number BadState
+after_told number (Some place) others = others place
+
+-- a piece with its line or none, and what follows
+abbrev pub one_piece :
+    ℕ → Place → Option SavedLine → (Place → Result SavedState SavedFault)
+    → Result SavedState SavedFault
+one_piece number place None others = fault number BadLine
+one_piece number place (Some line) others = after_told number (told place line) others
+
+-- the state of the pieces, each but the last a line
+abbrev pub pieces_state : ℕ → Place → List (List ℕ) → Result SavedState SavedFault
+pieces_state number place [] = fault number Unended
+pieces_state number place (piece ∷ []) = last_piece number place piece
+pieces_state number place (piece ∷ next ∷ pieces) =
+    one_piece number place (saved_line_of piece) (λ p. pieces_state (number + 1) p (next ∷ pieces))
+
+-- the state whose text the bytes are, or the first faulty line
+unfoldable pub saved_of : List ℕ → Result SavedState SavedFault
+saved_of bytes = pieces_state 1 Before (slice_split (λ b. b == 10) bytes)

@@ -1,0 +1,181 @@
+-- Those that died of age leave their cells one after another, or all at once.
+use Rattle.std.proofs.Common.{◌≡◌, ◌∙◌, refl, sym, ap, ℕ, ◌+◌, Bool, true, false, cond, List, [], ◌∷◌, ◌++◌, append-nil, append_assoc, length, map, get_or, filter, Option, Some, None, arith}
+use Rattle.std.specs.List.{filter_map, range_with_len, scan}
+use Rattle.std.specs.Option.{option_map, option_to_list}
+use Rattle.std.proofs.lemmas.List.{get_or_at, length_push, map-append, set_at}
+use Rattle.lineage_log.specs.Links.{Link}
+use Rattle.log_lines.specs.Line.{Line, Death}
+use Rattle.world_rules.specs.Lives.{CellLife, no_life}
+use Rattle.world_rules.specs.LogText.{death_line, death_lines}
+use Rattle.world_rules.specs.Scene.{Scene, with_death, with_deaths}
+use Rattle.world_rules.specs.Update.{after_burials, after_lives, deaths_of}
+use Rattle.world_rules.specs.World.{Occupant, id_of}
+use Rattle.world_core.specs.Lived.{departed_of, departure_line, staying_in}
+use Rattle.world_core.specs.declared.lived.Departed.{Departed}
+
+-- the cells whose organism died, which go on from this one
+abbrev deaths_at : ℕ → List CellLife → List ℕ
+deaths_at first [] = []
+deaths_at first (l ∷ lives) =
+    cond l.died (first ∷ deaths_at (first + 1) lives) (deaths_at (first + 1) lives)
+
+-- whether the organism of a cell died
+abbrev died_in : List CellLife → ℕ → Bool
+died_in lives cell = (get_or lives cell no_life).died
+
+deaths-behind : (before lives : List CellLife) (first : ℕ) → length before ≡ first
+    → filter (died_in (before ++ lives)) (range_with_len first (length lives))
+    ≡ deaths_at first lives
+deaths-behind before [] first long = refl
+deaths-behind before (l ∷ lives) first long =
+    let here : died_in (before ++ l ∷ lives) first ≡ l.died =
+    ap (λ (c : CellLife). c.died) (get_or_at before l lives no_life first long) in
+    let next : length (before ++ l ∷ []) ≡ first + 1 = omega (arith, length_push before l, long) in
+    let rest : filter (died_in (before ++ l ∷ lives)) (range_with_len (first + 1) (length lives))
+    ≡ deaths_at (first + 1) lives =
+    ap (λ all. filter (died_in all) (range_with_len (first + 1) (length lives)))
+    (sym (append_assoc before (l ∷ []) lives))
+    ∙ deaths-behind (before ++ l ∷ []) lives (first + 1) next in
+    λ i. cond (here i) (first ∷ rest i) (rest i)
+
+deaths_of-at : (lives : List CellLife) → deaths_of lives ≡ deaths_at 0 lives
+unfolding deaths_of
+deaths_of-at lives = deaths-behind [] lives 0 refl
+
+module _ (update : ℕ) (everyone : List Link) where
+  abbrev scene_with : List (Option Occupant) → List ℕ → Scene
+  scene_with cells gone =
+      record { update = update; cells = cells; everyone = everyone; gone = gone }
+
+  -- the organisms of some lives
+  abbrev occupants : List CellLife → List (Option Occupant)
+  occupants lives = map (λ l. l.occupant) lives
+
+  -- the ids of some dead
+  abbrev ids_in : List Departed → List ℕ
+  ids_in dead = map (λ one. one.id) dead
+
+  one-death : (before rest : List (Option Occupant)) (slot : Option Occupant) (gone : List ℕ)
+      (first : ℕ) → length before ≡ first
+      → with_death (scene_with (before ++ slot ∷ rest) gone) first
+      ≡ scene_with ((before ++ None ∷ []) ++ rest) (gone ++ option_to_list (id_of slot))
+  unfolding with_death
+  one-death before rest slot gone first long = λ i. record {
+    update = update;
+    cells =
+        (set_at before slot rest None first long ∙ sym (append_assoc before (None ∷ []) rest)) i;
+    everyone = everyone;
+    gone = gone ++ option_to_list (id_of (get_or_at before slot rest None first long i));
+  }
+
+  ids-in-one : (first : ℕ) (slot : Option Occupant)
+      → ids_in (option_to_list (option_map (λ o. record { cell = first; id = o.id }) slot))
+      ≡ option_to_list (id_of slot)
+  ids-in-one first None = refl
+  ids-in-one first (Some o) = refl
+
+  lines-in-one : (first : ℕ) (slot : Option Occupant)
+      → filter_map (λ line. line) (option_map (λ id. Death id update first) (id_of slot) ∷ [])
+      ≡ map (departure_line update)
+      (option_to_list (option_map (λ o. record { cell = first; id = o.id }) slot))
+  lines-in-one first None = refl
+  lines-in-one first (Some o) = refl
+
+  -- the scene once the dead among these have left
+  burials-from : (before : List (Option Occupant)) (lives : List CellLife) (gone : List ℕ)
+      (first : ℕ) → length before ≡ first
+      → with_deaths (scene_with (before ++ occupants lives) gone) (deaths_at first lives)
+      ≡ scene_with (before ++ map staying_in lives) (gone ++ ids_in (departed_of first lives))
+  burials-from before [] gone first long = ap (scene_with (before ++ [])) (sym (append-nil gone))
+  burials-from before (l ∷ lives) gone first long =
+      by l.died (λ slot more. burials-from (before ++ slot ∷ []) lives more (first + 1)
+      (omega (arith, length_push before slot, long))
+      ∙ ap (λ cells. scene_with cells (more ++ ids_in (departed_of (first + 1) lives)))
+      (append_assoc before (slot ∷ []) (map staying_in lives)))
+    where
+      dead : List Departed
+      dead = option_to_list (option_map (λ o. record { cell = first; id = o.id }) l.occupant)
+
+      by : (b : Bool)
+          → ((slot : Option Occupant) (more : List ℕ)
+          → with_deaths (scene_with ((before ++ slot ∷ []) ++ occupants lives) more)
+          (deaths_at (first + 1) lives) ≡ scene_with (before ++ slot ∷ map staying_in lives)
+          (more ++ ids_in (departed_of (first + 1) lives)))
+          → with_deaths (scene_with (before ++ l.occupant ∷ occupants lives) gone)
+          (cond b (first ∷ deaths_at (first + 1) lives) (deaths_at (first + 1) lives))
+          ≡ scene_with (before ++ cond b None l.occupant ∷ map staying_in lives)
+          (gone ++ ids_in (cond b dead [] ++ departed_of (first + 1) lives))
+      by false later =
+          ap (λ cells. with_deaths (scene_with cells gone) (deaths_at (first + 1) lives))
+          (sym (append_assoc before (l.occupant ∷ []) (occupants lives)))
+          ∙ later l.occupant gone
+      by true later =
+          ap (λ scene. with_deaths scene (deaths_at (first + 1) lives))
+          (one-death before (occupants lives) l.occupant gone first long)
+          ∙ later None (gone ++ option_to_list (id_of l.occupant))
+          ∙ ap (scene_with (before ++ None ∷ map staying_in lives))
+          (append_assoc gone (option_to_list (id_of l.occupant))
+          (ids_in (departed_of (first + 1) lives))
+          ∙ ap (λ ids. gone ++ (ids ++ ids_in (departed_of (first + 1) lives)))
+          (sym (ids-in-one first l.occupant))
+          ∙ ap (λ ids. gone ++ ids)
+          (sym (map-append (λ (one : Departed). one.id) dead (departed_of (first + 1) lives))))
+
+  -- their lines
+  lines-from : (before : List (Option Occupant)) (lives : List CellLife) (gone : List ℕ) (first : ℕ)
+      → length before ≡ first → death_lines (scene_with (before ++ occupants lives) gone)
+      (deaths_at first lives) ≡ map (departure_line update) (departed_of first lives)
+  lines-from before [] gone first long = refl
+  lines-from before (l ∷ lives) gone first long =
+      by l.died (λ slot more. lines-from (before ++ slot ∷ []) lives more (first + 1)
+      (omega (arith, length_push before slot, long)))
+    where
+      dead : List Departed
+      dead = option_to_list (option_map (λ o. record { cell = first; id = o.id }) l.occupant)
+
+      -- what is told, and then the rest
+      told : (line : Option Line) (rest : List (Option Line))
+          → filter_map (λ line. line) (line ∷ rest) ≡ filter_map (λ line. line) (line ∷ [])
+          ++ filter_map (λ line. line) rest
+      told None rest = refl
+      told (Some line) rest = refl
+
+      by : (b : Bool)
+          → ((slot : Option Occupant) (more : List ℕ)
+          → death_lines (scene_with ((before ++ slot ∷ []) ++ occupants lives) more)
+          (deaths_at (first + 1) lives)
+          ≡ map (departure_line update) (departed_of (first + 1) lives))
+          → death_lines (scene_with (before ++ l.occupant ∷ occupants lives) gone)
+          (cond b (first ∷ deaths_at (first + 1) lives) (deaths_at (first + 1) lives))
+          ≡ map (departure_line update) (cond b dead [] ++ departed_of (first + 1) lives)
+      by false later =
+          ap (λ cells. death_lines (scene_with cells gone) (deaths_at (first + 1) lives))
+          (sym (append_assoc before (l.occupant ∷ []) (occupants lives)))
+          ∙ later l.occupant gone
+      by true later =
+          let scene : Scene = scene_with (before ++ l.occupant ∷ occupants lives) gone in
+          told (death_line scene first)
+          (scan with_death death_line (with_death scene first) (deaths_at (first + 1) lives))
+          ∙ (λ i. filter_map (λ line. line)
+          (option_map (λ id. Death id update first)
+          (id_of (get_or_at before l.occupant (occupants lives) None first long i)) ∷ [])
+          ++ death_lines (one-death before (occupants lives) l.occupant gone first long i)
+          (deaths_at (first + 1) lives))
+          ∙ (λ i. lines-in-one first l.occupant i
+          ++ later None (gone ++ option_to_list (id_of l.occupant)) i)
+          ∙ sym (map-append (departure_line update) dead (departed_of (first + 1) lives))
+
+  -- the scene once all dead have left
+  pub burials-are : (lives : List CellLife)
+      → after_burials (after_lives update everyone lives) lives
+      ≡ scene_with (map staying_in lives) (ids_in (departed_of 0 lives))
+  unfolding after_burials
+  burials-are lives = ap (with_deaths (after_lives update everyone lives)) (deaths_of-at lives)
+      ∙ burials-from [] lives [] 0 refl
+
+  -- and their lines
+  pub burial-lines-are : (lives : List CellLife)
+      → death_lines (after_lives update everyone lives) (deaths_of lives)
+      ≡ map (departure_line update) (departed_of 0 lives)
+  burial-lines-are lives = ap (death_lines (after_lives update everyone lives)) (deaths_of-at lives)
+      ∙ lines-from [] lives [] 0 refl

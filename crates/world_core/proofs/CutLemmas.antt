@@ -1,0 +1,110 @@
+-- Cells that are cut into jobs, from the last to the first.
+use Rattle.std.proofs.Common.{◌≡◌, ◌∙◌, sym, ap, subst, ℕ, ◌+◌, ◌-◌, ◌≤◌, List, [], ◌∷◌, ◌++◌, append-nil, append_assoc, length, reverse, take, drop, Option, arith}
+use Rattle.std.specs.List.{All}
+use Rattle.std.proofs.lemmas.List.{length-drop, length-reverse, length-take-le, length_push, reverse-append, take-append-drop}
+use Rattle.std.proofs.lemmas.List.Elements.{All-cons, All-nil, All-same}
+use Rattle.cell_shards.specs.declared.job.Job.{Job}
+use Rattle.genotype_bank.specs.Seats.{SeatValue}
+use Rattle.organism.specs.OrganismState.{OrganismState}
+use Rattle.world_core.specs.Sharding.{LieSideBySide, PartCells, ShareSeat, seat_from, seat_without}
+use Rattle.world_core.proofs.JoinLemmas.{cells_in, slices_in}
+
+-- the last cells were cut off into these jobs, the last job first
+pub record HaveCut (seat : SeatValue) (cells : List (Option OrganismState)) (slices : List ℕ)
+    (jobs : List Job) (left : List (Option OrganismState)) (steps : List ℕ) (now : SeatValue) : Type
+    0 where
+  pub beside : LieSideBySide (length left) (reverse jobs)
+  pub cells_are : left ++ cells_in (reverse jobs) ≡ cells
+  pub slices_are : steps ++ slices_in (reverse jobs) ≡ slices
+  pub long : length steps ≡ length left
+  pub seat_is : now ≡ seat_without seat (length jobs)
+  pub seats : All (λ job. job.seat ≡ seat_from seat) (reverse jobs)
+
+-- none were cut off
+pub cut-none : (seat : SeatValue) (cells : List (Option OrganismState)) (slices : List ℕ)
+    (jobs : List Job) → jobs ≡ [] → length slices ≡ length cells
+    → HaveCut seat cells slices jobs cells slices seat
+cut-none seat cells slices jobs none long =
+    subst (λ jobs. HaveCut seat cells slices jobs cells slices seat) (sym none) (record {
+      beside = tt;
+      cells_are = append-nil cells;
+      slices_are = append-nil slices;
+      long = long;
+      seat_is =
+          (let same : seat.share ≡ seat.share - 0 = omega arith in
+          λ i. record seat { share = same i });
+      seats = All-nil (λ (job : Job). job.seat ≡ seat_from seat);
+    })
+
+-- the jobs in order, with one more in front
+jobs-push : (jobs : List Job) (job : Job) → reverse (jobs ++ job ∷ []) ≡ job ∷ reverse jobs
+jobs-push jobs job = reverse-append jobs (job ∷ [])
+
+module _ (seat : SeatValue) (cells : List (Option OrganismState)) (slices : List ℕ)
+    (jobs : List Job) (left : List (Option OrganismState)) (steps : List ℕ) (now : SeatValue)
+    (cut : HaveCut seat cells slices jobs left steps now) (job : Job) where
+  -- one job more
+  pub cut-more : (next : List Job) (front : List (Option OrganismState)) (fewer : List ℕ)
+      (then : SeatValue) → job.first ≤ length left → front ≡ take job.first left
+      → fewer ≡ take job.first steps → job.cells ≡ drop job.first left
+      → job.slices ≡ drop job.first steps → job.seat ≡ seat_from now → then ≡ seat_without now 1
+      → next ≡ jobs ++ job ∷ [] → HaveCut seat cells slices next front fewer then
+  cut-more next front fewer then within front_is fewer_is cells_is slices_is seat_is then_is
+      next_is =
+      let size : length front ≡ job.first =
+      ap length front_is ∙ length-take-le job.first left within in
+      let many : length job.cells ≡ length left - job.first =
+      ap length cells_is ∙ length-drop job.first left in
+      let more : length job.slices ≡ length steps - job.first =
+      ap length slices_is ∙ length-drop job.first steps in
+      let end : length left ≡ length front + length job.cells = omega (arith, size, many, within) in
+      let ordered : reverse next ≡ job ∷ reverse jobs = ap reverse next_is ∙ jobs-push jobs job in
+      record {
+        beside = subst (LieSideBySide (length front)) (sym ordered) (
+          sym size,
+          omega (arith, many, more, cut.long),
+          subst (λ n. LieSideBySide n (reverse jobs)) end cut.beside,
+        );
+        cells_are = ap (λ all. front ++ cells_in all) ordered
+            ∙ (λ i. front_is i ++ (cells_is i ++ cells_in (reverse jobs)))
+            ∙ sym (append_assoc (take job.first left) (drop job.first left)
+            (cells_in (reverse jobs)))
+            ∙ ap (λ all. all ++ cells_in (reverse jobs)) (take-append-drop job.first left)
+            ∙ cut.cells_are;
+        slices_are = ap (λ all. fewer ++ slices_in all) ordered
+            ∙ (λ i. fewer_is i ++ (slices_is i ++ slices_in (reverse jobs)))
+            ∙ sym (append_assoc (take job.first steps) (drop job.first steps)
+            (slices_in (reverse jobs)))
+            ∙ ap (λ all. all ++ slices_in (reverse jobs)) (take-append-drop job.first steps)
+            ∙ cut.slices_are;
+        long = ap length fewer_is ∙ length-take-le job.first steps (omega (arith, within, cut.long))
+            ∙ sym size;
+        seat_is = then_is ∙ ap (λ s. seat_without s 1) cut.seat_is
+            ∙ (let shares : seat.share - length jobs - 1 ≡ seat.share - length next =
+            omega (arith, ap length next_is, length_push jobs job) in
+            λ i. record seat { share = shares i });
+        seats = All-same (λ (job : Job). job.seat ≡ seat_from seat) (reverse next)
+            (job ∷ reverse jobs) ordered
+            (All-cons (λ (job : Job). job.seat ≡ seat_from seat) job (reverse jobs)
+            (seat_is ∙ ap seat_from cut.seat_is) cut.seats);
+      }
+
+  -- the first job has what is left
+  pub cut-all : (next all : List Job) → job.first ≡ 0 → job.cells ≡ left → job.slices ≡ steps
+      → job.seat ≡ now → next ≡ jobs ++ job ∷ [] → all ≡ reverse next → PartCells all cells slices
+      × ShareSeat seat all
+  cut-all next all first_is cells_is slices_is seat_is next_is all_is =
+      let ordered : all ≡ job ∷ reverse jobs = all_is ∙ ap reverse next_is ∙ jobs-push jobs job in
+      let end : length left ≡ 0 + length job.cells = omega (arith, ap length cells_is) in (
+        subst (λ js. PartCells js cells slices) (sym ordered) (record {
+          beside = (
+            first_is,
+            omega (arith, ap length slices_is, ap length cells_is, cut.long),
+            subst (λ n. LieSideBySide n (reverse jobs)) end cut.beside,
+          );
+          cells_are = ap (λ front. front ++ cells_in (reverse jobs)) cells_is ∙ cut.cells_are;
+          slices_are = ap (λ front. front ++ slices_in (reverse jobs)) slices_is ∙ cut.slices_are;
+        }),
+        subst (ShareSeat seat) (sym ordered)
+            (seat_is ∙ cut.seat_is ∙ ap (seat_without seat) (sym (length-reverse jobs)), cut.seats),
+      )

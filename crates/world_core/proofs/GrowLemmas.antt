@@ -1,0 +1,69 @@
+-- A bank that grows with the list of all organisms.
+use Rattle.std.proofs.Common.{◌≡◌, ◌∙◌, refl, sym, ap, subst, List, [], ◌∷◌, ◌++◌, append-nil, map}
+use Rattle.std.proofs.lemmas.List.{map_push}
+use mathlib.Core.List.{IsPrefix}
+use Rattle.cell_shards.specs.Finishing.{genome_in}
+use Rattle.cell_shards.specs.declared.delivered.Delivered.{Delivered}
+use Rattle.genotype_bank.specs.BankHistory.{HasEachOnce, with_genome}
+use Rattle.instruction_set.specs.declared.letter.Letter.{Letter}
+use Rattle.lineage_log.specs.Links.{Link}
+use Rattle.organism.specs.OrganismState.{OrganismState}
+use Rattle.world_rules.specs.Scene.{Scene, with_newcomer}
+use Rattle.world_core.specs.Genotypes.{TakesIn, genomes_ever}
+use Rattle.world_core.specs.Scenes.{Grows}
+use Rattle.world_core.proofs.JoinLemmas.{IsPrefix-trans, each-through}
+use Rattle.world_core.proofs.StandingLemmas.{with_genome-prefix}
+
+-- a newcomer stands behind all others
+pub newcomer-enrolled : (scene : Scene) (link : Link) (organism : OrganismState)
+    → (with_newcomer scene link organism).everyone ≡ scene.everyone ++ link ∷ []
+unfolding with_newcomer
+newcomer-enrolled scene link organism = refl
+
+-- where nobody comes nothing is interned
+pub Grows_same : (old new : List (List Letter)) (before after : List Link) → new ≡ old
+    → after ≡ before → Grows old new before after
+Grows_same old new before after same all = record {
+  stays = subst (IsPrefix old) (sym same) ([], append-nil old);
+  each = λ has. subst (λ genomes. HasEachOnce genomes (genomes_ever after)) (sym same)
+      (subst (λ everyone. HasEachOnce old (genomes_ever everyone)) (sym all) has);
+}
+
+-- one step after another
+pub Grows_on : (old now new : List (List Letter)) (before then after : List Link)
+    → Grows old now before then → Grows now new then after → Grows old new before after
+Grows_on old now new before then after first second = record {
+  stays = IsPrefix-trans old now new first.stays second.stays;
+  each = λ has. second.each (first.each has);
+}
+
+-- what the bank's crate says of one genome more
+abbrev pub OneMore : Type 0
+OneMore = (genotypes genomes : List (List Letter)) (genome : List Letter)
+    → HasEachOnce genotypes genomes
+    → HasEachOnce (with_genome genotypes genome) (genomes ++ genome ∷ [])
+
+-- a founder comes
+pub Grows_founder : OneMore
+    → (old new : List (List Letter)) (before after : List Link) (link : Link) (genome : List Letter)
+    → new ≡ with_genome old genome → after ≡ before ++ link ∷ [] → link.genome ≡ genome
+    → Grows old new before after
+Grows_founder more old new before after link genome interned came same = record {
+  stays = subst (IsPrefix old) (sym interned) (with_genome-prefix old genome);
+  each = λ has. (let all : genomes_ever after ≡ genomes_ever before ++ genome ∷ [] =
+      ap genomes_ever came ∙ map_push (λ (l : Link). l.genome) before link
+      ∙ ap (λ g. genomes_ever before ++ g ∷ []) same in
+      subst (λ genomes. HasEachOnce genomes (genomes_ever after)) (sym interned)
+      (subst (HasEachOnce (with_genome old genome)) (sym all)
+      (more old (genomes_ever before) genome has)));
+}
+
+-- newborns come whose genomes were taken in
+pub Grows_births : (old new : List (List Letter)) (before after : List Link)
+    (births : List Delivered) → TakesIn old new births
+    → genomes_ever after ≡ genomes_ever before ++ map genome_in births → Grows old new before after
+Grows_births old new before after births takes all = record {
+  stays = takes.stays;
+  each = λ has. subst (HasEachOnce new) (sym all)
+      (each-through new old (genomes_ever before) (map genome_in births) has.members takes.each);
+}

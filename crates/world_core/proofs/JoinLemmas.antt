@@ -1,0 +1,452 @@
+-- Jobs that part the cells, and what comes of them as one.
+use Rattle.std.proofs.Common.{◌≡◌, ◌∙◌, refl, sym, ap, subst, ℕ, suc, ◌+◌, ◌<◌, ◌≤◌, ◌^◌, List, [], ◌∷◌, ◌++◌, append-nil, append_assoc, length, map, Option, arith, inl, inr}
+use Rattle.std.specs.Prelude.{◌↔◌}
+use Rattle.std.specs.List.{All, Contains, cons_option, filter_map, flat_map, sum_by}
+use Rattle.std.specs.List.Sorted.{IsPermutation}
+use Rattle.std.proofs.lemmas.List.{length-append, map-append}
+use Rattle.std.proofs.lemmas.List.Elements.{All-append, All-cons, All-head, All-nil, All-same, All-tail, All-weaker, Contains-append_cases, Contains-append_left, Contains-append_right, filter_map-append}
+use Rattle.std.proofs.lemmas.List.Sorted.{IsPermutation-append_left, IsPermutation-refl, IsPermutation-sym, IsPermutation-trans}
+use Rattle.std.proofs.lemmas.List.Sums.{sum_by-cons}
+use mathlib.Core.List.{IsPrefix}
+use Rattle.cell_shards.specs.CellLives.{CellLife, IsYoung, RoundNumbers, births_from, deaths_from, left_in, lives_of, part_from}
+use Rattle.cell_shards.specs.Finishing.{AreFinished, CanRun, IsFinished, IsNumbered, birth_of, call_for, genome_in, part_of}
+use Rattle.cell_shards.specs.declared.delivered.Delivered.{Delivered}
+use Rattle.cell_shards.specs.declared.finished.Finished.{Finished}
+use Rattle.cell_shards.specs.declared.job.Job.{Job}
+use Rattle.genotype_bank.specs.BankHistory.{HasEachOnce, calls_under, genome_of, genomes_of, genotypes_of}
+use Rattle.genotype_bank.specs.Seats.{SeatValue, own_calls_of}
+use Rattle.genotype_bank.specs.declared.view.Entry.{Entry}
+use Rattle.instruction_set.specs.declared.letter.Letter.{Letter}
+use Rattle.organism.specs.OrganismState.{OrganismState}
+use Rattle.world_core.specs.Genotypes.{HasNumber, TakesIn}
+use Rattle.world_core.proofs.StandingLemmas.{prefix-stays}
+use Rattle.world_core.specs.Sharding.{IsJoined, LieSideBySide, PartCells, ShareSeat, seat_from}
+
+-- what the crate of shards says of parts that lie side by side
+pub record PartsLaws : Type 0 where
+  pub lives : (round : RoundNumbers) (first : ℕ) (cells others : List (Option OrganismState))
+      (slices more : List ℕ) → length slices ≡ length cells
+      → lives_of round (part_from first (cells ++ others) (slices ++ more))
+      ≡ lives_of round (part_from first cells slices)
+      ++ lives_of round (part_from (first + length cells) others more)
+  pub births : (first : ℕ) (lives more : List CellLife)
+      → births_from first (lives ++ more) ≡ births_from first lives
+      ++ births_from (first + length lives) more
+  pub deaths : (first : ℕ) (lives more : List CellLife)
+      → deaths_from first (lives ++ more) ≡ deaths_from first lives
+      ++ deaths_from (first + length lives) more
+  pub count : (round : RoundNumbers) (first : ℕ) (cells : List (Option OrganismState))
+      (slices : List ℕ) → length (lives_of round (part_from first cells slices)) ≡ length cells
+
+-- the cells and the steps of some jobs
+abbrev pub cells_in : List Job → List (Option OrganismState)
+cells_in jobs = flat_map (λ job. job.cells) jobs
+
+abbrev pub slices_in : List Job → List ℕ
+slices_in jobs = flat_map (λ job. job.slices) jobs
+
+-- where all cells may run, those of each job may
+pub jobs-can-run : (first : ℕ) (jobs : List Job) → LieSideBySide first jobs
+    → first + length (cells_in jobs) ≤ 65536 → All (λ steps. steps < 2 ^ 27) (slices_in jobs)
+    → All IsYoung (cells_in jobs) → All CanRun jobs
+jobs-can-run first [] beside within few young = All-nil CanRun
+jobs-can-run first (job ∷ jobs) beside within few young =
+    All-cons CanRun job jobs
+    (record {
+      within = omega (arith, within, beside.0, length-append job.cells (cells_in jobs));
+      each = beside.1;
+      few = All-front (λ steps. steps < 2 ^ 27) job.slices (slices_in jobs) few;
+      young = All-front IsYoung job.cells (cells_in jobs) young;
+    })
+    (jobs-can-run (first + length job.cells) jobs beside.2
+    (omega (arith, within, length-append job.cells (cells_in jobs)))
+    (All-back (λ steps. steps < 2 ^ 27) job.slices (slices_in jobs) few)
+    (All-back IsYoung job.cells (cells_in jobs) young))
+  where
+    All-front : {X : Type 0} (P : X → Type 0) (xs ys : List X) → All P (xs ++ ys) → All P xs
+    All-front P [] ys all = All-nil P
+    All-front P (x ∷ xs) ys all =
+        All-cons P x xs (All-head P x (xs ++ ys) all)
+        (All-front P xs ys (All-tail P x (xs ++ ys) all))
+
+    All-back : {X : Type 0} (P : X → Type 0) (xs ys : List X) → All P (xs ++ ys) → All P ys
+    All-back P [] ys all = all
+    All-back P (x ∷ xs) ys all = All-back P xs ys (All-tail P x (xs ++ ys) all)
+
+-- a finished shard stands beside each job
+abbrev pub AllPairwise : RoundNumbers → List Job → List Finished → Type 0
+AllPairwise round [] [] = Unit {0}
+AllPairwise round [] (one ∷ all) = ⊥
+AllPairwise round (job ∷ jobs) [] = ⊥
+AllPairwise round (job ∷ jobs) (one ∷ all) = IsFinished round job one × AllPairwise round jobs all
+
+-- it does where each at its place is finished
+pub each-finished : (round : RoundNumbers) (jobs : List Job) (all : List Finished)
+    → AreFinished round jobs all → AllPairwise round jobs all
+each-finished round [] [] are = tt
+each-finished round [] (one ∷ all) are = absurd (omega (arith, are.count))
+each-finished round (job ∷ jobs) [] are = absurd (omega (arith, are.count))
+each-finished round (job ∷ jobs) (one ∷ all) are = (
+  are.each 0 job one (omega arith),
+  each-finished round jobs all
+      (record {
+        count = omega (arith, are.count);
+        each = λ place job end within. are.each (suc place) job end (omega (arith, within));
+      }),
+)
+
+-- a seat without numbers has no calls
+no-calls : (seen : List Entry) → calls_under [] seen ≡ []
+no-calls [] = refl
+no-calls (one ∷ seen) = no-calls seen
+
+-- the genomes of calls that interned newborns
+calls-genomes : (calls : List Entry) (births : List Delivered)
+    → map (λ call. call.call) calls ≡ map call_for births → genomes_of calls ≡ map genome_in births
+calls-genomes calls births same = alone calls ∙ ap (filter_map genome_of) same ∙ called births where
+  alone : (calls : List Entry)
+      → genomes_of calls ≡ filter_map genome_of (map (λ call. call.call) calls)
+  alone [] = refl
+  alone (call ∷ calls) = ap (cons_option (genome_of call.call)) (alone calls)
+
+  called : (births : List Delivered)
+      → filter_map genome_of (map call_for births) ≡ map genome_in births
+  called [] = refl
+  called (birth ∷ births) = ap (λ rest. genome_in birth ∷ rest) (called births)
+
+-- the own calls of shards
+abbrev pub calls_in : List Finished → List Entry
+calls_in all = flat_map (λ one. own_calls_of one.seat) all
+
+module _ (laws : PartsLaws) (round : RoundNumbers) where
+  -- the lives of some jobs, one job after another
+  abbrev pub lives_in : List Job → List CellLife
+  lives_in jobs = flat_map (λ job. lives_of round (part_of job)) jobs
+
+  jobs-live : (first : ℕ) (jobs : List Job) → LieSideBySide first jobs
+      → lives_of round (part_from first (cells_in jobs) (slices_in jobs)) ≡ lives_in jobs
+  unfolding lives_of
+  jobs-live first [] beside = refl
+  jobs-live first (job ∷ jobs) beside =
+      laws.lives round first job.cells (cells_in jobs) job.slices (slices_in jobs) beside.1
+      ∙ (λ i. lives_of round (part_from (sym beside.0 i) job.cells job.slices)
+      ++ jobs-live (first + length job.cells) jobs beside.2 i)
+
+  cells-joined : (jobs : List Job) (all : List Finished) → AllPairwise round jobs all
+      → flat_map (λ one. one.cells) all ≡ map left_in (lives_in jobs)
+  cells-joined [] [] are = refl
+  cells-joined [] (one ∷ all) are = absurd are
+  cells-joined (job ∷ jobs) [] are = absurd are
+  cells-joined (job ∷ jobs) (one ∷ all) are =
+      (λ i. are.0.cells i ++ cells-joined jobs all are.1 i)
+      ∙ sym (map-append left_in (lives_of round (part_of job)) (lives_in jobs))
+
+  births-joined : (first : ℕ) (jobs : List Job) (all : List Finished) → LieSideBySide first jobs
+      → AllPairwise round jobs all
+      → map birth_of (flat_map (λ one. one.births) all) ≡ births_from first (lives_in jobs)
+  unfolding births_from
+  births-joined first [] [] beside are = refl
+  births-joined first [] (one ∷ all) beside are = absurd are
+  births-joined first (job ∷ jobs) [] beside are = absurd are
+  births-joined first (job ∷ jobs) (one ∷ all) beside are =
+      let many : first + length job.cells ≡ first + length (lives_of round (part_of job)) =
+      omega (arith, laws.count round job.first job.cells job.slices) in
+      map-append birth_of one.births (flat_map (λ one. one.births) all)
+      ∙ (λ i. (are.0.births ∙ ap (λ n. births_from n (lives_of round (part_of job))) beside.0) i
+      ++ (births-joined (first + length job.cells) jobs all beside.2 are.1
+      ∙ ap (λ n. births_from n (lives_in jobs)) many) i)
+      ∙ sym (laws.births first (lives_of round (part_of job)) (lives_in jobs))
+
+  dead-joined : (first : ℕ) (jobs : List Job) (all : List Finished) → LieSideBySide first jobs
+      → AllPairwise round jobs all
+      → flat_map (λ one. one.dead) all ≡ deaths_from first (lives_in jobs)
+  unfolding deaths_from
+  dead-joined first [] [] beside are = refl
+  dead-joined first [] (one ∷ all) beside are = absurd are
+  dead-joined first (job ∷ jobs) [] beside are = absurd are
+  dead-joined first (job ∷ jobs) (one ∷ all) beside are =
+      let many : first + length job.cells ≡ first + length (lives_of round (part_of job)) =
+      omega (arith, laws.count round job.first job.cells job.slices) in
+      (λ i. (are.0.dead ∙ ap (λ n. deaths_from n (lives_of round (part_of job))) beside.0) i
+      ++ (dead-joined (first + length job.cells) jobs all beside.2 are.1
+      ∙ ap (λ n. deaths_from n (lives_in jobs)) many) i)
+      ∙ sym (laws.deaths first (lives_of round (part_of job)) (lives_in jobs))
+
+  module _ (seat : SeatValue) where
+    -- the shards behind the first give their shares back
+    shares-joined : (jobs : List Job) (all : List Finished)
+        → All (λ job. job.seat ≡ seat_from seat) jobs → AllPairwise round jobs all
+        → sum_by (λ one. one.seat.share) all ≡ length jobs
+    shares-joined [] [] new are = refl
+    shares-joined [] (one ∷ all) new are = absurd are
+    shares-joined (job ∷ jobs) [] new are = absurd are
+    shares-joined (job ∷ jobs) (one ∷ all) new are =
+        let here = All-head (λ job. job.seat ≡ seat_from seat) job jobs new in
+        omega (
+          arith,
+          sum_by-cons (λ (one : Finished). one.seat.share) one all,
+          are.0.seat.share,
+          ap (λ (s : SeatValue). s.share) here,
+          shares-joined jobs all (All-tail (λ job. job.seat ≡ seat_from seat) job jobs new) are.1,
+        )
+
+    -- and their calls are those that interned their newborns
+    genomes-joined : (jobs : List Job) (all : List Finished)
+        → All (λ job. job.seat ≡ seat_from seat) jobs → AllPairwise round jobs all
+        → genomes_of (calls_in all) ≡ map genome_in (flat_map (λ one. one.births) all)
+    genomes-joined [] [] new are = refl
+    genomes-joined [] (one ∷ all) new are = absurd are
+    genomes-joined (job ∷ jobs) [] new are = absurd are
+    genomes-joined (job ∷ jobs) (one ∷ all) new are =
+        let here = All-head (λ job. job.seat ≡ seat_from seat) job jobs new in
+        let interned = are.0.seat in
+        let own : own_calls_of one.seat ≡ interned.calls = interned.own
+        ∙ ap (λ calls. calls ++ interned.calls) (ap own_calls_of here ∙ no-calls seat.seen) in
+        filter_map-append (λ (one : Entry). genome_of one.call) (own_calls_of one.seat)
+        (calls_in all)
+        ∙ (λ i. (ap genomes_of own ∙ calls-genomes interned.calls one.births interned.interned) i
+        ++ genomes-joined jobs all (All-tail (λ job. job.seat ≡ seat_from seat) job jobs new)
+        are.1 i)
+        ∙ sym (map-append genome_in one.births (flat_map (λ one. one.births) all))
+
+-- what the shards of some cells come to, as one
+pub record EndsAs (round : RoundNumbers) (seat : SeatValue) (cells : List (Option OrganismState))
+    (slices : List ℕ) (whole : Finished) : Type 0 where
+  pub left : whole.cells ≡ map left_in (lives_of round (part_from 0 cells slices))
+  pub births : map birth_of whole.births ≡ births_from 0 (lives_of round (part_from 0 cells slices))
+  pub dead : whole.dead ≡ deaths_from 0 (lives_of round (part_from 0 cells slices))
+  pub bank : whole.seat.bank ≡ seat.bank
+  pub share : whole.seat.share ≡ seat.share
+  pub seen : IsPrefix seat.seen whole.seat.seen
+  pub calls : List Entry
+  pub own : IsPermutation calls (own_calls_of whole.seat)
+  pub genomes : genomes_of calls ≡ genomes_of (own_calls_of seat) ++ map genome_in whole.births
+  pub numbers : All (IsNumbered whole.seat.seen) whole.births
+
+-- a prefix of a prefix
+pub IsPrefix-trans : {X : Type 0} (xs ys zs : List X) → IsPrefix xs ys → IsPrefix ys zs
+    → IsPrefix xs zs
+IsPrefix-trans xs ys zs a b =
+    (a.0 ++ b.0, sym (append_assoc xs a.0 b.0) ∙ (ap (λ l. l ++ b.0) a.1 ∙ b.1))
+
+-- so it is where they are joined in their order
+pub ends-as : PartsLaws → (round : RoundNumbers) (seat : SeatValue)
+    (cells : List (Option OrganismState)) (slices : List ℕ) (jobs : List Job) (all : List Finished)
+    (whole : Finished) → PartCells jobs cells slices → ShareSeat seat jobs
+    → length jobs ≤ seat.share → AreFinished round jobs all
+    → ((first : Finished) (others : List Finished) → all ≡ first ∷ others
+    → IsJoined first others whole) → EndsAs round seat cells slices whole
+ends-as laws round seat cells slices [] all whole parts shares few finished joined = absurd shares
+ends-as laws round seat cells slices (job ∷ jobs) [] whole parts shares few finished joined =
+    absurd (omega (arith, finished.count))
+ends-as laws round seat cells slices (job ∷ jobs) (first ∷ others) whole parts shares few finished
+    joined =
+    let are = each-finished round (job ∷ jobs) (first ∷ others) finished in
+    let is = joined first others refl in
+    let whole_lives : lives_of round (part_from 0 cells slices) ≡ lives_in laws round (job ∷ jobs) =
+    (λ i. lives_of round (part_from 0 (sym parts.cells_are i) (sym parts.slices_are i)))
+    ∙ jobs-live laws round 0 (job ∷ jobs) parts.beside in
+    let interned = are.0.seat in
+    let kept : own_calls_of job.seat ≡ own_calls_of seat = ap own_calls_of shares.0 in
+    record {
+      left = is.cells ∙ cells-joined laws round (job ∷ jobs) (first ∷ others) are
+          ∙ ap (map left_in) (sym whole_lives);
+      births = ap (map birth_of) is.births
+          ∙ births-joined laws round 0 (job ∷ jobs) (first ∷ others) parts.beside are
+          ∙ ap (births_from 0) (sym whole_lives);
+      dead = is.dead ∙ dead-joined laws round 0 (job ∷ jobs) (first ∷ others) parts.beside are
+          ∙ ap (deaths_from 0) (sym whole_lives);
+      bank = is.bank ∙ interned.bank ∙ ap (λ (s : SeatValue). s.bank) shares.0;
+      share = omega (
+        arith,
+        is.share,
+        interned.share,
+        ap (λ (s : SeatValue). s.share) shares.0,
+        shares-joined laws round seat jobs others shares.1 are.1,
+        few,
+      );
+      seen = IsPrefix-trans seat.seen first.seat.seen whole.seat.seen
+          (subst (λ (s : SeatValue). IsPrefix s.seen first.seat.seen) shares.0 interned.seen)
+          is.seen;
+      calls = own_calls_of first.seat ++ calls_in others;
+      own = is.own;
+      genomes = filter_map-append (λ (one : Entry). genome_of one.call) (own_calls_of first.seat)
+          (calls_in others)
+          ∙ (λ i. (ap genomes_of interned.own
+          ∙ filter_map-append (λ (one : Entry). genome_of one.call) (own_calls_of job.seat)
+          interned.calls) i ++ genomes-joined laws round seat jobs others shares.1 are.1 i)
+          ∙ (λ i. (genomes_of (kept i)
+          ++ calls-genomes interned.calls first.births interned.interned i)
+          ++ map genome_in (flat_map (λ one. one.births) others))
+          ∙ append_assoc (genomes_of (own_calls_of seat)) (map genome_in first.births)
+          (map genome_in (flat_map (λ one. one.births) others))
+          ∙ ap (λ born. genomes_of (own_calls_of seat) ++ born)
+          (sym (map-append genome_in first.births (flat_map (λ one. one.births) others))
+          ∙ ap (map genome_in) (sym is.births));
+      numbers = is.numbers;
+    }
+
+-- the seats and the numbers of finished shards
+pub seats-finished : (round : RoundNumbers) (seat : SeatValue) (jobs : List Job)
+    (all : List Finished) → All (λ (job : Job). job.seat.bank ≡ seat.bank) jobs
+    → AllPairwise round jobs all → All (λ (one : Finished). one.seat.bank ≡ seat.bank) all
+seats-finished round seat [] [] banks are = All-nil (λ (one : Finished). one.seat.bank ≡ seat.bank)
+seats-finished round seat [] (one ∷ all) banks are = absurd are
+seats-finished round seat (job ∷ jobs) [] banks are = absurd are
+seats-finished round seat (job ∷ jobs) (one ∷ all) banks are =
+    All-cons (λ (one : Finished). one.seat.bank ≡ seat.bank) one all
+    (are.0.seat.bank ∙ All-head (λ (job : Job). job.seat.bank ≡ seat.bank) job jobs banks)
+    (seats-finished round seat jobs all
+    (All-tail (λ (job : Job). job.seat.bank ≡ seat.bank) job jobs banks) are.1)
+
+pub numbers-finished : (round : RoundNumbers) (jobs : List Job) (all : List Finished)
+    → AllPairwise round jobs all
+    → All (λ (one : Finished). All (IsNumbered one.seat.seen) one.births) all
+numbers-finished round [] [] are =
+    All-nil (λ (one : Finished). All (IsNumbered one.seat.seen) one.births)
+numbers-finished round [] (one ∷ all) are = absurd are
+numbers-finished round (job ∷ jobs) [] are = absurd are
+numbers-finished round (job ∷ jobs) (one ∷ all) are =
+    All-cons (λ (one : Finished). All (IsNumbered one.seat.seen) one.births) one all
+    are.0.seat.numbers (numbers-finished round jobs all are.1)
+
+-- the seats of jobs that share one
+pub seats-shared : (seat : SeatValue) (jobs : List Job) → ShareSeat seat jobs
+    → All (λ (job : Job). job.seat.bank ≡ seat.bank) jobs
+seats-shared seat [] shares = absurd shares
+seats-shared seat (job ∷ jobs) shares =
+    All-cons (λ (job : Job). job.seat.bank ≡ seat.bank) job jobs
+    (ap (λ (s : SeatValue). s.bank) shares.0)
+    (All-weaker (λ (job : Job). job.seat ≡ seat_from seat)
+    (λ (job : Job). job.seat.bank ≡ seat.bank) (λ job same. ap (λ (s : SeatValue). s.bank) same)
+    jobs shares.1)
+
+-- lists with the same members may stand for each other in front of others
+pub each-through : (genotypes first second born : List (List Letter))
+    → ((genome : List Letter) → Contains first genome ↔ Contains second genome)
+    → HasEachOnce genotypes (first ++ born) → HasEachOnce genotypes (second ++ born)
+each-through genotypes first second born same each = record {
+  members = λ genome. (
+    λ has. elim (Contains-append_cases first born genome ((each.members genome).0 has)) [
+      | inl here ↦ Contains-append_left second born genome ((same genome).0 here)
+      | inr there ↦ Contains-append_right second born genome there
+    ],
+    λ has. (each.members genome).1 (elim (Contains-append_cases second born genome has) [
+      | inl here ↦ Contains-append_left first born genome ((same genome).1 here)
+      | inr there ↦ Contains-append_right first born genome there
+    ]),
+  );
+  once = each.once;
+}
+
+-- what the bank's crate says
+pub record BankLaws : Type 0 where
+  pub stay : (early history : List Entry) → IsPrefix early history
+      → IsPrefix (genotypes_of early) (genotypes_of history)
+  pub calls : (history calls : List Entry) → IsPermutation history calls
+      → HasEachOnce (genotypes_of history) (genomes_of calls)
+
+-- the bank has taken in the genomes of the newborns
+pub takes-in : BankLaws → (round : RoundNumbers) (seat : SeatValue)
+    (cells : List (Option OrganismState)) (slices : List ℕ) (whole : Finished)
+    → own_calls_of seat ≡ seat.seen → own_calls_of whole.seat ≡ whole.seat.seen
+    → EndsAs round seat cells slices whole
+    → TakesIn (genotypes_of seat.seen) (genotypes_of whole.seat.seen) whole.births
+takes-in laws round seat cells slices whole owns all ends = record {
+  stays = laws.stay seat.seen whole.seat.seen ends.seen;
+  each =
+      let history : HasEachOnce (genotypes_of whole.seat.seen) (genomes_of ends.calls) =
+      laws.calls whole.seat.seen ends.calls
+      (subst (λ calls. IsPermutation calls ends.calls) all
+      (IsPermutation-sym ends.calls (own_calls_of whole.seat) ends.own)) in
+      let before : HasEachOnce (genotypes_of seat.seen) (genomes_of seat.seen) =
+      laws.calls seat.seen seat.seen (IsPermutation-refl seat.seen) in
+      each-through (genotypes_of whole.seat.seen) (genomes_of seat.seen) (genotypes_of seat.seen)
+      (map genome_in whole.births)
+      (λ genome. ((before.members genome).1, (before.members genome).0))
+      (subst (λ genomes. HasEachOnce (genotypes_of whole.seat.seen) genomes)
+      (ends.genomes ∙ ap (λ calls. genomes_of calls ++ map genome_in whole.births) owns)
+      history);
+  numbers = All-weaker (IsNumbered whole.seat.seen) (HasNumber (genotypes_of whole.seat.seen))
+      (λ d number. number.place) whole.births ends.numbers;
+}
+
+-- a number stays in a longer history
+number-stays : ((early history : List Entry) → IsPrefix early history
+    → IsPrefix (genotypes_of early) (genotypes_of history))
+    → (early history : List Entry) (d : Delivered) → IsPrefix early history → IsNumbered early d
+    → IsNumbered history d
+number-stays stay early history d longer number = record {
+  place = prefix-stays (genotypes_of early) (genotypes_of history) d.handle.number (genome_in d)
+      (stay early history longer) number.place;
+  small = number.small;
+}
+
+-- two shards as one
+pub record AreTwo (front back whole : Finished) : Type 0 where
+  pub cells : whole.cells ≡ front.cells ++ back.cells
+  pub births : whole.births ≡ front.births ++ back.births
+  pub dead : whole.dead ≡ front.dead ++ back.dead
+  pub bank : whole.seat.bank ≡ front.seat.bank
+  pub share : whole.seat.share ≡ front.seat.share + back.seat.share
+  pub front_seen : IsPrefix front.seat.seen whole.seat.seen
+  pub back_seen : IsPrefix back.seat.seen whole.seat.seen
+  pub own : IsPermutation (own_calls_of front.seat ++ own_calls_of back.seat)
+      (own_calls_of whole.seat)
+
+-- the newborns of both have their numbers
+pub two-numbered : ((early history : List Entry) → IsPrefix early history
+    → IsPrefix (genotypes_of early) (genotypes_of history)) → (front back whole : Finished)
+    → AreTwo front back whole → All (IsNumbered front.seat.seen) front.births
+    → All (IsNumbered back.seat.seen) back.births → All (IsNumbered whole.seat.seen) whole.births
+two-numbered stay front back whole two first second =
+    All-same (IsNumbered whole.seat.seen) whole.births (front.births ++ back.births) two.births
+    (All-append (IsNumbered whole.seat.seen) front.births back.births
+    (All-weaker (IsNumbered front.seat.seen) (IsNumbered whole.seat.seen)
+    (λ d. number-stays stay front.seat.seen whole.seat.seen d two.front_seen) front.births
+    first)
+    (All-weaker (IsNumbered back.seat.seen) (IsNumbered whole.seat.seen)
+    (λ d. number-stays stay back.seat.seen whole.seat.seen d two.back_seen) back.births second))
+
+-- a shard alone
+pub joined-alone : (whole : Finished) → All (IsNumbered whole.seat.seen) whole.births
+    → IsJoined whole [] whole
+joined-alone whole numbers = record {
+  cells = sym (append-nil whole.cells);
+  births = sym (append-nil whole.births);
+  dead = sym (append-nil whole.dead);
+  bank = refl;
+  share = omega arith;
+  seen = ([], append-nil whole.seat.seen);
+  numbers = numbers;
+  own = subst (λ calls. IsPermutation calls (own_calls_of whole.seat))
+      (sym (append-nil (own_calls_of whole.seat))) (IsPermutation-refl (own_calls_of whole.seat));
+}
+
+-- what joins others behind two joins the second and the others behind the first
+pub joined-more : (front back two end : Finished) (others : List Finished) → AreTwo front back two
+    → IsJoined two others end → IsJoined front (back ∷ others) end
+joined-more front back two end others are joined = record {
+  cells = joined.cells ∙ ap (λ cells. cells ++ flat_map (λ one. one.cells) others) are.cells
+      ∙ append_assoc front.cells back.cells (flat_map (λ one. one.cells) others);
+  births = joined.births ∙ ap (λ births. births ++ flat_map (λ one. one.births) others) are.births
+      ∙ append_assoc front.births back.births (flat_map (λ one. one.births) others);
+  dead = joined.dead ∙ ap (λ dead. dead ++ flat_map (λ one. one.dead) others) are.dead
+      ∙ append_assoc front.dead back.dead (flat_map (λ one. one.dead) others);
+  bank = joined.bank ∙ are.bank;
+  share = omega (
+    arith,
+    joined.share,
+    are.share,
+    sum_by-cons (λ (one : Finished). one.seat.share) back others,
+  );
+  seen = IsPrefix-trans front.seat.seen two.seat.seen end.seat.seen are.front_seen joined.seen;
+  numbers = joined.numbers;
+  own = subst (λ calls. IsPermutation calls (own_calls_of end.seat))
+      (append_assoc (own_calls_of front.seat) (own_calls_of back.seat) (calls_in others))
+      (IsPermutation-trans ((own_calls_of front.seat ++ own_calls_of back.seat) ++ calls_in others)
+      (own_calls_of two.seat ++ calls_in others) (own_calls_of end.seat)
+      (IsPermutation-append_left (calls_in others)
+      (own_calls_of front.seat ++ own_calls_of back.seat) (own_calls_of two.seat) are.own)
+      joined.own);
+}

@@ -1,0 +1,83 @@
+-- Organisms beside their ids, as one cell changes.
+use Rattle.std.proofs.Common.{◌≡◌, refl, ap, ℕ, zero, suc, List, [], ◌∷◌, length, map, set, get_or, replicate, Option, Some, None, arith}
+use Rattle.organism.specs.OrganismState.{OrganismState}
+use Rattle.world_rules.specs.Lives.{merit_in}
+use Rattle.world_rules.specs.Statistics.{organism_in}
+use Rattle.world_rules.specs.World.{Occupant}
+use Rattle.world_core.specs.Population.{merit_of}
+use Rattle.world_core.specs.Residents.{occupants_of, with_id}
+
+-- there are as many cells as organisms and gaps
+pub occupants_of-length : (os : List (Option OrganismState)) (ids : List ℕ) → length ids ≡ length os
+    → length (occupants_of os ids) ≡ length os
+occupants_of-length [] ids long = refl
+occupants_of-length (o ∷ os) [] long = absurd (omega (arith, long))
+occupants_of-length (o ∷ os) (id ∷ ids) long =
+    ap suc (occupants_of-length os ids (omega (arith, long)))
+
+-- who stands in a cell
+pub occupants_of-at : (os : List (Option OrganismState)) (ids : List ℕ) (cell : ℕ)
+    → length ids ≡ length os
+    → get_or (occupants_of os ids) cell None ≡ with_id (get_or ids cell 0) (get_or os cell None)
+occupants_of-at [] ids cell long = refl
+occupants_of-at (o ∷ os) [] cell long = absurd (omega (arith, long))
+occupants_of-at (o ∷ os) (id ∷ ids) zero long = refl
+occupants_of-at (o ∷ os) (id ∷ ids) (suc cell) long =
+    occupants_of-at os ids cell (omega (arith, long))
+
+-- a cell becomes empty
+pub occupants_of-remove : (os : List (Option OrganismState)) (ids : List ℕ) (cell : ℕ)
+    → occupants_of (set os cell None) ids ≡ set (occupants_of os ids) cell None
+occupants_of-remove [] ids cell = refl
+occupants_of-remove (o ∷ os) [] zero = refl
+occupants_of-remove (o ∷ os) [] (suc cell) = refl
+occupants_of-remove (o ∷ os) (id ∷ ids) zero = refl
+occupants_of-remove (o ∷ os) (id ∷ ids) (suc cell) =
+    ap (λ rest. with_id id o ∷ rest) (occupants_of-remove os ids cell)
+
+-- somebody comes into a cell
+pub occupants_of-put : (os : List (Option OrganismState)) (ids : List ℕ) (cell id : ℕ)
+    (o : OrganismState) → length ids ≡ length os
+    → occupants_of (set os cell (Some o)) (set ids cell id)
+    ≡ set (occupants_of os ids) cell (Some (record { id = id; organism = o }))
+occupants_of-put [] ids cell id o long = refl
+occupants_of-put (x ∷ os) [] cell id o long = absurd (omega (arith, long))
+occupants_of-put (x ∷ os) (y ∷ ids) zero id o long = refl
+occupants_of-put (x ∷ os) (y ∷ ids) (suc cell) id o long =
+    ap (λ rest. with_id y x ∷ rest) (occupants_of-put os ids cell id o (omega (arith, long)))
+
+-- nobody stands anywhere
+pub occupants_of-none : (n : ℕ) (ids : List ℕ) → length ids ≡ n
+    → occupants_of (replicate n None) ids ≡ replicate n None
+occupants_of-none zero ids long = refl
+occupants_of-none (suc n) [] long = absurd (omega (arith, long))
+occupants_of-none (suc n) (id ∷ ids) long =
+    ap (λ rest. None ∷ rest) (occupants_of-none n ids (omega (arith, long)))
+
+-- an organism with an id is that organism
+pub organism-of : (id : ℕ) (o : Option OrganismState) → organism_in (with_id id o) ≡ o
+organism-of id None = refl
+organism-of id (Some o) = refl
+
+-- its merit counts in the cell
+merit-of : (id : ℕ) (o : Option OrganismState) → merit_in (with_id id o) ≡ merit_of o
+merit-of id None = refl
+merit-of id (Some o) = refl
+
+-- the merits in the cells are those of the organisms
+pub merits-of : (os : List (Option OrganismState)) (ids : List ℕ) → length ids ≡ length os
+    → map merit_in (occupants_of os ids) ≡ map merit_of os
+merits-of [] ids long = refl
+merits-of (o ∷ os) [] long = absurd (omega (arith, long))
+merits-of (o ∷ os) (id ∷ ids) long = λ i. merit-of id o i ∷ merits-of os ids (omega (arith, long)) i
+
+-- who has this organism
+pub somebody : (slot : Option Occupant) (organism : OrganismState)
+    → organism_in slot ≡ Some organism → (o : Occupant) × (slot ≡ Some o) × (o.organism ≡ organism)
+somebody None organism is = absurd cc
+somebody (Some o) organism is = (o, refl, cc)
+
+-- nobody has none
+pub nobody : (slot : Option Occupant) → organism_in slot ≡ None → slot ≡ None
+nobody None is = refl
+nobody (Some o) is = absurd cc

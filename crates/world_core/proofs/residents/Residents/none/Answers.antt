@@ -1,0 +1,10 @@
+use Rattle.std.proofs.Common.{◌∙◌, ap, sym}
+use Rattle.world_core.specs.Residents.{occupants_of}
+use Rattle.world_core.proofs.ResidentLemmas.{occupants_of-none}
+use Rattle.world_core.proofs.residents.Residents.none.Goals as goal
+
+pub returns : goal.returns
+returns c =
+    ap (λ os. occupants_of os c.in_ok-vec.field-0.items) c.in_ok-empty_cells.ensures
+    ∙ occupants_of-none c.args.cells c.in_ok-vec.field-0.items
+    (sym c.in_ok-vec.field-0.ok.0 ∙ c.in_ok-vec.ensures.len)

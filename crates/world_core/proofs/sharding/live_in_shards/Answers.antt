@@ -1,0 +1,178 @@
+use Rattle.std.proofs.Common.{◌≡◌, ◌∙◌, ◌<◌, ◌^◌, List, All, ap, arith, fold, length, map, subst, sym}
+use Rattle.std.proofs.lemmas.List.Elements.{All-same, All-weaker}
+use Rattle.cell_shards.specs.CellLives.{IsYoung, round_numbers}
+use Rattle.cell_shards.specs.Finishing.{IsNumbered, birth_of}
+use Rattle.cell_shards.specs.declared.delivered.Delivered.{Delivered}
+use Rattle.cell_shards.specs.declared.finished.Finished.{Finished}
+use Rattle.genotype_bank.specs.BankHistory.{genotypes_of}
+use Rattle.instruction_set.specs.declared.letter.Letter.{Letter}
+use Rattle.world_core.specs.Genotypes.{TakesIn}
+use Rattle.world_core.proofs.GenotypeLemmas.{genotypes-different, len-taken, next_len}
+use Rattle.world_core.proofs.JoinLemmas.{EndsAs, each-finished, ends-as, jobs-can-run, numbers-finished, seats-finished, seats-shared, takes-in}
+use Rattle.world_core.proofs.sharding.live_in_shards.Goals as goal
+
+pub run_all-requires-clause-jobs : goal.run_all-requires-clause-jobs
+run_all-requires-clause-jobs g c l b k d within =
+    let parts = c.in_ok-jobs.ensures.cells in
+    jobs-can-run 0 c.in_ok-jobs.jobs.items parts.beside
+    (omega (arith, c.requires.cells, ap length parts.cells_are))
+    (subst (All (λ steps. steps < 2 ^ 27)) (sym parts.slices_are) c.requires.few)
+    (subst (All IsYoung) (sym parts.cells_are) c.requires.young) k d within
+
+pub join_all-requires-clause-seats : goal.join_all-requires-clause-seats
+join_all-requires-clause-seats g c =
+    let round = round_numbers c.args.round.now in
+    let jobs = c.in_ok-jobs.jobs.items in
+    let all = c.in_ok-shards.shards.items in
+    let seat = c.genotypes.inside.seat in
+    subst (λ bank. All (λ (one : Finished). one.seat.bank ≡ bank) all) c.genotypes.invariant.0
+    (seats-finished round seat jobs all (seats-shared seat jobs c.in_ok-jobs.ensures.seats)
+    (each-finished round jobs all c.in_ok-shards.ensures))
+
+pub join_all-requires-clause-numbers : goal.join_all-requires-clause-numbers
+join_all-requires-clause-numbers g c =
+    let round = round_numbers c.args.round.now in
+    let jobs = c.in_ok-jobs.jobs.items in
+    let all = c.in_ok-shards.shards.items in
+    numbers-finished round jobs all (each-finished round jobs all c.in_ok-shards.ensures)
+
+pub len_after-len-requires : goal.len_after-len-requires
+len_after-len-requires g c =
+    let ends : EndsAs (round_numbers c.args.round.now) c.genotypes.inside.seat c.args.cells.items
+    c.args.slices.items c.in_ok-cells.field-0 =
+    ends-as (record {
+      lives = c.parts_live_as_one.ensures.lives;
+      births = c.parts_live_as_one.ensures.births;
+      deaths = c.parts_live_as_one.ensures.deaths;
+      count = c.parts_live_as_one.ensures.count;
+    }) (round_numbers c.args.round.now)
+    c.genotypes.inside.seat c.args.cells.items c.args.slices.items c.in_ok-jobs.jobs.items
+    c.in_ok-shards.shards.items c.in_ok-cells.field-0 c.in_ok-jobs.ensures.cells
+    c.in_ok-jobs.ensures.seats
+    (omega (arith, c.in_ok-jobs.ensures.few, c.genotypes.invariant.1)) c.in_ok-shards.ensures
+    c.in_ok-cells.ensures in
+    let births = c.in_ok-cells.field-0.births in
+    All-same (λ (d : Delivered). d.handle.number < 2 ^ 63) c.as_slice.result.now births
+    c.as_slice.ensures
+    (All-weaker (IsNumbered c.in_ok-cells.field-0.seat.seen)
+    (λ (d : Delivered). d.handle.number < 2 ^ 63) (λ d numbered. numbered.small) births
+    ends.numbers)
+
+pub invariant_of-genotypes : goal.invariant_of-genotypes
+invariant_of-genotypes g c =
+    let ends : EndsAs (round_numbers c.args.round.now) c.genotypes.inside.seat c.args.cells.items
+    c.args.slices.items c.in_ok-cells.field-0 =
+    ends-as (record {
+      lives = c.parts_live_as_one.ensures.lives;
+      births = c.parts_live_as_one.ensures.births;
+      deaths = c.parts_live_as_one.ensures.deaths;
+      count = c.parts_live_as_one.ensures.count;
+    }) (round_numbers c.args.round.now)
+    c.genotypes.inside.seat c.args.cells.items c.args.slices.items c.in_ok-jobs.jobs.items
+    c.in_ok-shards.shards.items c.in_ok-cells.field-0 c.in_ok-jobs.ensures.cells
+    c.in_ok-jobs.ensures.seats
+    (omega (arith, c.in_ok-jobs.ensures.few, c.genotypes.invariant.1)) c.in_ok-shards.ensures
+    c.in_ok-cells.ensures in
+    let takes : TakesIn (genotypes_of c.genotypes.inside.seat.seen)
+    (genotypes_of c.in_ok-cells.field-0.seat.seen) c.in_ok-cells.field-0.births =
+    takes-in (record {
+      stay = c.calls_number_genotypes.ensures.stay;
+      calls = c.genotypes_are_what_was_interned.ensures.calls;
+    }) (round_numbers c.args.round.now)
+    c.genotypes.inside.seat c.args.cells.items c.args.slices.items c.in_ok-cells.field-0
+    (c.owns_all.ensures c.genotypes.invariant.1)
+    (c.owns_all-2.ensures (ends.share ∙ c.genotypes.invariant.1)) ends in
+    let births = c.in_ok-cells.field-0.births in (
+      ends.bank ∙ c.genotypes.invariant.0,
+      ends.share ∙ c.genotypes.invariant.1,
+      c.len_after-len.ensures
+          ∙ ap (fold next_len c.genotypes.inside.len) c.as_slice.ensures
+          ∙ ap (λ n. fold next_len n births) c.genotypes.invariant.2
+          ∙ len-taken (genotypes_of c.genotypes.inside.seat.seen)
+          (genotypes_of c.in_ok-cells.field-0.seat.seen) births takes
+          (genotypes-different c.numbers_agree.ensures c.in_ok-cells.field-0.seat.seen),
+    )
+
+pub returns-clause-cells : goal.returns-clause-cells
+returns-clause-cells g c =
+    let ends : EndsAs (round_numbers c.args.round.now) c.genotypes.inside.seat c.args.cells.items
+    c.args.slices.items c.in_ok-cells.field-0 =
+    ends-as (record {
+      lives = c.parts_live_as_one.ensures.lives;
+      births = c.parts_live_as_one.ensures.births;
+      deaths = c.parts_live_as_one.ensures.deaths;
+      count = c.parts_live_as_one.ensures.count;
+    }) (round_numbers c.args.round.now)
+    c.genotypes.inside.seat c.args.cells.items c.args.slices.items c.in_ok-jobs.jobs.items
+    c.in_ok-shards.shards.items c.in_ok-cells.field-0 c.in_ok-jobs.ensures.cells
+    c.in_ok-jobs.ensures.seats
+    (omega (arith, c.in_ok-jobs.ensures.few, c.genotypes.invariant.1)) c.in_ok-shards.ensures
+    c.in_ok-cells.ensures in
+    c.into_vec.ensures ∙ ends.left
+
+pub returns-clause-births : goal.returns-clause-births
+returns-clause-births g c =
+    let ends : EndsAs (round_numbers c.args.round.now) c.genotypes.inside.seat c.args.cells.items
+    c.args.slices.items c.in_ok-cells.field-0 =
+    ends-as (record {
+      lives = c.parts_live_as_one.ensures.lives;
+      births = c.parts_live_as_one.ensures.births;
+      deaths = c.parts_live_as_one.ensures.deaths;
+      count = c.parts_live_as_one.ensures.count;
+    }) (round_numbers c.args.round.now)
+    c.genotypes.inside.seat c.args.cells.items c.args.slices.items c.in_ok-jobs.jobs.items
+    c.in_ok-shards.shards.items c.in_ok-cells.field-0 c.in_ok-jobs.ensures.cells
+    c.in_ok-jobs.ensures.seats
+    (omega (arith, c.in_ok-jobs.ensures.few, c.genotypes.invariant.1)) c.in_ok-shards.ensures
+    c.in_ok-cells.ensures in
+    ap (map birth_of) c.into_vec-2.ensures ∙ ends.births
+
+pub returns-clause-dead : goal.returns-clause-dead
+returns-clause-dead g c =
+    let ends : EndsAs (round_numbers c.args.round.now) c.genotypes.inside.seat c.args.cells.items
+    c.args.slices.items c.in_ok-cells.field-0 =
+    ends-as (record {
+      lives = c.parts_live_as_one.ensures.lives;
+      births = c.parts_live_as_one.ensures.births;
+      deaths = c.parts_live_as_one.ensures.deaths;
+      count = c.parts_live_as_one.ensures.count;
+    }) (round_numbers c.args.round.now)
+    c.genotypes.inside.seat c.args.cells.items c.args.slices.items c.in_ok-jobs.jobs.items
+    c.in_ok-shards.shards.items c.in_ok-cells.field-0 c.in_ok-jobs.ensures.cells
+    c.in_ok-jobs.ensures.seats
+    (omega (arith, c.in_ok-jobs.ensures.few, c.genotypes.invariant.1)) c.in_ok-shards.ensures
+    c.in_ok-cells.ensures in
+    c.into_vec-3.ensures ∙ ends.dead
+
+pub returns-clause-bank : goal.returns-clause-bank
+returns-clause-bank g c =
+    let ends : EndsAs (round_numbers c.args.round.now) c.genotypes.inside.seat c.args.cells.items
+    c.args.slices.items c.in_ok-cells.field-0 =
+    ends-as (record {
+      lives = c.parts_live_as_one.ensures.lives;
+      births = c.parts_live_as_one.ensures.births;
+      deaths = c.parts_live_as_one.ensures.deaths;
+      count = c.parts_live_as_one.ensures.count;
+    }) (round_numbers c.args.round.now)
+    c.genotypes.inside.seat c.args.cells.items c.args.slices.items c.in_ok-jobs.jobs.items
+    c.in_ok-shards.shards.items c.in_ok-cells.field-0 c.in_ok-jobs.ensures.cells
+    c.in_ok-jobs.ensures.seats
+    (omega (arith, c.in_ok-jobs.ensures.few, c.genotypes.invariant.1)) c.in_ok-shards.ensures
+    c.in_ok-cells.ensures in
+    let takes : TakesIn (genotypes_of c.genotypes.inside.seat.seen)
+    (genotypes_of c.in_ok-cells.field-0.seat.seen) c.in_ok-cells.field-0.births =
+    takes-in (record {
+      stay = c.calls_number_genotypes.ensures.stay;
+      calls = c.genotypes_are_what_was_interned.ensures.calls;
+    }) (round_numbers c.args.round.now)
+    c.genotypes.inside.seat c.args.cells.items c.args.slices.items c.in_ok-cells.field-0
+    (c.owns_all.ensures c.genotypes.invariant.1)
+    (c.owns_all-2.ensures (ends.share ∙ c.genotypes.invariant.1)) ends in
+    subst (λ (births : List Delivered). TakesIn c.args.genotypes
+    (genotypes_of c.in_ok-cells.field-0.seat.seen) births) (sym c.into_vec-2.ensures)
+    (subst (λ (old : List (List Letter)). TakesIn old (genotypes_of c.in_ok-cells.field-0.seat.seen)
+    c.in_ok-cells.field-0.births) c.genotypes.view_is takes)
+
+pub returns-clause-different : goal.returns-clause-different
+returns-clause-different g c =
+    genotypes-different c.numbers_agree.ensures c.in_ok-cells.field-0.seat.seen

@@ -1,0 +1,28 @@
+-- A scene with the bank of its world (docs/WORLD.md, "Genotypes and their numbers").
+use Rattle.std.specs.Prelude.{ℕ, List, Option}
+use mathlib.Core.List.{IsPrefix}
+use Rattle.genotype_bank.specs.BankHistory.{HasEachOnce}
+use Rattle.instruction_set.specs.declared.letter.Letter.{Letter}
+use Rattle.lineage_log.specs.Links.{Link}
+use Rattle.world_rules.specs.Scene.{Scene}
+use Rattle.world_rules.specs.World.{Occupant}
+use Rattle.world_core.specs.Genotypes.{genomes_ever}
+
+-- a scene, how many organisms there were as it began, and the genomes of the bank, each at the
+-- place that is its number
+pub record SceneValue : Type 0 where
+  pub update : ℕ
+  pub cells : List (Option Occupant)
+  pub everyone : List Link
+  pub first : ℕ
+  pub gone : List ℕ
+  pub bank : List (List Letter)
+
+-- the scene alone
+abbrev pub scene_in : SceneValue → Scene
+scene_in s = record { update = s.update; cells = s.cells; everyone = s.everyone; gone = s.gone }
+
+-- all numbers stay, and a bank that had each genome of these organisms once has each of those once
+pub record Grows (old new : List (List Letter)) (before after : List Link) : Type 0 where
+  pub stays : IsPrefix old new
+  pub each : HasEachOnce old (genomes_ever before) → HasEachOnce new (genomes_ever after)

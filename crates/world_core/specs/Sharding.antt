@@ -1,0 +1,51 @@
+-- How the jobs of an update part the cells and share a seat (docs/ARCHITECTURE.md, "Shards").
+use Rattle.std.specs.Prelude.{◌≡◌, ℕ, ◌+◌, ◌-◌, ◌++◌, All, List, [], ◌∷◌, length, Option}
+use Rattle.std.specs.List.{flat_map, sum_by}
+use Rattle.std.specs.List.Sorted.{IsPermutation}
+use mathlib.Core.List.{IsPrefix}
+use Rattle.cell_shards.specs.Finishing.{IsNumbered}
+use Rattle.cell_shards.specs.declared.finished.Finished.{Finished}
+use Rattle.cell_shards.specs.declared.job.Job.{Job}
+use Rattle.genotype_bank.specs.Seats.{SeatValue, own_calls_of}
+use Rattle.organism.specs.OrganismState.{OrganismState}
+
+-- the cells of these jobs lie side by side from the first one on, each with its steps
+abbrev pub LieSideBySide : ℕ → List Job → Type 0
+LieSideBySide first [] = Unit {0}
+LieSideBySide first (job ∷ jobs) =
+    (job.first ≡ first) × (length job.slices ≡ length job.cells)
+    × LieSideBySide (first + length job.cells) jobs
+
+-- these jobs have all cells from 0 on and their steps, in order
+pub record PartCells (jobs : List Job) (cells : List (Option OrganismState))
+    (slices : List ℕ) : Type 0 where
+  pub beside : LieSideBySide 0 jobs
+  pub cells_are : flat_map (λ job. job.cells) jobs ≡ cells
+  pub slices_are : flat_map (λ job. job.slices) jobs ≡ slices
+
+-- a seat that another gave a share of 1
+abbrev pub seat_from : SeatValue → SeatValue
+seat_from seat = record { bank = seat.bank; share = 1; numbers = []; seen = seat.seen }
+
+-- a seat that gave as many shares
+abbrev pub seat_without : SeatValue → ℕ → SeatValue
+seat_without seat shares = record seat { share = seat.share - shares }
+
+-- the first job has the seat, but for a share that each other has
+abbrev pub ShareSeat : SeatValue → List Job → Type 0
+ShareSeat seat [] = ⊥
+ShareSeat seat (job ∷ jobs) =
+    (job.seat ≡ seat_without seat (length jobs)) × All (λ other. other.seat ≡ seat_from seat) jobs
+
+-- shards joined behind a first one: cells, newborns and dead in order, and one seat of all
+pub record IsJoined (first : Finished) (others : List Finished) (whole : Finished) : Type 0 where
+  pub cells : whole.cells ≡ first.cells ++ flat_map (λ one. one.cells) others
+  pub births : whole.births ≡ first.births ++ flat_map (λ one. one.births) others
+  pub dead : whole.dead ≡ first.dead ++ flat_map (λ one. one.dead) others
+  pub bank : whole.seat.bank ≡ first.seat.bank
+  pub share : whole.seat.share ≡ first.seat.share + sum_by (λ one. one.seat.share) others
+  pub seen : IsPrefix first.seat.seen whole.seat.seen
+  pub numbers : All (IsNumbered whole.seat.seen) whole.births
+  pub own : IsPermutation
+      (own_calls_of first.seat ++ flat_map (λ one. own_calls_of one.seat) others)
+      (own_calls_of whole.seat)

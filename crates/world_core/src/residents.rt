@@ -1,0 +1,114 @@
+// Who stands in each cell, the organisms apart from their ids.
+ghost use Rattle.std.specs.Prelude.{◌≡◌, ◌<◌, None, Some, IfOk, length, replicate, slice_index_or, slice_set};
+ghost use Rattle.std.specs.Option.{option_copied};
+ghost use Rattle.world_rules.specs.Statistics.{organism_in};
+ghost use Rattle.world_rules.specs.World.{id_of, ids_of};
+
+use avida_port::Memory;
+use organism::Organism;
+use std::alloc::{AllocError, Global};
+use std::marker::Model;
+
+/// The organism of each cell, and the id of who stands there. The lives of an update need only the
+/// organisms, which a shard takes with it.
+#[derive(Drop)]
+pub(crate) struct Residents {
+    pub(crate) organisms: Vec<Option<Organism>>,
+    /// Where nobody stands the number means nothing.
+    pub(crate) ids: Vec<u64>,
+}
+
+impl Model for Residents {
+    ghost use Rattle.std.specs.Prelude.{List, Option};
+    ghost use Rattle.world_rules.specs.World.{Occupant};
+
+    ghost Value = { List (Option Occupant) };
+
+    ghost use Rattle.std.specs.Prelude.{◌≡◌, length};
+    ghost use Rattle.world_core.specs.Residents.{occupants_of};
+
+    ghost view = { λ r. occupants_of r.organisms.items r.ids.items };
+
+    ghost invariant = { λ r. length r.ids.items ≡ length r.organisms.items };
+}
+
+impl Residents {
+    /// So many cells in which nobody stands.
+    pub(crate) fn none(alloc: Global, cells: u32) -> Result<Residents, Memory>
+        ensures { IfOk result (λ residents. residents ≡ replicate cells None) }
+    {
+        Ok(Residents {
+            organisms: empty_cells(alloc, cells)?,
+            ids: vec![in alloc; 0; cells as usize]?,
+        })
+    }
+
+    /// How many cells there are.
+    pub(crate) fn len(&self) -> usize
+        ensures { result ≡ length self.now }
+    {
+        self.organisms.len()
+    }
+
+    /// The organism in the cell.
+    pub(crate) fn organism_at(&self, cell: usize) -> Option<&Organism>
+        requires { cell < length self.now }
+        ensures { option_copied result ≡ organism_in (slice_index_or self.now cell None) }
+    {
+        match &self.organisms[cell] {
+            Some(organism) => Some(organism),
+            None => None,
+        }
+    }
+
+    /// The id of who stands in the cell.
+    pub(crate) fn id_at(&self, cell: usize) -> Option<u64>
+        requires { cell < length self.now }
+        ensures { result ≡ id_of (slice_index_or self.now cell None) }
+    {
+        match &self.organisms[cell] {
+            Some(_) => Some(self.ids[cell]),
+            None => None,
+        }
+    }
+
+    /// The id of who stands in each cell.
+    pub(crate) fn all_ids(&self, alloc: Global) -> Result<Vec<Option<u64>>, AllocError>
+        ensures { IfOk result (λ ids. ids.items ≡ ids_of self.now) }
+    {
+        let mut ids = Vec::with_capacity(alloc, self.organisms.len())?;
+        for cell in 0..self.organisms.len() {
+            ids.push(self.id_at(cell))?;
+        }
+        Ok(ids)
+    }
+
+    /// Nobody stands in the cell any longer.
+    pub(crate) fn remove(&mut self, cell: usize)
+        requires { cell < length self.old }
+        ensures { self.new ≡ slice_set self.old cell None }
+    {
+        self.organisms[cell] = None;
+    }
+
+    /// Somebody with this id stands in the cell.
+    pub(crate) fn put(&mut self, cell: usize, id: u64, organism: Organism)
+        requires { cell < length self.old }
+        ensures { self.new
+            ≡ slice_set self.old cell (Some (record { id = id; organism = organism })) }
+    {
+        self.organisms[cell] = Some(organism);
+        self.ids[cell] = id;
+    }
+}
+
+/// So many cells in which nobody stands.
+fn empty_cells(alloc: Global, count: u32) -> Result<Vec<Option<Organism>>, Memory>
+    ensures { IfOk result (λ cells. cells.items ≡ replicate count None) }
+{
+    let mut cells = Vec::with_capacity(alloc, count as usize)?;
+    for _ in 0..count {
+        cells.push(None)?;
+    }
+    Ok(cells)
+}

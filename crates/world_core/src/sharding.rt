@@ -1,0 +1,190 @@
+// The cells of a world in shards, and what their lives leave as one again.
+ghost use Rattle.std.specs.Prelude.{◌≡◌, ◌+◌, ◌<◌, ◌≤◌, ◌^◌, ◌++◌, ◌∷◌, List, All, IfOk, length, map};
+ghost use Rattle.std.specs.List.Sorted.{IsPermutation};
+ghost use mathlib.Core.List.{IsPrefix};
+ghost use Rattle.cell_shards.specs.CellLives.{IsYoung, births_from, deaths_from, left_in, lives_of, part_from, round_numbers};
+ghost use Rattle.cell_shards.specs.Finishing.{IsNumbered, birth_of};
+ghost use Rattle.genotype_bank.specs.Seats.{all_shares, own_calls_of};
+ghost use Rattle.world_core.specs.Genotypes.{TakesIn};
+ghost use Rattle.world_core.specs.Population.{AreDifferent};
+ghost use Rattle.world_core.specs.Sharding.{IsJoined, PartCells, ShareSeat};
+
+use crate::genotypes::{Genotypes, len_after};
+use avida_port::{Gate, Memory};
+use cell_shards::laws::{parts_live_as_one, shards_part_the_cells};
+use cell_shards::{
+    Cells, Dead, Delivered, Deliveries, Finished, Job, Round, Slices, bounds, run_all,
+};
+use genotype_bank::laws::{calls_number_genotypes, genotypes_are_what_was_interned, numbers_agree};
+use genotype_bank::{Bank, Seat};
+use organism::Organism;
+use random_streams::CELLS;
+use std::alloc::Global;
+use std::sync::Wait;
+use std::thread::Threads;
+
+/// The cells after an update without the dead, its newborns, and the cells of the dead.
+#[derive(Drop)]
+pub(crate) struct Ended {
+    pub(crate) organisms: Vec<Option<Organism>>,
+    pub(crate) births: Vec<Delivered>,
+    pub(crate) dead: Vec<u32>,
+}
+
+/// All cells live for an update, in as many shards as there are workers. One worker has the cells
+/// as they are, and nothing is moved. After `Memory` all is gone.
+pub(crate) fn live_in_shards<R: Threads + Wait + Sync, G: Gate + Sync>(
+    rt: &R,
+    alloc: Global,
+    genotypes: Genotypes,
+    cells: Vec<Option<Organism>>,
+    slices: Vec<u64>,
+    round: &Round,
+    workers: u32,
+    gate: &G,
+) -> Result<(Genotypes, Ended), Memory>
+    requires cells { (1 ≤ length cells.items) × (length cells.items ≤ CELLS) }
+    requires slices { length slices.items ≡ length cells.items }
+    requires few { All (λ steps. steps < 2 ^ 27) slices.items }
+    requires young { All IsYoung cells.items }
+    requires workers { (1 ≤ workers) × (workers ≤ 64) }
+    ensures cells { IfOk result (λ next. next.1.organisms.items ≡ map left_in
+        (lives_of (round_numbers round.now) (part_from 0 cells.items slices.items))) }
+    ensures births { IfOk result (λ next. map birth_of next.1.births.items ≡ births_from 0
+        (lives_of (round_numbers round.now) (part_from 0 cells.items slices.items))) }
+    ensures dead { IfOk result (λ next. next.1.dead.items ≡ deaths_from 0
+        (lives_of (round_numbers round.now) (part_from 0 cells.items slices.items))) }
+    ensures bank { IfOk result (λ next. TakesIn genotypes next.0 next.1.births.items) }
+    ensures different { IfOk result (λ next. AreDifferent next.0) }
+{
+    calls_number_genotypes();
+    genotypes_are_what_was_interned();
+    numbers_agree();
+    parts_live_as_one();
+    let Genotypes { bank, seat, len } = genotypes;
+    seat.owns_all();
+    let jobs = jobs_of(alloc, &bank, seat, cells, slices, workers)?;
+    let shards = run_all(rt, alloc, jobs, &bank, round, gate)?;
+    let Finished {
+        cells,
+        births,
+        dead,
+        seat,
+        ..
+    } = join_all(&bank, shards)?;
+    seat.owns_all();
+    let len = len_after(len, births.as_slice());
+    let genotypes = Genotypes { bank, seat, len };
+    let ended = Ended {
+        organisms: cells.into_vec(),
+        births: births.into_vec(),
+        dead: dead.into_vec(),
+    };
+    Ok((genotypes, ended))
+}
+
+/// The cells cut into a job for each worker, cut off from the last to the first. The first job
+/// keeps the seat; each other has one that was split from it.
+fn jobs_of(
+    alloc: Global,
+    bank: &Bank,
+    seat: Seat,
+    cells: Vec<Option<Organism>>,
+    slices: Vec<u64>,
+    workers: u32,
+) -> Result<Vec<Job>, Memory>
+    requires cells { (1 ≤ length cells.items) × (length cells.items ≤ CELLS) }
+    requires slices { length slices.items ≡ length cells.items }
+    requires workers { (1 ≤ workers) × (workers ≤ 64) }
+    requires seat { (seat.bank ≡ bank.now) × (seat.share ≡ all_shares) }
+    ensures cells { IfOk result (λ jobs. PartCells jobs.items cells.items slices.items) }
+    ensures seats { IfOk result (λ jobs. ShareSeat seat jobs.items) }
+    ensures few { IfOk result (λ jobs. length jobs.items ≤ 64) }
+{
+    shards_part_the_cells();
+    let count = cells.len() as u32;
+    let mut seat = seat;
+    let mut cells = cells;
+    let mut slices = slices;
+    let mut jobs = Vec::with_capacity(alloc, workers as usize)?;
+    let mut shard = workers - 1;
+    while shard > 0 {
+        let (first, _) = bounds(count, workers, shard);
+        let part = cells.split_off(first as usize)?;
+        let steps = slices.split_off(first as usize)?;
+        jobs.push(Job {
+            first,
+            cells: Cells::from_vec(part),
+            slices: Slices::from_vec(steps),
+            seat: bank.split(&mut seat),
+        })?;
+        shard -= 1;
+    }
+    jobs.push(Job {
+        first: 0,
+        cells: Cells::from_vec(cells),
+        slices: Slices::from_vec(slices),
+        seat,
+    })?;
+    jobs.reverse();
+    Ok(jobs)
+}
+
+/// All shards as one, joined in their order.
+fn join_all(bank: &Bank, shards: Vec<Finished>) -> Result<Finished, Memory>
+    requires some { 0 < length shards.items }
+    requires seats { All (λ one. one.seat.bank ≡ bank.now) shards.items }
+    requires numbers { All (λ one. All (IsNumbered one.seat.seen) one.births) shards.items }
+    ensures { IfOk result (λ whole. (first : Finished) → (others : List Finished)
+        → shards.items ≡ first ∷ others → IsJoined first others whole) }
+{
+    calls_number_genotypes();
+    let mut shards = shards.into_iter();
+    let mut whole = match shards.next() {
+        Some(first) => first,
+        None => unreachable!(),
+    };
+    for next in shards {
+        whole = join_two(bank, whole, next)?;
+    }
+    Ok(whole)
+}
+
+/// A shard behind another.
+fn join_two(bank: &Bank, front: Finished, back: Finished) -> Result<Finished, Memory>
+    requires front { front.seat.bank ≡ bank.now }
+    requires back { back.seat.bank ≡ bank.now }
+    ensures cells { IfOk result (λ whole. whole.cells ≡ front.cells ++ back.cells) }
+    ensures births { IfOk result (λ whole. whole.births ≡ front.births ++ back.births) }
+    ensures dead { IfOk result (λ whole. whole.dead ≡ front.dead ++ back.dead) }
+    ensures bank { IfOk result (λ whole. whole.seat.bank ≡ front.seat.bank) }
+    ensures share { IfOk result
+        (λ whole. whole.seat.share ≡ front.seat.share + back.seat.share) }
+    ensures seen { IfOk result (λ whole. IsPrefix front.seat.seen whole.seat.seen
+        × IsPrefix back.seat.seen whole.seat.seen) }
+    ensures own { IfOk result (λ whole. IsPermutation
+        (own_calls_of front.seat ++ own_calls_of back.seat) (own_calls_of whole.seat)) }
+{
+    let Finished {
+        first,
+        cells,
+        births,
+        dead,
+        seat,
+    } = front;
+    Ok(Finished {
+        first,
+        cells: Cells::from_vec(appended(cells.into_vec(), back.cells.into_vec())?),
+        births: Deliveries::from_vec(appended(births.into_vec(), back.births.into_vec())?),
+        dead: Dead::from_vec(appended(dead.into_vec(), back.dead.into_vec())?),
+        seat: bank.join(seat, back.seat),
+    })
+}
+
+/// A list and then another.
+fn appended<T: Drop>(mut front: Vec<T>, mut back: Vec<T>) -> Result<Vec<T>, Memory>
+    ensures { IfOk result (λ all. all.items ≡ front.items ++ back.items) }
+{
+    front.append(&mut back)?;
+    Ok(front)
+}

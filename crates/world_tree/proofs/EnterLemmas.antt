@@ -1,0 +1,211 @@
+-- Those that come in an update enter the tree.
+use Rattle.std.proofs.Common.{◌≡◌, inl, inr, ⊎_elim, ◌∙◌, refl, sym, ap, subst, ℕ, zero, suc, ◌+◌, ◌<◌, ◌≤◌, List, [], ◌∷◌, ◌++◌, length, take, drop, get_or, Some, arith}
+use Rattle.std.specs.Prelude.{All, Contains, is_some, slice_get}
+use Rattle.std.proofs.lemmas.Bool.{cases_lt}
+use Rattle.std.proofs.lemmas.List.{take_all}
+use Rattle.std.proofs.lemmas.List.Elements.{All-filter}
+use Rattle.std.proofs.lemmas.Option.{slice_get-get_or}
+use Rattle.lineage_log.specs.Links.{Link}
+use Rattle.lineage_log.specs.Ancestry.{AreOlder, is_kept, kept_of, line_of, link_of}
+use Rattle.lineage_log.specs.Trees.{TreeValue, CanCome, with_newcomer}
+use Rattle.world_rules.specs.Descent.{AreNumbered, IsNumberedWorld}
+use Rattle.world_config.specs.Values.{ConfigValues}
+use Rattle.world_rules.specs.Scene.{Scene}
+use Rattle.world_rules.specs.Update.{next_world, world_of}
+use Rattle.world_rules.specs.WorldRun.{world_after}
+use Rattle.world_rules.specs.World.{World}
+use Rattle.world_laws.specs.Turnover.{HasBeen, IsStanding, IsTurnover}
+use Rattle.world_tree.specs.Growing.{HasBuried, HasEntered}
+use Rattle.world_tree.specs.WorldTrees.{IsTreeOf, scene_after}
+use Rattle.world_tree.proofs.NumberLemmas.{contains_from, contains_last, contains_push, get_taken, link_at, numbered_front, older_of, standing_low, take_first, take_next}
+
+-- what is kept goes on
+pub record KeepingLaws : Type 0 where
+  pub more : (everyone : List Link) (living : List ℕ) (link : Link) → AreOlder everyone
+      → All (λ (other : Link). other.id < link.id) everyone → All (λ id. id < link.id) living
+      → ((above : ℕ) → link.parent ≡ Some above → Contains living above)
+      → kept_of (everyone ++ link ∷ []) (living ++ link.id ∷ []) ≡ kept_of everyone living
+      ++ link ∷ []
+  pub fewer : (everyone : List Link) (living left : List ℕ) → AreOlder everyone
+      → ((id : ℕ) → Contains left id → Contains living id)
+      → kept_of (kept_of everyone living) left ≡ kept_of everyone left
+  pub links : (everyone : List Link) (living : List ℕ) (id : ℕ) → AreOlder everyone
+      → Contains living id → link_of (kept_of everyone living) id ≡ link_of everyone id
+  pub lines : (everyone : List Link) (living : List ℕ) (id : ℕ) → AreOlder everyone
+      → Contains living id → line_of (kept_of everyone living) id ≡ line_of everyone id
+
+-- an update of a world
+pub record IsUpdate (w : World) (scene : Scene) : Type 0 where
+  pub turnover : IsTurnover w.cells w.everyone scene
+  pub numbered : AreNumbered scene.everyone
+  pub world : IsNumberedWorld w
+
+-- those whose id passes a test hold what all hold
+kept_all : (P : Link → Type 0) (everyone : List Link) (living : List ℕ) → All P everyone
+    → All P (kept_of everyone living)
+unfolding kept_of
+kept_all P everyone living all =
+    All-filter (λ (link : Link). is_kept everyone living link.id) P everyone all
+
+module _ (laws : KeepingLaws) (w : World) (scene : Scene) (is : IsUpdate w scene) where
+  abbrev first : ℕ
+  first = length w.everyone
+
+  -- who has been has a low id
+  pub been_low : (end id : ℕ) → first ≤ end → HasBeen w.cells first end id → id < end
+  been_low end id more (inl stood) = omega (arith, more, standing_low w id is.world stood)
+  been_low end id more (inr came) = came.1
+
+  -- the tree of the world before
+  pub entered_none : (tree : TreeValue) → IsTreeOf w tree → HasEntered w scene 0 tree
+  entered_none tree of = record {
+    links = of.links ∙ ap (λ (links : List Link). kept_of links tree.living)
+        (sym (ap (λ n. take n scene.everyone) none ∙ sym (ap (take first) is.turnover.follows)
+        ∙ take_first w.everyone (drop first scene.everyone)));
+    living = λ id lives. inl (of.living id lives);
+    each = λ id been. ⊎_elim
+        (λ (stood : IsStanding w.cells id). of.standing id stood)
+        (λ (came : (first ≤ id) × (id < first + 0)). absurd (omega (arith, came.0, came.1)))
+        been;
+  }
+    where
+      none : first + 0 ≡ first
+      none = omega arith
+
+  module _ (count : ℕ) (tree : TreeValue) (link : Link) (entered : HasEntered w scene count tree)
+      (there : slice_get scene.everyone (first + count) ≡ Some link) where
+    abbrev before : List Link
+    before = take (first + count) scene.everyone
+
+    -- its id is its place
+    number : link.id ≡ first + count
+    number = (is.numbered (first + count) link there).id
+
+    -- those before it are numbered
+    numbered : AreNumbered before
+    numbered = numbered_front (first + count) scene.everyone is.numbered
+
+    -- those before it have lower ids
+    newest : All (λ (other : Link). other.id < link.id) before
+    newest k d low =
+        let here = slice_get-get_or before k d low in
+        let id = (numbered k (get_or before k d) here).id in
+        let within : k < first + count = low_front k low in
+        omega (arith, id, within, number)
+      where
+        low_front : (k : ℕ) → k < length before → k < first + count
+        low_front k low = shorter (first + count) scene.everyone k low where
+          shorter : (n : ℕ) (xs : List Link) (k : ℕ) → k < length (take n xs) → k < n
+          shorter zero xs k low = absurd (omega (arith, low))
+          shorter (suc n) [] k low = absurd (omega (arith, low))
+          shorter (suc n) (x ∷ xs) zero low = omega arith
+          shorter (suc n) (x ∷ xs) (suc k) low =
+              let rest = shorter n xs k (omega (arith, low)) in omega (arith, rest)
+
+    -- its parent stood in a cell
+    stood : (above : ℕ) → link.parent ≡ Some above → IsStanding w.cells above
+    stood above e = is.turnover.parents (first + count) above link (omega arith) there e
+
+    -- so its parent lives in the tree
+    parent_lives : (above : ℕ) → link.parent ≡ Some above → Contains tree.living above
+    parent_lives above e = entered.each above (inl (stood above e))
+
+    -- the living have lower ids
+    low_living : All (λ id. id < link.id) tree.living
+    low_living k d low =
+        let been = entered.living (get_or tree.living k d) (k, low, same k d low) in
+        omega (arith, been_low (first + count) (get_or tree.living k d) (omega arith) been, number)
+      where
+        same : (k d : ℕ) → k < length tree.living
+            → get_or tree.living k (get_or tree.living k d) ≡ get_or tree.living k d
+        same k d low = read tree.living k d (get_or tree.living k d) low where
+          read : (xs : List ℕ) (k d e : ℕ) → k < length xs → get_or xs k e ≡ get_or xs k d
+          read [] k d e low = absurd (omega (arith, low))
+          read (x ∷ xs) zero d e low = refl
+          read (x ∷ xs) (suc k) d e low = read xs k d e (omega (arith, low))
+
+    -- it can enter
+    pub can_enter : CanCome tree link.id link.parent
+    can_enter = record {
+      newest = subst (λ links. All (λ (other : Link). other.id < link.id) links) (sym entered.links)
+          (kept_all (λ (other : Link). other.id < link.id) before tree.living newest);
+      there = λ above e.
+          let lives = parent_lives above e in
+          let low = standing_low w above is.world (stood above e) in
+          let within : above < length scene.everyone = omega (arith, low, is.turnover.grown) in
+          let parent = get_or scene.everyone above link in
+          let here = get_taken (first + count) scene.everyone above parent (omega (arith, low))
+          (slice_get-get_or scene.everyone above link within) in
+          ap (λ (links : List Link). is_some (link_of links above)) entered.links
+          ∙ ap is_some (laws.links before tree.living above (older_of before numbered) lives
+          ∙ link_at before above parent numbered here);
+    }
+
+    -- one more has entered
+    pub entered_more : HasEntered w scene (count + 1) (with_newcomer tree link)
+    entered_more = record {
+      links =
+          ap (λ (links : List Link). links ++ link ∷ []) entered.links
+          ∙ sym (laws.more before tree.living link (older_of before numbered) newest low_living
+          parent_lives)
+          ∙ ap (λ (links : List Link). kept_of links (tree.living ++ link.id ∷ []))
+          (sym (ap (λ n. take n scene.everyone) one
+          ∙ take_next (first + count) scene.everyone link there));
+      living = λ id lives. ⊎_elim
+          (λ (old : Contains tree.living id). lift id (entered.living id old))
+          (λ (new : id ≡ link.id). inr (omega (arith, new, number), omega (arith, new, number)))
+          (contains_from tree.living link.id id lives);
+      each = λ id been. ⊎_elim
+          (λ (old : IsStanding w.cells id). contains_push tree.living link.id id
+          (entered.each id (inl old)))
+          (λ (came : (first ≤ id) × (id < first + (count + 1))). ⊎_elim
+          (λ (low : id < first + count). contains_push tree.living link.id id
+          (entered.each id (inr (came.0, low))))
+          (λ (high : first + count ≤ id). let same : link.id ≡ id =
+          omega (arith, high, came.1, number) in
+          subst (Contains (tree.living ++ link.id ∷ [])) same
+          (contains_last tree.living link.id))
+          (cases_lt id (first + count)))
+          been;
+    }
+      where
+        one : first + (count + 1) ≡ suc (first + count)
+        one = omega arith
+
+        lift : (id : ℕ) → HasBeen w.cells first (first + count) id
+            → HasBeen w.cells first (first + (count + 1)) id
+        lift id (inl old) = inl old
+        lift id (inr came) = inr (came.0, omega (arith, came.1))
+
+  -- all have entered
+  pub entered_all : (tree : TreeValue) (count : ℕ) → first + count ≡ length scene.everyone
+      → HasEntered w scene count tree → HasBuried w scene 0 tree
+  entered_all tree count all entered = record {
+    links = entered.links ∙ ap (λ (links : List Link). kept_of links tree.living)
+        (take_all (first + count) scene.everyone (omega (arith, all)));
+    living = λ id lives. (
+      subst (λ n. HasBeen w.cells first n id) all (entered.living id lives),
+      λ place low gone. omega (arith, low),
+    );
+    each = λ id been left. entered.each id (subst (λ n. HasBeen w.cells first n id) (sym all) been);
+  }
+
+-- the world after one more update is what the scene leaves
+pub next_is : (config : ConfigValues) (n : ℕ)
+    → world_after config (n + 1) ≡ world_of (scene_after config n)
+unfolding world_after next_world
+next_is config n = ap (world_after config) one where
+  one : n + 1 ≡ suc n
+  one = omega arith
+
+-- each update of a run is one
+pub update_is : (config : ConfigValues) (n : ℕ)
+    → IsTurnover (world_after config n).cells (world_after config n).everyone (scene_after config n)
+    → ((n : ℕ) → IsNumberedWorld (world_after config n))
+    → IsUpdate (world_after config n) (scene_after config n)
+update_is config n turnover numbered = record {
+  turnover = turnover;
+  numbered =
+      subst (λ (w : World). AreNumbered w.everyone) (next_is config n) (numbered (n + 1)).everyone;
+  world = numbered n;
+}

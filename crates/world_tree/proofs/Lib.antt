@@ -1,0 +1,4 @@
+mod NumberLemmas
+mod EnterLemmas
+mod BuryLemmas
+mod SeenLemmas

@@ -1,0 +1,191 @@
+-- Organisms that stand in a list at their ids.
+use Rattle.std.proofs.Common.{◌≡◌, ◌≢◌, ◌⊎◌, inl, inr, ⊎_elim, ◌∙◌, refl, sym, ap, subst, unwrap_or, ℕ, zero, suc, ◌+◌, ◌<◌, Bool, true, false, cond, eqb, List, [], ◌∷◌, ◌++◌, length, take, drop, get_or, Option, Some, None, eq-eqb, eqb-true, not, arith}
+use Rattle.std.specs.Prelude.{Contains, is_some, option_and_then, slice_get}
+use Rattle.std.proofs.lemmas.Bool.{cond-true, eqb-false}
+use Rattle.std.proofs.lemmas.Option.{get_or_from_slice_get, slice_get_within}
+use Rattle.lineage_log.specs.Links.{Link}
+use Rattle.lineage_log.specs.Ancestry.{AreOlder, link_of}
+use Rattle.lineage_log.specs.Trees.{without}
+use Rattle.world_rules.specs.Descent.{AreNumbered, IsBelow, IsNumberedWorld}
+use Rattle.world_rules.specs.World.{World, id_of}
+use Rattle.world_laws.specs.Turnover.{IsStanding}
+
+-- what stands in a front stands in the whole list
+pub get_front : {X : Type 0} (k : ℕ) (xs : List X) (place : ℕ) (x : X)
+    → slice_get (take k xs) place ≡ Some x → slice_get xs place ≡ Some x
+get_front zero xs place x is = absurd cc
+get_front (suc k) [] place x is = absurd cc
+get_front (suc k) (y ∷ xs) zero x is = is
+get_front (suc k) (y ∷ xs) (suc place) x is = get_front k xs place x is
+
+-- and back
+pub get_taken : {X : Type 0} (k : ℕ) (xs : List X) (place : ℕ) (x : X) → place < k
+    → slice_get xs place ≡ Some x → slice_get (take k xs) place ≡ Some x
+get_taken zero xs place x low is = absurd (omega (arith, low))
+get_taken (suc k) [] place x low is = absurd cc
+get_taken (suc k) (y ∷ xs) zero x low is = is
+get_taken (suc k) (y ∷ xs) (suc place) x low is = get_taken k xs place x (omega (arith, low)) is
+
+-- a front with one more
+pub take_next : {X : Type 0} (k : ℕ) (xs : List X) (x : X) → slice_get xs k ≡ Some x
+    → take (suc k) xs ≡ take k xs ++ x ∷ []
+take_next k [] x is = absurd cc
+take_next zero (y ∷ xs) x is =
+    let same : y ≡ x = ap (λ (o : Option _). unwrap_or o y) is in ap (λ y. y ∷ []) same
+take_next (suc k) (y ∷ xs) x is = ap (λ rest. y ∷ rest) (take_next k xs x is)
+
+-- the front of a joined list
+pub take_first : {X : Type 0} (xs ys : List X) → take (length xs) (xs ++ ys) ≡ xs
+take_first [] ys = refl
+take_first (x ∷ xs) ys = ap (λ rest. x ∷ rest) (take_first xs ys)
+
+-- what stands behind a front
+pub get_behind : {X : Type 0} (n : ℕ) (xs : List X) (k : ℕ) (x : X)
+    → slice_get (drop n xs) k ≡ Some x → slice_get xs (n + k) ≡ Some x
+get_behind zero xs k x is = let e : 0 + k ≡ k = omega arith in ap (slice_get xs) e ∙ is
+get_behind (suc n) [] k x is = absurd cc
+get_behind (suc n) (y ∷ xs) k x is = let e : suc n + k ≡ suc (n + k) = omega arith in
+    ap (slice_get (y ∷ xs)) e ∙ get_behind n xs k x is
+
+-- a front is numbered
+pub numbered_front : (k : ℕ) (links : List Link) → AreNumbered links → AreNumbered (take k links)
+numbered_front k links are place link there = are place link (get_front k links place link there)
+
+-- where a link is found
+pub found_link : (links : List Link) (id : ℕ) (link : Link) → link_of links id ≡ Some link
+    → (place : ℕ) × (slice_get links place ≡ Some link) × (link.id ≡ id)
+found_link [] id link is = absurd cc
+found_link (first ∷ links) id link is =
+    by (λ h. found_link links id link h) (eqb first.id id) refl is where
+      by : (link_of links id ≡ Some link → (place : ℕ) × (slice_get links place ≡ Some link)
+          × (link.id ≡ id)) → (b : Bool) → eqb first.id id ≡ b
+          → cond b (Some first) (link_of links id) ≡ Some link
+          → (place : ℕ) × (slice_get (first ∷ links) place ≡ Some link) × (link.id ≡ id)
+      by rest true e is =
+          let same : first ≡ link = ap (λ (o : Option Link). unwrap_or o first) is in
+          (0, is, ap (λ (l : Link). l.id) (sym same) ∙ eqb-true first.id id e)
+      by rest false e is = let r = rest is in (suc r.0, r.1, r.2)
+
+-- each is found by its id
+pub some_at : (links : List Link) (place : ℕ) (link : Link) → slice_get links place ≡ Some link
+    → is_some (link_of links link.id) ≡ true
+some_at [] place link is = absurd cc
+some_at (first ∷ links) zero link is =
+    let same : first ≡ link = ap (λ (o : Option Link). unwrap_or o first) is in
+    ap is_some (cond-true (eqb first.id link.id) (Some first) (link_of links link.id)
+    (eq-eqb first.id link.id (ap (λ (l : Link). l.id) same)))
+some_at (first ∷ links) (suc place) link is =
+    by (eqb first.id link.id) (some_at links place link is) where
+      by : (b : Bool) → is_some (link_of links link.id) ≡ true
+          → is_some (cond b (Some first) (link_of links link.id)) ≡ true
+      by true rest = refl
+      by false rest = rest
+
+-- what is there, as an equation
+the_some : (found : Option Link) → is_some found ≡ true → (link : Link) × (found ≡ Some link)
+the_some None is = absurd cc
+the_some (Some link) is = (link, refl)
+
+-- in a numbered list a link is found by its place
+pub link_at : (links : List Link) (place : ℕ) (link : Link) → AreNumbered links
+    → slice_get links place ≡ Some link → link_of links place ≡ Some link
+link_at links place link are there =
+    let id = (are place link there).id in
+    let found = the_some (link_of links link.id) (some_at links place link there) in
+    let where_is = found_link links link.id found.0 found.1 in
+    let same : where_is.0 ≡ place = sym (are where_is.0 found.0 where_is.1).id ∙ where_is.2 ∙ id in
+    let it : found.0 ≡ link =
+    ap (λ (o : Option Link). unwrap_or o link)
+    (sym where_is.1 ∙ ap (slice_get links) same ∙ there) in
+    ap (link_of links) (sym id) ∙ found.1 ∙ ap (λ (l : Link). Some l) it
+
+-- parents are older
+pub older_of : (links : List Link) → AreNumbered links → AreOlder links
+older_of links are id above is = by (link_of links id) refl is where
+  by : (found : Option Link) → link_of links id ≡ found
+      → option_and_then (λ (l : Link). l.parent) found ≡ Some above → above < id
+  by None e is = absurd cc
+  by (Some link) e is =
+      let there = found_link links id link e in
+      let n = are there.0 link there.1 in
+      let low : above < there.0 = subst (IsBelow there.0) is n.parent in
+      omega (arith, low, n.id, there.2)
+
+-- who stands in a cell is one of all
+pub standing_low : (w : World) (id : ℕ) → IsNumberedWorld w → IsStanding w.cells id
+    → id < length w.everyone
+standing_low w id is stands =
+    let here : get_or w.cells stands.0 None ≡ Some stands.1 =
+    get_or_from_slice_get w.cells stands.0 (Some stands.1) None stands.2 in
+    let low : stands.1.id < length w.everyone =
+    subst (λ slot. IsBelow (length w.everyone) (id_of slot)) here
+    (is.standing stands.0 None (slice_get_within w.cells stands.0 (Some stands.1) stands.2)) in
+    omega (arith, low, stands.3)
+
+-- ---- ids in a list
+
+-- one more in front
+pub contains_more : (x y : ℕ) (xs : List ℕ) → Contains xs x → Contains (y ∷ xs) x
+contains_more x y xs is = (suc is.0, omega (arith, is.1), is.2)
+
+-- one more at the end
+pub contains_push : (xs : List ℕ) (y x : ℕ) → Contains xs x → Contains (xs ++ y ∷ []) x
+contains_push [] y x is = absurd (omega (arith, is.1))
+contains_push (z ∷ xs) y x is = by (λ h. contains_push xs y x h) is.0 is.1 is.2 where
+  by : (Contains xs x → Contains (xs ++ y ∷ []) x) → (k : ℕ) → k < length (z ∷ xs)
+      → get_or (z ∷ xs) k x ≡ x → Contains (z ∷ xs ++ y ∷ []) x
+  by rest zero low e = (0, omega arith, e)
+  by rest (suc k) low e = contains_more x z (xs ++ y ∷ []) (rest (k, omega (arith, low), e))
+
+-- the last
+pub contains_last : (xs : List ℕ) (y : ℕ) → Contains (xs ++ y ∷ []) y
+contains_last [] y = (0, omega arith, refl)
+contains_last (z ∷ xs) y = contains_more y z (xs ++ y ∷ []) (contains_last xs y)
+
+-- who is there with one more
+pub contains_from : (xs : List ℕ) (y x : ℕ) → Contains (xs ++ y ∷ []) x → Contains xs x ⊎ (x ≡ y)
+contains_from [] y x is = by is.0 is.1 is.2 where
+  by : (k : ℕ) → k < length (y ∷ []) → get_or (y ∷ []) k x ≡ x → Contains [] x ⊎ (x ≡ y)
+  by zero low e = inr (sym e)
+  by (suc k) low e = absurd (omega (arith, low))
+contains_from (z ∷ xs) y x is = by (λ h. contains_from xs y x h) is.0 is.1 is.2 where
+  by : (Contains (xs ++ y ∷ []) x → Contains xs x ⊎ (x ≡ y)) → (k : ℕ)
+      → k < length (z ∷ xs ++ y ∷ []) → get_or (z ∷ xs ++ y ∷ []) k x ≡ x → Contains (z ∷ xs) x
+      ⊎ (x ≡ y)
+  by rest zero low e = inl (0, omega arith, e)
+  by rest (suc k) low e = ⊎_elim (λ (h : Contains xs x). inl (contains_more x z xs h))
+      (λ (h : x ≡ y). inr h) (rest (k, omega (arith, low), e))
+
+-- without an id the others are there
+pub without_to : (id x : ℕ) (ids : List ℕ) → Contains ids x → x ≢ id → Contains (without id ids) x
+without_to id x [] is apart = absurd (omega (arith, is.1))
+without_to id x (y ∷ ids) is apart =
+    by (λ h. without_to id x ids h apart) (eqb y id) refl is.0 is.1 is.2 where
+      by : (Contains ids x → Contains (without id ids) x) → (b : Bool) → eqb y id ≡ b → (k : ℕ)
+          → k < length (y ∷ ids) → get_or (y ∷ ids) k x ≡ x
+          → Contains (cond (not b) (y ∷ without id ids) (without id ids)) x
+      by rest true e zero low here = absurd (apart (sym here ∙ eqb-true y id e))
+      by rest true e (suc k) low here = rest (k, omega (arith, low), here)
+      by rest false e zero low here = (0, omega arith, here)
+      by rest false e (suc k) low here =
+          contains_more x y (without id ids) (rest (k, omega (arith, low), here))
+
+-- and it isn't
+pub without_from : (id x : ℕ) (ids : List ℕ) → Contains (without id ids) x
+    → Contains ids x × (x ≢ id)
+without_from id x [] is = absurd (omega (arith, is.1))
+without_from id x (y ∷ ids) is = by (λ h. without_from id x ids h) (eqb y id) refl is where
+  more : Contains ids x × (x ≢ id) → Contains (y ∷ ids) x × (x ≢ id)
+  more r = (contains_more x y ids r.0, r.1)
+
+  first : (Contains (without id ids) x → Contains ids x × (x ≢ id)) → eqb y id ≡ false → (k : ℕ)
+      → k < length (y ∷ without id ids) → get_or (y ∷ without id ids) k x ≡ x → Contains (y ∷ ids) x
+      × (x ≢ id)
+  first rest e zero low here = ((0, omega arith, here), λ same. eqb-false y id e (here ∙ same))
+  first rest e (suc k) low here = more (rest (k, omega (arith, low), here))
+
+  by : (Contains (without id ids) x → Contains ids x × (x ≢ id)) → (b : Bool) → eqb y id ≡ b
+      → Contains (cond (not b) (y ∷ without id ids) (without id ids)) x → Contains (y ∷ ids) x
+      × (x ≢ id)
+  by rest true e is = more (rest is)
+  by rest false e is = first rest e is.0 is.1 is.2

@@ -1,0 +1,10 @@
+use Rattle.world_config.specs.Shown.{values_of}
+use Rattle.world_rules.specs.WorldRun.{world_after}
+use Rattle.world_tree.specs.Growing.{HasBuried}
+use Rattle.world_tree.specs.WorldTrees.{scene_after}
+use Rattle.world_tree.proofs.burying.bury_all.Given as goal
+
+-- those so far are buried
+abbrev pub invariant-loop-id : goal.invariant-loop-id
+invariant-loop-id l = HasBuried (world_after (values_of l.config) l.update)
+    (scene_after (values_of l.config) l.update) l.id-index l.tree

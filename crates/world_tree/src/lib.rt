@@ -1,0 +1,8 @@
+//! The tree of a world: who lives in it, and their ancestors.
+#![tactic(auto)]
+
+mod burying;
+mod entering;
+mod world_tree;
+
+pub use world_tree::WorldTree;
