@@ -34,7 +34,8 @@ impl Sink for CountedSink<'_> {
 
     fn put(&mut self, piece: &[u8]) -> Result<(), SinkStop>
         ensures puts { Puts (sure_sink_seen self.old.sink) (sure_sink_seen self.new.sink) piece.now result }
-        ensures empty { piece.now ≡ [] → IsOk result × (self.new.sink ≡ self.old.sink) }
+        ensures empty { piece.now ≡ []
+            → IsOk result × (sure_sink_seen self.new.sink ≡ sure_sink_seen self.old.sink) }
     {
         let result = self.sink.put(piece);
         self.puts.fetch_add(1, Ordering::SeqCst);
