@@ -1,6 +1,6 @@
 -- The digits in front of a rest, and the word that they are or begin.
 use Rattle.std.proofs.Common.{◌≡◌, ℕ, ◌<◌, ◌≤◌, ◌-◌, length, get_or, suc, ◌+◌, Bool, true, false, cond, List, [], ◌∷◌, take, drop, length-drop, refl, sym, ap, subst, ◌∙◌, arith, inl, inr, Option, Some, None}
-use Rattle.std.specs.Prelude.{◌&&◌, ◌==◌, not, option_map}
+use Rattle.std.specs.Prelude.{◌&&◌, ◌==◌, not, is_some, option_map}
 use Rattle.std.specs.Char.{is_ascii_digit}
 use Rattle.std.specs.List.{slice_split, onto_first}
 use Rattle.std.specs.Str.{all_ascii_digits, bytes_eq}
@@ -8,11 +8,13 @@ use Rattle.std.proofs.lemmas.Bool.{cases_Bool}
 use Rattle.std.proofs.lemmas.Bool.Decides.{nat_tests}
 use Rattle.std.proofs.lemmas.List.{take_all}
 use Rattle.log_lines.specs.Line.{Line}
+use Rattle.log_lines.specs.Forms.{Form, forms}
 use Rattle.numerals.specs.Numeral.{digits_len, is_numeral, leading_digits, number_of}
 use Rattle.log_lines.specs.Kinds.{over_field}
-use Rattle.log_lines.specs.LineReading.{line_of, read_form, read_words}
+use Rattle.log_lines.specs.LineReading.{line_of, read_by, read_words}
 use Rattle.log_lines.specs.Words.{after_word, read_first, words_of}
 
+-- the words of a text
 abbrev cut : List ℕ → List (List ℕ)
 cut bytes = slice_split (λ b. b == 32) bytes
 
@@ -22,9 +24,11 @@ onto_some : (b : ℕ) (parts : List (List ℕ)) → (word : List ℕ) × (words 
 onto_some b [] = ([], [], refl)
 onto_some b (part ∷ parts) = (part, parts, refl)
 
+-- a byte other than a space is put before the first word
 cut_on : (b : ℕ) (bs : List ℕ) → (b == 32) ≡ false → cut (b ∷ bs) ≡ onto_first b (cut bs)
 cut_on b bs other = ap (λ (v : Bool). cond v ([] ∷ cut bs) (onto_first b (cut bs))) other
 
+-- a space begins a word
 cut_here : (b : ℕ) (bs : List ℕ) → (b == 32) ≡ true → cut (b ∷ bs) ≡ [] ∷ cut bs
 cut_here b bs is = ap (λ (v : Bool). cond v ([] ∷ cut bs) (onto_first b (cut bs))) is
 
@@ -36,30 +40,37 @@ Parts bytes None = (word : List ℕ) × (words : List (List ℕ)) × (cut bytes 
     × (all_ascii_digits word ≡ false)
 Parts bytes (Some left) = cut bytes ≡ leading_digits bytes ∷ words_of left
 
+-- one and a number is its successor
 one_more : (n : ℕ) → 1 + n ≡ suc n
 one_more n = omega arith
 
+-- a digit is put before the digits
 digits_on : (b : ℕ) (bs : List ℕ) → is_ascii_digit b ≡ true
     → leading_digits (b ∷ bs) ≡ b ∷ leading_digits bs
 digits_on b bs is = ap (λ (v : Bool). take (cond v (1 + digits_len bs) 0) (b ∷ bs)) is
     ∙ ap (λ (n : ℕ). take n (b ∷ bs)) (one_more (digits_len bs))
 
+-- what follows the digits follows one digit more
 behind_on : (b : ℕ) (bs : List ℕ) → is_ascii_digit b ≡ true
     → drop (digits_len (b ∷ bs)) (b ∷ bs) ≡ drop (digits_len bs) bs
 behind_on b bs is = ap (λ (v : Bool). drop (cond v (1 + digits_len bs) 0) (b ∷ bs)) is
     ∙ ap (λ (n : ℕ). drop n (b ∷ bs)) (one_more (digits_len bs))
 
+-- another byte has no digits
 no_digits : (b : ℕ) (bs : List ℕ) → is_ascii_digit b ≡ false → leading_digits (b ∷ bs) ≡ []
 no_digits b bs isnt = ap (λ (v : Bool). take (cond v (1 + digits_len bs) 0) (b ∷ bs)) isnt
 
+-- behind no digits stands the whole
 behind_none : (b : ℕ) (bs : List ℕ) → is_ascii_digit b ≡ false
     → drop (digits_len (b ∷ bs)) (b ∷ bs) ≡ b ∷ bs
 behind_none b bs isnt = ap (λ (v : Bool). drop (cond v (1 + digits_len bs) 0) (b ∷ bs)) isnt
 
+-- a conjunction with false
 and_false : (v : Bool) → (v && false) ≡ false
 and_false true = refl
 and_false false = refl
 
+-- a digit in front
 parts_on : (b : ℕ) (bs : List ℕ) (left : Option (Option (List ℕ))) → is_ascii_digit b ≡ true
     → Parts bs left → Parts (b ∷ bs) left
 parts_on b bs (Some left) is so =
@@ -74,6 +85,7 @@ parts_on b bs None is so =
       ap (λ (v : Bool). is_ascii_digit b && v) so.3 ∙ and_false (is_ascii_digit b),
     )
 
+-- another byte in front
 parts_end : (b : ℕ) (bs : List ℕ) → is_ascii_digit b ≡ false → Parts (b ∷ bs) (after_word (b ∷ bs))
 parts_end b bs isnt = elim (cases_Bool (b == 32)) [
   | inl is ↦ subst (λ (v : Bool). Parts (b ∷ bs) (cond v (Some (Some bs)) None)) (sym is)
@@ -87,6 +99,7 @@ parts_end b bs isnt = elim (cases_Bool (b == 32)) [
       ))
 ]
 
+-- the digits are the first word, or it has another byte
 parts : (bytes : List ℕ) → Parts bytes (after_word (drop (digits_len bytes) bytes))
 parts [] = refl
 parts (b ∷ bs) = elim (cases_Bool (is_ascii_digit b)) [
@@ -98,12 +111,14 @@ parts (b ∷ bs) = elim (cases_Bool (is_ascii_digit b)) [
 
 -- ---- the number that is the first word
 
+-- what has another byte is no numeral
 not_numeral : (word : List ℕ) → all_ascii_digits word ≡ false → is_numeral word ≡ false
 not_numeral [] isnt = refl
 not_numeral (d ∷ []) isnt = isnt
 not_numeral (d ∷ e ∷ ds) isnt =
     ap (λ (v : Bool). not (d == 48) && v) isnt ∙ and_false (not (d == 48))
 
+-- what has another byte is no number
 pub not_number : (least greatest : ℕ) (word : List ℕ) → all_ascii_digits word ≡ false
     → number_of least greatest word ≡ None
 unfolding number_of
@@ -124,9 +139,11 @@ abbrev with_left : ℕ → Option (Option (List ℕ)) → Option (ℕ × List (L
 with_left n left = option_map (λ o. (n, words_of o)) left
 
 module _ (least greatest : ℕ) (bytes : List ℕ) where
+  -- the number that a word spells
   abbrev read : List ℕ → Option ℕ
   read word = number_of least greatest word
 
+  -- a number in front
   read_parts : (n : ℕ) (left : Option (Option (List ℕ))) → Parts bytes left
       → Some n ≡ read (leading_digits bytes) → with_left n left ≡ read_first read (cut bytes)
   read_parts n None so is =
@@ -134,6 +151,7 @@ module _ (least greatest : ℕ) (bytes : List ℕ) where
       ∙ ap (option_map (λ a. (a, so.1))) (not_number least greatest so.0 so.3))
   read_parts n (Some left) so is = ap (first_of left) is ∙ sym (ap (read_first read) so)
 
+  -- no number in front
   no_parts : (left : Option (Option (List ℕ))) → Parts bytes left
       → None ≡ read (leading_digits bytes) → None ≡ read_first read (cut bytes)
   no_parts None so is = sym
@@ -141,6 +159,7 @@ module _ (least greatest : ℕ) (bytes : List ℕ) where
       ∙ ap (option_map (λ a. (a, so.1))) (not_number least greatest so.0 so.3))
   no_parts (Some left) so is = ap (first_of left) is ∙ sym (ap (read_first read) so)
 
+  -- the digits in front are the number that is the first word
   pub front_number : (n len : ℕ) (left : Option (Option (List ℕ)))
       → Some n ≡ read (leading_digits bytes) → len ≡ digits_len bytes
       → left ≡ after_word (drop len bytes) → with_left n left ≡ read_first read (cut bytes)
@@ -150,6 +169,7 @@ module _ (least greatest : ℕ) (bytes : List ℕ) where
       read_parts n left (subst (λ (o : Option (Option (List ℕ))). Parts bytes o) here (parts bytes))
       is
 
+  -- digits that are no number are no first word
   pub front_none : None ≡ read (leading_digits bytes) → None ≡ read_first read (cut bytes)
   front_none is = no_parts (after_word (drop (digits_len bytes) bytes)) (parts bytes) is
 
@@ -161,6 +181,7 @@ ByteParts b bs None = (next : ℕ) × (word : List ℕ) × (words : List (List �
     × (cut (b ∷ bs) ≡ (b ∷ next ∷ word) ∷ words)
 ByteParts b bs (Some left) = cut (b ∷ bs) ≡ (b ∷ []) ∷ words_of left
 
+-- the first byte is the first word, or it goes on
 byte_parts : (b : ℕ) (bs : List ℕ) → (b == 32) ≡ false → ByteParts b bs (after_word bs)
 byte_parts b [] other = cut_on b [] other
 byte_parts b (c ∷ cs) other = elim (cases_Bool (c == 32)) [
@@ -181,6 +202,7 @@ abbrev dashed : Option (Option (List ℕ)) → Option (Option ℕ × List (List 
 dashed left =
     option_map (λ o. let pair : Option ℕ × List (List ℕ) = (None, words_of o) in pair) left
 
+-- a dash in front
 dash_part : (bs : List ℕ) (left : Option (Option (List ℕ))) → ByteParts 45 bs left
     → dashed left ≡ read_first over_field.read (cut (45 ∷ bs))
 dash_part bs (Some left) so = sym (ap (read_first over_field.read) so)
@@ -189,23 +211,23 @@ dash_part bs None so = sym
     ∙ ap (option_map (λ a. (a, so.2)))
     (ap (option_map Some) (not_number 0 18446744073709551615 (45 ∷ so.0 ∷ so.1) refl)))
 
-whole_rest : (b : ℕ) (bs : List ℕ) → take (length (b ∷ bs) - 1) (drop 1 (b ∷ bs)) ≡ bs
-whole_rest b bs = take_all (length (b ∷ bs) - 1) bs (omega arith)
-
+-- a dash that is the first word
 pub dash_first : (bytes : List ℕ) (left : Option (Option (List ℕ))) → 1 ≤ length bytes
     → get_or bytes 0 0 ≡ 45 → left ≡ after_word (take (length bytes - 1) (drop 1 bytes))
     → dashed left ≡ read_first over_field.read (cut bytes)
 dash_first [] left some is end = absurd (omega (arith, some))
 dash_first (b ∷ bs) left some is end =
-    let here : left ≡ after_word bs = end ∙ ap after_word (whole_rest b bs) in
+    let here : left ≡ after_word bs = end ∙ ap after_word (tail_is 1 (b ∷ bs) (omega arith)) in
     dash_part bs left (subst (λ (o : Option (Option (List ℕ))). ByteParts 45 bs o) (sym here)
     (byte_parts 45 bs refl))
     ∙ ap (λ (c : ℕ). read_first over_field.read (cut (c ∷ bs))) (sym is)
 
+-- no byte is no number
 empty_word : number_of 0 18446744073709551615 [] ≡ None
 unfolding number_of
 empty_word = refl
 
+-- a text without bytes
 pub no_first : (bytes : List ℕ) → length bytes < 1 → None ≡ read_first over_field.read (cut bytes)
 no_first [] short = ap (option_map (λ a. (a, []))) (ap (option_map Some) (sym empty_word))
 no_first (b ∷ bs) short = absurd (omega (arith, short))
@@ -215,12 +237,14 @@ abbrev as_some : Option (ℕ × List (List ℕ)) → Option (Option ℕ × List 
 as_some found =
     option_map (λ p. let pair : Option ℕ × List (List ℕ) = (Some p.0, p.1) in pair) found
 
+-- a number that is read, read as who stood there
 some_read : (words : List (List ℕ)) (found : Option ℕ)
     → as_some (option_map (λ a. (a, words)) found)
     ≡ option_map (λ a. (a, words)) (option_map Some found)
 some_read words None = refl
 some_read words (Some n) = refl
 
+-- a first word that is no dash
 word_other : (word : List ℕ) (words : List (List ℕ)) → bytes_eq word (45 ∷ []) ≡ false
     → as_some (read_first (number_of 0 18446744073709551615) (word ∷ words))
     ≡ read_first over_field.read (word ∷ words)
@@ -229,6 +253,7 @@ word_other word words isnt =
     some_read words read ∙ ap (option_map (λ a. (a, words)))
     (sym (ap (λ (v : Bool). cond v (Some None) (option_map Some read)) isnt))
 
+-- a text that begins with no dash
 pub other_first : (bytes : List ℕ) → (get_or bytes 0 0 ≡ 45 → ⊥)
     → as_some (read_first (number_of 0 18446744073709551615) (cut bytes))
     ≡ read_first over_field.read (cut bytes)
@@ -249,55 +274,63 @@ other_first (b ∷ bs) apart = elim (cases_Bool (b == 32)) [
 
 -- ---- the mark of a line
 
-cond_none : (v : Bool) (o : Option Line) → o ≡ None → cond v None o ≡ None
-cond_none true o is = refl
-cond_none false o is = is
+-- each form of a table has at least a word behind its mark
+abbrev need_words : List Form → Bool
+need_words [] = true
+need_words (form ∷ others) = cond (is_some (form.row.read [])) false (need_words others)
 
+-- a form that needs a word, or the forms behind it, give no line without words
+none_given : {A : Type 0} (make : A → Line) (found : Option A) (here others : Bool)
+    (rest : Option Line) → cond (is_some found) false others ≡ true
+    → (others ≡ true → rest ≡ None) → cond here (option_map make found) rest ≡ None
+none_given make None true others rest need behind = refl
+none_given make None false others rest need behind = behind need
+none_given make (Some a) here others rest need behind = absurd cc
+
+-- a mark alone is no line
+bare_mark : (table : List Form) → need_words table ≡ true → (mark : List ℕ)
+    → read_by table mark [] ≡ None
+bare_mark [] need mark = refl
+bare_mark (form ∷ others) need mark =
+    none_given form.line (form.row.read []) (bytes_eq mark (form.mark ∷ [])) (need_words others) _
+    need (λ rest. bare_mark others rest mark)
+
+-- where a test fails, the other side is chosen
 cond_skip : (v : Bool) (x o : Option Line) → o ≡ None → cond (v && false) x o ≡ None
 cond_skip true x o is = is
 cond_skip false x o is = is
 
-bare_mark : (b : ℕ) → read_form (b ∷ []) [] ≡ None
-bare_mark b = cond_none ((b == 76) && true) _
-    (cond_none ((b == 68) && true) _
-    (cond_none ((b == 66) && true) _
-    (cond_none ((b == 73) && true) _
-    (cond_none ((b == 88) && true) _
-    (cond_none ((b == 82) && true) _
-    (cond_none ((b == 85) && true) _ (cond_none ((b == 69) && true) _ refl)))))))
+-- a mark of two bytes is that of no form
+long_mark : (table : List Form) (b c : ℕ) (word : List ℕ) (words : List (List ℕ))
+    → read_by table (b ∷ c ∷ word) words ≡ None
+long_mark [] b c word words = refl
+long_mark (form ∷ others) b c word words =
+    cond_skip (b == form.mark) _ _ (long_mark others b c word words)
 
-long_mark : (b c : ℕ) (word : List ℕ) (words : List (List ℕ))
-    → read_form (b ∷ c ∷ word) words ≡ None
-long_mark b c word words =
-    cond_skip (b == 76) _ _ (cond_skip (b == 68) _ _
-    (cond_skip (b == 66) _ _
-    (cond_skip (b == 73) _ _
-    (cond_skip (b == 88) _ _
-    (cond_skip (b == 82) _ _ (cond_skip (b == 85) _ _ (cond_skip (b == 69) _ _ refl)))))))
-
+-- a text of fewer than two bytes
 pub short_line : (text : List ℕ) → length text < 2 → None ≡ line_of text
 unfolding line_of
 short_line [] short = refl
 short_line (b ∷ []) short = elim (cases_Bool (b == 32)) [
   | inl is ↦ ap read_words (sym (cut_here b [] is))
-  | inr isnt ↦ sym (ap read_words (cut_on b [] isnt) ∙ bare_mark b)
+  | inr isnt ↦ sym (ap read_words (cut_on b [] isnt) ∙ bare_mark forms refl (b ∷ []))
 ]
 short_line (b ∷ c ∷ rest) short = absurd (omega (arith, short))
 
-whole_rest_2 : (b c : ℕ) (bs : List ℕ) → take (length (b ∷ c ∷ bs) - 2) (drop 2 (b ∷ c ∷ bs)) ≡ bs
-whole_rest_2 b c bs = take_all (length (b ∷ c ∷ bs) - 2) bs (omega arith)
-
+-- a mark, a space and the words
 pub marked : (text : List ℕ) → 2 ≤ length text → get_or text 1 0 ≡ 32 → (get_or text 0 0 ≡ 32 → ⊥)
-    → read_form (get_or text 0 0 ∷ []) (cut (take (length text - 2) (drop 2 text))) ≡ line_of text
+    → read_by forms (get_or text 0 0 ∷ []) (cut (take (length text - 2) (drop 2 text)))
+    ≡ line_of text
 unfolding line_of
 marked [] some is apart = absurd (omega (arith, some))
 marked (b ∷ []) some is apart = absurd (omega (arith, some))
 marked (b ∷ c ∷ rest) some is apart =
     let other : (b == 32) ≡ false = grind (arith, nat_tests, apart) in
     let part : (c == 32) ≡ true = grind (arith, nat_tests, is) in
-    ap (λ (l : List ℕ). read_form (b ∷ []) (cut l)) (whole_rest_2 b c rest)
+    ap (λ (l : List ℕ). read_by forms (b ∷ []) (cut l)) (tail_is 2 (b ∷ c ∷ rest) (omega arith))
     ∙ ap read_words (sym (cut_on b (c ∷ rest) other ∙ ap (onto_first b) (cut_here c rest part)))
 
+-- a space in front
 pub blank_mark : (text : List ℕ) → 2 ≤ length text → get_or text 0 0 ≡ 32 → None ≡ line_of text
 unfolding line_of
 blank_mark [] some is = absurd (omega (arith, some))
@@ -305,6 +338,7 @@ blank_mark (b ∷ rest) some is =
     let blank : (b == 32) ≡ true = grind (arith, nat_tests, is) in
     ap read_words (sym (cut_here b rest blank))
 
+-- a mark of two bytes
 pub long_marked : (text : List ℕ) → 2 ≤ length text → (get_or text 1 0 ≡ 32 → ⊥)
     → None ≡ line_of text
 unfolding line_of
@@ -317,5 +351,5 @@ long_marked (b ∷ c ∷ rest) some apart =
       | inr other ↦
           let some = onto_some c (cut rest) in
           sym (ap read_words (cut_on b (c ∷ rest) other
-          ∙ ap (onto_first b) (cut_on c rest isnt ∙ some.2)) ∙ long_mark b c some.0 some.1)
+          ∙ ap (onto_first b) (cut_on c rest isnt ∙ some.2)) ∙ long_mark forms b c some.0 some.1)
     ]

@@ -22,12 +22,14 @@ found_passes {A = A} p (y ∷ xs) x is = elim (cases_Bool (p y)) [
       found_passes p xs x got
 ]
 
+-- the letter that a byte gives has that byte
 pub byte_of_letter : (byte : ℕ) (letter : Letter) → letter_of_byte byte ≡ Some letter
     → byte_of letter ≡ byte
 unfolding letter_of_byte
 byte_of_letter byte letter is =
     eqb-true (byte_of letter) byte (found_passes (λ l. byte_of l == byte) letters letter is)
 
+-- a letter's byte gives the letter
 pub letter_of_byte-byte_of : (letter : Letter) → letter_of_byte (byte_of letter) ≡ Some letter
 unfolding letter_of_byte
 letter_of_byte-byte_of NopA = refl
@@ -57,5 +59,6 @@ letter_of_byte-byte_of HDivide = refl
 letter_of_byte-byte_of Io = refl
 letter_of_byte-byte_of HSearch = refl
 
+-- a letter is above a comma
 pub letter_above : (letter : Letter) → 44 < byte_of letter
 letter_above letter = omega arith

@@ -2,8 +2,10 @@ pub mod TextLemmas
 pub mod KeptLemmas
 pub mod LetterLemmas
 pub mod FieldLaws
+pub mod KindLaws
 pub mod LineLaws
 pub mod WordLemmas
 pub mod TimesLemmas
 pub mod GenomeLemmas
 mod FrontLemmas
+pub mod ArrivalLemmas

@@ -1,409 +1,283 @@
--- A line that is written is read again, and a line that is read was written so.
-use Rattle.std.proofs.Common.{◌≡◌, ℕ, suc, ◌-◌, ◌<◌, Bool, true, false, cond, List, [], ◌∷◌, ◌++◌, length, get_or, take, Option, Some, None, refl, sym, ap, subst, ◌∙◌, arith, inl, inr, ◌⊎◌, decimal, length-append, append-nil}
+-- A line that is written is read again, and a line that is read was written so: each form of the
+-- table has the laws of `IsForm`, and the rest is said once for all forms.
+use Rattle.std.proofs.Common.{◌≡◌, ℕ, ◌<◌, true, List, [], ◌∷◌, ◌++◌, Option, Some, None, refl, sym, ap, subst, ◌∙◌, arith, inl, inr, append-nil}
 use Rattle.std.specs.Prelude.{option_map, ◌==◌}
 use Rattle.std.specs.Str.{bytes_eq}
 use Rattle.std.specs.List.{slice_split, join_with_byte, AllByRecursion}
-use Rattle.std.proofs.lemmas.Bool.{cases_Bool, eqb-true}
 use Rattle.std.proofs.lemmas.List.Splits.{join_with_byte-slice_split}
-use Rattle.std.proofs.Math.Seq.{take-append_seam, get_or-append_seam}
-use Rattle.instruction_set.specs.declared.letter.Letter.{Letter}
-use Rattle.instruction_set.specs.Letter.{byte_of, letter_of_byte}
-use Rattle.mutations.specs.declared.change.Change.{Change}
-use Rattle.mutations.specs.declared.change.Change.TheVariants.{Point, Insert, Delete}
-use Rattle.mutations.specs.declared.rate_name.RateName.{RateName}
-use Rattle.mutations.specs.declared.rate_name.RateName.TheVariants as rate
-use Rattle.numerals.specs.Numeral.{number_of}
-use Rattle.log_lines.specs.Fields.{Field, number, genome_of, letters, list_of}
+use Rattle.log_lines.specs.Fields.{Field, number, letters}
 use Rattle.log_lines.specs.Rows.{Row, last, times, ◌◂◌}
 use Rattle.log_lines.specs.Line.{Line, Start, Death, Birth, Injected, Cleared, Rate, Count, End}
-use Rattle.mutations.specs.RecordForm.{FitsChange, in_order}
-use Rattle.mutations.specs.RateNames.{name_of_rate, rate_named, rate_names}
-use Rattle.log_lines.specs.Kinds.{small, large, rate_name, change_text, read_lettered, read_change, change, over_field, base_field, changes_field}
-use Rattle.log_lines.specs.LineText.{start_row, death_row, birth_row, injected_row, rate_row, count_row, end_row, counted, born, words_text, form_text, row_text, HasForm}
-use Rattle.log_lines.specs.LineReading.{start_of, death_of, birth_of, injected_of, cleared_of, rate_of, count_of, read_words, line_of}
-use Rattle.log_lines.proofs.LetterLemmas.{byte_of_letter, letter_of_byte-byte_of, letter_above, found_passes}
-use Rattle.log_lines.proofs.FieldLaws.{Above, IsField, IsRow, OneNumber, above_lower, above_append, same_bytes, split_first, split_one, number_law, letters_law, or_sign_law, where_law, list_law, last_law, times_law, row_law, field_lower, some_map, some_then}
+use Rattle.log_lines.specs.Kinds.{small, large, death_row, arrival_then, record_row}
+use Rattle.log_lines.specs.Forms.{Form, FilledForm, forms, filled_form, start_form, death_form, birth_form, injected_form, cleared_form, rate_form, count_form, end_form}
+use Rattle.log_lines.specs.LineText.{words_text, filled_text, FitsForm, row_text, HasForm}
+use Rattle.log_lines.specs.LineReading.{read_as, read_by, read_words, line_of}
+use Rattle.log_lines.proofs.FieldLaws.{Above, IsField, IsRow, OneNumber, above_lower, above_append, same_bytes, split_first, split_one, chosen, some_map, number_law, letters_law, last_law, times_law, row_law}
+use Rattle.log_lines.proofs.KindLaws.{low, small_law, large_law, rate_law, over_law, base_law, changes_law}
 
-abbrev ChangeIs : List ℕ → Change → Type 0
-ChangeIs word c = (change_text c ≡ word) × FitsChange c
+-- a form with these fields
+abbrev filled : (form : Form) → form.Fields → FilledForm
+filled form fields = record { form = form; fields = fields }
 
+-- what is proved of a form: its mark is above a space, its words are read as they were written, the
+-- line of some fields has the form with these fields, and the table gives the form at its mark
+record IsForm (form : Form) : Type 1 where
+  high : 32 < form.mark
+  words : IsRow 32 form.row
+  fills : (fields : form.Fields) → filled_form (form.line fields) ≡ filled form fields
+  found : (ws : List (List ℕ)) → read_by forms (form.mark ∷ []) ws ≡ read_as form ws
+
+-- each of the forms has the laws
+AreForms : List Form → Type 1
+AreForms [] = Unit {1}
+AreForms (form ∷ others) = IsForm form × AreForms others
+
+-- ---- words
+
+-- the words of a text
 abbrev words_in : List ℕ → List (List ℕ)
 words_in bytes = slice_split (λ b. b == 32) bytes
 
-abbrev LineIs : List ℕ → Line → Type 0
-LineIs bytes line = (row_text line ≡ bytes) × HasForm line
+-- a word and the words behind it are parted again
+split_words : (word : List ℕ) (words : List (List ℕ)) → Above 32 word
+    → AllByRecursion (Above 32) words → words_in (word ++ words_text words) ≡ word ∷ words
+split_words word [] first others = ap words_in (append-nil word) ∙ split_one 32 word first
+split_words word (next ∷ words) first others =
+    split_first 32 word (next ++ words_text words) first
+    ∙ ap (λ (l : List (List ℕ)). word ∷ l) (split_words next words others.0 others.1)
+
+-- words joined by spaces are the first one, and the others each behind a space
+joined_words : (word : List ℕ) (words : List (List ℕ))
+    → join_with_byte 32 (word ∷ words) ≡ word ++ words_text words
+joined_words word [] = sym (append-nil word)
+joined_words word (next ∷ words) = ap (λ (l : List ℕ). word ++ 32 ∷ l) (joined_words next words)
+
+-- words without a byte up to a space have no newline
+words_plain : (words : List (List ℕ)) → AllByRecursion (Above 32) words
+    → Above 10 (words_text words)
+words_plain [] all = tt
+words_plain (word ∷ words) all = (
+  omega arith,
+  above_append 10 word (words_text words)
+      (above_lower 10 32 word (omega arith) all.0) (words_plain words all.1),
+)
+
+-- ---- a form
+
+module _ (form : Form) (law : IsForm form) where
+  -- its mark and its words are the words of its text
+  form_words : (fields : form.Fields) → form.row.Fits fields
+      → words_in (filled_text (filled form fields)) ≡ (form.mark ∷ []) ∷ form.row.texts fields
+  form_words fields fits =
+      split_words (form.mark ∷ []) (form.row.texts fields) (law.high, tt)
+      (law.words.plain fields fits)
+
+  -- its text is read again
+  form_again : (fields : form.Fields) → form.row.Fits fields
+      → line_of (filled_text (filled form fields)) ≡ Some (form.line fields)
+  unfolding line_of
+  form_again fields fits =
+      ap read_words (form_words fields fits) ∙ law.found (form.row.texts fields)
+      ∙ ap (option_map form.line) (law.words.again fields fits)
+
+  -- a line that is read by it has it, and this text
+  form_takes : (word : List ℕ) (words : List (List ℕ)) (line : Line)
+      → bytes_eq word (form.mark ∷ []) ≡ true → read_as form words ≡ Some line
+      → (row_text line ≡ word ++ words_text words) × HasForm line
+  form_takes word words line same is =
+      let some = some_map form.line (form.row.read words) line is in
+      let t = law.words.takes words some.0 some.1 in
+      let first : word ≡ form.mark ∷ [] = same_bytes word (form.mark ∷ []) same in
+      let text : filled_text (filled form some.0) ≡ word ++ words_text words =
+      ap (λ (ws : List (List ℕ)). form.mark ∷ words_text ws) t.0
+      ∙ ap (λ (w : List ℕ). w ++ words_text words) (sym first) in
+      let has : filled_form line ≡ filled form some.0 =
+      ap filled_form (sym some.2) ∙ law.fills some.0 in
+      subst (λ (f : FilledForm). (filled_text f ≡ word ++ words_text words) × FitsForm f) (sym has)
+      (text, t.1)
+
+  -- its text has no newline
+  form_plain : (fields : form.Fields) → form.row.Fits fields
+      → Above 10 (filled_text (filled form fields))
+  form_plain fields fits =
+      (omega (arith, law.high), words_plain (form.row.texts fields) (law.words.plain fields fits))
+
+-- a line that a table reads has this text
+table_takes : (table : List Form) → AreForms table → (word : List ℕ) (words : List (List ℕ))
+    (line : Line) → read_by table word words ≡ Some line
+    → (row_text line ≡ word ++ words_text words) × HasForm line
+unfolding AreForms
+table_takes [] laws word words line is = absurd cc
+table_takes (form ∷ others) laws word words line is =
+    elim (chosen (bytes_eq word (form.mark ∷ [])) _ _ line is) [
+      | inl here ↦ form_takes form laws.0 word words line here.0 here.1
+      | inr there ↦ table_takes others laws.1 word words line there.1
+    ]
+
+-- ---- the forms of a log
+
+infixr 20 ◌▸◌
+-- the laws of a field, and of the row behind it
+◌▸◌ : {A B : Type 0} {f : Field A} {r : Row B} → IsField 32 f → IsRow 32 r → IsRow 32 (f ◂ r)
+law ▸ others = row_law law others
 
 module _ (numbers : OneNumber) where
-  small_law : IsField 44 small
-  small_law = number_law numbers 0 4294967295 (omega arith)
-
-  large_law : IsField 44 large
-  large_law = number_law numbers 0 18446744073709551615 (omega arith)
-
-  -- ---- changes
-
-  -- a text with one byte at its end
-  split_last : (rest : List ℕ) → 0 < length rest
-      → take (length rest - 1) rest ++ get_or rest (length rest - 1) 0 ∷ [] ≡ rest
-  split_last [] h = absurd (omega (arith, h))
-  split_last (b ∷ []) h = refl
-  split_last (b ∷ c ∷ bs) h =
-      let n : length (b ∷ c ∷ bs) - 1 ≡ suc (length (c ∷ bs) - 1) = omega arith in
-      subst (λ k. take k (b ∷ c ∷ bs) ++ get_or (b ∷ c ∷ bs) k 0 ∷ [] ≡ b ∷ c ∷ bs) (sym n)
-      (ap (λ (l : List ℕ). b ∷ l) (split_last (c ∷ bs) (omega arith)))
-
-  lettered_again : (make : ℕ → Letter → Change) (at : ℕ) (letter : Letter) → small.Fits at
-      → read_lettered make (decimal at ++ byte_of letter ∷ []) ≡ Some (make at letter)
-  lettered_again make at letter fits =
-      let n : length (decimal at ++ byte_of letter ∷ []) - 1 ≡ length (decimal at) =
-      omega (arith, length-append (decimal at) (byte_of letter ∷ [])) in
-      let front : take (length (decimal at)) (decimal at ++ byte_of letter ∷ []) ≡ decimal at =
-      take-append_seam (decimal at) (byte_of letter ∷ []) in
-      let end : get_or (decimal at ++ byte_of letter ∷ []) (length (decimal at)) 0
-      ≡ byte_of letter = get_or-append_seam (decimal at) (byte_of letter) [] 0 in
-      let number : number_of 0 4294967295 (decimal at) ≡ Some at = small_law.again at fits in
-      rw (n, front, end, number, letter_of_byte-byte_of letter) refl
-
-  lettered_takes : (make : ℕ → Letter → Change) (rest : List ℕ) (c : Change)
-      → read_lettered make rest ≡ Some c → (at : ℕ) × (letter : Letter) × (make at letter ≡ c)
-      × (decimal at ++ byte_of letter ∷ [] ≡ rest) × small.Fits at
-  lettered_takes make [] c is =
-      let got = some_then (λ at. option_map (λ letter. make at letter) (letter_of_byte 0))
-      (number_of 0 4294967295 []) c is in
-      let none : number_of 0 4294967295 [] ≡ None = numbers.no_digits 0 4294967295 in absurd cc
-  lettered_takes make (b ∷ bs) c is =
-      let rest = b ∷ bs in
-      let byte = get_or rest (length rest - 1) 0 in
-      let got = some_then (λ at. option_map (λ letter. make at letter) (letter_of_byte byte))
-      (number_of 0 4294967295 (take (length rest - 1) rest)) c is in
-      let found = some_map (λ letter. make got.0 letter) (letter_of_byte byte) c got.2 in
-      let spelled : byte_of found.0 ≡ byte = byte_of_letter byte found.0 found.1 in
-      let number = small_law.takes (take (length rest - 1) rest) got.0 got.1 in
-      let some : 0 < length rest = omega arith in (
-        got.0,
-        found.0,
-        found.2,
-        ap (λ (l : List ℕ). l ++ byte_of found.0 ∷ []) number.0
-            ∙ ap (λ (k : ℕ). take (length rest - 1) rest ++ k ∷ []) spelled ∙ split_last rest some,
-        number.1,
-      )
-
-  change_again : (c : Change) → FitsChange c → read_change (change_text c) ≡ Some c
-  change_again (Point at letter) fits = lettered_again Point at letter fits
-  change_again (Insert at letter) fits = lettered_again Insert at letter fits
-  change_again (Delete at) fits = ap (option_map Delete) (small_law.again at fits)
-
-  deletion_takes : (rest : List ℕ) (c : Change)
-      → option_map Delete (number_of 0 4294967295 rest) ≡ Some c → ChangeIs (100 ∷ rest) c
-  deletion_takes rest c is =
-      let got = some_map Delete (number_of 0 4294967295 rest) c is in
-      let t = small_law.takes rest got.0 got.1 in
-      subst (λ x. ChangeIs (100 ∷ rest) x) got.2 (ap (λ (l : List ℕ). 100 ∷ l) t.0, t.1)
-
-  change_takes : (word : List ℕ) (c : Change) → read_change word ≡ Some c → ChangeIs word c
-  change_takes [] c is = absurd cc
-  change_takes (mark ∷ rest) c is = elim (cases_Bool (mark == 112)) [
-    | inl point ↦
-        let e : mark ≡ 112 = eqb-true mark 112 point in
-        let got : read_lettered Point rest ≡ Some c =
-        subst (λ m. read_change (m ∷ rest) ≡ Some c) e is in
-        let t = lettered_takes Point rest c got in
-        rw e (subst (λ x. ChangeIs (112 ∷ rest) x) t.2 (ap (λ (l : List ℕ). 112 ∷ l) t.3, t.4))
-    | inr more ↦ elim (cases_Bool (mark == 105)) [
-      | inl insertion ↦
-          let e : mark ≡ 105 = eqb-true mark 105 insertion in
-          let got : read_lettered Insert rest ≡ Some c =
-          subst (λ m. read_change (m ∷ rest) ≡ Some c) e is in
-          let t = lettered_takes Insert rest c got in
-          rw e (subst (λ x. ChangeIs (105 ∷ rest) x) t.2 (ap (λ (l : List ℕ). 105 ∷ l) t.3, t.4))
-      | inr still ↦ elim (cases_Bool (mark == 100)) [
-        | inl deletion ↦
-            let e : mark ≡ 100 = eqb-true mark 100 deletion in
-            let got : option_map Delete (number_of 0 4294967295 rest) ≡ Some c =
-            subst (λ m. read_change (m ∷ rest) ≡ Some c) e is in
-            rw e (deletion_takes rest c got)
-        | inr other ↦
-            let none : read_change (mark ∷ rest) ≡ None = rw (more, still, other) refl in absurd cc
-      ]
-    ]
-  ]
-
-  change_plain : (c : Change) → FitsChange c → Above 44 (change_text c)
-  change_plain (Point at letter) fits = (
-    omega arith,
-    above_append 44 (decimal at) (byte_of letter ∷ []) (small_law.plain at fits)
-        (letter_above letter, tt),
-  )
-  change_plain (Insert at letter) fits = (
-    omega arith,
-    above_append 44 (decimal at) (byte_of letter ∷ []) (small_law.plain at fits)
-        (letter_above letter, tt),
-  )
-  change_plain (Delete at) fits = (omega arith, small_law.plain at fits)
-
-  change_law : IsField 44 change
-  change_law = record { again = change_again; takes = change_takes; plain = change_plain }
-
-  -- ---- rates
-
-  rate_again : (name : RateName) → rate_named (name_of_rate name) ≡ Some name
-  unfolding rate_named
-  rate_again rate.Copy = refl
-  rate_again rate.Insert = refl
-  rate_again rate.Delete = refl
-  rate_again rate.SitePoint = refl
-  rate_again rate.SiteInsert = refl
-  rate_again rate.SiteDelete = refl
-
-  rate_takes : (word : List ℕ) (name : RateName) → rate_named word ≡ Some name
-      → name_of_rate name ≡ word
-  unfolding rate_named
-  rate_takes word name is =
-      same_bytes (name_of_rate name) word
-      (found_passes (λ n. bytes_eq (name_of_rate n) word) rate_names name is)
-
-  rate_plain : (name : RateName) → Above 44 (name_of_rate name)
-  rate_plain rate.Copy = search arith
-  rate_plain rate.Insert = search arith
-  rate_plain rate.Delete = search arith
-  rate_plain rate.SitePoint = search arith
-  rate_plain rate.SiteInsert = search arith
-  rate_plain rate.SiteDelete = search arith
-
-  rate_law : IsField 44 rate_name
-  rate_law = record {
-    again = λ name fits. rate_again name;
-    takes = λ word name is. (rate_takes word name is, tt);
-    plain = λ name fits. rate_plain name;
-  }
-
-  -- ---- rows
-
-  low : {A : Type 0} (f : Field A) → IsField 44 f → IsField 32 f
-  low f law = field_lower f 32 44 (omega arith) law
-
+  -- numbers below 2 ^ 32
   small32 : IsField 32 small
-  small32 = low small small_law
+  small32 = low (small_law numbers)
 
+  -- numbers below 2 ^ 64
   large32 : IsField 32 large
-  large32 = low large large_law
+  large32 = low (large_law numbers)
 
-  letters32 : IsField 32 letters
-  letters32 = low letters letters_law
+  -- sides of a world
+  side32 : IsField 32 (number 1 256)
+  side32 = low (number_law numbers 1 256 (omega arith))
 
-  none_number : number_of 0 18446744073709551615 (45 ∷ []) ≡ None
-  none_number = numbers.no_minus 0 18446744073709551615 []
+  -- the words of a death
+  death_words : IsRow 32 death_row
+  death_words = large32 ▸ small32 ▸ last_law small32
 
-  none_genome : genome_of (61 ∷ []) ≡ None
-  unfolding genome_of letter_of_byte
-  none_genome = refl
+  -- the words of an arrival, and those behind them
+  arrival_words : {A : Type 0} {behind : Row A} → IsRow 32 behind
+      → IsRow 32 (arrival_then behind)
+  arrival_words law = small32 ▸ small32 ▸ low (over_law numbers) ▸ law
 
-  over32 : IsField 32 over_field
-  over32 = low over_field (or_sign_law large 44 45 large_law (omega arith) none_number)
+  -- the words of a record
+  record_words : IsRow 32 record_row
+  record_words = low (base_law numbers) ▸ last_law (changes_law numbers)
 
-  base32 : IsField 32 base_field
-  base32 = low base_field (or_sign_law letters 44 61 letters_law (omega arith) none_genome)
-
-  changes32 : IsField 32 changes_field
-  changes32 = field_lower changes_field 32 43 (omega arith)
-      (where_law (list_of change) 43 in_order (list_law change change_law refl))
-
-  placed_law : IsRow 32 (small ◂ last small)
-  placed_law = row_law small (last small) 32 small32 (last_law small 32 small32)
-
-  start_law : IsRow 32 start_row
+  -- the first line
+  start_law : IsForm start_form
   start_law =
-      let side : IsField 32 (number 1 256) =
-      low (number 1 256) (number_law numbers 1 256 (omega arith)) in
-      row_law (number 1 2) (number 1 256 ◂ (number 1 256 ◂ (small ◂ last letters))) 32
-      (low (number 1 2) (number_law numbers 1 2 (omega arith)))
-      (row_law (number 1 256) (number 1 256 ◂ (small ◂ last letters)) 32 side
-      (row_law (number 1 256) (small ◂ last letters) 32 side
-      (row_law small (last letters) 32 small32 (last_law letters 32 letters32))))
+      record {
+        high = omega arith;
+        words = low (number_law numbers 1 2 (omega arith)) ▸ side32 ▸ side32 ▸ small32
+            ▸ last_law (low letters_law);
+        fills = λ fields. refl;
+        found = λ ws. refl;
+      }
 
-  death_law : IsRow 32 death_row
-  death_law = row_law large (small ◂ last small) 32 large32 placed_law
+  -- a death of age
+  death_law : IsForm death_form
+  death_law =
+      record {
+        high = omega arith;
+        words = death_words;
+        fills = λ fields. refl;
+        found = λ ws. refl;
+      }
 
-  birth_law : IsRow 32 birth_row
+  -- a birth
+  birth_law : IsForm birth_form
   birth_law =
-      row_law large (large ◂ (small ◂ (small ◂ (over_field ◂ (base_field ◂ last changes_field)))))
-      32 large32
-      (row_law large (small ◂ (small ◂ (over_field ◂ (base_field ◂ last changes_field)))) 32 large32
-      (row_law small (small ◂ (over_field ◂ (base_field ◂ last changes_field))) 32 small32
-      (row_law small (over_field ◂ (base_field ◂ last changes_field)) 32 small32
-      (row_law over_field (base_field ◂ last changes_field) 32 over32
-      (row_law base_field (last changes_field) 32 base32 (last_law changes_field 32 changes32))))))
+      record {
+        high = omega arith;
+        words = large32 ▸ large32 ▸ arrival_words record_words;
+        fills = λ fields. refl;
+        found = λ ws. refl;
+      }
 
-  injected_law : IsRow 32 injected_row
+  -- an injected organism
+  injected_law : IsForm injected_form
   injected_law =
-      row_law large (small ◂ (small ◂ (over_field ◂ last letters))) 32 large32
-      (row_law small (small ◂ (over_field ◂ last letters)) 32 small32
-      (row_law small (over_field ◂ last letters) 32 small32
-      (row_law over_field (last letters) 32 over32 (last_law letters 32 letters32))))
+      record {
+        high = omega arith;
+        words = large32 ▸ arrival_words (last_law (low letters_law));
+        fills = λ fields. refl;
+        found = λ ws. refl;
+      }
 
-  rate_row_law : IsRow 32 rate_row
-  rate_row_law =
-      row_law small (rate_name ◂ last (number 0 1000000)) 32 small32
-      (row_law rate_name (last (number 0 1000000)) 32 (low rate_name rate_law)
-      (last_law (number 0 1000000) 32
-      (low (number 0 1000000) (number_law numbers 0 1000000 (omega arith)))))
+  -- an organism cleared by an event
+  cleared_law : IsForm cleared_form
+  cleared_law =
+      record {
+        high = omega arith;
+        words = death_words;
+        fills = λ fields. refl;
+        found = λ ws. refl;
+      }
 
-  count_law : IsRow 32 count_row
+  -- a rate
+  rate_form_law : IsForm rate_form
+  rate_form_law =
+      record {
+        high = omega arith;
+        words = small32 ▸ low (rate_law numbers)
+            ▸ last_law (low (number_law numbers 0 1000000 (omega arith)));
+        fills = λ fields. refl;
+        found = λ ws. refl;
+      }
+
+  -- the end of an update
+  count_law : IsForm count_form
   count_law =
-      row_law small (large ◂ (large ◂ (large ◂ (large ◂ (large ◂ times 9 large))))) 32 small32
-      (row_law large (large ◂ (large ◂ (large ◂ (large ◂ times 9 large)))) 32 large32
-      (row_law large (large ◂ (large ◂ (large ◂ times 9 large))) 32 large32
-      (row_law large (large ◂ (large ◂ times 9 large)) 32 large32
-      (row_law large (large ◂ times 9 large) 32 large32
-      (row_law large (times 9 large) 32 large32 (times_law large 32 9 large32))))))
+      record {
+        high = omega arith;
+        words = small32 ▸ large32 ▸ large32 ▸ large32 ▸ large32 ▸ large32
+            ▸ times_law large32 9;
+        fills = λ fields. refl;
+        found = λ ws. refl;
+      }
 
-  end_law : IsRow 32 end_row
-  end_law = last_law small 32 small32
+  -- the last line
+  end_law : IsForm end_form
+  end_law =
+      record {
+        high = omega arith;
+        words = last_law small32;
+        fills = λ fields. refl;
+        found = λ ws. refl;
+      }
+
+  -- each form of the table has the laws
+  forms_law : AreForms forms
+  unfolding AreForms
+  forms_law = (
+    start_law,
+    (
+      death_law,
+      (birth_law, (injected_law, (cleared_law, (rate_form_law, (count_law, (end_law, tt)))))),
+    ),
+  )
 
   -- ---- lines
 
-  split_words : (word : List ℕ) (words : List (List ℕ)) → Above 32 word
-      → AllByRecursion (Above 32) words → words_in (word ++ words_text words) ≡ word ∷ words
-  split_words word [] first others = ap words_in (append-nil word) ∙ split_one 32 word first
-  split_words word (next ∷ words) first others =
-      split_first 32 word (next ++ words_text words) first
-      ∙ ap (λ (l : List (List ℕ)). word ∷ l) (split_words next words others.0 others.1)
+  -- the form of a line has the laws, and tells the line
+  line_law : (line : Line) → IsForm (filled_form line).form
+      × ((filled_form line).form.line (filled_form line).fields ≡ line)
+  line_law (Start version width height cell genome) = (start_law, refl)
+  line_law (Death id update cell) = (death_law, refl)
+  line_law (Birth id parent update cell over birth) = (birth_law, refl)
+  line_law (Injected id update cell over genome) = (injected_law, refl)
+  line_law (Cleared id update cell) = (cleared_law, refl)
+  line_law (Rate update name ppm) = (rate_form_law, refl)
+  line_law (Count stats) = (count_law, refl)
+  line_law (End updates) = (end_law, refl)
 
-  joined_words : (word : List ℕ) (words : List (List ℕ))
-      → join_with_byte 32 (word ∷ words) ≡ word ++ words_text words
-  joined_words word [] = sym (append-nil word)
-  joined_words word (next ∷ words) = ap (λ (l : List ℕ). word ++ 32 ∷ l) (joined_words next words)
-
-  form_words : {A : Type 0} (row : Row A) (law : IsRow 32 row) (mark : ℕ) (a : A) → 32 < mark
-      → row.Fits a → words_in (form_text mark row a) ≡ (mark ∷ []) ∷ row.texts a
-  form_words row law mark a high fits =
-      split_words (mark ∷ []) (row.texts a) (high, tt) (law.plain a fits)
-
+  -- a line is read again
   pub line_again : (line : Line) → HasForm line → line_of (row_text line) ≡ Some line
-  unfolding line_of
-  line_again (Start version width height cell genome) fits =
-      let p : ℕ × (ℕ × (ℕ × (ℕ × List Letter))) = (version, (width, (height, (cell, genome)))) in
-      ap read_words (form_words start_row start_law 76 p (omega arith) fits)
-      ∙ rw (start_law.again p fits) refl
-  line_again (Death id update cell) fits =
-      let p : ℕ × (ℕ × ℕ) = (id, (update, cell)) in
-      ap read_words (form_words death_row death_law 68 p (omega arith) fits)
-      ∙ rw (death_law.again p fits) refl
-  line_again (Birth id parent update cell over birth) fits =
-      let p = born id parent update cell over birth in
-      ap read_words (form_words birth_row birth_law 66 p (omega arith) fits)
-      ∙ rw (birth_law.again p fits) refl
-  line_again (Injected id update cell over genome) fits =
-      let p : ℕ × (ℕ × (ℕ × (Option ℕ × List Letter))) = (id, (update, (cell, (over, genome)))) in
-      ap read_words (form_words injected_row injected_law 73 p (omega arith) fits)
-      ∙ rw (injected_law.again p fits) refl
-  line_again (Cleared id update cell) fits =
-      let p : ℕ × (ℕ × ℕ) = (id, (update, cell)) in
-      ap read_words (form_words death_row death_law 88 p (omega arith) fits)
-      ∙ rw (death_law.again p fits) refl
-  line_again (Rate update name ppm) fits =
-      let p : ℕ × (RateName × ℕ) = (update, (name, ppm)) in
-      ap read_words (form_words rate_row rate_row_law 82 p (omega arith) fits)
-      ∙ rw (rate_row_law.again p fits) refl
-  line_again (Count stats) fits =
-      let p = counted stats in
-      ap read_words (form_words count_row count_law 85 p (omega arith) fits)
-      ∙ rw (count_law.again p fits) refl
-  line_again (End updates) fits =
-      ap read_words (form_words end_row end_law 69 updates (omega arith) fits)
-      ∙ rw (end_law.again updates fits) refl
+  line_again line fits =
+      let has = filled_form line in
+      let law = line_law line in
+      form_again has.form law.0 has.fields fits ∙ ap (λ (l : Line). Some l) law.1
 
-  form_takes : {A : Type 0} (row : Row A) (law : IsRow 32 row) (mark : ℕ) (make : A → Line)
-      (bytes word : List ℕ) (words : List (List ℕ)) (line : Line) → word ++ words_text words ≡ bytes
-      → bytes_eq word (mark ∷ []) ≡ true → option_map make (row.read words) ≡ Some line
-      → (a : A) × (form_text mark row a ≡ bytes) × row.Fits a × (make a ≡ line)
-  form_takes row law mark make bytes word words line joined same is =
-      let some = some_map make (row.read words) line is in
-      let t = law.takes words some.0 some.1 in
-      let first : word ≡ mark ∷ [] = same_bytes word (mark ∷ []) same in
-      let all : form_text mark row some.0 ≡ word ++ words_text words =
-      ap (λ (ws : List (List ℕ)). mark ∷ words_text ws) t.0
-      ∙ ap (λ (w : List ℕ). w ++ words_text words) (sym first) in
-      (some.0, all ∙ joined, t.1, some.2)
-
-  chosen : {A : Type 0} (b : Bool) (x y : Option A) (a : A) → cond b x y ≡ Some a
-      → ((b ≡ true) × (x ≡ Some a)) ⊎ ((b ≡ false) × (y ≡ Some a))
-  chosen true x y a is = inl (refl, is)
-  chosen false x y a is = inr (refl, is)
-
-  words_take : (bytes : List ℕ) (words : List (List ℕ)) (line : Line)
-      → join_with_byte 32 words ≡ bytes → read_words words ≡ Some line → LineIs bytes line
-  words_take bytes [] line joined is = absurd cc
-  words_take bytes (word ∷ words) line joined is =
-      let parts : word ++ words_text words ≡ bytes = sym (joined_words word words) ∙ joined in
-      elim (chosen (bytes_eq word (76 ∷ [])) _ _ line is) [
-        | inl l ↦ let t = form_takes start_row start_law 76 start_of bytes word words line parts l.0
-            l.1 in subst (λ x. LineIs bytes x) t.3 (t.1, t.2)
-        | inr r ↦ elim (chosen (bytes_eq word (68 ∷ [])) _ _ line r.1) [
-          | inl l ↦ let t = form_takes death_row death_law 68 death_of bytes word words line parts
-              l.0 l.1 in subst (λ x. LineIs bytes x) t.3 (t.1, t.2)
-          | inr r ↦ elim (chosen (bytes_eq word (66 ∷ [])) _ _ line r.1) [
-            | inl l ↦ let t = form_takes birth_row birth_law 66 birth_of bytes word words line parts
-                l.0 l.1 in subst (λ x. LineIs bytes x) t.3 (t.1, t.2)
-            | inr r ↦ elim (chosen (bytes_eq word (73 ∷ [])) _ _ line r.1) [
-              | inl l ↦ let t = form_takes injected_row injected_law 73 injected_of bytes word words
-                  line parts l.0 l.1 in subst (λ x. LineIs bytes x) t.3 (t.1, t.2)
-              | inr r ↦ elim (chosen (bytes_eq word (88 ∷ [])) _ _ line r.1) [
-                | inl l ↦ let t = form_takes death_row death_law 88 cleared_of bytes word words line
-                    parts l.0 l.1 in subst (λ x. LineIs bytes x) t.3 (t.1, t.2)
-                | inr r ↦ elim (chosen (bytes_eq word (82 ∷ [])) _ _ line r.1) [
-                  | inl l ↦ let t = form_takes rate_row rate_row_law 82 rate_of bytes word words
-                      line parts l.0 l.1 in subst (λ x. LineIs bytes x) t.3 (t.1, t.2)
-                  | inr r ↦ elim (chosen (bytes_eq word (85 ∷ [])) _ _ line r.1) [
-                    | inl l ↦ let t = form_takes count_row count_law 85 count_of bytes word words
-                        line parts l.0 l.1 in subst (λ x. LineIs bytes x) t.3 (t.1, t.2)
-                    | inr r ↦ elim (chosen (bytes_eq word (69 ∷ [])) _ _ line r.1) [
-                      | inl l ↦ let t = form_takes end_row end_law 69 End bytes word words line
-                          parts l.0 l.1 in subst (λ x. LineIs bytes x) t.3 (t.1, t.2)
-                      | inr r ↦ let e : None ≡ Some line = r.1 in absurd cc
-                    ]
-                  ]
-                ]
-              ]
-            ]
-          ]
-        ]
-      ]
-
-  pub line_takes : (bytes : List ℕ) (line : Line) → line_of bytes ≡ Some line → LineIs bytes line
+  -- what is read as a line was written so
+  pub line_takes : (bytes : List ℕ) (line : Line) → line_of bytes ≡ Some line
+      → (row_text line ≡ bytes) × HasForm line
   unfolding line_of
   line_takes bytes line is =
       words_take bytes (words_in bytes) line (join_with_byte-slice_split 32 bytes) is
+    where
+      words_take : (bytes : List ℕ) (words : List (List ℕ)) (line : Line)
+          → join_with_byte 32 words ≡ bytes → read_words words ≡ Some line
+          → (row_text line ≡ bytes) × HasForm line
+      words_take bytes [] line joined is = absurd cc
+      words_take bytes (word ∷ words) line joined is =
+          let t = table_takes forms forms_law word words line is in
+          (t.0 ∙ sym (joined_words word words) ∙ joined, t.1)
 
-  words_plain : (words : List (List ℕ)) → AllByRecursion (Above 32) words
-      → Above 10 (words_text words)
-  words_plain [] all = tt
-  words_plain (word ∷ words) all = (
-    omega arith,
-    above_append 10 word (words_text words)
-        (above_lower 10 32 word (omega arith) all.0) (words_plain words all.1),
-  )
-
-  form_plain : {A : Type 0} (row : Row A) (law : IsRow 32 row) (mark : ℕ) (a : A) → 32 < mark
-      → row.Fits a → Above 10 (form_text mark row a)
-  form_plain row law mark a high fits =
-      (omega (arith, high), words_plain (row.texts a) (law.plain a fits))
-
+  -- a line has no newline in it
   pub line_plain : (line : Line) → HasForm line → Above 10 (row_text line)
-  line_plain (Start version width height cell genome) fits =
-      form_plain start_row start_law 76 (version, (width, (height, (cell, genome))))
-      (omega arith) fits
-  line_plain (Death id update cell) fits =
-      form_plain death_row death_law 68 (id, (update, cell)) (omega arith) fits
-  line_plain (Birth id parent update cell over birth) fits =
-      form_plain birth_row birth_law 66 (born id parent update cell over birth) (omega arith) fits
-  line_plain (Injected id update cell over genome) fits =
-      form_plain injected_row injected_law 73 (id, (update, (cell, (over, genome))))
-      (omega arith) fits
-  line_plain (Cleared id update cell) fits =
-      form_plain death_row death_law 88 (id, (update, cell)) (omega arith) fits
-  line_plain (Rate update name ppm) fits =
-      form_plain rate_row rate_row_law 82 (update, (name, ppm)) (omega arith) fits
-  line_plain (Count stats) fits =
-      form_plain count_row count_law 85 (counted stats) (omega arith) fits
-  line_plain (End updates) fits = form_plain end_row end_law 69 updates (omega arith) fits
+  line_plain line fits =
+      let has = filled_form line in form_plain has.form (line_law line).0 has.fields fits

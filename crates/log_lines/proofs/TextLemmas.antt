@@ -9,11 +9,13 @@ use Rattle.mutations.specs.declared.change.Change.{Change}
 use Rattle.log_lines.specs.Kinds.{change_text}
 use Rattle.log_lines.specs.LineText.{words_text}
 
+-- words behind words
 pub words_text-append : (a b : List (List ℕ)) → words_text (a ++ b) ≡ words_text a ++ words_text b
 words_text-append [] b = refl
 words_text-append (w ∷ a) b = ap (λ (l : List ℕ). (32 ∷ w) ++ l) (words_text-append a b)
     ∙ sym (append_assoc (32 ∷ w) (words_text a) (words_text b))
 
+-- one word more
 pub words_text_more : {A : Type 0} (f : A → List ℕ) (xs : List A) (k : ℕ) (d : A) → k < length xs
     → words_text (map f (take (k + 1) xs)) ≡ words_text (map f (take k xs))
     ++ 32 ∷ f (get_or xs k d)
@@ -29,12 +31,14 @@ abbrev pub items_text : List Change → List ℕ
 items_text [] = []
 items_text (c ∷ cs) = 32 ∷ join_with_byte 44 (map change_text (c ∷ cs))
 
+-- one joined word more
 join_more : (w : List ℕ) (ws : List (List ℕ)) (v : List ℕ)
     → join_with_byte 44 (w ∷ (ws ++ v ∷ [])) ≡ join_with_byte 44 (w ∷ ws) ++ 44 ∷ v
 join_more w [] v = refl
 join_more w (x ∷ ws) v = ap (λ (l : List ℕ). w ++ 44 ∷ l) (join_more x ws v)
     ∙ sym (append_assoc w (44 ∷ join_with_byte 44 (x ∷ ws)) (44 ∷ v))
 
+-- one item more
 items_on : (cs : List Change) (c : Change) (before : ℕ) → before ≡ cond (length cs == 0) 32 44
     → items_text (cs ++ c ∷ []) ≡ items_text cs ++ before ∷ change_text c
 items_on [] c before is = rw is refl
@@ -44,6 +48,7 @@ items_on (a ∷ cs) c before is =
     (ap (λ (l : List ℕ). 32 ∷ l)
     (join_more (change_text a) (map change_text cs) (change_text c)))
 
+-- one item more of a list
 pub items_text_more : (cs : List Change) (k : ℕ) (c : Change) (before : ℕ) → slice_get cs k ≡ Some c
     → before ≡ cond (k == 0) 32 44
     → items_text (take (k + 1) cs) ≡ items_text (take k cs) ++ before ∷ change_text c

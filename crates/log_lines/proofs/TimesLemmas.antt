@@ -16,23 +16,28 @@ pub record HasRead (read : List ℕ → Option ℕ) (words left : List (List ℕ
 abbrev pub read_times : (List ℕ → Option ℕ) → ℕ → List (List ℕ) → Option (List ℕ)
 read_times read n words = cond (length words == n) (each read words) None
 
+-- nothing in front
 same_map : (o : Option (List ℕ)) → o ≡ option_map (λ others. [] ++ others) o
 same_map None = refl
 same_map (Some l) = refl
 
+-- no words were read yet
 pub read_none : (read : List ℕ → Option ℕ) (words : List (List ℕ)) → HasRead read words words []
 read_none read words = record { count = omega arith; values = same_map (each read words) }
 
+-- one number more in front
 map_more : (front : List ℕ) (n : ℕ) (o : Option (List ℕ))
     → option_map (λ others. front ++ others) (option_map (λ others. n ∷ others) o)
     ≡ option_map (λ others. (front ++ n ∷ []) ++ others) o
 map_more front n None = refl
 map_more front n (Some l) = ap Some (sym (append_assoc front (n ∷ []) l))
 
+-- something is not nothing
 some_none : (n : ℕ) (behind : List (List ℕ))
     → ◌≡◌ {A = Option (ℕ × List (List ℕ))} (Some (n, behind)) None → ⊥
 some_none n behind is = cc
 
+-- a first word that is read, and the words behind it
 same_first : (words behind : List (List ℕ)) (n : ℕ) (o : Option ℕ)
     → ◌≡◌ {A = Option (ℕ × List (List ℕ))} (Some (n, behind)) (option_map (λ a. (a, words)) o)
     → (words ≡ behind) × (o ≡ Some n)
@@ -54,6 +59,7 @@ first_parts read (word ∷ words) behind n is =
     let same = same_first words behind n (read word) is in
     (word, ap (λ (l : List (List ℕ)). word ∷ l) same.0, same.1)
 
+-- one word more is read
 pub read_more : (read : List ℕ → Option ℕ) (words left behind : List (List ℕ)) (front : List ℕ)
     (n : ℕ) → HasRead read words left front → Some (n, behind) ≡ read_first read left
     → HasRead read words behind (front ++ n ∷ [])
@@ -70,11 +76,13 @@ read_more read words left behind front n has is =
           both ∙ map_more front n (each read behind);
     }
 
+-- what gives nothing was not there
 map_none : (words : List (List ℕ)) (o : Option ℕ)
     → ◌≡◌ {A = Option (ℕ × List (List ℕ))} None (option_map (λ a. (a, words)) o) → o ≡ None
 map_none words None is = refl
 map_none words (Some a) is = absurd (some_none a words (sym is))
 
+-- where no first word is read, none is left or not all are read
 each_fails : (read : List ℕ → Option ℕ) (left : List (List ℕ)) → None ≡ read_first read left
     → (left ≡ []) ⊎ (each read left ≡ None)
 each_fails read [] is = inl refl
@@ -83,10 +91,12 @@ each_fails read (word ∷ words) is =
     inr (ap (λ (o : Option ℕ).
     option_and_then (λ a. option_map (λ others. a ∷ others) (each read words)) o) none)
 
+-- neither side gives anything
 either_none : (b : Bool) → ◌≡◌ {A = Option (List ℕ)} None (cond b None None)
 either_none true = refl
 either_none false = refl
 
+-- too few words, or one that is not read
 pub read_fails : (read : List ℕ → Option ℕ) (n : ℕ) (words left : List (List ℕ)) (front : List ℕ)
     → HasRead read words left front → length front < n → None ≡ read_first read left
     → None ≡ read_times read n words
@@ -101,6 +111,7 @@ read_fails read n words left front has short is = elim (each_fails read left is)
       rw all (either_none (length words == n))
 ]
 
+-- as many words as are wanted
 pub read_all : (read : List ℕ → Option ℕ) (n : ℕ) (words : List (List ℕ)) (front : List ℕ)
     → HasRead read words [] front → length front ≡ n → Some front ≡ read_times read n words
 read_all read n words front has long =
@@ -108,6 +119,7 @@ read_all read n words front has long =
     eq-eqb (length words) n (omega (arith, has.count, long)) in
     rw (same, has.values, append-nil) refl
 
+-- more words than are wanted
 pub read_too_many : (read : List ℕ → Option ℕ) (n : ℕ) (words left : List (List ℕ)) (front : List ℕ)
     → HasRead read words left front → length front ≡ n → 0 < length left
     → None ≡ read_times read n words

@@ -11,6 +11,7 @@ use Rattle.std.proofs.lemmas.List.Splits.{slice_split_at, slice_split_none}
 abbrev pub IsFree : ℕ → List ℕ → ℕ → Type 0
 IsFree part rest n = (k : ℕ) → k < n → (get_or rest k 0 == part) ≡ false
 
+-- the part byte is none of the first bytes
 all_free : (part : ℕ) (rest : List ℕ) (n : ℕ) → IsFree part rest n
     → All (λ b. (b == part) ≡ false) (take n rest)
 all_free part rest n free k d h =
@@ -18,6 +19,7 @@ all_free part rest n free k d h =
     let within : k < length rest = omega (arith, length-take n rest) in
     rw (get_or-take n rest k d low, get_or_default rest k d 0 within) (free k low)
 
+-- the piece before the part byte
 pub split_here : (part : ℕ) (rest : List ℕ) (n : ℕ) → n < length rest → IsFree part rest n
     → get_or rest n 0 ≡ part
     → slice_split (λ b. b == part) rest ≡ take n rest ∷ slice_split (λ b. b == part)
@@ -31,6 +33,7 @@ split_here part rest n h free is =
     ∙ slice_split_at (λ b. b == part) (take n rest) part (drop (n + 1) rest)
     (all_free part rest n free) (eq-eqb part part refl)
 
+-- a rest without the part byte is one piece
 pub split_end : (part : ℕ) (rest : List ℕ) → IsFree part rest (length rest)
     → slice_split (λ b. b == part) rest ≡ rest ∷ []
 split_end part rest free =
@@ -42,6 +45,7 @@ onto_more : {A : Type 0} (read : List ℕ → Option A) (word : List ℕ) (b : �
 onto_more read word b [] = refl
 onto_more read word b (part ∷ parts) = refl
 
+-- a word and a rest behind it are not the last word
 pub last_more : {A : Type 0} (read : List ℕ → Option A) (word rest : List ℕ)
     → read_last read (word ∷ slice_split (λ b. b == 32) rest) ≡ None
 last_more read word [] = refl
@@ -50,6 +54,7 @@ last_more read word (b ∷ bs) = elim (cases_Bool (b == 32)) [
   | inr not ↦ rw not (onto_more read word b (slice_split (λ b. b == 32) bs))
 ]
 
+-- what a byte is put before has a piece
 onto_some : (b : ℕ) (parts : List (List ℕ)) → 0 < length (onto_first b parts)
 onto_some b [] = omega arith
 onto_some b (part ∷ parts) = omega arith

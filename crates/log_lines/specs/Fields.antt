@@ -1,5 +1,5 @@
--- Fields of a line: each is a text of a value, and the reading of that text (docs/FORMATS.md, "The
--- log").
+-- A field of a line: a value's text, and the reading of that text (docs/FORMATS.md, "The log").
+use Prim.Native.Char.{code}
 use Rattle.std.specs.Prelude.{◌≡◌, ℕ, ◌≤◌, List, [], ◌∷◌, map, length, Option, Some, None, Bool, true, ◌==◌, if◌then◌else◌, option_and_then, option_map, decimal}
 use Rattle.std.specs.Str.{bytes_eq}
 use Rattle.std.specs.List.{slice_split, join_with_byte, AllByRecursion}
@@ -68,16 +68,16 @@ or_sign sign f =
 
 -- a dash for an empty list, or texts parted by commas
 abbrev pub list_text : {A : Type 0} → Field A → List A → List ℕ
-list_text f [] = 45 ∷ []
-list_text f (a ∷ items) = join_with_byte 44 (map f.text (a ∷ items))
+list_text f [] = code "-" ∷ []
+list_text f (a ∷ items) = join_with_byte (code ",") (map f.text (a ∷ items))
 
 -- a dash for an empty list, or items parted by commas
 abbrev pub list_of : {A : Type 0} → Field A → Field (List A)
 list_of f =
     record {
       text = list_text f;
-      read = λ word. if bytes_eq word (45 ∷ []) then Some []
-          else each f.read (slice_split (λ b. b == 44) word);
+      read = λ word. if bytes_eq word (code "-" ∷ []) then Some []
+          else each f.read (slice_split (λ b. b == code ",") word);
       Fits = AllByRecursion f.Fits;
     }
 

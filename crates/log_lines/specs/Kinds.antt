@@ -1,4 +1,5 @@
--- The kinds of fields in a log (docs/FORMATS.md, "The log").
+-- The fields of a log's lines, and the words that several lines have (docs/FORMATS.md, "The log").
+use Prim.Native.Char.{code}
 use Rattle.std.specs.Prelude.{ℕ, ◌-◌, List, [], ◌∷◌, ◌++◌, length, take, Option, None, ◌==◌, if◌then◌else◌, option_and_then, option_map, decimal, slice_index}
 use Rattle.instruction_set.specs.declared.letter.Letter.{Letter}
 use Rattle.instruction_set.specs.Letter.{byte_of, letter_of_byte}
@@ -9,6 +10,7 @@ use Rattle.mutations.specs.RateNames.{name_of_rate, rate_named}
 use Rattle.mutations.specs.RecordForm.{FitsChange, in_order}
 use Rattle.numerals.specs.Numeral.{number_of}
 use Rattle.log_lines.specs.Fields.{Field, number, letters, or_sign, list_of, where_true}
+use Rattle.log_lines.specs.Rows.{Row, last, ◌◂◌}
 
 -- a number below 2 ^ 32
 abbrev pub small : Field ℕ
@@ -24,9 +26,9 @@ rate_name = record { text = name_of_rate; read = λ word. rate_named word; Fits 
 
 -- one change: `p`, `i` or `d`, its place, and a letter but for `d`
 abbrev pub change_text : Change → List ℕ
-change_text (Point at letter) = 112 ∷ (decimal at ++ byte_of letter ∷ [])
-change_text (Insert at letter) = 105 ∷ (decimal at ++ byte_of letter ∷ [])
-change_text (Delete at) = 100 ∷ decimal at
+change_text (Point at letter) = code "p" ∷ (decimal at ++ byte_of letter ∷ [])
+change_text (Insert at letter) = code "i" ∷ (decimal at ++ byte_of letter ∷ [])
+change_text (Delete at) = code "d" ∷ decimal at
 
 -- a place, and a letter at the end
 abbrev pub read_lettered : (ℕ → Letter → Change) → List ℕ → Option Change
@@ -40,9 +42,9 @@ read_lettered make rest =
 abbrev pub read_change : List ℕ → Option Change
 read_change [] = None
 read_change (mark ∷ rest) =
-    if mark == 112 then read_lettered Point rest
-    else if mark == 105 then read_lettered Insert rest
-    else if mark == 100 then option_map Delete (number_of 0 4294967295 rest)
+    if mark == code "p" then read_lettered Point rest
+    else if mark == code "i" then read_lettered Insert rest
+    else if mark == code "d" then option_map Delete (number_of 0 4294967295 rest)
     else None
 
 -- one change of a birth's record
@@ -51,12 +53,24 @@ change = record { text = change_text; read = read_change; Fits = FitsChange }
 
 -- who stood in a cell
 abbrev pub over_field : Field (Option ℕ)
-over_field = or_sign 45 large
+over_field = or_sign (code "-") large
 
 -- `=` for the parent's letters, or written ones
 abbrev pub base_field : Field (Option (List Letter))
-base_field = or_sign 61 letters
+base_field = or_sign (code "=") letters
 
 -- the changes of a birth, in their order
 abbrev pub changes_field : Field (List Change)
 changes_field = where_true in_order (list_of change)
+
+-- an id, the update and the cell
+abbrev pub death_row : Row (ℕ × (ℕ × ℕ))
+death_row = large ◂ small ◂ last small
+
+-- the update, the cell, who stood there, and the words behind them
+abbrev pub arrival_then : {A : Type 0} → Row A → Row (ℕ × (ℕ × (Option ℕ × A)))
+arrival_then behind = small ◂ small ◂ over_field ◂ behind
+
+-- the base and the changes of a birth
+abbrev pub record_row : Row (Option (List Letter) × List Change)
+record_row = base_field ◂ last changes_field

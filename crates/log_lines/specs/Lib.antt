@@ -1,9 +1,10 @@
 pub use Rattle.genome.specs.Genome
 pub use Rattle.mutations.specs.BirthRecord
+pub mod Line
 pub mod Fields
 pub mod Rows
-pub mod Line
 pub mod Kinds
+pub mod Forms
 pub mod LineText
 pub mod LineReading
 pub mod Words

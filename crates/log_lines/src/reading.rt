@@ -4,12 +4,12 @@ ghost use Rattle.genome.specs.Genome as genome_spec;
 ghost use Rattle.mutations.specs.BirthRecord.{written_in};
 ghost use Rattle.log_lines.specs.Fields as fields_spec;
 ghost use Rattle.mutations.specs.RateNames.{rate_named};
-ghost use Rattle.log_lines.specs.Kinds.{base_field, changes_field, large, over_field};
+ghost use Rattle.log_lines.specs.Kinds.{base_field, changes_field, death_row, large, over_field, record_row};
 ghost use Rattle.log_lines.specs.Rows.{read_last, times};
-ghost use Rattle.log_lines.specs.Words.{read_first, words_of};
-ghost use Rattle.log_lines.specs.Line.{values_of};
-ghost use Rattle.log_lines.specs.LineText.{birth_row, count_row, counted, death_row, injected_row, rate_row, record_row, start_row};
-ghost use Rattle.log_lines.specs.LineReading.{birth_of, injected_of, line_of, rate_of, read_form, start_of};
+ghost use Rattle.log_lines.specs.Words.{read_arrival, read_first, words_of};
+ghost use Rattle.log_lines.specs.Line.{Count, values_of};
+ghost use Rattle.log_lines.specs.Forms.{birth_form, count_form, forms, injected_form, rate_form, start_form};
+ghost use Rattle.log_lines.specs.LineReading.{line_of, read_as, read_by};
 
 use crate::fields::{base, changes, genome};
 use crate::log_line::{LAST_VERSION, LogLine};
@@ -75,6 +75,24 @@ fn over_in(bytes: &[u8]) -> Option<(Option<u64>, Option<&[u8]>)>
     }
 }
 
+/// When and where an organism came, and who stood there and so died.
+#[derive(Clone, Copy)]
+struct Arrival {
+    update: u32,
+    cell: u32,
+    over: Option<u64>,
+}
+
+fn arrival_first<'a>(rest: Option<&'a [u8]>) -> Option<(Arrival, Option<&'a [u8]>)>
+    ensures { option_map (λ p. (p.0, words_of (option_copied p.1))) result
+        ≡ read_arrival (words_of (option_copied rest.entry)) }
+{
+    let (update, rest) = small_first(rest, 0, u32::MAX)?;
+    let (cell, rest) = small_first(rest, 0, u32::MAX)?;
+    let (over, rest) = over_first(rest)?;
+    Some((Arrival { update, cell, over }, rest))
+}
+
 fn rate_first<'a>(rest: Option<&'a [u8]>) -> Option<(RateName, Option<&'a [u8]>)>
     ensures { option_map (λ p. (p.0, words_of (option_copied p.1))) result
         ≡ read_first rate_named (words_of (option_copied rest.entry)) }
@@ -94,7 +112,7 @@ fn rate_first<'a>(rest: Option<&'a [u8]>) -> Option<(RateName, Option<&'a [u8]>)
 #[inline(never)]
 fn read_start(alloc: Global, rest: Option<&[u8]>) -> Result<Option<LogLine>, Memory>
     ensures { IfOk result (λ found. option_map values_of found
-        ≡ option_map start_of (start_row.read (words_of (option_copied rest.entry)))) }
+        ≡ read_as start_form (words_of (option_copied rest.entry))) }
 {
     let Some((version, rest)) = small_first(rest, 1, LAST_VERSION) else {
         return Ok(None);
@@ -174,10 +192,11 @@ fn origin_last(alloc: Global, rest: Option<&[u8]>) -> Result<Option<Origin>, Mem
     }
 }
 
+#[tactic(auto, using(crate::proofs::ArrivalLemmas::arrival_first))]
 #[inline(never)]
 fn read_birth(alloc: Global, rest: Option<&[u8]>) -> Result<Option<LogLine>, Memory>
     ensures { IfOk result (λ found. option_map values_of found
-        ≡ option_map birth_of (birth_row.read (words_of (option_copied rest.entry)))) }
+        ≡ read_as birth_form (words_of (option_copied rest.entry))) }
 {
     let Some((id, rest)) = large_first(rest) else {
         return Ok(None);
@@ -185,51 +204,40 @@ fn read_birth(alloc: Global, rest: Option<&[u8]>) -> Result<Option<LogLine>, Mem
     let Some((parent, rest)) = large_first(rest) else {
         return Ok(None);
     };
-    let Some((update, rest)) = small_first(rest, 0, u32::MAX) else {
-        return Ok(None);
-    };
-    let Some((cell, rest)) = small_first(rest, 0, u32::MAX) else {
-        return Ok(None);
-    };
-    let Some((over, rest)) = over_first(rest) else {
+    let Some((arrival, rest)) = arrival_first(rest) else {
         return Ok(None);
     };
     match origin_last(alloc, rest)? {
         Some(origin) => Ok(Some(LogLine::Birth {
             id,
             parent,
-            update,
-            cell,
-            over,
+            update: arrival.update,
+            cell: arrival.cell,
+            over: arrival.over,
             origin,
         })),
         None => Ok(None),
     }
 }
 
+#[tactic(auto, using(crate::proofs::ArrivalLemmas::arrival_first))]
 #[inline(never)]
 fn read_injected(alloc: Global, rest: Option<&[u8]>) -> Result<Option<LogLine>, Memory>
     ensures { IfOk result (λ found. option_map values_of found
-        ≡ option_map injected_of (injected_row.read (words_of (option_copied rest.entry)))) }
+        ≡ read_as injected_form (words_of (option_copied rest.entry))) }
 {
     let Some((id, rest)) = large_first(rest) else {
         return Ok(None);
     };
-    let Some((update, rest)) = small_first(rest, 0, u32::MAX) else {
-        return Ok(None);
-    };
-    let Some((cell, rest)) = small_first(rest, 0, u32::MAX) else {
-        return Ok(None);
-    };
-    let Some((over, rest)) = over_first(rest) else {
+    let Some((arrival, rest)) = arrival_first(rest) else {
         return Ok(None);
     };
     match genome_last(alloc, rest)? {
         Some(genome) => Ok(Some(LogLine::Injected {
             id,
-            update,
-            cell,
-            over,
+            update: arrival.update,
+            cell: arrival.cell,
+            over: arrival.over,
             genome,
         })),
         None => Ok(None),
@@ -239,7 +247,7 @@ fn read_injected(alloc: Global, rest: Option<&[u8]>) -> Result<Option<LogLine>, 
 #[inline(never)]
 fn read_rate(rest: Option<&[u8]>) -> Option<LogLine>
     ensures { option_map values_of result
-        ≡ option_map rate_of (rate_row.read (words_of (option_copied rest.entry))) }
+        ≡ read_as rate_form (words_of (option_copied rest.entry)) }
 {
     let (update, rest) = small_first(rest, 0, u32::MAX)?;
     let (name, rest) = rate_first(rest)?;
@@ -266,7 +274,8 @@ fn tasks_last(rest: Option<&[u8]>) -> Option<[u64; 9]>
 
 #[inline(never)]
 fn read_stats(rest: Option<&[u8]>) -> Option<Stats>
-    ensures { option_map counted result ≡ count_row.read (words_of (option_copied rest.entry)) }
+    ensures { option_map (λ stats. Count stats) result
+        ≡ read_as count_form (words_of (option_copied rest.entry)) }
 {
     let (update, rest) = small_first(rest, 0, u32::MAX)?;
     let (living, rest) = large_first(rest)?;
@@ -288,7 +297,7 @@ fn read_stats(rest: Option<&[u8]>) -> Option<Stats>
 
 fn read_form(alloc: Global, mark: u8, rest: Option<&[u8]>) -> Result<Option<LogLine>, Memory>
     ensures { IfOk result (λ found. option_map values_of found
-        ≡ read_form (mark ∷ []) (words_of (option_copied rest.entry))) }
+        ≡ read_by forms (mark ∷ []) (words_of (option_copied rest.entry))) }
 {
     match mark {
         b'L' => read_start(alloc, rest),

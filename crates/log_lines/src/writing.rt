@@ -3,9 +3,9 @@ ghost use Rattle.std.specs.Prelude.{ℕ, ◌≡◌, ◌++◌, ◌∷◌, [], Lis
 ghost use Rattle.genome.specs.Genome as genome_spec;
 ghost use Rattle.mutations.specs.BirthRecord.{record_of, written_in};
 ghost use Rattle.log_lines.specs.Fields.{letters, list_text};
-ghost use Rattle.log_lines.specs.Kinds.{base_field, change, change_text, changes_field, over_field};
-ghost use Rattle.log_lines.specs.LineText.{words_text, born, birth_row, count_row, counted, death_row, end_row, form_text, injected_row, line_text, rate_row, row_text, start_row};
-ghost use Rattle.log_lines.specs.Line.{values_of};
+ghost use Rattle.log_lines.specs.Kinds.{base_field, change, change_text, changes_field, death_row, over_field};
+ghost use Rattle.log_lines.specs.Line.{Birth, Count, End, Injected, Rate, Start, values_of};
+ghost use Rattle.log_lines.specs.LineText.{form_text, line_text, row_text, spaced, words_text};
 ghost use Rattle.log_lines.specs.Kept.{Keeps};
 
 use crate::log_line::LogLine;
@@ -55,7 +55,7 @@ pub fn write_number(before: u8, value: u64, out: &mut Vec<u8>) -> Result<(), Mem
 /// A space, and the letters of a genome.
 fn letters(out: &mut Vec<u8>, genome: &Genome) -> Result<(), Memory>
     ensures ok { OnOk result (out.new.items ≡ out.old.items
-        ++ 32 ∷ letters.text (genome_spec.letters genome.now)) }
+        ++ spaced (letters.text (genome_spec.letters genome.now))) }
     ensures err { OnErr result (Keeps out.old.items out.new.items) }
 {
     byte(out, b' ')?;
@@ -63,7 +63,7 @@ fn letters(out: &mut Vec<u8>, genome: &Genome) -> Result<(), Memory>
 }
 
 fn over(out: &mut Vec<u8>, over: Option<u64>) -> Result<(), Memory>
-    ensures ok { OnOk result (out.new.items ≡ out.old.items ++ 32 ∷ over_field.text over) }
+    ensures ok { OnOk result (out.new.items ≡ out.old.items ++ spaced (over_field.text over)) }
     ensures err { OnErr result (out.new.items ≡ out.old.items) }
 {
     match over {
@@ -74,7 +74,7 @@ fn over(out: &mut Vec<u8>, over: Option<u64>) -> Result<(), Memory>
 
 fn base(out: &mut Vec<u8>, base: &Base) -> Result<(), Memory>
     ensures ok { OnOk result (out.new.items ≡ out.old.items
-        ++ 32 ∷ base_field.text (written_in base.now)) }
+        ++ spaced (base_field.text (written_in base.now))) }
     ensures err { OnErr result (Keeps out.old.items out.new.items) }
 {
     match base {
@@ -106,7 +106,7 @@ fn change(out: &mut Vec<u8>, before: u8, change: Change) -> Result<(), Memory>
 #[tactic(auto, using(crate::proofs::KeptLemmas::keeps_front))]
 fn changes(out: &mut Vec<u8>, changes: &Changes) -> Result<(), Memory>
     ensures ok { OnOk result (out.new.items ≡ out.old.items
-        ++ 32 ∷ list_text change changes.now) }
+        ++ spaced (list_text change changes.now)) }
     ensures err { OnErr result (Keeps out.old.items out.new.items) }
 {
     if changes.len() == 0 {
@@ -144,6 +144,17 @@ fn placed(out: &mut Vec<u8>, update: u32, cell: u32) -> Result<(), Memory>
     write_number(b' ', u64::from(cell), out)
 }
 
+/// The update, the cell and who stood there.
+#[tactic(auto, using(crate::proofs::KeptLemmas::keeps_front))]
+fn arrival(out: &mut Vec<u8>, update: u32, cell: u32, who: Option<u64>) -> Result<(), Memory>
+    ensures ok { OnOk result (out.new.items ≡ out.old.items
+        ++ words_text (decimal update ∷ decimal cell ∷ over_field.text who ∷ [])) }
+    ensures err { OnErr result (Keeps out.old.items out.new.items) }
+{
+    placed(out, update, cell)?;
+    over(out, who)
+}
+
 /// Appends the base and the changes of a birth, each behind a space. When memory runs out `out`
 /// begins with what it held before.
 #[tactic(auto, using(crate::proofs::KeptLemmas::keeps_front))]
@@ -178,8 +189,7 @@ fn start(
     genome: &Genome,
 ) -> Result<(), Memory>
     ensures ok { OnOk result (out.new.items ≡ out.old.items
-        ++ form_text 76 start_row
-        (version, (width, (height, (cell, genome_spec.letters genome.now))))) }
+        ++ row_text (Start version width height cell (genome_spec.letters genome.now))) }
     ensures err { OnErr result (Keeps out.old.items out.new.items) }
 {
     byte(out, b'L')?;
@@ -212,15 +222,14 @@ fn birth(
     who: Option<u64>,
     origin: &Origin,
 ) -> Result<(), Memory>
-    ensures ok { OnOk result (out.new.items ≡ out.old.items ++ form_text 66 birth_row
-        (born id parent update cell who (record_of origin.now))) }
+    ensures ok { OnOk result (out.new.items ≡ out.old.items
+        ++ row_text (Birth id parent update cell who (record_of origin.now))) }
     ensures err { OnErr result (Keeps out.old.items out.new.items) }
 {
     byte(out, b'B')?;
     write_number(b' ', id, out)?;
     write_number(b' ', parent, out)?;
-    placed(out, update, cell)?;
-    over(out, who)?;
+    arrival(out, update, cell, who)?;
     write_record(origin, out)
 }
 
@@ -234,20 +243,18 @@ fn injected(
     genome: &Genome,
 ) -> Result<(), Memory>
     ensures ok { OnOk result (out.new.items ≡ out.old.items
-        ++ form_text 73 injected_row
-        (id, (update, (cell, (who, genome_spec.letters genome.now))))) }
+        ++ row_text (Injected id update cell who (genome_spec.letters genome.now))) }
     ensures err { OnErr result (Keeps out.old.items out.new.items) }
 {
     byte(out, b'I')?;
     write_number(b' ', id, out)?;
-    placed(out, update, cell)?;
-    over(out, who)?;
+    arrival(out, update, cell, who)?;
     letters(out, genome)
 }
 
 fn rate(out: &mut Vec<u8>, update: u32, name: RateName, ppm: u32) -> Result<(), Memory>
     ensures ok { OnOk result (out.new.items ≡ out.old.items
-        ++ form_text 82 rate_row (update, (name, ppm))) }
+        ++ row_text (Rate update name ppm)) }
     ensures err { OnErr result (Keeps out.old.items out.new.items) }
 {
     byte(out, b'R')?;
@@ -260,7 +267,7 @@ fn rate(out: &mut Vec<u8>, update: u32, name: RateName, ppm: u32) -> Result<(), 
 #[tactic(auto, using(crate::proofs::KeptLemmas::keeps_front))]
 fn count(out: &mut Vec<u8>, stats: &Stats) -> Result<(), Memory>
     ensures ok { OnOk result (out.new.items ≡ out.old.items
-        ++ form_text 85 count_row (counted stats.now)) }
+        ++ row_text (Count stats.now)) }
     ensures err { OnErr result (Keeps out.old.items out.new.items) }
 {
     byte(out, b'U')?;
@@ -272,7 +279,7 @@ fn count(out: &mut Vec<u8>, stats: &Stats) -> Result<(), Memory>
 }
 
 fn end(out: &mut Vec<u8>, updates: u32) -> Result<(), Memory>
-    ensures ok { OnOk result (out.new.items ≡ out.old.items ++ form_text 69 end_row updates) }
+    ensures ok { OnOk result (out.new.items ≡ out.old.items ++ row_text (End updates)) }
     ensures err { OnErr result (Keeps out.old.items out.new.items) }
 {
     byte(out, b'E')?;

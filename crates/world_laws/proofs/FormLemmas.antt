@@ -16,8 +16,8 @@ use Rattle.mutations.specs.Change.{is_genome_length}
 use Rattle.mutations.specs.BirthRecord.{BirthRecord}
 use Rattle.mutations.specs.RecordForm.{HasRecordForm, FitsBase}
 use Rattle.log_lines.specs.Line.{Count}
-use Rattle.log_lines.specs.Kinds.{large, over_field, base_field}
-use Rattle.log_lines.specs.LineText.{HasForm, record_row}
+use Rattle.log_lines.specs.Kinds.{large, over_field, base_field, record_row}
+use Rattle.log_lines.specs.LineText.{HasForm}
 use Rattle.lineage_log.specs.Slots.{taken}
 use Rattle.organism.specs.OrganismState.{OrganismState}
 use Rattle.organism.specs.Lived.{IsSoundOrganism}

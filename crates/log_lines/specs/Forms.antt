@@ -1,0 +1,141 @@
+-- The forms of a log's lines, a record each, and their table (docs/FORMATS.md, "The log").
+use Prim.Native.Char.{code}
+use Rattle.std.specs.Prelude.{ℕ, List, [], ◌∷◌, Option}
+use Rattle.instruction_set.specs.declared.letter.Letter.{Letter}
+use Rattle.mutations.specs.declared.change.Change.{Change}
+use Rattle.mutations.specs.declared.rate_name.RateName.{RateName}
+use Rattle.log_lines.specs.declared.stats.Stats.{Stats}
+use Rattle.log_lines.specs.Line.{Line, Start, Death, Birth, Injected, Cleared, Rate, Count, End}
+use Rattle.log_lines.specs.Fields.{number, letters}
+use Rattle.log_lines.specs.Rows.{Row, last, times, ◌◂◌}
+use Rattle.log_lines.specs.Kinds.{small, large, rate_name, death_row, arrival_then, record_row}
+
+-- a form of lines: the mark in front, the words of the fields, and the line that the fields tell
+pub record Form : Type 1 where
+  pub Fields : Type 0
+  pub mark : ℕ
+  pub row : Row Fields
+  pub line : Fields → Line
+
+-- a form whose fields are filled in
+pub record FilledForm : Type 1 where
+  pub form : Form
+  pub fields : form.Fields
+
+-- the first line: the version, the width, the height, the founder's cell and its letters
+abbrev pub start_form : Form
+start_form =
+    record {
+      Fields = ℕ × (ℕ × (ℕ × (ℕ × List Letter)));
+      mark = code "L";
+      row = number 1 2 ◂ number 1 256 ◂ number 1 256 ◂ small ◂ last letters;
+      line = λ (version, (width, (height, (cell, genome)))). Start version width height cell genome;
+    }
+
+-- a death of age: the id, the update and the cell
+abbrev pub death_form : Form
+death_form =
+    record {
+      Fields = ℕ × (ℕ × ℕ);
+      mark = code "D";
+      row = death_row;
+      line = λ (id, (update, cell)). Death id update cell;
+    }
+
+-- a birth: the id, the parent, the update, the cell, who stood there, the base and the changes
+abbrev pub birth_form : Form
+birth_form =
+    record {
+      Fields = ℕ × (ℕ × (ℕ × (ℕ × (Option ℕ × (Option (List Letter) × List Change)))));
+      mark = code "B";
+      row = large ◂ large ◂ arrival_then record_row;
+      line = λ (id, (parent, (update, (cell, (over, (written, changes)))))).
+          Birth id parent update cell over (record { written = written; changes = changes });
+    }
+
+-- an injected organism: the id, the update, the cell, who stood there and the letters
+abbrev pub injected_form : Form
+injected_form =
+    record {
+      Fields = ℕ × (ℕ × (ℕ × (Option ℕ × List Letter)));
+      mark = code "I";
+      row = large ◂ arrival_then (last letters);
+      line = λ (id, (update, (cell, (over, genome)))). Injected id update cell over genome;
+    }
+
+-- an organism cleared by an event: the id, the update and the cell
+abbrev pub cleared_form : Form
+cleared_form =
+    record {
+      Fields = ℕ × (ℕ × ℕ);
+      mark = code "X";
+      row = death_row;
+      line = λ (id, (update, cell)). Cleared id update cell;
+    }
+
+-- a rate: the update, the name and the parts per million
+abbrev pub rate_form : Form
+rate_form =
+    record {
+      Fields = ℕ × (RateName × ℕ);
+      mark = code "R";
+      row = small ◂ rate_name ◂ last (number 0 1000000);
+      line = λ (update, (name, ppm)). Rate update name ppm;
+    }
+
+-- the end of an update: it, living, births, deaths, genotypes, merit and the nine task counts
+abbrev pub count_form : Form
+count_form =
+    record {
+      Fields = ℕ × (ℕ × (ℕ × (ℕ × (ℕ × (ℕ × List ℕ)))));
+      mark = code "U";
+      row = small ◂ large ◂ large ◂ large ◂ large ◂ large ◂ times 9 large;
+      line = λ (update, (living, (births, (deaths, (genotypes, (merit, tasks)))))).
+          Count (record {
+            update = update;
+            living = living;
+            births = births;
+            deaths = deaths;
+            genotypes = genotypes;
+            merit = merit;
+            tasks = tasks;
+          });
+    }
+
+-- the last line: the number of updates
+abbrev pub end_form : Form
+end_form = record { Fields = ℕ; mark = code "E"; row = last small; line = End }
+
+-- the table of the forms
+abbrev pub forms : List Form
+forms =
+    start_form
+    ∷ death_form
+    ∷ birth_form
+    ∷ injected_form
+    ∷ cleared_form
+    ∷ rate_form
+    ∷ count_form
+    ∷ end_form
+    ∷ []
+
+-- the form of a line, filled in
+abbrev pub filled_form : Line → FilledForm
+filled_form (Start version width height cell genome) =
+    record { form = start_form; fields = (version, (width, (height, (cell, genome)))) }
+filled_form (Death id update cell) = record { form = death_form; fields = (id, (update, cell)) }
+filled_form (Birth id parent update cell over birth) =
+    record {
+      form = birth_form;
+      fields = (id, (parent, (update, (cell, (over, (birth.written, birth.changes))))));
+    }
+filled_form (Injected id update cell over genome) =
+    record { form = injected_form; fields = (id, (update, (cell, (over, genome)))) }
+filled_form (Cleared id update cell) = record { form = cleared_form; fields = (id, (update, cell)) }
+filled_form (Rate update name ppm) = record { form = rate_form; fields = (update, (name, ppm)) }
+filled_form (Count s) =
+    record {
+      form = count_form;
+      fields = (s.update, (s.living, (s.births, (s.deaths, (s.genotypes, (s.merit, s.tasks))))));
+    }
+filled_form (End updates) = record { form = end_form; fields = updates }
