@@ -158,6 +158,7 @@ module _ {X A : Type 0} (text : A → X) (read : X → Option A) (Fits : A → T
 abbrev IsAny : Letter → Type 0
 IsAny letter = Unit {0}
 
+-- each letter of a list has a byte
 all_any : (ls : List Letter) → AllByRecursion IsAny ls
 all_any [] = tt
 all_any (l ∷ ls) = (tt, all_any ls)
@@ -224,6 +225,7 @@ module _ {A : Type 0} {f : Field A} {c : ℕ} (law : IsField c f) where
   -- ---- a sign for none
 
   module _ (sign : ℕ) (none : f.read (sign ∷ []) ≡ None) where
+    -- a sign or a value is read again
     or_again : (a : Option A) → FitsOr f a → (or_sign sign f).read (text_or sign f a) ≡ Some a
     or_again None fits = let t : bytes_eq (sign ∷ []) (sign ∷ []) ≡ true =
         grind (arith, bytes_eq-Decides (sign ∷ []) (sign ∷ [])) in rw t refl
@@ -231,6 +233,7 @@ module _ {A : Type 0} {f : Field A} {c : ℕ} (law : IsField c f) where
         let t = not_equal (f.text a) (sign ∷ []) (some_text (sign ∷ []) none a fits) in
         rw (t, law.again a fits) refl
 
+    -- what is read as a sign or a value was written so
     or_takes : (word : List ℕ) (a : Option A) → (or_sign sign f).read word ≡ Some a
         → (text_or sign f a ≡ word) × FitsOr f a
     or_takes word a is = elim (chosen (bytes_eq word (sign ∷ [])) _ _ a is) [
@@ -244,6 +247,7 @@ module _ {A : Type 0} {f : Field A} {c : ℕ} (law : IsField c f) where
           (law.takes word some.0 some.1)
     ]
 
+    -- a sign or a value has no byte up to the bound
     or_plain : c < sign → (a : Option A) → FitsOr f a → Above c (text_or sign f a)
     or_plain low None fits = (low, tt)
     or_plain low (Some a) fits = law.plain a fits
@@ -269,6 +273,7 @@ module _ {A : Type 0} {f : Field A} {c : ℕ} (law : IsField c f) where
 
   -- ---- rows
 
+  -- what is read as the last word was written so
   last_takes : (words : List (List ℕ)) (a : A) → read_last f.read words ≡ Some a
       → ((last f).texts a ≡ words) × f.Fits a
   last_takes [] a is = absurd cc
@@ -285,6 +290,7 @@ module _ {A : Type 0} {f : Field A} {c : ℕ} (law : IsField c f) where
   }
 
   module _ {B : Type 0} {r : Row B} (others : IsRow c r) where
+    -- what is read as a field and a row was written so
     both_takes : (words : List (List ℕ)) (p : A × B) → read_both f.read r.read words ≡ Some p
         → ((f ◂ r).texts p ≡ words) × (f ◂ r).Fits p
     both_takes [] p is = absurd cc
@@ -309,11 +315,13 @@ module _ {A : Type 0} {f : Field A} {c : ℕ} (law : IsField c f) where
 
   -- ---- lists
 
+  -- no item has a byte up to the bound
   each_plain : (items : List A) → AllByRecursion f.Fits items
       → AllByRecursion (Above c) (map f.text items)
   each_plain [] fits = tt
   each_plain (a ∷ items) fits = (law.plain a fits.0, each_plain items fits.1)
 
+  -- so many items are read again
   times_again : (count : ℕ) (items : List A) → length items ≡ count → AllByRecursion f.Fits items
       → (times count f).read (map f.text items) ≡ Some items
   times_again count items n fits =
@@ -321,6 +329,7 @@ module _ {A : Type 0} {f : Field A} {c : ℕ} (law : IsField c f) where
       eq-eqb (length (map f.text items)) count (length-map items f.text ∙ n) in
       rw (same, each_again f.text f.read f.Fits law.again items fits) refl
 
+  -- what is read as so many items was written so
   times_takes : (count : ℕ) (words : List (List ℕ)) (items : List A)
       → (times count f).read words ≡ Some items → (map f.text items ≡ words)
       × ((length items ≡ count) × AllByRecursion f.Fits items)
@@ -350,6 +359,7 @@ words_above c d (word ∷ next ∷ words) h all =
     (above_lower c d word (omega (arith, h)) all.0) (h, words_above c d (next ∷ words) h all.1)
 
 module _ {A : Type 0} {f : Field A} (law : IsField 44 f) (none : f.read (45 ∷ []) ≡ None) where
+  -- a list is read again
   list_again : (items : List A) → AllByRecursion f.Fits items
       → (list_of f).read (list_text f items) ≡ Some items
   list_again [] fits = refl
@@ -364,6 +374,7 @@ module _ {A : Type 0} {f : Field A} (law : IsField 44 f) (none : f.read (45 ∷ 
       let word : f.text a ≡ 45 ∷ [] = cc in some_text law (45 ∷ []) none a fits.0 word) in
       rw (other, parts, each_again f.text f.read f.Fits law.again (a ∷ items) fits) refl
 
+  -- items read from the pieces of a word have the word as their text
   list_joined : (word : List ℕ) (items : List A)
       → map f.text items ≡ slice_split (λ b. b == 44) word → list_text f items ≡ word
   list_joined [] [] is = absurd cc
@@ -373,6 +384,7 @@ module _ {A : Type 0} {f : Field A} (law : IsField 44 f) (none : f.read (45 ∷ 
   list_joined word (a ∷ items) is =
       ap (λ (ws : List (List ℕ)). join_with_byte 44 ws) is ∙ join_with_byte-slice_split 44 word
 
+  -- what is read as a list was written so
   list_takes : (word : List ℕ) (items : List A) → (list_of f).read word ≡ Some items
       → (list_text f items ≡ word) × AllByRecursion f.Fits items
   list_takes word items is = elim (chosen (bytes_eq word (45 ∷ [])) _ _ items is) [
@@ -385,6 +397,7 @@ module _ {A : Type 0} {f : Field A} (law : IsField 44 f) (none : f.read (45 ∷ 
         (list_joined word items t.0, t.1)
   ]
 
+  -- a list has no byte below a comma
   list_plain : (items : List A) → AllByRecursion f.Fits items → Above 43 (list_text f items)
   list_plain [] fits = (omega arith, tt)
   list_plain (a ∷ items) fits =

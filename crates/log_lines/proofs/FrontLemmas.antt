@@ -26,11 +26,11 @@ onto_some b (part ∷ parts) = (part, parts, refl)
 
 -- a byte other than a space is put before the first word
 cut_on : (b : ℕ) (bs : List ℕ) → (b == 32) ≡ false → cut (b ∷ bs) ≡ onto_first b (cut bs)
-cut_on b bs other = ap (λ (v : Bool). cond v ([] ∷ cut bs) (onto_first b (cut bs))) other
+cut_on b bs other = rw other refl
 
 -- a space begins a word
 cut_here : (b : ℕ) (bs : List ℕ) → (b == 32) ≡ true → cut (b ∷ bs) ≡ [] ∷ cut bs
-cut_here b bs is = ap (λ (v : Bool). cond v ([] ∷ cut bs) (onto_first b (cut bs))) is
+cut_here b bs is = rw is refl
 
 -- ---- the word that the digits are, or begin
 
@@ -47,23 +47,21 @@ one_more n = omega arith
 -- a digit is put before the digits
 digits_on : (b : ℕ) (bs : List ℕ) → is_ascii_digit b ≡ true
     → leading_digits (b ∷ bs) ≡ b ∷ leading_digits bs
-digits_on b bs is = ap (λ (v : Bool). take (cond v (1 + digits_len bs) 0) (b ∷ bs)) is
-    ∙ ap (λ (n : ℕ). take n (b ∷ bs)) (one_more (digits_len bs))
+digits_on b bs is = rw (is, one_more (digits_len bs)) refl
 
 -- what follows the digits follows one digit more
 behind_on : (b : ℕ) (bs : List ℕ) → is_ascii_digit b ≡ true
     → drop (digits_len (b ∷ bs)) (b ∷ bs) ≡ drop (digits_len bs) bs
-behind_on b bs is = ap (λ (v : Bool). drop (cond v (1 + digits_len bs) 0) (b ∷ bs)) is
-    ∙ ap (λ (n : ℕ). drop n (b ∷ bs)) (one_more (digits_len bs))
+behind_on b bs is = rw (is, one_more (digits_len bs)) refl
 
 -- another byte has no digits
 no_digits : (b : ℕ) (bs : List ℕ) → is_ascii_digit b ≡ false → leading_digits (b ∷ bs) ≡ []
-no_digits b bs isnt = ap (λ (v : Bool). take (cond v (1 + digits_len bs) 0) (b ∷ bs)) isnt
+no_digits b bs isnt = rw isnt refl
 
 -- behind no digits stands the whole
 behind_none : (b : ℕ) (bs : List ℕ) → is_ascii_digit b ≡ false
     → drop (digits_len (b ∷ bs)) (b ∷ bs) ≡ b ∷ bs
-behind_none b bs isnt = ap (λ (v : Bool). drop (cond v (1 + digits_len bs) 0) (b ∷ bs)) isnt
+behind_none b bs isnt = rw isnt refl
 
 -- a conjunction with false
 and_false : (v : Bool) → (v && false) ≡ false
@@ -143,20 +141,22 @@ module _ (least greatest : ℕ) (bytes : List ℕ) where
   abbrev read : List ℕ → Option ℕ
   read word = number_of least greatest word
 
+  -- a first word with another byte is no number
+  no_word : Parts bytes None → None ≡ read_first read (cut bytes)
+  no_word so = sym
+      (ap (read_first read) so.2
+      ∙ ap (option_map (λ a. (a, so.1))) (not_number least greatest so.0 so.3))
+
   -- a number in front
   read_parts : (n : ℕ) (left : Option (Option (List ℕ))) → Parts bytes left
       → Some n ≡ read (leading_digits bytes) → with_left n left ≡ read_first read (cut bytes)
-  read_parts n None so is =
-      sym (ap (read_first read) so.2
-      ∙ ap (option_map (λ a. (a, so.1))) (not_number least greatest so.0 so.3))
+  read_parts n None so is = no_word so
   read_parts n (Some left) so is = ap (first_of left) is ∙ sym (ap (read_first read) so)
 
   -- no number in front
   no_parts : (left : Option (Option (List ℕ))) → Parts bytes left
       → None ≡ read (leading_digits bytes) → None ≡ read_first read (cut bytes)
-  no_parts None so is = sym
-      (ap (read_first read) so.2
-      ∙ ap (option_map (λ a. (a, so.1))) (not_number least greatest so.0 so.3))
+  no_parts None so is = no_word so
   no_parts (Some left) so is = ap (first_of left) is ∙ sym (ap (read_first read) so)
 
   -- the digits in front are the number that is the first word

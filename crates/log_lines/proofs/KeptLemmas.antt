@@ -4,6 +4,7 @@ use Rattle.std.proofs.lemmas.List.{take-append-drop}
 use Rattle.std.proofs.Math.Seq.{take-append_seam}
 use Rattle.log_lines.specs.Kept.{Keeps}
 
+-- a list that begins with two lists begins with the first one
 pub keeps_front : {A : Type 0} (a b c : List A) → Keeps (a ++ b) c → Keeps a c
 keeps_front {A = A} a b c kept =
     let n = length (a ++ b) in

@@ -1,5 +1,5 @@
 -- What is written of a field of a log is read again, and what is read was written so.
-use Rattle.std.proofs.Common.{◌≡◌, ℕ, suc, ◌-◌, ◌<◌, List, [], ◌∷◌, ◌++◌, length, get_or, take, Option, Some, None, refl, sym, ap, subst, ◌∙◌, arith, inl, inr, decimal, length-append}
+use Rattle.std.proofs.Common.{◌≡◌, ℕ, suc, ◌-◌, ◌<◌, List, [], ◌∷◌, ◌++◌, length, get_or, take, Some, None, refl, sym, ap, subst, ◌∙◌, arith, inl, inr, decimal, length-append}
 use Rattle.std.specs.Prelude.{option_map, ◌==◌}
 use Rattle.std.specs.Str.{bytes_eq}
 use Rattle.std.proofs.lemmas.Bool.{eqb-true}
@@ -13,7 +13,7 @@ use Rattle.mutations.specs.declared.rate_name.RateName.TheVariants as rate
 use Rattle.mutations.specs.RecordForm.{FitsChange, in_order}
 use Rattle.mutations.specs.RateNames.{name_of_rate, rate_named, rate_names}
 use Rattle.numerals.specs.Numeral.{number_of}
-use Rattle.log_lines.specs.Fields.{Field, number, genome_of, letters, list_of}
+use Rattle.log_lines.specs.Fields.{Field, genome_of}
 use Rattle.log_lines.specs.Kinds.{small, large, rate_name, change_text, read_lettered, read_change, change, over_field, base_field, changes_field}
 use Rattle.log_lines.specs.Words.{ToChange}
 use Rattle.log_lines.proofs.LetterLemmas.{byte_of_letter, letter_of_byte-byte_of, letter_above, found_passes}

@@ -8,4 +8,3 @@ pub mod WordLemmas
 pub mod TimesLemmas
 pub mod GenomeLemmas
 mod FrontLemmas
-pub mod ArrivalLemmas

@@ -1,12 +1,12 @@
 -- A line that is written is read again, and a line that is read was written so: each form of the
 -- table has the laws of `IsForm`, and the rest is said once for all forms.
-use Rattle.std.proofs.Common.{◌≡◌, ℕ, ◌<◌, true, List, [], ◌∷◌, ◌++◌, Option, Some, None, refl, sym, ap, subst, ◌∙◌, arith, inl, inr, append-nil}
+use Rattle.std.proofs.Common.{◌≡◌, ℕ, ◌<◌, true, List, [], ◌∷◌, ◌++◌, Some, refl, sym, ap, subst, ◌∙◌, arith, inl, inr, append-nil}
 use Rattle.std.specs.Prelude.{option_map, ◌==◌}
 use Rattle.std.specs.Str.{bytes_eq}
 use Rattle.std.specs.List.{slice_split, join_with_byte, AllByRecursion}
 use Rattle.std.proofs.lemmas.List.Splits.{join_with_byte-slice_split}
-use Rattle.log_lines.specs.Fields.{Field, number, letters}
-use Rattle.log_lines.specs.Rows.{Row, last, times, ◌◂◌}
+use Rattle.log_lines.specs.Fields.{Field, number}
+use Rattle.log_lines.specs.Rows.{Row, ◌◂◌}
 use Rattle.log_lines.specs.Line.{Line, Start, Death, Birth, Injected, Cleared, Rate, Count, End}
 use Rattle.log_lines.specs.Kinds.{small, large, death_row, arrival_then, record_row}
 use Rattle.log_lines.specs.Forms.{Form, FilledForm, forms, filled_form, start_form, death_form, birth_form, injected_form, cleared_form, rate_form, count_form, end_form}
@@ -161,12 +161,7 @@ module _ (numbers : OneNumber) where
   -- a death of age
   death_law : IsForm death_form
   death_law =
-      record {
-        high = omega arith;
-        words = death_words;
-        fills = λ fields. refl;
-        found = λ ws. refl;
-      }
+      record { high = omega arith; words = death_words; fills = λ p. refl; found = λ ws. refl }
 
   -- a birth
   birth_law : IsForm birth_form
@@ -191,12 +186,7 @@ module _ (numbers : OneNumber) where
   -- an organism cleared by an event
   cleared_law : IsForm cleared_form
   cleared_law =
-      record {
-        high = omega arith;
-        words = death_words;
-        fills = λ fields. refl;
-        found = λ ws. refl;
-      }
+      record { high = omega arith; words = death_words; fills = λ p. refl; found = λ ws. refl }
 
   -- a rate
   rate_form_law : IsForm rate_form
@@ -223,12 +213,7 @@ module _ (numbers : OneNumber) where
   -- the last line
   end_law : IsForm end_form
   end_law =
-      record {
-        high = omega arith;
-        words = last_law small32;
-        fills = λ fields. refl;
-        found = λ ws. refl;
-      }
+      record { high = omega arith; words = last_law small32; fills = λ p. refl; found = λ ws. refl }
 
   -- each form of the table has the laws
   forms_law : AreForms forms

@@ -4,7 +4,6 @@ use Rattle.std.specs.Prelude.{ℕ, List, [], ◌∷◌, Option}
 use Rattle.instruction_set.specs.declared.letter.Letter.{Letter}
 use Rattle.mutations.specs.declared.change.Change.{Change}
 use Rattle.mutations.specs.declared.rate_name.RateName.{RateName}
-use Rattle.log_lines.specs.declared.stats.Stats.{Stats}
 use Rattle.log_lines.specs.Line.{Line, Start, Death, Birth, Injected, Cleared, Rate, Count, End}
 use Rattle.log_lines.specs.Fields.{number, letters}
 use Rattle.log_lines.specs.Rows.{Row, last, times, ◌◂◌}

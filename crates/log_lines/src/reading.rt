@@ -192,7 +192,6 @@ fn origin_last(alloc: Global, rest: Option<&[u8]>) -> Result<Option<Origin>, Mem
     }
 }
 
-#[tactic(auto, using(crate::proofs::ArrivalLemmas::arrival_first))]
 #[inline(never)]
 fn read_birth(alloc: Global, rest: Option<&[u8]>) -> Result<Option<LogLine>, Memory>
     ensures { IfOk result (λ found. option_map values_of found
@@ -220,7 +219,6 @@ fn read_birth(alloc: Global, rest: Option<&[u8]>) -> Result<Option<LogLine>, Mem
     }
 }
 
-#[tactic(auto, using(crate::proofs::ArrivalLemmas::arrival_first))]
 #[inline(never)]
 fn read_injected(alloc: Global, rest: Option<&[u8]>) -> Result<Option<LogLine>, Memory>
     ensures { IfOk result (λ found. option_map values_of found
