@@ -1,5 +1,5 @@
 -- The record of a birth and the child that it makes.
-use Rattle.std.proofs.Common.{◌≡◌, refl, sym, ◌∙◌, ap, subst, ℕ, ◌+◌, Bool, true, false, cond, ◌&&◌, List, [], ◌∷◌, ◌++◌, length, Ok, unwrap_or, Some, None, Option, IsNone, ◌↔◌}
+use Rattle.std.proofs.Common.{◌≡◌, refl, sym, ◌∙◌, ap, subst, ℕ, Bool, true, false, cond, ◌&&◌, List, [], ◌∷◌, ◌++◌, length, Ok, unwrap_or, Some, None, Option, IsNone, ◌↔◌}
 use Rattle.std.specs.Bool.{Decides}
 use Rattle.std.specs.Cmp.Lexicographic.{pointwise}
 use Rattle.std.proofs.lemmas.Slice.Eq.{slice_eq-Decides}
@@ -9,10 +9,14 @@ use Rattle.random_streams.specs.RandomStream.{Stream, word_of}
 use Rattle.mutations.specs.declared.change.Change.{Change}
 use Rattle.mutations.specs.Change.{text_after}
 use Rattle.mutations.specs.Rates.{RateNumbers, LengthRange}
-use Rattle.mutations.specs.DivideErrors.{Drawn, pointed_text, after_points, points_from, insertions, deletions}
+use Rattle.mutations.specs.declared.indels.Indel.TheVariants.{Insertion, Deletion}
+use Rattle.mutations.specs.DivideErrors.{Drawn, in_turn, pointed_text, after_points, points_from}
+use Rattle.mutations.specs.Indels.{Draft, indels, draft_after}
 use Rattle.mutations.specs.BirthRecord.{drawn_by_divide, written_of, child_of}
-use Rattle.mutations.specs.Pass.{Makes, Passed}
+use Rattle.mutations.specs.Pass.{Makes, Work, Passed}
 use Rattle.mutations.proofs.ChangeLemmas.{Passed-append}
+use Rattle.mutations.proofs.IndelKinds.{indels-kind}
+use Rattle.mutations.proofs.IndelPasses.{draft-passed}
 use Rattle.mutations.proofs.PointLemmas.{OneIndex}
 
 -- two tests that agree compare lists alike
@@ -24,57 +28,72 @@ pointwise_alike E F alike (x ∷ xs) [] = refl
 pointwise_alike E F alike (x ∷ xs) (y ∷ ys) = ap (λ b. b && pointwise E xs ys) (alike x y)
     ∙ ap (λ b. F x y && b) (pointwise_alike E F alike xs ys)
 
+-- what is drawn by a stream and a length goes on with equal ones
+moved : (F : Stream → ℕ → Drawn) (stream there : Stream) (len size : ℕ) (from to : Work)
+    → stream ≡ there → len ≡ size → Passed (F stream len) from to → Passed (F there size) from to
+moved F stream there len size from to streams sizes passed =
+    subst (λ (n : ℕ). Passed (F there n) from to) sizes
+    (subst (λ (s : Stream). Passed (F s len) from to) streams passed)
+
+-- a text that has its site points, and the changes that tell them
+pub record Pointed (rate : ℕ) (clean written : List Letter) (before : Stream) (pointed : Work)
+    : Type 0 where
+  pub text : pointed.text ≡ pointed_text (word_of before) rate before.taken written
+  pub taken : pointed.draws
+      ≡ record before { taken = after_points (word_of before) rate before.taken written }
+  pub same_length : length pointed.text ≡ length written
+  pub changes : pointed.changes ≡ points_from 0 clean pointed.text
+  pub made : Makes pointed.changes clean pointed.text
+
 -- the points, then the insertions, then the deletions
 pub drawn_by_divide-passed : (rates : RateNumbers) (range : LengthRange)
-    (clean written text longer child : List Letter) (points middle changes : List Change)
-    (before pointed between after : Stream)
-    → text ≡ pointed_text (word_of before) rates.site_point before.taken written
-    → pointed ≡ record before
-    { taken = after_points (word_of before) rates.site_point before.taken (length written) }
-    → length text ≡ length written → points ≡ points_from 0 clean text → Makes points clean text
-    → Passed (insertions (word_of pointed) rates range (length text) pointed.taken) text longer
-    points middle pointed between
-    → length longer ≡ length text + length
-    (insertions (word_of pointed) rates range (length text) pointed.taken).changes
-    → Passed (deletions (word_of between) rates range (length longer) between.taken) longer child
-    middle changes between after
-    → Passed (drawn_by_divide (word_of before) before.taken rates range clean written) clean child
-    [] changes before after
+    (clean written : List Letter) (before : Stream) (pointed longer child : Work)
+    → Pointed rates.site_point clean written before pointed
+    → Passed (indels Insertion rates range (word_of pointed.draws)
+    (record { size = length pointed.text; word = pointed.draws.taken })) pointed longer
+    → Passed (indels Deletion rates range (word_of longer.draws)
+    (record { size = length longer.text; word = longer.draws.taken })) longer child
+    → Passed (drawn_by_divide (word_of before) before.taken rates range clean written)
+    (record { text = clean; changes = []; draws = before }) child
 unfolding drawn_by_divide
-drawn_by_divide-passed rates range clean written text longer child points middle changes before
-    pointed between after is_text is_pointed one_length is_points made inserts size deletes =
-    let next : ℕ = after_points (word_of before) rates.site_point before.taken (length written) in
-    let first : Drawn = record { changes = points_from 0 clean text; next = next } in
-    let one : Passed first clean text [] points before pointed =
+drawn_by_divide-passed rates range clean written before pointed longer child points inserts
+    deletes =
+    let start : Work = record { text = clean; changes = []; draws = before } in
+    let next : ℕ = after_points (word_of before) rates.site_point before.taken written in
+    let there : Stream = record before { taken = next } in
+    let first : Drawn = record { changes = points_from 0 clean pointed.text; next = next } in
+    let one : Passed first start pointed =
     record {
-      made = subst (λ (cs : List Change). Makes cs clean text) is_points made;
-      noted = is_points;
-      taken = is_pointed;
+      made = subst (λ (cs : List Change). Makes cs clean pointed.text) points.changes points.made;
+      noted = points.changes;
+      taken = points.taken;
     } in
-    let L : Drawn = insertions (word_of before) rates range (length written) next in
-    let is_L : insertions (word_of pointed) rates range (length text) pointed.taken ≡ L =
-    ap (λ (s : Stream). insertions (word_of s) rates range (length text) s.taken) is_pointed
-    ∙ ap (λ (n : ℕ). insertions (word_of before) rates range n next) one_length in
-    let two : Passed L text longer points middle pointed between =
-    subst (λ (d : Drawn). Passed d text longer points middle pointed between) is_L inserts in
-    let longer_size : length longer ≡ length written + length L.changes =
-    size ∙ ap (λ (d : Drawn). length text + length d.changes) is_L
-    ∙ ap (λ (n : ℕ). n + length L.changes) one_length in
-    let both : Passed (record { changes = first.changes ++ L.changes; next = L.next }) clean longer
-    [] middle before between =
-    Passed-append first L clean text longer [] points middle before pointed between one two in
-    let S : Drawn =
-    deletions (word_of before) rates range (length written + length L.changes) L.next in
-    let is_S : deletions (word_of between) rates range (length longer) between.taken ≡ S =
-    ap (λ (s : Stream). deletions (word_of s) rates range (length longer) s.taken) both.taken
-    ∙ ap (λ (n : ℕ). deletions (word_of before) rates range n L.next) longer_size in
-    let three : Passed S longer child middle changes between after =
-    subst (λ (d : Drawn). Passed d longer child middle changes between after) is_S deletes in
-    let all = Passed-append (record { changes = first.changes ++ L.changes; next = L.next }) S clean
-    longer child [] middle changes before between after both three in
-    subst (λ (t : List Letter).
-    Passed (record { changes = points_from 0 clean t ++ L.changes ++ S.changes; next = S.next })
-    clean child [] changes before after) is_text all
+    let draft : Stream → ℕ → Draft = λ s n. record { size = n; word = s.taken } in
+    let I : Stream → ℕ → Drawn = λ s n. indels Insertion rates range (word_of s) (draft s n) in
+    let D : Stream → ℕ → Drawn =
+    λ s n. indels Deletion rates range (word_of s) (draft_after Insertion (I s n) (draft s n)) in
+    let two : Passed (I there (length written)) pointed longer =
+    moved I pointed.draws there (length pointed.text) (length written) pointed longer points.taken
+    points.same_length inserts in
+    let after : Passed (D pointed.draws (length pointed.text)) longer child =
+    draft-passed Insertion (indels Deletion rates range) (I pointed.draws (length pointed.text))
+    pointed longer child
+    (indels-kind Insertion rates range (word_of pointed.draws)
+    (draft pointed.draws (length pointed.text))) inserts deletes in
+    let three : Passed (D there (length written)) longer child =
+    moved D pointed.draws there (length pointed.text) (length written) longer child points.taken
+    points.same_length after in
+    let both : Passed (in_turn first (I there (length written))) start longer =
+    Passed-append first (I there (length written)) start pointed longer one two in
+    let all : Passed (in_turn (in_turn first (I there (length written)))
+    (D there (length written))) start child =
+    Passed-append (in_turn first (I there (length written))) (D there (length written)) start longer
+    child both three in
+    subst (λ (t : List Letter). Passed (record {
+      changes = points_from 0 clean t ++ (I there (length written)).changes
+          ++ (D there (length written)).changes;
+      next = (D there (length written)).next;
+    }) start child) points.text all
 
 module _ (one_index : OneIndex) where
   -- the base's text is the clean text, whichever base it is
@@ -107,7 +126,9 @@ module _ (one_index : OneIndex) where
   -- the record's changes make the child of its base
   pub child_of-made : (parent clean made : List Letter) (written : Option (List Letter))
       (drawn : Drawn) (changes : List Change) (before after : Stream)
-      → written ≡ written_of clean parent → Passed drawn clean made [] changes before after
+      → written ≡ written_of clean parent
+      → Passed drawn (record { text = clean; changes = []; draws = before })
+      (record { text = made; changes = changes; draws = after })
       → child_of parent (record { written = written; changes = changes }) ≡ Ok made
   child_of-made parent clean made written drawn changes before after is_written passed =
       ap (λ (base : List Letter). text_after 1 changes base)

@@ -7,17 +7,17 @@ use Rattle.mutations.specs.declared.stop.ApplyStop.{ApplyStop}
 use Rattle.mutations.specs.declared.stop.ApplyStop.TheVariants.{Place, Length}
 use Rattle.mutations.specs.Change.{text_after, with_change, has_place, is_genome_length}
 use Rattle.random_streams.specs.RandomStream.{Stream}
-use Rattle.mutations.specs.DivideErrors.{Drawn, none_by}
-use Rattle.mutations.specs.Pass.{Makes, Passed}
+use Rattle.mutations.specs.DivideErrors.{Drawn, none_by, in_turn}
+use Rattle.mutations.specs.Pass.{Makes, Work, Passed}
 
 -- a step that gave a text took neither refusal
-pub step-made : (placed fits : Bool) (rest rest' all : Result (List Letter) ApplyStop)
-    (place len : ApplyStop) (made : List Letter) → (rest ≡ Ok made → rest' ≡ all)
+pub step-made : (placed fits : Bool) (rest : Result (List Letter) ApplyStop)
+    (place len : ApplyStop) (made : List Letter)
     → cond placed (cond fits rest (Err len)) (Err place) ≡ Ok made
-    → cond placed (cond fits rest' (Err len)) (Err place) ≡ all
-step-made true true rest rest' all place len made further h = further h
-step-made true false rest rest' all place len made further h = absurd cc
-step-made false fits rest rest' all place len made further h = absurd cc
+    → (placed ≡ true) × (fits ≡ true) × (rest ≡ Ok made)
+step-made true true rest place len made h = (refl, refl, h)
+step-made true false rest place len made h = absurd cc
+step-made false fits rest place len made h = absurd cc
 
 -- further changes go on from the text that the first ones made
 pub text_after-append : (nth : ℕ) (first more : List Change) (from made : List Letter)
@@ -26,11 +26,14 @@ pub text_after-append : (nth : ℕ) (first more : List Change) (from made : List
 text_after-append nth [] more from made h =
     let same : from ≡ made = cc in let n : nth + 0 ≡ nth = omega arith in rw (same, n) refl
 text_after-append nth (change ∷ first) more from made h =
+    let step = step-made (has_place change (length from))
+    (is_genome_length (length (with_change change from))) _ (Place nth) (Length nth) made h in
+    let placed : has_place change (length from) ≡ true = step.0 in
+    let fits : is_genome_length (length (with_change change from)) ≡ true = step.1 in
     let n : nth + 1 + length first ≡ nth + length (change ∷ first) = omega arith in
-    step-made (has_place change (length from)) (is_genome_length (length (with_change change from)))
-    _ _ _ (Place nth) (Length nth) made
-    (λ rest. text_after-append (nth + 1) first more (with_change change from) made rest
-    ∙ ap (λ k. text_after k more made) n) h
+    rw (placed, fits)
+    (text_after-append (nth + 1) first more (with_change change from) made step.2
+    ∙ ap (λ k. text_after k more made) n)
 
 -- what makes a text, and what makes another of that one
 pub Makes-append : (first more : List Change) (from through to : List Letter)
@@ -51,39 +54,34 @@ pub Makes-one : (change : Change) (from : List Letter) → has_place change (len
 Makes-one change from placed fits = record { made = λ nth. rw (placed, fits) refl }
 
 -- what is left of a walk over a text: its changes, after those noted, are the whole walk's
-pub record Left (others whole : Drawn) (text now : List Letter) (old noted : List Change) : Type 0
-  where
-    pub changes : noted ++ others.changes ≡ old ++ whole.changes
-    pub next : others.next ≡ whole.next
-    pub made : (to : List Letter) → Makes others.changes now to → Makes whole.changes text to
+pub record Left (others whole : Drawn) (start now : Work) : Type 0 where
+  pub changes : now.changes ++ others.changes ≡ start.changes ++ whole.changes
+  pub next : others.next ≡ whole.next
+  pub made : (to : List Letter) → Makes others.changes now.text to
+      → Makes whole.changes start.text to
+  pub stream : now.draws ≡ record start.draws { taken = now.draws.taken }
 
 -- one step of the walk
-pub Left-next : (here others whole : Drawn) (text now now' : List Letter)
-    (old noted noted' : List Change) (before after : Stream)
-    → Passed here now now' noted noted' before after
-    → Left (record { changes = here.changes ++ others.changes; next = others.next }) whole text now
-    old noted → Left others whole text now' old noted'
-Left-next here others whole text now now' old noted noted' before after passed left = record {
+pub Left-next : (here others whole : Drawn) (start now next : Work) → Passed here now next
+    → Left (in_turn here others) whole start now → Left others whole start next
+Left-next here others whole start now next passed left = record {
   changes = ap (λ l. l ++ others.changes) passed.noted
-      ∙ append_assoc noted here.changes others.changes ∙ left.changes;
+      ∙ append_assoc now.changes here.changes others.changes ∙ left.changes;
   next = left.next;
   made = λ to further. left.made to
-      (Makes-append here.changes others.changes now now' to passed.made further);
+      (Makes-append here.changes others.changes now.text next.text to passed.made further);
+  stream = passed.taken ∙ ap (λ (s : Stream). record s { taken = here.next }) left.stream
+      ∙ ap (λ (n : ℕ). record start.draws { taken = n })
+      (sym (ap (λ (s : Stream). s.taken) passed.taken));
 }
 
--- the walk before its first step
-pub Left-all : (whole : Drawn) (text : List Letter) (old : List Change)
-    → Left whole whole text text old old
-Left-all whole text old = record { changes = refl; next = refl; made = λ to made. made }
-
 -- the walk after its last step
-pub Left-none : (whole : Drawn) (k : ℕ) (text now : List Letter) (old noted : List Change)
-    (before after : Stream) → Left (none_by k) whole text now old noted
-    → after ≡ record before { taken = k } → Passed whole text now old noted before after
-Left-none whole k text now old noted before after left taken = record {
-  made = left.made now (Makes-none now);
-  noted = sym (append-nil noted) ∙ left.changes;
-  taken = taken ∙ ap (λ (n : ℕ). record before { taken = n }) left.next;
+pub Left-none : (whole : Drawn) (start now : Work) → Left (none_by now.draws.taken) whole start now
+    → Passed whole start now
+Left-none whole start now left = record {
+  made = left.made now.text (Makes-none now.text);
+  noted = sym (append-nil now.changes) ∙ left.changes;
+  taken = left.stream ∙ ap (λ (n : ℕ). record start.draws { taken = n }) left.next;
 }
 
 -- the rest of a text from a place on
@@ -92,15 +90,13 @@ pub drop-here : (text : List Letter) (at : ℕ) → at < length text
 drop-here text at inside = rw (add-one, drop-cons text at NopA) refl
 
 -- what drew some changes, and then more
-pub Passed-append : (first more : Drawn) (from through to : List Letter)
-    (old middle new : List Change) (before between after : Stream)
-    → Passed first from through old middle before between
-    → Passed more through to middle new between after
-    → Passed (record { changes = first.changes ++ more.changes; next = more.next }) from to old new
-    before after
-Passed-append first more from through to old middle new before between after one two = record {
-  made = Makes-append first.changes more.changes from through to one.made two.made;
+pub Passed-append : (first more : Drawn) (before between after : Work)
+    → Passed first before between → Passed more between after
+    → Passed (in_turn first more) before after
+Passed-append first more before between after one two = record {
+  made = Makes-append first.changes more.changes before.text between.text after.text one.made
+      two.made;
   noted = two.noted ∙ ap (λ l. l ++ more.changes) one.noted
-      ∙ append_assoc old first.changes more.changes;
+      ∙ append_assoc before.changes first.changes more.changes;
   taken = two.taken ∙ ap (λ (s : Stream). record s { taken = more.next }) one.taken;
 }

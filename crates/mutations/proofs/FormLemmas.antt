@@ -1,20 +1,22 @@
 -- Records that words draw have the form of a record in a log.
-use Rattle.std.proofs.Common.{◌≡◌, refl, ◌∙◌, ap, ℕ, zero, suc, ◌+◌, ◌-◌, ◌<◌, ◌≤◌, ◌^◌, Bool, true, false, cond, eqb, ltb, ◌&&◌, List, [], ◌∷◌, ◌++◌, length, append_assoc, Result, Ok, Err, None, Some, arith}
+use Rattle.std.proofs.Common.{◌≡◌, refl, ◌∙◌, ap, ℕ, ◌+◌, ◌<◌, ◌≤◌, ◌^◌, Bool, true, false, cond, ◌&&◌, List, [], ◌∷◌, ◌++◌, length, append_assoc, Ok, None, Some, arith}
 use Rattle.std.specs.List.{AllByRecursion}
 use Rattle.std.proofs.lemmas.Bool.Decides.{nat_tests}
 use Rattle.instruction_set.specs.declared.letter.Letter.{Letter}
 use Rattle.instruction_set.specs.Letter.{same_letter, same_letters}
-use Rattle.random_streams.specs.RandomStream.{hits, scaled}
 use Rattle.mutations.specs.declared.change.Change.{Change}
 use Rattle.mutations.specs.declared.change.Change.TheVariants.{Point, Insert, Delete}
-use Rattle.mutations.specs.declared.stop.ApplyStop.{ApplyStop}
 use Rattle.mutations.specs.declared.stop.ApplyStop.TheVariants.{Place, Length}
 use Rattle.mutations.specs.Change.{text_after, with_change, has_place, is_genome_length}
-use Rattle.mutations.specs.CopyError.{letter_of_word}
 use Rattle.mutations.specs.Rates.{RateNumbers, LengthRange}
-use Rattle.mutations.specs.DivideErrors.{Drawn, none_by, pointed_text, after_points, points_from, insertion_at, insertions_from, site_insertions, deletion_at, deletions_from, site_deletions, insertions, deletions}
+use Rattle.mutations.specs.declared.indels.Indel.TheVariants.{Insertion, Deletion}
+use Rattle.mutations.specs.DivideErrors.{Drawn, pointed_text, after_points, points_from}
+use Rattle.mutations.specs.Indels.{Draft, indels, draft_after}
 use Rattle.mutations.specs.BirthRecord.{drawn_by_divide, origin_of}
 use Rattle.mutations.specs.RecordForm.{FitsBase, FitsPlace, FitsChange, may_follow, in_order, HasRecordForm}
+use Rattle.mutations.proofs.ChangeLemmas.{step-made}
+use Rattle.mutations.proofs.IndelLemmas.{IsIndel}
+use Rattle.mutations.proofs.IndelKinds.{indels-kind}
 use Rattle.mutations.proofs.PointLemmas.{OneIndex}
 use Rattle.mutations.proofs.LawLemmas.{Child, drawn_by_divide-child}
 
@@ -39,20 +41,12 @@ fits-change (Insert at letter) len placed longest =
 fits-change (Delete at) len placed longest =
     let lt : at < len = grind arith in fits-place at len (omega arith) longest
 
--- a step that gave a text took neither refusal
-taken : (placed fits : Bool) (rest : Result (List Letter) ApplyStop) (place len : ApplyStop)
-    (made : List Letter) → cond placed (cond fits rest (Err len)) (Err place) ≡ Ok made
-    → (placed ≡ true) × (fits ≡ true) × (rest ≡ Ok made)
-taken true true rest place len made h = (refl, refl, h)
-taken true false rest place len made h = absurd cc
-taken false fits rest place len made h = absurd cc
-
 -- the places of changes that apply
 fits-changes : (nth : ℕ) (changes : List Change) (text made : List Letter) → length text ≤ 8192
     → text_after nth changes text ≡ Ok made → AllByRecursion FitsChange changes
 fits-changes nth [] text made longest applies = tt
 fits-changes nth (change ∷ changes) text made longest applies =
-    let step = taken (has_place change (length text))
+    let step = step-made (has_place change (length text))
     (is_genome_length (length (with_change change text))) _ (Place nth)
     (Length nth) made applies in
     let fits : is_genome_length (length (with_change change text)) ≡ true = step.1 in
@@ -61,83 +55,6 @@ fits-changes nth (change ∷ changes) text made longest applies =
       fits-change change (length text) step.0 longest,
       fits-changes (nth + 1) changes (with_change change text) made next step.2,
     )
-
--- an insertion, a deletion
-abbrev IsInsert : Change → Type 0
-IsInsert (Insert at letter) = Unit {0}
-IsInsert _ = ⊥
-
-abbrev IsDelete : Change → Type 0
-IsDelete (Delete at) = Unit {0}
-IsDelete _ = ⊥
-
--- two lists of one kind
-all-append : (P : Change → Type 0) (one two : List Change) → AllByRecursion P one
-    → AllByRecursion P two → AllByRecursion P (one ++ two)
-all-append P [] two first second = second
-all-append P (change ∷ one) two first second = (first.0, all-append P one two first.1 second)
-
--- a change that is drawn or not
-all-one : (P : Change → Type 0) (hit : Bool) (change : Change) (next none : ℕ) → P change
-    → AllByRecursion P (cond hit (record { changes = change ∷ []; next = next })
-    (none_by none)).changes
-all-one P true change next none kind = (kind, tt)
-all-one P false change next none kind = tt
-
--- changes that are drawn or not
-all-drawn : (P : Change → Type 0) (none : Bool) (k : ℕ) (drawn : Drawn)
-    → AllByRecursion P drawn.changes → AllByRecursion P (cond none (none_by k) drawn).changes
-all-drawn P true k drawn kind = tt
-all-drawn P false k drawn kind = kind
-
-insertions_from-inserts : (words : ℕ → ℕ) (rate greatest at left k : ℕ)
-    → AllByRecursion IsInsert (insertions_from words rate greatest at left k).changes
-insertions_from-inserts words rate greatest at zero k = tt
-insertions_from-inserts words rate greatest at (suc left) k =
-    let here : Drawn = insertion_at words rate greatest (at + suc left) at k in
-    let one : AllByRecursion IsInsert here.changes =
-    all-one IsInsert (hits (words k) rate && ltb (at + suc left) greatest)
-    (Insert at (letter_of_word (words (k + 1)))) (k + 2) (k + 1) tt in
-    all-append IsInsert here.changes _ one
-    (insertions_from-inserts words rate greatest (at + length here.changes + 1) left here.next)
-
-deletions_from-deletes : (words : ℕ → ℕ) (rate least at left k : ℕ)
-    → AllByRecursion IsDelete (deletions_from words rate least at left k).changes
-deletions_from-deletes words rate least at zero k = tt
-deletions_from-deletes words rate least at (suc left) k =
-    let here : Drawn = deletion_at words rate least (at + suc left) at k in
-    let one : AllByRecursion IsDelete here.changes =
-    all-one IsDelete (hits (words k) rate && ltb least (at + suc left)) (Delete at) (k + 1)
-    (k + 1) tt in
-    all-append IsDelete here.changes _ one
-    (deletions_from-deletes words rate least (at + 1 - length here.changes) left here.next)
-
-insertions-insert : (words : ℕ → ℕ) (rates : RateNumbers) (limits : LengthRange) (len k : ℕ)
-    → AllByRecursion IsInsert (insertions words rates limits len k).changes
-insertions-insert words rates limits len k =
-    let sites : Drawn = site_insertions words rates.site_insert limits.greatest len k in
-    let longer : ℕ = len + length sites.changes in
-    let first : AllByRecursion IsInsert sites.changes =
-    all-drawn IsInsert (eqb rates.site_insert 0) k
-    (insertions_from words rates.site_insert limits.greatest 0 len k)
-    (insertions_from-inserts words rates.site_insert limits.greatest 0 len k) in
-    all-append IsInsert sites.changes _ first
-    (all-one IsInsert (hits (words sites.next) rates.insert && ltb longer limits.greatest)
-    (Insert (scaled (words (sites.next + 1)) (longer + 1))
-    (letter_of_word (words (sites.next + 2)))) (sites.next + 3) (sites.next + 1) tt)
-
-deletions-delete : (words : ℕ → ℕ) (rates : RateNumbers) (limits : LengthRange) (len k : ℕ)
-    → AllByRecursion IsDelete (deletions words rates limits len k).changes
-deletions-delete words rates limits len k =
-    let sites : Drawn = site_deletions words rates.site_delete limits.least len k in
-    let shorter : ℕ = len - length sites.changes in
-    let first : AllByRecursion IsDelete sites.changes =
-    all-drawn IsDelete (eqb rates.site_delete 0) k
-    (deletions_from words rates.site_delete limits.least 0 len k)
-    (deletions_from-deletes words rates.site_delete limits.least 0 len k) in
-    all-append IsDelete sites.changes _ first
-    (all-one IsDelete (hits (words sites.next) rates.delete && ltb limits.least shorter)
-    (Delete (scaled (words (sites.next + 1)) shorter)) (sites.next + 2) (sites.next + 1) tt)
 
 -- whether the first of some changes may follow this one
 abbrev leads : Change → List Change → Bool
@@ -152,7 +69,8 @@ order-cons change (next ∷ changes) first others =
     ap (λ b. b && in_order (next ∷ changes)) first ∙ others
 
 -- deletions alone
-order-deletes : (changes : List Change) → AllByRecursion IsDelete changes → in_order changes ≡ true
+order-deletes : (changes : List Change) → AllByRecursion (IsIndel Deletion) changes
+    → in_order changes ≡ true
 order-deletes [] all = refl
 order-deletes (Delete at ∷ []) all = refl
 order-deletes (Delete at ∷ Delete next ∷ changes) all = order-deletes (Delete next ∷ changes) all.1
@@ -162,7 +80,8 @@ order-deletes (Insert at letter ∷ changes) all = absurd all.0
 order-deletes (Point at letter ∷ changes) all = absurd all.0
 
 -- deletions may come after anything but a point before them
-leads-deletes : (at : ℕ) (letter : Letter) (changes : List Change) → AllByRecursion IsDelete changes
+leads-deletes : (at : ℕ) (letter : Letter) (changes : List Change)
+    → AllByRecursion (IsIndel Deletion) changes
     → (leads (Insert at letter) changes ≡ true) × (leads (Point at letter) changes ≡ true)
 leads-deletes at letter [] all = (refl, refl)
 leads-deletes at letter (Delete next ∷ changes) all = (refl, refl)
@@ -175,8 +94,8 @@ pub record IsTail (changes : List Change) : Type 0 where
   pub after_insert : (at : ℕ) (letter : Letter) → leads (Insert at letter) changes ≡ true
   pub after_point : (at : ℕ) (letter : Letter) → leads (Point at letter) changes ≡ true
 
-tail : (longer shorter : List Change) → AllByRecursion IsInsert longer
-    → AllByRecursion IsDelete shorter → IsTail (longer ++ shorter)
+tail : (longer shorter : List Change) → AllByRecursion (IsIndel Insertion) longer
+    → AllByRecursion (IsIndel Deletion) shorter → IsTail (longer ++ shorter)
 tail [] shorter inserts deletes = record {
   order = order-deletes shorter deletes;
   after_insert = λ at letter. (leads-deletes at letter shorter deletes).0;
@@ -231,15 +150,14 @@ drawn-order : (words : ℕ → ℕ) (k : ℕ) (rates : RateNumbers) (limits : Le
 unfolding drawn_by_divide
 drawn-order words k rates limits clean written =
     let text : List Letter = pointed_text words rates.site_point k written in
-    let next : ℕ = after_points words rates.site_point k (length written) in
-    let longer : Drawn = insertions words rates limits (length written) next in
-    let shorter : Drawn =
-    deletions words rates limits (length written + length longer.changes) longer.next in
+    let next : ℕ = after_points words rates.site_point k written in
+    let pointed : Draft = record { size = length written; word = next } in
+    let longer : Drawn = indels Insertion rates limits words pointed in
+    let left : Draft = draft_after Insertion longer pointed in
+    let shorter : Drawn = indels Deletion rates limits words left in
     let others : IsTail (longer.changes ++ shorter.changes) =
-    tail longer.changes shorter.changes
-    (insertions-insert words rates limits (length written) next)
-    (deletions-delete words rates limits (length written + length longer.changes) longer.next)
-    in
+    tail longer.changes shorter.changes (indels-kind Insertion rates limits words pointed)
+    (indels-kind Deletion rates limits words left) in
     let all : GoesOn 0 (points_from 0 clean text ++ (longer.changes ++ shorter.changes)) =
     points-order 0 clean text (longer.changes ++ shorter.changes) others in
     ap in_order (append_assoc (points_from 0 clean text) longer.changes shorter.changes) ∙ all.order

@@ -1,7 +1,9 @@
 pub mod BirthLemmas
 pub mod ChangeLemmas
-pub mod DeletionLemmas
 pub mod FormLemmas
-pub mod InsertionLemmas
+pub mod IndelKinds
+pub mod IndelLemmas
+pub mod IndelPasses
 pub mod LawLemmas
 pub mod PointLemmas
+pub mod WordLemmas

@@ -1,16 +1,18 @@
 -- The record of a birth and the child that it makes (docs/WORLD.md, "Records of birth").
-use Rattle.std.specs.Prelude.{ℕ, ◌+◌, if◌then◌else◌, List, ◌++◌, length, Option, None, Some, unwrap_or, Result}
+use Rattle.std.specs.Prelude.{ℕ, if◌then◌else◌, List, ◌++◌, length, Option, None, Some, unwrap_or, Result}
 use Rattle.instruction_set.specs.declared.letter.Letter.{Letter}
 pub use Rattle.instruction_set.specs.Letter.{same_letters}
 use Rattle.genome.specs.Genome.{letters}
 use Rattle.mutations.specs.declared.base.Base.{Base}
 use Rattle.mutations.specs.declared.base.Base.TheVariants.{Parent, Written}
 use Rattle.mutations.specs.declared.change.Change.{Change}
+use Rattle.mutations.specs.declared.indels.Indel.TheVariants.{Insertion, Deletion}
 use Rattle.mutations.specs.declared.origin.Origin.{Origin}
 use Rattle.mutations.specs.declared.stop.ApplyStop.{ApplyStop}
 use Rattle.mutations.specs.Change.{text_after}
 use Rattle.mutations.specs.Rates.{RateNumbers, LengthRange}
-use Rattle.mutations.specs.DivideErrors.{Drawn, pointed_text, after_points, points_from, insertions, deletions}
+use Rattle.mutations.specs.DivideErrors.{Drawn, pointed_text, after_points, points_from}
+use Rattle.mutations.specs.Indels.{Draft, indels, draft_after}
 
 -- a record: the written text, or none where the base is the parent's genome, and the changes
 pub record BirthRecord : Type 0 where
@@ -41,11 +43,12 @@ unfoldable pub drawn_by_divide :
 drawn_by_divide words k rates limits clean written =
     let text = pointed_text words rates.site_point k written in
     let points = points_from 0 clean text in
-    let next = after_points words rates.site_point k (length written) in
-    let longer = insertions words rates limits (length written) next in
-    let size = length written + length longer.changes in
-    let shorter = deletions words rates limits size longer.next in
-    record { changes = points ++ longer.changes ++ shorter.changes; next = shorter.next }
+    let next = after_points words rates.site_point k written in
+    let pointed : Draft = record { size = length written; word = next } in
+    let inserted = indels Insertion rates limits words pointed in
+    let longer = draft_after Insertion inserted pointed in
+    let deleted = indels Deletion rates limits words longer in
+    record { changes = points ++ inserted.changes ++ deleted.changes; next = deleted.next }
 
 -- the record of a birth, word k being the first
 abbrev pub origin_of :

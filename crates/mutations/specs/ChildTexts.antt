@@ -1,6 +1,6 @@
 -- What a divide hands to the errors of a child, and what these keep (docs/WORLD.md, "Records of
 -- birth").
-use Rattle.std.specs.Prelude.{◌≡◌, ℕ, ◌+◌, ◌*◌, ◌≤◌, List, length}
+use Rattle.std.specs.Prelude.{◌≡◌, ◌+◌, ◌*◌, ◌≤◌, List, length}
 use Rattle.instruction_set.specs.declared.letter.Letter.{Letter}
 use Rattle.random_streams.specs.RandomStream.{Stream, word_of}
 use Rattle.mutations.specs.BirthRecord.{after_birth}

@@ -9,8 +9,7 @@ ghost use Rattle.mutations.specs.Rates.{numbers_of, range_of};
 ghost use Rattle.mutations.specs.BirthRecord.{record_of, child_of, origin_of, after_birth, written_in, written_of, drawn_by_divide};
 ghost use Rattle.mutations.specs.Pass.{Passed};
 
-use crate::deletions::delete_errors;
-use crate::insertions::insert_errors;
+use crate::indels::{Indel, draw_indels};
 use crate::site_points::{pointed_text, points};
 use crate::{Base, Born, Change, Changes, Limits, Origin, Rates};
 use avida_port::Memory;
@@ -112,7 +111,8 @@ fn drawn_child(
     ensures passed { IfOk result (λ drawn. Passed
         (drawn_by_divide (word_of draws.old) draws.old.taken (numbers_of rates.now)
         (range_of limits.now) clean.now written.now)
-        clean.now drawn.0.items [] drawn.1.items draws.old draws.new) }
+        (record { text = clean.now; changes = []; draws = draws.old })
+        (record { text = drawn.0.items; changes = drawn.1.items; draws = draws.new })) }
     ensures shortest { IfOk result (λ drawn. limits.now.least ≤ length drawn.0.items) }
     ensures longest { IfOk result (λ drawn. length drawn.0.items ≤ limits.now.greatest) }
     ensures stays { draws.new ≡ record draws.old { taken = draws.new.taken } }
@@ -121,7 +121,23 @@ fn drawn_child(
 {
     let text = pointed_text(alloc, written, rates.site_point, draws)?;
     let mut changes = points(alloc, clean, &text)?;
-    let longer = insert_errors(alloc, text, rates, limits, draws, &mut changes)?;
-    let child = delete_errors(alloc, longer, rates, limits, draws, &mut changes)?;
+    let longer = draw_indels(
+        alloc,
+        Indel::Insertion,
+        text,
+        rates,
+        limits,
+        draws,
+        &mut changes,
+    )?;
+    let child = draw_indels(
+        alloc,
+        Indel::Deletion,
+        longer,
+        rates,
+        limits,
+        draws,
+        &mut changes,
+    )?;
     Ok((child, changes))
 }

@@ -25,7 +25,7 @@ pub(crate) fn pointed_text(
         ≡ pointed_text (word_of draws.old) rate draws.old.taken written.now) }
     ensures same_length { IfOk result (λ text. length text.items ≡ length written.now) }
     ensures taken { OnOk result (draws.new ≡ record draws.old {
-      taken = after_points (word_of draws.old) rate draws.old.taken (length written.now);
+      taken = after_points (word_of draws.old) rate draws.old.taken written.now;
     }) }
     ensures stays { draws.new ≡ record draws.old { taken = draws.new.taken } }
     ensures least { draws.old.taken ≤ draws.new.taken }
@@ -42,7 +42,7 @@ fn point_sites(text: &mut [Letter], rate: u32, draws: &mut Draws)
     requires room { draws.old.taken + 2 * length text.old ≤ word_count }
     ensures text { text.new ≡ pointed_text (word_of draws.old) rate draws.old.taken text.old }
     ensures taken { draws.new ≡ record draws.old {
-      taken = after_points (word_of draws.old) rate draws.old.taken (length text.old);
+      taken = after_points (word_of draws.old) rate draws.old.taken text.old;
     } }
     ensures least { draws.old.taken ≤ draws.new.taken }
     ensures most { draws.new.taken ≤ draws.old.taken + 2 * length text.old }
@@ -57,7 +57,7 @@ fn test_sites(text: &mut [Letter], rate: u32, draws: &mut Draws)
     requires room { draws.old.taken + 2 * length text.old ≤ word_count }
     ensures text { text.new ≡ site_text (word_of draws.old) rate draws.old.taken text.old }
     ensures taken { draws.new ≡ record draws.old {
-      taken = after_sites (word_of draws.old) rate draws.old.taken (length text.old);
+      taken = after_sites (word_of draws.old) rate draws.old.taken text.old;
     } }
     ensures least { draws.old.taken ≤ draws.new.taken }
     ensures most { draws.new.taken ≤ draws.old.taken + 2 * length text.old }

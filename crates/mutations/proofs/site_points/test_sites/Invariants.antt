@@ -1,4 +1,4 @@
-use Rattle.std.proofs.Common.{◌≡◌, ◌+◌, ◌*◌, ◌≤◌, ◌++◌, take, drop, length}
+use Rattle.std.proofs.Common.{◌≡◌, ◌+◌, ◌*◌, ◌≤◌, ◌++◌, take, drop}
 use Rattle.random_streams.specs.RandomStream.{word_of}
 use Rattle.mutations.specs.DivideErrors.{site_text, after_sites}
 use Rattle.mutations.proofs.site_points.test_sites.Given as goal
@@ -10,8 +10,8 @@ invariant-loop-letter l = record {
       (drop l.letter-index l.text)
       ≡ site_text (word_of l.initial.draws) l.rate l.initial.draws.taken l.initial.text;
   next : after_sites (word_of l.initial.draws) l.rate l.draws.taken
-      (length (drop l.letter-index l.text))
-      ≡ after_sites (word_of l.initial.draws) l.rate l.initial.draws.taken (length l.initial.text);
+      (drop l.letter-index l.text)
+      ≡ after_sites (word_of l.initial.draws) l.rate l.initial.draws.taken l.initial.text;
   least : l.initial.draws.taken ≤ l.draws.taken;
   most : l.draws.taken ≤ l.initial.draws.taken + 2 * l.letter-index;
 }
