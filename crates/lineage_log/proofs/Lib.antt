@@ -3,9 +3,12 @@ pub mod ReadLemmas
 pub mod UpgradeLemmas
 mod StandingLemmas
 pub mod ReplayLemmas
+pub mod ResidentWalks
 pub mod LeftLemmas
 pub mod AncestorLemmas
 pub mod NodeLemmas
+pub mod LivingLemmas
 pub mod TreeLemmas
 pub mod KeptLemmas
+pub mod ComingLemmas
 pub mod KeepingLemmas

@@ -1,10 +1,10 @@
 -- What a reader has kept of a log is who lives at its end.
-use Rattle.std.proofs.Common.{◌≡◌, ℕ, zero, suc, drop, add-one, mul-le-mul, ◌+◌, ◌≤◌, Bool, true, false, List, [], ◌∷◌, ◌++◌, Option, Some, None, Result, Ok, Err, length, refl, sym, ap, subst, append_assoc, ◌∙◌, arith, inl, inr}
+use Rattle.std.proofs.Common.{◌≡◌, ℕ, zero, suc, mul-le-mul, ◌+◌, ◌≤◌, Bool, true, false, List, [], ◌∷◌, ◌++◌, Option, Some, None, Result, Ok, Err, length, refl, sym, ap, subst, ◌∙◌, arith, inl, inr}
 use Rattle.std.specs.Prelude.{◌==◌, ◌&&◌, ◌*◌, if◌then◌else◌, nat_lt, slice_get, slice_set, unwrap_or, option_map, option_and_then, IsSome}
 use Rattle.std.specs.Result.{result_ok}
 use Rattle.std.proofs.lemmas.Bool.{and_parts, eqb-true}
-use Rattle.std.proofs.lemmas.List.{length-set, drop_more}
-use Rattle.std.proofs.lemmas.Option.{slice_get_within, slice_get-map, get_or_from_slice_get}
+use Rattle.std.proofs.lemmas.List.{length-set}
+use Rattle.std.proofs.lemmas.Option.{slice_get-map}
 use Rattle.instruction_set.specs.declared.letter.Letter.{Letter}
 use Rattle.mutations.specs.BirthRecord.{BirthRecord, child_of}
 use Rattle.mutations.specs.declared.stop.ApplyStop.{ApplyStop}
@@ -17,7 +17,7 @@ use Rattle.lineage_log.specs.Slots.{holds, taken}
 use Rattle.lineage_log.specs.Reader.{Reader, may_die, may_be_born, is_quiet, parent_in, with_newcomer, with_death}
 use Rattle.lineage_log.specs.Order.{Place, Before, Within, After, within_if, opened, renewed, may_happen, with_child, with_parent, told_start, told_death, told_birth, told_injected, told_cleared, told_rate, told_count, told_end, told_within, told_all}
 use Rattle.lineage_log.specs.LogGrammar.{IsGoodLog}
-use Rattle.lineage_log.specs.Replay.{Seen, born_in, seen_on, seen_all, Resident, resident_at, residents_from, replay_of}
+use Rattle.lineage_log.specs.Replay.{Seen, born_in, seen_on, seen_all, Resident, residents_from, replay_of}
 use Rattle.lineage_log.specs.Residents.{EachIsKept, kept_genomes}
 use Rattle.lineage_log.proofs.LogLaws.{went_on, place_is}
 use Rattle.lineage_log.proofs.StandingLemmas.{get_written, get_pushed, get_before, get_last, length_pushed, empty, none_there, length_replicate, People, length_without, kept_before, IsTidy, tidy_death, tidy_newcomer, tidy_renewed}
@@ -379,40 +379,3 @@ leaves (Cleared id update cell ∷ lines) r good is = absurd cc
 leaves (Rate update name ppm ∷ lines) r good is = absurd cc
 leaves (Count stats ∷ lines) r good is = absurd cc
 leaves (End updates ∷ lines) r good is = absurd cc
-
--- ---- the walks
-
-drop_is : {A : Type 0} (xs : List A) (i : ℕ) (x : A) → slice_get xs i ≡ Some x
-    → drop i xs ≡ x ∷ drop (i + 1) xs
-drop_is xs i x is = drop_more xs i x (slice_get_within xs i x is)
-    ∙ ap (λ y. y ∷ drop (i + 1) xs) (get_or_from_slice_get xs i x x is)
-
-resident_front : (cell : ℕ) (slot : Option ℕ) (genomes : List (List Letter))
-    (others : List Resident)
-    → resident_at cell slot genomes others ≡ resident_at cell slot genomes [] ++ others
-resident_front cell None genomes others = refl
-resident_front cell (Some id) genomes others = refl
-
-cell_more : (slots : List (Option ℕ)) (genomes : List (List Letter)) (cell : ℕ) (slot : Option ℕ)
-    → slice_get slots cell ≡ Some slot
-    → residents_from cell (drop cell slots) genomes ≡ resident_at cell slot genomes []
-    ++ residents_from (cell + 1) (drop (cell + 1) slots) genomes
-cell_more slots genomes cell slot is =
-    ap (λ (rest : List (Option ℕ)). residents_from cell rest genomes) (drop_is slots cell slot is)
-    ∙ ap (λ (next : ℕ). resident_at cell slot genomes
-    (residents_from next (drop (cell + 1) slots) genomes)) (sym (add-one cell))
-    ∙ resident_front cell slot genomes (residents_from (cell + 1) (drop (cell + 1) slots) genomes)
-
--- one cell more of a walk over the cells
-pub cell_walked : (items next : List Resident) (slots : List (Option ℕ))
-    (genomes : List (List Letter)) (cell : ℕ) (slot : Option ℕ) (all : List Resident)
-    → slice_get slots cell ≡ Some slot → next ≡ items ++ resident_at cell slot genomes []
-    → items ++ residents_from cell (drop cell slots) genomes ≡ all
-    → next ++ residents_from (cell + 1) (drop (cell + 1) slots) genomes ≡ all
-cell_walked items next slots genomes cell slot all is more so_far =
-    let here = resident_at cell slot genomes [] in
-    let rest = residents_from (cell + 1) (drop (cell + 1) slots) genomes in
-    ap (λ (rs : List Resident). rs ++ rest) more
-    ∙ append_assoc items here rest
-    ∙ ap (λ (rs : List Resident). items ++ rs) (sym (cell_more slots genomes cell slot is))
-    ∙ so_far

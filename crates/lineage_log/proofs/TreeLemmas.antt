@@ -14,7 +14,8 @@ use Rattle.std.proofs.lemmas.Map.Entries.{sum_by-remove_entry, sum_by-set_value}
 use Rattle.std.proofs.lemmas.Map.Keys.{IsDistinct-from_sorted}
 use Rattle.lineage_log.specs.Links.{Link}
 use Rattle.lineage_log.specs.Nodes.{NodeValue, AreFamilies, AreFewer, AreNeededBut, IsInFamily, as_child, children_of, links_of, living_of, node_at}
-use Rattle.lineage_log.proofs.NodeLemmas.{Rises, by_key, child_apart, child_counts, child_is, founder_is, links_gone, links_set, living_gone, living_set, one_for, some_of}
+use Rattle.lineage_log.proofs.NodeLemmas.{Rises, by_key, child_apart, child_counts, child_is, founder_is, one_for, some_of}
+use Rattle.lineage_log.proofs.LivingLemmas.{links_gone, links_set, living_gone, living_set}
 
 -- what is there is something
 pub is_there : {X : Type 0} (found : Option X) (x : X) → found ≡ Some x → IsSome found

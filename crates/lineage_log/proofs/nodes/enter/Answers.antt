@@ -3,7 +3,7 @@ use Rattle.std.specs.BTreeMap.{insert_entry, is_at}
 use Rattle.lineage_log.specs.Links.{Link}
 use Rattle.lineage_log.specs.Nodes.{AreNodes, node_at, tree_of}
 use Rattle.lineage_log.specs.Trees.{with_newcomer}
-use Rattle.lineage_log.proofs.KeptLemmas.{Comes, child_enters, comes, founder_enters, has_room}
+use Rattle.lineage_log.proofs.ComingLemmas.{Comes, child_enters, comes, founder_enters, has_room}
 use Rattle.lineage_log.proofs.nodes.enter.Goals as goal
 
 pub gain_child-requires : goal.gain_child-requires

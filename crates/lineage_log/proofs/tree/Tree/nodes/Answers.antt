@@ -3,7 +3,8 @@ use Rattle.std.specs.Prelude.{Contains, IsSome}
 use Rattle.lineage_log.specs.Ancestry.{link_of}
 use Rattle.lineage_log.specs.Trees.{TreeValue, IsKept}
 use Rattle.lineage_log.specs.Nodes.{node_at}
-use Rattle.lineage_log.proofs.NodeLemmas.{is_some_link, lives_there}
+use Rattle.lineage_log.proofs.NodeLemmas.{is_some_link}
+use Rattle.lineage_log.proofs.LivingLemmas.{lives_there}
 use Rattle.lineage_log.proofs.TreeLemmas.{is_there}
 use Rattle.lineage_log.proofs.KeptLemmas.{nodes_kept}
 use Rattle.lineage_log.proofs.tree.Tree.nodes.Goals as goal

@@ -1,0 +1,321 @@
+-- What an organism that comes does to the nodes of a tree.
+use Rattle.std.proofs.Common.{◌≡◌, ◌≢◌, ◌⊎◌, inl, inr, ⊎_elim, ◌∙◌, refl, sym, ap, subst, true≢false, ℕ, ◌+◌, ◌<◌, ◌≤◌, true, false, cond, List, length, Option, Some, None, nat_cmp, arith}
+use Rattle.std.specs.Prelude.{All, IsSome, is_some}
+use Rattle.std.specs.BTreeMap.{insert_entry, is_at}
+use Rattle.std.specs.Cmp.{nat_cmp_total}
+use Rattle.std.specs.List.Sorted.{IsStrictlySortedBy}
+use Rattle.std.specs.Map.{keys_of, set_value}
+use Rattle.std.specs.Option.{option_map, unwrap_or}
+use Rattle.std.proofs.lemmas.Map.Entries.{sum_by-insert_entry}
+use Rattle.std.proofs.lemmas.Bool.{cases_lt, cond-true, cond-false}
+use Rattle.lineage_log.specs.Links.{Link}
+use Rattle.lineage_log.specs.Trees.{CanCome, with_newcomer}
+use Rattle.lineage_log.specs.Nodes.{NodeValue, AreFamilies, AreNodes, IsInFamily, as_child, children_of, links_of, living_of, node_at, node_link, tree_of}
+use Rattle.lineage_log.proofs.NodeLemmas.{by_key, child_apart, child_exists, child_is, children_few, founder_is, is_some_link, some_of}
+use Rattle.lineage_log.proofs.LivingLemmas.{insert_last, links_newcomer, links_set, living_newcomer, living_set, newest_above, none_newest}
+use Rattle.lineage_log.proofs.TreeLemmas.{IsSet, is_there, one_node, set_from, set_is, set_still}
+
+-- there is one node more
+pub record HasCome (before after : List (ℕ × NodeValue)) (id : ℕ) (new : NodeValue) : Type 0 where
+  pub rising : IsStrictlySortedBy nat_cmp (keys_of after)
+  pub at : (other : ℕ) → node_at after other ≡ cond (is_at (nat_cmp id) other) (Some new)
+      (node_at before other)
+  pub kids : (other : ℕ) → children_of after other ≡ children_of before other + as_child other new
+
+-- so it is where its entry was inserted
+pub has_come : (before after : List (ℕ × NodeValue)) (id : ℕ) (new : NodeValue)
+    → IsStrictlySortedBy nat_cmp (keys_of before) → IsStrictlySortedBy nat_cmp (keys_of after)
+    → node_at before id ≡ None → after ≡ insert_entry nat_cmp before id new
+    → ((other : ℕ) → node_at after other ≡ cond (is_at (nat_cmp id) other) (Some new)
+    (node_at before other)) → HasCome before after id new
+has_come before after id new rising rises none e at = record {
+  rising = rises;
+  at = at;
+  kids = λ other.
+      let was = ap (λ (o : Option NodeValue). unwrap_or (option_map (as_child other) o) 0) none in
+      omega (
+        arith,
+        ap (λ (nodes : List (ℕ × NodeValue)). children_of nodes other) e,
+        sum_by-insert_entry (as_child other) nat_cmp_total before id new rising,
+        was,
+      );
+}
+
+-- nobody is a child of who is not there
+no_children : (nodes : List (ℕ × NodeValue)) (id : ℕ) → AreFamilies nodes → node_at nodes id ≡ None
+    → children_of nodes id ≤ 0
+no_children nodes id are none = ⊎_elim
+    (λ (some : 0 < children_of nodes id).
+    let child = child_exists nodes id are.rising some in
+    absurd (true≢false (sym ((are.each child.0 child.1 child.2).there id child.3)
+    ∙ ap is_some none)))
+    (λ (few : children_of nodes id ≤ 0). few)
+    (cases_lt 0 (children_of nodes id))
+
+module _ (before mid : List (ℕ × NodeValue)) (id : ℕ) (new : NodeValue) (are : AreNodes before)
+    (none : node_at before id ≡ None) (childless : new.children ≡ 0) (lives : new.lives ≡ true)
+    (come : HasCome before mid id new) where
+  -- who was there is there
+  stays : (other : ℕ) → IsSome (node_at before other) → IsSome (node_at mid other)
+  stays other is = ⊎_elim
+      (λ (here : (id ≡ other) × (is_at (nat_cmp id) other ≡ true)). is_there (node_at mid other) new
+      (come.at other ∙ cond-true (is_at (nat_cmp id) other) (Some new) (node_at before other)
+      here.1))
+      (λ (apart : (id ≢ other) × (is_at (nat_cmp id) other ≡ false)).
+      subst IsSome (sym (come.at other
+      ∙ cond-false (is_at (nat_cmp id) other) (Some new) (node_at before other) apart.1)) is)
+      (by_key id other)
+
+  -- the newcomer, or one that was there
+  pub come_from : (other : ℕ) (node : NodeValue) → node_at mid other ≡ Some node
+      → ((id ≡ other) × (new ≡ node)) ⊎ ((id ≢ other) × (node_at before other ≡ Some node))
+  come_from other node is = ⊎_elim
+      (λ (here : (id ≡ other) × (is_at (nat_cmp id) other ≡ true)).
+      inl (
+        here.0,
+        one_node (node_at mid other) new node
+            (come.at other ∙ cond-true (is_at (nat_cmp id) other) (Some new) (node_at before other)
+            here.1) is,
+      ))
+      (λ (apart : (id ≢ other) × (is_at (nat_cmp id) other ≡ false)).
+      inr (
+        apart.0,
+        sym (come.at other
+            ∙ cond-false (is_at (nat_cmp id) other) (Some new) (node_at before other) apart.1) ∙ is,
+      ))
+      (by_key id other)
+
+  -- a founder comes
+  pub founder_comes : new.parent ≡ None → AreNodes mid
+  founder_comes founder = record {
+    families = record {
+      rising = come.rising;
+      each = λ other node has. ⊎_elim
+          (λ (here : (id ≡ other) × (new ≡ node)). subst (λ (n : NodeValue). IsInFamily mid other n)
+          here.1 (subst (λ n. IsInFamily mid n new) here.0 (record {
+            older = λ above parent. absurd (true≢false (sym (ap is_some (sym founder ∙ parent))));
+            there = λ above parent. absurd (true≢false (sym (ap is_some (sym founder ∙ parent))));
+            counted = omega (
+              arith,
+              childless,
+              come.kids id,
+              founder_is id new founder,
+              no_children before id are.families none,
+            );
+          })))
+          (λ (apart : (id ≢ other) × (node_at before other ≡ Some node)).
+          let fits = are.families.each other node apart.1 in
+          record {
+            older = fits.older;
+            there = λ above parent. stays above (fits.there above parent);
+            counted = omega (arith, fits.counted, come.kids other, founder_is other new founder);
+          })
+          (come_from other node has);
+    };
+    needed = λ other node has dies hole. ⊎_elim
+        (λ (here : (id ≡ other) × (new ≡ node)).
+        absurd (true≢false (sym lives ∙ ap (λ (n : NodeValue). n.lives) here.1 ∙ dies)))
+        (λ (apart : (id ≢ other) × (node_at before other ≡ Some node)).
+        are.needed other node apart.1 dies hole)
+        (come_from other node has);
+  }
+
+  module _ (after : List (ℕ × NodeValue)) (above : ℕ) (parent more : NodeValue)
+      (child : new.parent ≡ Some above) (older : above < id)
+      (above_is : node_at before above ≡ Some parent)
+      (raised : more ≡ record parent { children = parent.children + 1 })
+      (set : IsSet mid after above more) where
+    differs : id ≢ above
+    differs same = omega (arith, same, older)
+
+    -- the parent is as it should be
+    fit_parent : IsInFamily after above more
+    fit_parent =
+        let fits = are.families.each above parent above_is in
+        let same : more.parent ≡ parent.parent = ap (λ (n : NodeValue). n.parent) raised in
+        record {
+          older = λ higher h. fits.older higher (sym same ∙ h);
+          there = λ higher h. set_still mid after above more higher set
+              (stays higher (fits.there higher (sym same ∙ h)));
+          counted = ap (λ (n : NodeValue). n.children) raised
+              ∙ omega (
+                arith,
+                fits.counted,
+                set.kids above,
+                come.kids above,
+                child_is above new child,
+              );
+        }
+
+    -- so is the child
+    fit_child : IsInFamily after id new
+    fit_child = record {
+      older = λ higher h. subst (λ n. n < id) (ap (λ (o : Option ℕ). unwrap_or o 0) (sym child ∙ h))
+          older;
+      there = λ higher h. set_still mid after above more higher set
+          (stays higher (is_there (node_at before higher) parent
+          (ap (node_at before) (ap (λ (o : Option ℕ). unwrap_or o 0) (sym h ∙ child)) ∙ above_is)));
+      counted = omega (
+        arith,
+        childless,
+        set.kids id,
+        come.kids id,
+        child_apart id above new child (λ same. differs (sym same)),
+        no_children before id are.families none,
+      );
+    }
+
+    -- a child comes, and its parent counts one child more
+    pub child_comes : AreNodes after
+    child_comes = record {
+      families = record {
+        rising = set.rising;
+        each = λ other node has. ⊎_elim
+            (λ (one : (above ≡ other) × (more ≡ node)).
+            subst (λ (n : NodeValue). IsInFamily after other n) one.1
+            (subst (λ n. IsInFamily after n more) one.0 fit_parent))
+            (λ (far : (above ≢ other) × (node_at mid other ≡ Some node)). ⊎_elim
+            (λ (here : (id ≡ other) × (new ≡ node)).
+            subst (λ (n : NodeValue). IsInFamily after other n) here.1
+            (subst (λ n. IsInFamily after n new) here.0 fit_child))
+            (λ (apart : (id ≢ other) × (node_at before other ≡ Some node)).
+            let fits = are.families.each other node apart.1 in
+            record {
+              older = fits.older;
+              there = λ higher h. set_still mid after above more higher set
+                  (stays higher (fits.there higher h));
+              counted = omega (
+                arith,
+                fits.counted,
+                set.kids other,
+                come.kids other,
+                child_apart other above new child far.0,
+              );
+            })
+            (come_from other node far.1))
+            (set_from mid after above more other node set has);
+      };
+      needed = λ other node has dies hole. ⊎_elim
+          (λ (one : (above ≡ other) × (more ≡ node)).
+          let many : 0 < more.children = omega (arith, ap (λ (n : NodeValue). n.children) raised) in
+          subst (λ (n : NodeValue). 0 < n.children) one.1 many)
+          (λ (far : (above ≢ other) × (node_at mid other ≡ Some node)). ⊎_elim
+          (λ (here : (id ≡ other) × (new ≡ node)).
+          absurd (true≢false (sym lives ∙ ap (λ (n : NodeValue). n.lives) here.1 ∙ dies)))
+          (λ (apart : (id ≢ other) × (node_at before other ≡ Some node)).
+          are.needed other node apart.1 dies hole)
+          (come_from other node far.1))
+          (set_from mid after above more other node set has);
+    }
+
+-- the tree with a newcomer
+pub tree_come : (before after : List (ℕ × NodeValue)) (id : ℕ) (new : NodeValue)
+    → All (λ (link : Link). link.id < id) (links_of before) → new.lives ≡ true
+    → after ≡ insert_entry nat_cmp before id new
+    → tree_of after ≡ with_newcomer (tree_of before) (node_link id new)
+tree_come before after id new newest lives e =
+    let last = e ∙ insert_last before id new newest in
+    let links = ap links_of last ∙ links_newcomer before id new in
+    let living = ap living_of last ∙ living_newcomer before id new lives in
+    λ i. record { links = links i; living = living i }
+
+-- a node has another number of children
+pub tree_set : (before after : List (ℕ × NodeValue)) (id children : ℕ) (old : NodeValue)
+    → node_at before id ≡ Some old
+    → after ≡ set_value (is_at (nat_cmp id)) before (record old { children = children })
+    → tree_of after ≡ tree_of before
+tree_set before after id children old is e =
+    let links = ap links_of e
+    ∙ links_set before id old (record old { children = children }) is (λ key. refl) in
+    let living =
+    ap living_of e ∙ living_set before id old (record old { children = children }) is refl in
+    λ i. record { links = links i; living = living i }
+
+-- what a newcomer does to the nodes before its parent has another child
+pub record Comes (before mid : List (ℕ × NodeValue)) (link : Link) (new : NodeValue) : Type 0 where
+  pub none : node_at before link.id ≡ None
+  pub childless : new.children ≡ 0
+  pub lives : new.lives ≡ true
+  pub parent : new.parent ≡ link.parent
+  pub come : HasCome before mid link.id new
+  pub tree : tree_of mid ≡ with_newcomer (tree_of before) link
+
+-- the node of a newcomer
+abbrev pub new_node : Link → NodeValue
+new_node link = record {
+  parent = link.parent;
+  update = link.update;
+  cell = link.cell;
+  origin = link.origin;
+  genome = link.genome;
+  children = 0;
+  lives = true;
+}
+
+-- so it is where its entry was inserted
+pub comes : (before mid : List (ℕ × NodeValue)) (link : Link) (new : NodeValue) → AreNodes before
+    → CanCome (tree_of before) link.id link.parent → new ≡ new_node link
+    → IsStrictlySortedBy nat_cmp (keys_of mid) → mid ≡ insert_entry nat_cmp before link.id new
+    → ((other : ℕ) → node_at mid other ≡ cond (is_at (nat_cmp link.id) other) (Some new)
+    (node_at before other)) → Comes before mid link new
+comes before mid link new are can is rising e at =
+    let none = none_newest before link.id can.newest in
+    let lives : new.lives ≡ true = ap (λ (n : NodeValue). n.lives) is in
+    record {
+      none = none;
+      childless = ap (λ (n : NodeValue). n.children) is;
+      lives = lives;
+      parent = ap (λ (n : NodeValue). n.parent) is;
+      come = has_come before mid link.id new are.families.rising rising none e at;
+      tree = tree_come before mid link.id new can.newest lives e
+          ∙ ap (λ (n : NodeValue). with_newcomer (tree_of before) (node_link link.id n)) is;
+    }
+
+-- there is room for one child more
+pub has_room : (before mid : List (ℕ × NodeValue)) (link : Link) (new : NodeValue) (bound id : ℕ)
+    (node : NodeValue) → AreNodes before → Comes before mid link new → length before < bound
+    → node_at mid id ≡ Some node → node.children < bound
+has_room before mid link new bound id node are is few there = ⊎_elim
+    (λ (here : (link.id ≡ id) × (new ≡ node)).
+    omega (arith, few, is.childless, ap (λ (n : NodeValue). n.children) here.1))
+    (λ (apart : (link.id ≢ id) × (node_at before id ≡ Some node)).
+    omega (arith, few, (are.families.each id node apart.1).counted, children_few before id))
+    (come_from before mid link.id new are is.none is.childless is.lives is.come id node there)
+
+-- a child enters
+pub child_enters : (before mid after : List (ℕ × NodeValue)) (link : Link) (new : NodeValue)
+    (above : ℕ) → AreNodes before → CanCome (tree_of before) link.id link.parent
+    → Comes before mid link new → link.parent ≡ Some above
+    → ((node : NodeValue) → node_at mid above ≡ Some node
+    → after ≡ set_value (is_at (nat_cmp above)) mid (record node { children = node.children + 1 }))
+    → AreNodes after × (tree_of after ≡ with_newcomer (tree_of before) link)
+child_enters before mid after link new above are can is child raise =
+    let found =
+    some_of (node_at before above) (sym (is_some_link before above) ∙ can.there above child) in
+    let parent = found.0 in
+    let older = newest_above before link.id above parent can.newest found.1 in
+    let stays : node_at mid above ≡ Some parent = is.come.at above ∙ apart older ∙ found.1 in
+    let e = raise parent stays in
+    let more : NodeValue = record parent { children = parent.children + 1 } in
+    let set = set_is mid after above parent more is.come.rising stays refl e in (
+      child_comes before mid link.id new are is.none is.childless is.lives is.come after above
+          parent
+          more (is.parent ∙ child) older found.1 refl set,
+      tree_set mid after above (parent.children + 1) parent stays e ∙ is.tree,
+    )
+  where
+    apart : above < link.id → cond (is_at (nat_cmp link.id) above) (Some new) (node_at before above)
+        ≡ node_at before above
+    apart older = ⊎_elim
+        (λ (here : (link.id ≡ above) × (is_at (nat_cmp link.id) above ≡ true)).
+        absurd (omega (arith, older, here.0)))
+        (λ (far : (link.id ≢ above) × (is_at (nat_cmp link.id) above ≡ false)).
+        cond-false (is_at (nat_cmp link.id) above) (Some new) (node_at before above) far.1)
+        (by_key link.id above)
+
+-- a founder enters
+pub founder_enters : (before mid : List (ℕ × NodeValue)) (link : Link) (new : NodeValue)
+    → AreNodes before → Comes before mid link new → link.parent ≡ None → AreNodes mid
+founder_enters before mid link new are is founder =
+    founder_comes before mid link.id new are is.none is.childless is.lives is.come
+    (is.parent ∙ founder)
