@@ -1,20 +1,28 @@
 -- Events that were read keep to the configuration's bounds.
-use Rattle.std.proofs.Common.{◌≡◌, ℕ, ◌+◌, ◌<◌, ◌≤◌, Bool, true, false, ◌&&◌, nat_le, List, [], ◌∷◌, length, codes, get_or, Option, Some, None, option_map, option_and_then, Result, Ok, Err, pos, negsuc, ℤ, refl, arith, cond, add-one, le-leb, leb-true, subst, zero, suc}
+use Rattle.std.proofs.Common.{◌≡◌, ℕ, ◌+◌, ◌<◌, ◌≤◌, Bool, true, false, ◌&&◌, nat_le, List, [], ◌∷◌}
+use Rattle.std.proofs.Common.{length, codes, get_or, Option, Some, None, option_map}
+use Rattle.std.proofs.Common.{option_and_then, Result, Ok, Err, pos, negsuc, ℤ, refl, arith, cond}
+use Rattle.std.proofs.Common.{add-one, le-leb, leb-true, subst, zero, suc}
 use Rattle.std.specs.List.{AllPass}
 use Rattle.std.specs.List.Sorted.{IsNonDecreasingBy}
 use Rattle.std.specs.Str.{bytes_eq}
 use Rattle.std.proofs.lemmas.Bool.{and_parts}
 use Rattle.std.proofs.lemmas.List.Elements.{All-cons, All-nil}
-use Rattle.toml.specs.Data.{Data, string, integer, float, boolean, datetime, array, table, Items, no_items, item, Members, get_member, as_str}
+use Rattle.toml.specs.Data.{Data, string, integer, float, boolean, datetime, array, table, Items}
+use Rattle.toml.specs.Data.{no_items, item, Members, get_member, as_str}
 use Rattle.instruction_set.specs.declared.letter.Letter.{Letter}
 use Rattle.genome.specs.declared.stop.GenomeStop.{GenomeStop}
 use Rattle.genome.specs.GenomeText.{spelled_by_letters}
 use Rattle.mutations.specs.declared.rate_name.RateName.{RateName}
 use Rattle.world_config.specs.KeyTable.{Frame}
-use Rattle.world_config.specs.Events.{AreEvents, EventValue, WhatValue, inject, clear, rate, event_fits, what_fits}
+use Rattle.world_config.specs.Events.{AreEvents, EventValue, WhatValue, inject, clear, rate}
+use Rattle.world_config.specs.Events.{event_fits, what_fits}
 use Rattle.mutations.specs.RateNames.{rate_named}
-use Rattle.world_config.specs.EventForms.{both, clear_names, clear_of, event_of, events_from, events_of, followed, genome_from, has_only, inject_names, inject_of, more_events, number_from, rate_form_names, rate_of, sized, what_of}
-use Rattle.world_config.specs.Lookup.{count_of}
+use Rattle.world_config.specs.EventForms.{both, clear_names, clear_of, event_of, events_from}
+use Rattle.world_config.specs.EventForms.{events_of, followed, genome_from, has_only, inject_names}
+use Rattle.world_config.specs.EventForms.{inject_of, more_events, number_from, rate_form_names}
+use Rattle.world_config.specs.EventForms.{rate_of, sized, what_of}
+use Rattle.world_config.specs.Lookup.{item_count}
 
 -- what a test that was passed gave
 some_if : {A : Type 0} (test : Bool) (x y : A) → cond test (Some x) None ≡ Some y
@@ -22,26 +30,31 @@ some_if : {A : Type 0} (test : Bool) (x y : A) → cond test (Some x) None ≡ S
 some_if true x y h = (refl, cc)
 some_if false x y h = absurd (cc)
 
+-- what is there under a condition is there
 only_if : {A : Type 0} (test : Bool) (o : Option A) (y : A) → cond test o None ≡ Some y → o ≡ Some y
 only_if true o y h = h
 only_if false o y h = absurd (cc)
 
+-- what two values made, with both
 both-some : {A B C : Type 0} (make : A → B → C) (a : Option A) (b : Option B) (c : C)
     → both make a b ≡ Some c → (x : A) × (y : B) × (a ≡ Some x) × (b ≡ Some y) × (make x y ≡ c)
 both-some make (Some x) (Some y) c h = (x, y, refl, refl, cc)
 both-some make (Some x) None c h = absurd (cc)
 both-some make None b c h = absurd (cc)
 
+-- what followed from a value, with the value
 and_then-some : {A B : Type 0} (f : A → Option B) (a : Option A) (b : B)
     → option_and_then f a ≡ Some b → (x : A) × (a ≡ Some x) × (f x ≡ Some b)
 and_then-some f (Some x) b h = (x, refl, h)
 and_then-some f None b h = absurd (cc)
 
+-- what a value became, with the value
 map-some : {A B : Type 0} (f : A → B) (a : Option A) (b : B) → option_map f a ≡ Some b
     → (x : A) × (a ≡ Some x) × (f x ≡ b)
 map-some f (Some x) b h = (x, refl, cc)
 map-some f None b h = absurd (cc)
 
+-- an integer that was read is within its bounds
 within_integer : (least greatest : ℕ) (z : ℤ) (n : ℕ)
     → number_from least greatest (Some (integer z)) ≡ Some n
     → (nat_le least n && nat_le n greatest) ≡ true
@@ -61,6 +74,7 @@ within least greatest (Some (datetime s)) n h = absurd (cc)
 within least greatest (Some (array s)) n h = absurd (cc)
 within least greatest (Some (table s)) n h = absurd (cc)
 
+-- letters that were read are within the two lengths
 sized-some : (least greatest : ℕ) (r : Result (List Letter) GenomeStop) (ls : List Letter)
     → sized least greatest r ≡ Some ls → (nat_le least (length ls) && nat_le (length ls) greatest)
     ≡ true
@@ -83,6 +97,7 @@ genome_within least greatest (Some (datetime s)) n h = absurd (cc)
 genome_within least greatest (Some (array s)) n h = absurd (cc)
 genome_within least greatest (Some (table s)) n h = absurd (cc)
 
+-- an injection that was read fits the frame
 inject_of-fits : (frame : Frame) (ms : Members) (what : WhatValue) → inject_of frame ms ≡ Some what
     → what_fits frame what ≡ true
 inject_of-fits frame ms what h =
@@ -99,6 +114,7 @@ inject_of-fits frame ms what h =
     (get_member (codes "letters") ms) ls of_letters in
     rw (← made, (and_parts (nat_le 0 cell) (nat_le cell frame.last_cell) low).1, size) refl
 
+-- a clearing that was read fits the frame
 clear_of-fits : (frame : Frame) (ms : Members) (what : WhatValue) → clear_of frame ms ≡ Some what
     → what_fits frame what ≡ true
 clear_of-fits frame ms what h =
@@ -122,6 +138,7 @@ clear_of-fits frame ms what h =
       (and_parts (nat_le 0 last) (nat_le last frame.last_cell) high).1,
     ) refl
 
+-- a rate that was read is one
 rate_of-fits : (frame : Frame) (ms : Members) (what : WhatValue) → rate_of ms ≡ Some what
     → what_fits frame what ≡ true
 rate_of-fits frame ms what h =
@@ -145,6 +162,7 @@ choose frame what false true c x y z f g k h = g h
 choose frame what false false true x y z f g k h = k h
 choose frame what false false false x y z f g k h = absurd (cc)
 
+-- what was read of an event of any kind fits the frame
 what_of-fits : (frame : Frame) (ms : Members) (kind : List ℕ) (what : WhatValue)
     → what_of frame ms kind ≡ Some what → what_fits frame what ≡ true
 what_of-fits frame ms kind what h =
@@ -152,6 +170,7 @@ what_of-fits frame ms kind what h =
     (bytes_eq kind (codes "rate")) (inject_of frame ms) (clear_of frame ms) (rate_of ms)
     (inject_of-fits frame ms what) (clear_of-fits frame ms what) (rate_of-fits frame ms what) h
 
+-- an order that was tested holds
 le_from : (a b : ℕ) → nat_le a b ≡ true → a ≤ b
 le_from a b h = leb-true a b h
 
@@ -161,6 +180,7 @@ pub record Fits (frame : Frame) (least : ℕ) (event : EventValue) : Type 0 wher
   pub update : event.update ≤ frame.updates
   pub what : what_fits frame event.what ≡ true
 
+-- a table that was read as an event fits the frame and the least update
 table_fits : (frame : Frame) (least : ℕ) (ms : Members) (event : EventValue)
     → event_of frame least (table ms) ≡ Some event → Fits frame least event
 table_fits frame least ms event h =
@@ -178,6 +198,7 @@ table_fits frame least ms event h =
       what = what_of-fits frame ms kind what does;
     })
 
+-- a member that was read as an event fits the frame and the least update
 pub event_of-fits : (frame : Frame) (least : ℕ) (d : Data) (event : EventValue)
     → event_of frame least d ≡ Some event → Fits frame least event
 event_of-fits frame least (table ms) event h = table_fits frame least ms event h
@@ -188,12 +209,14 @@ event_of-fits frame least (boolean z) event h = absurd (cc)
 event_of-fits frame least (datetime z) event h = absurd (cc)
 event_of-fits frame least (array z) event h = absurd (cc)
 
+-- events that begin with this one, with those after it
 more_events-ok : (event : EventValue) (r : Result (List EventValue) ℕ) (happening : List EventValue)
     → more_events event r ≡ Ok happening → (rest : List EventValue) × (r ≡ Ok rest)
     × (event ∷ rest ≡ happening)
 more_events-ok event (Ok rest) happening h = (rest, refl, cc)
 more_events-ok event (Err nth) happening h = absurd (cc)
 
+-- events that begin with a member, with its event and those after it
 followed-ok : (nth : ℕ) (o : Option EventValue) (others : ℕ → Result (List EventValue) ℕ)
     (happening : List EventValue) → followed nth o others ≡ Ok happening
     → (event : EventValue) × (rest : List EventValue) × (o ≡ Some event)
@@ -214,12 +237,14 @@ pub record Kept (frame : Frame) (least count : ℕ) (happening : List EventValue
   pub rises : RisesFrom least happening
   pub number : length happening ≡ count
 
+-- what fits from an update on, fits
 event_fits-from : (frame : Frame) (least : ℕ) (event : EventValue) → 1 ≤ least
     → Fits frame least event → event_fits frame event ≡ true
 event_fits-from frame least event from fits =
     let above : 1 ≤ event.update = omega (arith, fits.least_update) in
     rw (le-leb 1 event.update above, le-leb event.update frame.updates fits.update, fits.what) refl
 
+-- one more event before those that are kept
 kept_more : (frame : Frame) (least count : ℕ) (event : EventValue) (rest : List EventValue)
     → 1 ≤ least → Fits frame least event → Kept frame event.update count rest
     → Kept frame least (count + 1) (event ∷ rest)
@@ -230,9 +255,10 @@ kept_more frame least count event rest from fits kept = record {
   number = rw (add-one, kept.number) refl;
 }
 
+-- the events of some members fit, rise, and are as many as the members
 events_from-kept : (frame : Frame) (items : Items) (nth least : ℕ) (happening : List EventValue)
     → 1 ≤ least → events_from frame items nth least ≡ Ok happening
-    → Kept frame least (count_of items) happening
+    → Kept frame least (item_count items) happening
 events_from-kept frame no_items nth least happening from h =
     let empty : [] ≡ happening = cc in
     let P : List EventValue → Type 0 = λ es. Kept frame least 0 es in
@@ -246,10 +272,11 @@ events_from-kept frame (item d ds) nth least happening from h =
     followed-ok nth (event_of frame least d) (events_from frame ds (nth + 1)) happening h in
     let fits : Fits frame least event = event_of-fits frame least d event of_member in
     let above : 1 ≤ event.update = omega (arith, fits.least_update) in
-    let P : List EventValue → Type 0 = λ es. Kept frame least (count_of ds + 1) es in
-    subst P made (kept_more frame least (count_of ds) event rest from fits
+    let P : List EventValue → Type 0 = λ es. Kept frame least (item_count ds + 1) es in
+    subst P made (kept_more frame least (item_count ds) event rest from fits
     (events_from-kept frame ds (nth + 1) event.update rest above of_rest))
 
+-- no update of those that rise is below the least
 above_least : (least : ℕ) (events : List EventValue) → RisesFrom least events
     → (j : ℕ) (d : EventValue) → j < length events → least ≤ (get_or events j d).update
 above_least least [] rises j d h = absurd (omega (arith, h))
@@ -260,6 +287,7 @@ above_least least (event ∷ events) rises (suc j) d h =
     above_least event.update events rises.1 j d rest in
     omega (arith, rises.0, next)
 
+-- updates that rise never fall
 non_decreasing : (least : ℕ) (events : List EventValue) → RisesFrom least events
     → IsNonDecreasingBy (λ event. event.update) events
 non_decreasing least [] rises i j d le h = absurd (omega (arith, h))
@@ -275,9 +303,9 @@ non_decreasing least (event ∷ events) rises (suc i) (suc j) d le h =
 
 -- events that were read can stand in a configuration
 pub AreEvents-read : (frame : Frame) (items : Items) (happening : List EventValue)
-    → count_of items ≤ 1000 → events_of frame items ≡ Ok happening → AreEvents frame happening
+    → item_count items ≤ 1000 → events_of frame items ≡ Ok happening → AreEvents frame happening
 AreEvents-read frame items happening few h =
-    let kept : Kept frame 1 (count_of items) happening =
+    let kept : Kept frame 1 (item_count items) happening =
     events_from-kept frame items 1 1 happening (omega arith) h in
     record {
       number = rw kept.number few;

@@ -1,5 +1,6 @@
 pub mod UnknownLemmas
 pub mod MemberLemmas
+pub mod KindLemmas
 pub mod RefusalLemmas
 pub mod EventLemmas
 pub mod TableLemmas

@@ -1,5 +1,6 @@
 -- The members of a table and of an array beside the values that they stand for.
-use Rattle.std.proofs.Common.{◌≡◌, ℕ, ◌+◌, ◌<◌, Bool, List, [], ◌∷◌, ◌++◌, map, length, drop, get_or, Some, None, Result, Ok, Err, string_bytes, refl, sym, ◌∙◌, ap}
+use Rattle.std.proofs.Common.{◌≡◌, ℕ, ◌+◌, ◌<◌, Bool, List, [], ◌∷◌, ◌++◌, map, length, drop}
+use Rattle.std.proofs.Common.{get_or, Some, None, Result, Ok, Err, string_bytes, refl, sym, ◌∙◌, ap}
 use Rattle.std.specs.List.{list_any, list_all}
 use Rattle.std.specs.Str.{bytes_eq}
 use Rattle.std.specs.Borrow.{Bor}
@@ -8,8 +9,10 @@ use Rattle.toml.specs.View.{view, items_view, members_view}
 use Rattle.toml.proofs.Views.{Entry, items_view-drop}
 use Rattle.world_config.specs.KeyTable.{Frame}
 use Rattle.world_config.specs.Events.{EventValue}
-use Rattle.world_config.specs.EventForms.{event_of, events_from, events_of, followed, has_only, more_events}
+use Rattle.world_config.specs.EventForms.{event_of, events_from, events_of, followed, has_only}
+use Rattle.world_config.specs.EventForms.{more_events}
 
+-- a test of mapped elements is one of the list that they were mapped from
 list_any-map : {X Y : Type 0} (p : Y → Bool) (f : X → Y) (xs : List X)
     → list_any (λ x. p (f x)) xs ≡ list_any p (map f xs)
 list_any-map p f [] = refl
@@ -31,16 +34,19 @@ abbrev pub resumed : List EventValue → Result (List EventValue) ℕ → Result
 resumed [] others = others
 resumed (event ∷ events) others = more_events event (resumed events others)
 
+-- one more event was read
 pub resumed-last : (events : List EventValue) (event : EventValue)
     (others : Result (List EventValue) ℕ)
     → resumed (events ++ event ∷ []) others ≡ resumed events (more_events event others)
 resumed-last [] event others = refl
 resumed-last (e ∷ events) event others = rw (resumed-last events event others) refl
 
+-- a member that is no event ends the reading
 pub resumed-err : (events : List EventValue) (nth : ℕ) → resumed events (Err nth) ≡ Err nth
 resumed-err [] nth = refl
 resumed-err (e ∷ events) nth = rw (resumed-err events nth) refl
 
+-- all members were read
 pub resumed-ok : (events : List EventValue) → resumed events (Ok []) ≡ Ok events
 resumed-ok [] = refl
 resumed-ok (e ∷ events) = rw (resumed-ok events) refl

@@ -1,5 +1,8 @@
 -- A configuration that is printed is read back.
-use Rattle.std.proofs.Common.{◌≡◌, ℕ, ◌+◌, ◌-◌, ◌<◌, ◌≤◌, true, false, ◌&&◌, nat_le, nat_eq, List, [], ◌∷◌, length, map, drop, get_or, Option, Some, None, Ok, pos, refl, ap, ◌∙◌, arith, le-leb, lit≤, zero, suc, le-ltb, leb-true, ne_eqb, ◌≢◌, add-one, codes, option_map, option_and_then}
+use Rattle.std.proofs.Common.{◌≡◌, ℕ, ◌+◌, ◌-◌, ◌<◌, ◌≤◌, true, false, ◌&&◌, nat_le, nat_eq, List}
+use Rattle.std.proofs.Common.{[], ◌∷◌, length, map, drop, get_or, Option, Some, None, Ok, pos, refl}
+use Rattle.std.proofs.Common.{ap, ◌∙◌, arith, le-leb, lit≤, zero, suc, le-ltb, leb-true, ne_eqb}
+use Rattle.std.proofs.Common.{◌≢◌, add-one, codes, option_map, option_and_then}
 use Rattle.std.specs.Prelude.{filter_map, is_none}
 use Rattle.std.specs.List.{AllPass, position_from}
 use Rattle.std.specs.Cmp.Lexicographic.{pointwise}
@@ -7,60 +10,44 @@ use Rattle.std.specs.List.Sorted.{IsNonDecreasingBy}
 use Rattle.std.proofs.lemmas.Bool.{and_parts}
 use Rattle.toml.specs.Data.{as_str, get_member, string, integer, table, depth, items_depth}
 use Rattle.instruction_set.specs.declared.letter.Letter.{Letter}
-use Rattle.instruction_set.specs.declared.letter.Letter.TheVariants.{NopA, NopB, NopC, IfNEqu, IfLess, IfLabel, MovHead, JmpHead, GetHead, SetFlow, ShiftR, ShiftL, Inc, Dec, Push, Pop, SwapStk, Swap, Add, Sub, Nand, HCopy, HAlloc, HDivide, Io, HSearch}
+use Rattle.instruction_set.specs.declared.letter.Letter.TheVariants.{NopA}
 use Rattle.instruction_set.specs.Letter.{byte_of, letter_of_byte}
 use Rattle.genome.specs.Genome.{genome_of}
-use Rattle.genome.specs.GenomeText.{before_line_end, first_bad_byte, genome_by_letters, letters_text_of, spelled_by_letters, unless_faulty}
+use Rattle.genome.specs.GenomeText.{before_line_end, first_bad_byte, genome_by_letters}
+use Rattle.genome.specs.GenomeText.{letters_text_of, spelled_by_letters, unless_faulty}
 use Rattle.mutations.specs.declared.rate_name.RateName.{RateName}
-use Rattle.mutations.specs.declared.rate_name.RateName.TheVariants.{Copy, Insert, Delete, SitePoint, SiteInsert, SiteDelete}
+use Rattle.mutations.specs.declared.rate_name.RateName.TheVariants.{Copy}
 use Rattle.world_config.specs.KeyTable.{Frame}
-use Rattle.world_config.specs.Events.{AreEvents, EventValue, WhatValue, inject, clear, rate, event_fits, what_fits}
+use Rattle.world_config.specs.Events.{AreEvents, EventValue, WhatValue, inject, clear, rate}
+use Rattle.world_config.specs.Events.{event_fits, what_fits}
 use Rattle.mutations.specs.RateNames.{name_of_rate, rate_named}
-use Rattle.world_config.specs.EventForms.{both, event_of, events_from, events_of, followed, genome_from, more_events, number_from, sized, what_of}
-use Rattle.world_config.specs.Lookup.{count_of}
-use Rattle.world_config.specs.Printing.{event_members, items_for}
+use Rattle.world_config.specs.EventForms.{both, event_of, events_from, events_of, followed}
+use Rattle.world_config.specs.EventForms.{genome_from, more_events, number_from, sized, what_of}
+use Rattle.world_config.specs.Lookup.{item_count}
+use Rattle.world_config.specs.EventTables.{event_members, items_for}
 
+-- the letter of a letter's byte
 found_by_byte : (l : Letter) → letter_of_byte (byte_of l) ≡ Some l
 unfolding letter_of_byte
 found_by_byte NopA = refl
-found_by_byte NopB = refl
-found_by_byte NopC = refl
-found_by_byte IfNEqu = refl
-found_by_byte IfLess = refl
-found_by_byte IfLabel = refl
-found_by_byte MovHead = refl
-found_by_byte JmpHead = refl
-found_by_byte GetHead = refl
-found_by_byte SetFlow = refl
-found_by_byte ShiftR = refl
-found_by_byte ShiftL = refl
-found_by_byte Inc = refl
-found_by_byte Dec = refl
-found_by_byte Push = refl
-found_by_byte Pop = refl
-found_by_byte SwapStk = refl
-found_by_byte Swap = refl
-found_by_byte Add = refl
-found_by_byte Sub = refl
-found_by_byte Nand = refl
-found_by_byte HCopy = refl
-found_by_byte HAlloc = refl
-found_by_byte HDivide = refl
-found_by_byte Io = refl
-found_by_byte HSearch = refl
+found_by_byte _ = refl
 
+-- each byte of a text by letters is a letter's
 no_bad_byte : (ls : List Letter) (i : ℕ)
     → position_from (λ byte. is_none (letter_of_byte byte)) i (map byte_of ls) ≡ None
 no_bad_byte [] i = refl
 no_bad_byte (l ∷ ls) i = rw (found_by_byte l, no_bad_byte ls (i + 1)) refl
 
+-- the letters of a text by letters
 all_letters : (ls : List Letter) → filter_map letter_of_byte (map byte_of ls) ≡ ls
 all_letters [] = refl
 all_letters (l ∷ ls) = rw (found_by_byte l, all_letters ls) refl
 
+-- the byte of a letter is no line end
 not_line_end : (l : Letter) → nat_eq 10 (byte_of l) ≡ false
 not_line_end l = let far : 10 ≢ byte_of l = omega arith in ne_eqb 10 (byte_of l) far
 
+-- no part of a text by letters begins with a line end
 no_line_end : (ls : List Letter) (k : ℕ)
     → pointwise nat_eq (10 ∷ []) (drop k (map byte_of ls)) ≡ false
 no_line_end [] zero = refl
@@ -72,6 +59,7 @@ no_line_end (l ∷ ls) (suc k) = no_line_end ls k
 same_before_line_end : (ls : List Letter) → before_line_end (map byte_of ls) ≡ map byte_of ls
 same_before_line_end ls = rw (no_line_end ls (length (map byte_of ls) - 1)) refl
 
+-- letters of a genome's length are a genome
 genome_of-fits : (ls : List Letter) → 8 ≤ length ls → length ls ≤ 8192 → genome_of ls ≡ Ok ls
 genome_of-fits ls low high = rw (le-ltb (length ls) 8 low, le-ltb 8192 (length ls) high) refl
 
@@ -86,23 +74,23 @@ spelled_by_letters-text ls low high =
     ∙ ap Ok (all_letters ls))
     ∙ genome_of-fits ls low high
 
+-- the rate of a rate's name
 rate_named-key : (name : RateName) → rate_named (name_of_rate name) ≡ Some name
 unfolding rate_named
 rate_named-key Copy = refl
-rate_named-key Insert = refl
-rate_named-key Delete = refl
-rate_named-key SitePoint = refl
-rate_named-key SiteInsert = refl
-rate_named-key SiteDelete = refl
+rate_named-key _ = refl
 
+-- a number within bounds is read back
 number_from-pos : (least greatest n : ℕ) → least ≤ n → n ≤ greatest
     → number_from least greatest (Some (integer (pos n))) ≡ Some n
 number_from-pos least greatest n low high = rw (le-leb least n low, le-leb n greatest high) refl
 
+-- two values that are there make one
 both-some : {A B C : Type 0} (make : A → B → C) {a : Option A} {b : Option B} (x : A) (y : B)
     → a ≡ Some x → b ≡ Some y → both make a b ≡ Some (make x y)
 both-some make {b = b} x y h k = ap (λ o. both make o b) h ∙ ap (both make (Some x)) k
 
+-- letters within the two lengths are read
 sized-fits : (least greatest : ℕ) (ls : List Letter)
     → (nat_le least (length ls) && nat_le (length ls) greatest) ≡ true
     → sized least greatest (Ok ls) ≡ Some ls
@@ -114,6 +102,7 @@ pub record IsFrame (frame : Frame) : Type 0 where
   pub greatest : frame.greatest_length ≤ 8192
 
 module _ (frame : Frame) (is : IsFrame frame) where
+  -- a genome is read back
   genome_from-text : (ls : List Letter)
       → (nat_le frame.least_length (length ls) && nat_le (length ls) frame.greatest_length) ≡ true
       → genome_from frame.least_length frame.greatest_length (Some (string (letters_text_of ls)))
@@ -152,6 +141,7 @@ module _ (frame : Frame) (is : IsFrame frame) where
       both-some rate name ppm (rate_named-key name)
       (number_from-pos 0 1000000 ppm (omega arith) (leb-true ppm 1000000 h))
 
+  -- the update of an event is read back
   member_update : (least update : ℕ) (what : WhatValue) → least ≤ update → update ≤ frame.updates
       → number_from least frame.updates (get_member (codes "update") (event_members update what))
       ≡ Some update
@@ -177,6 +167,7 @@ module _ (frame : Frame) (is : IsFrame frame) where
       (member_update least event.update event.what low high)
       (what_of-members event.update event.what fits)
 
+  -- events from a place and an update on are read back
   events_from-items : (events : List EventValue) (nth least : ℕ)
       → ((j : ℕ) (d : EventValue) → j < length events → least ≤ (get_or events j d).update)
       → IsNonDecreasingBy (λ event. event.update) events → AllPass (event_fits frame) events
@@ -207,10 +198,12 @@ module _ (frame : Frame) (is : IsFrame frame) where
       (what_fits frame (get_or events j d).what) (are.fit j d h)).0).0)
       are.rising are.fit
 
-pub count_of-items : (events : List EventValue) → count_of (items_for events) ≡ length events
-count_of-items [] = refl
-count_of-items (event ∷ events) = rw (count_of-items events, add-one) refl
+-- the tables are as many as the events
+pub item_count-items : (events : List EventValue) → item_count (items_for events) ≡ length events
+item_count-items [] = refl
+item_count-items (event ∷ events) = rw (item_count-items events, add-one) refl
 
+-- the table of an event holds no table
 event_depth : (update : ℕ) (what : WhatValue) → depth (table (event_members update what)) ≡ 1
 event_depth update (inject cell ls) = refl
 event_depth update (clear first last) = refl

@@ -1,90 +1,95 @@
 -- The table of a configuration says what the configuration says.
-use Rattle.std.proofs.Common.{◌≡◌, ℕ, ◌≤◌, max, suc, List, length, Option, None, Ok, pos, refl, ap, ◌∙◌, arith}
-use Rattle.toml.specs.Data.{Members, items_depth, members_depth}
+use Rattle.std.proofs.Common.{◌≡◌, ℕ, ◌≤◌, List, [], ◌∷◌, length, Option, None, Ok, refl, ap, ◌∙◌}
+use Rattle.std.proofs.Common.{arith, lit≤, max, Ordering, Less, Equal, Greater, nat_cmp}
+use Rattle.std.specs.Ordering.{match_ordering}
+use Rattle.std.specs.Cmp.Lexicographic.{slice_cmp}
+use Rattle.toml.specs.Data.{Data, Members, no_members, member}
+use Rattle.toml.specs.Data.{depth, items_depth, members_depth}
 use Rattle.instruction_set.specs.declared.letter.Letter.{Letter}
 use Rattle.genome.specs.Genome.{letters}
 use Rattle.genome.specs.GenomeText.{letters_text_of, spelled_by_letters}
 use Rattle.world_config.specs.declared.config.Config.{Config}
 use Rattle.world_config.specs.declared.key.Key.{Key}
-use Rattle.world_config.specs.declared.key.Key.TheVariants.{Width, Height, Updates, Seed, FounderCell, AverageSlices, Death, AgeLimit, CopyError, DivideInsert, DivideDelete, SitePoint, SiteInsert, SiteDelete, PreferEmpty, NeedAlloc, ExecutedPercent, CopiedPercent, LeastLength, GreatestLength, MemoryLimit, Ancestor, Event}
+use Rattle.world_config.specs.declared.key.Key.TheVariants as code
 use Rattle.world_config.specs.declared.stop.ConfigStop.{ConfigStop}
-use Rattle.world_config.specs.KeyTable.{keys}
-use Rattle.world_config.specs.Bounds.{IsWithin, frame_of, last_cell_of}
+use Rattle.world_config.specs.KeyTable.{Frame, key_name, key_row, keys}
+use Rattle.world_config.specs.Bounds.{frame_of}
+use Rattle.world_config.specs.Lookup.{flag_at, frame_in, genome_at, items_at, letters_or_none}
+use Rattle.world_config.specs.Lookup.{number_at}
+use Rattle.world_config.specs.Refusal.{earlier, first_refusal, is_known, least_unknown}
+use Rattle.world_config.specs.Refusal.{refusal_at, refusal_of, unknown_refusal}
+use Rattle.world_config.specs.Events.{event_values}
 use Rattle.world_config.specs.EventForms.{events_of}
-use Rattle.world_config.specs.Values.{ConfigValues}
-use Rattle.world_config.specs.Config.{config_in, unless_refused, values_in, values_with}
-use Rattle.world_config.specs.Lookup.{flag_at, frame_in, genome_at, items_at, letters_or_none, number_at}
-use Rattle.world_config.specs.Refusal.{earlier, first_refusal, is_known, least_unknown, refusal_at, unknown_refusal, unless_genome, unless_within}
-use Rattle.world_config.specs.Printing.{items_for, members_for}
-use Rattle.world_config.specs.Shown.{values_of}
-use Rattle.world_config.proofs.PrintLemmas.{IsFrame, count_of-items, events_of-items, items_depth-events, spelled_by_letters-text}
-use Rattle.world_config.proofs.RefusalLemmas.{unless_within-none}
+use Rattle.world_config.specs.Values.{ConfigValues, values_in, values_of}
+use Rattle.world_config.specs.Config.{config_in, unless_refused, values_with}
+use Rattle.world_config.specs.EventTables.{insert_member, items_for}
+use Rattle.world_config.specs.Groups.{printed_at}
+use Rattle.world_config.specs.Printing.{members_for, with_keys}
+use Rattle.world_config.proofs.KindLemmas.{IsOfKind, accepted_value}
+use Rattle.world_config.proofs.PrintLemmas.{IsFrame, events_of-items, item_count-items}
+use Rattle.world_config.proofs.PrintLemmas.{items_depth-events, spelled_by_letters-text}
 
+-- the frame of the values
+abbrev pub values_frame : ConfigValues → Frame
+values_frame v = frame_of v.width v.height v.updates v.least_length v.greatest_length
+
+-- each key of the table has a row
 no_unknown : (v : ConfigValues) → least_unknown (members_for v) ≡ None
 unfolding is_known
 no_unknown v = refl
 
-frame_in-members : (v : ConfigValues)
-    → frame_in (members_for v)
-    ≡ frame_of v.width v.height v.updates v.least_length v.greatest_length
+-- the table has the frame of the values
+frame_in-members : (v : ConfigValues) → frame_in (members_for v) ≡ values_frame v
 unfolding number_at
 frame_in-members v = refl
 
-items_at-members : (v : ConfigValues) → items_at Event (members_for v) ≡ items_for v.event
+-- the table has the tables of the events
+items_at-members : (v : ConfigValues) → items_at code.Event (members_for v) ≡ items_for v.event
 unfolding items_at
 items_at-members v = refl
 
-values_in-members : (v : ConfigValues) → genome_at Ancestor (members_for v) ≡ v.ancestor
-    → values_in (members_for v) v.event ≡ v
-unfolding number_at flag_at
-values_in-members v h = ap (λ (ls : List Letter). record v { ancestor = ls }) h
-
+-- the table has the letters of the ancestor
 genome_at-members : (v : ConfigValues)
-    → genome_at Ancestor (members_for v)
+    → genome_at code.Ancestor (members_for v)
     ≡ letters_or_none (spelled_by_letters (letters_text_of v.ancestor))
 unfolding genome_at
 genome_at-members v = refl
 
-neither : {a b : Option ConfigStop} → a ≡ None → b ≡ None → earlier a b ≡ None
-neither {b = b} h k = ap (λ o. earlier o b) h ∙ k
+-- the table has the values, where it has their ancestor
+values_in-members : (v : ConfigValues) → genome_at code.Ancestor (members_for v) ≡ v.ancestor
+    → values_in (members_for v) v.event ≡ v
+unfolding number_at flag_at
+values_in-members v h = ap (λ (ls : List Letter). record v { ancestor = ls }) h
 
-within : (key : Key) (least greatest n : ℕ) → IsWithin least greatest n
-    → unless_within key least greatest (pos n) ≡ None
-within key least greatest n h = unless_within-none key least greatest n h.0 h.1
+-- the refusal of the first of these keys whose printed value is refused
+abbrev first_refusal_of : ConfigValues → List Key → Option ConfigStop
+first_refusal_of v [] = None
+first_refusal_of v (key ∷ others) =
+    earlier (refusal_of (key_row (values_frame v) key).kind key (printed_at v key))
+    (first_refusal_of v others)
 
--- no value of a configuration is refused
-all_accepted : (c : Config) → spelled_by_letters (letters_text_of (letters c.ancestor))
-    ≡ Ok (letters c.ancestor) → first_refusal keys (members_for (values_of c)) ≡ None
+-- the table's refusal is that of the printed values
+refusal-members : (v : ConfigValues) → first_refusal keys (members_for v) ≡ first_refusal_of v keys
 unfolding refusal_at number_at
-all_accepted c read =
-    let v = values_of c in
-    (neither (within Width 1 256 v.width c.width_bounds)
-    (neither (within Height 1 256 v.height c.height_bounds)
-    (neither (within Updates 0 1000000 v.updates c.updates_bounds)
-    (neither (within Seed 0 9223372036854775807 v.seed c.seed_bounds)
-    (neither (within FounderCell 0 (last_cell_of v.width v.height) v.founder_cell
-    c.founder_cell_bounds)
-    (neither (within AverageSlices 1 1000 v.average_slices c.average_slices_bounds)
-    (neither refl
-    (neither (within AgeLimit 1 1000 v.age_limit c.age_limit_bounds)
-    (neither (within CopyError 0 1000000 v.copy_error c.copy_error_bounds)
-    (neither (within DivideInsert 0 1000000 v.divide_insert c.divide_insert_bounds)
-    (neither (within DivideDelete 0 1000000 v.divide_delete c.divide_delete_bounds)
-    (neither (within SitePoint 0 1000000 v.site_point c.site_point_bounds)
-    (neither (within SiteInsert 0 1000000 v.site_insert c.site_insert_bounds)
-    (neither (within SiteDelete 0 1000000 v.site_delete c.site_delete_bounds)
-    (neither refl
-    (neither refl
-    (neither (within ExecutedPercent 1 100 v.executed_percent c.executed_percent_bounds)
-    (neither (within CopiedPercent 1 100 v.copied_percent c.copied_percent_bounds)
-    (neither (within LeastLength 8 8192 v.least_length c.least_length_bounds)
-    (neither (within GreatestLength v.least_length 8192 v.greatest_length c.greatest_length_bounds)
-    (neither (within MemoryLimit v.greatest_length 8192 v.memory_limit c.memory_limit_bounds)
-    (neither (ap (unless_genome Ancestor v.least_length v.greatest_length) read
-    ∙ within Ancestor v.least_length v.greatest_length (length v.ancestor) c.ancestor_bounds)
-    (neither (ap (λ (n : ℕ). unless_within Event 0 1000 (pos n)) (count_of-items v.event)
-    ∙ unless_within-none Event 0 1000 (length v.event) (omega arith) c.event_bounds.number)
-    refl)))))))))))))))))))))))
+refusal-members v = refl
+
+module _ (c : Config) (read : spelled_by_letters (letters_text_of (letters c.ancestor))
+    ≡ Ok (letters c.ancestor)) where
+  -- each printed value is one that the key's row accepts
+  fits_at : (key : Key) → IsOfKind (key_row (values_frame (values_of c)) key).kind
+      (printed_at (values_of c) key)
+  fits_at code.Ancestor = (letters c.ancestor, read, c.ancestor_bounds)
+  fits_at code.Event = rw (item_count-items (event_values c.event)) c.event_bounds.number
+  fits_at _ = assumption c
+
+  -- no printed value is refused
+  none_refused : (others : List Key) → first_refusal_of (values_of c) others ≡ None
+  none_refused [] = refl
+  none_refused (key ∷ others) =
+      ap (λ o. earlier o (first_refusal_of (values_of c) others))
+      (accepted_value (key_row (values_frame (values_of c)) key).kind key
+      (printed_at (values_of c) key) (fits_at key))
+      ∙ none_refused others
 
 -- the table of a configuration says what the configuration says
 pub config_in-members : (c : Config) → config_in (members_for (values_of c)) ≡ Ok (values_of c)
@@ -96,35 +101,65 @@ config_in-members c =
     let read : spelled_by_letters (letters_text_of v.ancestor) ≡ Ok v.ancestor =
     spelled_by_letters-text v.ancestor low high in
     let ms : Members = members_for v in
-    let frame : IsFrame (frame_of v.width v.height v.updates v.least_length v.greatest_length) =
+    let frame : IsFrame (values_frame v) =
     record { least = c.least_length_bounds.0; greatest = c.greatest_length_bounds.1 } in
-    let happening : events_of (frame_in ms) (items_at Event ms) ≡ Ok v.event =
-    ap (λ f. events_of f (items_at Event ms)) (frame_in-members v)
-    ∙ ap (events_of (frame_of v.width v.height v.updates v.least_length v.greatest_length))
-    (items_at-members v)
-    ∙ events_of-items (frame_of v.width v.height v.updates v.least_length v.greatest_length) frame
-    v.event c.event_bounds in
+    let happening : events_of (frame_in ms) (items_at code.Event ms) ≡ Ok v.event =
+    ap (λ f. events_of f (items_at code.Event ms)) (frame_in-members v)
+    ∙ ap (events_of (values_frame v)) (items_at-members v)
+    ∙ events_of-items (values_frame v) frame v.event c.event_bounds in
     ap (λ o. unless_refused (earlier (unknown_refusal o) (first_refusal keys ms))
-    (values_with ms (events_of (frame_in ms) (items_at Event ms)))) (no_unknown v)
-    ∙ ap (λ o. unless_refused o (values_with ms (events_of (frame_in ms) (items_at Event ms))))
-    (all_accepted c read)
+    (values_with ms (events_of (frame_in ms) (items_at code.Event ms)))) (no_unknown v)
+    ∙ ap (λ o. unless_refused o (values_with ms
+    (events_of (frame_in ms) (items_at code.Event ms))))
+    (refusal-members v ∙ none_refused c read keys)
     ∙ ap (values_with ms) happening
     ∙ ap Ok (values_in-members v (genome_at-members v ∙ ap letters_or_none read))
 
-below : (n : ℕ) → n ≤ 2 → max 0 n ≤ 2
-below n h = omega (arith, h)
+-- the deeper of two is not deeper than both
+max_within : (a b : ℕ) → a ≤ 2 → b ≤ 2 → max a b ≤ 2
+max_within a b p q = omega (arith, p, q)
 
-above_events : (n : ℕ) → n ≤ 1 → max (suc n) 0 ≤ 2
-above_events n h = omega (arith, h)
+-- neither of two is deeper than both
+max_parts : (a b : ℕ) → max a b ≤ 2 → (a ≤ 2) × (b ≤ 2)
+max_parts a b h = (omega (arith, h), omega (arith, h))
 
-widened : (n : ℕ) → n ≤ 2 → n ≤ 80
-widened n h = omega (arith, h)
+-- a table is as deep as what it is chosen from
+match_depth : (o : Ordering) (a b c : Members) → members_depth a ≤ 2 → members_depth b ≤ 2
+    → members_depth c ≤ 2 → members_depth (match_ordering o a b c) ≤ 2
+match_depth Less a b c p q r = p
+match_depth Equal a b c p q r = q
+match_depth Greater a b c p q r = r
+
+-- one more member that is not deep
+insert_depth : (k : List ℕ) (d : Data) (ms : Members) → depth d ≤ 2 → members_depth ms ≤ 2
+    → members_depth (insert_member k d ms) ≤ 2
+insert_depth k d no_members h m = max_within (depth d) 0 h (lit≤ tt)
+insert_depth k d (member l e ms) h m =
+    let (first, others) = max_parts (depth e) (members_depth ms) m in
+    match_depth (slice_cmp nat_cmp k l) (member k d (member l e ms)) (member l d ms)
+    (member l e (insert_member k d ms))
+    (max_within (depth d) (members_depth (member l e ms)) h m)
+    (max_within (depth d) (members_depth ms) h others)
+    (max_within (depth e) (members_depth (insert_member k d ms)) first
+    (insert_depth k d ms h others))
+
+-- no printed value is deep
+printed_depth : (v : ConfigValues) (key : Key) → depth (printed_at v key) ≤ 2
+printed_depth v code.Event =
+    let tables : items_depth (items_for v.event) ≤ 1 = items_depth-events v.event in
+    omega (arith, tables)
+printed_depth v _ = lit≤ tt
+
+-- printed keys make no table deep
+with_keys_depth : (v : ConfigValues) (others : List Key) (ms : Members) → members_depth ms ≤ 2
+    → members_depth (with_keys others v ms) ≤ 2
+with_keys_depth v [] ms h = h
+with_keys_depth v (key ∷ others) ms h =
+    with_keys_depth v others (insert_member (key_name key) (printed_at v key) ms)
+    (insert_depth (key_name key) (printed_at v key) ms (printed_depth v key) h)
 
 -- the table is not deep
 pub members_depth-for : (v : ConfigValues) → members_depth (members_for v) ≤ 80
 members_depth-for v =
-    widened (members_depth (members_for v))
-    (below _ (below _ (below _
-    (below _ (below _ (below _
-    (below _ (below _ (above_events (items_depth (items_for v.event))
-    (items_depth-events v.event))))))))))
+    let few : members_depth (members_for v) ≤ 2 =
+    with_keys_depth v keys no_members (lit≤ tt) in omega (arith, few)

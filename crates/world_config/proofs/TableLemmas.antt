@@ -1,5 +1,7 @@
 -- An insert into a table beside one into the members that it stands for.
-use Rattle.std.proofs.Common.{◌≡◌, ℕ, ◌+◌, ◌<◌, List, [], ◌∷◌, ◌++◌, length, map, take, get_or, String, Global, string_bytes, refl, ◌∙◌, Ordering, Less, Equal, Greater}
+use Rattle.std.proofs.Common.{◌≡◌, ℕ, ◌+◌, ◌<◌, List, [], ◌∷◌, ◌++◌, length, map, take, get_or}
+use Rattle.std.proofs.Common.{String, Global, string_bytes, refl, ◌∙◌, Ordering, Less, Equal}
+use Rattle.std.proofs.Common.{Greater}
 use Rattle.std.specs.Ordering.{match_ordering}
 use Rattle.std.proofs.lemmas.List.{map-append, take_more}
 use Rattle.std.specs.BTreeMap.{insert_entry}
@@ -10,8 +12,9 @@ use Rattle.toml.specs.View.{view, items_view, members_view}
 use Rattle.toml.proofs.Views.{Entry, items_view-push}
 use Rattle.world_config.specs.declared.event.Event.{Event}
 use Rattle.world_config.specs.Events.{EventValue, event_value, what_value}
-use Rattle.world_config.specs.Printing.{event_members, insert_member, items_for}
+use Rattle.world_config.specs.EventTables.{event_members, insert_member, items_for}
 
+-- the members of a table that is chosen by an order
 match_members : (o : Ordering) (a b c : List Entry)
     → members_view (match_ordering o a b c) ≡ match_ordering o (members_view a) (members_view b)
     (members_view c)
@@ -19,6 +22,7 @@ match_members Less a b c = refl
 match_members Equal a b c = refl
 match_members Greater a b c = refl
 
+-- the members of a table with one more entry
 pub members_view-insert_entry : (es : List Entry) (k : String Global) (v : Value)
     → members_view (insert_entry string_cmp es k v) ≡ insert_member (string_bytes k) (view v)
     (members_view es)
@@ -26,6 +30,7 @@ members_view-insert_entry [] k v = refl
 members_view-insert_entry (e ∷ es) k v =
     match_members (string_cmp k e.0) _ _ _ ∙ rw (members_view-insert_entry es k v)
 
+-- the tables of events with one more event at the end
 items_for-last : (events : List EventValue) (event : EventValue)
     → items_for (events ++ event ∷ [])
     ≡ push_item (items_for events) (table (event_members event.update event.what))

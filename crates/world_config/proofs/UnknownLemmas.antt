@@ -1,5 +1,6 @@
 -- The least unknown key of a table whose keys ascend is the first.
-use Rattle.std.proofs.Common.{◌≡◌, ℕ, false, not, List, [], ◌∷◌, Option, Some, None, option_map, String, Global, string_bytes, refl, Less, nat_cmp, inl, inr}
+use Rattle.std.proofs.Common.{◌≡◌, ℕ, false, not, List, [], ◌∷◌, Option, Some, None, option_map}
+use Rattle.std.proofs.Common.{String, Global, string_bytes, refl, Less, nat_cmp, inl, inr}
 use Rattle.std.specs.Bool.{⊤}
 use Rattle.std.specs.List.{find, AllByRecursion}
 use Rattle.std.specs.List.Sorted.{IsStrictlySortedBy}
@@ -18,14 +19,17 @@ abbrev IsNotBelow : List ℕ → Option (List ℕ) → Type 0
 IsNotBelow key None = ⊤
 IsNotBelow key (Some other) = is_lt (slice_cmp nat_cmp other key) ≡ false
 
+-- the lesser of two keys is the first where it is not below the other
 least_of-not_below : (key : List ℕ) (o : Option (List ℕ)) → IsNotBelow key o → least_of key o ≡ key
 least_of-not_below key None h = refl
 least_of-not_below key (Some other) h = rw h refl
 
+-- what is above is not below
 greater_reversed : (a b : List ℕ) → slice_cmp nat_cmp a b ≡ Less
     → is_lt (slice_cmp nat_cmp b a) ≡ false
 greater_reversed a b h = rw (nat_list_cmp_total.antisymm b a, h) refl
 
+-- the lesser of two keys is not below what neither is below
 least_of-above : (key k : List ℕ) (o : Option (List ℕ)) → is_lt (slice_cmp nat_cmp k key) ≡ false
     → IsNotBelow key o → is_lt (slice_cmp nat_cmp (least_of k o) key) ≡ false
 least_of-above key k None h n = h
@@ -35,6 +39,7 @@ least_of-above key k (Some other) h n =
       | inr more ↦ rw more h
     ]
 
+-- the unknown keys after a key are not below it
 not_below : (key : String Global) (es : List Entry)
     → AllByRecursion (λ y. string_cmp key y ≡ Less) (keys_of es)
     → IsNotBelow (string_bytes key) (least_unknown (members_view es))
@@ -58,6 +63,7 @@ first_is_least (e ∷ es) h =
       | inr other ↦ rw (other, least_of-not_below (string_bytes e.0) _ (not_below e.0 es h.0)) refl
     ]
 
+-- a value behind a reference, mapped
 pub bytes_of_ref : {X Y : Type 0} (f : X → Y) (o : Option (Rattle.std.specs.Borrow.Bor X))
     → option_map (λ s. f s.now) o ≡ option_map f (option_map (λ s. s.now) o)
 bytes_of_ref f None = refl

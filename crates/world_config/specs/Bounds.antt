@@ -1,4 +1,5 @@
--- Facts that a configuration keeps in its type. This file names no struct that keeps them.
+-- Words of the facts that a configuration keeps in its type. This file names no struct that keeps
+-- them.
 use Rattle.std.specs.Prelude.{ℕ, ◌≤◌, ◌-◌, ◌*◌}
 use Rattle.world_config.specs.KeyTable.{Frame}
 

@@ -3,42 +3,15 @@ use Rattle.std.specs.Prelude.{ℕ, if◌then◌else◌, List, Option, Some, None
 use Rattle.std.specs.Str.{is_utf8}
 use Rattle.toml.specs.Data.{Members}
 use Rattle.toml.specs.Parse.{parse_document}
-use Rattle.world_config.specs.declared.key.Key.TheVariants.{Width, Height, Updates, Seed, FounderCell, AverageSlices, Death, AgeLimit, CopyError, DivideInsert, DivideDelete, SitePoint, SiteInsert, SiteDelete, PreferEmpty, NeedAlloc, ExecutedPercent, CopiedPercent, LeastLength, GreatestLength, MemoryLimit, Ancestor, Event}
+use Rattle.world_config.specs.declared.key.Key.TheVariants as code
 use Rattle.world_config.specs.declared.stop.ConfigStop.{ConfigStop}
 use Rattle.world_config.specs.declared.stop.ConfigStop.TheVariants.{BadToml, BadEvent}
+use Rattle.world_config.specs.Lookup.{items_at, frame_in}
+use Rattle.world_config.specs.Refusal.{refusal_in}
 use Rattle.world_config.specs.Events.{EventValue}
 use Rattle.world_config.specs.EventForms.{events_of}
 use Rattle.world_config.specs.Values.{ConfigValues}
-use Rattle.world_config.specs.Lookup.{number_at, flag_at, genome_at, items_at, frame_in}
-use Rattle.world_config.specs.Refusal.{refusal_in}
-
--- what the members say, with these events
-abbrev pub values_in : Members → List EventValue → ConfigValues
-values_in ms happening = record {
-  width = number_at (frame_in ms) Width ms;
-  height = number_at (frame_in ms) Height ms;
-  updates = number_at (frame_in ms) Updates ms;
-  seed = number_at (frame_in ms) Seed ms;
-  founder_cell = number_at (frame_in ms) FounderCell ms;
-  average_slices = number_at (frame_in ms) AverageSlices ms;
-  death = flag_at Death ms;
-  age_limit = number_at (frame_in ms) AgeLimit ms;
-  copy_error = number_at (frame_in ms) CopyError ms;
-  divide_insert = number_at (frame_in ms) DivideInsert ms;
-  divide_delete = number_at (frame_in ms) DivideDelete ms;
-  site_point = number_at (frame_in ms) SitePoint ms;
-  site_insert = number_at (frame_in ms) SiteInsert ms;
-  site_delete = number_at (frame_in ms) SiteDelete ms;
-  prefer_empty = flag_at PreferEmpty ms;
-  need_alloc = flag_at NeedAlloc ms;
-  executed_percent = number_at (frame_in ms) ExecutedPercent ms;
-  copied_percent = number_at (frame_in ms) CopiedPercent ms;
-  least_length = number_at (frame_in ms) LeastLength ms;
-  greatest_length = number_at (frame_in ms) GreatestLength ms;
-  memory_limit = number_at (frame_in ms) MemoryLimit ms;
-  ancestor = genome_at Ancestor ms;
-  event = happening;
-}
+pub use Rattle.world_config.specs.Values.{values_in}
 
 -- what the members say, where their events have forms
 abbrev pub values_with : Members → Result (List EventValue) ℕ → Result ConfigValues ConfigStop
@@ -54,7 +27,8 @@ unless_refused None values = values
 -- the configuration of a table: its keys are tried first, and its events last
 abbrev pub config_in : Members → Result ConfigValues ConfigStop
 config_in ms =
-    unless_refused (refusal_in ms) (values_with ms (events_of (frame_in ms) (items_at Event ms)))
+    unless_refused (refusal_in ms)
+    (values_with ms (events_of (frame_in ms) (items_at code.Event ms)))
 
 -- the configuration of a document's table, where it is one
 abbrev pub config_of_table : Option Members → Result ConfigValues ConfigStop

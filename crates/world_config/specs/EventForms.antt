@@ -1,8 +1,12 @@
--- The members of `event` (docs/FORMATS.md, "The configuration").
-use Rattle.std.specs.Prelude.{ℕ, ◌+◌, pos, Bool, true, ◌&&◌, nat_le, if◌then◌else◌, List, [], ◌∷◌, codes, length, Option, Some, None, option_map, option_and_then, Result, Ok, Err}
+-- Which tables are events, and of what members an array of events is one (docs/FORMATS.md, "The
+-- configuration").
+use Rattle.std.specs.Prelude.{ℕ, ◌+◌, pos, Bool, true, ◌&&◌, nat_le, if◌then◌else◌, codes}
+use Rattle.std.specs.Prelude.{List, [], ◌∷◌, length, Option, Some, None, option_map}
+use Rattle.std.specs.Prelude.{option_and_then, Result, Ok, Err}
 use Rattle.std.specs.List.{list_any}
 use Rattle.std.specs.Str.{bytes_eq}
-use Rattle.toml.specs.Data.{Data, string, integer, table, Items, no_items, item, Members, no_members, member, get_member, as_str}
+use Rattle.toml.specs.Data.{Data, string, integer, table, Items, no_items, item}
+use Rattle.toml.specs.Data.{Members, no_members, member, get_member, as_str}
 use Rattle.instruction_set.specs.declared.letter.Letter.{Letter}
 use Rattle.genome.specs.declared.stop.GenomeStop.{GenomeStop}
 use Rattle.genome.specs.GenomeText.{spelled_by_letters}

@@ -1,4 +1,4 @@
--- Events as values (docs/WORLD.md, "Events").
+-- Events as values, and which events a configuration may have (docs/WORLD.md, "Events").
 use Rattle.std.specs.Prelude.{ℕ, ◌≤◌, Bool, ◌&&◌, nat_le, List, length, map}
 use Rattle.std.specs.List.{AllPass}
 use Rattle.std.specs.List.Sorted.{IsNonDecreasingBy}

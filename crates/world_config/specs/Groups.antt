@@ -1,84 +1,57 @@
--- The keys in groups, as the code reads them. No public clause cites this file.
-use Rattle.std.specs.Prelude.{◌≡◌, List, [], ◌∷◌, ◌++◌, unwrap_or}
-use Rattle.toml.specs.Data.{Data, Members, get_member}
+-- Each key's value, as the code reads it into a group of keys, and as it prints it. No clause of a
+-- public function cites this file.
+use Rattle.std.specs.Prelude.{◌≡◌, pos}
+use Rattle.toml.specs.Data.{Data, string, integer, boolean, array, Members}
+use Rattle.genome.specs.GenomeText.{letters_text_of}
 use Rattle.world_config.specs.declared.key.Key.{Key}
-use Rattle.world_config.specs.declared.key.Key.TheVariants.{Width, Height, Updates, Seed, FounderCell, AverageSlices, Death, AgeLimit, CopyError, DivideInsert, DivideDelete, SitePoint, SiteInsert, SiteDelete, PreferEmpty, NeedAlloc, ExecutedPercent, CopiedPercent, LeastLength, GreatestLength, MemoryLimit, Ancestor, Event}
+use Rattle.world_config.specs.declared.key.Key.TheVariants as code
 use Rattle.world_config.specs.declared.groups.Place.{Place}
 use Rattle.world_config.specs.declared.groups.Life.{Life}
 use Rattle.world_config.specs.declared.groups.Errors.{Errors}
 use Rattle.world_config.specs.declared.groups.Divide.{Divide}
 use Rattle.world_config.specs.declared.groups.Lengths.{Lengths}
 use Rattle.world_config.specs.declared.numbers.Numbers.{Numbers}
-use Rattle.world_config.specs.KeyTable.{key_name}
+use Rattle.world_config.specs.KeyTable.{Frame}
+use Rattle.world_config.specs.Bounds.{frame_of}
 use Rattle.world_config.specs.Lookup.{number_at, flag_at, frame_in}
+use Rattle.world_config.specs.Values.{ConfigValues}
+use Rattle.world_config.specs.EventTables.{items_for}
 
--- the value at a key, or this default
-abbrev pub value_or : Key → Data → Members → Data
-value_or key default ms = unwrap_or (get_member (key_name key) ms) default
-
--- the keys of where and how long a run goes
-abbrev pub place_keys : List Key
-place_keys = Width ∷ Height ∷ Updates ∷ Seed ∷ FounderCell ∷ []
-
--- the keys of how long an organism runs and lives
-abbrev pub life_keys : List Key
-life_keys = AverageSlices ∷ Death ∷ AgeLimit ∷ []
-
--- the keys of the six rates
-abbrev pub error_keys : List Key
-error_keys = CopyError ∷ DivideInsert ∷ DivideDelete ∷ SitePoint ∷ SiteInsert ∷ SiteDelete ∷ []
-
--- the keys of what a birth asks
-abbrev pub divide_keys : List Key
-divide_keys = PreferEmpty ∷ NeedAlloc ∷ ExecutedPercent ∷ CopiedPercent ∷ []
-
--- the keys of the lengths
-abbrev pub length_keys : List Key
-length_keys = LeastLength ∷ GreatestLength ∷ MemoryLimit ∷ []
-
--- the keys before the ancestor
-abbrev pub number_keys : List Key
-number_keys = place_keys ++ (life_keys ++ (error_keys ++ (divide_keys ++ length_keys)))
-
--- the keys after the numbers
-abbrev pub last_keys : List Key
-last_keys = Ancestor ∷ Event ∷ []
-
--- these are the members' values at the keys of the group
+-- these are the members' values at the keys of where and how long a run goes
 pub record ArePlace (ms : Members) (place : Place) : Type 0 where
-  pub width : number_at (frame_in ms) Width ms ≡ place.width
-  pub height : number_at (frame_in ms) Height ms ≡ place.height
-  pub updates : number_at (frame_in ms) Updates ms ≡ place.updates
-  pub seed : number_at (frame_in ms) Seed ms ≡ place.seed
-  pub founder_cell : number_at (frame_in ms) FounderCell ms ≡ place.founder_cell
+  pub width : number_at (frame_in ms) code.Width ms ≡ place.width
+  pub height : number_at (frame_in ms) code.Height ms ≡ place.height
+  pub updates : number_at (frame_in ms) code.Updates ms ≡ place.updates
+  pub seed : number_at (frame_in ms) code.Seed ms ≡ place.seed
+  pub founder_cell : number_at (frame_in ms) code.FounderCell ms ≡ place.founder_cell
 
--- these are the members' values at the keys of this group
+-- these are the members' values at the keys of how long an organism runs and lives
 pub record AreLife (ms : Members) (life : Life) : Type 0 where
-  pub average_slices : number_at (frame_in ms) AverageSlices ms ≡ life.average_slices
-  pub death : flag_at Death ms ≡ life.death
-  pub age_limit : number_at (frame_in ms) AgeLimit ms ≡ life.age_limit
+  pub average_slices : number_at (frame_in ms) code.AverageSlices ms ≡ life.average_slices
+  pub death : flag_at code.Death ms ≡ life.death
+  pub age_limit : number_at (frame_in ms) code.AgeLimit ms ≡ life.age_limit
 
--- these are the members' values at the keys of this group
+-- these are the members' values at the keys of the six rates
 pub record AreErrors (ms : Members) (errors : Errors) : Type 0 where
-  pub copy_error : number_at (frame_in ms) CopyError ms ≡ errors.copy_error
-  pub divide_insert : number_at (frame_in ms) DivideInsert ms ≡ errors.divide_insert
-  pub divide_delete : number_at (frame_in ms) DivideDelete ms ≡ errors.divide_delete
-  pub site_point : number_at (frame_in ms) SitePoint ms ≡ errors.site_point
-  pub site_insert : number_at (frame_in ms) SiteInsert ms ≡ errors.site_insert
-  pub site_delete : number_at (frame_in ms) SiteDelete ms ≡ errors.site_delete
+  pub copy_error : number_at (frame_in ms) code.CopyError ms ≡ errors.copy_error
+  pub divide_insert : number_at (frame_in ms) code.DivideInsert ms ≡ errors.divide_insert
+  pub divide_delete : number_at (frame_in ms) code.DivideDelete ms ≡ errors.divide_delete
+  pub site_point : number_at (frame_in ms) code.SitePoint ms ≡ errors.site_point
+  pub site_insert : number_at (frame_in ms) code.SiteInsert ms ≡ errors.site_insert
+  pub site_delete : number_at (frame_in ms) code.SiteDelete ms ≡ errors.site_delete
 
--- these are the members' values at the keys of this group
+-- these are the members' values at the keys of what a birth asks
 pub record AreDivide (ms : Members) (divide : Divide) : Type 0 where
-  pub prefer_empty : flag_at PreferEmpty ms ≡ divide.prefer_empty
-  pub need_alloc : flag_at NeedAlloc ms ≡ divide.need_alloc
-  pub executed_percent : number_at (frame_in ms) ExecutedPercent ms ≡ divide.executed_percent
-  pub copied_percent : number_at (frame_in ms) CopiedPercent ms ≡ divide.copied_percent
+  pub prefer_empty : flag_at code.PreferEmpty ms ≡ divide.prefer_empty
+  pub need_alloc : flag_at code.NeedAlloc ms ≡ divide.need_alloc
+  pub executed_percent : number_at (frame_in ms) code.ExecutedPercent ms ≡ divide.executed_percent
+  pub copied_percent : number_at (frame_in ms) code.CopiedPercent ms ≡ divide.copied_percent
 
--- these are the members' values at the keys of this group
+-- these are the members' values at the keys of the lengths
 pub record AreLengths (ms : Members) (lengths : Lengths) : Type 0 where
-  pub least_length : number_at (frame_in ms) LeastLength ms ≡ lengths.least_length
-  pub greatest_length : number_at (frame_in ms) GreatestLength ms ≡ lengths.greatest_length
-  pub memory_limit : number_at (frame_in ms) MemoryLimit ms ≡ lengths.memory_limit
+  pub least_length : number_at (frame_in ms) code.LeastLength ms ≡ lengths.least_length
+  pub greatest_length : number_at (frame_in ms) code.GreatestLength ms ≡ lengths.greatest_length
+  pub memory_limit : number_at (frame_in ms) code.MemoryLimit ms ≡ lengths.memory_limit
 
 -- these are the members' values at the keys of all groups
 pub record AreNumbers (ms : Members) (numbers : Numbers) : Type 0 where
@@ -87,3 +60,35 @@ pub record AreNumbers (ms : Members) (numbers : Numbers) : Type 0 where
   pub errors : AreErrors ms numbers.errors
   pub divide : AreDivide ms numbers.divide
   pub lengths : AreLengths ms numbers.lengths
+
+-- the frame of the numbers
+abbrev pub numbers_frame : Numbers → Frame
+numbers_frame numbers =
+    frame_of numbers.place.width numbers.place.height numbers.place.updates
+    numbers.lengths.least_length numbers.lengths.greatest_length
+
+-- what a document that is printed has at a key
+abbrev pub printed_at : ConfigValues → Key → Data
+printed_at v code.Width = integer (pos v.width)
+printed_at v code.Height = integer (pos v.height)
+printed_at v code.Updates = integer (pos v.updates)
+printed_at v code.Seed = integer (pos v.seed)
+printed_at v code.FounderCell = integer (pos v.founder_cell)
+printed_at v code.AverageSlices = integer (pos v.average_slices)
+printed_at v code.Death = boolean v.death
+printed_at v code.AgeLimit = integer (pos v.age_limit)
+printed_at v code.CopyError = integer (pos v.copy_error)
+printed_at v code.DivideInsert = integer (pos v.divide_insert)
+printed_at v code.DivideDelete = integer (pos v.divide_delete)
+printed_at v code.SitePoint = integer (pos v.site_point)
+printed_at v code.SiteInsert = integer (pos v.site_insert)
+printed_at v code.SiteDelete = integer (pos v.site_delete)
+printed_at v code.PreferEmpty = boolean v.prefer_empty
+printed_at v code.NeedAlloc = boolean v.need_alloc
+printed_at v code.ExecutedPercent = integer (pos v.executed_percent)
+printed_at v code.CopiedPercent = integer (pos v.copied_percent)
+printed_at v code.LeastLength = integer (pos v.least_length)
+printed_at v code.GreatestLength = integer (pos v.greatest_length)
+printed_at v code.MemoryLimit = integer (pos v.memory_limit)
+printed_at v code.Ancestor = string (letters_text_of v.ancestor)
+printed_at v code.Event = array (items_for v.event)

@@ -1,10 +1,11 @@
--- The keys of a configuration (docs/FORMATS.md, "The configuration").
+-- The table of keys (docs/FORMATS.md, "The configuration"): a row for each key, with its name, its
+-- default and what its value may be, and the order in which the keys are tried.
 use Rattle.std.specs.Prelude.{ℕ, max, pos, true, List, [], ◌∷◌, ◌++◌, codes, replicate}
 use Rattle.toml.specs.Data.{Data, string, integer, boolean, array, no_items}
 use Rattle.world_config.specs.declared.key.Key.{Key}
-use Rattle.world_config.specs.declared.key.Key.TheVariants.{Width, Height, Updates, Seed, FounderCell, AverageSlices, Death, AgeLimit, CopyError, DivideInsert, DivideDelete, SitePoint, SiteInsert, SiteDelete, PreferEmpty, NeedAlloc, ExecutedPercent, CopiedPercent, LeastLength, GreatestLength, MemoryLimit, Ancestor, Event}
+use Rattle.world_config.specs.declared.key.Key.TheVariants as code
 
--- what a key's value is, with its bounds
+-- what a value is, with its bounds: a genome's are its length, and events have at most so many
 pub data Kind : Type 0 where
   number : (least greatest : ℕ) → Kind
   flag : Kind
@@ -34,43 +35,75 @@ default_ancestor = codes "wzcag" ++ replicate 86 99 ++ codes "zvfcaxgab"
 
 -- the row of each key
 abbrev pub key_row : Frame → Key → KeyRow
-key_row frame Width = row (codes "width") (integer (pos 60)) (number 1 256)
-key_row frame Height = row (codes "height") (integer (pos 60)) (number 1 256)
-key_row frame Updates = row (codes "updates") (integer (pos 100)) (number 0 1000000)
-key_row frame Seed = row (codes "seed") (integer (pos 1)) (number 0 9223372036854775807)
-key_row frame FounderCell = row (codes "founder_cell") (integer (pos 0)) (number 0 frame.last_cell)
-key_row frame AverageSlices = row (codes "average_slices") (integer (pos 30)) (number 1 1000)
-key_row frame Death = row (codes "death") (boolean true) flag
-key_row frame AgeLimit = row (codes "age_limit") (integer (pos 20)) (number 1 1000)
-key_row frame CopyError = row (codes "copy_error") (integer (pos 7500)) (number 0 1000000)
-key_row frame DivideInsert = row (codes "divide_insert") (integer (pos 50000)) (number 0 1000000)
-key_row frame DivideDelete = row (codes "divide_delete") (integer (pos 50000)) (number 0 1000000)
-key_row frame SitePoint = row (codes "site_point") (integer (pos 0)) (number 0 1000000)
-key_row frame SiteInsert = row (codes "site_insert") (integer (pos 0)) (number 0 1000000)
-key_row frame SiteDelete = row (codes "site_delete") (integer (pos 0)) (number 0 1000000)
-key_row frame PreferEmpty = row (codes "prefer_empty") (boolean true) flag
-key_row frame NeedAlloc = row (codes "need_alloc") (boolean true) flag
-key_row frame ExecutedPercent = row (codes "executed_percent") (integer (pos 50)) (number 1 100)
-key_row frame CopiedPercent = row (codes "copied_percent") (integer (pos 50)) (number 1 100)
-key_row frame LeastLength = row (codes "least_length") (integer (pos 8)) (number 8 8192)
-key_row frame GreatestLength =
+key_row frame code.Width = row (codes "width") (integer (pos 60)) (number 1 256)
+key_row frame code.Height = row (codes "height") (integer (pos 60)) (number 1 256)
+key_row frame code.Updates = row (codes "updates") (integer (pos 100)) (number 0 1000000)
+key_row frame code.Seed = row (codes "seed") (integer (pos 1)) (number 0 9223372036854775807)
+key_row frame code.FounderCell =
+    row (codes "founder_cell") (integer (pos 0)) (number 0 frame.last_cell)
+key_row frame code.AverageSlices =
+    row (codes "average_slices") (integer (pos 30)) (number 1 1000)
+key_row frame code.Death = row (codes "death") (boolean true) flag
+key_row frame code.AgeLimit = row (codes "age_limit") (integer (pos 20)) (number 1 1000)
+key_row frame code.CopyError = row (codes "copy_error") (integer (pos 7500)) (number 0 1000000)
+key_row frame code.DivideInsert =
+    row (codes "divide_insert") (integer (pos 50000)) (number 0 1000000)
+key_row frame code.DivideDelete =
+    row (codes "divide_delete") (integer (pos 50000)) (number 0 1000000)
+key_row frame code.SitePoint = row (codes "site_point") (integer (pos 0)) (number 0 1000000)
+key_row frame code.SiteInsert = row (codes "site_insert") (integer (pos 0)) (number 0 1000000)
+key_row frame code.SiteDelete = row (codes "site_delete") (integer (pos 0)) (number 0 1000000)
+key_row frame code.PreferEmpty = row (codes "prefer_empty") (boolean true) flag
+key_row frame code.NeedAlloc = row (codes "need_alloc") (boolean true) flag
+key_row frame code.ExecutedPercent =
+    row (codes "executed_percent") (integer (pos 50)) (number 1 100)
+key_row frame code.CopiedPercent = row (codes "copied_percent") (integer (pos 50)) (number 1 100)
+key_row frame code.LeastLength = row (codes "least_length") (integer (pos 8)) (number 8 8192)
+key_row frame code.GreatestLength =
     row (codes "greatest_length") (integer (pos 2048)) (number frame.least_length 8192)
-key_row frame MemoryLimit =
+key_row frame code.MemoryLimit =
     row (codes "memory_limit") (integer (pos (max 2048 frame.greatest_length)))
     (number frame.greatest_length 8192)
-key_row frame Ancestor =
+key_row frame code.Ancestor =
     row (codes "ancestor") (string default_ancestor)
     (genome frame.least_length frame.greatest_length)
-key_row frame Event = row (codes "event") (array no_items) (events 1000)
+key_row frame code.Event = row (codes "event") (array no_items) (events 1000)
+
+-- the keys of where and how long a run goes
+abbrev pub place_keys : List Key
+place_keys =
+    code.Width ∷ code.Height ∷ code.Updates ∷ code.Seed ∷ code.FounderCell ∷ []
+
+-- the keys of how long an organism runs and lives
+abbrev pub life_keys : List Key
+life_keys = code.AverageSlices ∷ code.Death ∷ code.AgeLimit ∷ []
+
+-- the keys of the six rates
+abbrev pub error_keys : List Key
+error_keys =
+    code.CopyError ∷ code.DivideInsert ∷ code.DivideDelete
+    ∷ code.SitePoint ∷ code.SiteInsert ∷ code.SiteDelete ∷ []
+
+-- the keys of what a birth asks
+abbrev pub divide_keys : List Key
+divide_keys =
+    code.PreferEmpty ∷ code.NeedAlloc ∷ code.ExecutedPercent ∷ code.CopiedPercent ∷ []
+
+-- the keys of the lengths
+abbrev pub length_keys : List Key
+length_keys = code.LeastLength ∷ code.GreatestLength ∷ code.MemoryLimit ∷ []
+
+-- the keys before the ancestor
+abbrev pub number_keys : List Key
+number_keys = place_keys ++ (life_keys ++ (error_keys ++ (divide_keys ++ length_keys)))
+
+-- the keys after the numbers
+abbrev pub last_keys : List Key
+last_keys = code.Ancestor ∷ code.Event ∷ []
 
 -- the keys in the order in which they are tried
 abbrev pub keys : List Key
-keys =
-    Width ∷ Height ∷ Updates ∷ Seed ∷ FounderCell
-    ∷ AverageSlices ∷ Death ∷ AgeLimit
-    ∷ CopyError ∷ DivideInsert ∷ DivideDelete ∷ SitePoint ∷ SiteInsert ∷ SiteDelete
-    ∷ PreferEmpty ∷ NeedAlloc ∷ ExecutedPercent ∷ CopiedPercent
-    ∷ LeastLength ∷ GreatestLength ∷ MemoryLimit ∷ Ancestor ∷ Event ∷ []
+keys = number_keys ++ last_keys
 
 -- a frame for what hangs on none
 abbrev pub no_frame : Frame

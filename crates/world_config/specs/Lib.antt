@@ -1,15 +1,18 @@
+-- The files in the order of reading. The last four are the code's own: no clause of a public
+-- function cites them.
 pub use Rattle.toml.specs.Data
 pub use Rattle.genome.specs.Genome
 pub use Rattle.genome.specs.GenomeText
 pub mod KeyTable
 pub mod Bounds
+pub mod Lookup
+pub mod Refusal
 pub mod Events
 pub mod EventForms
 pub mod Values
-pub mod Lookup
-pub mod Refusal
-pub mod Config
-pub mod Groups
-pub mod Members
 pub mod Shown
+pub mod Config
+pub mod Members
+pub mod EventTables
+pub mod Groups
 pub mod Printing

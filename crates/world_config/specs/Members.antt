@@ -1,4 +1,5 @@
--- Reading the members of `event`, as the code does it. No public clause cites this file.
+-- What the code's reading of events says: its frame and its refusal. No clause of a public
+-- function cites this file.
 use Rattle.std.specs.Prelude.{ℕ, List, Option, Some, None, Result, Ok, Err}
 use Rattle.world_config.specs.declared.event_forms.Frame.{Frame as FrameCode}
 use Rattle.world_config.specs.declared.stop.ConfigStop.{ConfigStop}

@@ -1,5 +1,7 @@
--- What refuses a configuration (docs/FORMATS.md, "The configuration").
-use Rattle.std.specs.Prelude.{ℕ, ℤ, pos, negsuc, Bool, ◌&&◌, nat_le, if◌then◌else◌, List, [], ◌∷◌, length, Option, Some, None, Result, Ok, Err}
+-- What refuses a configuration (docs/FORMATS.md, "The configuration"): a key without a row, then
+-- the first key whose value is not what its row asks. Config has the refusal of an event.
+use Rattle.std.specs.Prelude.{ℕ, ℤ, pos, negsuc, Bool, ◌&&◌, nat_le, if◌then◌else◌}
+use Rattle.std.specs.Prelude.{List, [], ◌∷◌, length, Option, Some, None, Result, Ok, Err}
 use Rattle.std.specs.List.{list_any}
 use Rattle.std.specs.Ordering.{nat_cmp, is_lt}
 use Rattle.std.specs.Cmp.Lexicographic.{slice_cmp}
@@ -10,9 +12,11 @@ use Rattle.genome.specs.declared.stop.GenomeStop.{GenomeStop}
 use Rattle.genome.specs.GenomeText.{spelled_by_letters}
 use Rattle.world_config.specs.declared.key.Key.{Key}
 use Rattle.world_config.specs.declared.stop.ConfigStop.{ConfigStop}
-use Rattle.world_config.specs.declared.stop.ConfigStop.TheVariants.{UnknownKey, WrongKind, OutOfRange, BadAncestor}
-use Rattle.world_config.specs.KeyTable.{Kind, number, flag, genome, events, Frame, key_row, key_name, keys}
-use Rattle.world_config.specs.Lookup.{value_at, count_of, frame_in}
+use Rattle.world_config.specs.declared.stop.ConfigStop.TheVariants.{UnknownKey, WrongKind}
+use Rattle.world_config.specs.declared.stop.ConfigStop.TheVariants.{OutOfRange, BadAncestor}
+use Rattle.world_config.specs.KeyTable.{Kind, number, flag, genome, events}
+use Rattle.world_config.specs.KeyTable.{Frame, key_row, key_name, keys}
+use Rattle.world_config.specs.Lookup.{value_at, item_count, frame_in}
 
 -- a row has this name
 unfoldable pub is_known : List ℕ → Bool
@@ -46,7 +50,7 @@ refusal_of (number least greatest) key (integer z) = unless_within key least gre
 refusal_of flag key (boolean b) = None
 refusal_of (genome least greatest) key (string text) =
     unless_genome key least greatest (spelled_by_letters text)
-refusal_of (events most) key (array items) = unless_within key 0 most (pos (count_of items))
+refusal_of (events most) key (array items) = unless_within key 0 most (pos (item_count items))
 refusal_of _ key _ = Some (WrongKind key)
 
 -- the refusal of the value at a key

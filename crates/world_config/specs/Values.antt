@@ -1,9 +1,15 @@
--- What a configuration says (docs/FORMATS.md, "The configuration").
+-- What a configuration says, a field for each key (docs/FORMATS.md, "The configuration"): as a
+-- document's table has it, and as the code's configuration holds it.
 use Rattle.std.specs.Prelude.{ℕ, Bool, List}
+use Rattle.toml.specs.Data.{Members}
 use Rattle.instruction_set.specs.declared.letter.Letter.{Letter}
-use Rattle.world_config.specs.Events.{EventValue}
+use Rattle.genome.specs.Genome.{letters}
+use Rattle.world_config.specs.declared.config.Config.{Config}
+use Rattle.world_config.specs.declared.key.Key.TheVariants as code
+use Rattle.world_config.specs.Lookup.{number_at, flag_at, genome_at, frame_in}
+use Rattle.world_config.specs.Events.{EventValue, event_values}
 
--- the values of the 23 keys
+-- the values of the keys, in the order of the table of keys
 pub record ConfigValues : Type 0 where
   pub width : ℕ
   pub height : ℕ
@@ -28,3 +34,59 @@ pub record ConfigValues : Type 0 where
   pub memory_limit : ℕ
   pub ancestor : List Letter
   pub event : List EventValue
+
+-- what a table says at its keys, with these events
+abbrev pub values_in : Members → List EventValue → ConfigValues
+values_in ms happening = record {
+  width = number_at (frame_in ms) code.Width ms;
+  height = number_at (frame_in ms) code.Height ms;
+  updates = number_at (frame_in ms) code.Updates ms;
+  seed = number_at (frame_in ms) code.Seed ms;
+  founder_cell = number_at (frame_in ms) code.FounderCell ms;
+  average_slices = number_at (frame_in ms) code.AverageSlices ms;
+  death = flag_at code.Death ms;
+  age_limit = number_at (frame_in ms) code.AgeLimit ms;
+  copy_error = number_at (frame_in ms) code.CopyError ms;
+  divide_insert = number_at (frame_in ms) code.DivideInsert ms;
+  divide_delete = number_at (frame_in ms) code.DivideDelete ms;
+  site_point = number_at (frame_in ms) code.SitePoint ms;
+  site_insert = number_at (frame_in ms) code.SiteInsert ms;
+  site_delete = number_at (frame_in ms) code.SiteDelete ms;
+  prefer_empty = flag_at code.PreferEmpty ms;
+  need_alloc = flag_at code.NeedAlloc ms;
+  executed_percent = number_at (frame_in ms) code.ExecutedPercent ms;
+  copied_percent = number_at (frame_in ms) code.CopiedPercent ms;
+  least_length = number_at (frame_in ms) code.LeastLength ms;
+  greatest_length = number_at (frame_in ms) code.GreatestLength ms;
+  memory_limit = number_at (frame_in ms) code.MemoryLimit ms;
+  ancestor = genome_at code.Ancestor ms;
+  event = happening;
+}
+
+-- the values of a configuration
+abbrev pub values_of : Config → ConfigValues
+values_of config = record {
+  width = config.width;
+  height = config.height;
+  updates = config.updates;
+  seed = config.seed;
+  founder_cell = config.founder_cell;
+  average_slices = config.average_slices;
+  death = config.death;
+  age_limit = config.age_limit;
+  copy_error = config.copy_error;
+  divide_insert = config.divide_insert;
+  divide_delete = config.divide_delete;
+  site_point = config.site_point;
+  site_insert = config.site_insert;
+  site_delete = config.site_delete;
+  prefer_empty = config.prefer_empty;
+  need_alloc = config.need_alloc;
+  executed_percent = config.executed_percent;
+  copied_percent = config.copied_percent;
+  least_length = config.least_length;
+  greatest_length = config.greatest_length;
+  memory_limit = config.memory_limit;
+  ancestor = letters config.ancestor;
+  event = event_values config.event;
+}

@@ -4,12 +4,15 @@ ghost use Rattle.genome.specs.Genome.{letters};
 ghost use Rattle.world_config.specs.Bounds.{IsWithin, frame_of, last_cell_of};
 ghost use Rattle.world_config.specs.Events.{AreEvents, event_values};
 
+use crate::event_tables::{event_tables, letters_of, number_value};
 use crate::events::{Events, copy_of};
+use crate::key::Key;
+use crate::numbers::Numbers;
 use crate::reading::config_in;
 use avida_port::Memory;
 use genome::Genome;
-use std::alloc::Global;
-use toml::Table;
+use std::alloc::{AllocError, Global};
+use toml::{Table, Value};
 
 /// The configuration of a run: a field for each key, whose type keeps the key's bounds.
 #[derive(Drop)]
@@ -55,16 +58,63 @@ pub struct Config {
     pub ghost least_length_bounds: { IsWithin 8 8192 least_length },
     pub ghost greatest_length_bounds: { IsWithin least_length 8192 greatest_length },
     pub ghost memory_limit_bounds: { IsWithin greatest_length 8192 memory_limit },
-    pub ghost ancestor_bounds: { IsWithin least_length greatest_length (length (letters ancestor)) },
+    pub ghost ancestor_bounds: { IsWithin least_length greatest_length
+        (length (letters ancestor)) },
     pub ghost event_bounds: { AreEvents (frame_of width height updates least_length greatest_length)
         (event_values event) },
 }
 
 impl Config {
     ghost use Rattle.std.specs.Prelude.{◌≤◌, IfOk};
-    ghost use Rattle.toml.specs.Data.{no_members};
-    ghost use Rattle.world_config.specs.Config.{config_in};
+    ghost use Rattle.toml.specs.Data.{Members, no_members};
+    ghost use Rattle.toml.specs.View.{view};
+    ghost use Rattle.world_config.specs.Lookup.{genome_at};
+    ghost use Rattle.world_config.specs.Config.{config_in, values_in};
+    ghost use Rattle.world_config.specs.Groups.{AreNumbers, numbers_frame, printed_at};
     ghost use Rattle.world_config.specs.Shown.{values_of};
+
+    /// The configuration of these numbers, with this ancestor and these events.
+    pub(crate) fn of_numbers(numbers: &Numbers, ancestor: Genome, event: Events) -> Config
+        requires ancestor_bounds { IsWithin numbers.now.lengths.least_length
+            numbers.now.lengths.greatest_length (length (letters ancestor)) }
+        requires event_bounds { AreEvents (numbers_frame numbers.now) (event_values event) }
+        ensures { (ms : Members) → AreNumbers ms numbers.now
+            → genome_at Key.Ancestor ms ≡ letters ancestor
+            → values_in ms (event_values event) ≡ values_of result }
+    {
+        let Numbers {
+            place,
+            life,
+            errors,
+            divide,
+            lengths,
+        } = *numbers;
+        Config {
+            width: place.width,
+            height: place.height,
+            updates: place.updates,
+            seed: place.seed,
+            founder_cell: place.founder_cell,
+            average_slices: life.average_slices,
+            death: life.death,
+            age_limit: life.age_limit,
+            copy_error: errors.copy_error,
+            divide_insert: errors.divide_insert,
+            divide_delete: errors.divide_delete,
+            site_point: errors.site_point,
+            site_insert: errors.site_insert,
+            site_delete: errors.site_delete,
+            prefer_empty: divide.prefer_empty,
+            need_alloc: divide.need_alloc,
+            executed_percent: divide.executed_percent,
+            copied_percent: divide.copied_percent,
+            least_length: lengths.least_length,
+            greatest_length: lengths.greatest_length,
+            memory_limit: lengths.memory_limit,
+            ancestor,
+            event,
+        }
+    }
 
     /// The configuration of a document without keys: each key has its default.
     pub fn plain(alloc: Global) -> Result<Config, Memory>
@@ -108,6 +158,37 @@ impl Config {
             memory_limit: self.memory_limit,
             ancestor,
             event,
+        })
+    }
+
+    /// What a document that is printed has at the key.
+    pub(crate) fn printed_at(&self, alloc: Global, key: Key) -> Result<Value, AllocError>
+        ensures { IfOk result (λ value. view value ≡ printed_at (values_of self.now) key) }
+    {
+        Ok(match key {
+            Key::Width => number_value(self.width),
+            Key::Height => number_value(self.height),
+            Key::Updates => number_value(self.updates),
+            Key::Seed => Value::from(self.seed as i64),
+            Key::FounderCell => number_value(self.founder_cell),
+            Key::AverageSlices => number_value(self.average_slices),
+            Key::Death => Value::from(self.death),
+            Key::AgeLimit => number_value(self.age_limit),
+            Key::CopyError => number_value(self.copy_error),
+            Key::DivideInsert => number_value(self.divide_insert),
+            Key::DivideDelete => number_value(self.divide_delete),
+            Key::SitePoint => number_value(self.site_point),
+            Key::SiteInsert => number_value(self.site_insert),
+            Key::SiteDelete => number_value(self.site_delete),
+            Key::PreferEmpty => Value::from(self.prefer_empty),
+            Key::NeedAlloc => Value::from(self.need_alloc),
+            Key::ExecutedPercent => number_value(self.executed_percent),
+            Key::CopiedPercent => number_value(self.copied_percent),
+            Key::LeastLength => number_value(self.least_length),
+            Key::GreatestLength => number_value(self.greatest_length),
+            Key::MemoryLimit => number_value(self.memory_limit),
+            Key::Ancestor => Value::from(letters_of(alloc, &self.ancestor)?),
+            Key::Event => Value::Array(event_tables(alloc, self.event.as_slice())?),
         })
     }
 }

@@ -79,7 +79,8 @@ pub(crate) struct Lengths {
 
 impl Place {
     ghost use Rattle.world_config.specs.Refusal.{first_refusal};
-    ghost use Rattle.world_config.specs.Groups.{ArePlace, place_keys};
+    ghost use Rattle.world_config.specs.KeyTable.{place_keys};
+    ghost use Rattle.world_config.specs.Groups.{ArePlace};
 
     #[tactic(auto, unfolding(crate::specs::Refusal::refusal_at, crate::specs::Lookup::number_at))]
     pub(crate) fn read(table: &Table) -> Result<Place, ConfigStop>
@@ -105,7 +106,8 @@ impl Place {
 
 impl Life {
     ghost use Rattle.world_config.specs.Refusal.{first_refusal};
-    ghost use Rattle.world_config.specs.Groups.{AreLife, life_keys};
+    ghost use Rattle.world_config.specs.KeyTable.{life_keys};
+    ghost use Rattle.world_config.specs.Groups.{AreLife};
 
     #[tactic(auto, unfolding(crate::specs::Refusal::refusal_at, crate::specs::Lookup::number_at, crate::specs::Lookup::flag_at))]
     pub(crate) fn read(table: &Table) -> Result<Life, ConfigStop>
@@ -124,7 +126,8 @@ impl Life {
 
 impl Errors {
     ghost use Rattle.world_config.specs.Refusal.{first_refusal};
-    ghost use Rattle.world_config.specs.Groups.{AreErrors, error_keys};
+    ghost use Rattle.world_config.specs.KeyTable.{error_keys};
+    ghost use Rattle.world_config.specs.Groups.{AreErrors};
 
     #[tactic(auto, unfolding(crate::specs::Refusal::refusal_at, crate::specs::Lookup::number_at))]
     pub(crate) fn read(table: &Table) -> Result<Errors, ConfigStop>
@@ -146,7 +149,8 @@ impl Errors {
 
 impl Divide {
     ghost use Rattle.world_config.specs.Refusal.{first_refusal};
-    ghost use Rattle.world_config.specs.Groups.{AreDivide, divide_keys};
+    ghost use Rattle.world_config.specs.KeyTable.{divide_keys};
+    ghost use Rattle.world_config.specs.Groups.{AreDivide};
 
     #[tactic(auto, unfolding(crate::specs::Refusal::refusal_at, crate::specs::Lookup::number_at, crate::specs::Lookup::flag_at))]
     pub(crate) fn read(table: &Table) -> Result<Divide, ConfigStop>
@@ -166,7 +170,8 @@ impl Divide {
 
 impl Lengths {
     ghost use Rattle.world_config.specs.Refusal.{first_refusal};
-    ghost use Rattle.world_config.specs.Groups.{AreLengths, length_keys};
+    ghost use Rattle.world_config.specs.KeyTable.{length_keys};
+    ghost use Rattle.world_config.specs.Groups.{AreLengths};
 
     #[tactic(auto, unfolding(crate::specs::Refusal::refusal_at, crate::specs::Lookup::number_at))]
     pub(crate) fn read(table: &Table) -> Result<Lengths, ConfigStop>

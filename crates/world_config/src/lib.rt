@@ -4,6 +4,7 @@
 mod config;
 mod event;
 mod event_forms;
+mod event_tables;
 mod events;
 mod groups;
 mod key;

@@ -4,8 +4,7 @@ ghost use Rattle.toml.specs.Data.{array, boolean, get_member, integer, no_items,
 ghost use Rattle.toml.specs.View.{items_view, table_view, view};
 ghost use Rattle.world_config.specs.KeyTable.{key_name, number, flag, genome, events};
 ghost use Rattle.world_config.specs.Bounds.{IsWithin};
-ghost use Rattle.world_config.specs.Groups.{value_or};
-ghost use Rattle.world_config.specs.Lookup.{flag_of, number_of};
+ghost use Rattle.world_config.specs.Lookup.{value_or};
 ghost use Rattle.world_config.specs.Refusal.{refusal_of, unless_within};
 
 use crate::key::Key;

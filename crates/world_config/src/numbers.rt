@@ -2,6 +2,7 @@
 ghost use Rattle.std.specs.Prelude.{◌≡◌, None, Some, IfOk, IfErr, OnOk};
 ghost use Rattle.toml.specs.View.{table_view};
 
+use crate::event_forms::Frame;
 use crate::groups::{Divide, Errors, Lengths, Life, Place};
 use crate::stop::ConfigStop;
 use toml::Table;
@@ -18,7 +19,9 @@ pub(crate) struct Numbers {
 
 impl Numbers {
     ghost use Rattle.world_config.specs.Refusal.{first_refusal};
-    ghost use Rattle.world_config.specs.Groups.{AreNumbers, number_keys};
+    ghost use Rattle.world_config.specs.KeyTable.{number_keys};
+    ghost use Rattle.world_config.specs.Groups.{AreNumbers, numbers_frame};
+    ghost use Rattle.world_config.specs.Members.{frame_value};
 
     pub(crate) fn read(table: &Table) -> Result<Numbers, ConfigStop>
         ensures value { IfOk result (AreNumbers (table_view table.now)) }
@@ -33,5 +36,17 @@ impl Numbers {
             divide: Divide::read(table)?,
             lengths: Lengths::read(table)?,
         })
+    }
+
+    /// The numbers that events keep to.
+    pub(crate) fn frame(&self) -> Frame
+        ensures { frame_value result ≡ numbers_frame self.now }
+    {
+        Frame {
+            last_cell: self.place.width * self.place.height - 1,
+            updates: self.place.updates,
+            least_length: self.lengths.least_length,
+            greatest_length: self.lengths.greatest_length,
+        }
     }
 }

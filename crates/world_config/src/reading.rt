@@ -1,5 +1,6 @@
 // Reading a document.
-ghost use Rattle.std.specs.Prelude.{◌≡◌, ◌≢◌, ◌≤◌, None, Some, Ok, Err, IfOk, IfErr, OnOk, length, pos, ℕ};
+ghost use Rattle.std.specs.Prelude.{◌≡◌, ◌≢◌, ◌≤◌, ℕ, None, Some, Ok, Err, IfOk, IfErr, OnOk};
+ghost use Rattle.std.specs.Prelude.{length, pos};
 ghost use Rattle.toml.specs.Data.{array, no_items, string};
 ghost use Rattle.toml.specs.View.{items_view, table_view};
 ghost use Rattle.genome.specs.Genome.{letters};
@@ -8,14 +9,13 @@ ghost use Rattle.world_config.specs.declared.key.Key.{Key};
 ghost use Rattle.world_config.specs.KeyTable.{default_ancestor, events, genome, keys};
 ghost use Rattle.world_config.specs.Bounds.{IsWithin};
 ghost use Rattle.world_config.specs.Config.{config_in, config_of, unless_refused, values_with};
-ghost use Rattle.world_config.specs.Lookup.{frame_in, genome_of_value, items_at};
+ghost use Rattle.world_config.specs.Lookup.{frame_in, items_at, letters_of_value, value_or};
 ghost use Rattle.world_config.specs.Refusal.{first_refusal, refusal_of, unless_genome};
 ghost use Rattle.world_config.specs.EventForms.{events_of};
-ghost use Rattle.world_config.specs.Groups.{value_or};
 ghost use Rattle.world_config.specs.Shown.{values_of};
 
 use crate::config::Config;
-use crate::event_forms::{Frame, events};
+use crate::event_forms::events;
 use crate::groups::Lengths;
 use crate::key::Key;
 use crate::key_text::KeyText;
@@ -48,7 +48,7 @@ fn genome_in(alloc: Global, text: &str) -> Result<Genome, ConfigStop>
 /// The ancestor, within the two lengths.
 fn ancestor_in(alloc: Global, table: &Table, lengths: &Lengths) -> Result<Genome, ConfigStop>
     ensures value { IfOk result (λ genome.
-        genome_of_value (value_or Key.Ancestor (string default_ancestor) (table_view table.now))
+        letters_of_value (value_or Key.Ancestor (string default_ancestor) (table_view table.now))
         ≡ letters genome) }
     ensures within { IfOk result (λ genome.
         IsWithin lengths.now.least_length lengths.now.greatest_length (length (letters genome))) }
@@ -70,7 +70,7 @@ fn ancestor_in(alloc: Global, table: &Table, lengths: &Lengths) -> Result<Genome
 }
 
 /// The members of the events, which are not too many.
-#[tactic(auto, using(crate::proofs::RefusalLemmas::count_of_view))]
+#[tactic(auto, using(crate::proofs::RefusalLemmas::item_count_of_view))]
 fn members_in(table: &Table) -> Result<&[Value], ConfigStop>
     ensures value { IfOk result (λ members.
         value_or Key.Event (array no_items) (table_view table.now) ≡ array
@@ -105,47 +105,10 @@ fn known_in(alloc: Global, table: &Table) -> Result<Config, ConfigStop>
         ≡ Err stop) }
 {
     let numbers = Numbers::read(table)?;
-    let Numbers {
-        place,
-        life,
-        errors,
-        divide,
-        lengths,
-    } = numbers;
-    let ancestor = ancestor_in(alloc, table, &lengths)?;
+    let ancestor = ancestor_in(alloc, table, &numbers.lengths)?;
     let members = members_in(table)?;
-    let frame = Frame {
-        last_cell: place.width * place.height - 1,
-        updates: place.updates,
-        least_length: lengths.least_length,
-        greatest_length: lengths.greatest_length,
-    };
-    let event = events(alloc, members, &frame)?;
-    Ok(Config {
-        width: place.width,
-        height: place.height,
-        updates: place.updates,
-        seed: place.seed,
-        founder_cell: place.founder_cell,
-        average_slices: life.average_slices,
-        death: life.death,
-        age_limit: life.age_limit,
-        copy_error: errors.copy_error,
-        divide_insert: errors.divide_insert,
-        divide_delete: errors.divide_delete,
-        site_point: errors.site_point,
-        site_insert: errors.site_insert,
-        site_delete: errors.site_delete,
-        prefer_empty: divide.prefer_empty,
-        need_alloc: divide.need_alloc,
-        executed_percent: divide.executed_percent,
-        copied_percent: divide.copied_percent,
-        least_length: lengths.least_length,
-        greatest_length: lengths.greatest_length,
-        memory_limit: lengths.memory_limit,
-        ancestor,
-        event,
-    })
+    let event = events(alloc, members, &numbers.frame())?;
+    Ok(Config::of_numbers(&numbers, ancestor, event))
 }
 
 /// The configuration of a table.

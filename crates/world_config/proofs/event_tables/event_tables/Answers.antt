@@ -2,7 +2,7 @@ use Rattle.std.proofs.Common.{◌∙◌, ap}
 use Rattle.toml.specs.Data.{table}
 use Rattle.toml.proofs.Views.{view-Table}
 use Rattle.world_config.proofs.TableLemmas.{items_view-more}
-use Rattle.world_config.proofs.printing.event_tables.Goals as goal
+use Rattle.world_config.proofs.event_tables.event_tables.Goals as goal
 
 pub loop-event-preserved : goal.loop-event-preserved
 loop-event-preserved c =

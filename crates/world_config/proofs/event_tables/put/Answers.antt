@@ -1,8 +1,8 @@
 use Rattle.std.proofs.Common.{◌∙◌, ap}
 use Rattle.toml.specs.View.{table_view, view, members_view}
-use Rattle.world_config.specs.Printing.{insert_member}
+use Rattle.world_config.specs.EventTables.{insert_member}
 use Rattle.world_config.proofs.TableLemmas.{members_view-insert_entry}
-use Rattle.world_config.proofs.printing.put.Goals as goal
+use Rattle.world_config.proofs.event_tables.put.Goals as goal
 
 pub returns : goal.returns
 returns c =

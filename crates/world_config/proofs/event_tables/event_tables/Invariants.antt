@@ -1,8 +1,8 @@
 use Rattle.std.proofs.Common.{◌≡◌, map, take}
 use Rattle.toml.specs.View.{items_view}
 use Rattle.world_config.specs.Events.{event_value}
-use Rattle.world_config.specs.Printing.{items_for}
-use Rattle.world_config.proofs.printing.event_tables.Given as goal
+use Rattle.world_config.specs.EventTables.{items_for}
+use Rattle.world_config.proofs.event_tables.event_tables.Given as goal
 
 abbrev pub invariant-loop-event : goal.invariant-loop-event
 invariant-loop-event l =
