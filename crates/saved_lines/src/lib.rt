@@ -3,6 +3,8 @@
 
 mod resident;
 mod state_head;
+mod writing;
 
 pub use resident::Resident;
 pub use state_head::StateHead;
+pub use writing::{write_count, write_head, write_resident};

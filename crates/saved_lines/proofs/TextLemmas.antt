@@ -1,0 +1,111 @@
+-- The words of a line, part by part.
+use Rattle.std.proofs.Common.{◌≡◌, ℕ, ◌<◌, ◌∙◌, arith, refl, sym, ap, length, List, [], ◌∷◌, ◌++◌, map, decimal, append_assoc, append-nil}
+use Rattle.instruction_set.specs.declared.letter.Letter.{Letter}
+use Rattle.instruction_set.specs.Letter.{byte_of}
+use Rattle.virtual_cpu.specs.declared.cpu_image.CpuImage.{CpuImage}
+use Rattle.std.specs.Prelude.{Result, Ok, Err, OnErr, OnOk}
+use Rattle.std.proofs.Math.Seq.{take-append_seam}
+use Rattle.log_lines.specs.Kept.{Keeps}
+use Rattle.log_lines.specs.LineText.{words_text}
+use Rattle.log_lines.proofs.KeptLemmas.{keeps_front}
+use Rattle.log_lines.proofs.TextLemmas.{words_text-append, words_text_more}
+use Rattle.saved_lines.specs.SavedFields.{signed, nops_text}
+use Rattle.saved_lines.specs.SavedText.{texts_row, texts_of, machine_row, machine_fields, machine_numbers}
+
+-- numbers, and a text
+pub organism_line : (numbers : List (List ℕ)) (text : List ℕ)
+    → words_text (numbers ++ text ∷ []) ≡ words_text numbers ++ 32 ∷ text
+organism_line numbers text = words_text-append numbers (text ∷ [])
+    ∙ ap (λ (l : List ℕ). words_text numbers ++ 32 ∷ l) (append-nil text)
+
+-- a word, and two lists of words
+pub stacks_text : (word : List ℕ) (first second : List (List ℕ))
+    → words_text (word ∷ (first ++ second)) ≡ (32 ∷ word) ++ (words_text first ++ words_text second)
+stacks_text word first second =
+    ap (λ (l : List ℕ). (32 ∷ word) ++ l) (words_text-append first second)
+
+-- registers, numbers, nops with stacks, and the four texts
+pub machine_line : (image : CpuImage)
+    → words_text (machine_row.texts (machine_fields image))
+    ≡ words_text (map signed.text image.registers)
+    ++ (words_text (map (λ (n : ℕ). decimal n) (machine_numbers image))
+    ++ (words_text (nops_text image.nops
+    ∷ (map signed.text image.first ++ map signed.text image.second))
+    ++ words_text (texts_row.texts (texts_of image))))
+machine_line image =
+    let registers = map signed.text image.registers in
+    let numbers = map (λ (n : ℕ). decimal n) (machine_numbers image) in
+    let nops = nops_text image.nops in
+    let first = map signed.text image.first in
+    let second = map signed.text image.second in
+    let texts = texts_row.texts (texts_of image) in
+    let stacks : words_text (nops ∷ (first ++ (second ++ texts)))
+    ≡ words_text (nops ∷ (first ++ second)) ++ words_text texts =
+    ap (λ (l : List (List ℕ)). words_text (nops ∷ l)) (sym (append_assoc first second texts))
+    ∙ words_text-append (nops ∷ (first ++ second)) texts in
+    words_text-append registers (numbers ++ (nops ∷ (first ++ (second ++ texts))))
+    ∙ ap (λ (l : List ℕ). words_text registers ++ l)
+    (words_text-append numbers (nops ∷ (first ++ (second ++ texts)))
+    ∙ ap (λ (l : List ℕ). words_text numbers ++ l) stacks)
+
+-- nops that there are
+pub nops_text-some : (nops : List Letter) → 0 < length nops → nops_text nops ≡ map byte_of nops
+nops_text-some [] some = absurd (omega (arith, some))
+nops_text-some (nop ∷ nops) some = refl
+
+pub ruleset fronts_stay = (keeps_front)
+
+pub ruleset nops_spell = (keeps_front, nops_text-some)
+
+pub ruleset words_grow = (keeps_front, words_text_more)
+
+pub ruleset lines_join = (keeps_front, organism_line, stacks_text, machine_line)
+
+-- ---- lines made step by step
+
+-- a mark, words, and a newline
+pub line_made : (old words : List ℕ) (mark : ℕ)
+    → ((old ++ mark ∷ []) ++ words) ++ 10 ∷ [] ≡ old ++ ((mark ∷ words) ++ 10 ∷ [])
+line_made old words mark =
+    append_assoc (old ++ mark ∷ []) words (10 ∷ [])
+    ∙ append_assoc old (mark ∷ []) (words ++ 10 ∷ [])
+
+-- numbers and a text
+pub organism_made : (old : List ℕ) (numbers : List (List ℕ)) (text : List ℕ)
+    → (((old ++ 79 ∷ []) ++ words_text numbers) ++ 32 ∷ text) ++ 10 ∷ []
+    ≡ old ++ ((79 ∷ words_text (numbers ++ text ∷ [])) ++ 10 ∷ [])
+organism_made old numbers text =
+    ap (λ (l : List ℕ). l ++ 10 ∷ [])
+    (append_assoc (old ++ 79 ∷ []) (words_text numbers) (32 ∷ text)
+    ∙ ap (λ (l : List ℕ). (old ++ 79 ∷ []) ++ l) (sym (organism_line numbers text)))
+    ∙ line_made old (words_text (numbers ++ text ∷ [])) 79
+
+-- a word and two lists of words
+pub stacks_made : (old word : List ℕ) (first second : List (List ℕ))
+    → ((old ++ 32 ∷ word) ++ words_text first) ++ words_text second
+    ≡ old ++ words_text (word ∷ (first ++ second))
+stacks_made old word first second =
+    append_assoc (old ++ 32 ∷ word) (words_text first) (words_text second)
+    ∙ append_assoc old (32 ∷ word) (words_text first ++ words_text second)
+    ∙ ap (λ (l : List ℕ). old ++ l) (sym (stacks_text word first second))
+
+-- four texts in turn
+pub four_texts : (old a b c d : List ℕ)
+    → (((old ++ a) ++ b) ++ c) ++ d ≡ old ++ (a ++ (b ++ (c ++ d)))
+four_texts old a b c d =
+    append_assoc ((old ++ a) ++ b) c d ∙ append_assoc (old ++ a) b (c ++ d)
+    ∙ append_assoc old a (b ++ (c ++ d))
+
+-- what grew begins as it did
+pub keeps_more : (old more : List ℕ) → Keeps old (old ++ more)
+keeps_more old more = record { front = take-append_seam old more }
+
+-- what follows on success
+pub OnOk_then : {A E : Type 0} (r : Result A E) {P Q : Type 0} → OnOk r P → (P → Q) → OnOk r Q
+OnOk_then (Ok a) p f = f p
+OnOk_then (Err e) p f = tt
+
+-- what holds anyway holds on failure
+pub OnErr_of : {A E : Type 0} (r : Result A E) {P : Type 0} → P → OnErr r P
+OnErr_of (Ok a) p = tt
+OnErr_of (Err e) p = p

@@ -1,0 +1,16 @@
+use Rattle.std.proofs.Common.{◌≡◌, ◌∙◌, ◌∷◌, ◌++◌, [], ℕ, ℤ, List, map, ap}
+use Rattle.log_lines.specs.LineText.{words_text}
+use Rattle.saved_lines.specs.SavedFields.{nops_text, signed}
+use Rattle.saved_lines.proofs.TextLemmas.{OnOk_then, stacks_made}
+use Rattle.saved_lines.proofs.writing.nops_and_stacks.Goals as goal
+
+pub returns-clause-ok : goal.returns-clause-ok
+returns-clause-ok c =
+    let old = c.args.out.now.items in
+    let image = c.args.image.now in
+    let first = map signed.text image.first in
+    let second = map signed.text image.second in
+    let stacks = stacks_made old (nops_text image.nops) first second in
+    OnOk_then c.integers-2.result c.integers-2.ensures.ok (λ last. last
+    ∙ ap (λ (l : List ℕ). l ++ words_text second) (c.in_ok-integers.ensures.ok
+    ∙ ap (λ (l : List ℕ). l ++ words_text first) c.in_ok-template.ensures.ok) ∙ stacks)

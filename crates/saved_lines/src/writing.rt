@@ -1,0 +1,340 @@
+// Writes the lines of a saved world, each into the bytes that it is given.
+ghost use Rattle.std.specs.Prelude.{◌≡◌, ◌∷◌, ◌++◌, [], map, take, decimal, OnOk, OnErr};
+ghost use Rattle.std.specs.Fmt.{signed_decimal};
+ghost use Rattle.instruction_set.specs.Letter.{byte_of};
+ghost use Rattle.log_lines.specs.Kept.{Keeps};
+ghost use Rattle.log_lines.specs.LineText.{words_text};
+ghost use Rattle.saved_lines.specs.SavedFields.{digit_of, marks, nops_text, signed};
+ghost use Rattle.saved_lines.specs.SavedText.{count_text, flag_number, head_numbers, head_text, machine_numbers, machine_text, organism_numbers, organism_text, resident_text, texts_of, texts_row};
+ghost use Rattle.saved_lines.specs.SavedValues.{head_values, organism_values};
+
+use crate::resident::Resident;
+use crate::state_head::StateHead;
+use avida_port::Memory;
+use instruction_set::Letter;
+use label_search::Template;
+use log_lines::write_number;
+use virtual_cpu::CpuImage;
+
+/// 1 for true, and 0 for false.
+fn flag_number(is_set: bool) -> u64
+    ensures { result ≡ flag_number is_set }
+{
+    if is_set { 1 } else { 0 }
+}
+
+/// Numbers, each behind a space.
+#[tactic(auto, using(crate::proofs::TextLemmas::words_grow))]
+fn numbers(out: &mut Vec<u8>, numbers: &[u64]) -> Result<(), Memory>
+    ensures ok { OnOk result (out.new.items
+        ≡ out.old.items ++ words_text (map (λ n. decimal n) numbers.now)) }
+    ensures err { OnErr result (Keeps out.old.items out.new.items) }
+{
+    for number in numbers {
+        write_number(b' ', *number, out)?;
+    }
+    Ok(())
+}
+
+/// A signed number, behind a space.
+#[tactic(auto, using(crate::proofs::TextLemmas::fronts_stay))]
+fn integer(out: &mut Vec<u8>, number: i32) -> Result<(), Memory>
+    ensures ok { OnOk result (out.new.items ≡ out.old.items ++ 32 ∷ signed_decimal number) }
+    ensures err { OnErr result (Keeps out.old.items out.new.items) }
+{
+    let mut digits = itoa::Buffer::new();
+    out.push(b' ')?;
+    out.extend_from_slice(digits.format(number).as_bytes())?;
+    Ok(())
+}
+
+/// Signed numbers, each behind a space.
+#[tactic(auto, using(crate::proofs::TextLemmas::words_grow))]
+fn integers(out: &mut Vec<u8>, numbers: &[i32]) -> Result<(), Memory>
+    ensures ok { OnOk result (out.new.items
+        ≡ out.old.items ++ words_text (map signed.text numbers.now)) }
+    ensures err { OnErr result (Keeps out.old.items out.new.items) }
+{
+    for number in numbers {
+        integer(out, *number)?;
+    }
+    Ok(())
+}
+
+/// The bytes of letters.
+fn spelled(out: &mut Vec<u8>, letters: &[Letter]) -> Result<(), Memory>
+    ensures ok { OnOk result (out.new.items ≡ out.old.items ++ map byte_of letters.now) }
+    ensures err { OnErr result (out.new.items ≡ out.old.items) }
+{
+    out.reserve(letters.len())?;
+    for letter in letters {
+        out.push_reserved(letter.byte());
+    }
+    Ok(())
+}
+
+/// Letters, behind a space.
+fn text(out: &mut Vec<u8>, letters: &[Letter]) -> Result<(), Memory>
+    ensures ok { OnOk result (out.new.items ≡ out.old.items ++ 32 ∷ map byte_of letters.now) }
+    ensures err { OnErr result (Keeps out.old.items out.new.items) }
+{
+    out.push(b' ')?;
+    spelled(out, letters)
+}
+
+/// The digit of a place.
+fn digit(is_marked: bool) -> u8
+    ensures { result ≡ digit_of is_marked }
+{
+    if is_marked { b'1' } else { b'0' }
+}
+
+/// A digit for each place.
+fn digits(out: &mut Vec<u8>, places: &[bool]) -> Result<(), Memory>
+    ensures ok { OnOk result (out.new.items ≡ out.old.items ++ map digit_of places.now) }
+    ensures err { OnErr result (out.new.items ≡ out.old.items) }
+{
+    out.reserve(places.len())?;
+    for place in places {
+        out.push_reserved(digit(*place));
+    }
+    Ok(())
+}
+
+/// A digit for each place, behind a space.
+fn places(out: &mut Vec<u8>, places: &[bool]) -> Result<(), Memory>
+    ensures ok { OnOk result (out.new.items ≡ out.old.items ++ 32 ∷ marks.text places.now) }
+    ensures err { OnErr result (Keeps out.old.items out.new.items) }
+{
+    out.push(b' ')?;
+    digits(out, places)
+}
+
+/// The bytes of nops.
+fn nop_letters(out: &mut Vec<u8>, nops: &Template) -> Result<(), Memory>
+    ensures ok { OnOk result (out.new.items ≡ out.old.items ++ map byte_of nops.now) }
+    ensures err { OnErr result (Keeps out.old.items out.new.items) }
+{
+    for at in 0..nops.len() {
+        if let Some(nop) = nops.get(at) {
+            out.push(nop.byte())?;
+        }
+    }
+    Ok(())
+}
+
+/// Nops or a dash for none, behind a space.
+#[tactic(auto, using(crate::proofs::TextLemmas::nops_spell))]
+fn template(out: &mut Vec<u8>, nops: &Template) -> Result<(), Memory>
+    ensures ok { OnOk result (out.new.items ≡ out.old.items ++ 32 ∷ nops_text nops.now) }
+    ensures err { OnErr result (Keeps out.old.items out.new.items) }
+{
+    out.push(b' ')?;
+    if nops.len() == 0 {
+        out.push(b'-')?;
+        return Ok(());
+    }
+    nop_letters(out, nops)
+}
+
+/// The numbers of the first line.
+fn head_numbers(head: &StateHead) -> [u64; 22]
+    ensures { result ≡ head_numbers (head_values head.now) }
+{
+    [
+        1,
+        u64::from(head.width),
+        u64::from(head.height),
+        u64::from(head.update),
+        head.next_id,
+        head.seed,
+        u64::from(head.average_slices),
+        flag_number(head.death),
+        u64::from(head.age_limit),
+        u64::from(head.rates.copy),
+        u64::from(head.rates.insert),
+        u64::from(head.rates.delete),
+        u64::from(head.rates.site_point),
+        u64::from(head.rates.site_insert),
+        u64::from(head.rates.site_delete),
+        flag_number(head.prefer_empty),
+        flag_number(head.need_alloc),
+        u64::from(head.executed_percent),
+        u64::from(head.copied_percent),
+        u64::from(head.least_length),
+        u64::from(head.greatest_length),
+        u64::from(head.memory_limit),
+    ]
+}
+
+/// The numbers of an organism's line.
+fn organism_numbers(resident: &Resident) -> [u64; 10]
+    ensures { result ≡ organism_numbers (organism_values resident.now) }
+{
+    let image = &resident.image;
+    let inputs = image.inputs.low();
+    [
+        u64::from(resident.cell),
+        resident.id,
+        image.merit,
+        u64::from(image.credited.number()),
+        image.age,
+        image.read,
+        u64::from(image.gestation.number()),
+        u64::from(inputs[0]),
+        u64::from(inputs[1]),
+        u64::from(inputs[2]),
+    ]
+}
+
+/// The numbers of a machine's line.
+fn machine_numbers(image: &CpuImage) -> [u64; 6]
+    ensures { result ≡ machine_numbers image.now }
+{
+    [
+        u64::from(image.active),
+        u64::from(image.heads[0]),
+        u64::from(image.heads[1]),
+        u64::from(image.heads[2]),
+        u64::from(image.heads[3]),
+        flag_number(image.pending),
+    ]
+}
+
+/// The line of a head.
+#[tactic(auto, using(crate::proofs::TextLemmas::fronts_stay))]
+fn head(head: &StateHead, out: &mut Vec<u8>) -> Result<(), Memory>
+    ensures ok { OnOk result (out.new.items
+        ≡ out.old.items ++ head_text (head_values head.now)) }
+    ensures err { OnErr result (Keeps out.old.items out.new.items) }
+{
+    out.push(b'S')?;
+    numbers(out, &head_numbers(head))?;
+    out.push(b'\n')?;
+    Ok(())
+}
+
+/// The line of an organism.
+#[tactic(auto, using(crate::proofs::TextLemmas::fronts_stay))]
+fn organism(resident: &Resident, out: &mut Vec<u8>) -> Result<(), Memory>
+    ensures ok { OnOk result (out.new.items
+        ≡ out.old.items ++ organism_text (organism_values resident.now)) }
+    ensures err { OnErr result (Keeps out.old.items out.new.items) }
+{
+    out.push(b'O')?;
+    numbers(out, &organism_numbers(resident))?;
+    text(out, resident.image.genome.letters())?;
+    out.push(b'\n')?;
+    Ok(())
+}
+
+/// The four texts of a machine's line.
+#[tactic(auto, using(crate::proofs::TextLemmas::fronts_stay))]
+fn texts(image: &CpuImage, out: &mut Vec<u8>) -> Result<(), Memory>
+    ensures ok { OnOk result (out.new.items
+        ≡ out.old.items ++ words_text (texts_row.texts (texts_of image.now))) }
+    ensures err { OnErr result (Keeps out.old.items out.new.items) }
+{
+    text(out, image.memory.as_slice())?;
+    text(out, image.clean.as_slice())?;
+    places(out, image.executed.as_slice())?;
+    places(out, image.copied.as_slice())
+}
+
+/// The nops read last and the stacks of a machine's line.
+#[tactic(auto, using(crate::proofs::TextLemmas::lines_join))]
+fn nops_and_stacks(image: &CpuImage, out: &mut Vec<u8>) -> Result<(), Memory>
+    ensures ok { OnOk result (out.new.items
+        ≡ out.old.items ++ words_text (nops_text image.now.nops
+        ∷ map signed.text image.now.first ++ map signed.text image.now.second)) }
+    ensures err { OnErr result (Keeps out.old.items out.new.items) }
+{
+    template(out, &image.nops)?;
+    integers(out, &image.first)?;
+    integers(out, &image.second)
+}
+
+/// The line of a machine.
+#[tactic(auto, using(crate::proofs::TextLemmas::fronts_stay))]
+fn machine(image: &CpuImage, out: &mut Vec<u8>) -> Result<(), Memory>
+    ensures ok { OnOk result (out.new.items ≡ out.old.items ++ machine_text image.now) }
+    ensures err { OnErr result (Keeps out.old.items out.new.items) }
+{
+    out.push(b'M')?;
+    integers(out, &image.registers)?;
+    numbers(out, &machine_numbers(image))?;
+    nops_and_stacks(image, out)?;
+    texts(image, out)?;
+    out.push(b'\n')?;
+    Ok(())
+}
+
+#[tactic(auto, using(crate::proofs::TextLemmas::fronts_stay))]
+fn resident(resident: &Resident, out: &mut Vec<u8>) -> Result<(), Memory>
+    ensures ok { OnOk result (out.new.items
+        ≡ out.old.items ++ resident_text (organism_values resident.now) resident.now.image.cpu) }
+    ensures err { OnErr result (Keeps out.old.items out.new.items) }
+{
+    organism(resident, out)?;
+    machine(&resident.image.cpu, out)
+}
+
+#[tactic(auto, using(crate::proofs::TextLemmas::fronts_stay))]
+fn count(organisms: u64, out: &mut Vec<u8>) -> Result<(), Memory>
+    ensures ok { OnOk result (out.new.items ≡ out.old.items ++ count_text organisms) }
+    ensures err { OnErr result (Keeps out.old.items out.new.items) }
+{
+    out.push(b'Z')?;
+    write_number(b' ', organisms, out)?;
+    out.push(b'\n')?;
+    Ok(())
+}
+
+/// Takes back what an unfinished line has left behind a place.
+fn whole_or_nothing(
+    written: Result<(), Memory>,
+    start: usize,
+    out: &mut Vec<u8>,
+) -> Result<(), Memory>
+    ensures same { result ≡ written }
+    ensures ok { OnOk written (out.new.items ≡ out.old.items) }
+    ensures err { OnErr written (out.new.items ≡ take start out.old.items) }
+{
+    if written.is_err() {
+        out.truncate(start);
+    }
+    written
+}
+
+/// Appends the first line of a saved world. When memory runs out `out` stays as it was.
+pub fn write_head(state: &StateHead, out: &mut Vec<u8>) -> Result<(), Memory>
+    ensures ok { OnOk result (out.new.items
+        ≡ out.old.items ++ head_text (head_values state.now)) }
+    ensures err { OnErr result (out.new.items ≡ out.old.items) }
+{
+    let start = out.len();
+    let written = head(state, out);
+    whole_or_nothing(written, start, out)
+}
+
+/// Appends the two lines of an organism. When memory runs out `out` stays as it was.
+pub fn write_resident(who: &Resident, out: &mut Vec<u8>) -> Result<(), Memory>
+    ensures ok { OnOk result (out.new.items
+        ≡ out.old.items ++ resident_text (organism_values who.now) who.now.image.cpu) }
+    ensures err { OnErr result (out.new.items ≡ out.old.items) }
+{
+    let start = out.len();
+    let written = resident(who, out);
+    whole_or_nothing(written, start, out)
+}
+
+/// Appends the last line of a saved world of so many organisms. When memory runs out `out` stays as
+/// it was.
+pub fn write_count(organisms: u64, out: &mut Vec<u8>) -> Result<(), Memory>
+    ensures ok { OnOk result (out.new.items ≡ out.old.items ++ count_text organisms) }
+    ensures err { OnErr result (out.new.items ≡ out.old.items) }
+{
+    let start = out.len();
+    let written = count(organisms, out);
+    whole_or_nothing(written, start, out)
+}
