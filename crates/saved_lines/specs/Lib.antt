@@ -5,3 +5,5 @@ pub mod SavedRows
 pub mod SavedValues
 pub mod SavedText
 pub mod SavedReading
+pub mod SavedLines
+pub mod SavedForms

@@ -58,11 +58,14 @@ abbrev pub are_nops : List Letter → Bool
 are_nops letters =
     nat_lt 0 (length letters) && nat_le (length letters) 10 && list_all is_nop letters
 
--- the nops that a word spells
+-- from one to ten nops that a word spells
+abbrev pub some_nops : List ℕ → Option (List Letter)
+some_nops word =
+    option_and_then (λ letters. given (are_nops letters) letters) (each letter_of_byte word)
+
+-- the nops that a word spells, or a dash for none
 abbrev pub read_nops : List ℕ → Option (List Letter)
-read_nops word =
-    if bytes_eq word (45 ∷ []) then Some []
-    else option_and_then (λ letters. given (are_nops letters) letters) (each letter_of_byte word)
+read_nops word = if bytes_eq word (45 ∷ []) then Some [] else some_nops word
 
 -- at most ten nops
 abbrev pub nops : Field (List Letter)

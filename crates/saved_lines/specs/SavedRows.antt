@@ -4,6 +4,7 @@ use Rattle.std.specs.List.{AllByRecursion}
 use Rattle.numerals.specs.Numeral.{number_of}
 use Rattle.log_lines.specs.Fields.{Field}
 use Rattle.log_lines.specs.Rows.{Row}
+use Rattle.saved_lines.specs.declared.ranges.Range.{Range}
 
 -- their texts, what is read of the front of some words, with the words behind it, and which values
 -- have such words
@@ -33,11 +34,6 @@ several count f =
       read = λ words. read_several f.read count words;
       Fits = λ items. (length items ≡ count) × AllByRecursion f.Fits items;
     }
-
--- the least and the greatest of some numbers
-pub record Range : Type 0 where
-  pub least : ℕ
-  pub greatest : ℕ
 
 -- from the least to the greatest
 abbrev pub from_to : ℕ → ℕ → Range

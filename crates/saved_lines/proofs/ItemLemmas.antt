@@ -1,0 +1,139 @@
+-- Items that are read word by word.
+use Rattle.std.proofs.Common.{◌≡◌, ℕ, suc, ◌+◌, ◌-◌, ◌<◌, ◌≤◌, List, [], ◌∷◌, ◌++◌, length, get_or, take, drop, set, Option, Some, None, refl, sym, ap, ◌∙◌, arith, append_assoc, append-nil, drop-cons, add-one, length-set}
+use Rattle.std.specs.Prelude.{option_map, option_and_then}
+use Rattle.std.proofs.lemmas.List.{drop_all, take_more, take-set-le, get_or-set_same, take_all}
+use Rattle.numerals.specs.Numeral.{number_of}
+use Rattle.saved_lines.specs.declared.ranges.Range.{Range}
+use Rattle.saved_lines.specs.SavedReading.{head_line}
+use Rattle.saved_lines.specs.SavedRows.{AreWithin, if_last, with_item, read_several, read_within}
+use Rattle.saved_lines.proofs.RangeLemmas.{read_are_within}
+
+-- what is read behind some items
+abbrev pub behind :
+    {A : Type 0} → List A → Option (List A × List (List ℕ)) → Option (List A × List (List ℕ))
+behind front found = option_map (λ p. (front ++ p.0, p.1)) found
+
+-- one item more was read
+behind_item : {A : Type 0} (front : List A) (item : A) (found : Option (List A × List (List ℕ)))
+    → behind front (with_item found item) ≡ behind (front ++ item ∷ []) found
+behind_item front item None = refl
+behind_item {A = A} front item (Some p) =
+    ap (λ (l : List A). let q : List A × List (List ℕ) = (l, p.1) in Some q)
+    (sym (append_assoc front (item ∷ []) p.0))
+
+-- nothing was read yet
+pub behind_none : {A : Type 0} (found : Option (List A × List (List ℕ))) → behind [] found ≡ found
+behind_none None = refl
+behind_none (Some p) = refl
+
+-- the front of a list, an item of which was set
+pub front_more : {A : Type 0} (items : List A) (k : ℕ) (item : A) → k < length items
+    → take (k + 1) (set items k item) ≡ take k items ++ item ∷ []
+front_more {A = A} items k item low =
+    let within : k < length (set items k item) = omega (arith, low, length-set items k item) in
+    take_more (set items k item) k item within
+    ∙ ap (λ (l : List A). l ++ get_or (set items k item) k item ∷ [])
+    (take-set-le k items k item (omega arith))
+    ∙ ap (λ (a : A). take k items ++ a ∷ []) (get_or-set_same items k item item low)
+
+-- ---- numbers within ranges
+
+-- the next number is read
+within_more : (front : List ℕ) (range : Range) (ranges : List Range) (word : List ℕ)
+    (words : List (List ℕ)) (n : ℕ) → number_of range.least range.greatest word ≡ Some n
+    → behind front (read_within (range ∷ ranges) (word ∷ words))
+    ≡ behind (front ++ n ∷ []) (read_within ranges words)
+within_more front range ranges word words n is =
+    ap (λ (o : Option ℕ). behind front (option_and_then (with_item (read_within ranges words)) o))
+    is ∙ behind_item front n (read_within ranges words)
+
+-- the next word is no such number
+within_fails : (front : List ℕ) (range : Range) (ranges : List Range) (word : List ℕ)
+    (words : List (List ℕ)) → number_of range.least range.greatest word ≡ None
+    → behind front (read_within (range ∷ ranges) (word ∷ words)) ≡ None
+within_fails front range ranges word words is =
+    ap (λ (o : Option ℕ). behind front (option_and_then (with_item (read_within ranges words)) o))
+    is
+
+module _ (ranges : List Range) (front : List ℕ) (k : ℕ) (any : Range) (low : k < length ranges)
+  where
+    -- the range whose turn it is
+    next_range : drop k ranges ≡ get_or ranges k any ∷ drop (k + 1) ranges
+    next_range = drop-cons ranges k any low
+        ∙ ap (λ (n : ℕ). get_or ranges k any ∷ drop n ranges) (sym (add-one k))
+
+    -- the number at a place is read
+    pub number_on : (word : List ℕ) (words : List (List ℕ)) (n : ℕ)
+        → number_of (get_or ranges k any).least (get_or ranges k any).greatest word ≡ Some n
+        → behind front (read_within (drop k ranges) (word ∷ words))
+        ≡ behind (front ++ n ∷ []) (read_within (drop (k + 1) ranges) words)
+    number_on word words n is =
+        ap (λ (l : List Range). behind front (read_within l (word ∷ words))) next_range
+        ∙ within_more front (get_or ranges k any) (drop (k + 1) ranges) word words n is
+
+    -- the word at a place is no such number
+    pub number_fails : (word : List ℕ) (words : List (List ℕ))
+        → number_of (get_or ranges k any).least (get_or ranges k any).greatest word ≡ None
+        → behind front (read_within (drop k ranges) (word ∷ words)) ≡ None
+    number_fails word words is =
+        ap (λ (l : List Range). behind front (read_within l (word ∷ words))) next_range
+        ∙ within_fails front (get_or ranges k any) (drop (k + 1) ranges) word words is
+
+    -- no word is left
+    pub number_ends : behind front (read_within (drop k ranges) []) ≡ None
+    number_ends = ap (λ (l : List Range). behind front (read_within l [])) next_range
+
+-- ---- so many items of one field
+
+module _ {A : Type 0} (read : List ℕ → Option A) (front : List A) (k count : ℕ) (low : k < count)
+  where
+    -- one item fewer is to come
+    one_less : count - k ≡ suc (count - (k + 1))
+    one_less = omega (arith, low)
+
+    -- the next item is read
+    pub item_on : (word : List ℕ) (words : List (List ℕ)) (item : A) → read word ≡ Some item
+        → behind front (read_several read (count - k) (word ∷ words))
+        ≡ behind (front ++ item ∷ []) (read_several read (count - (k + 1)) words)
+    item_on word words item is =
+        ap (λ (n : ℕ). behind front (read_several read n (word ∷ words))) one_less
+        ∙ ap (λ (o : Option A). behind front
+        (option_and_then (with_item (read_several read (count - (k + 1)) words)) o)) is
+        ∙ behind_item front item (read_several read (count - (k + 1)) words)
+
+    -- the next word is no such item
+    pub item_fails : (word : List ℕ) (words : List (List ℕ)) → read word ≡ None
+        → behind front (read_several read (count - k) (word ∷ words)) ≡ None
+    item_fails word words is =
+        ap (λ (n : ℕ). behind front (read_several read n (word ∷ words))) one_less
+        ∙ ap (λ (o : Option A). behind front
+        (option_and_then (with_item (read_several read (count - (k + 1)) words)) o)) is
+
+    -- no word is left
+    pub item_ends : behind front (read_several read (count - k) []) ≡ None
+    item_ends = ap (λ (n : ℕ). behind front (read_several read n [])) one_less
+
+-- ---- the end
+
+-- all numbers were read, so each is within its range
+pub all_within : (ranges : List Range) (ns : List ℕ) (k : ℕ) (words left : List (List ℕ))
+    → length ranges ≤ k → length ns ≤ k
+    → behind (take k ns) (read_within (drop k ranges) left) ≡ read_within ranges words
+    → AreWithin ranges ns
+all_within ranges ns k words left enough long is =
+    let none : drop k ranges ≡ [] = drop_all k ranges enough in
+    let whole : take k ns ++ [] ≡ ns = append-nil (take k ns) ∙ take_all k ns long in
+    let end : Some (take k ns ++ [], left) ≡ read_within ranges words =
+    ap (λ (l : List Range). behind (take k ns) (read_within l left)) (sym none) ∙ is in
+    let same : Some (ns, left) ≡ Some (take k ns ++ [], left) =
+    ap (λ (l : List ℕ). let p : List ℕ × List (List ℕ) = (l, left) in Some p) (sym whole) in
+    read_are_within ranges words left ns (sym (same ∙ end))
+
+-- words are left behind the numbers of a head
+pub more_left : (found : Option (List ℕ × List (List ℕ))) (ns : List ℕ) (words : List (List ℕ))
+    → Some (ns, words) ≡ found → 0 < length words
+    → None ≡ option_and_then head_line (option_and_then if_last found)
+more_left found ns [] is some = absurd (omega (arith, some))
+more_left found ns (word ∷ words) is some =
+    ap (λ (o : Option (List ℕ × List (List ℕ))). option_and_then head_line
+    (option_and_then if_last o)) is

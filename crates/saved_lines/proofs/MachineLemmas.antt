@@ -1,0 +1,91 @@
+-- A machine's line that is read field by field.
+use Rattle.std.proofs.Common.{◌≡◌, ℕ, ℤ, Bool, List, [], ◌∷◌, Option, Some, None, refl, sym, ap, ◌∙◌}
+use Rattle.std.specs.Prelude.{option_and_then, option_map}
+use Rattle.std.proofs.lemmas.Option.{some_pair_parts}
+use Rattle.instruction_set.specs.declared.letter.Letter.{Letter}
+use Rattle.log_lines.specs.Fields.{Field}
+use Rattle.log_lines.specs.Rows.{Row, ◌◂◌}
+use Rattle.log_lines.specs.Words.{read_first}
+use Rattle.saved_lines.specs.SavedFields.{signed, nops}
+use Rattle.saved_lines.specs.SavedRows.{Front, read_several, read_within, several, within, ◌◁◌}
+use Rattle.saved_lines.specs.SavedText.{machine_ranges, machine_row, texts_row}
+
+-- the words in front are read
+front_on : {A B : Type 0} (f : Front A) (r : Row B) (words left : List (List ℕ)) (a : A)
+    → Some (a, left) ≡ f.read words
+    → option_map (λ b. (a, b)) (r.read left) ≡ (f ◁ r).read words
+front_on {A = A} f r words left a is =
+    ap (λ (o : Option (A × List (List ℕ))). option_and_then
+    (λ found. option_map (λ b. (found.0, b)) (r.read found.1)) o) is
+
+-- the first word is read
+field_on : {A B : Type 0} (f : Field A) (r : Row B) (words left : List (List ℕ)) (a : A)
+    → Some (a, left) ≡ read_first f.read words
+    → option_map (λ b. (a, b)) (r.read left) ≡ (f ◂ r).read words
+field_on f r [] left a is = absurd cc
+field_on f r (word ∷ words) left a is = one_word f r (f.read word) words left a is
+  where
+    -- by what the word spells
+    one_word : {A B : Type 0} (f : Field A) (r : Row B) (o : Option A) (words left : List (List ℕ))
+        (a : A)
+        → ◌≡◌ {A = Option (A × List (List ℕ))} (Some (a, left)) (option_map (λ x. (x, words)) o)
+        → ◌≡◌ {A = Option (A × B)} (option_map (λ b. (a, b)) (r.read left))
+        (option_and_then (λ x. option_map (λ b. (x, b)) (r.read words)) o)
+    one_word f r None words left a is = absurd cc
+    one_word {A = A} {B = B} f r (Some x) words left a is =
+        let parts = some_pair_parts a x left words is in
+        ap (λ (y : A). option_map (λ (b : B). let p : A × B = (y, b) in p) (r.read left)) parts.0
+        ∙ ap (λ (ws : List (List ℕ)). option_map (λ (b : B). let p : A × B = (x, b) in p)
+        (r.read ws)) parts.1
+
+-- the texts of a machine
+abbrev pub Texts : Type 0
+Texts = List Letter × (List Letter × (List Bool × List Bool))
+
+-- the second stack and the texts
+abbrev pub Behind : Type 0
+Behind = List ℤ × Texts
+
+module _ (w0 w1 w2 w3 w4 : List (List ℕ)) (registers : List ℤ) (numbers : List ℕ)
+    (ns : List Letter) (first : List ℤ)
+    (a : Some (registers, w1) ≡ read_several signed.read 3 w0)
+    (b : Some (numbers, w2) ≡ read_within machine_ranges w1)
+    (c : Some (ns, w3) ≡ read_first nops.read w2)
+    (d : Some (first, w4) ≡ read_several signed.read 10 w3) where
+  -- what is read of a line whose first fields are these
+  abbrev pub machine_with : Option Behind
+      → Option (List ℤ × (List ℕ × (List Letter × (List ℤ × Behind))))
+  machine_with o =
+      option_map (λ x. (registers, x)) (option_map (λ x. (numbers, x))
+      (option_map (λ x. (ns, x)) (option_map (λ x. (first, x)) o)))
+
+  -- the line as its first fields leave it
+  pub machine_begins : machine_with ((several 10 signed ◁ texts_row).read w4) ≡ machine_row.read w0
+  machine_begins =
+      let stacks = several 10 signed ◁ texts_row in
+      let three = several 10 signed ◁ stacks in
+      let two = nops ◂ three in
+      let one = within machine_ranges ◁ two in
+      ap (λ (o : Option (List ℤ × Behind)). option_map (λ x. (registers, x))
+      (option_map (λ x. (numbers, x)) (option_map (λ x. (ns, x)) o)))
+      (front_on (several 10 signed) stacks w3 w4 first d)
+      ∙ ap (λ (o : Option (List Letter × (List ℤ × Behind))). option_map (λ x. (registers, x))
+      (option_map (λ x. (numbers, x)) o)) (field_on nops three w2 w3 ns c)
+      ∙ ap (λ (o : Option (List ℕ × (List Letter × (List ℤ × Behind)))).
+      option_map (λ x. (registers, x)) o) (front_on (within machine_ranges) two w1 w2 numbers b)
+      ∙ front_on (several 3 signed) one w0 w1 registers a
+
+  -- the second stack is not read
+  pub no_second : None ≡ read_several signed.read 10 w4 → None ≡ machine_row.read w0
+  no_second is =
+      ap (λ (o : Option (List ℤ × List (List ℕ))). machine_with (option_and_then
+      (λ found. option_map (λ x. (found.0, x)) (texts_row.read found.1)) o)) is
+      ∙ machine_begins
+
+  -- the second stack and the texts are read, or the texts are not
+  pub machine_read : (w5 : List (List ℕ)) (second : List ℤ) (texts : Option Texts)
+      → Some (second, w5) ≡ read_several signed.read 10 w4 → texts ≡ texts_row.read w5
+      → machine_with (option_map (λ x. (second, x)) texts) ≡ machine_row.read w0
+  machine_read w5 second texts e f =
+      ap (λ (o : Option Texts). machine_with (option_map (λ x. (second, x)) o)) f
+      ∙ ap machine_with (front_on (several 10 signed) texts_row w4 w5 second e) ∙ machine_begins

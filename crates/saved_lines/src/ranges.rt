@@ -1,0 +1,130 @@
+// The ranges of the numbers in a line.
+use genome::{GREATEST_LENGTH, LEAST_LENGTH};
+
+/// The least and the greatest of some numbers.
+#[derive(Clone, Copy)]
+pub struct Range {
+    pub least: u64,
+    pub greatest: u64,
+}
+
+/// A number below 2^32.
+const ANY_SMALL: Range = Range {
+    least: 0,
+    greatest: 0xFFFF_FFFF,
+};
+
+/// A number below 2^64.
+const ANY_LARGE: Range = Range {
+    least: 0,
+    greatest: u64::MAX,
+};
+
+/// 0 or 1.
+const ANY_FLAG: Range = Range {
+    least: 0,
+    greatest: 1,
+};
+
+/// Parts per million.
+const ANY_RATE: Range = Range {
+    least: 0,
+    greatest: 1_000_000,
+};
+
+/// The number of a set of tasks.
+const ANY_TASKS: Range = Range {
+    least: 0,
+    greatest: 511,
+};
+
+/// The low 24 bits of an input.
+const ANY_INPUT: Range = Range {
+    least: 0,
+    greatest: 0xFF_FFFF,
+};
+
+/// The version of a saved world.
+const VERSION: Range = Range {
+    least: 1,
+    greatest: 1,
+};
+
+/// A side of the world.
+const ANY_SIDE: Range = Range {
+    least: 1,
+    greatest: 256,
+};
+
+/// An update.
+const ANY_UPDATE: Range = Range {
+    least: 0,
+    greatest: 1_000_000,
+};
+
+/// The id that the next organism gets.
+const ANY_NEXT_ID: Range = Range {
+    least: 1,
+    greatest: 1 << 62,
+};
+
+/// A seed.
+const ANY_SEED: Range = Range {
+    least: 0,
+    greatest: (1 << 63) - 1,
+};
+
+/// The average number of slices, or the age of death as a multiple of a length.
+const ANY_THOUSAND: Range = Range {
+    least: 1,
+    greatest: 1000,
+};
+
+/// A percentage above 0.
+const ANY_PERCENT: Range = Range {
+    least: 1,
+    greatest: 100,
+};
+
+/// The length of a genome.
+const ANY_LENGTH: Range = Range {
+    least: LEAST_LENGTH as u64,
+    greatest: GREATEST_LENGTH as u64,
+};
+
+/// The version, and the values of a head in their order.
+pub const HEAD_RANGES: [Range; 22] = [
+    VERSION,
+    ANY_SIDE,
+    ANY_SIDE,
+    ANY_UPDATE,
+    ANY_NEXT_ID,
+    ANY_SEED,
+    ANY_THOUSAND,
+    ANY_FLAG,
+    ANY_THOUSAND,
+    ANY_RATE,
+    ANY_RATE,
+    ANY_RATE,
+    ANY_RATE,
+    ANY_RATE,
+    ANY_RATE,
+    ANY_FLAG,
+    ANY_FLAG,
+    ANY_PERCENT,
+    ANY_PERCENT,
+    ANY_LENGTH,
+    ANY_LENGTH,
+    ANY_LENGTH,
+];
+
+/// Cell, id, merit, credited set, age, inputs read, gestation set, and three inputs.
+pub const ORGANISM_RANGES: [Range; 10] = [
+    ANY_SMALL, ANY_LARGE, ANY_LARGE, ANY_TASKS, ANY_LARGE, ANY_LARGE, ANY_TASKS, ANY_INPUT,
+    ANY_INPUT, ANY_INPUT,
+];
+
+/// Active stack, IP, READ, WRITE, FLOW, and whether an allocation is pending.
+pub const MACHINE_RANGES: [Range; 6] = [
+    ANY_FLAG, ANY_SMALL, ANY_SMALL, ANY_SMALL, ANY_SMALL, ANY_FLAG,
+];
