@@ -150,6 +150,47 @@ unfolding births_of
 births_lawful config size start steps cells lives are sized known =
     births_from config size start steps 0 cells lives are (omega (arith, sized)) known
 
+-- a newborn of some parent is as the rules want it
+pub record IsBorn (config : ConfigValues) (d : Delivery) : Type 0 where
+  pub letters : List Letter
+  pub born : IsNewborn config letters d.newborn
+
+-- each of the newborns of one parent is
+newborns_born : (config : ConfigValues) (cell parent : ℕ) (letters : List Letter)
+    (newborns : List NewbornValue) → AllByRecursion (IsNewborn config letters) newborns
+    → AllByRecursion (IsBorn config) (map (delivery_of cell parent) newborns)
+newborns_born config cell parent letters [] born = tt
+newborns_born config cell parent letters (n ∷ newborns) born = (
+  record { letters = letters; born = born.0 },
+  newborns_born config cell parent letters newborns born.1,
+)
+
+slot_born : (config : ConfigValues) (steps cell : ℕ) (slot : Option Occupant) (l : CellLife)
+    → IsLife config steps slot l
+    → AllByRecursion (IsBorn config) (births_by cell l.newborns l.occupant)
+slot_born config steps cell None l is = rw is.0 tt
+slot_born config steps cell (Some o) l is =
+    rw is.stays (newborns_born config cell is.who.id o.organism.genome l.newborns is.newborns)
+
+born_from : (config : ConfigValues) (steps : ℕ → ℕ) (from : ℕ) (cells : List (Option Occupant))
+    (lives : List CellLife) → AreLives config steps from cells lives
+    → AllByRecursion (IsBorn config) (flat_map births_in (enumerate_from from lives))
+born_from config steps from [] [] are = tt
+born_from config steps from [] (l ∷ lives) are = absurd are
+born_from config steps from (slot ∷ cells) [] are = absurd are
+born_from config steps from (slot ∷ cells) (l ∷ lives) are =
+    all_append (IsBorn config) (births_by from l.newborns l.occupant)
+    (flat_map births_in (enumerate_from (from + 1) lives))
+    (slot_born config (steps from) from slot l are.0)
+    (born_from config steps (from + 1) cells lives are.1)
+
+-- so is each newborn of an update
+pub births_born : (config : ConfigValues) (steps : ℕ → ℕ) (cells : List (Option Occupant))
+    (lives : List CellLife) → AreLives config steps 0 cells lives
+    → AllByRecursion (IsBorn config) (births_of lives)
+unfolding births_of
+births_born config steps cells lives are = born_from config steps 0 cells lives are
+
 -- so many numbers of a sequence, together
 abbrev pub steps_in_all : (ℕ → ℕ) → ℕ → ℕ → ℕ
 steps_in_all steps from zero = 0

@@ -9,6 +9,7 @@ mod LivesLemmas
 mod FolkLemmas
 mod Configs
 mod Sounds
+mod Endings
 mod Runs
 mod Wholes
 mod FormLemmas

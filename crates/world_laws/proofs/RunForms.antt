@@ -16,7 +16,7 @@ use Rattle.world_laws.proofs.Turns.{scene_deaths, scene_births}
 use Rattle.world_laws.proofs.Updates.{scene_last}
 use Rattle.world_laws.proofs.Placements.{all_append}
 use Rattle.world_laws.proofs.LivesLemmas.{LifeLaws}
-use Rattle.world_laws.proofs.FolkLemmas.{sound_kept}
+use Rattle.world_laws.proofs.FolkLemmas.{births_born, sound_kept}
 use Rattle.world_laws.proofs.Configs.{IsConfig, size_of, events_fit, events_few, few_cells, genome_fits}
 use Rattle.world_laws.proofs.Sounds.{Goes, goes_deaths, goes_births}
 use Rattle.world_laws.proofs.Runs.{IsRun, scene_ended, lives_lawful, deliveries_lawful, placed_lawful, update_goes, few_born, few_come}
@@ -67,7 +67,8 @@ module _ (laws : LifeLaws) (config : ConfigValues) (fit : IsConfig config) where
       (goes_deaths scene (deaths_of lives)) room in
       let room_born : HasRoom born 1000 =
       room_after buried born (length births) (length births) 1000
-      (goes_births laws config fit size start buried births placings lawful) room_buried in
+      (goes_births laws config fit buried births placings
+      (births_born config _ w.cells lives (lives_lawful laws config fit n start w is))) room_buried in
       let goes = update_goes laws config fit n start w is in
       let deaths = deaths_fit size start small scene (0 + (length births + 1000))
       (deaths_of lives) is_ended room in

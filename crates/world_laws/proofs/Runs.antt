@@ -1,5 +1,5 @@
 -- The lines of a run take the reader from the founder's world to that after its updates.
-use Rattle.std.proofs.Common.{◌≡◌, ℕ, suc, ◌+◌, ◌*◌, ◌<◌, ◌≤◌, List, [], ◌∷◌, map, length, sym, subst, ◌∙◌, arith}
+use Rattle.std.proofs.Common.{◌≡◌, ℕ, suc, ◌+◌, ◌*◌, ◌<◌, ◌≤◌, List, [], ◌∷◌, map, length, subst, ◌∙◌, arith}
 use Rattle.std.specs.Prelude.{slice_index_or}
 use Rattle.std.specs.List.{AllByRecursion, range_with_len}
 use Rattle.std.proofs.Math.Nat.{mul-le-mul}
@@ -17,7 +17,7 @@ use Rattle.world_rules.specs.World.{World, ids_of}
 use Rattle.world_rules.specs.Settings.{torus_of, season_at}
 use Rattle.world_rules.specs.Lives.{no_life, merit_in, slices_at, slice_at, life_at, lives_of}
 use Rattle.world_rules.specs.Scene.{Scene, next_id}
-use Rattle.world_rules.specs.Update.{Delivery, after_lives, after_burials, deaths_of, births_of, placings_of, after_births, events_at, after_events, last_scene, scene_of_lives, lives_after, next_scene, next_world}
+use Rattle.world_rules.specs.Update.{Delivery, after_lives, after_burials, deaths_of, births_of, placings_of, events_at, last_scene, scene_of_lives, lives_after, next_scene, next_world}
 use Rattle.world_rules.specs.LogText.{lines_of_lives, update_lines}
 use Rattle.world_laws.proofs.Mirror.{People, between, seen_in, Tells}
 use Rattle.world_laws.proofs.Scenes.{Each, IsScene}
@@ -25,9 +25,10 @@ use Rattle.world_laws.proofs.Turns.{IsWhat, IsEvent}
 use Rattle.world_laws.proofs.Updates.{IsWorld, people_after, world_left, scene_begun, begun_is, seen_begun, AreTurns, scene_last, lives_tell}
 use Rattle.world_laws.proofs.Placements.{placements_in, placements_number}
 use Rattle.world_laws.proofs.LivesLemmas.{LifeLaws, AreLives, lives_are}
-use Rattle.world_laws.proofs.FolkLemmas.{IsDelivery, left_by, folk_kept, sound_kept, births_lawful, births_few, entries_few, turns_lawful}
-use Rattle.world_laws.proofs.Configs.{IsConfig, filter_few, size_of, FitsWhat, FitsPlaced, events_fit, events_few, few_cells, rules_are}
-use Rattle.world_laws.proofs.Sounds.{Goes, goes_on, goes_more, goes_deaths, goes_births, goes_events}
+use Rattle.world_laws.proofs.FolkLemmas.{IsDelivery, left_by, folk_kept, births_lawful, births_few, entries_few, turns_lawful}
+use Rattle.world_laws.proofs.Configs.{IsConfig, filter_few, size_of, FitsWhat, FitsPlaced, events_fit, few_cells, rules_are}
+use Rattle.world_laws.proofs.Sounds.{Goes, goes_more}
+use Rattle.world_laws.proofs.Endings.{end_goes, next_sound}
 
 cells_in : (config : ConfigValues) (size : ℕ) (start : People) (births : List Delivery)
     → AllByRecursion (IsDelivery config size start) births
@@ -147,23 +148,12 @@ module _ (laws : LifeLaws) (config : ConfigValues) (fit : IsConfig config) (n : 
   -- how an update goes
   pub update_goes : Goes ended last (length (births_of (lives_after config w)) + 1000)
       (65536 + length (births_of (lives_after config w)) + 65536000)
-  unfolding last_scene after_burials after_births after_events
   update_goes =
-      let lives = lives_after config w in
-      let births = births_of lives in
-      let buried = after_burials ended lives in
-      let born = after_births config buried births in
-      let events = events_at config born.update in
-      goes_more (0 + length births + length events) (length births + 1000)
-      (length (deaths_of lives) + length births + 65536 * length events)
-      (65536 + length births + 65536000)
-      (goes_on (goes_on (goes_deaths ended (deaths_of lives))
-      (goes_births laws config fit (size_of config) start buried births
-      (placings_of config buried births) deliveries_lawful))
-      (goes_events laws config fit born events (events_fit config fit born.update)))
-      (let few = events_few config fit born.update in omega arith)
-      (let few = events_few config fit born.update in
-      omega (arith, few_deaths, few_cells config fit))
+      let births = births_of (lives_after config w) in
+      goes_more (length births + 1000) (length births + 1000)
+      (length (deaths_of (lives_after config w)) + length births + 65536000)
+      (65536 + length births + 65536000) (end_goes laws config fit w is.sound) (omega arith)
+      (omega (arith, few_deaths, few_cells config fit))
 
   -- the next world
   pub run_next : IsRun config (suc n) (people_after start (next_scene config w))
@@ -175,8 +165,7 @@ module _ (laws : LifeLaws) (config : ConfigValues) (fit : IsConfig config) (n : 
       record {
         world = world_left (size_of config) start last
             (scene_last (size_of config) start config ended lives scene_ended);
-        sound =
-            goes.sound (sound_kept config (slice_at config w.cells) 0 w.cells lives lives_lawful);
+        sound = next_sound laws config fit w is.sound;
         update = omega (arith, goes.update, is.update);
       }
 

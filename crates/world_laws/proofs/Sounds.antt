@@ -17,10 +17,9 @@ use Rattle.world_rules.specs.World.{Occupant, founder_of, founder_link}
 use Rattle.world_rules.specs.Settings.{rules_of}
 use Rattle.world_rules.specs.Scene.{Scene, next_id, standing_at, with_death, with_deaths, cells_from, with_newcomer}
 use Rattle.world_rules.specs.Update.{Delivery, child_of_birth, birth_link, with_newborn, after_what, after_event}
-use Rattle.world_laws.proofs.Mirror.{People}
 use Rattle.world_laws.proofs.Scenes.{Each, stands_before, stands_with}
 use Rattle.world_laws.proofs.LivesLemmas.{LifeLaws}
-use Rattle.world_laws.proofs.FolkLemmas.{IsDelivery}
+use Rattle.world_laws.proofs.FolkLemmas.{IsBorn}
 use Rattle.world_laws.proofs.Configs.{IsConfig, few_cells, FitsWhat, FitsPlaced, genome_fits}
 
 -- what holds as an update ends: organisms are sound, and so many came and died at most
@@ -90,9 +89,9 @@ goes_newcomer scene link organism sound =
 
 module _ (laws : LifeLaws) (config : ConfigValues) (fit : IsConfig config) where
   -- a newborn makes a sound organism
-  sound_newborn : (size : ℕ) (start : People) (b : Delivery) (placing : Placing)
-      → IsDelivery config size start b → IsSoundOrganism (child_of_birth config b placing)
-  sound_newborn size start b placing is =
+  sound_newborn : (b : Delivery) (placing : Placing) → IsBorn config b
+      → IsSoundOrganism (child_of_birth config b placing)
+  sound_newborn b placing is =
       let least : (rules_of config).least ≤ length b.newborn.genome = is.born.least in
       let greatest : length b.newborn.genome ≤ (rules_of config).greatest = is.born.greatest in
       let low = fit.least in
@@ -107,25 +106,25 @@ module _ (laws : LifeLaws) (config : ConfigValues) (fit : IsConfig config) where
       config.memory_limit genome (omega (arith, greatest, high)) (omega (arith, top))
       is.born.some_merit is.born.merit
 
-  goes_birth : (size : ℕ) (start : People) (scene : Scene) (turn : Delivery × Placing)
-      → IsDelivery config size start turn.0 → Goes scene (with_newborn config scene turn) 1 1
+  goes_birth : (scene : Scene) (turn : Delivery × Placing) → IsBorn config turn.0
+      → Goes scene (with_newborn config scene turn) 1 1
   unfolding with_newborn
-  goes_birth size start scene turn is =
+  goes_birth scene turn is =
       goes_newcomer scene (birth_link (next_id scene) scene.update turn.0 turn.1.cell)
-      (child_of_birth config turn.0 turn.1) (sound_newborn size start turn.0 turn.1 is)
+      (child_of_birth config turn.0 turn.1) (sound_newborn turn.0 turn.1 is)
 
-  pub goes_births : (size : ℕ) (start : People) (scene : Scene) (births : List Delivery)
-      (placings : List Placing) → AllByRecursion (IsDelivery config size start) births
+  pub goes_births : (scene : Scene) (births : List Delivery) (placings : List Placing)
+      → AllByRecursion (IsBorn config) births
       → Goes scene (fold (with_newborn config) scene (zip births placings)) (length births)
       (length births)
-  goes_births size start scene [] placings are = goes_nowhere scene
-  goes_births size start scene (b ∷ births) [] are =
+  goes_births scene [] placings are = goes_nowhere scene
+  goes_births scene (b ∷ births) [] are =
       goes_more 0 (length (b ∷ births)) 0 (length (b ∷ births)) (goes_nowhere scene) (omega arith)
       (omega arith)
-  goes_births size start scene (b ∷ births) (p ∷ placings) are =
+  goes_births scene (b ∷ births) (p ∷ placings) are =
       goes_more (1 + length births) (length (b ∷ births)) (1 + length births) (length (b ∷ births))
-      (goes_on (goes_birth size start scene (b, p) are.0)
-      (goes_births size start (with_newborn config scene (b, p)) births placings are.1))
+      (goes_on (goes_birth scene (b, p) are.0)
+      (goes_births (with_newborn config scene (b, p)) births placings are.1))
       (omega arith) (omega arith)
 
   pub sound_founder : (cell nth : ℕ) (letters : List Letter) → config.least_length ≤ length letters

@@ -1,6 +1,6 @@
 -- What a life keeps (docs/WORLD.md, "The life of one update").
-use Rattle.std.specs.Prelude.{◌≡◌, ℕ, ◌+◌, [], Some, slice_get}
-use Rattle.organism.specs.Lived.{HasLived, beginning}
+use Rattle.std.specs.Prelude.{◌≡◌, ℕ, ◌+◌, List, [], Option, Some, slice_get}
+use Rattle.organism.specs.Lived.{HasLived, IsSoundOrganism, beginning}
 use Rattle.organism.specs.UpdateLife.{LifeState, life}
 use Rattle.random_streams.specs.declared.purpose.Purpose.TheVariants.{Run}
 use Rattle.random_streams.specs.RandomStream.{draw}
@@ -13,6 +13,13 @@ pub record HasKept (start now : LifeState) : Type 0 where
   pub genome : now.organism.genome ≡ start.organism.genome
   pub merit : now.newborns ≡ [] → now.organism.merit ≡ start.organism.merit
   pub credited : now.newborns ≡ [] → now.organism.credited ≡ start.organism.credited
+
+-- each who stands in these cells is sound
+abbrev pub AreSound : List (Option Occupant) → Type 0
+AreSound cells =
+    (cell : ℕ) (o : Occupant)
+    → slice_get cells cell ≡ Some (Some o)
+    → IsSoundOrganism o.organism
 
 -- whoever stands in a world lives through the update after it as a sound organism of its genome,
 -- with few newborns, which the rules allow

@@ -7,10 +7,10 @@ ghost use Rattle.world_config.specs.Shown.{values_of};
 ghost use Rattle.world_rules.specs.Descent.{line_in};
 ghost use Rattle.world_rules.specs.Laws.{ReplaysToLiving};
 ghost use Rattle.world_rules.specs.Lives.{merit_in};
-ghost use Rattle.world_rules.specs.Update.{next_scene};
-ghost use Rattle.world_rules.specs.World.{Occupant};
+ghost use Rattle.world_rules.specs.Update.{next_scene, next_world};
+ghost use Rattle.world_rules.specs.World.{Occupant, World};
 ghost use Rattle.world_rules.specs.WorldRun.{world_after};
-ghost use Rattle.world_laws.specs.Keeping.{HasKept, LiveOn};
+ghost use Rattle.world_laws.specs.Keeping.{AreSound, HasKept, LiveOn};
 ghost use Rattle.world_laws.specs.Heredity.{AreDescended, IsDescent, IsLastOfLine};
 ghost use Rattle.world_laws.specs.Turnover.{IsTurnover};
 
@@ -94,6 +94,19 @@ pub fn births_alone_change_merits()
 /// of the same genome, and with few newborns, which the rules allow.
 pub fn organisms_live_on(config: &Config, updates: u32)
     ensures { LiveOn (values_of config.now) (world_after (values_of config.now) updates) }
+{
+    merit_slices::laws::slices_are_few();
+    organism::laws::lives_are_sound();
+    organism::laws::new_organisms_are_sound();
+    random_streams::laws::words_fit();
+}
+
+/// Sound organisms live on, and those of the next world are sound, however they came into a world.
+pub fn sound_organisms_live_on(config: &Config)
+    ensures lives { (w : World) → AreSound w.cells → LiveOn (values_of config.now) w }
+    ensures next { (w : World)
+        → AreSound w.cells
+        → AreSound (next_world (values_of config.now) w).cells }
 {
     merit_slices::laws::slices_are_few();
     organism::laws::lives_are_sound();
