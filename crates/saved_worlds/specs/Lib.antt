@@ -5,3 +5,4 @@ pub mod SavedState
 pub mod Resuming
 pub mod SavedWorldText
 pub mod SavedGrammar
+pub mod ValidState
