@@ -1,9 +1,9 @@
+use crate::boxed_organism::BoxedOrganism;
 use avida_port::Items;
 use genotype_bank::Seat;
-use organism::Organism;
 
 /// Who stands in each cell of a shard.
-pub type Cells = Items<Option<Organism>>;
+pub type Cells = Items<Option<BoxedOrganism>>;
 
 /// The steps of each cell of a shard.
 pub type Slices = Items<u64>;

@@ -3,6 +3,7 @@ ghost use Rattle.std.specs.Prelude.{◌≡◌, ◌+◌, ◌<◌, ◌≤◌, ◌^
 ghost use Rattle.organism.specs.Newborns.{newborn_value};
 ghost use Rattle.cell_shards.specs.CellLives.{IsYoung, birth_in, births_from, deaths_from, is_death, left_in, life_of, lives_of, part_from, round_numbers};
 
+use crate::boxed_organism::BoxedOrganism;
 use crate::cell_birth::CellBirth;
 use crate::round::Round;
 use avida_port::Memory;
@@ -31,7 +32,7 @@ pub(crate) fn live(
     alloc: Global,
     round: &Round,
     first: u32,
-    cells: &mut [Option<Organism>],
+    cells: &mut [Option<BoxedOrganism>],
     slices: &[u64],
 ) -> Result<Lived, Memory>
     requires cells { first + length cells.old ≤ CELLS }
@@ -66,7 +67,7 @@ fn live_in(
     round: &Round,
     cell: u32,
     steps: u64,
-    slot: &mut Option<Organism>,
+    slot: &mut Option<BoxedOrganism>,
 ) -> Result<Life, Memory>
     requires cell { cell < CELLS }
     requires steps { steps < 2 ^ 27 }
@@ -78,7 +79,7 @@ fn live_in(
     }) }
 {
     match slot {
-        Some(organism) => live_once(alloc, round, cell, steps, organism),
+        Some(organism) => live_once(alloc, round, cell, steps, &mut organism.inner),
         None => Ok(Life {
             died: false,
             births: Births::none(alloc),
@@ -123,7 +124,7 @@ fn is_death(ran: Ran) -> bool
 }
 
 /// The dead leave their cells.
-fn bury(slot: &mut Option<Organism>, died: bool)
+fn bury(slot: &mut Option<BoxedOrganism>, died: bool)
     ensures { slot.new ≡ (if died then None else slot.old) }
 {
     if died {

@@ -22,7 +22,7 @@ use crate::settings::{season_at, torus_of};
 use crate::telling::tell;
 use avida_port::Memory;
 use birth_board::{Occupants, Parents, Placing, Placings, place};
-use cell_shards::Delivered;
+use cell_shards::{BoxedOrganism, Delivered};
 use log_lines::LogLine;
 use mutations::Origin;
 use organism::Organism;
@@ -149,7 +149,12 @@ fn settle(
         credited,
         config.memory_limit,
     )?;
-    scene.come(id, cell, handle.number, organism)
+    scene.come(
+        id,
+        cell,
+        handle.number,
+        BoxedOrganism::new(alloc, organism)?,
+    )
 }
 
 /// Writes the line of a birth, and gives its record back.

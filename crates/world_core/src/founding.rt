@@ -15,6 +15,7 @@ use crate::everyone::Everyone;
 use crate::population::Population;
 use crate::scene::Scene;
 use avida_port::Memory;
+use cell_shards::BoxedOrganism;
 use genome::Genome;
 use genotype_bank::laws::genotypes_are_what_was_interned;
 use logic_tasks::{Inputs, Tasks};
@@ -104,7 +105,12 @@ pub(crate) fn found_in<R: Wait>(
     let handle = scene.intern(rt, alloc, genome)?;
     scene.enroll(None, cell, None, &handle.genome)?;
     let organism = founder(alloc, config, cell, nth, handle.genome)?;
-    scene.come(id, cell, handle.number, organism)
+    scene.come(
+        id,
+        cell,
+        handle.number,
+        BoxedOrganism::new(alloc, organism)?,
+    )
 }
 
 /// The scene of update 0: the configuration's founder alone.

@@ -11,7 +11,7 @@ ghost use Rattle.world_core.specs.Population.{CanCountAgain, CountsAgain, IsRene
 use crate::lived::{Delivery, Departed};
 use crate::settings::settings_at;
 use avida_port::Memory;
-use cell_shards::{Delivered, Round};
+use cell_shards::{BoxedOrganism, Delivered, Round};
 use census::Census;
 use logic_tasks::Tasks;
 use merit_slices::share;
@@ -36,7 +36,10 @@ pub(crate) fn round_at(config: &Config, update: u32) -> Round
 }
 
 /// The merit in each cell, 0 where nobody stands.
-pub(crate) fn merits_of(alloc: Global, cells: &[Option<Organism>]) -> Result<Vec<u64>, AllocError>
+pub(crate) fn merits_of(
+    alloc: Global,
+    cells: &[Option<BoxedOrganism>],
+) -> Result<Vec<u64>, AllocError>
     ensures { IfOk result (λ merits. merits.items ≡ map merit_of cells.now) }
 {
     let mut merits = Vec::with_capacity(alloc, cells.len())?;
@@ -46,11 +49,11 @@ pub(crate) fn merits_of(alloc: Global, cells: &[Option<Organism>]) -> Result<Vec
     Ok(merits)
 }
 
-fn merit_in(slot: &Option<Organism>) -> u64
+fn merit_in(slot: &Option<BoxedOrganism>) -> u64
     ensures { result ≡ merit_of slot.now }
 {
     match slot {
-        Some(organism) => organism.merit(),
+        Some(organism) => organism.get().merit(),
         None => 0,
     }
 }
@@ -58,7 +61,7 @@ fn merit_in(slot: &Option<Organism>) -> u64
 /// The credited set in each cell where somebody stands.
 pub(crate) fn credits_of(
     alloc: Global,
-    cells: &[Option<Organism>],
+    cells: &[Option<BoxedOrganism>],
 ) -> Result<Vec<Option<Tasks>>, AllocError>
     ensures { IfOk result (λ credits. credits.items
         ≡ map (λ slot. option_map (λ o. o.credited) slot) cells.now) }
@@ -70,11 +73,11 @@ pub(crate) fn credits_of(
     Ok(credits)
 }
 
-fn credited_in(slot: &Option<Organism>) -> Option<Tasks>
+fn credited_in(slot: &Option<BoxedOrganism>) -> Option<Tasks>
     ensures { result ≡ option_map (λ o. o.credited) slot.now }
 {
     match slot {
-        Some(organism) => Some(organism.credited()),
+        Some(organism) => Some(organism.get().credited()),
         None => None,
     }
 }
@@ -143,13 +146,13 @@ pub(crate) fn count_again(
     key: u64,
     merit: u64,
     credited: Option<Tasks>,
-    now: &Option<Organism>,
+    now: &Option<BoxedOrganism>,
 )
     requires { CanCountAgain census.old key merit credited now.now }
     ensures { CountsAgain census.old census.new key merit credited now.now }
 {
     match (credited, now) {
-        (Some(credited), Some(organism)) => renew(census, merit, credited, organism),
+        (Some(credited), Some(organism)) => renew(census, merit, credited, organism.get()),
         (Some(credited), None) => census.remove(key, merit, credited),
         (None, _) => {}
     }

@@ -21,6 +21,7 @@ use crate::lives::{
 use crate::residents::Residents;
 use crate::sharding::{Ended, live_in_shards};
 use avida_port::{Gate, Memory};
+use cell_shards::BoxedOrganism;
 use census::laws::dominance_knows_no_order;
 use census::{Census, Dominant};
 use genome::Genome;
@@ -28,7 +29,6 @@ use genotype_bank::Handle;
 use genotype_bank::laws::genotypes_are_what_was_interned;
 use instruction_set::laws::one_index;
 use log_lines::Stats;
-use organism::Organism;
 use random_streams::CELLS;
 use std::alloc::Global;
 use std::marker::Model;
@@ -141,7 +141,7 @@ impl Population {
         cell: u32,
         number: u64,
         id: u64,
-        organism: Organism,
+        organism: BoxedOrganism,
     ) -> Result<(), Memory>
         requires cell { cell < length self.old.cells }
         requires empty { slice_index_or self.old.cells cell None ≡ None }
@@ -153,11 +153,12 @@ impl Population {
         ensures err { OnErr result (self.new ≡ self.old) }
     {
         one_index();
+        let newcomer = organism.get();
         self.census.add(
             number,
-            organism.genome(),
-            organism.merit(),
-            organism.credited(),
+            newcomer.genome(),
+            newcomer.merit(),
+            newcomer.credited(),
         )?;
         self.keys[cell as usize] = number;
         self.cells.put(cell as usize, id, organism);
@@ -172,7 +173,7 @@ impl Population {
         cell: u32,
         number: u64,
         id: u64,
-        organism: Organism,
+        organism: BoxedOrganism,
     ) -> Result<(), Memory>
         requires cell { cell < length self.old.cells }
         requires number { slice_get self.old.bank number ≡ Some organism.genome }

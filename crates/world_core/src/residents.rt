@@ -5,6 +5,7 @@ ghost use Rattle.world_rules.specs.Statistics.{organism_in};
 ghost use Rattle.world_rules.specs.World.{id_of, ids_of};
 
 use avida_port::Memory;
+use cell_shards::BoxedOrganism;
 use organism::Organism;
 use std::alloc::{AllocError, Global};
 use std::marker::Model;
@@ -13,7 +14,7 @@ use std::marker::Model;
 /// organisms, which a shard takes with it.
 #[derive(Drop)]
 pub(crate) struct Residents {
-    pub(crate) organisms: Vec<Option<Organism>>,
+    pub(crate) organisms: Vec<Option<BoxedOrganism>>,
     /// Where nobody stands the number means nothing.
     pub(crate) ids: Vec<u64>,
 }
@@ -56,7 +57,7 @@ impl Residents {
         ensures { option_copied result ≡ organism_in (slice_index_or self.now cell None) }
     {
         match &self.organisms[cell] {
-            Some(organism) => Some(organism),
+            Some(organism) => Some(organism.get()),
             None => None,
         }
     }
@@ -92,7 +93,7 @@ impl Residents {
     }
 
     /// Somebody with this id stands in the cell.
-    pub(crate) fn put(&mut self, cell: usize, id: u64, organism: Organism)
+    pub(crate) fn put(&mut self, cell: usize, id: u64, organism: BoxedOrganism)
         requires { cell < length self.old }
         ensures { self.new
             ≡ slice_set self.old cell (Some (record { id = id; organism = organism })) }
@@ -103,7 +104,7 @@ impl Residents {
 }
 
 /// So many cells in which nobody stands.
-fn empty_cells(alloc: Global, count: u32) -> Result<Vec<Option<Organism>>, Memory>
+fn empty_cells(alloc: Global, count: u32) -> Result<Vec<Option<BoxedOrganism>>, Memory>
     ensures { IfOk result (λ cells. cells.items ≡ replicate count None) }
 {
     let mut cells = Vec::with_capacity(alloc, count as usize)?;

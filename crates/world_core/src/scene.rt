@@ -14,12 +14,12 @@ ghost use Rattle.world_core.specs.Scenes.{scene_in};
 use crate::everyone::Everyone;
 use crate::population::Population;
 use avida_port::Memory;
+use cell_shards::BoxedOrganism;
 use genome::Genome;
 use genotype_bank::Handle;
 use lineage_log::Ancestor;
 use log_lines::Stats;
 use mutations::Origin;
-use organism::Organism;
 use std::alloc::Global;
 use std::marker::Model;
 use std::sync::{Arc, Wait};
@@ -137,7 +137,7 @@ impl Scene {
         id: u64,
         cell: u32,
         number: u64,
-        organism: Organism,
+        organism: BoxedOrganism,
     ) -> Result<(), Memory>
         requires cell { cell < length self.old.cells }
         requires number { slice_get self.old.bank number ≡ Some organism.genome }

@@ -13,11 +13,11 @@ use crate::genotypes::{Genotypes, len_after};
 use avida_port::{Gate, Memory};
 use cell_shards::laws::{parts_live_as_one, shards_part_the_cells};
 use cell_shards::{
-    Cells, Dead, Delivered, Deliveries, Finished, Job, Round, Slices, bounds, run_all,
+    BoxedOrganism, Cells, Dead, Delivered, Deliveries, Finished, Job, Round, Slices, bounds,
+    run_all,
 };
 use genotype_bank::laws::{calls_number_genotypes, genotypes_are_what_was_interned, numbers_agree};
 use genotype_bank::{Bank, Seat};
-use organism::Organism;
 use random_streams::CELLS;
 use std::alloc::Global;
 use std::sync::Wait;
@@ -26,7 +26,7 @@ use std::thread::Threads;
 /// The cells after an update without the dead, its newborns, and the cells of the dead.
 #[derive(Drop)]
 pub(crate) struct Ended {
-    pub(crate) organisms: Vec<Option<Organism>>,
+    pub(crate) organisms: Vec<Option<BoxedOrganism>>,
     pub(crate) births: Vec<Delivered>,
     pub(crate) dead: Vec<u32>,
 }
@@ -37,7 +37,7 @@ pub(crate) fn live_in_shards<R: Threads + Wait + Sync, G: Gate + Sync>(
     rt: &R,
     alloc: Global,
     genotypes: Genotypes,
-    cells: Vec<Option<Organism>>,
+    cells: Vec<Option<BoxedOrganism>>,
     slices: Vec<u64>,
     round: &Round,
     workers: u32,
@@ -89,7 +89,7 @@ fn jobs_of(
     alloc: Global,
     bank: &Bank,
     seat: Seat,
-    cells: Vec<Option<Organism>>,
+    cells: Vec<Option<BoxedOrganism>>,
     slices: Vec<u64>,
     workers: u32,
 ) -> Result<Vec<Job>, Memory>

@@ -1,5 +1,6 @@
 use Rattle.std.proofs.Common.{◌≡◌, ◌∙◌, ap, get_or, None, Some, length, ◌<◌}
 use Rattle.std.specs.Prelude.{slice_get}
+use Rattle.organism.specs.OrganismState.{OrganismState}
 use Rattle.census.specs.Changes.{genotype_with_one, with_organism}
 use Rattle.world_rules.specs.World.{Occupant}
 use Rattle.world_core.specs.Population.{PopulationValue}
@@ -18,7 +19,7 @@ add-requires c =
     rw bank c.requires.number in
     let within : c.args.cell < length cells = rw were c.requires.cell in
     let empty : get_or cells c.args.cell None ≡ None = rw were c.requires.empty in
-    rw (c.genome.ensures, c.merit.ensures)
+    rw (c.genome.ensures, c.merit.ensures, c.get-newcomer.ensures)
     (can-add c.one_index.ensures.list cells c.self.inside.genotypes c.self.inside.keys.items
     c.self.inside.census c.self.inside.census c.args.cell within o c.args.number number_is empty
     c.requires.merit c.self.invariant)
@@ -41,7 +42,10 @@ invariant_of-self-2 c =
     c.self.inside.keys.items c.self.inside.census c.add.new.self c.args.cell within o number
     number_is empty c.requires.merit c.self.invariant
     (c.in_ok-add.ensures.ok ∙ (λ i. with_organism before number (c.genome.ensures i)
-    (c.merit.ensures i) (c.credited.ensures i)))
+    (c.merit.ensures i) (c.credited.ensures i))
+    ∙ ap (λ (one : OrganismState). with_organism before number one.genome one.merit one.credited)
+    c.get-newcomer.ensures)
     (λ other. c.in_ok-add.ensures.under other
-    ∙ ap (λ g. genotype_with_one before.genotypes number g other) c.genome.ensures)
+    ∙ ap (λ g. genotype_with_one before.genotypes number g other)
+    (c.genome.ensures ∙ ap (λ (one : OrganismState). one.genome) c.get-newcomer.ensures))
     c.in_ok-add.ensures.living)

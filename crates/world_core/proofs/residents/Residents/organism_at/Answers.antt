@@ -1,4 +1,4 @@
-use Rattle.std.proofs.Common.{◌∙◌, ◌<◌, List, Option, None, ap, get_or, length, sym, arith}
+use Rattle.std.proofs.Common.{◌∙◌, ◌<◌, List, Option, None, Some, ap, get_or, length, sym, arith}
 use Rattle.std.proofs.lemmas.List.{get_or_default}
 use Rattle.world_rules.specs.Statistics.{organism_in}
 use Rattle.world_rules.specs.World.{Occupant}
@@ -29,7 +29,8 @@ returns-in-Some c =
     ) in
     let here = sym (get_or_default os c.args.cell c.index.result.now None within)
     ∙ sym c.index.ensures ∙ c.in-Some.is in
-    sym (ap (λ (cells : List (Option Occupant)). organism_in (get_or cells c.args.cell None))
+    ap Some c.get.ensures
+    ∙ sym (ap (λ (cells : List (Option Occupant)). organism_in (get_or cells c.args.cell None))
     (sym c.self.view_is) ∙ ap organism_in (occupants_of-at os ids c.args.cell c.self.invariant)
     ∙ ap (λ slot. organism_in (with_id (get_or ids c.args.cell 0) slot)) here)
 
