@@ -15,6 +15,7 @@ mod LivesLemmas
 mod SettingsLemmas
 mod UpdateLemmas
 mod WorldLemmas
+mod ResumeLemmas
 mod StandingLemmas
 mod KeptOfLemmas
 mod StatLemmas

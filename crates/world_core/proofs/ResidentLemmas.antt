@@ -1,11 +1,16 @@
 -- Organisms beside their ids, as one cell changes.
 use Rattle.std.proofs.Common.{◌≡◌, refl, ap, ℕ, zero, suc, List, [], ◌∷◌, length, map, set, get_or, replicate, Option, Some, None, arith}
+use Rattle.organism.specs.Image.{organism_of_image}
 use Rattle.organism.specs.OrganismState.{OrganismState}
+use Rattle.saved_lines.specs.declared.resident.Resident.{Resident}
+use Rattle.saved_worlds.specs.SavedWorldText.{values_in}
+use Rattle.virtual_cpu.specs.Image.{image_of}
 use Rattle.world_rules.specs.Lives.{merit_in}
 use Rattle.world_rules.specs.Statistics.{organism_in}
 use Rattle.world_rules.specs.World.{Occupant}
 use Rattle.world_core.specs.Population.{merit_of}
 use Rattle.world_core.specs.Residents.{occupants_of, with_id}
+use Rattle.world_core.specs.Resumed.{IsResident}
 
 -- there are as many cells as organisms and gaps
 pub occupants_of-length : (os : List (Option OrganismState)) (ids : List ℕ) → length ids ≡ length os
@@ -81,3 +86,13 @@ somebody (Some o) organism is = (o, refl, cc)
 pub nobody : (slot : Option Occupant) → organism_in slot ≡ None → slot ≡ None
 nobody None is = refl
 nobody (Some o) is = absurd cc
+
+-- a resident with this cell and id and the image of an organism has its values
+pub resident_is : (cell id : ℕ) (o : OrganismState) (resident : Resident) → resident.cell ≡ cell
+    → resident.id ≡ id → organism_of_image resident.image o.machine.limit ≡ o
+    → resident.image.cpu ≡ image_of o.machine
+    → IsResident cell (record { id = id; organism = o }) resident
+resident_is cell id o resident at named is machine = record {
+  values = λ i. values_in (at i) (record { id = named i; organism = is i });
+  machine = machine;
+}

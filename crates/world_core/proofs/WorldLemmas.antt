@@ -40,7 +40,7 @@ pub record IsNext (config : ConfigValues) (before after : SceneValue) (stats : S
   pub first : after.first ≡ before.first
   pub bank : Grows before.bank after.bank before.everyone after.everyone
 
-world_of-next : (config : ConfigValues) (before : SceneValue)
+pub world_of-next : (config : ConfigValues) (before : SceneValue)
     → world_of (next_scene config (world_of (scene_in before)))
     ≡ next_world config (world_of (scene_in before))
 unfolding next_world

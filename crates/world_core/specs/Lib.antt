@@ -21,6 +21,9 @@ pub use Rattle.world_rules.specs.WorldRun
 pub use Rattle.world_rules.specs.Statistics
 pub use Rattle.world_rules.specs.LogText
 pub use Rattle.world_tree.specs.WorldTrees
+pub use Rattle.saved_worlds.specs.SavedGrammar
+pub use Rattle.saved_worlds.specs.Resuming
+pub use Rattle.saved_worlds.specs.ValidState
 pub mod Soundness
 pub mod WorldValue
 pub mod Genotypes
@@ -31,3 +34,4 @@ pub mod Scenes
 pub mod Everyone
 pub mod Sharding
 pub mod Lived
+pub mod Resumed

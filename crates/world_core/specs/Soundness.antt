@@ -1,15 +1,16 @@
 -- What holds of the numbers of every world, so that none leaves its range (docs/WORLD.md, "The end
 -- of an update").
-use Rattle.std.specs.Prelude.{ℕ, ◌*◌, ◌<◌, ◌≤◌, ◌^◌, All, Option, None, Some, List, length, map}
+use Rattle.std.specs.Prelude.{ℕ, ◌+◌, ◌*◌, ◌<◌, ◌≤◌, ◌^◌, All, Option, None, Some, List, length, map}
 use Rattle.std.specs.List.Sorted.{IsNonDecreasing}
 use Rattle.organism.specs.OrganismState.{OrganismState}
 use Rattle.world_config.specs.Values.{ConfigValues}
 use Rattle.world_rules.specs.World.{Occupant}
 use Rattle.world_rules.specs.Update.{Delivery}
 
--- an organism after so many updates has no greater age and merit
+-- an organism after so many updates has no greater age and merit; one of a saved world begins with
+-- an age
 pub record IsBounded (update : ℕ) (o : OrganismState) : Type 0 where
-  pub age : o.age ≤ 2 ^ 27 * update
+  pub age : o.age < 2 ^ 48 + 2 ^ 27 * update
   pub merit : o.merit ≤ 2 ^ 38
 
 -- so has who stands in a cell

@@ -41,7 +41,7 @@ pub(crate) fn place_births(
     requires births { AreDeliveries (values_of config.now) (length scene.old.cells)
         (map delivery_in births.items) }
     requires numbers { All (λ birth. HasNumber scene.old.bank birth.newborn) births.items }
-    requires few { length scene.old.everyone ≤ 2 ^ 60 }
+    requires few { length scene.old.everyone ≤ 2 ^ 62 + 2 ^ 60 }
     ensures scene { OnOk result (scene_in scene.new ≡ after_births (values_of config.now)
         (scene_in scene.old) (map delivery_in births.items)) }
     ensures text { OnOk result (text.new.items
@@ -73,7 +73,7 @@ fn placings_of(
     requires size { length scene.now.cells ≡ config.now.width * config.now.height }
     requires births { AreDeliveries (values_of config.now) (length scene.now.cells)
         (map delivery_in births.now) }
-    requires few { length scene.now.everyone ≤ 2 ^ 60 }
+    requires few { length scene.now.everyone ≤ 2 ^ 62 + 2 ^ 60 }
     ensures placings { IfOk result (λ placings. placings
         ≡ placings_of (values_of config.now) (scene_in scene.now) (map delivery_in births.now)) }
     ensures count { IfOk result (λ placings. length placings ≡ length births.now) }

@@ -49,7 +49,7 @@ pub(crate) fn grow_tree(
     requires update { scene.old.update ≡ update + 1 }
     requires first { scene.old.first
         ≡ length (world_after (values_of config.now.value) update).everyone }
-    requires few { length scene.old.everyone ≤ 2 ^ 60 }
+    requires few { length scene.old.everyone ≤ 2 ^ 62 + 2 ^ 60 }
     requires tree { IsTreeOf (world_after (values_of config.now.value) update) tree.old }
     ensures scene { OnOk result
         (scene.new ≡ record scene.old { first = length scene.old.everyone }) }

@@ -1,5 +1,6 @@
 // All organisms ever in a world, of which only the latest are in memory.
-ghost use Rattle.std.specs.Prelude.{◌≡◌, ◌++◌, ◌∷◌, [], ◌≤◌, ◌^◌, IfOk, OnOk, drop, length};
+ghost use Rattle.std.specs.Prelude.{◌≡◌, ◌+◌, ◌++◌, ◌∷◌, [], ◌≤◌, ◌^◌, IfOk, OnOk, drop, length, replicate};
+ghost use Rattle.saved_worlds.specs.Resuming.{forgotten};
 ghost use Rattle.world_config.specs.Shown.{values_of};
 ghost use Rattle.world_rules.specs.WorldRun.{world_after};
 
@@ -11,25 +12,31 @@ use std::mem;
 use std::sync::Arc;
 use world_config::Config;
 
-/// The world of a configuration after so many updates.
+/// Who was there before, and is no longer in memory.
 #[derive(Drop)]
-pub(crate) struct Past {
-    pub(crate) config: Arc<Config, Global>,
-    pub(crate) update: u32,
+pub(crate) enum Past {
+    Nobody,
+    /// All organisms ever in the world of a configuration after so many updates.
+    Run {
+        config: Arc<Config, Global>,
+        update: u32,
+    },
+    /// So many organisms, of which a saved world tells nothing else.
+    Forgotten {
+        count: u64,
+    },
 }
 
-/// All organisms ever in a world, by id. Those of the past are counted, and no longer in memory:
-/// contracts know them by the configuration and the update.
+/// All organisms ever in a world, by id. Those of the past are counted, and no longer in memory.
 #[derive(Drop)]
 pub(crate) struct Everyone {
-    /// None until a world is settled.
-    past: Option<Past>,
+    past: Past,
     earlier: u64,
     latest: Vec<Ancestor>,
 }
 
 impl Model for Everyone {
-    ghost use Rattle.std.specs.Prelude.{◌≡◌, ◌++◌, ◌≤◌, ◌^◌, length};
+    ghost use Rattle.std.specs.Prelude.{◌≡◌, ◌+◌, ◌++◌, ◌≤◌, ◌^◌, length};
     ghost use Rattle.world_core.specs.Everyone.{EveryoneValue, past_links};
 
     ghost Value = { EveryoneValue };
@@ -39,7 +46,8 @@ impl Model for Everyone {
       links = past_links e.past ++ e.latest.items;
     } };
 
-    ghost invariant = { λ e. (length (past_links e.past) ≡ e.earlier) × (e.earlier ≤ 2 ^ 60) };
+    ghost invariant = { λ e. (length (past_links e.past) ≡ e.earlier)
+        × (e.earlier ≤ 2 ^ 62 + 2 ^ 60) };
 }
 
 impl Everyone {
@@ -48,8 +56,20 @@ impl Everyone {
         ensures { result ≡ record { first = 0; links = [] } }
     {
         Everyone {
-            past: None,
+            past: Past::Nobody,
             earlier: 0,
+            latest: Vec::new(alloc),
+        }
+    }
+
+    /// So many were there, of whom nothing else is known.
+    pub(crate) fn forgotten(alloc: Global, count: u64) -> Everyone
+        requires { count ≤ 2 ^ 62 + 2 ^ 60 }
+        ensures { result ≡ record { first = count; links = replicate count forgotten } }
+    {
+        Everyone {
+            past: Past::Forgotten { count },
+            earlier: count,
             latest: Vec::new(alloc),
         }
     }
@@ -80,7 +100,7 @@ impl Everyone {
     ) -> Result<Vec<Ancestor>, Memory>
         requires world { self.old.links
             ≡ (world_after (values_of config.now.value) update).everyone }
-        requires few { length self.old.links ≤ 2 ^ 60 }
+        requires few { length self.old.links ≤ 2 ^ 62 + 2 ^ 60 }
         ensures all { OnOk result
             (self.new ≡ record self.old { first = length self.old.links }) }
         ensures latest { IfOk result
@@ -88,8 +108,21 @@ impl Everyone {
     {
         let count = self.len();
         let config = Arc::try_clone(config)?;
-        self.past = Some(Past { config, update });
+        self.past = Past::Run { config, update };
         self.earlier = count;
         Ok(mem::replace(&mut self.latest, Vec::new(alloc)))
+    }
+    /// Of all that were there nothing but their number is known from now on.
+    pub(crate) fn forget(&mut self)
+        requires { length self.old.links ≤ 2 ^ 62 + 2 ^ 60 }
+        ensures { self.new ≡ record {
+          first = length self.old.links;
+          links = replicate (length self.old.links) forgotten;
+        } }
+    {
+        let count = self.len();
+        self.past = Past::Forgotten { count };
+        self.earlier = count;
+        self.latest.clear();
     }
 }

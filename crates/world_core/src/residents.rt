@@ -3,10 +3,12 @@ ghost use Rattle.std.specs.Prelude.{◌≡◌, ◌<◌, None, Some, IfOk, length
 ghost use Rattle.std.specs.Option.{option_copied};
 ghost use Rattle.world_rules.specs.Statistics.{organism_in};
 ghost use Rattle.world_rules.specs.World.{id_of, ids_of};
+ghost use Rattle.world_core.specs.Resumed.{IsResidentIn};
 
 use avida_port::Memory;
 use cell_shards::BoxedOrganism;
 use organism::Organism;
+use saved_lines::Resident;
 use std::alloc::{AllocError, Global};
 use std::marker::Model;
 
@@ -70,6 +72,21 @@ impl Residents {
         match &self.organisms[cell] {
             Some(_) => Some(self.ids[cell]),
             None => None,
+        }
+    }
+
+    /// Who stands in the cell, with all values.
+    pub(crate) fn resident_at(&self, alloc: Global, cell: u32) -> Result<Option<Resident>, Memory>
+        requires { cell < length self.now }
+        ensures { IfOk result (IsResidentIn cell (slice_index_or self.now cell None)) }
+    {
+        match &self.organisms[cell as usize] {
+            Some(organism) => Ok(Some(Resident {
+                cell,
+                id: self.ids[cell as usize],
+                image: organism.image(alloc)?,
+            })),
+            None => Ok(None),
         }
     }
 

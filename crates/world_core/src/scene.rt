@@ -1,9 +1,10 @@
 // A world within an update.
-ghost use Rattle.std.specs.Prelude.{◌≡◌, ◌++◌, ◌∷◌, [], ◌<◌, ◌≤◌, ◌^◌, Some, IfOk, None, OnOk, drop, length, map, option_map, slice_get, slice_index_or, slice_set};
+ghost use Rattle.std.specs.Prelude.{◌≡◌, ◌+◌, ◌++◌, ◌∷◌, [], ◌<◌, ◌≤◌, ◌^◌, Some, IfOk, None, OnOk, drop, length, map, option_map, replicate, slice_get, slice_index_or, slice_set};
 ghost use Rattle.std.specs.Option.{option_to_list};
 ghost use Rattle.genome.specs.Genome.{letters};
 ghost use Rattle.genotype_bank.specs.BankHistory.{with_genome};
 ghost use Rattle.mutations.specs.BirthRecord.{record_of};
+ghost use Rattle.saved_worlds.specs.Resuming.{forgotten};
 ghost use Rattle.world_config.specs.Shown.{values_of};
 ghost use Rattle.world_rules.specs.Scene.{next_id, standing_at, with_death};
 ghost use Rattle.world_rules.specs.Statistics.{scene_stats};
@@ -141,7 +142,7 @@ impl Scene {
     ) -> Result<(), Memory>
         requires cell { cell < length self.old.cells }
         requires number { slice_get self.old.bank number ≡ Some organism.genome }
-        requires age { organism.age ≡ 0 }
+        requires age { organism.age < 2 ^ 48 }
         requires merit { organism.merit ≤ 2 ^ 38 }
         ensures { OnOk result (self.new ≡ record self.old {
           cells = slice_set self.old.cells cell (Some (record { id = id; organism = organism }));
@@ -172,13 +173,24 @@ impl Scene {
     ) -> Result<Vec<Ancestor>, Memory>
         requires world { self.old.everyone
             ≡ (world_after (values_of config.now.value) self.old.update).everyone }
-        requires few { length self.old.everyone ≤ 2 ^ 60 }
+        requires few { length self.old.everyone ≤ 2 ^ 62 + 2 ^ 60 }
         ensures scene { OnOk result
             (self.new ≡ record self.old { first = length self.old.everyone }) }
         ensures newcomers { IfOk result
             (λ newcomers. newcomers.items ≡ drop self.old.first self.old.everyone) }
     {
         self.everyone.settle(alloc, config, self.update)
+    }
+
+    /// Of all organisms ever in the world nothing but their number is known from now on.
+    pub(crate) fn forget(&mut self)
+        requires { length self.old.everyone ≤ 2 ^ 62 + 2 ^ 60 }
+        ensures { self.new ≡ record self.old {
+          first = length self.old.everyone;
+          everyone = replicate (length self.old.everyone) forgotten;
+        } }
+    {
+        self.everyone.forget();
     }
 
     /// How many different genomes were ever in the world.

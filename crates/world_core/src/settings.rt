@@ -29,7 +29,7 @@ pub(crate) fn settings_at(config: &Config, update: u32) -> Settings
 
 /// The rates at the keys, changed by the rate events of earlier updates in order.
 #[tactic(auto, unfolding(world_rules::specs::Settings::rates_at))]
-fn rates_at(config: &Config, update: u32) -> Rates
+pub(crate) fn rates_at(config: &Config, update: u32) -> Rates
     ensures { numbers_of result ≡ rates_at (values_of config.now) update }
 {
     let mut rates = first_rates(config);

@@ -36,7 +36,7 @@ pub(crate) fn next_scene<R: Threads + Wait + Sync, G: Gate + Sync>(
 ) -> Result<(Scene, Stats, Vec<u8>), Memory>
     requires size { length scene.cells ≡ config.now.width * config.now.height }
     requires update { scene.update < GREATEST_UPDATES }
-    requires few { length scene.everyone ≤ 2 ^ 60 }
+    requires few { length scene.everyone ≤ 2 ^ 62 + 2 ^ 60 }
     requires workers { (1 ≤ workers) × (workers ≤ 64) }
     requires lives { LiveOn (values_of config.now) (world_of (scene_in scene)) }
     ensures scene { IfOk result (λ next. scene_in next.0

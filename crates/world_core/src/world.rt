@@ -5,6 +5,7 @@ ghost use Rattle.genome.specs.Genome.{letters};
 ghost use Rattle.genotype_bank.specs.BankHistory.{HasEachOnce};
 ghost use Rattle.log_lines.specs.Line as line_spec;
 ghost use Rattle.log_lines.specs.LineText.{line_text};
+ghost use Rattle.saved_worlds.specs.SavedState.{state_of};
 ghost use Rattle.world_config.specs.Shown.{values_of};
 ghost use Rattle.world_rules.specs.Descent.{line_in};
 ghost use Rattle.world_rules.specs.LogText.{head_text, update_text, end_text};
@@ -17,6 +18,7 @@ use crate::descent::{first_tree, grow_tree};
 use crate::founding::first_scene;
 use crate::picture::WorldPicture;
 use crate::scene::Scene;
+use crate::state::State;
 use crate::updating::next_scene;
 use avida_port::{Gate, Memory};
 use genome::Genome;
@@ -27,7 +29,7 @@ use std::marker::Model;
 use std::sync::{Arc, Wait};
 use std::thread::Threads;
 use world_config::Config;
-use world_laws::laws::organisms_live_on;
+use world_laws::laws::{organisms_are_sound, organisms_live_on};
 use world_rules::laws::ids_are_places;
 use world_tree::WorldTree;
 
@@ -122,6 +124,25 @@ impl World {
             workers,
         };
         Ok((world, text))
+    }
+
+    /// What the run leaves, as a saved world, which goes on without events.
+    pub fn into_state(self) -> State
+        requires { self.update ≡ self.config.updates }
+        ensures { result ≡ state_of self.config }
+    {
+        let World {
+            config,
+            scene,
+            workers,
+            ..
+        } = self;
+        organisms_are_sound(&config, scene.update);
+        State {
+            config,
+            scene,
+            workers,
+        }
     }
 
     /// The first line of the log.

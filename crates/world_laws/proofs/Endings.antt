@@ -1,9 +1,9 @@
 -- How an update ends, from sound organisms alone.
-use Rattle.std.proofs.Common.{◌≡◌, ℕ, ◌+◌, ◌*◌, ◌≤◌, List, Option, map, length, arith}
+use Rattle.std.proofs.Common.{◌+◌, ◌*◌, length, arith}
 use Rattle.organism.specs.Lived.{IsSoundOrganism}
 use Rattle.world_config.specs.Values.{ConfigValues}
 use Rattle.world_rules.specs.World.{World}
-use Rattle.world_rules.specs.Lives.{slice_at, lives_of}
+use Rattle.world_rules.specs.Lives.{slice_at}
 use Rattle.world_rules.specs.Scene.{Scene}
 use Rattle.world_rules.specs.Update.{after_lives, after_burials, deaths_of, births_of, placings_of, after_births, events_at, after_events, last_scene, scene_of_lives, lives_after, next_scene, next_world}
 use Rattle.world_laws.proofs.Scenes.{Each}

@@ -1,0 +1,23 @@
+use Rattle.std.proofs.Common.{◌≡◌, All, length, map}
+use Rattle.std.specs.Prelude.{fold}
+use Rattle.std.specs.Vec.Iter.{into_iter_items}
+use Rattle.saved_lines.specs.SavedValues.{head_values}
+use Rattle.saved_worlds.specs.SavedGrammar.{with_placed}
+use Rattle.saved_worlds.specs.ValidState.{MayStandThere, placed_in}
+use Rattle.world_laws.specs.Keeping.{AreSound}
+use Rattle.world_core.proofs.resuming.restore_all.Given as goal
+
+-- with those that are left the cells come to the same, and all so far are sound
+abbrev pub invariant-loop-resident : goal.invariant-loop-resident
+invariant-loop-resident g l = record {
+  done : fold with_placed l.scene.cells
+      (map (placed_in (head_values l.head)) (into_iter_items l.resident-iterator))
+      ≡ fold with_placed l.fn.scene.cells
+      (map (placed_in (head_values l.head)) (into_iter_items l.initial.resident-iterator));
+  each : All (MayStandThere (head_values l.head))
+      (map (placed_in (head_values l.head)) (into_iter_items l.resident-iterator));
+  size : length l.scene.cells ≡ length l.fn.scene.cells;
+  sound : AreSound l.scene.cells;
+  update : l.scene.update ≡ l.fn.scene.update;
+  everyone : l.scene.everyone ≡ l.fn.scene.everyone;
+}

@@ -1,0 +1,35 @@
+use Rattle.std.proofs.Common.{◌≡◌, ◌∙◌, ℕ, ap, subst, sym}
+use Rattle.world_config.specs.Shown.{values_of}
+use Rattle.world_config.specs.Values.{ConfigValues}
+use Rattle.world_laws.specs.Keeping.{AreSound}
+use Rattle.world_rules.specs.WorldRun.{world_after}
+use Rattle.saved_worlds.specs.SavedState.{state_of}
+use Rattle.world_core.specs.Scenes.{SceneValue}
+use Rattle.world_core.specs.WorldValue.{WorldValue}
+use Rattle.world_core.proofs.ResumeLemmas.{run_goes_on, run_leaves}
+use Rattle.world_core.proofs.world.World.into_state.Goals as goal
+
+pub invariant_of-result : goal.invariant_of-result
+invariant_of-result c =
+    let own = values_of c.self.inside.config.value in
+    let ended : c.self.inside.scene.update ≡ own.updates =
+    ap (λ (v : WorldValue). v.update) c.self.view_is ∙ c.requires
+    ∙ ap (λ (v : WorldValue). v.config.updates) (sym c.self.view_is) in
+    let sound : AreSound (world_after own c.self.inside.scene.update).cells =
+    subst (λ (n : ℕ). AreSound (world_after own n).cells)
+    (ap (λ (s : SceneValue). s.update) c.scene.view_is)
+    (subst (λ (config : ConfigValues). AreSound (world_after config c.scene.inside.update).cells)
+    (ap values_of c.deref.ensures) c.organisms_are_sound.ensures.each) in (
+      run_goes_on own c.self.inside.scene c.self.inside.stats c.self.invariant.0 ended sound,
+      c.self.invariant.1,
+      c.self.invariant.2,
+    )
+
+pub returns : goal.returns
+returns c =
+    let own = values_of c.self.inside.config.value in
+    let ended : c.self.inside.scene.update ≡ own.updates =
+    ap (λ (v : WorldValue). v.update) c.self.view_is ∙ c.requires
+    ∙ ap (λ (v : WorldValue). v.config.updates) (sym c.self.view_is) in
+    run_leaves own c.self.inside.scene c.self.inside.stats c.self.invariant.0 ended
+    ∙ ap (λ (v : WorldValue). state_of v.config) c.self.view_is

@@ -1,0 +1,37 @@
+-- A saved world, as contracts see it, and what its type keeps (docs/WORLD.md, "Saved worlds").
+use Rattle.std.specs.Prelude.{◌≡◌, ℕ, ◌+◌, ◌*◌, ◌≤◌, ◌^◌, Option, None, Some, length}
+use Rattle.saved_lines.specs.SavedValues.{organism_values}
+use Rattle.saved_lines.specs.declared.resident.Resident.{Resident}
+use Rattle.saved_worlds.specs.SavedState.{SavedState, state_of_world}
+use Rattle.saved_worlds.specs.SavedWorldText.{values_in}
+use Rattle.virtual_cpu.specs.Image.{image_of}
+use Rattle.world_config.specs.Values.{ConfigValues}
+use Rattle.world_laws.specs.Keeping.{AreSound}
+use Rattle.world_rules.specs.Update.{world_of}
+use Rattle.world_rules.specs.World.{Occupant}
+use Rattle.world_core.specs.Scenes.{SceneValue, scene_in}
+
+-- the state that a scene is, under a configuration whose events are over
+abbrev pub state_in : ConfigValues → SceneValue → SavedState
+state_in config scene = state_of_world config (world_of (scene_in scene))
+
+-- a scene can go on under this configuration, whose events are over: its organisms are sound, and
+-- its numbers are few
+pub record CanGoOn (config : ConfigValues) (scene : SceneValue) : Type 0 where
+  pub over : config.updates ≤ scene.update
+  pub updates : scene.update ≤ 1000000
+  pub size : length scene.cells ≡ config.width * config.height
+  pub sound : AreSound scene.cells
+  pub few : length scene.everyone ≤ 2 ^ 62 + 2 ^ 33 * scene.update
+
+-- a resident has the values of who stands in a cell
+pub record IsResident (cell : ℕ) (o : Occupant) (resident : Resident) : Type 0 where
+  pub values : organism_values resident ≡ values_in cell o
+  pub machine : resident.image.cpu ≡ image_of o.organism.machine
+
+-- so it has where somebody stands; there is none exactly where nobody does
+abbrev pub IsResidentIn : ℕ → Option Occupant → Option Resident → Type 0
+IsResidentIn cell None None = Unit {0}
+IsResidentIn cell None (Some resident) = ⊥
+IsResidentIn cell (Some o) None = ⊥
+IsResidentIn cell (Some o) (Some resident) = IsResident cell o resident

@@ -1,0 +1,168 @@
+// How a saved world is taken up again.
+ghost use Rattle.std.specs.Prelude.{◌≡◌, ◌+◌, ◌*◌, ◌<◌, ◌≤◌, ◌^◌, All, None, Some, IfOk, OnOk, fold, length, map, replicate, slice_set};
+ghost use Rattle.genome.specs.Genome.{letters};
+ghost use Rattle.organism.specs.Image.{organism_of_image};
+ghost use Rattle.organism.specs.Lived.{IsSoundOrganism};
+ghost use Rattle.saved_lines.specs.SavedValues.{head_values};
+ghost use Rattle.saved_worlds.specs.Resuming.{forgotten};
+ghost use Rattle.saved_worlds.specs.SavedGrammar.{with_placed};
+ghost use Rattle.saved_worlds.specs.SavedState.{head_at};
+ghost use Rattle.saved_worlds.specs.ValidState.{IsHead, MayStandThere, placed_in};
+ghost use Rattle.world_config.specs.Bounds.{IsWithin};
+ghost use Rattle.world_config.specs.Shown.{values_of};
+ghost use Rattle.world_laws.specs.Keeping.{AreSound};
+
+use crate::everyone::Everyone;
+use crate::population::Population;
+use crate::scene::Scene;
+use crate::settings::rates_at;
+use avida_port::Memory;
+use genome::Genome;
+use instruction_set::Letter;
+use organism::Organism;
+use saved_lines::{Resident, StateHead};
+use std::alloc::Global;
+use std::sync::Wait;
+use world_config::{Config, Events};
+
+/// The values of a saved world besides its organisms. The rates are those of the next update.
+pub(crate) fn head_at(config: &Config, update: u32, next_id: u64) -> StateHead
+    requires { update ≤ 1000000 }
+    ensures { head_values result ≡ head_at (values_of config.now) update next_id }
+{
+    StateHead {
+        width: config.width,
+        height: config.height,
+        update,
+        next_id,
+        seed: config.seed,
+        average_slices: config.average_slices,
+        death: config.death,
+        age_limit: config.age_limit,
+        rates: rates_at(config, update + 1),
+        prefer_empty: config.prefer_empty,
+        need_alloc: config.need_alloc,
+        executed_percent: config.executed_percent,
+        copied_percent: config.copied_percent,
+        least_length: config.least_length,
+        greatest_length: config.greatest_length,
+        memory_limit: config.memory_limit,
+    }
+}
+
+/// A configuration without events that goes on as this head does. Of its ancestor a saved world
+/// tells nothing, so it is any genome.
+#[tactic(auto, unfolding(world_rules::specs::Settings::rates_at))]
+pub(crate) fn config_of(alloc: Global, head: &StateHead) -> Result<Config, Memory>
+    requires { IsHead (head_values head.now) }
+    ensures head { IfOk result (λ config.
+        head_at (values_of config) head.now.update head.now.next_id ≡ head_values head.now) }
+    ensures over { IfOk result (λ config. config.updates ≡ 0) }
+{
+    Ok(Config {
+        width: head.width,
+        height: head.height,
+        updates: 0,
+        seed: head.seed,
+        founder_cell: 0,
+        average_slices: head.average_slices,
+        death: head.death,
+        age_limit: head.age_limit,
+        copy_error: head.rates.copy,
+        divide_insert: head.rates.insert,
+        divide_delete: head.rates.delete,
+        site_point: head.rates.site_point,
+        site_insert: head.rates.site_insert,
+        site_delete: head.rates.site_delete,
+        prefer_empty: head.prefer_empty,
+        need_alloc: head.need_alloc,
+        executed_percent: head.executed_percent,
+        copied_percent: head.copied_percent,
+        least_length: head.least_length,
+        greatest_length: head.greatest_length,
+        memory_limit: head.memory_limit,
+        ancestor: any_genome(alloc, head.least_length)?,
+        event: Events::none(alloc),
+    })
+}
+
+/// A genome of so many letters.
+fn any_genome(alloc: Global, count: u32) -> Result<Genome, Memory>
+    requires { IsWithin 8 8192 count }
+    ensures { IfOk result (λ genome. length (letters genome) ≡ count) }
+{
+    let letters = vec![in alloc; Letter::NopA; count as usize]?;
+    Genome::from_letters(alloc, &letters).map_err(|_| Memory)
+}
+
+/// The world of a head in which nobody stands yet.
+pub(crate) fn resumed_scene(alloc: Global, head: &StateHead) -> Result<Scene, Memory>
+    requires { IsHead (head_values head.now) }
+    ensures update { IfOk result (λ scene. scene.update ≡ head.now.update) }
+    ensures cells { IfOk result
+        (λ scene. scene.cells ≡ replicate (head.now.width * head.now.height) None) }
+    ensures everyone { IfOk result
+        (λ scene. scene.everyone ≡ replicate head.now.next_id forgotten) }
+{
+    Ok(Scene {
+        update: head.update,
+        cells: Population::none(alloc, head.width * head.height)?,
+        everyone: Everyone::forgotten(alloc, head.next_id),
+        gone: Vec::new(alloc),
+    })
+}
+
+/// The organisms stand in their cells again. After `Memory` drop the scene.
+pub(crate) fn restore_all<R: Wait>(
+    rt: &R,
+    alloc: Global,
+    scene: &mut Scene,
+    head: &StateHead,
+    residents: Vec<Resident>,
+) -> Result<(), Memory>
+    requires size { length scene.old.cells ≡ head.now.width * head.now.height }
+    requires each { All (MayStandThere (head_values head.now))
+        (map (placed_in (head_values head.now)) residents.items) }
+    requires sound { AreSound scene.old.cells }
+    ensures cells { OnOk result (scene.new.cells ≡ fold with_placed scene.old.cells
+        (map (placed_in (head_values head.now)) residents.items)) }
+    ensures size { OnOk result (length scene.new.cells ≡ length scene.old.cells) }
+    ensures sound { OnOk result (AreSound scene.new.cells) }
+    ensures update { OnOk result (scene.new.update ≡ scene.old.update) }
+    ensures everyone { OnOk result (scene.new.everyone ≡ scene.old.everyone) }
+{
+    for resident in residents {
+        restore(rt, alloc, scene, head.memory_limit, resident)?;
+    }
+    Ok(())
+}
+
+/// An organism stands in its cell again, with its values. After `Memory` drop the scene.
+fn restore<R: Wait>(
+    rt: &R,
+    alloc: Global,
+    scene: &mut Scene,
+    memory_limit: u32,
+    resident: Resident,
+) -> Result<(), Memory>
+    requires cell { resident.cell < length scene.old.cells }
+    requires sound { IsSoundOrganism (organism_of_image resident.image memory_limit) }
+    requires age { resident.image.age < 2 ^ 48 }
+    ensures update { OnOk result (scene.new.update ≡ scene.old.update) }
+    ensures cells { OnOk result (scene.new.cells ≡ slice_set scene.old.cells resident.cell
+        (Some (record {
+          id = resident.id;
+          organism = organism_of_image resident.image memory_limit;
+        }))) }
+    ensures everyone { OnOk result (scene.new.everyone ≡ scene.old.everyone) }
+{
+    let Resident {
+        cell,
+        id,
+        mut image,
+    } = resident;
+    let handle = scene.intern(rt, alloc, image.genome.copy(alloc)?)?;
+    image.genome = handle.genome;
+    let organism = Organism::from_image(alloc, &image, memory_limit)?;
+    scene.come(id, cell, handle.number, organism)
+}
