@@ -1,0 +1,266 @@
+-- A saved world that is written is read again.
+use Rattle.std.proofs.Common.{◌≡◌, ℕ, ◌+◌, ◌<◌, ◌≤◌, ◌==◌, Bool, true, false, List, [], ◌∷◌, ◌++◌, Option, Some, None, Result, Ok, length, replicate, refl, sym, ap, subst, ◌∙◌, arith, append_assoc, append-nil, length-append, eq-eqb}
+use Rattle.std.specs.List.{enumerate_from, flat_map, AllByRecursion}
+use Rattle.std.specs.Prelude.{cond, fold, is_some}
+use Rattle.std.proofs.lemmas.List.Sums.{sum_by-cons}
+use Rattle.std.proofs.Math.Seq.{set-append_seam}
+use Rattle.std.proofs.lemmas.Bool.Decides.{nat_tests}
+use Rattle.world_rules.specs.World.{Occupant, id_of, ids_of}
+use Rattle.virtual_cpu.specs.Image.{image_of, machine_of_image}
+use Rattle.virtual_cpu.specs.Machine.{Machine, IsMachine}
+use Rattle.lineage_log.specs.Slots.{taken}
+use Rattle.log_lines.specs.LineText.{form_text}
+use Rattle.saved_lines.specs.SavedValues.{HeadValues}
+use Rattle.saved_lines.specs.SavedText.{count_text, head_text, machine_fields, machine_row, machine_text, organism_numbers, organism_row, organism_text}
+use Rattle.saved_lines.specs.SavedForms.{HasForm, row_text}
+use Rattle.saved_lines.specs.SavedReading.{SavedLine, Head, Organism, Machine as MachineLine, Count, saved_line_of}
+use Rattle.saved_worlds.specs.SavedState.{SavedState}
+use Rattle.saved_worlds.specs.SavedGrammar.{Place, Before, Among, Halfway, After, Placed, SavedFault, after_told, may_follow, may_stand, one_piece, pieces_state, place_if, placed_of, saved_of, state_of_lines, told, with_placed}
+use Rattle.saved_worlds.specs.SavedWorldText.{cell_text, saved_text, slot_text, values_in}
+use Rattle.saved_worlds.specs.ValidState.{AreSaved}
+use Rattle.checkpoint.specs.Standing.{HasKindsThere, IsWritable, standing_from}
+use Rattle.checkpoint.proofs.FormLemmas.{cells_fit, head_form, machine_form, organism_form}
+use Rattle.checkpoint.proofs.AgainLemmas.{above_those, follows_again, new_to_those, placed_again, stands_again, stands_itself}
+use Rattle.checkpoint.proofs.ReadLemmas.{cut, more_pieces}
+
+-- the cells of those who stand in them
+pub cells_again : (front : List (Option Occupant)) (first : ℕ) (cells : List (Option Occupant))
+    → first ≡ length front
+    → fold with_placed (front ++ replicate (length cells) None) (standing_from first cells)
+    ≡ front ++ cells
+cells_again front first [] same = refl
+cells_again front first (None ∷ cells) same =
+    let others : List (Option Occupant) = replicate (length cells) None in
+    let more : first + 1 ≡ length (front ++ None ∷ []) =
+    omega (arith, same, length-append front (None ∷ [])) in
+    ap (λ (l : List (Option Occupant)). fold with_placed l (standing_from (first + 1) cells))
+    (sym (append_assoc front (None ∷ []) others))
+    ∙ cells_again (front ++ None ∷ []) (first + 1) cells more
+    ∙ append_assoc front (None ∷ []) cells
+cells_again front first (Some o ∷ cells) same =
+    let others : List (Option Occupant) = replicate (length cells) None in
+    let more : first + 1 ≡ length (front ++ Some o ∷ []) =
+    omega (arith, same, length-append front (Some o ∷ [])) in
+    let placed : with_placed (front ++ None ∷ others) (record { cell = first; occupant = o })
+    ≡ front ++ Some o ∷ others =
+    subst (λ (n : ℕ).
+    with_placed (front ++ None ∷ others) (record { cell = n; occupant = o })
+    ≡ front ++ Some o ∷ others) (sym same) (set-append_seam front None others (Some o)) in
+    ap (λ (l : List (Option Occupant)). fold with_placed l (standing_from (first + 1) cells))
+    (placed ∙ sym (append_assoc front (Some o ∷ []) others))
+    ∙ cells_again (front ++ Some o ∷ []) (first + 1) cells more
+    ∙ append_assoc front (Some o ∷ []) cells
+
+-- a line before others is a piece of its own
+cut_line : (text rest : List ℕ) → AllByRecursion (λ b. 10 < b) text
+    → cut (text ++ 10 ∷ rest) ≡ text ∷ cut rest
+cut_line [] rest all = refl
+cut_line (b ∷ bs) rest all =
+    let other : (b == 10) ≡ false = grind (arith, nat_tests, all.0) in
+    rw (other, cut_line bs rest all.1) refl
+
+-- a line that is read and fits
+pub line_on : (number : ℕ) (place next : Place) (text rest : List ℕ) (line : SavedLine)
+    → AllByRecursion (λ b. 10 < b) text → saved_line_of text ≡ Some line
+    → told place line ≡ Some next
+    → pieces_state number place (cut (text ++ 10 ∷ rest))
+    ≡ pieces_state (number + 1) next (cut rest)
+line_on number place next text rest line plain is fits =
+    let others = λ (p : Place). pieces_state (number + 1) p (cut rest) in
+    ap (λ (l : List (List ℕ)). pieces_state number place l) (cut_line text rest plain)
+    ∙ more_pieces number place text rest
+    ∙ ap (λ (o : Option SavedLine). one_piece number place o others) is
+    ∙ ap (λ (t : Option Place). after_told number t others) fits
+
+-- the text of the first of the two lines of an organism, without its newline
+abbrev organism_row_text : ℕ → Occupant → List ℕ
+organism_row_text cell o =
+    form_text 79 organism_row (organism_numbers (values_in cell o), o.organism.genome)
+
+-- the text of the second of them
+abbrev machine_row_text : Occupant → List ℕ
+machine_row_text o = form_text 77 machine_row (machine_fields (image_of o.organism.machine))
+
+-- its lines are read again, and come in their place
+pub record ReadsBack (head : HeadValues) (placed : List Placed) (cell : ℕ) (o : Occupant) : Type 0
+  where
+    pub organism : saved_line_of (organism_row_text cell o) ≡ Some (Organism (values_in cell o))
+    pub organism_plain : AllByRecursion (λ b. 10 < b) (organism_row_text cell o)
+    pub machine : saved_line_of (machine_row_text o)
+        ≡ Some (MachineLine (image_of o.organism.machine))
+    pub machine_plain : AllByRecursion (λ b. 10 < b) (machine_row_text o)
+    pub stands : may_stand head placed (values_in cell o) ≡ true
+    pub follows : may_follow head (values_in cell o) (image_of o.organism.machine) ≡ true
+    pub again : placed_of head (values_in cell o) (image_of o.organism.machine)
+        ≡ record { cell = cell; occupant = o }
+
+-- so do those of all who stand in some cells
+abbrev pub AllReadBack : HeadValues → List Placed → ℕ → List (Option Occupant) → Type 0
+AllReadBack head placed first [] = Unit {0}
+AllReadBack head placed first (None ∷ cells) = AllReadBack head placed (first + 1) cells
+AllReadBack head placed first (Some o ∷ cells) =
+    ReadsBack head placed first o
+    × AllReadBack head (placed ++ record { cell = first; occupant = o } ∷ []) (first + 1) cells
+
+-- the two lines of an organism
+organism_on : (number : ℕ) (head : HeadValues) (placed : List Placed) (cell : ℕ) (o : Occupant)
+    (rest : List ℕ) → ReadsBack head placed cell o
+    → pieces_state number (Among head placed) (cut (slot_text cell (Some o) ++ rest))
+    ≡ pieces_state (number + 1 + 1)
+    (Among head (placed ++ record { cell = cell; occupant = o } ∷ [])) (cut rest)
+unfolding organism_text machine_text
+organism_on number head placed cell o rest back =
+    let values = values_in cell o in
+    let image = image_of o.organism.machine in
+    let behind = machine_row_text o ++ 10 ∷ rest in
+    let one : Placed = record { cell = cell; occupant = o } in
+    let text : slot_text cell (Some o) ++ rest ≡ organism_row_text cell o ++ 10 ∷ behind =
+    append_assoc (organism_row_text cell o ++ 10 ∷ []) (machine_row_text o ++ 10 ∷ []) rest
+    ∙ append_assoc (organism_row_text cell o) (10 ∷ []) ((machine_row_text o ++ 10 ∷ []) ++ rest)
+    ∙ ap (λ (l : List ℕ). organism_row_text cell o ++ 10 ∷ l)
+    (append_assoc (machine_row_text o) (10 ∷ []) rest) in
+    let first : told (Among head placed) (Organism values) ≡ Some (Halfway head placed values) =
+    ap (λ (b : Bool). place_if b (Halfway head placed values)) back.stands in
+    let second : told (Halfway head placed values) (MachineLine image)
+    ≡ Some (Among head (placed ++ one ∷ [])) =
+    ap (λ (b : Bool). place_if b (Among head (placed ++ placed_of head values image ∷ [])))
+    back.follows
+    ∙ ap (λ (p : Placed). Some (Among head (placed ++ p ∷ []))) back.again in
+    ap (λ (l : List ℕ). pieces_state number (Among head placed) (cut l)) text
+    ∙ line_on number (Among head placed) (Halfway head placed values) (organism_row_text cell o)
+    behind (Organism values) back.organism_plain back.organism first
+    ∙ line_on (number + 1) (Halfway head placed values) (Among head (placed ++ one ∷ []))
+    (machine_row_text o) rest (MachineLine image) back.machine_plain back.machine second
+
+-- the lines of all who stand in some cells
+pub cells_on : (number : ℕ) (head : HeadValues) (placed : List Placed) (first : ℕ)
+    (cells : List (Option Occupant)) (rest : List ℕ) → AllReadBack head placed first cells
+    → (later : ℕ)
+    × (pieces_state number (Among head placed)
+    (cut (flat_map cell_text (enumerate_from first cells) ++ rest))
+    ≡ pieces_state later (Among head (placed ++ standing_from first cells)) (cut rest))
+cells_on number head placed first [] rest back = (
+  number,
+  ap (λ (l : List Placed). pieces_state number (Among head l) (cut rest))
+      (sym (append-nil placed)),
+)
+cells_on number head placed first (None ∷ cells) rest back =
+    cells_on number head placed (first + 1) cells rest back
+cells_on number head placed first (Some o ∷ cells) rest back =
+    let one : Placed = record { cell = first; occupant = o } in
+    let others = flat_map cell_text (enumerate_from (first + 1) cells) in
+    let deep =
+    cells_on (number + 1 + 1) head (placed ++ one ∷ []) (first + 1) cells rest back.1 in (
+      deep.0,
+      ap (λ (l : List ℕ). pieces_state number (Among head placed) (cut l))
+          (append_assoc (slot_text first (Some o)) others rest)
+          ∙ organism_on number head placed first o (others ++ rest) back.0
+          ∙ deep.1
+          ∙ ap (λ (l : List Placed). pieces_state deep.0 (Among head l) (cut rest))
+          (append_assoc placed (one ∷ []) (standing_from (first + 1) cells)),
+    )
+
+-- what is used of the spelling of lines
+pub record OneSpelling : Type 0 where
+  pub again : (line : SavedLine) → HasForm line → saved_line_of (row_text line) ≡ Some line
+  pub one_line : (line : SavedLine) → HasForm line → AllByRecursion (λ b. 10 < b) (row_text line)
+
+-- and of images
+abbrev pub WholeImages : Type 0
+WholeImages = (m : Machine) → IsMachine m → machine_of_image (image_of m) m.made m.limit ≡ m
+
+-- the lines of who stand in cells of a saved world are read again in their places
+pub all_read_back : OneSpelling → WholeImages → (head : HeadValues) (placed : List Placed)
+    (first : ℕ) (cells : List (Option Occupant))
+    → AreSaved head (placed ++ standing_from first cells)
+    → AllByRecursion HasKindsThere (standing_from first cells) → AllReadBack head placed first cells
+all_read_back spell whole head placed first [] saved forms = tt
+all_read_back spell whole head placed first (None ∷ cells) saved forms =
+    all_read_back spell whole head placed (first + 1) cells saved forms
+all_read_back spell whole head placed first (Some o ∷ cells) saved forms =
+    let one : Placed = record { cell = first; occupant = o } in
+    let others = standing_from (first + 1) cells in
+    let values = values_in first o in
+    let image = image_of o.organism.machine in
+    let stands = stands_itself head placed one others saved in
+    let sound = stands.occupant.sound in
+    let line : HasForm (Organism values) = organism_form head first o saved.values stands forms.0 in
+    let machine : HasForm (MachineLine image) =
+    machine_form o.organism.machine sound.machine sound.words in (
+      record {
+        organism = spell.again (Organism values) line;
+        organism_plain = spell.one_line (Organism values) line;
+        machine = spell.again (MachineLine image) machine;
+        machine_plain = spell.one_line (MachineLine image) machine;
+        stands = stands_again head first o stands placed
+            (above_those head placed one others saved)
+            (new_to_those head placed one others saved);
+        follows = follows_again head first o stands;
+        again = placed_again head first o stands whole;
+      },
+      all_read_back spell whole head (placed ++ one ∷ []) (first + 1) cells
+          (subst (λ (l : List Placed). AreSaved head l)
+          (sym (append_assoc placed (one ∷ []) others))
+          saved) forms.1,
+    )
+
+-- as many stand in cells as are counted there
+counted : (first : ℕ) (cells : List (Option Occupant))
+    → taken (ids_of cells) ≡ length (standing_from first cells)
+counted first [] = refl
+counted first (None ∷ cells) = counted (first + 1) cells
+counted first (Some o ∷ cells) =
+    let more : taken (ids_of (Some o ∷ cells)) ≡ 1 + taken (ids_of cells) =
+    sum_by-cons (λ (slot : Option ℕ). cond (is_some slot) 1 0) (id_of (Some o)) (ids_of cells) in
+    omega (arith, more, counted (first + 1) cells)
+
+-- and they are at most the cells
+few_stand : (first : ℕ) (cells : List (Option Occupant))
+    → length (standing_from first cells) ≤ length cells
+few_stand first [] = omega arith
+few_stand first (None ∷ cells) = omega (arith, few_stand (first + 1) cells)
+few_stand first (Some o ∷ cells) = omega (arith, few_stand (first + 1) cells)
+
+-- what is written of a state is read as it
+pub read_back : OneSpelling → WholeImages → (state : SavedState) → IsWritable state
+    → saved_of (saved_text state) ≡ Ok state
+unfolding saved_of saved_text head_text count_text
+read_back spell whole state is =
+    let head = state.head in
+    let standing = standing_from 0 state.cells in
+    let count = taken (ids_of state.cells) in
+    let lines = flat_map cell_text (enumerate_from 0 state.cells) in
+    let last = row_text (Count count) ++ 10 ∷ [] in
+    let after = state_of_lines head standing in
+    let text : (((row_text (Head head) ++ 10 ∷ []) ++ lines) ++ last)
+    ≡ row_text (Head head) ++ 10 ∷ (lines ++ last) =
+    append_assoc (row_text (Head head) ++ 10 ∷ []) lines last
+    ∙ append_assoc (row_text (Head head)) (10 ∷ []) (lines ++ last) in
+    let first : HasForm (Head head) = head_form head is.saved.values in
+    let few : count ≤ 18446744073709551615 =
+    omega (
+      arith,
+      counted 0 state.cells,
+      few_stand 0 state.cells,
+      is.size,
+      cells_fit head.width head.height is.saved.values.width.1 is.saved.values.height.1,
+    ) in
+    let end : HasForm (Count count) = (omega arith, few) in
+    let cells = cells_on 2 head [] 0 state.cells last
+    (all_read_back spell whole head [] 0 state.cells is.saved is.kinds) in
+    let ends : told (Among head standing) (Count count) ≡ Some (After after) =
+    ap (λ (b : Bool). place_if b (After after))
+    (eq-eqb count (length standing) (counted 0 state.cells)) in
+    let with_cells = λ (cells : List (Option Occupant)).
+    let made : SavedState = record { head = head; cells = cells } in made in
+    let again : after ≡ state =
+    ap with_cells
+    (ap (λ (n : ℕ). fold with_placed (replicate n None) standing) (sym is.size)
+    ∙ cells_again [] 0 state.cells refl) in
+    ap (λ (l : List ℕ). pieces_state 1 Before (cut l)) text
+    ∙ line_on 1 Before (Among head []) (row_text (Head head)) (lines ++ last) (Head head)
+    (spell.one_line (Head head) first) (spell.again (Head head) first) refl
+    ∙ cells.1
+    ∙ line_on cells.0 (Among head standing) (After after) (row_text (Count count)) [] (Count count)
+    (spell.one_line (Count count) end) (spell.again (Count count) end) ends
+    ∙ ap (λ (s : SavedState). let read : Result SavedState SavedFault = Ok s in read) again

@@ -1,0 +1,108 @@
+-- What is kept of the organisms that were told, with one organism more.
+use Rattle.std.proofs.Common.{◌≡◌, ℕ, zero, suc, ◌+◌, ◌≤◌, ◌==◌, Bool, true, false, cond, List, [], ◌∷◌, ◌++◌, Some, length, refl, sym, ap, subst, ◌∙◌, arith, inl, inr}
+use Rattle.std.specs.List.{list_all}
+use Rattle.std.specs.Ordering.{nat_cmp}
+use Rattle.std.specs.Prelude.{◌⊎◌, ◌&&◌, not, nat_le, nat_lt, slice_get}
+use Rattle.std.specs.BTreeSet.{BTreeSet, contains, Updates}
+use Rattle.std.specs.BTreeMap.{is_at}
+use Rattle.std.proofs.lemmas.Bool.{and_parts}
+use Rattle.std.proofs.lemmas.Bool.Decides.{nat_tests}
+use Rattle.std.proofs.lemmas.List.Elements.{All-append, All-cons}
+use Rattle.std.proofs.lemmas.List.Folds.{list_all-append}
+use Rattle.std.proofs.lemmas.Option.{slice_get_within}
+use Rattle.saved_lines.specs.SavedValues.{HeadValues}
+use Rattle.saved_worlds.specs.SavedGrammar.{Placed, is_above, is_new}
+use Rattle.saved_worlds.specs.ValidState.{AreSaved, IsBefore, MayStandThere}
+
+-- a key is at another exactly where they are one number
+pub at_key : (a b : ℕ) → is_at (nat_cmp a) b ≡ (a == b)
+at_key a b = grind (arith, nat_tests)
+
+-- a test of all items and one more
+all_more : {X : Type 0} (test : X → Bool) (items : List X) (item : X)
+    → list_all test (items ++ item ∷ []) ≡ (list_all test items && (test item && true))
+all_more test items item = list_all-append test items (item ∷ [])
+
+-- not among the others and not the one
+either : (same known : Bool) → (not known && (not same && true)) ≡ not (cond same true known)
+either true true = refl
+either true false = refl
+either false true = refl
+either false false = refl
+
+module _ (placed : List Placed) (one : Placed) where
+  -- above one more organism is what is above the others and it
+  pub above_more : (next : ℕ) → ((cell : ℕ) → is_above cell placed ≡ nat_le next cell)
+      → next ≤ one.cell → (cell : ℕ)
+      → is_above cell (placed ++ one ∷ []) ≡ nat_le (one.cell + 1) cell
+  above_more next above fits cell =
+      all_more (λ (p : Placed). nat_lt p.cell cell) placed one
+      ∙ ap (λ (b : Bool). b && (nat_lt one.cell cell && true)) (above cell)
+      ∙ grind (arith, nat_tests, fits)
+
+  -- new beside one more organism is what is new beside the others and has not its id
+  pub new_more : (ids more : BTreeSet ℕ)
+      → ((id : ℕ) → is_new id placed ≡ not (contains nat_cmp ids id))
+      → Updates nat_cmp ids more one.occupant.id true → (id : ℕ)
+      → is_new id (placed ++ one ∷ []) ≡ not (contains nat_cmp more id)
+  new_more ids more fresh updates id =
+      let has : contains nat_cmp more id
+      ≡ cond (is_at (nat_cmp one.occupant.id) id) true (contains nat_cmp ids id) =
+      updates.0 id in
+      let same : is_at (nat_cmp one.occupant.id) id ≡ (one.occupant.id == id) =
+      at_key one.occupant.id id in
+      all_more (λ (p : Placed). not (p.occupant.id == id)) placed one
+      ∙ ap (λ (b : Bool). b && (not (one.occupant.id == id) && true)) (fresh id)
+      ∙ either (one.occupant.id == id) (contains nat_cmp ids id)
+      ∙ ap (λ (b : Bool). not (cond b true (contains nat_cmp ids id))) (sym same)
+      ∙ ap not (sym has)
+
+-- what stands at a place of a list with one item more
+at_more : {X : Type 0} (items : List X) (item other : X) (place : ℕ)
+    → slice_get (items ++ item ∷ []) place ≡ Some other
+    → (slice_get items place ≡ Some other) ⊎ ((length items ≡ place) × (item ≡ other))
+at_more [] item other zero is = inr (refl, cc)
+at_more [] item other (suc place) is = absurd cc
+at_more (x ∷ items) item other zero is = inl is
+at_more (x ∷ items) item other (suc place) is = elim (at_more items item other place is)
+    [ inl before ↦ inl before | inr last ↦ inr (ap suc last.0, last.1) ]
+
+-- a test that all pass is passed at each place
+pub all_at : {X : Type 0} (test : X → Bool) (items : List X) (item : X) (place : ℕ)
+    → list_all test items ≡ true → slice_get items place ≡ Some item → test item ≡ true
+all_at test [] item place all is = absurd cc
+all_at test (x ∷ items) item zero all is =
+    let same : x ≡ item = cc in
+    subst (λ y. test y ≡ true) same (and_parts (test x) (list_all test items) all).0
+all_at test (x ∷ items) item (suc place) all is =
+    all_at test items item place (and_parts (test x) (list_all test items) all).1 is
+
+-- one organism more, above the others and with a new id
+pub saved_more : (head : HeadValues) (placed : List Placed) (one : Placed) → AreSaved head placed
+    → MayStandThere head one → is_above one.cell placed ≡ true
+    → is_new one.occupant.id placed ≡ true → AreSaved head (placed ++ one ∷ [])
+saved_more head placed one saved stands above fresh = record {
+  values = saved.values;
+  each = All-append (MayStandThere head) placed (one ∷ []) saved.each
+      (All-cons (MayStandThere head) one [] stands (λ k d none. absurd (omega (arith, none))));
+  rising = λ place next first second before at_place at_next.
+      elim (at_more placed one second next at_next) [
+        | inl within ↦ (let early = slice_get_within placed next second within in
+            elim (at_more placed one first place at_place) [
+              | inl other ↦ saved.rising place next first second before other within
+              | inr last ↦ absurd (omega (arith, last.0, early, before))
+            ])
+        | inr last ↦ elim (at_more placed one first place at_place) [
+          | inl other ↦
+              (let lower = all_at (λ (p : Placed). nat_lt p.cell one.cell) placed first place above
+              other in
+              let new = all_at (λ (p : Placed). not (p.occupant.id == one.occupant.id)) placed
+              first place fresh other in
+              subst (λ (p : Placed). IsBefore first p) last.1 (record {
+                cell = grind (arith, nat_tests, lower);
+                id = λ same. grind (arith, nat_tests, new, same);
+              }))
+          | inr again ↦ absurd (omega (arith, last.0, again.0, before))
+        ]
+      ];
+}

@@ -1,0 +1,9 @@
+pub mod KeptLemmas
+pub mod StandsLemmas
+pub mod ReadableLemmas
+pub mod ReadLemmas
+pub mod PartLemmas
+pub mod ToldLemmas
+pub mod AgainLemmas
+pub mod FormLemmas
+pub mod BackLemmas

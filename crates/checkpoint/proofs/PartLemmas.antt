@@ -1,0 +1,54 @@
+-- The text of cells, and of one cell more.
+use Rattle.std.proofs.Common.{◌≡◌, ℕ, zero, suc, ◌+◌, ◌<◌, List, [], ◌∷◌, ◌++◌, Option, None, length, take, sym, ap, ◌∙◌, arith, append_assoc, add-zero, zero-add}
+use Rattle.std.proofs.Math.Numerals.{add-one}
+use Rattle.std.specs.List.{enumerate_from, flat_map}
+use Rattle.std.specs.Prelude.{slice_index_or}
+use Rattle.std.proofs.lemmas.List.{append-nil}
+use Rattle.std.proofs.Math.Seq.{take-length}
+use Rattle.world_rules.specs.World.{Occupant}
+use Rattle.saved_worlds.specs.SavedState.{SavedState}
+use Rattle.saved_worlds.specs.SavedWorldText.{cell_text, saved_text, slot_text}
+use Rattle.saved_lines.specs.SavedText.{count_text, head_text}
+use Rattle.lineage_log.specs.Slots.{taken}
+use Rattle.world_rules.specs.World.{ids_of}
+use Rattle.checkpoint.specs.Parts.{first_cells_text}
+
+-- the text of some first cells, counted from a number
+abbrev text_from : ℕ → List (Option Occupant) → ℕ → List ℕ
+text_from first cells count = flat_map cell_text (enumerate_from first (take count cells))
+
+-- and of one cell more
+more_from : (first : ℕ) (cells : List (Option Occupant)) (cell : ℕ) → cell < length cells
+    → text_from first cells (suc cell)
+    ≡ text_from first cells cell ++ slot_text (first + cell) (slice_index_or cells cell None)
+more_from first [] cell there = absurd (omega (arith, there))
+more_from first (one ∷ cells) zero there =
+    append-nil (slot_text first one) ∙ ap (λ (n : ℕ). slot_text n one) (sym (add-zero first))
+more_from first (one ∷ cells) (suc cell) there =
+    let others = text_from (first + 1) cells cell in
+    let last = slice_index_or cells cell None in
+    let place : (first + 1) + cell ≡ first + suc cell = omega arith in
+    ap (λ (l : List ℕ). slot_text first one ++ l)
+    (more_from (first + 1) cells cell (omega (arith, there)))
+    ∙ sym (append_assoc (slot_text first one) others (slot_text ((first + 1) + cell) last))
+    ∙ ap (λ (n : ℕ). (slot_text first one ++ others) ++ slot_text n last) place
+
+-- the text of one cell more
+pub one_more : (cells : List (Option Occupant)) (cell : ℕ) → cell < length cells
+    → first_cells_text cells (cell + 1)
+    ≡ first_cells_text cells cell ++ slot_text cell (slice_index_or cells cell None)
+one_more cells cell there =
+    ap (λ (n : ℕ). first_cells_text cells n) (add-one cell) ∙ more_from 0 cells cell there
+    ∙ ap (λ (n : ℕ). first_cells_text cells cell ++ slot_text n (slice_index_or cells cell None))
+    (zero-add cell)
+
+-- the text of all cells
+pub all_cells : (state : SavedState) → saved_text state
+    ≡ head_text state.head ++ first_cells_text state.cells (length state.cells)
+    ++ count_text (taken (ids_of state.cells))
+unfolding saved_text
+all_cells state =
+    let text = λ (cells : List (Option Occupant)). flat_map cell_text (enumerate_from 0 cells) in
+    ap (λ (cells : List (Option Occupant)).
+    head_text state.head ++ text cells ++ count_text (taken (ids_of state.cells)))
+    (sym (take-length state.cells))

@@ -1,0 +1,189 @@
+-- The organism of two lines that may come may stand in its cell.
+use Rattle.std.proofs.Common.{◌≡◌, ℕ, zero, suc, ◌<◌, ◌≤◌, ◌*◌, ◌==◌, Bool, true, List, [], ◌∷◌, length, refl, subst, arith, pos}
+use Rattle.std.specs.List.{list_all}
+use Rattle.std.specs.Prelude.{All, ◌&&◌, ◌^◌, nat_le, nat_lt, slice_index_or, if◌then◌else◌, FitsSigned}
+use Rattle.std.specs.Int.{w32}
+use Rattle.std.proofs.lemmas.Bool.{and_parts, eqb-true, leb-true, ltb-true}
+use Rattle.std.proofs.lemmas.List.Elements.{All-cons}
+use Rattle.genome.specs.Genome.{IsGenome}
+use Rattle.virtual_cpu.specs.declared.cpu_image.CpuImage.{CpuImage}
+use Rattle.virtual_cpu.specs.Image.{machine_of_image}
+use Rattle.virtual_cpu.specs.Machine.{IsMachine}
+use Rattle.virtual_cpu.specs.Words.{HoldsWords}
+use Rattle.saved_lines.specs.SavedValues.{HeadValues, OrganismValues}
+use Rattle.saved_worlds.specs.SavedGrammar.{Placed, are_within, is_above, is_new, is_young, may_follow, may_stand, placed_of}
+use Rattle.saved_worlds.specs.ValidState.{IsHead, MayStandThere}
+use Rattle.checkpoint.specs.Readable.{IsReadImage}
+
+-- what each rule of an organism's line says
+pub record Stands (head : HeadValues) (placed : List Placed) (o : OrganismValues) : Type 0 where
+  pub cell : o.cell < head.width * head.height
+  pub above : is_above o.cell placed ≡ true
+  pub id : o.id < head.next_id
+  pub fresh : is_new o.id placed ≡ true
+  pub some_merit : 1 ≤ o.merit
+  pub merit : o.merit ≤ 2 ^ 38
+  pub least : head.least_length ≤ length o.genome
+  pub greatest : length o.genome ≤ head.greatest_length
+  pub age : o.age < 2 ^ 48
+  pub read : o.read ≤ o.age
+  pub young : is_young head o ≡ true
+
+-- so they say of a line that may come
+pub stands_by_rules : (head : HeadValues) (placed : List Placed) (o : OrganismValues)
+    → may_stand head placed o ≡ true → Stands head placed o
+stands_by_rules head placed o is =
+    let cell = nat_lt o.cell (head.width * head.height) in
+    let above = is_above o.cell placed in
+    let id = nat_lt o.id head.next_id in
+    let fresh = is_new o.id placed in
+    let merit = nat_le 1 o.merit && nat_le o.merit (2 ^ 38) in
+    let size =
+    nat_le head.least_length (length o.genome) && nat_le (length o.genome) head.greatest_length in
+    let age = nat_lt o.age (2 ^ 48) && nat_le o.read o.age in
+    let young = is_young head o in
+    let by_young =
+    and_parts ((((((cell && above) && id) && fresh) && merit) && size) && age) young is in
+    let by_age =
+    and_parts (((((cell && above) && id) && fresh) && merit) && size) age by_young.0 in
+    let by_size = and_parts ((((cell && above) && id) && fresh) && merit) size by_age.0 in
+    let by_merit = and_parts (((cell && above) && id) && fresh) merit by_size.0 in
+    let by_fresh = and_parts ((cell && above) && id) fresh by_merit.0 in
+    let by_id = and_parts (cell && above) id by_fresh.0 in
+    let by_cell = and_parts cell above by_id.0 in
+    let merits = and_parts (nat_le 1 o.merit) (nat_le o.merit (2 ^ 38)) by_merit.1 in
+    let sizes = and_parts (nat_le head.least_length (length o.genome))
+    (nat_le (length o.genome) head.greatest_length) by_size.1 in
+    let ages = and_parts (nat_lt o.age (2 ^ 48)) (nat_le o.read o.age) by_age.1 in
+    record {
+      cell = ltb-true o.cell (head.width * head.height) by_cell.0;
+      above = by_cell.1;
+      id = ltb-true o.id head.next_id by_id.1;
+      fresh = by_fresh.1;
+      some_merit = leb-true 1 o.merit merits.0;
+      merit = leb-true o.merit (2 ^ 38) merits.1;
+      least = leb-true head.least_length (length o.genome) sizes.0;
+      greatest = leb-true (length o.genome) head.greatest_length sizes.1;
+      age = ltb-true o.age (2 ^ 48) ages.0;
+      read = leb-true o.read o.age ages.1;
+      young = by_young.1;
+    }
+
+-- what each rule of a machine's line says
+pub record Follows (head : HeadValues) (o : OrganismValues) (image : CpuImage) : Type 0 where
+  pub clean : length image.clean ≡ length image.memory
+  pub executed : length image.executed ≡ length image.memory
+  pub copied : length image.copied ≡ length image.memory
+  pub limit : length image.memory ≤ head.memory_limit
+  pub growth : length image.memory ≤ (if image.pending then 6 else 2) * length o.genome
+  pub heads : are_within image ≡ true
+
+-- so they say of a line that may follow
+pub follows_by_rules : (head : HeadValues) (o : OrganismValues) (image : CpuImage)
+    → may_follow head o image ≡ true → Follows head o image
+follows_by_rules head o image is =
+    let size = length image.memory in
+    let most = (if image.pending then 6 else 2) * length o.genome in
+    let clean = length image.clean == size in
+    let executed = length image.executed == size in
+    let copied = length image.copied == size in
+    let limit = nat_le size head.memory_limit in
+    let growth = nat_le size most in
+    let heads = are_within image in
+    let by_heads = and_parts ((((clean && executed) && copied) && limit) && growth) heads is in
+    let by_growth = and_parts (((clean && executed) && copied) && limit) growth by_heads.0 in
+    let by_limit = and_parts ((clean && executed) && copied) limit by_growth.0 in
+    let by_copied = and_parts (clean && executed) copied by_limit.0 in
+    let by_clean = and_parts clean executed by_copied.0 in
+    record {
+      clean = eqb-true (length image.clean) size by_clean.0;
+      executed = eqb-true (length image.executed) size by_clean.1;
+      copied = eqb-true (length image.copied) size by_copied.1;
+      limit = leb-true size head.memory_limit by_limit.1;
+      growth = leb-true size most by_growth.1;
+      heads = by_heads.1;
+    }
+
+-- a head that is among those within a length is below it
+head_within : (heads : List ℕ) (end place : ℕ) → list_all (λ head. nat_lt head end) heads ≡ true
+    → place < length heads → slice_index_or heads place 0 < end
+head_within [] end place all there = absurd (omega (arith, there))
+head_within (head ∷ heads) end zero all there =
+    ltb-true head end (and_parts (nat_lt head end) (list_all (λ h. nat_lt h end) heads) all).0
+head_within (head ∷ heads) end (suc place) all there =
+    head_within heads end place
+    (and_parts (nat_lt head end) (list_all (λ h. nat_lt h end) heads) all).1 (omega (arith, there))
+
+module _ (head : HeadValues) (o : OrganismValues) (image : CpuImage) where
+  -- the machine of two lines is one
+  pub is_machine : IsHead head → length o.genome ≤ head.greatest_length → IsReadImage image
+      → Follows head o image
+      → IsMachine (machine_of_image image (length o.genome) head.memory_limit)
+  is_machine in_range short read follows =
+      let size = length image.memory in
+      let at = λ (place : ℕ) (few : place < 4).
+      head_within image.heads size place follows.heads (omega (arith, few, read.heads)) in
+      record {
+        clean = follows.clean;
+        executed = follows.executed;
+        copied = follows.copied;
+        stacks = refl;
+        ten = All-cons (λ stack. length stack ≡ 10) image.first (image.second ∷ []) read.first.0
+            (All-cons (λ stack. length stack ≡ 10) image.second [] read.second.0
+            (λ k d none. absurd (omega (arith, none))));
+        active = read.active;
+        template = read.nops;
+        ip = at 0 (omega arith);
+        read = at 1 (omega arith);
+        write = at 2 (omega arith);
+        flow = at 3 (omega arith);
+        least = read.least;
+        greatest = follows.limit;
+        growth = follows.growth;
+        made = omega (arith, short, in_range.memory_limit.0);
+        limit = in_range.memory_limit.1;
+      }
+
+  -- and its numbers have 32 bits
+  pub has_words : IsReadImage image
+      → HoldsWords (machine_of_image image (length o.genome) head.memory_limit)
+  has_words read = record {
+    ax = read.registers.1 0 (pos 0) (omega (arith, read.registers.0));
+    bx = read.registers.1 1 (pos 0) (omega (arith, read.registers.0));
+    cx = read.registers.1 2 (pos 0) (omega (arith, read.registers.0));
+    stacks = All-cons (λ stack. All (λ n. FitsSigned w32 n) stack) image.first
+        (image.second ∷ []) read.first.1
+        (All-cons (λ stack. All (λ n. FitsSigned w32 n) stack) image.second [] read.second.1
+        (λ k d none. absurd (omega (arith, none))));
+  }
+
+  -- its age is below the age of death
+  young_there : head.death ≡ true → is_young head o ≡ true
+      → o.age < head.age_limit * length o.genome
+  young_there death young =
+      let most = head.age_limit * length o.genome in
+      ltb-true o.age most
+      (subst (λ (b : Bool). (if b then nat_lt o.age most else true) ≡ true) death young)
+
+  -- the organism of two lines may stand in its cell
+  pub may_stand_there : (placed : List Placed) → IsHead head → IsGenome o.genome
+      → IsReadImage image → Stands head placed o → Follows head o image
+      → MayStandThere head (placed_of head o image)
+  may_stand_there placed in_range genome read stands follows = record {
+    cell = stands.cell;
+    occupant = record {
+      sound = record {
+        organism = record { made = refl; read = stands.read };
+        machine = is_machine in_range stands.greatest read follows;
+        words = has_words read;
+        genome = genome;
+        some_merit = stands.some_merit;
+        merit = stands.merit;
+      };
+      id = stands.id;
+      genome = (stands.least, stands.greatest);
+      age = stands.age;
+      young = λ death. young_there death stands.young;
+      limit = refl;
+    };
+  }

@@ -1,0 +1,35 @@
+use Rattle.std.proofs.Common.{◌≡◌, ◌<◌, ℕ, List, Option, Bor, Result, Err, length, sym, subst, ◌∙◌, arith, rules}
+use Rattle.std.specs.Prelude.{IfSome}
+use Rattle.saved_worlds.specs.SavedState.{SavedState}
+use Rattle.saved_worlds.specs.SavedGrammar.{SavedFault, saved_of}
+use Rattle.checkpoint.specs.declared.saved_stop.SavedStop.{SavedStop}
+use Rattle.checkpoint.specs.Places.{place_of}
+use Rattle.checkpoint.specs.Reading.{Ends, IsFaultOf}
+use Rattle.checkpoint.specs.ToldValue.{ToldValue}
+use Rattle.checkpoint.proofs.ReadLemmas.{left_faulty, left_on}
+use Rattle.checkpoint.proofs.read.read_lines.Goals as goal
+
+pub returns-in_err-place : goal.returns-in_err-place
+returns-in_err-place c =
+    let e : SavedStop = c.in_err-place.field-0.0 in
+    let is : c.from_residual.result ≡ Err e = search rules in
+    let bad : IsFaultOf e (saved_of c.args.bytes.now) =
+    subst (λ (r : Result SavedState SavedFault). IsFaultOf e r) c.loop-behind.invariant.left
+    (left_faulty c.loop-behind.number (place_of c.loop-behind.place) c.loop-behind.rest.now
+    c.split_at.result.0.now c.split_at.result.1 c.split_at.ensures.pieces e c.in-Some.behind
+    c.in-Some.is c.in_err-place.ensures) in
+    subst (λ (r : Result ToldValue SavedStop). Ends r (saved_of c.args.bytes.now)) (sym is) bad
+
+pub loop-behind-preserved : goal.loop-behind-preserved
+loop-behind-preserved c =
+    let rest = c.loop-behind.rest.now in
+    let shorter : length c.in-Some.behind.now < length rest =
+    subst (λ (o : Option (Bor (List ℕ))). IfSome o (λ behind. length behind.now < length rest))
+    c.in-Some.is c.split_at.ensures.shorter in
+    record {
+      left = sym (left_on c.loop-behind.number (place_of c.loop-behind.place) rest
+          c.split_at.result.0.now c.split_at.result.1 c.split_at.ensures.pieces
+          (place_of c.in_ok-place.place) c.in-Some.behind c.in-Some.is c.in_ok-place.ensures)
+          ∙ c.loop-behind.invariant.left;
+      few = omega (arith, shorter, c.loop-behind.invariant.few);
+    }

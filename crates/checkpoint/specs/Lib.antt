@@ -1,0 +1,9 @@
+pub use Rattle.saved_worlds.specs.SavedGrammar
+pub use Rattle.saved_worlds.specs.SavedWorldText
+pub use Rattle.saved_worlds.specs.ValidState
+pub mod Readable
+pub mod ToldValue
+pub mod Places
+pub mod Reading
+pub mod Parts
+pub mod Standing

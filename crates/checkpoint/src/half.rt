@@ -1,0 +1,15 @@
+// An organism of which the first of its two lines was read.
+ghost use Rattle.std.specs.Prelude.{IsTrue};
+ghost use Rattle.saved_lines.specs.SavedLines.{values_of_organism};
+ghost use Rattle.saved_worlds.specs.SavedGrammar.{may_stand};
+
+use crate::told::Told;
+use saved_lines::OrganismLine;
+
+/// What was told so far, and the line of an organism that may come next.
+#[derive(Drop)]
+pub(crate) struct Half {
+    pub(crate) told: Told,
+    pub(crate) organism: OrganismLine,
+    ghost stands: { IsTrue (may_stand told.head told.placed (values_of_organism organism)) },
+}

@@ -1,0 +1,15 @@
+//! Saved worlds as bytes: their text, and its reading.
+#![tactic(auto)]
+
+mod half;
+pub mod laws;
+mod place;
+mod read;
+mod rules;
+mod saved_stop;
+mod told;
+mod writing;
+
+pub use read::read_saved;
+pub use saved_stop::SavedStop;
+pub use writing::{cell_text, head_text, tail_text};

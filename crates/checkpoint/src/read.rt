@@ -1,0 +1,78 @@
+// Reads a saved world.
+ghost use Rattle.std.specs.Prelude.{◌≡◌, ◌≤◌, IfErr, IfOk, Ok};
+ghost use Rattle.saved_lines.specs.SavedReading.{saved_line_of};
+ghost use Rattle.saved_worlds.specs.SavedGrammar.{last_piece, saved_of};
+ghost use Rattle.checkpoint.specs.Places.{place_of};
+ghost use Rattle.checkpoint.specs.Reading.{Ends, IsFaultOf, Steps};
+
+use crate::place::{Place, told};
+use crate::saved_stop::SavedStop;
+use crate::told::Told;
+use log_lines::split_at;
+use saved_lines::laws::one_spelling;
+use saved_lines::read_saved_line;
+use std::alloc::Global;
+use std::sync::Wait;
+use world_core::State;
+
+/// Reads the bytes of a saved world as a world that goes on with so many workers, or tells the
+/// first faulty line. It may wait, since it interns the genomes of the organisms.
+pub fn read_saved<R: Wait>(
+    rt: &R,
+    alloc: Global,
+    bytes: &[u8],
+    workers: u32,
+) -> Result<State, SavedStop>
+    requires { (1 ≤ workers) × (workers ≤ 64) }
+    ensures ok { IfOk result (λ state. saved_of bytes.now ≡ Ok state) }
+    ensures err { IfErr result (λ stop. IsFaultOf stop (saved_of bytes.now)) }
+{
+    let told = read_lines(alloc, bytes)?;
+    Ok(told.into_state(rt, alloc, workers)?)
+}
+
+/// What all lines tell.
+#[tactic(auto, unfolding(saved_worlds::specs::SavedGrammar::saved_of))]
+fn read_lines(alloc: Global, bytes: &[u8]) -> Result<Told, SavedStop>
+    ensures { Ends result (saved_of bytes.now) }
+{
+    let mut rest = bytes;
+    let mut number = 1;
+    let mut place = Place::Before;
+    loop {
+        let (piece, others) = split_at(rest, b'\n');
+        let Some(behind) = others else {
+            return told_at_end(number, place, piece);
+        };
+        place = place_after(alloc, number, place, piece)?;
+        number += 1;
+        rest = behind;
+    }
+}
+
+/// The place after one line more.
+fn place_after(alloc: Global, number: u64, place: Place, piece: &[u8]) -> Result<Place, SavedStop>
+    ensures { Steps result number (place_of place) (saved_line_of piece.now) }
+{
+    one_spelling();
+    let Some(line) = read_saved_line(alloc, piece)? else {
+        return Err(SavedStop::BadLine { line: number });
+    };
+    match told(alloc, place, line)? {
+        Some(next) => Ok(next),
+        None => Err(SavedStop::BadState { line: number }),
+    }
+}
+
+/// The end of the bytes, behind the last newline.
+fn told_at_end(number: u64, place: Place, piece: &[u8]) -> Result<Told, SavedStop>
+    ensures { Ends result (last_piece number (place_of place) piece.now) }
+{
+    if !piece.is_empty() {
+        return Err(SavedStop::BadLine { line: number });
+    }
+    match place {
+        Place::After(told) => Ok(told),
+        _ => Err(SavedStop::Unended { line: number }),
+    }
+}
