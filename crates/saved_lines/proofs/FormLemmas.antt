@@ -1,10 +1,10 @@
 -- The mark of a line.
-use Rattle.std.proofs.Common.{◌≡◌, ℕ, false, List, [], ◌∷◌, length, get_or, None, Option, refl, sym, ap, ◌∙◌, arith}
+use Rattle.std.proofs.Common.{◌≡◌, ℕ, false, List, [], ◌∷◌, length, get_or, None, refl, sym, ap, arith}
 use Rattle.std.specs.Prelude.{◌==◌}
 use Rattle.std.specs.Str.{bytes_eq}
 use Rattle.std.specs.List.{slice_split}
 use Rattle.log_lines.proofs.FieldLaws.{not_equal}
-use Rattle.saved_lines.specs.SavedReading.{SavedLine, read_form, read_words, saved_line_of}
+use Rattle.saved_lines.specs.SavedReading.{read_form, read_words, saved_line_of}
 
 -- a mark of another length
 no_mark : (mark : List ℕ) (b : ℕ) → (length mark ≡ 1 → ⊥) → bytes_eq mark (b ∷ []) ≡ false

@@ -1,14 +1,13 @@
 -- The fields of a saved world: what is written is read again, and what is read was written so.
-use Rattle.std.proofs.Common.{◌≡◌, ℕ, ℤ, pos, suc, ◌-◌, ◌<◌, ◌≤◌, Bool, true, false, cond, List, [], ◌∷◌, ◌++◌, map, length, Option, Some, None, refl, sym, ap, subst, ◌∙◌, arith, inl, inr, decimal, get_or}
-use Rattle.std.specs.Prelude.{negsuc, nat_lt, option_and_then, option_map, ◌==◌, FitsSigned}
+use Rattle.std.proofs.Common.{◌≡◌, ℕ, ℤ, pos, suc, ◌-◌, ◌<◌, ◌≤◌, Bool, true, false, cond, List, [], ◌∷◌, map, length, Some, None, refl, sym, ap, subst, ◌∙◌, arith, inl, inr, decimal, get_or}
+use Rattle.std.specs.Prelude.{negsuc, nat_lt, option_map, ◌==◌, FitsSigned}
 use Rattle.std.specs.Int.{w32}
 use Rattle.std.specs.Fmt.{signed_decimal}
-use Rattle.std.specs.List.{AllByRecursion}
 use Rattle.std.proofs.lemmas.Bool.{cases_Bool, eqb-true}
 use Rattle.std.proofs.lemmas.Bool.Decides.{nat_tests}
 use Rattle.std.proofs.lemmas.Option.{cond_some}
 use Rattle.numerals.specs.Numeral.{number_of}
-use Rattle.log_lines.specs.Fields.{each, number}
+use Rattle.log_lines.specs.Fields.{each}
 use Rattle.log_lines.proofs.FieldLaws.{Above, IsField, OneNumber, number_law, some_map, some_then}
 use Rattle.std.specs.Prelude.{◌&&◌, nat_le}
 use Rattle.std.specs.Str.{bytes_eq}

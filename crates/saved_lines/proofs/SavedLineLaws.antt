@@ -1,13 +1,11 @@
 -- A line that is written is read again, and a line that is read was written so.
-use Rattle.std.proofs.Common.{◌≡◌, ℕ, ℤ, drop, ◌<◌, ◌⊎◌, inl, inr, Bool, true, false, cond, List, [], ◌∷◌, ◌++◌, Option, Some, None, refl, sym, ap, subst, ◌∙◌, arith, append-nil}
+use Rattle.std.proofs.Common.{◌≡◌, ℕ, drop, ◌<◌, ◌⊎◌, inl, inr, Bool, true, false, cond, List, [], ◌∷◌, ◌++◌, Option, Some, None, refl, sym, ap, subst, ◌∙◌, arith, append-nil}
 use Rattle.std.specs.Prelude.{option_and_then, option_map, ◌==◌}
 use Rattle.std.specs.Str.{bytes_eq}
 use Rattle.std.specs.List.{slice_split, join_with_byte, AllByRecursion}
 use Rattle.std.proofs.lemmas.List.Splits.{join_with_byte-slice_split}
 use Rattle.std.proofs.lemmas.Option.{cond_some}
-use Rattle.instruction_set.specs.declared.letter.Letter.{Letter}
 use Rattle.logic_tasks.specs.TaskBitsLaws.{length-tasks_of}
-use Rattle.virtual_cpu.specs.declared.cpu_image.CpuImage.{CpuImage}
 use Rattle.log_lines.specs.Fields.{Field, letters}
 use Rattle.log_lines.specs.Kinds.{large}
 use Rattle.log_lines.specs.Rows.{Row, last, ◌◂◌}
@@ -15,12 +13,12 @@ use Rattle.log_lines.specs.LineText.{words_text, form_text}
 use Rattle.log_lines.proofs.FieldLaws.{Above, IsField, IsRow, OneNumber, above_append, above_lower, field_lower, last_law, letters_law, number_law, row_law, same_bytes, some_map, some_then, split_first, split_one}
 use Rattle.saved_lines.specs.SavedFields.{signed, nops, marks}
 use Rattle.saved_lines.specs.SavedForms.{row_text, HasForm}
-use Rattle.saved_lines.specs.SavedReading.{SavedLine, Head, Organism, Machine, Count, are_ordered, head_of, head_line, organism_of, machine_of, number_at, read_form, read_words, saved_line_of}
-use Rattle.saved_lines.specs.SavedRows.{AreWithin, Front, several, within, whole, ◌◁◌}
+use Rattle.saved_lines.specs.SavedReading.{SavedLine, Head, Organism, Machine, Count, are_ordered, head_of, head_line, organism_of, machine_of, number_at, read_words, saved_line_of}
+use Rattle.saved_lines.specs.SavedRows.{AreWithin, Front, several, within, ◌◁◌}
 use Rattle.saved_lines.specs.SavedText.{head_ranges, head_row, head_numbers, organism_ranges, organism_row, organism_numbers, machine_ranges, machine_row, machine_fields, texts_row}
 use Rattle.saved_lines.proofs.FrontLaws.{IsFront, front_law, front_lower, several_law, whole_law, within_law}
 use Rattle.saved_lines.proofs.SavedFieldLaws.{signed_law, marks_law, nops_law}
-use Rattle.saved_lines.proofs.SavedValueLaws.{inputs_top, head_again, head_taken, organism_again, organism_at, organism_taken, machine_again, machine_taken}
+use Rattle.saved_lines.proofs.SavedValueLaws.{inputs_top, head_again, head_taken, organism_again, organism_taken, machine_again, machine_taken}
 
 -- the words of a text
 abbrev words_in : List ℕ → List (List ℕ)

@@ -1,5 +1,5 @@
 -- The values of a line and its fields give one another.
-use Rattle.std.proofs.Common.{◌≡◌, ℕ, zero, suc, ◌+◌, ◌*◌, ◌/◌, ◌%◌, ◌^◌, ◌<◌, ◌≤◌, Bool, true, false, List, [], ◌∷◌, length, get_or, take, drop, cond, refl, sym, ap, subst, ◌∙◌, arith, drop-cons, add-one}
+use Rattle.std.proofs.Common.{◌≡◌, ℕ, zero, suc, ◌+◌, ◌*◌, ◌/◌, ◌%◌, ◌^◌, ◌<◌, ◌≤◌, Bool, true, false, List, [], ◌∷◌, length, get_or, drop, cond, refl, sym, ap, ◌∙◌, arith, drop-cons, add-one}
 use Rattle.std.specs.Prelude.{◌==◌}
 use Rattle.std.proofs.lemmas.List.{length-map}
 use Rattle.instruction_set.specs.declared.letter.Letter.{Letter}
@@ -11,7 +11,7 @@ use Rattle.saved_lines.specs.declared.ranges.Range.{Range}
 use Rattle.saved_lines.specs.SavedForms.{IsOrganismLine, IsMachineLine}
 use Rattle.saved_lines.specs.SavedReading.{number_at, head_of, organism_of, machine_of, Organism, Machine}
 use Rattle.saved_lines.specs.SavedRows.{AreWithin}
-use Rattle.saved_lines.specs.SavedText.{flag_number, head_numbers, head_ranges, organism_numbers, organism_ranges, machine_numbers, machine_ranges, machine_fields}
+use Rattle.saved_lines.specs.SavedText.{flag_number, head_numbers, head_ranges, organism_numbers, organism_ranges, machine_ranges, machine_fields}
 use Rattle.saved_lines.specs.SavedValues.{HeadValues, OrganismValues}
 use Rattle.saved_lines.proofs.RangeLemmas.{bound_at, within_length}
 

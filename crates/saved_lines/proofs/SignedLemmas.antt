@@ -1,5 +1,5 @@
 -- The number of 32 bits that a word spells, by its first byte.
-use Rattle.std.proofs.Common.{◌≡◌, ℕ, zero, suc, ℤ, pos, ◌-◌, ◌<◌, ◌≤◌, false, true, cond, Bool, List, [], ◌∷◌, length, get_or, take, drop, Option, Some, None, inl, inr, subst, refl, sym, ap, ◌∙◌, arith, zero-add}
+use Rattle.std.proofs.Common.{◌≡◌, ℕ, zero, suc, ℤ, pos, ◌-◌, ◌<◌, ◌≤◌, false, true, cond, Bool, List, [], ◌∷◌, length, get_or, take, drop, Some, None, inl, inr, subst, refl, sym, ap, ◌∙◌, arith, zero-add}
 use Rattle.std.specs.Prelude.{negsuc, FitsSigned, ◌-ℤ◌, ◌==◌, option_map}
 use Rattle.std.specs.Int.{w32, cast_signed, cast_unsigned}
 use Rattle.std.proofs.lemmas.Int.{to_z-of_z, to_z_pos}

@@ -1,7 +1,5 @@
-use Rattle.std.proofs.Common.{◌≡◌, ◌∙◌, ◌-◌, ◌≤◌, ◌<◌, ◌^◌, ℕ, ℤ, pos, Some, sym, ap, arith}
-use Rattle.std.specs.Prelude.{negsuc, option_map}
-use Rattle.std.specs.Int.{w32}
-use Rattle.numerals.specs.Numeral.{number_of}
+use Rattle.std.proofs.Common.{◌∙◌, ℤ, Some, sym, ap, arith}
+use Rattle.std.specs.Prelude.{option_map}
 use Rattle.saved_lines.specs.SavedFields as saved_fields
 use Rattle.saved_lines.proofs.SignedLemmas.{made_below_zero}
 use Rattle.saved_lines.proofs.RangeLemmas.{number_within}

@@ -1,6 +1,5 @@
-use Rattle.std.proofs.Common.{◌≡◌, ◌∙◌, List, Option, Some, sym, ap}
-use Rattle.std.specs.Prelude.{not}
-use Rattle.std.proofs.Common.{true, false}
+use Rattle.std.proofs.Common.{◌≡◌, ◌∙◌, List, Some, sym, ap}
+use Rattle.std.proofs.Common.{true}
 use Rattle.instruction_set.specs.declared.letter.Letter.{Letter}
 use Rattle.instruction_set.specs.Letter.{letter_of_byte}
 use Rattle.mutations.specs.Change.{is_genome_length}

@@ -1,5 +1,4 @@
-use Rattle.std.proofs.Common.{◌≡◌, ◌∙◌, ◌≤◌, ◌<◌, ℕ, ℤ, pos, Some, sym, ap, arith}
-use Rattle.saved_lines.specs.SavedFields as saved_fields
+use Rattle.std.proofs.Common.{◌∙◌, ℤ, pos, Some, sym, ap, arith}
 use Rattle.std.specs.Prelude.{option_map}
 use Rattle.saved_lines.proofs.SignedLemmas.{made_plain}
 use Rattle.saved_lines.proofs.RangeLemmas.{number_within}

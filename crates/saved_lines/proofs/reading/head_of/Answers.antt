@@ -1,5 +1,4 @@
 use Rattle.std.proofs.Common.{arith}
-use Rattle.saved_lines.specs.declared.ranges.Range.{Range}
 use Rattle.saved_lines.specs.SavedText.{any_flag, head_ranges}
 use Rattle.saved_lines.proofs.RangeLemmas.{bound_at}
 use Rattle.saved_lines.proofs.reading.head_of.Goals as goal

@@ -1,4 +1,4 @@
-use Rattle.std.proofs.Common.{◌≡◌, ◌∙◌, ◌∷◌, [], ℕ, List, Option, None, Some, sym, ap}
+use Rattle.std.proofs.Common.{None, Some, ap}
 use Rattle.std.specs.Prelude.{option_copied, option_map}
 use Rattle.log_lines.specs.Words.{words_of}
 use Rattle.saved_lines.specs.SavedReading.{machine_of}

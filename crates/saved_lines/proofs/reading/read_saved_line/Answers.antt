@@ -1,4 +1,4 @@
-use Rattle.std.proofs.Common.{◌≡◌, ◌∙◌, ◌∷◌, [], ℕ, List, Option, None, get_or, length, subst, sym, ap, arith}
+use Rattle.std.proofs.Common.{◌≡◌, ◌∙◌, ℕ, List, Option, length, subst, sym, ap, arith}
 use Rattle.std.specs.Prelude.{IfOk, option_copied, option_map}
 use Rattle.log_lines.specs.Words.{words_of}
 use Rattle.saved_lines.specs.SavedLines.{values_of_line}

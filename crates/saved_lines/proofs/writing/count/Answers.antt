@@ -1,4 +1,4 @@
-use Rattle.std.proofs.Common.{◌≡◌, ◌∙◌, ◌∷◌, ◌++◌, [], ℕ, List, decimal, append-nil, sym, ap}
+use Rattle.std.proofs.Common.{◌∙◌, ◌∷◌, ◌++◌, [], ℕ, List, decimal, append-nil, sym, ap}
 use Rattle.saved_lines.specs.SavedText.{count_text}
 use Rattle.saved_lines.proofs.TextLemmas.{line_made}
 use Rattle.saved_lines.proofs.writing.count.Goals as goal

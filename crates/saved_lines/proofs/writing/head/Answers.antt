@@ -1,4 +1,4 @@
-use Rattle.std.proofs.Common.{◌≡◌, ◌∙◌, ◌∷◌, ◌++◌, [], ℕ, List, map, decimal, ap}
+use Rattle.std.proofs.Common.{◌∙◌, ◌∷◌, ◌++◌, [], ℕ, List, map, decimal, ap}
 use Rattle.log_lines.specs.LineText.{words_text}
 use Rattle.saved_lines.specs.SavedText.{head_text}
 use Rattle.saved_lines.proofs.TextLemmas.{line_made}

@@ -1,4 +1,4 @@
-use Rattle.std.proofs.Common.{◌<◌, ℤ, pos, length, append_assoc, arith, rules, get_or}
+use Rattle.std.proofs.Common.{◌<◌, pos, length, append_assoc, arith, rules, get_or}
 use Rattle.std.specs.Prelude.{FitsSigned}
 use Rattle.std.specs.Int.{w32}
 use Rattle.std.proofs.lemmas.Int.{to_z-of_z}

@@ -1,8 +1,8 @@
-use Rattle.std.proofs.Common.{◌≡◌, ◌∙◌, ◌∷◌, ◌++◌, [], ℕ, ℤ, List, map, decimal, append_assoc, subst, sym, ap}
+use Rattle.std.proofs.Common.{◌∙◌, ◌∷◌, ◌++◌, [], ℕ, List, map, decimal, append_assoc, subst, sym, ap}
 use Rattle.log_lines.specs.Kept.{Keeps}
 use Rattle.log_lines.specs.LineText.{words_text}
 use Rattle.saved_lines.specs.SavedFields.{nops_text, signed}
-use Rattle.saved_lines.specs.SavedText.{machine_numbers, machine_row, machine_fields, machine_text, texts_of, texts_row}
+use Rattle.saved_lines.specs.SavedText.{machine_row, machine_fields, machine_text, texts_of, texts_row}
 use Rattle.saved_lines.proofs.TextLemmas.{OnErr_of, four_texts, keeps_more, line_made, machine_line}
 use Rattle.saved_lines.proofs.writing.machine.Goals as goal
 

@@ -1,4 +1,4 @@
-use Rattle.std.proofs.Common.{◌≡◌, ◌∙◌, ◌∷◌, ◌++◌, [], ℕ, ℤ, List, map, ap}
+use Rattle.std.proofs.Common.{◌∙◌, ◌++◌, ℕ, List, map, ap}
 use Rattle.log_lines.specs.LineText.{words_text}
 use Rattle.saved_lines.specs.SavedFields.{nops_text, signed}
 use Rattle.saved_lines.proofs.TextLemmas.{OnOk_then, stacks_made}
