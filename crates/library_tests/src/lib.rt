@@ -32,6 +32,8 @@ mod organisms;
 #[cfg(test)]
 mod ports;
 #[cfg(test)]
+mod saves;
+#[cfg(test)]
 mod streams;
 #[cfg(test)]
 mod tasks;
