@@ -1,16 +1,9 @@
 -- The ancestors of an id: itself, and those of its parent.
-use Rattle.std.proofs.Common.{◌≡◌, ℕ, zero, suc, ◌+◌, ◌-◌, ◌<◌, ◌≤◌, List, [], ◌∷◌, length, Option, Some, None, unwrap_or, refl, sym, ap, ◌∙◌, arith}
+use Rattle.std.proofs.Common.{◌≡◌, ℕ, zero, suc, ◌+◌, ◌-◌, ◌≤◌, List, [], ◌∷◌, length, Option, Some, None, unwrap_or, refl, sym, ap, ◌∙◌, arith}
 use Rattle.std.specs.List.{last_or}
 use Rattle.std.specs.Option.{option_map_or}
 use Rattle.lineage_log.specs.Ancestry.{ancestors_within}
-
--- each parent has a lower id than its child
-abbrev pub Older : (ℕ → Option ℕ) → Type 0
-Older parent_of = (id above : ℕ) → parent_of id ≡ Some above → above < id
-
--- the line of an id
-abbrev pub line : (ℕ → Option ℕ) → ℕ → List ℕ
-line parent_of id = ancestors_within id parent_of id
+use Rattle.lineage_log.proofs.AncestorLemmas.{Older, line, line_is}
 
 -- the line begins with the id
 pub line_head : (parent_of : ℕ → Option ℕ) (n id : ℕ) → (others : List ℕ)
@@ -31,52 +24,17 @@ line_length parent_of (suc n) id =
     omega (arith, rest)
 
 module _ (parent_of : ℕ → Option ℕ) (older : Older parent_of) where
-  no_parent : (id : ℕ) → id ≤ 0 → parent_of id ≡ None
-  no_parent id least = (elim (parent_of id) as (λ o. parent_of id ≡ o → parent_of id ≡ None) [
-    | None ↦ λ is. is
-    | Some above ↦ λ is. absurd (omega (arith, older id above is))
-  ]) refl
-
-  -- more generations than the id has change nothing
-  pub enough : (n m id : ℕ) → id ≤ n → id ≤ m
-      → ancestors_within n parent_of id ≡ ancestors_within m parent_of id
-  enough zero zero id a b = refl
-  enough zero (suc m) id a b =
-      ap (λ (o : Option ℕ). id ∷ option_map_or (ancestors_within m parent_of) o [])
-      (sym (no_parent id a))
-  enough (suc n) zero id a b =
-      ap (λ (o : Option ℕ). id ∷ option_map_or (ancestors_within n parent_of) o []) (no_parent id b)
-  enough (suc n) (suc m) id a b =
-      ap (λ (xs : List ℕ). id ∷ xs)
-      ((elim (parent_of id) as
-      (λ o. parent_of id ≡ o → option_map_or (ancestors_within n parent_of) o []
-      ≡ option_map_or (ancestors_within m parent_of) o []) [
-        | None ↦ λ is. refl
-        | Some above ↦ λ is. enough n m above (omega (arith, older id above is))
-            (omega (arith, older id above is))
-      ]) refl)
-
-  -- the line of an id is itself, and the line of its parent
-  pub line_is : (id : ℕ) → line parent_of id ≡ id ∷ option_map_or (line parent_of) (parent_of id) []
-  line_is zero = ap (λ (o : Option ℕ). zero ∷ option_map_or (line parent_of) o [])
-      (sym (no_parent zero (omega arith)))
-  line_is (suc n) = ap (λ (xs : List ℕ). suc n ∷ xs)
-      ((elim (parent_of (suc n)) as
-      (λ o. parent_of (suc n) ≡ o
-      → option_map_or (ancestors_within n parent_of) o [] ≡ option_map_or (line parent_of) o []) [
-        | None ↦ λ is. refl
-        | Some above ↦ λ is. enough n above above (omega (arith, older (suc n) above is))
-            (omega arith)
-      ]) refl)
-
+  -- the line of a founder, and that of a child
   line_of_founder : (id : ℕ) → parent_of id ≡ None → line parent_of id ≡ id ∷ []
   line_of_founder id is =
-      line_is id ∙ ap (λ (o : Option ℕ). id ∷ option_map_or (line parent_of) o []) is
+      line_is parent_of older id
+      ∙ ap (λ (o : Option ℕ). id ∷ option_map_or (line parent_of) o []) is
 
   line_of_child : (id above : ℕ) → parent_of id ≡ Some above
       → line parent_of id ≡ id ∷ line parent_of above
   line_of_child id above is =
-      line_is id ∙ ap (λ (o : Option ℕ). id ∷ option_map_or (line parent_of) o []) is
+      line_is parent_of older id
+      ∙ ap (λ (o : Option ℕ). id ∷ option_map_or (line parent_of) o []) is
 
 -- how far a line leads up, and where it ends
 abbrev pub depth_in : List ℕ → ℕ

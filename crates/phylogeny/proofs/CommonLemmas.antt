@@ -12,7 +12,8 @@ use Rattle.phylogeny.specs.Pedigree.{Dweller, Pedigree}
 use Rattle.phylogeny.specs.CommonAncestor.{descends_from, founder_of, is_common, is_kept, most_recent_common_ancestor}
 use Rattle.phylogeny.specs.LatestCommon.{HaveTwoFounders, IsLatestCommon, TellsLatestCommon}
 use Rattle.phylogeny.specs.Slots.{AreBelow, IsPedigree, living_from, parent_at}
-use Rattle.phylogeny.proofs.AncestorLemmas.{Older, child_root, founder_in, line, line_head}
+use Rattle.lineage_log.proofs.AncestorLemmas.{Older, line}
+use Rattle.phylogeny.proofs.AncestorLemmas.{child_root, founder_in, line_head}
 use Rattle.phylogeny.proofs.TokenLemmas.{is_among, none_above}
 use Rattle.phylogeny.proofs.WalkLemmas.{everybody, kept_from, kept_is_all, tree}
 

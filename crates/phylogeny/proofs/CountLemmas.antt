@@ -13,6 +13,13 @@ pub count_cons : {X : Type 0} (p : X → Bool) (x : X) (xs : List X)
     → count_by p (x ∷ xs) ≡ bit (p x) + count_by p xs
 count_cons p x xs = sum_by-cons (λ y. cond (p y) 1 0) x xs
 
+-- one that does not pass is not counted
+pub count_no : {X : Type 0} (p : X → Bool) (x : X) (xs : List X) → p x ≡ false
+    → count_by p (x ∷ xs) ≡ count_by p xs
+count_no p x xs failed =
+    let more : bit (p x) + count_by p xs ≡ count_by p xs = rw failed (omega arith) in
+    count_cons p x xs ∙ more
+
 -- tests that answer alike count alike
 pub count_same : {X : Type 0} (p q : X → Bool) → ((x : X) → p x ≡ q x) → (xs : List X)
     → count_by p xs ≡ count_by q xs

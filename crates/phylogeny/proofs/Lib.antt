@@ -3,6 +3,8 @@ pub mod AncestorLemmas
 pub mod CountLemmas
 pub mod TokenLemmas
 pub mod SlotLemmas
+pub mod FilterLemmas
 pub mod WalkLemmas
+pub mod ReaderLemmas
 pub mod LogLemmas
 pub mod CommonLemmas

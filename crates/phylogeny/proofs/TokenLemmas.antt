@@ -6,7 +6,8 @@ use Rattle.std.specs.Option.{option_map_or}
 use Rattle.std.proofs.lemmas.Bool.{cases_lt}
 use Rattle.std.proofs.lemmas.Bool.Decides.{nat_tests}
 use Rattle.lineage_log.specs.Ancestry.{ancestors_within}
-use Rattle.phylogeny.proofs.AncestorLemmas.{Older, line_head}
+use Rattle.lineage_log.proofs.AncestorLemmas.{Older}
+use Rattle.phylogeny.proofs.AncestorLemmas.{line_head}
 use Rattle.phylogeny.proofs.CountLemmas.{bit}
 
 -- the first of these below the bound is this one

@@ -12,72 +12,10 @@ use Rattle.phylogeny.specs.Pedigree.{Dweller, Pedigree, ancestors_of}
 use Rattle.phylogeny.specs.CommonAncestor.{branches_of, descends_from, is_branch, is_child, is_common, is_kept, kept_of, most_recent_common_ancestor}
 use Rattle.phylogeny.specs.Slots.{AreBelow, AreOlder, living_from, parent_at, pedigree_with}
 use Rattle.phylogeny.proofs.AncestorLemmas.{line_head}
-use Rattle.phylogeny.proofs.CountLemmas.{all_counted, any_counted, bit, count_cons, count_handed, count_same}
+use Rattle.phylogeny.proofs.CountLemmas.{all_counted, any_counted, bit, count_cons, count_handed, count_no, count_same}
 use Rattle.phylogeny.proofs.SlotLemmas.{dweller_at, here}
 use Rattle.phylogeny.proofs.TokenLemmas.{handed, nothing_more, stops, stops-among, stops_here}
-
--- ---- lists of ids
-
-range_above : (least from len : ℕ) → least ≤ from
-    → AllByRecursion (λ id. least ≤ id) (range_with_len from len)
-range_above least from zero above = tt
-range_above least from (suc len) above = (above, range_above least (from + 1) len (omega arith))
-
-filter_all : (P : ℕ → Type 0) (p : ℕ → Bool) (xs : List ℕ) → AllByRecursion P xs
-    → AllByRecursion P (filter p xs)
-filter_all P p [] all = tt
-filter_all P p (x ∷ xs) all =
-    elim (p x) as (λ b. AllByRecursion P (cond b (x ∷ filter p xs) (filter p xs))) [
-      | true ↦ (all.0, filter_all P p xs all.1)
-      | false ↦ filter_all P p xs all.1
-    ]
-
--- the greatest of some that are no less than one more
-greatest_more : (id : ℕ) (ids : List ℕ) → AllByRecursion (λ other. id ≤ other) ids
-    → reduce max (id ∷ ids) ≡ option_or (reduce max ids) (Some id)
-greatest_more id [] all = refl
-greatest_more id (other ∷ ids) all =
-    let greater : max id other ≡ other = omega (arith, all.0) in
-    rw greater refl
-
-filter_yes : (p : ℕ → Bool) (x : ℕ) (xs : List ℕ) → p x ≡ true → filter p (x ∷ xs) ≡ x ∷ filter p xs
-filter_yes p x xs kept = rw kept refl
-
-filter_no : (p : ℕ → Bool) (x : ℕ) (xs : List ℕ) → p x ≡ false → filter p (x ∷ xs) ≡ filter p xs
-filter_no p x xs left = rw left refl
-
-filter_length : (p : ℕ → Bool) (x : ℕ) (xs : List ℕ)
-    → length (filter p (x ∷ xs)) ≡ length (filter p xs) + bit (p x)
-filter_length p x xs = elim (p x) as
-    (λ b. length (cond b (x ∷ filter p xs) (filter p xs)) ≡ length (filter p xs) + bit b) [
-      | true ↦ omega arith
-      | false ↦ omega arith
-    ]
-
-bit_few : (b : Bool) → bit b ≤ 1
-bit_few true = omega arith
-bit_few false = omega arith
-
-filter_few : (p : ℕ → Bool) (from len : ℕ) → length (filter p (range_with_len from len)) ≤ len
-filter_few p from zero = omega arith
-filter_few p from (suc len) =
-    omega (
-      arith,
-      filter_few p (from + 1) len,
-      filter_length p from (range_with_len (from + 1) len),
-      bit_few (p from),
-    )
-
-greatest_filtered : (p : ℕ → Bool) (id : ℕ) (ids : List ℕ)
-    → AllByRecursion (λ other. id ≤ other) ids
-    → reduce max (filter p (id ∷ ids))
-    ≡ cond (p id) (option_or (reduce max (filter p ids)) (Some id)) (reduce max (filter p ids))
-greatest_filtered p id ids all =
-    elim (p id) as (λ b. reduce max (cond b (id ∷ filter p ids) (filter p ids))
-    ≡ cond b (option_or (reduce max (filter p ids)) (Some id)) (reduce max (filter p ids))) [
-      | true ↦ greatest_more id (filter p ids) (filter_all (λ other. id ≤ other) p ids all)
-      | false ↦ refl
-    ]
+use Rattle.phylogeny.proofs.FilterLemmas.{range_above, filter_all, filter_yes, filter_no, filter_length, filter_few, greatest_filtered}
 
 -- one id more is kept: with these many children, and common to all or not
 pub record Keeps (id children : ℕ) (shared : Bool) (old new : Shape) : Type 0 where
@@ -189,11 +127,8 @@ module _ (parents standing : List (Option ℕ)) where
         ∙ elim (cases_Bool (is_kept tree bound)) [
           | inl kept ↦
               ap (count_by (is_child tree id)) (kept_yes bound (omega arith) kept)
-              ∙ count_cons (is_child tree id) bound (kept_from (bound + 1))
-              ∙ ap (λ (b : Bool). bit b + count_by (is_child tree id) (kept_from (bound + 1)))
+              ∙ count_no (is_child tree id) bound (kept_from (bound + 1))
               (not_child id bound (omega arith))
-              ∙ (let e : 0 + count_by (is_child tree id) (kept_from (bound + 1))
-              ≡ count_by (is_child tree id) (kept_from (bound + 1)) = omega arith in e)
               ∙ ap (λ (n : ℕ). count_by (is_child tree id) (kept_from n)) (add-one bound)
           | inr left ↦
               ap (count_by (is_child tree id)) (kept_no bound (omega arith) left)

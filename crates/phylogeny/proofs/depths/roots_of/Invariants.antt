@@ -1,7 +1,8 @@
 use Rattle.std.proofs.Common.{◌≡◌, ℕ, ◌<◌, Some, length}
 use Rattle.std.specs.Prelude.{slice_get}
 use Rattle.phylogeny.specs.Slots.{parent_at}
-use Rattle.phylogeny.proofs.AncestorLemmas.{depth_in, founder_in, line}
+use Rattle.lineage_log.proofs.AncestorLemmas.{line}
+use Rattle.phylogeny.proofs.AncestorLemmas.{depth_in, founder_in}
 use Rattle.phylogeny.proofs.depths.roots_of.Given as goal
 
 -- the ids so far have the depths and founders of their lines

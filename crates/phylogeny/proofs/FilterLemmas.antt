@@ -1,0 +1,69 @@
+-- Lists of ids, and how many of them pass a test.
+use Rattle.std.proofs.Common.{◌≡◌, ℕ, zero, suc, ◌+◌, ◌≤◌, Bool, true, false, cond, List, [], ◌∷◌, Some, length, max, refl, arith}
+use Rattle.std.specs.Prelude.{filter}
+use Rattle.std.specs.List.{AllByRecursion, range_with_len, reduce}
+use Rattle.std.specs.Option.{option_or}
+use Rattle.phylogeny.proofs.CountLemmas.{bit}
+
+pub range_above : (least from len : ℕ) → least ≤ from
+    → AllByRecursion (λ id. least ≤ id) (range_with_len from len)
+range_above least from zero above = tt
+range_above least from (suc len) above = (above, range_above least (from + 1) len (omega arith))
+
+pub filter_all : (P : ℕ → Type 0) (p : ℕ → Bool) (xs : List ℕ) → AllByRecursion P xs
+    → AllByRecursion P (filter p xs)
+filter_all P p [] all = tt
+filter_all P p (x ∷ xs) all =
+    elim (p x) as (λ b. AllByRecursion P (cond b (x ∷ filter p xs) (filter p xs))) [
+      | true ↦ (all.0, filter_all P p xs all.1)
+      | false ↦ filter_all P p xs all.1
+    ]
+
+-- the greatest of some that are no less than one more
+greatest_more : (id : ℕ) (ids : List ℕ) → AllByRecursion (λ other. id ≤ other) ids
+    → reduce max (id ∷ ids) ≡ option_or (reduce max ids) (Some id)
+greatest_more id [] all = refl
+greatest_more id (other ∷ ids) all =
+    let greater : max id other ≡ other = omega (arith, all.0) in
+    rw greater refl
+
+pub filter_yes : (p : ℕ → Bool) (x : ℕ) (xs : List ℕ) → p x ≡ true
+    → filter p (x ∷ xs) ≡ x ∷ filter p xs
+filter_yes p x xs kept = rw kept refl
+
+pub filter_no : (p : ℕ → Bool) (x : ℕ) (xs : List ℕ) → p x ≡ false
+    → filter p (x ∷ xs) ≡ filter p xs
+filter_no p x xs left = rw left refl
+
+pub filter_length : (p : ℕ → Bool) (x : ℕ) (xs : List ℕ)
+    → length (filter p (x ∷ xs)) ≡ length (filter p xs) + bit (p x)
+filter_length p x xs = elim (p x) as
+    (λ b. length (cond b (x ∷ filter p xs) (filter p xs)) ≡ length (filter p xs) + bit b) [
+      | true ↦ omega arith
+      | false ↦ omega arith
+    ]
+
+bit_few : (b : Bool) → bit b ≤ 1
+bit_few true = omega arith
+bit_few false = omega arith
+
+pub filter_few : (p : ℕ → Bool) (from len : ℕ) → length (filter p (range_with_len from len)) ≤ len
+filter_few p from zero = omega arith
+filter_few p from (suc len) =
+    omega (
+      arith,
+      filter_few p (from + 1) len,
+      filter_length p from (range_with_len (from + 1) len),
+      bit_few (p from),
+    )
+
+pub greatest_filtered : (p : ℕ → Bool) (id : ℕ) (ids : List ℕ)
+    → AllByRecursion (λ other. id ≤ other) ids
+    → reduce max (filter p (id ∷ ids))
+    ≡ cond (p id) (option_or (reduce max (filter p ids)) (Some id)) (reduce max (filter p ids))
+greatest_filtered p id ids all =
+    elim (p id) as (λ b. reduce max (cond b (id ∷ filter p ids) (filter p ids))
+    ≡ cond b (option_or (reduce max (filter p ids)) (Some id)) (reduce max (filter p ids))) [
+      | true ↦ greatest_more id (filter p ids) (filter_all (λ other. id ≤ other) p ids all)
+      | false ↦ refl
+    ]

@@ -1,0 +1,176 @@
+-- What a reader of a log knows of its organisms, beside the pedigree so far.
+use Rattle.std.proofs.Common.{◌≡◌, ℕ, zero, suc, ◌+◌, ◌<◌, ◌≤◌, Bool, true, false, List, [], ◌∷◌, ◌++◌, Option, Some, None, Result, Ok, Err, length, get_or, set, refl, sym, ap, subst, ◌∙◌, arith}
+use Rattle.std.specs.Prelude.{◌==◌, ◌&&◌, if◌then◌else◌, nat_lt, replicate, slice_get, option_and_then}
+use Rattle.std.proofs.Math.ListN.{length-set}
+use Rattle.std.proofs.lemmas.Bool.{and_parts, eqb-true}
+use Rattle.std.proofs.lemmas.Option.{slice_get_within}
+use Rattle.instruction_set.specs.declared.letter.Letter.{Letter}
+use Rattle.mutations.specs.BirthRecord.{BirthRecord, child_of}
+use Rattle.mutations.specs.declared.stop.ApplyStop.{ApplyStop}
+use Rattle.lineage_log.specs.declared.reason.Reason.{Reason}
+use Rattle.lineage_log.specs.declared.reason.Reason.TheVariants.{BadOrder}
+use Rattle.lineage_log.specs.declared.stage.Stage.{Stage}
+use Rattle.lineage_log.specs.declared.stage.Stage.TheVariants.{Placing}
+use Rattle.lineage_log.specs.Order.{Place, Before, Within, After, and_on, with_child, with_parent, within_if}
+use Rattle.lineage_log.specs.People.{without}
+use Rattle.lineage_log.specs.Reader.{Reader, with_death, with_newcomer}
+use Rattle.lineage_log.specs.Reader.{parent_in as kept_parent}
+use Rattle.phylogeny.specs.Slots.{AreBelow}
+
+-- ---- who stands in the cells
+
+set_below : (n m : ℕ) (slots : List (Option ℕ)) (cell : ℕ) (slot : Option ℕ) → n ≤ m
+    → AreBelow n slots → ((id : ℕ) → slot ≡ Some id → id < m) → AreBelow m (set slots cell slot)
+set_below n m [] cell slot few below new c id is = absurd cc
+set_below n m (s ∷ slots) zero slot few below new zero id is = new id is
+set_below n m (s ∷ slots) zero slot few below new (suc c) id is =
+    let b = below (suc c) id is in omega arith
+set_below n m (s ∷ slots) (suc cell) slot few below new zero id is =
+    let b = below zero id is in omega arith
+set_below n m (s ∷ slots) (suc cell) slot few below new (suc c) id is =
+    set_below n m slots cell slot few (λ k i e. below (suc k) i e) new c id is
+
+below_without : (n : ℕ) (slots : List (Option ℕ)) (cell : ℕ) → AreBelow n slots
+    → AreBelow n (set slots cell None)
+below_without n slots cell below =
+    set_below n n slots cell None (omega arith) below (λ id is. absurd cc)
+
+pub below_with : (n : ℕ) (slots : List (Option ℕ)) (cell id : ℕ) → id ≡ n → AreBelow n slots
+    → AreBelow (n + 1) (set slots cell (Some id))
+below_with n slots cell id next below =
+    set_below n (n + 1) slots cell (Some id) (omega arith) below
+    (λ x is. let same : id ≡ x = cc in omega arith)
+
+abbrev pub nobody : ℕ → List (Option ℕ)
+nobody cells = replicate cells None
+
+pub nobody_there : (cells c id : ℕ) → get_or (nobody cells) c None ≡ Some id → ⊥
+nobody_there zero c id is = absurd cc
+nobody_there (suc cells) zero id is = absurd cc
+nobody_there (suc cells) (suc c) id is = nobody_there cells c id is
+
+pub nobody_length : (cells : ℕ) → length (nobody cells) ≡ cells
+nobody_length zero = refl
+nobody_length (suc cells) = ap suc (nobody_length cells)
+
+pub length_without : (ids : List ℕ) (people : List (Option (List Letter)))
+    → length (without ids people) ≡ length people
+length_without [] people = refl
+length_without (id ∷ ids) people =
+    length_without ids (set people id None) ∙ length-set people id None
+
+length_pushed : {A : Type 0} (xs : List A) (y : A) → length (xs ++ y ∷ []) ≡ length xs + 1
+length_pushed [] y = omega arith
+length_pushed (x ∷ xs) y = let e = length_pushed xs y in omega arith
+
+-- ---- what is known beside a reader
+
+-- so many ids, and who stands in the cells
+pub record IsAt (r : Reader) (count : ℕ) (standing : List (Option ℕ)) : Type 0 where
+  pub as_many : length r.people ≡ count
+  pub same : r.standing ≡ standing
+  pub below : AreBelow count standing
+
+abbrev pub IsPlaceAt : Place → ℕ → List (Option ℕ) → Type 0
+IsPlaceAt Before count standing = ⊥
+IsPlaceAt (Within r) count standing = IsAt r count standing
+IsPlaceAt (After r) count standing = IsAt r count standing
+
+pub went_on : (t : Result Place Reason) (next : Place → Result Place Reason) (q : Place)
+    → and_on t next ≡ Ok q → (p : Place) × (t ≡ Ok p) × (next p ≡ Ok q)
+went_on (Ok p) next q is = (p, refl, is)
+went_on (Err reason) next q is = absurd cc
+
+place_is : (p q : Place) → ◌≡◌ {A = Result Place Reason} (Ok p) (Ok q) → p ≡ q
+place_is p q is = cc
+
+pub within_gives : (test : Bool) (r : Reader) (p : Place) (count : ℕ) (standing : List (Option ℕ))
+    → within_if test r ≡ Ok p → (test ≡ true → IsAt r count standing) → IsPlaceAt p count standing
+within_gives true r p count standing is gives =
+    subst (λ (q : Place). IsPlaceAt q count standing) (place_is (Within r) p is) (gives refl)
+within_gives false r p count standing is gives = absurd cc
+
+-- the test of a line that tells a newcomer
+pub tested : (test : Bool) (r : Reader) (p : Place) → within_if test r ≡ Ok p → test ≡ true
+tested true r p is = refl
+tested false r p is = absurd cc
+
+pub death_at : (r : Reader) (stage : Stage) (cell id count : ℕ) (standing : List (Option ℕ))
+    → IsAt r count standing → IsAt (with_death r stage cell id) count (set standing cell None)
+death_at r stage cell id count standing now = record {
+  as_many = now.as_many;
+  same = ap (λ (slots : List (Option ℕ)). set slots cell None) now.same;
+  below = below_without count standing cell now.below;
+}
+
+pub newcomer_at : (r : Reader) (stage : Stage) (cell id : ℕ) (over : Option ℕ)
+    (genome : List Letter) (births count : ℕ) (standing : List (Option ℕ)) → id ≡ count → IsAt r count standing
+    → IsAt (with_newcomer r stage cell over genome births) (count + 1) (set standing cell (Some id))
+newcomer_at r stage cell id over genome births count standing next now = record {
+  as_many = length_pushed r.people (Some genome) ∙ ap (λ n. n + 1) now.as_many;
+  same = λ i. set (now.same i) cell (Some ((now.as_many ∙ sym next) i));
+  below = below_with count standing cell id next now.below;
+}
+
+pub next_id : (a b c : Bool) (id count : ℕ) (people : List (Option (List Letter)))
+    → length people ≡ count → (((a && b) && (id == length people)) && c) ≡ true → id ≡ count
+next_id a b c id count people as_many test =
+    eqb-true id (length people)
+    (and_parts (a && b) (id == length people)
+    (and_parts ((a && b) && (id == length people)) c test).0).1 ∙ as_many
+
+-- ---- the parent of a birth
+
+found_within : (people : List (Option (List Letter))) (parent : ℕ) (letters : List Letter)
+    (found : Option (Option (List Letter))) → slice_get people parent ≡ found
+    → option_and_then (λ f. f) found ≡ Some letters → parent < length people
+found_within people parent letters None there is = absurd cc
+found_within people parent letters (Some found) there is =
+    slice_get_within people parent found there
+
+parent_within : (r : Reader) (parent : ℕ) (letters : List Letter) (old : Bool)
+    → (if old then option_and_then (λ f. f) (slice_get r.people parent) else None) ≡ Some letters
+    → parent < length r.people
+parent_within r parent letters true is =
+    found_within r.people parent letters (slice_get r.people parent) refl is
+parent_within r parent letters false is = absurd cc
+
+child_at : (r : Reader) (cell id : ℕ) (over : Option ℕ) (child : Result (List Letter) ApplyStop)
+    (p : Place) (count : ℕ) (standing : List (Option ℕ)) → id ≡ count
+    → with_child r cell over child ≡ Ok p → IsAt r count standing
+    → IsPlaceAt p (count + 1) (set standing cell (Some id))
+child_at r cell id over (Ok child) p count standing next is now =
+    subst (λ (q : Place). IsPlaceAt q (count + 1) (set standing cell (Some id)))
+    (place_is (Within (with_newcomer r Placing cell over child (r.births + 1))) p is)
+    (newcomer_at r Placing cell id over child (r.births + 1) count standing next now)
+child_at r cell id over (Err stop) p count standing next is now = absurd cc
+
+born_at : (r : Reader) (cell id parent : ℕ) (over : Option ℕ) (birth : BirthRecord)
+    (found : Option (List Letter)) (p : Place) (count : ℕ) (standing : List (Option ℕ)) → id ≡ count
+    → kept_parent r parent ≡ found → with_parent r cell over birth found ≡ Ok p
+    → IsAt r count standing → (parent < count)
+    × IsPlaceAt p (count + 1) (set standing cell (Some id))
+born_at r cell id parent over birth None p count standing next from is now = absurd cc
+born_at r cell id parent over birth (Some letters) p count standing next from is now = (
+  let within = parent_within r parent letters (nat_lt parent r.newest) from in
+      omega (arith, within, now.as_many),
+  child_at r cell id over (child_of letters birth) p count standing next is now,
+)
+
+pub birth_at : (test : Bool) (r : Reader) (cell id parent : ℕ) (over : Option ℕ)
+    (birth : BirthRecord) (p : Place) (count : ℕ) (standing : List (Option ℕ)) → (test ≡ true → id ≡ count)
+    → (if test then with_parent r cell over birth (kept_parent r parent) else Err BadOrder) ≡ Ok p
+    → IsAt r count standing → (id ≡ count) × (parent < count)
+    × IsPlaceAt p (count + 1) (set standing cell (Some id))
+birth_at true r cell id parent over birth p count standing next is now =
+    let born = born_at r cell id parent over birth (kept_parent r parent) p count standing
+    (next refl) refl is now in
+    (next refl, born.0, born.1)
+birth_at false r cell id parent over birth p count standing next is now = absurd cc
+
+pub end_at : (test : Bool) (r : Reader) (p : Place) (count : ℕ) (standing : List (Option ℕ))
+    → ◌≡◌ {A = Result Place Reason} (if test then Ok (After r) else Err BadOrder) (Ok p)
+    → IsAt r count standing → IsPlaceAt p count standing
+end_at true r p count standing is now =
+    subst (λ (q : Place). IsPlaceAt q count standing) (place_is (After r) p is) now
+end_at false r p count standing is now = absurd cc
