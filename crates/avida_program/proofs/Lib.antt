@@ -1,14 +1,7 @@
-pub mod PieceLemmas
 pub mod TraceLemmas
 pub mod ListTexts
 pub mod RangeLemmas
-pub mod LookLemmas
-pub mod PublishedLemmas
-pub mod WatchLemmas
-pub mod WatcherLemmas
-pub mod EndLemmas
+pub mod StopLemmas
 pub mod RunEnds
 pub mod BenchLemmas
 pub mod Serves
-pub mod PutLemmas
-pub mod RunLemmas

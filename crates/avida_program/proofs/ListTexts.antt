@@ -6,10 +6,10 @@ use Rattle.std.proofs.lemmas.Grind.{flat_map-append}
 use Rattle.std.proofs.lemmas.List.{take_all}
 use Rattle.avida_port.specs.declared.sink.SinkStop.{SinkStop}
 use Rattle.avida_port.specs.Ports.{SinkState, Puts, GainedPrefix}
-use Rattle.avida_program.specs.Changes.{change}
+use Rattle.written_texts.specs.SinkChanges.{change}
 use Rattle.avida_program.specs.Outcomes.{WritesText, outcome_of}
-use Rattle.avida_program.specs.Pieces.{Writes}
-use Rattle.avida_program.proofs.PieceLemmas.{writes_short, writes_then}
+use Rattle.written_texts.specs.Pieces.{Writes}
+use Rattle.written_texts.proofs.PieceLemmas.{writes_short, writes_then}
 use Rattle.avida_program.proofs.TraceLemmas.{front_put, piece_put, stopped_within}
 
 -- one more text

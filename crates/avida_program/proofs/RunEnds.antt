@@ -1,5 +1,5 @@
 -- A run whose configuration was read, by how it ended.
-use Rattle.std.proofs.Common.{◌≡◌, ℕ, List, [], Option, None, Some, IfSome, IfOk, IfErr, OnOk, Result, Ok, Err, MatchResult, sym, subst, refl, inl, inr}
+use Rattle.std.proofs.Common.{◌≡◌, ℕ, List, [], Option, None, Some, IfSome, IfOk, IfErr, OnOk, Result, Ok, Err, MatchResult, ◌∙◌, sym, subst, refl, inr}
 use Rattle.world_config.specs.Values.{ConfigValues}
 use Rattle.world_core.specs.WorldValue.{WorldValue}
 use Rattle.world_rules.specs.Laws.{ReplaysToLiving}
@@ -7,11 +7,16 @@ use Rattle.avida_port.specs.Ports.{SourceState}
 use Rattle.avida_program.specs.declared.command.Command.TheVariants.{Run}
 use Rattle.avida_program.specs.declared.outcome.Outcome.{Outcome}
 use Rattle.avida_program.specs.declared.outcome.Outcome.TheVariants as outcome
-use Rattle.avida_program.specs.Changes.{Change, GainedText, Stays, Work}
+use Rattle.written_texts.specs.declared.stop.WriteStop.{WriteStop}
+use Rattle.written_texts.specs.declared.stop.WriteStop.TheVariants as stop
+use Rattle.written_texts.specs.SinkChanges.{Change, GainedText, Stays}
+use Rattle.avida_program.specs.Changes.{Work}
 use Rattle.avida_program.specs.Input.{configuration_of}
-use Rattle.avida_program.specs.Outcomes.{StopsRun}
-use Rattle.avida_program.specs.RunText.{IsFinalWorld, LeavesFinal, run_text}
-use Rattle.avida_program.specs.WatchText.{GainedPictures}
+use Rattle.avida_program.specs.Outcomes.{StopsRunning, outcome_at}
+use Rattle.logged_run.specs.RunStops.{StopsRun}
+use Rattle.logged_run.specs.RunText.{IsFinalWorld, run_text}
+use Rattle.avida_program.specs.FinalWorld.{LeavesFinal}
+use Rattle.logged_run.specs.WatchText.{GainedPictures}
 use Rattle.avida_program.specs.Work.{CarriesOut, Watches}
 
 -- the bytes of the source are this configuration, and nothing of them is left
@@ -20,6 +25,7 @@ pub record ReadsConfig (source : Change SourceState) (config : ConfigValues) : T
       → configuration_of bytes ≡ Ok config
   pub whole : (bytes : List ℕ) → source.before.left ≡ Some bytes → source.after.left ≡ Some []
 
+-- what the watcher of a run that came to its end leaves
 watched : (looks : Option ℕ) (bytes : List ℕ) (work : Work) (config : ConfigValues)
     → configuration_of bytes ≡ Ok config
     → IfSome looks (λ n. GainedPictures n config work.watch)
@@ -27,21 +33,24 @@ watched : (looks : Option ℕ) (bytes : List ℕ) (work : Work) (config : Config
 watched None bytes work config is h = h
 watched (Some n) bytes work config is h = (config, is, h)
 
+-- what the watcher leaves where a put failed
 watch_faulted : (looks : Option ℕ) (bytes : List ℕ) (work : Work) (config : ConfigValues)
     → configuration_of bytes ≡ Ok config
-    → StopsRun looks config work.out work.watch outcome.WriteFault
+    → StopsRun looks config work.out work.watch stop.Fault
     → IfSome looks (λ n. Watches n (configuration_of bytes) work outcome.WriteFault)
 watch_faulted None bytes work config is stops = tt
 watch_faulted (Some n) bytes work config is stops =
     (config, is, record { pictures = stops.pictures; whole_log = stops.whole_log refl })
 
+-- what the watcher leaves where memory ran out
 watch_wanted : (looks : Option ℕ) (bytes : List ℕ) (work : Work) (config : ConfigValues)
     → configuration_of bytes ≡ Ok config
-    → StopsRun looks config work.out work.watch outcome.NoMemory
+    → StopsRun looks config work.out work.watch stop.Memory
     → IfSome looks (λ n. Watches n (configuration_of bytes) work outcome.NoMemory)
 watch_wanted None bytes work config is stops = tt
 watch_wanted (Some n) bytes work config is stops = inr (config, is, stops.pictures)
 
+-- the run came to its end
 ran_to_end : (workers : ℕ) (looks : Option ℕ) (work : Work) (config : ConfigValues)
     → ReadsConfig work.source config
     → GainedText work.out (run_text config) → IfSome looks (λ n. GainedPictures n config work.watch)
@@ -61,22 +70,15 @@ ran_to_end workers looks work config read wrote pictures unwatched left replays 
   };
 }
 
+-- the run stopped
 run_stopped : (workers : ℕ) (looks : Option ℕ) (work : Work) (config : ConfigValues)
-    (told : Outcome) → ReadsConfig work.source config
-    → StopsRun looks config work.out work.watch told → (looks ≡ None → Stays work.watch)
-    → Stays work.last → CarriesOut (Run workers looks) work told
-run_stopped workers looks work config outcome.Done read stops unwatched kept =
-    absurd (elim stops.ends [ inl p ↦ cc | inr p ↦ cc ])
-run_stopped workers looks work config outcome.BadWords read stops unwatched kept =
-    absurd (elim stops.ends [ inl p ↦ cc | inr p ↦ cc ])
-run_stopped workers looks work config (outcome.BadInput why) read stops unwatched kept =
-    absurd (elim stops.ends [ inl p ↦ cc | inr p ↦ cc ])
-run_stopped workers looks work config outcome.ReadFault read stops unwatched kept =
-    absurd (elim stops.ends [ inl p ↦ cc | inr p ↦ cc ])
-run_stopped workers looks work config outcome.WriteFault read stops unwatched kept = record {
+    (e : WriteStop) → ReadsConfig work.source config
+    → StopsRun looks config work.out work.watch e → (looks ≡ None → Stays work.watch)
+    → Stays work.last → CarriesOut (Run workers looks) work (outcome_at e)
+run_stopped workers looks work config stop.Fault read stops unwatched kept = record {
   words = λ e. cc;
   read_fault = λ e. absurd (cc);
-  write_fault = stops.fault;
+  write_fault = λ e. stops.fault refl;
   watch_stays = unwatched;
   last_stays = λ other. kept;
   does = λ bytes is. record {
@@ -85,7 +87,7 @@ run_stopped workers looks work config outcome.WriteFault read stops unwatched ke
     leaves = kept;
   };
 }
-run_stopped workers looks work config outcome.NoMemory read stops unwatched kept = record {
+run_stopped workers looks work config stop.Memory read stops unwatched kept = record {
   words = λ e. cc;
   read_fault = λ e. absurd (cc);
   write_fault = λ e. absurd (cc);
@@ -104,7 +106,7 @@ pub run_ended : (workers : ℕ) (looks : Option ℕ) (work : Work) (config : Con
     → ReadsConfig work.source config → IfOk r (IsFinalWorld config)
     → OnOk r (GainedText work.out (run_text config))
     → OnOk r (IfSome looks (λ n. GainedPictures n config work.watch))
-    → IfErr r (StopsRun looks config work.out work.watch)
+    → IfErr r (StopsRunning looks config work.out work.watch)
     → (looks ≡ None → Stays work.watch) → ReplaysToLiving config config.updates
     → MatchResult r (λ world. (told ≡ outcome.Done) × (work.last.after ≡ Some world))
     (λ e. (told ≡ e) × (work.last.after ≡ work.last.before))
@@ -116,5 +118,5 @@ run_ended workers looks work config (Ok world) told read final wrote pictures st
     (ran_to_end workers looks work config read wrote pictures unwatched here replays)
 run_ended workers looks work config (Err e) told read final wrote pictures stops unwatched replays
     left =
-    subst (CarriesOut (Run workers looks) work) (sym left.0)
-    (run_stopped workers looks work config e read stops unwatched left.1)
+    subst (CarriesOut (Run workers looks) work) (sym (left.0 ∙ stops.is))
+    (run_stopped workers looks work config stops.stop read stops.stops unwatched left.1)

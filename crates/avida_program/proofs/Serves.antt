@@ -1,11 +1,11 @@
 -- From what the work leaves by its outcome to what `serve` promises by its status.
 use Rattle.std.proofs.Common.{◌≡◌, ◌≢◌, ◌∙◌, ℕ, List, Option, None, Some, IfSome, Result, sym, ap, subst, refl, inl, inr, option_and_then}
-use Rattle.lineage_log.specs.Replay.{replay_of}
 use Rattle.world_rules.specs.WorldRun.{residents_of_world, world_after}
 use Rattle.world_config.specs.Values.{ConfigValues}
 use Rattle.world_core.specs.WorldValue.{WorldValue, world_in}
 use Rattle.avida_port.specs.Ports.{SinkState, SourceState}
-use Rattle.avida_program.proofs.WatchLemmas.{no_pictures, stays_front}
+use Rattle.logged_run.proofs.WatchLemmas.{no_pictures}
+use Rattle.written_texts.proofs.GainedLemmas.{stays_front}
 use Rattle.avida_program.specs.declared.command.Command.{Command}
 use Rattle.avida_program.specs.declared.command.Command.TheVariants.{Trace, Run, Lineage, Bench, Assay, Replay, Upgrade, Tree, Landscape}
 use Rattle.avida_program.specs.declared.status.Status.TheVariants as status
@@ -15,12 +15,15 @@ use Rattle.avida_program.specs.declared.refusal.Refusal.{Refusal}
 use Rattle.avida_program.specs.Input.{IsInputWith, configuration_of, lineage_input_of}
 use Rattle.avida_program.specs.Status.{status_of, told_by}
 use Rattle.avida_program.specs.BenchText.{bench_text}
-use Rattle.avida_program.specs.Changes.{Call, Change, GainedFront, GainedText, PutFailed, SourceFailed, Stays, TellsOf, Work, unchanged, work_of}
+use Rattle.avida_program.specs.Changes.{Call, SourceFailed, TellsOf, Work, work_of}
+use Rattle.written_texts.specs.SinkChanges.{Change, GainedFront, GainedText, Stays, unchanged}
+use Rattle.logged_run.specs.RunStops.{PutFailed}
 use Rattle.avida_program.specs.CommandLine.{looks_of}
 use Rattle.avida_program.specs.Commands.{Serves, ServesBench, ServesCommand, ServesLineage, ServesRun, ServesWatcher}
-use Rattle.avida_program.specs.RunText.{GainedLogOf, IsFinalWorld, LeavesFinal, run_text}
+use Rattle.avida_program.specs.FinalWorld.{GainedLogOf, LeavesFinal}
+use Rattle.logged_run.specs.RunText.{IsFinalWorld, run_text}
 use Rattle.avida_program.specs.ServesInput.{ServesInput, ServesNothing}
-use Rattle.avida_program.specs.WatchText.{GainedPicturesFront}
+use Rattle.logged_run.specs.WatchText.{GainedPicturesFront}
 use Rattle.avida_program.specs.Work.{Benches, CarriesOut, Descends, Does, DoesNothing, LeavesLast, LeavesWorld, Obeys, ReadsInput, Runs, Watches}
 
 -- what is read and written, by the status

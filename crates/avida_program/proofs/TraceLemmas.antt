@@ -4,15 +4,15 @@ use Rattle.std.proofs.lemmas.Grind.{flat_map-append}
 use Rattle.avida_port.specs.declared.sink.SinkStop.{SinkStop}
 use Rattle.avida_port.specs.declared.sink.SinkStop.TheVariants.{Fault, Memory}
 use Rattle.avida_port.specs.Ports.{SinkState, Puts, GainedPrefix}
-use Rattle.avida_program.proofs.PutLemmas.{puts_short, puts_then}
+use Rattle.written_texts.proofs.PutLemmas.{puts_short, puts_then}
 use Rattle.organism.specs.OrganismState.{OrganismState}
 use Rattle.organism.specs.TracedStep.{TracedStep, trace_step_of}
-use Rattle.avida_program.specs.Changes.{change}
+use Rattle.written_texts.specs.SinkChanges.{change}
 use Rattle.avida_program.specs.Outcomes.{WritesText, outcome_of}
-use Rattle.avida_program.specs.Pieces.{Writes}
+use Rattle.written_texts.specs.Pieces.{Writes}
 use Rattle.landscape.specs.Trace.{organism_after, step_after}
 use Rattle.avida_program.specs.TraceText.{lines_of, numbers_below, trace_line}
-use Rattle.avida_program.proofs.PieceLemmas.{writes_then}
+use Rattle.written_texts.proofs.PieceLemmas.{writes_then}
 
 -- one more line
 pub lines_next : (o : OrganismState) (n : ℕ)

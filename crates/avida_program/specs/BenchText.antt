@@ -7,7 +7,7 @@ use Rattle.world_config.specs.Config.{values_in}
 use Rattle.world_config.specs.Values.{ConfigValues}
 use Rattle.world_rules.specs.Statistics.{stats_of}
 use Rattle.assay.specs.Assay.{births_until}
-use Rattle.avida_program.specs.RunText.{run_text}
+use Rattle.logged_run.specs.RunText.{run_text}
 
 -- the configuration that is run: each key has its default but the seed and the updates
 unfoldable pub bench_config : ℕ → ConfigValues

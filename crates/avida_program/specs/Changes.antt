@@ -1,24 +1,12 @@
--- What a call changes (docs/FORMATS.md, "Statuses and fault lines").
-use Rattle.std.specs.Prelude.{◌≡◌, ◌≢◌, ◌⊎◌, ℕ, List, Option, None, Some}
+-- What a call of the program changes (docs/FORMATS.md, "Statuses and fault lines").
+use Rattle.std.specs.Prelude.{◌≡◌, ◌≢◌, ◌⊎◌, ℕ, List, Option, Some}
 use Rattle.avida_port.specs.Faults.{Rose}
-use Rattle.avida_port.specs.Ports.{SourceState, SinkState, Gained, GainedPrefix}
+use Rattle.avida_port.specs.Ports.{SourceState, SinkState}
 use Rattle.world_core.specs.WorldValue.{WorldValue}
+use Rattle.written_texts.specs.SinkChanges.{Change, GainedFront, GainedText, SinkFailed, Stays}
 use Rattle.avida_program.specs.declared.outcome.Outcome.{Outcome}
 use Rattle.avida_program.specs.declared.outcome.Outcome.TheVariants as outcome
 use Rattle.avida_program.specs.Status.{fault_line}
-
--- what a call finds and what it leaves
-pub record Change (A : Type 0) : Type 0 where
-  pub before : A
-  pub after : A
-
--- a value before and after a call
-abbrev pub change : {A : Type 0} → A → A → Change A
-change before after = record { before = before; after = after }
-
--- a value that a call leaves as it is
-abbrev pub unchanged : {A : Type 0} → A → Change A
-unchanged value = change value value
 
 -- what a call of the program finds and leaves
 pub record Call : Type 0 where
@@ -44,10 +32,6 @@ work_of call = record {
   last = call.last;
 }
 
--- nothing of it was changed
-abbrev pub Stays : {A : Type 0} → Change A → Type 0
-Stays c = c.after ≡ c.before
-
 -- this holds of the bytes of the source, where it tells them
 abbrev pub OnBytes : Change SourceState → (List ℕ → Type 0) → Type 0
 OnBytes source P = (bytes : List ℕ) → source.before.left ≡ Some bytes → P bytes
@@ -56,26 +40,9 @@ OnBytes source P = (bytes : List ℕ) → source.before.left ≡ Some bytes → 
 abbrev pub SourceFailed : Change SourceState → Type 0
 SourceFailed source = Rose source.before.faults source.after.faults
 
--- the faults of a sink rose
-abbrev pub SinkFailed : Change SinkState → Type 0
-SinkFailed sink = Rose sink.before.faults sink.after.faults
-
--- the faults of `out` rose, or, where there is a watcher of so many looks, those of `watch`
-abbrev pub PutFailed : Option ℕ → Change SinkState → Change SinkState → Type 0
-PutFailed None out watch = SinkFailed out
-PutFailed (Some looks) out watch = SinkFailed out ⊎ SinkFailed watch
-
 -- the faults or the wants of a sink rose
 abbrev pub SinkStopped : Change SinkState → Type 0
 SinkStopped sink = SinkFailed sink ⊎ Rose sink.before.wants sink.after.wants
-
--- exactly this text came behind what the sink held
-abbrev pub GainedText : Change SinkState → List ℕ → Type 0
-GainedText sink text = Gained sink.before sink.after text
-
--- a prefix of this text came behind what the sink held
-abbrev pub GainedFront : Change SinkState → List ℕ → Type 0
-GainedFront sink text = GainedPrefix sink.before sink.after text
 
 -- the fault line of an outcome on `err`
 pub record TellsOf (err : Change SinkState) (told : Outcome) : Type 0 where

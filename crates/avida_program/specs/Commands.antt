@@ -7,21 +7,26 @@ use Rattle.phylogeny.specs.TreeText.{tree_text}
 use Rattle.world_config.specs.Values.{ConfigValues}
 use Rattle.world_core.specs.WorldValue.{WorldValue}
 use Rattle.avida_program.specs.declared.command.Command.{Command}
-use Rattle.avida_program.specs.declared.command.Command.TheVariants.{Trace, Run, Lineage, Bench, Assay, Replay, Upgrade, Tree, Landscape}
+use Rattle.avida_program.specs.declared.command.Command.TheVariants.{Trace, Run, Lineage, Bench}
+use Rattle.avida_program.specs.declared.command.Command.TheVariants.{Assay, Replay, Upgrade, Tree}
+use Rattle.avida_program.specs.declared.command.Command.TheVariants.{Landscape}
 use Rattle.avida_program.specs.declared.command.Spelling.{Spelling}
 use Rattle.avida_program.specs.declared.command.Spelling.TheVariants.{Letters}
 use Rattle.avida_program.specs.declared.status.Status.{Status}
 use Rattle.avida_program.specs.declared.status.Status.TheVariants as status
 use Rattle.avida_program.specs.declared.refusal.Refusal.{Refusal}
 use Rattle.avida_program.specs.BenchText.{bench_config, bench_text}
-use Rattle.avida_program.specs.Changes.{Call, OnBytes, Stays, SinkFailed, GainedText, GainedFront, TellsOf}
-use Rattle.avida_program.specs.Input.{IsInputWith, assay_input_of, configuration_of, genome_of, lineage_input_of, log_input_of}
+use Rattle.avida_program.specs.Changes.{Call, OnBytes, TellsOf}
+use Rattle.written_texts.specs.SinkChanges.{Stays, SinkFailed, GainedText, GainedFront}
+use Rattle.avida_program.specs.Input.{IsInputWith, assay_input_of, configuration_of, genome_of}
+use Rattle.avida_program.specs.Input.{lineage_input_of, log_input_of}
 use Rattle.avida_program.specs.PathText.{path_text}
 use Rattle.avida_program.specs.ReplayText.{replay_text, upgrade_text}
-use Rattle.avida_program.specs.RunText.{GainedLogOf, LeavesFinal, run_text}
+use Rattle.avida_program.specs.FinalWorld.{GainedLogOf, LeavesFinal}
+use Rattle.logged_run.specs.RunText.{run_text}
 use Rattle.avida_program.specs.ServesInput.{ServesInput, ServesNothing}
 use Rattle.avida_program.specs.Status.{told_by}
-use Rattle.avida_program.specs.WatchText.{GainedPictures, GainedPicturesFront}
+use Rattle.logged_run.specs.WatchText.{GainedPictures, GainedPicturesFront}
 use Rattle.avida_program.specs.TraceText.{trace_text}
 
 -- `trace` of so many steps, on a source that tells these bytes

@@ -1,6 +1,5 @@
 pub mod CommandLine
 pub mod Status
-pub mod Pieces
 pub mod TraceText
 pub mod PathText
 pub mod Input
@@ -10,9 +9,6 @@ pub mod Changes
 pub mod ServesInput
 pub mod Commands
 pub mod Outcomes
-pub mod RunText
-pub mod WatchText
-pub mod Watching
-pub mod Publishing
+pub mod FinalWorld
 pub mod BenchText
 pub mod Work

@@ -1,7 +1,7 @@
 -- How reading and writing below `serve` stop, by the outcome (docs/FORMATS.md, "Statuses and fault
 -- lines").
-use Rattle.std.specs.Prelude.{◌≡◌, ◌<◌, ◌⊎◌, ⊤, ℕ, List, length, Option, None, Some, IfSome, Result, Ok, Err, OnOk, IfErr}
-use Rattle.avida_port.specs.Ports.{SinkState, SourceState, CountsClimb, Gained}
+use Rattle.std.specs.Prelude.{◌≡◌, ◌<◌, ⊤, ℕ, List, length, Option, Some, Result, Ok, Err}
+use Rattle.avida_port.specs.Ports.{SinkState, SourceState}
 use Rattle.avida_port.specs.declared.sink.SinkStop.{SinkStop}
 use Rattle.avida_port.specs.declared.sink.SinkStop.TheVariants.{Fault, Memory}
 use Rattle.avida_program.specs.declared.outcome.Outcome.{Outcome}
@@ -9,14 +9,21 @@ use Rattle.avida_program.specs.declared.outcome.Outcome.TheVariants as outcome
 use Rattle.avida_program.specs.declared.refusal.Refusal.{Refusal}
 use Rattle.avida_program.specs.declared.refusal.Refusal.TheVariants.{TooLong}
 use Rattle.world_config.specs.Values.{ConfigValues}
-use Rattle.avida_program.specs.Changes.{Change, SourceFailed, SinkFailed, PutFailed, GainedText, GainedFront, change}
-use Rattle.avida_program.specs.RunText.{run_text}
-use Rattle.avida_program.specs.WatchText.{GainedPicturesFront}
+use Rattle.written_texts.specs.declared.stop.WriteStop.{WriteStop}
+use Rattle.written_texts.specs.declared.stop.WriteStop.TheVariants as written
+use Rattle.written_texts.specs.SinkChanges.{Change, SinkFailed, GainedText, GainedFront}
+use Rattle.logged_run.specs.RunStops.{StopsRun}
+use Rattle.avida_program.specs.Changes.{SourceFailed}
 
 -- how a call ends whose put stopped so
 abbrev pub stopped_by : SinkStop → Outcome
 stopped_by Fault = outcome.WriteFault
 stopped_by Memory = outcome.NoMemory
+
+-- how a call ends whose text is not written whole
+abbrev pub outcome_at : WriteStop → Outcome
+outcome_at written.Fault = outcome.WriteFault
+outcome_at written.Memory = outcome.NoMemory
 
 -- how a call ends whose puts ended so
 abbrev pub outcome_of : Result (Unit {0}) SinkStop → Outcome
@@ -56,18 +63,9 @@ abbrev pub WritesText : List ℕ → Change SinkState → Outcome → Type 0
 WritesText text out outcome.Done = GainedText out text
 WritesText text out told = StopsWithin text out told
 
--- a text is written, or it stops; the counts show the cause
-pub record WritesAll {T : Type 0} (before after : SinkState) (text : List ℕ)
-    (result : Result T Outcome) : Type 0 where
-  pub ok : OnOk result (Gained before after text)
-  pub err : IfErr result (StopsWithin text (change before after))
-  pub counts : CountsClimb before after
-
 -- how the writing of a run stops, which may have a watcher
-pub record StopsRun (looks : Option ℕ) (config : ConfigValues) (out watch : Change SinkState)
+pub record StopsRunning (looks : Option ℕ) (config : ConfigValues) (out watch : Change SinkState)
     (told : Outcome) : Type 0 where
-  pub ends : (told ≡ outcome.WriteFault) ⊎ (told ≡ outcome.NoMemory)
-  pub fault : told ≡ outcome.WriteFault → PutFailed looks out watch
-  pub front : GainedFront out (run_text config)
-  pub whole_log : told ≡ outcome.WriteFault → ¬ SinkFailed out → GainedText out (run_text config)
-  pub pictures : IfSome looks (λ n. GainedPicturesFront n config watch)
+  pub stop : WriteStop
+  pub is : told ≡ outcome_at stop
+  pub stops : StopsRun looks config out watch stop

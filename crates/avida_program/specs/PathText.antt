@@ -8,7 +8,7 @@ use Rattle.lineage_log.specs.Links.{Link}
 use Rattle.world_config.specs.Values.{ConfigValues}
 use Rattle.world_rules.specs.Descent.{line_in}
 use Rattle.world_rules.specs.WorldRun.{world_after}
-use Rattle.avida_program.specs.TraceText.{spaced}
+use Rattle.written_texts.specs.NumberText.{spaced}
 
 -- the id of a parent with a space before it; a founder has a dash
 abbrev pub parent_text : Option ℕ → List ℕ

@@ -4,7 +4,9 @@ use Rattle.std.specs.Prelude.{◌≡◌, ◌≢◌, ◌⊎◌, ℕ, List, [], Op
 use Rattle.avida_program.specs.declared.status.Status.{Status}
 use Rattle.avida_program.specs.declared.status.Status.TheVariants as status
 use Rattle.avida_program.specs.declared.refusal.Refusal.{Refusal}
-use Rattle.avida_program.specs.Changes.{Call, Stays, SourceFailed, PutFailed, GainedText, GainedFront, TellsOf}
+use Rattle.avida_program.specs.Changes.{Call, SourceFailed, TellsOf}
+use Rattle.written_texts.specs.SinkChanges.{Stays, GainedText, GainedFront}
+use Rattle.logged_run.specs.RunStops.{PutFailed}
 use Rattle.avida_program.specs.Input.{IsInputWith}
 use Rattle.avida_program.specs.Status.{told_by, told_by_words}
 

@@ -1,7 +1,6 @@
 -- What `trace` writes (docs/FORMATS.md, "Trace lines").
-use Rattle.std.specs.Prelude.{ℕ, zero, suc, ◌+◌, ◌++◌, ◌∷◌, [], List, ℤ, map, codes, decimal}
+use Rattle.std.specs.Prelude.{ℕ, zero, suc, ◌+◌, ◌++◌, ◌∷◌, [], List, map, codes, decimal}
 use Rattle.std.specs.List.{flat_map}
-use Rattle.std.specs.Fmt.{signed_decimal}
 use Rattle.instruction_set.specs.declared.letter.Letter.{Letter}
 use Rattle.instruction_set.specs.Letter.{byte_of, name_of}
 use Rattle.logic_tasks.specs.LogicTasks as tasks
@@ -9,14 +8,7 @@ use Rattle.divide_rules.specs.RuleName.{rule_name_of}
 use Rattle.organism.specs.OrganismState.{OrganismState}
 use Rattle.organism.specs.TracedStep.{TracedStep, TracedRemark, nothing, task, refused, divide}
 use Rattle.landscape.specs.Trace.{step_after, traced_organism}
-
--- a number with a space before it
-abbrev pub spaced : ℕ → List ℕ
-spaced number = codes " " ++ decimal number
-
--- a register's value with a space before it
-abbrev pub spaced_value : ℤ → List ℕ
-spaced_value value = codes " " ++ signed_decimal value
+use Rattle.written_texts.specs.NumberText.{spaced, spaced_value}
 
 -- what stands behind the registers
 abbrev pub remark_text : TracedRemark → List ℕ

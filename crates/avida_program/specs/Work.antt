@@ -14,15 +14,18 @@ use Rattle.avida_program.specs.declared.outcome.Outcome.{Outcome}
 use Rattle.avida_program.specs.declared.outcome.Outcome.TheVariants as outcome
 use Rattle.avida_program.specs.declared.refusal.Refusal.{Refusal}
 use Rattle.avida_program.specs.BenchText.{bench_config, bench_text}
-use Rattle.avida_program.specs.Changes.{Change, OnBytes, Stays, SourceFailed, SinkFailed, PutFailed, GainedText, GainedFront, Work}
+use Rattle.written_texts.specs.SinkChanges.{Change, Stays, SinkFailed, GainedText, GainedFront}
+use Rattle.avida_program.specs.Changes.{OnBytes, SourceFailed, Work}
+use Rattle.logged_run.specs.RunStops.{PutFailed}
 use Rattle.avida_program.specs.CommandLine.{looks_of}
 use Rattle.avida_program.specs.Input.{IsInputWith, assay_input_of, configuration_of, genome_of, lineage_input_of, log_input_of}
 use Rattle.avida_program.specs.Outcomes.{WritesText}
 use Rattle.avida_program.specs.PathText.{path_text}
 use Rattle.avida_program.specs.ReplayText.{replay_text, upgrade_text}
-use Rattle.avida_program.specs.RunText.{LeavesFinal, run_text}
+use Rattle.avida_program.specs.FinalWorld.{LeavesFinal}
+use Rattle.logged_run.specs.RunText.{run_text}
 use Rattle.avida_program.specs.TraceText.{trace_text}
-use Rattle.avida_program.specs.WatchText.{GainedPictures, GainedPicturesFront}
+use Rattle.logged_run.specs.WatchText.{GainedPictures, GainedPicturesFront}
 
 -- a command that reads this input, or refuses it, and writes this text of it; it may have a watcher
 abbrev pub ReadsInput : {A : Type 0} →

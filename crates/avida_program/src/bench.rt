@@ -1,5 +1,5 @@
 // The command `bench`.
-ghost use Rattle.std.specs.Prelude.{◌≡◌, ◌≤◌, ◌<◌, ◌+◌, ◌*◌, ◌^◌, ◌++◌, IfOk, IfErr, OnOk, codes, decimal, length};
+ghost use Rattle.std.specs.Prelude.{◌≡◌, ◌≤◌, ◌<◌, ◌+◌, ◌^◌, ◌++◌, IfOk, IfErr, OnOk, codes, decimal, length};
 ghost use Rattle.avida_port.specs.Ports.{SinkState, SourceState};
 ghost use Rattle.log_lines.specs.Line.{Count};
 ghost use Rattle.log_lines.specs.LineText.{line_text};
@@ -9,9 +9,9 @@ ghost use Rattle.world_rules.specs.Statistics.{stats_of};
 ghost use Rattle.assay.specs.Assay.{births_until};
 ghost use Rattle.avida_program.specs.declared.command.Command.TheVariants.{Bench};
 ghost use Rattle.avida_program.specs.BenchText.{bench_config, bench_text, sums_text};
-ghost use Rattle.avida_program.specs.Changes.{GainedText, change, unchanged};
+ghost use Rattle.written_texts.specs.SinkChanges.{GainedText, change, unchanged};
 ghost use Rattle.avida_program.specs.Outcomes.{StopsWithin};
-ghost use Rattle.avida_program.specs.RunText.{IsFinalWorld, run_text};
+ghost use Rattle.logged_run.specs.RunText.{IsFinalWorld, run_text};
 ghost use Rattle.avida_program.specs.Work.{CarriesOut};
 
 use crate::Outcome;

@@ -5,12 +5,12 @@ ghost use Rattle.arrayvec.specs.ArrayVec.{array_vec_len};
 ghost use Rattle.world_config.specs.KeyTable.{key_name};
 ghost use Rattle.avida_program.specs.Status.{config_reason, fault_line, genome_reason, log_reason, reason_of, shown_byte, shown_key};
 
-use crate::fixed_text::{push_natural, push_text};
 use crate::{Outcome, Refusal};
 use arrayvec::ArrayVec;
 use genome::GenomeStop;
 use lineage_log::LogStop;
 use world_config::{ConfigStop, Key};
+use written_texts::{push_natural, push_text};
 
 /// A fault line has at most this many bytes.
 pub const LONGEST_LINE: usize = 96;

@@ -4,7 +4,7 @@ ghost use Rattle.avida_port.specs.Ports.{IsAllOf};
 ghost use Rattle.genome.specs.Genome.{letters};
 ghost use Rattle.lineage_log.specs.Replay.{replay_of};
 ghost use Rattle.world_config.specs.Shown.{values_of};
-ghost use Rattle.avida_program.specs.Changes.{change};
+ghost use Rattle.written_texts.specs.SinkChanges.{change};
 ghost use Rattle.avida_program.specs.Input.{IsInputWith, assay_input_of, configuration_of, genome_of, genome_spelled, lineage_input_of, log_input_of};
 ghost use Rattle.avida_program.specs.Outcomes.{RefusesInput, StopsReading};
 

@@ -6,15 +6,14 @@ ghost use Rattle.world_config.specs.Shown.{values_of};
 ghost use Rattle.world_core.specs.WorldValue.{world_in};
 ghost use Rattle.world_rules.specs.Descent.{line_in};
 ghost use Rattle.avida_program.specs.declared.command.Command.TheVariants.{Lineage};
-ghost use Rattle.avida_program.specs.Changes.{GainedText, change, unchanged};
+ghost use Rattle.written_texts.specs.SinkChanges.{GainedText, change, unchanged};
 ghost use Rattle.avida_program.specs.Outcomes.{StopsWithin, WritesText};
 ghost use Rattle.avida_program.specs.PathText.{origin_text, parent_text, path_line, path_lines, path_text, place_text};
-ghost use Rattle.avida_program.specs.RunText.{IsFinalWorld};
+ghost use Rattle.logged_run.specs.RunText.{IsFinalWorld};
 ghost use Rattle.avida_program.specs.Work.{CarriesOut};
 
 use crate::input::{read_bytes, read_config_with};
 use crate::outcome::ended;
-use crate::piece::{Piece, write_text};
 use crate::run::{leave, run_to_end};
 use crate::{INPUT_LIMIT, Outcome};
 use avida_port::{Gate, Memory, Sink, Source};
@@ -27,6 +26,7 @@ use std::sync::Wait;
 use std::thread::Threads;
 use world_config::Config;
 use world_core::World;
+use written_texts::{Piece, write_text};
 
 fn add_parent(text: &mut Vec<u8>, parent: Option<u64>) -> Result<(), Memory>
     ensures { OnOk result (text.new.items ≡ text.old.items ++ parent_text parent) }

@@ -6,15 +6,13 @@ ghost use Rattle.genome.specs.Genome.{letters};
 ghost use Rattle.landscape.specs.LandscapeText.{base_line, entry_line, landscape_text, neighbour_line, survey_text, totals_line, trial_text};
 ghost use Rattle.world_core.specs.WorldValue.{WorldValue};
 ghost use Rattle.avida_program.specs.declared.command.Command.TheVariants.{Landscape};
-ghost use Rattle.avida_program.specs.Changes.{change, unchanged};
+ghost use Rattle.written_texts.specs.SinkChanges.{change, unchanged};
 ghost use Rattle.avida_program.specs.Outcomes.{WritesText};
-ghost use Rattle.avida_program.specs.Pieces.{Writes};
+ghost use Rattle.written_texts.specs.Pieces.{Writes};
 ghost use Rattle.avida_program.specs.Work.{CarriesOut};
 
-use crate::fixed_text::{push_natural, push_spaced, push_text};
 use crate::input::{read_bytes, read_genome};
 use crate::outcome::ended;
-use crate::piece::{PIECE_SIZE, Piece, make_room};
 use crate::{INPUT_LIMIT, Outcome, Spelling};
 use avida_port::{Memory, Sink, SinkStop, Source};
 use genome::Genome;
@@ -22,6 +20,7 @@ use instruction_set::Letter;
 use landscape::{Entry, Survey, Totals, Trial, survey};
 use std::alloc::Global;
 use std::thread::Threads;
+use written_texts::{PIECE_SIZE, Piece, make_room, push_natural, push_spaced, push_text};
 
 /// No line is longer.
 const LINE_ROOM: usize = 96;

@@ -6,6 +6,7 @@ ghost use Rattle.avida_program.specs.Status.{status_of};
 use crate::{Refusal, Status};
 use avida_port::{Memory, SinkStop};
 use std::alloc::AllocError;
+use written_texts::WriteStop;
 
 /// How a call ends: its status, and for a rejected input the reason.
 #[derive(Drop)]
@@ -66,6 +67,20 @@ impl From<SinkStop> for Outcome {
         match stop {
             SinkStop::Fault => Outcome::WriteFault,
             SinkStop::Memory => Outcome::NoMemory,
+        }
+    }
+}
+
+impl From<WriteStop> for Outcome {
+    ghost use Rattle.std.specs.Prelude.{◌≡◌};
+    ghost use Rattle.avida_program.specs.Outcomes.{outcome_at};
+
+    ghost from_gives = { λ stop told. told ≡ outcome_at stop };
+
+    fn from(stop: WriteStop) -> Outcome {
+        match stop {
+            WriteStop::Fault => Outcome::WriteFault,
+            WriteStop::Memory => Outcome::NoMemory,
         }
     }
 }

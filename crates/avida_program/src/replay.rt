@@ -6,20 +6,19 @@ ghost use Rattle.lineage_log.specs.Replay.{replay_of};
 ghost use Rattle.log_lines.specs.Line.{Line};
 ghost use Rattle.world_core.specs.WorldValue.{WorldValue};
 ghost use Rattle.avida_program.specs.declared.command.Command.TheVariants.{Replay};
-ghost use Rattle.avida_program.specs.Changes.{change, unchanged};
+ghost use Rattle.written_texts.specs.SinkChanges.{change, unchanged};
 ghost use Rattle.avida_program.specs.Outcomes.{WritesText};
-ghost use Rattle.avida_program.specs.Pieces.{Writes};
+ghost use Rattle.written_texts.specs.Pieces.{Writes};
 ghost use Rattle.avida_program.specs.ReplayText.{replay_text, resident_line};
 ghost use Rattle.avida_program.specs.Work.{CarriesOut};
 
 use crate::Outcome;
-use crate::fixed_text::push_natural;
 use crate::input::{read_bytes, read_livings};
 use crate::outcome::ended;
-use crate::piece::{PIECE_SIZE, Piece, make_room, write_byte, write_letters};
 use avida_port::{LONGEST_INPUT, Sink, SinkStop, Source};
 use lineage_log::{Living, Livings};
 use std::alloc::Global;
+use written_texts::{PIECE_SIZE, Piece, make_room, push_natural, write_byte, write_letters};
 
 /// No line is longer before its letters.
 const LINE_ROOM: usize = 64;

@@ -2,18 +2,17 @@
 ghost use Rattle.std.specs.Prelude.{◌≡◌, ◌≤◌, ◌<◌, ◌+◌, Some, None, IfOk, IfErr, OnOk, IfSome, MatchResult};
 ghost use Rattle.world_config.specs.Shown.{values_of};
 ghost use Rattle.world_rules.specs.Laws.{ReplaysToLiving};
-ghost use Rattle.world_rules.specs.LogText.{head_text, update_text, updates_text, end_text};
+ghost use Rattle.written_texts.specs.SinkChanges.{GainedText, change};
+ghost use Rattle.logged_run.specs.RunText.{IsFinalWorld, run_text};
+ghost use Rattle.logged_run.specs.WatchText.{GainedPictures};
 ghost use Rattle.avida_program.specs.declared.command.Command.TheVariants.{Run};
-ghost use Rattle.avida_program.specs.Changes.{GainedText, change};
-ghost use Rattle.avida_program.specs.Outcomes.{StopsRun, WritesAll};
-ghost use Rattle.avida_program.specs.RunText.{IsFinalWorld, run_text};
-ghost use Rattle.avida_program.specs.WatchText.{GainedPictures};
+ghost use Rattle.avida_program.specs.Outcomes.{StopsRunning};
 ghost use Rattle.avida_program.specs.Work.{CarriesOut};
 
 use crate::input::{read_bytes, read_config};
-use crate::watched_run::write_watched;
 use crate::{INPUT_LIMIT, Outcome};
 use avida_port::{Gate, Memory, Sink, Source};
+use logged_run::write_run;
 use std::alloc::Global;
 use std::sync::Wait;
 use std::thread::Threads;
@@ -22,90 +21,9 @@ use world_config::Config;
 use world_core::World;
 use world_core::laws::replay_gives_living;
 
-/// Puts the log's first line.
-pub fn write_first<O: Sink>(alloc: Global, world: &World, out: &mut O) -> Result<(), Outcome>
-    ensures { WritesAll (O.seen out.old) (O.seen out.new) (head_text world.now.config) result }
-{
-    let line = world.first_line(alloc)?;
-    out.put(&line)?;
-    Ok(())
-}
-
-/// Puts the log's last line.
-pub fn write_last<O: Sink>(alloc: Global, world: &World, out: &mut O) -> Result<(), Outcome>
-    ensures { WritesAll (O.seen out.old) (O.seen out.new) (end_text world.now.update) result }
-{
-    let line = world.last_line(alloc)?;
-    out.put(&line)?;
-    Ok(())
-}
-
-/// One update, whose text is put whole.
-pub fn write_update<R: Threads + Wait + Sync, O: Sink, G: Gate + Sync>(
-    rt: &R,
-    alloc: Global,
-    world: World,
-    out: &mut O,
-    gate: &G,
-) -> Result<World, Outcome>
-    requires { world.update < 1000000 }
-    ensures config { IfOk result (λ next. next.config ≡ world.config) }
-    ensures update { IfOk result (λ next. next.update ≡ world.update + 1) }
-    ensures text { WritesAll (O.seen out.old) (O.seen out.new)
-        (update_text world.config (world.update + 1)) result }
-{
-    let (next, text) = world.advance(rt, alloc, gate)?;
-    out.put(&text)?;
-    Ok(next)
-}
-
-/// The updates of a new world, with their texts.
-fn write_updates<R: Threads + Wait + Sync, O: Sink, G: Gate + Sync>(
-    rt: &R,
-    alloc: Global,
-    mut world: World,
-    updates: u32,
-    out: &mut O,
-    gate: &G,
-) -> Result<World, Outcome>
-    requires new { world.update ≡ 0 }
-    requires updates { updates ≤ 1000000 }
-    ensures config { IfOk result (λ after. after.config ≡ world.config) }
-    ensures update { IfOk result (λ after. after.update ≡ updates) }
-    ensures text { WritesAll (O.seen out.old) (O.seen out.new)
-        (updates_text world.config updates) result }
-{
-    for _ in 0..updates {
-        world = write_update(rt, alloc, world, out, gate)?;
-    }
-    Ok(world)
-}
-
-/// Runs a configuration to its end, and writes the log.
-fn write_log<R: Threads + Wait + Sync, O: Sink, G: Gate + Sync>(
-    rt: &R,
-    alloc: Global,
-    config: Config,
-    workers: u32,
-    out: &mut O,
-    gate: &G,
-) -> Result<World, Outcome>
-    requires workers { (1 ≤ workers) × (workers ≤ 64) }
-    ensures world { IfOk result (IsFinalWorld (values_of config)) }
-    ensures text { WritesAll (O.seen out.old) (O.seen out.new)
-        (run_text (values_of config)) result }
-{
-    let updates = config.updates;
-    let world = World::found(rt, alloc, config, workers)?;
-    write_first(alloc, &world, out)?;
-    let world = write_updates(rt, alloc, world, updates, out, gate)?;
-    write_last(alloc, &world, out)?;
-    Ok(world)
-}
-
-/// Runs a configuration to its end, and writes the log. With `looks` a watcher works beside the
-/// run.
-fn write_run<R: Threads + Wait + Clock + Sync, O: Sink + Send, W: Sink + Send, G: Gate + Sync>(
+/// Runs a configuration to its end, and writes the log, which replays to who lives then. With
+/// `looks` a watcher works beside the run.
+fn run_and_log<R: Threads + Wait + Clock + Sync, O: Sink + Send, W: Sink + Send, G: Gate + Sync>(
     rt: &R,
     alloc: Global,
     config: Config,
@@ -122,16 +40,12 @@ fn write_run<R: Threads + Wait + Clock + Sync, O: Sink + Send, W: Sink + Send, G
     ensures watched { OnOk result (IfSome looks (λ n. GainedPictures n (values_of config)
         (change (W.seen watch.old) (W.seen watch.new)))) }
     ensures unwatched { looks ≡ None → W.seen watch.new ≡ W.seen watch.old }
-    ensures err { IfErr result (StopsRun looks (values_of config)
+    ensures err { IfErr result (StopsRunning looks (values_of config)
         (change (O.seen out.old) (O.seen out.new)) (change (W.seen watch.old) (W.seen watch.new))) }
     ensures replays { ReplaysToLiving (values_of config) config.updates }
 {
-    let updates = config.updates;
-    replay_gives_living(&config, updates);
-    match looks {
-        Some(looks) => write_watched(rt, alloc, config, workers, looks, out, watch, gate),
-        None => write_log(rt, alloc, config, workers, out, gate),
-    }
+    replay_gives_living(&config, config.updates);
+    Ok(write_run(rt, alloc, config, workers, looks, out, watch, gate)?)
 }
 
 /// One update, whose text is dropped.
@@ -232,7 +146,7 @@ pub fn run<
     };
     match read_config(alloc, bytes) {
         Ok(config) => leave(
-            write_run(rt, alloc, config, workers, looks, out, watch, gate),
+            run_and_log(rt, alloc, config, workers, looks, out, watch, gate),
             last,
         ),
         Err(outcome) => outcome,

@@ -7,7 +7,7 @@ ghost use Rattle.world_config.specs.Shown.{values_of};
 ghost use Rattle.world_core.specs.WorldValue.{WorldValue};
 ghost use Rattle.assay.specs.AssayText.{assay_line, assay_numbers, assay_text, assays_text, dominant_word, tally_line};
 ghost use Rattle.avida_program.specs.declared.command.Command.TheVariants as command;
-ghost use Rattle.avida_program.specs.Changes.{change, unchanged};
+ghost use Rattle.written_texts.specs.SinkChanges.{change, unchanged};
 ghost use Rattle.avida_program.specs.Outcomes.{WritesText};
 ghost use Rattle.avida_program.specs.Work.{CarriesOut};
 

@@ -2,7 +2,9 @@
 ghost use Rattle.std.specs.Prelude.{◌≡◌, ◌≢◌, None, map, string_bytes};
 ghost use Rattle.avida_port.specs.Faults.{Rose};
 ghost use Rattle.avida_program.specs.CommandLine.{IsInRange, command_of, looks_told};
-ghost use Rattle.avida_program.specs.Changes.{PutFailed, TellsOf, change};
+ghost use Rattle.logged_run.specs.RunStops.{PutFailed};
+ghost use Rattle.avida_program.specs.Changes.{TellsOf};
+ghost use Rattle.written_texts.specs.SinkChanges.{change};
 ghost use Rattle.avida_program.specs.Commands.{Serves};
 ghost use Rattle.avida_program.specs.Work.{CarriesOut, Obeys};
 

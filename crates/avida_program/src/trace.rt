@@ -4,14 +4,13 @@ ghost use Rattle.avida_port.specs.Ports.{SinkState};
 ghost use Rattle.genome.specs.Genome.{letters};
 ghost use Rattle.world_core.specs.WorldValue.{WorldValue};
 ghost use Rattle.avida_program.specs.declared.command.Command.TheVariants.{Trace};
-ghost use Rattle.avida_program.specs.Changes.{change, unchanged};
+ghost use Rattle.written_texts.specs.SinkChanges.{change, unchanged};
 ghost use Rattle.avida_program.specs.Outcomes.{WritesText};
 ghost use Rattle.avida_program.specs.TraceText.{lines_of, trace_text};
 ghost use Rattle.avida_program.specs.Work.{CarriesOut};
 
 use crate::input::{read_bytes, read_genome};
 use crate::outcome::ended;
-use crate::piece::Piece;
 use crate::trace_line::write_line;
 use crate::{INPUT_LIMIT, Outcome, Spelling};
 use avida_port::{Memory, Sink, Source};
@@ -19,6 +18,7 @@ use genome::Genome;
 use landscape::traced_organism;
 use organism::Organism;
 use std::alloc::Global;
+use written_texts::Piece;
 
 /// Steps an organism of age 0, and writes a line a step.
 fn write_steps<O: Sink>(alloc: Global, mut organism: Organism, steps: u32, out: &mut O) -> Outcome

@@ -1,22 +1,24 @@
 // The lines of a trace.
-ghost use Rattle.std.specs.Prelude.{◌≡◌, ◌+◌, ◌≤◌, ◌++◌, codes, decimal, length};
+ghost use Rattle.std.specs.Prelude.{◌≡◌, ◌+◌, ◌≤◌, ◌++◌, codes};
 ghost use Rattle.std.specs.List.{flat_map};
-ghost use Rattle.std.specs.Fmt.{signed_decimal};
 ghost use Rattle.arrayvec.specs.ArrayVec.{array_vec_len};
 ghost use Rattle.instruction_set.specs.Letter.{name_of};
 ghost use Rattle.logic_tasks.specs.LogicTasks as tasks;
 ghost use Rattle.divide_rules.specs.RuleName.{rule_name_of};
 ghost use Rattle.organism.specs.TracedStep.{remark_value, traced_value};
-ghost use Rattle.avida_program.specs.Pieces.{Writes};
-ghost use Rattle.avida_program.specs.TraceText.{remark_text, spaced, spaced_value, step_text, trace_line};
+ghost use Rattle.written_texts.specs.Pieces.{Writes};
+ghost use Rattle.avida_program.specs.TraceText.{remark_text, step_text, trace_line};
+ghost use Rattle.written_texts.specs.NumberText.{spaced, spaced_value};
 
-use crate::fixed_text::{push_integer, push_natural, push_spaced, push_text};
-use crate::piece::{PIECE_SIZE, Piece, make_room, write_byte, write_letters};
 use avida_port::{Sink, SinkStop};
 use divide_rules::Rule;
 use genome::Genome;
 use logic_tasks::Task;
 use organism::{Remark, Traced};
+use written_texts::{
+    PIECE_SIZE, Piece, make_room, push_integer, push_natural, push_spaced, push_text, write_byte,
+    write_letters,
+};
 
 /// No line is longer before its letters.
 const LINE_ROOM: usize = 192;

@@ -5,21 +5,20 @@ ghost use Rattle.avida_port.specs.Ports.{SinkState};
 ghost use Rattle.phylogeny.specs.TreeText.{ancestor_line, depth_line, tree_text};
 ghost use Rattle.world_core.specs.WorldValue.{WorldValue};
 ghost use Rattle.avida_program.specs.declared.command.Command.TheVariants.{Tree};
-ghost use Rattle.avida_program.specs.Changes.{change, unchanged};
+ghost use Rattle.written_texts.specs.SinkChanges.{change, unchanged};
 ghost use Rattle.avida_program.specs.Outcomes.{WritesText};
-ghost use Rattle.avida_program.specs.Pieces.{Writes};
+ghost use Rattle.written_texts.specs.Pieces.{Writes};
 ghost use Rattle.avida_program.specs.TreeText.{counts_line, last_lines, lines_of_tree};
 ghost use Rattle.avida_program.specs.Work.{CarriesOut};
 
 use crate::Outcome;
-use crate::fixed_text::{push_spaced, push_text};
 use crate::input::{read_bytes, read_lines};
 use crate::outcome::ended;
-use crate::piece::{PIECE_SIZE, Piece, make_room};
 use avida_port::{LONGEST_INPUT, Memory, Sink, SinkStop, Source};
 use lineage_log::Log;
 use phylogeny::{Depth, Phylogeny, phylogeny};
 use std::alloc::Global;
+use written_texts::{PIECE_SIZE, Piece, make_room, push_spaced, push_text};
 
 /// No line is longer, and the last two together aren't either.
 const LINE_ROOM: usize = 96;

@@ -2,11 +2,10 @@
 ghost use Rattle.std.specs.Prelude.{Option};
 ghost use Rattle.lineage_log.specs.LogGrammar.{lines_text};
 ghost use Rattle.lineage_log.specs.LogValues.{lines_of};
-ghost use Rattle.lineage_log.specs.Upgrade.{upgraded};
 ghost use Rattle.avida_port.specs.Ports.{SinkState};
 ghost use Rattle.world_core.specs.WorldValue.{WorldValue};
 ghost use Rattle.avida_program.specs.declared.command.Command.TheVariants.{Upgrade};
-ghost use Rattle.avida_program.specs.Changes.{change, unchanged};
+ghost use Rattle.written_texts.specs.SinkChanges.{change, unchanged};
 ghost use Rattle.avida_program.specs.Outcomes.{WritesText};
 ghost use Rattle.avida_program.specs.ReplayText.{upgrade_text};
 ghost use Rattle.avida_program.specs.Work.{CarriesOut};
@@ -14,10 +13,10 @@ ghost use Rattle.avida_program.specs.Work.{CarriesOut};
 use crate::Outcome;
 use crate::input::{read_bytes, read_lines};
 use crate::outcome::ended;
-use crate::piece::{Piece, write_text};
 use avida_port::{LONGEST_INPUT, Sink, Source};
 use lineage_log::{Log, LogLine, write_line};
 use std::alloc::Global;
+use written_texts::{Piece, write_text};
 
 fn write_lines<O: Sink>(alloc: Global, lines: &[LogLine], out: &mut O) -> Outcome
     ensures { WritesText (lines_text (lines_of lines.now))

@@ -1,7 +1,7 @@
 use Rattle.std.proofs.Common.{◌∙◌, ap}
 use Rattle.std.proofs.lemmas.Result.{err_from_is_err_and}
 use Rattle.avida_program.specs.BenchText.{bench_text, sums_text}
-use Rattle.avida_program.proofs.RunLemmas.{put_stopped}
+use Rattle.avida_program.proofs.StopLemmas.{put_stopped}
 use Rattle.avida_program.proofs.bench.write_bench.Goals as goal
 
 pub returns-in_err-put-clause-err : goal.returns-in_err-put-clause-err

@@ -4,10 +4,10 @@ use Rattle.world_config.specs.Values.{ConfigValues}
 use Rattle.world_core.specs.WorldValue.{world_in}
 use Rattle.world_rules.specs.Descent.{line_in}
 use Rattle.world_rules.specs.WorldRun.{world_after}
-use Rattle.avida_program.specs.Changes.{change}
+use Rattle.written_texts.specs.SinkChanges.{change}
 use Rattle.avida_program.specs.Outcomes.{WritesText}
 use Rattle.avida_program.specs.PathText.{path_lines, path_text}
-use Rattle.avida_program.proofs.RunLemmas.{text_stopped}
+use Rattle.avida_program.proofs.StopLemmas.{text_stopped}
 use Rattle.avida_program.proofs.lineage.run_and_write.Goals as goal
 
 pub returns-in_default : goal.returns-in_default

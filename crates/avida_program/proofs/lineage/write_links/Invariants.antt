@@ -2,7 +2,7 @@
 use Rattle.std.proofs.Common.{[], take, Ok}
 use Rattle.std.specs.Prelude.{flat_map}
 use Rattle.avida_program.specs.PathText.{path_line}
-use Rattle.avida_program.specs.Pieces.{Writes}
+use Rattle.written_texts.specs.Pieces.{Writes}
 use Rattle.avida_program.proofs.lineage.write_links.Given as goal
 
 abbrev pub invariant-loop-link : goal.invariant-loop-link

@@ -2,7 +2,7 @@
 use Rattle.std.proofs.Common.{take, Ok}
 use Rattle.std.specs.Prelude.{flat_map}
 use Rattle.landscape.specs.LandscapeText.{entry_line}
-use Rattle.avida_program.specs.Pieces.{Writes}
+use Rattle.written_texts.specs.Pieces.{Writes}
 use Rattle.avida_program.proofs.neighbours.write_entries.Given as goal
 
 abbrev pub invariant-loop-entry : goal.invariant-loop-entry

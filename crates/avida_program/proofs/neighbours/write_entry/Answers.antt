@@ -6,8 +6,8 @@ use Rattle.avida_port.specs.declared.sink.SinkStop.{SinkStop}
 use Rattle.landscape.specs.declared.entry.Entry.{Entry}
 use Rattle.landscape.specs.declared.first_divide.Trial.{Trial}
 use Rattle.landscape.specs.LandscapeText.{entry_line, neighbour_line}
-use Rattle.avida_program.specs.Pieces.{Writes}
-use Rattle.avida_program.proofs.PieceLemmas.{writes_held, writes_short, writes_then}
+use Rattle.written_texts.specs.Pieces.{Writes}
+use Rattle.written_texts.proofs.PieceLemmas.{writes_held, writes_short, writes_then}
 use Rattle.avida_program.proofs.neighbours.write_entry.Goals as goal
 
 -- the line of a trial is that of the entry which has it

@@ -6,7 +6,7 @@ use Rattle.landscape.specs.declared.totals.Totals.{Totals}
 use Rattle.landscape.specs.Landscape.{Landscape}
 use Rattle.landscape.specs.LandscapeText.{base_line, entry_line, survey_text, totals_line}
 use Rattle.landscape.specs.Totals.{totals_of}
-use Rattle.avida_program.specs.Changes.{change}
+use Rattle.written_texts.specs.SinkChanges.{change}
 use Rattle.avida_program.specs.Outcomes.{WritesText}
 use Rattle.avida_program.proofs.neighbours.write_found.Goals as goal
 

@@ -2,7 +2,7 @@
 use Rattle.std.proofs.Common.{[], take, Ok}
 use Rattle.std.specs.Prelude.{flat_map}
 use Rattle.avida_program.specs.ReplayText.{resident_line}
-use Rattle.avida_program.specs.Pieces.{Writes}
+use Rattle.written_texts.specs.Pieces.{Writes}
 use Rattle.avida_program.proofs.replay.write_livings.Given as goal
 
 abbrev pub invariant-loop-living : goal.invariant-loop-living

@@ -6,9 +6,9 @@ use Rattle.avida_program.proofs.run.run.Goals as goal
 
 pub returns-in-Ok-read_config : goal.returns-in-Ok-read_config
 returns-in-Ok-read_config g c =
-    let ran = c.write_run.ensures in
+    let ran = c.run_and_log.ensures in
     run_ended c.args.workers c.args.looks _ (values_of c.in-Ok-read_config.config)
-    c.write_run.result c.leave.result
+    c.run_and_log.result c.leave.result
     (record {
       reads = λ bytes is. ap configuration_of (sym (c.in-Ok.ensures.all bytes is))
           ∙ c.in-Ok-read_config.ensures.ok;

@@ -1,6 +1,6 @@
 -- The lines so far are written, and the organism has come so far.
 use Rattle.std.proofs.Common.{◌≡◌, ◌≤◌, [], Ok}
-use Rattle.avida_program.specs.Pieces.{Writes}
+use Rattle.written_texts.specs.Pieces.{Writes}
 use Rattle.landscape.specs.Trace.{organism_after}
 use Rattle.avida_program.specs.TraceText.{lines_of}
 use Rattle.avida_program.proofs.trace.write_steps.Given as goal

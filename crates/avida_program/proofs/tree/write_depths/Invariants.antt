@@ -2,7 +2,7 @@
 use Rattle.std.proofs.Common.{take, Ok}
 use Rattle.std.specs.Prelude.{flat_map}
 use Rattle.phylogeny.specs.TreeText.{depth_line}
-use Rattle.avida_program.specs.Pieces.{Writes}
+use Rattle.written_texts.specs.Pieces.{Writes}
 use Rattle.avida_program.proofs.tree.write_depths.Given as goal
 
 abbrev pub invariant-loop-depth : goal.invariant-loop-depth

@@ -5,9 +5,9 @@ use Rattle.avida_port.specs.Ports.{SinkState}
 use Rattle.avida_port.specs.declared.sink.SinkStop.{SinkStop}
 use Rattle.phylogeny.specs.declared.depths.Depth.{Depth}
 use Rattle.phylogeny.specs.TreeText.{depth_line}
-use Rattle.avida_program.specs.Pieces.{Writes}
+use Rattle.written_texts.specs.Pieces.{Writes}
 use Rattle.avida_program.specs.TreeText.{last_lines}
-use Rattle.avida_program.proofs.PieceLemmas.{writes_held, writes_short, writes_then}
+use Rattle.written_texts.proofs.PieceLemmas.{writes_held, writes_short, writes_then}
 use Rattle.avida_program.proofs.tree.write_lines.Goals as goal
 
 -- the lines of the same depths

@@ -5,7 +5,7 @@ use Rattle.phylogeny.specs.declared.tree.Phylogeny.{Phylogeny}
 use Rattle.phylogeny.specs.CommonAncestor.{branches_of, depths_of, kept_of, most_recent_common_ancestor}
 use Rattle.phylogeny.specs.LogPedigree.{pedigree_of}
 use Rattle.phylogeny.specs.TreeText.{ancestor_line, depth_line, shape_line, tree_text}
-use Rattle.avida_program.specs.Changes.{change}
+use Rattle.written_texts.specs.SinkChanges.{change}
 use Rattle.avida_program.specs.Outcomes.{WritesText}
 use Rattle.avida_program.specs.TreeText.{counts_line, last_lines, lines_of_tree}
 use Rattle.avida_program.proofs.tree.write_tree.Goals as goal

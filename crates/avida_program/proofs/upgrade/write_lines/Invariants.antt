@@ -4,7 +4,7 @@ use Rattle.std.specs.Prelude.{flat_map}
 use Rattle.log_lines.specs.declared.log_line.LogLine.{LogLine}
 use Rattle.log_lines.specs.Line.{values_of}
 use Rattle.log_lines.specs.LineText.{line_text}
-use Rattle.avida_program.specs.Pieces.{Writes}
+use Rattle.written_texts.specs.Pieces.{Writes}
 use Rattle.avida_program.proofs.upgrade.write_lines.Given as goal
 
 -- the text of a line

@@ -1,0 +1,6 @@
+pub mod RunLemmas
+pub mod LookLemmas
+pub mod PublishedLemmas
+pub mod WatcherLemmas
+pub mod WatchLemmas
+pub mod EndLemmas

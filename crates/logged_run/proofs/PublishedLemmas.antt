@@ -1,0 +1,120 @@
+-- The pictures of a run, which are published one by one.
+use Rattle.std.proofs.Common.{◌≡◌, ◌<◌, ◌≤◌, ◌+◌, ◌-◌, Bool, true, false, ℕ, List, [], ◌∷◌, ◌++◌, Option, None, Some, IfSome, length, nat_lt, refl, sym, ap, ◌∙◌, subst, arith}
+use mathlib.Core.List.{IsPrefix}
+use Rattle.std.proofs.lemmas.Bool.Decides.{nat_tests}
+use Rattle.std.proofs.lemmas.List.{length_push}
+use Rattle.std.proofs.lemmas.Option.{slice_get_within}
+use Rattle.published_world.specs.PublicationHistory.{IsPublication, MayFollow, last_of, longer}
+use Rattle.published_world.proofs.PrefixLemmas.{get_in_longer, prefix_length}
+use Rattle.published_world.proofs.PublicationLemmas.{last_of_more}
+use Rattle.world_config.specs.Shown.{values_of}
+use Rattle.world_config.specs.Values.{ConfigValues}
+use Rattle.world_core.specs.declared.picture.WorldPicture.{WorldPicture}
+use Rattle.logged_run.specs.declared.publishing.Progress.{Progress}
+use Rattle.logged_run.specs.Publishing.{HasCome}
+use Rattle.logged_run.specs.Watching.{ArePictures, BeginsAs, IsHeard}
+
+-- the configuration of a picture's run
+abbrev pub config_in : WorldPicture → ConfigValues
+config_in picture = values_of picture.config.value
+
+-- a history that goes on begins as before
+pub begins_later : (config : ConfigValues) (history whole : List WorldPicture)
+    → BeginsAs config history → IsPrefix history whole → BeginsAs config whole
+begins_later config history whole begins more = record {
+  first = begins.first;
+  is_first = get_in_longer history whole 0 begins.first more begins.is_first;
+  new = begins.new;
+  same = begins.same;
+}
+
+-- the first picture alone
+pub first_pictures : (config : ConfigValues) (picture : WorldPicture) → picture.update ≡ 0
+    → config_in picture ≡ config → ArePictures config 1 (picture ∷ [])
+first_pictures config picture new same = record {
+  begins = record { first = picture; is_first = refl; new = new; same = same };
+  count_is = refl;
+  last = λ other is.
+      let here : picture ≡ other = cc is in
+      omega (arith, ap (λ (p : WorldPicture). p.update) here, new);
+}
+
+-- one more picture
+pub more_pictures : (config : ConfigValues) (count : ℕ) (pictures : List WorldPicture)
+    (next : WorldPicture) → ArePictures config count pictures
+    → next.update ≡ count → ArePictures config (count + 1) (pictures ++ next ∷ [])
+more_pictures config count pictures next so is = record {
+  begins = begins_later config pictures (pictures ++ next ∷ []) so.begins (next ∷ [], refl);
+  count_is = omega (arith, length_push pictures next, so.count_is);
+  last = λ other at.
+      let here : next ≡ other = cc (at, last_of_more pictures next) in
+      omega (arith, ap (λ (p : WorldPicture). p.update) here, is);
+}
+
+-- the picture of the next update may come next
+pub may_follow : (config : ConfigValues) (count : ℕ) (pictures : List WorldPicture)
+    (next : WorldPicture) → ArePictures config count pictures
+    → next.update ≡ count → config_in next ≡ config
+    → MayFollow (λ (p : WorldPicture). p.update) config_in pictures next
+may_follow config count pictures next so is same = record {
+  rises = λ last at. omega (arith, so.last last at, is);
+  same = λ first at.
+      let here : so.begins.first ≡ first = cc (at, so.begins.is_first) in
+      same ∙ sym so.begins.same ∙ ap config_in here;
+}
+
+-- what a look shows is of the run, and not older than any update that was heard of
+pub looked : (config : ConfigValues) (history whole : List WorldPicture) (picture : WorldPicture)
+    (update : ℕ) → BeginsAs config history → update < length history
+    → IsPrefix history whole → last_of whole ≡ Some picture
+    → IsPublication (λ (p : WorldPicture). p.update) config_in whole
+    → (update ≤ picture.update) × (config_in picture ≡ config)
+looked config history whole picture update begins heard more is publication =
+    let first = get_in_longer history whole 0 begins.first more begins.is_first in
+    let at = publication.rises (length whole - 1) begins.first picture first is in (
+      omega (arith, at, begins.new, heard, prefix_length history whole more),
+      publication.same (length whole - 1) begins.first picture first is ∙ begins.same,
+    )
+
+-- a history that begins isn't empty
+pub begun : (config : ConfigValues) (history : List WorldPicture) → BeginsAs config history
+    → 0 < length history
+begun config history begins = slice_get_within history 0 begins.first begins.is_first
+
+longer_by : (test : Bool) (config : ConfigValues) (update : ℕ) (history told : List WorldPicture)
+    → BeginsAs config history → ArePictures config (update + 1) told
+    → nat_lt (length history) (length told) ≡ test → BeginsAs config (longer history told)
+    × (update < length (longer history told))
+longer_by true config update history told begins so is =
+    rw is (so.begins, omega (arith, so.count_is))
+longer_by false config update history told begins so is =
+    rw is (begins, grind (arith, nat_tests, is, so.count_is))
+
+-- what was seen, once the last note is heard
+pub heard : (config : ConfigValues) (update : ℕ) (history told : List WorldPicture)
+    → BeginsAs config history → ArePictures config (update + 1) told
+    → BeginsAs config (longer history told) × (update < length (longer history told))
+heard config update history told begins so =
+    longer_by (nat_lt (length history) (length told)) config update history told begins so refl
+
+-- the last note of a run that has come so far is of all pictures up to the last one
+pub last_heard : (published : List WorldPicture) (progress : Progress)
+    → HasCome published progress
+    → IsHeard (config_in progress.picture.value) progress.picture.value.update progress.note
+last_heard published progress come =
+    record { told = by progress.note come.note; untold = λ e. come.update ∙ come.first e } where
+      shown : ArePictures (config_in progress.picture.value)
+          (progress.picture.value.update + 1) published
+      shown =
+          subst (λ (k : ConfigValues).
+          ArePictures k (progress.picture.value.update + 1) published) (sym come.config)
+          (subst (λ (n : ℕ). ArePictures progress.world.config (n + 1) published)
+          (sym come.update) come.pictures)
+
+      by : (note : Option (List WorldPicture)) → IfSome note (λ told. told ≡ published)
+          → IfSome note (ArePictures (config_in progress.picture.value)
+          (progress.picture.value.update + 1))
+      by None h = tt
+      by (Some told) same =
+          subst (ArePictures (config_in progress.picture.value)
+          (progress.picture.value.update + 1)) (sym same) shown

@@ -1,0 +1,119 @@
+-- What a watcher has written after some of its looks.
+use Rattle.std.proofs.Common.{◌≡◌, ◌≤◌, ◌+◌, ℕ, List, [], ◌++◌, Option, None, Some, Result, Ok, Err, refl, sym, subst}
+use mathlib.Core.List.{IsPrefix}
+use Rattle.std.proofs.lemmas.Grind.{flat_map-append}
+use Rattle.avida_port.specs.Ports.{SinkState}
+use Rattle.published_world.specs.PublicationHistory.{IsPublication, last_of}
+use Rattle.world_config.specs.Values.{ConfigValues}
+use Rattle.world_core.specs.declared.picture.WorldPicture.{WorldPicture}
+use Rattle.world_rules.specs.Picture.{picture_of, picture_text}
+use Rattle.written_texts.specs.declared.stop.WriteStop.{WriteStop}
+use Rattle.written_texts.specs.declared.stop.WriteStop.TheVariants as stop
+use Rattle.written_texts.specs.WrittenText.{WritesAll}
+use Rattle.logged_run.specs.Watching.{AreSeen, BeginsAs, WritesLooks, newest_after, news}
+use Rattle.logged_run.specs.WatchText.{pictures_text}
+use Rattle.logged_run.proofs.LookLemmas.{seen_more, seen_nothing, seen_within}
+use Rattle.logged_run.proofs.PublishedLemmas.{begins_later, begun, config_in, looked}
+use Rattle.written_texts.proofs.WriteLemmas.{stopped_same, wanting_after, writes_nothing, writes_same, writes_then}
+
+-- so many looks were made, and the lines of what was seen are written
+pub record HasLooked (looks : ℕ) (config : ConfigValues) (history : List WorldPicture)
+    (newest : Option ℕ) (before after : SinkState) : Type 0 where
+  pub begins : BeginsAs config history
+  pub updates : List ℕ
+  pub seen : AreSeen looks config.updates newest updates
+  pub written : WritesAll {T = Unit {0}} before after (pictures_text config updates) (Ok tt)
+
+-- no look was made
+pub not_looked : (config : ConfigValues) (history : List WorldPicture) (a : SinkState)
+    → BeginsAs config history → HasLooked 0 config history None a a
+not_looked config history a begins = record {
+  begins = begins;
+  updates = [];
+  seen = seen_nothing config.updates;
+  written = writes_nothing a;
+}
+
+-- memory ran out at a look
+pub look_wanted : (k looks : ℕ) (config : ConfigValues) (history : List WorldPicture)
+    (newest : Option ℕ) (a b : SinkState)
+    → HasLooked k config history newest a b → k ≤ looks
+    → WritesLooks looks config a b (Err stop.Memory)
+look_wanted k looks config history newest a b so le = record {
+  updates = so.updates;
+  newest = newest;
+  seen = seen_within k looks config.updates newest so.updates so.seen le;
+  answer = tt;
+  writes = wanting_after so.written;
+}
+
+-- the lines of more pictures come behind those of the first ones
+pub pictures_more : (config : ConfigValues) (xs ys : List ℕ)
+    → pictures_text config (xs ++ ys) ≡ pictures_text config xs ++ pictures_text config ys
+pictures_more config xs ys =
+    flat_map-append (λ update. picture_text (picture_of config update)) xs ys
+
+module _ (k : ℕ) (config : ConfigValues) (history whole : List WorldPicture) (newest : Option ℕ)
+    (a b c : SinkState)
+    (picture : WorldPicture) (so : HasLooked k config history newest a b)
+    (more : IsPrefix history whole) (last : last_of whole ≡ Some picture)
+    (publication : IsPublication (λ (p : WorldPicture). p.update) config_in whole) where
+  -- the picture is of the run
+  of_run : config_in picture ≡ config
+  of_run = (looked config history whole picture 0 so.begins (begun config history so.begins) more
+      last publication).1
+
+  -- its line is put where it is news, or the put stopped
+  pub look_writes : {T : Type 0} (r : Result T WriteStop)
+      → WritesAll b c (pictures_text (config_in picture)
+      (news newest config.updates picture.update)) r
+      → WritesAll a c (pictures_text config
+      (so.updates ++ news newest config.updates picture.update)) r
+  look_writes {T = T} r line =
+      let here : WritesAll {T = T} b c
+      (pictures_text config (news newest config.updates picture.update)) r =
+      subst (λ (of : ConfigValues). WritesAll {T = T} b c
+      (pictures_text of (news newest config.updates picture.update)) r) of_run line in
+      subst (λ text. WritesAll {T = T} a c text r) (sym (pictures_more config so.updates _))
+      (writes_then _ so.written here)
+
+  -- a look more was made
+  pub look_made : {T : Type 0} (t : T) (after : Option ℕ)
+      → WritesAll {T = T} b c (pictures_text (config_in picture)
+      (news newest config.updates picture.update)) (Ok t)
+      → after ≡ newest_after newest config.updates picture.update
+      → HasLooked (k + 1) config whole after a c
+  look_made t after line is = record {
+    begins = begins_later config history whole so.begins more;
+    updates = so.updates ++ news newest config.updates picture.update;
+    seen = subst (λ (n : Option ℕ). AreSeen (k + 1) config.updates n
+        (so.updates ++ news newest config.updates picture.update)) (sym is)
+        (seen_more k config.updates newest so.updates picture.update so.seen);
+    written = writes_same (look_writes (Ok t) line);
+  }
+
+  -- the watcher stops at this look
+  pub look_stopped : {T : Type 0} (looks : ℕ) (e : WriteStop)
+      → WritesAll {T = T} b c (pictures_text (config_in picture)
+      (news newest config.updates picture.update)) (Err e)
+      → k + 1 ≤ looks → WritesLooks looks config a c (Err e)
+  look_stopped {T = T} looks e line le = record {
+    updates = so.updates ++ news newest config.updates picture.update;
+    newest = newest_after newest config.updates picture.update;
+    seen = seen_within (k + 1) looks config.updates _ _
+        (seen_more k config.updates newest so.updates picture.update so.seen) le;
+    answer = tt;
+    writes = stopped_same (look_writes {T = T} (Err e) line);
+  }
+
+-- the watcher has come to its end
+pub looks_done : (k looks : ℕ) (config : ConfigValues) (history : List WorldPicture)
+    (newest : Option ℕ) (a b : SinkState)
+    → HasLooked k config history newest a b → k ≤ looks → WritesLooks looks config a b (Ok newest)
+looks_done k looks config history newest a b so le = record {
+  updates = so.updates;
+  newest = newest;
+  seen = seen_within k looks config.updates newest so.updates so.seen le;
+  answer = refl;
+  writes = writes_same so.written;
+}

@@ -1,0 +1,42 @@
+use Rattle.std.proofs.lemmas.Result.{err_from_is_err_and}
+use Rattle.world_config.specs.Shown.{values_of}
+use Rattle.logged_run.proofs.RunLemmas.{first_stopped, last_written, updates_stopped}
+use Rattle.written_texts.proofs.WriteLemmas.{stopped_same, writes_same}
+use Rattle.logged_run.proofs.logging.write_log.Goals as goal
+
+pub returns-in_err-write_first-clause-text : goal.returns-in_err-write_first-clause-text
+returns-in_err-write_first-clause-text g c =
+    let p = err_from_is_err_and c.from_residual-in_err-write_first.result
+    c.from_residual-in_err-write_first.ensures.1 in
+    rw (p.1, p.2)
+    (first_stopped (values_of c.args.config) c.in_ok-world.world.config c.args.config.updates
+    c.in_err-write_first.ensures c.in_ok-world.ensures.0)
+
+pub returns-in_err-world-2-clause-text : goal.returns-in_err-world-2-clause-text
+returns-in_err-world-2-clause-text g c =
+    let p = err_from_is_err_and c.from_residual-in_err-world-2.result
+    c.from_residual-in_err-world-2.ensures.1 in
+    let founded = c.in_ok-world.ensures.0 in
+    rw (p.1, p.2)
+    (updates_stopped (values_of c.args.config) c.in_ok-world.world.config c.in_ok-world.world.config
+    c.args.config.updates
+    c.in_ok-write_first.ensures founded c.in_err-world-2.ensures.text founded)
+
+pub returns-in_err-write_last-clause-text : goal.returns-in_err-write_last-clause-text
+returns-in_err-write_last-clause-text g c =
+    let p = err_from_is_err_and c.from_residual-in_err-write_last.result
+    c.from_residual-in_err-write_last.ensures.1 in
+    let founded = c.in_ok-world.ensures.0 in
+    rw (p.1, p.2)
+    (stopped_same (last_written (values_of c.args.config) c.in_ok-world.world.config
+    c.in_ok-world.world.config c.args.config.updates c.in_ok-world-2.world.update
+    c.in_ok-write_first.ensures founded c.in_ok-world-2.ensures.text founded
+    c.in_err-write_last.ensures c.in_ok-world-2.ensures.update))
+
+pub returns-clause-text : goal.returns-clause-text
+returns-clause-text g c =
+    let founded = c.in_ok-world.ensures.0 in
+    writes_same (last_written (values_of c.args.config) c.in_ok-world.world.config
+    c.in_ok-world.world.config c.args.config.updates c.in_ok-world-2.world.update
+    c.in_ok-write_first.ensures founded c.in_ok-world-2.ensures.text founded
+    c.in_ok-write_last.ensures c.in_ok-world-2.ensures.update)

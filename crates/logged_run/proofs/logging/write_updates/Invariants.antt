@@ -1,0 +1,13 @@
+-- The texts so far are written, and the world has come so far.
+use Rattle.std.proofs.Common.{◌≡◌, Ok}
+use Rattle.world_rules.specs.LogText.{updates_text}
+use Rattle.written_texts.specs.WrittenText.{WritesAll}
+use Rattle.logged_run.proofs.logging.write_updates.Given as goal
+
+abbrev pub invariant-loop : goal.invariant-loop
+invariant-loop g l = record {
+  config : l.world.config ≡ l.fn.world.config;
+  update : l.world.update ≡ l.counter;
+  written : WritesAll {T = Unit {0}} (g.O.Sink.seen l.fn.out) (g.O.Sink.seen l.out)
+      (updates_text l.fn.world.config l.counter) (Ok tt);
+}

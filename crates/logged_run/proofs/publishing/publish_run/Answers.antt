@@ -1,0 +1,12 @@
+use Rattle.std.proofs.Common.{refl}
+use Rattle.world_config.specs.Shown.{values_of}
+use Rattle.logged_run.specs.RunText.{run_text}
+use Rattle.logged_run.proofs.publishing.publish_run.Goals as goal
+
+pub returns-clause-log : goal.returns-clause-log
+returns-clause-log g c =
+    record {
+      text = run_text (values_of c.args.config.now);
+      is = refl;
+      writes = c.publish_log-run.ensures.text;
+    }

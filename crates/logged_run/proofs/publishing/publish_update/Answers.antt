@@ -1,0 +1,9 @@
+use Rattle.std.proofs.lemmas.Result.{err_from_is_err_and}
+use Rattle.written_texts.proofs.WriteLemmas.{wanting_after}
+use Rattle.logged_run.proofs.publishing.publish_update.Goals as goal
+
+pub returns-in_err-picture-clause-text : goal.returns-in_err-picture-clause-text
+returns-in_err-picture-clause-text g c =
+    let p = err_from_is_err_and c.from_residual-in_err-picture.result
+    c.from_residual-in_err-picture.ensures.1 in
+    rw (p.1, p.2) (wanting_after c.in_ok-world.ensures.text)

@@ -1,0 +1,29 @@
+use Rattle.std.proofs.Common.{◌≤◌, ◌+◌, ◌∙◌, ap, arith}
+use Rattle.std.proofs.lemmas.Result.{err_from_is_err_and}
+use Rattle.logged_run.proofs.RunLemmas.{update_stopped, update_written}
+use Rattle.written_texts.proofs.WriteLemmas.{writes_same}
+use Rattle.logged_run.proofs.publishing.publish_updates.Goals as goal
+
+pub returns-in_err-progress-clause-text : goal.returns-in_err-progress-clause-text
+returns-in_err-progress-clause-text g c =
+    let p = err_from_is_err_and c.from_residual.result c.from_residual.ensures.1 in
+    let so = c.loop.invariant in
+    let within : c.loop.counter + 1 ≤ c.args.updates = omega arith in
+    let wrote = update_written c.args.progress.world.config c.loop.progress.world.config
+    c.loop.counter c.loop.progress.world.update so.written c.in_err-progress.ensures.text
+    so.config so.update in
+    rw (p.1, p.2) (update_stopped c.args.progress.world.config (c.loop.counter + 1) c.args.updates
+    wrote within)
+
+pub loop-preserved : goal.loop-preserved
+loop-preserved g c =
+    let so = c.loop.invariant in
+    let next = c.in_ok-progress.ensures in
+    record {
+      config = next.config ∙ so.config;
+      update = next.update ∙ ap (λ n. n + 1) so.update;
+      come = next.come;
+      written = writes_same (update_written c.args.progress.world.config
+          c.loop.progress.world.config c.loop.counter c.loop.progress.world.update so.written
+          next.text so.config so.update);
+    }

@@ -1,0 +1,5 @@
+pub mod RunText
+pub mod WatchText
+pub mod RunStops
+pub mod Watching
+pub mod Publishing

@@ -1,0 +1,62 @@
+-- What the watcher of a run has seen and written, look by look (docs/ARCHITECTURE.md, "Pictures and
+-- observers").
+use Rattle.std.specs.Prelude.{◌≡◌, ◌≤◌, ◌+◌, ◌&&◌, Bool, ℕ, List, [], ◌∷◌, Option, None, Some, IfSome, IfOk, Result, length, nat_le, nat_lt, if◌then◌else◌}
+use Rattle.std.specs.List.Sorted.{IsStrictlyIncreasing}
+use Rattle.avida_port.specs.Ports.{SinkState}
+use Rattle.published_world.specs.PublicationHistory.{first_of, last_of}
+use Rattle.world_config.specs.Shown.{values_of}
+use Rattle.world_config.specs.Values.{ConfigValues}
+use Rattle.world_core.specs.declared.picture.WorldPicture.{WorldPicture}
+use Rattle.written_texts.specs.declared.stop.WriteStop.{WriteStop}
+use Rattle.written_texts.specs.WrittenText.{WritesAll}
+use Rattle.logged_run.specs.WatchText.{pictures_text}
+
+-- the first of these pictures is that of a configuration's world of update 0
+pub record BeginsAs (config : ConfigValues) (pictures : List WorldPicture) : Type 0 where
+  pub first : WorldPicture
+  pub is_first : first_of pictures ≡ Some first
+  pub new : first.update ≡ 0
+  pub same : values_of first.config.value ≡ config
+
+-- the pictures of a configuration's world from update 0 on, so many of them
+pub record ArePictures (config : ConfigValues) (count : ℕ) (pictures : List WorldPicture)
+    : Type 0 where
+  pub begins : BeginsAs config pictures
+  pub count_is : length pictures ≡ count
+  pub last : (picture : WorldPicture) → last_of pictures ≡ Some picture
+      → picture.update + 1 ≡ count
+
+-- a note of all pictures up to this update; there is none where only the first was published
+pub record IsHeard (config : ConfigValues) (update : ℕ) (note : Option (List WorldPicture))
+    : Type 0 where
+  pub told : IfSome note (ArePictures config (update + 1))
+  pub untold : note ≡ None → update ≡ 0
+
+-- a picture is newer than the newest that was written, and the run comes to its update
+abbrev pub is_news : Option ℕ → ℕ → ℕ → Bool
+is_news (Some written) last update = nat_lt written update && nat_le update last
+is_news None last update = nat_le update last
+
+-- the updates whose lines are written after a look at this one
+abbrev pub news : Option ℕ → ℕ → ℕ → List ℕ
+news newest last update = if is_news newest last update then update ∷ [] else []
+
+-- the newest update that is written then
+abbrev pub newest_after : Option ℕ → ℕ → ℕ → Option ℕ
+newest_after newest last update = if is_news newest last update then Some update else newest
+
+-- updates whose lines so many looks may write: they rise up to the newest, and the run comes to it
+pub record AreSeen (looks last : ℕ) (newest : Option ℕ) (updates : List ℕ) : Type 0 where
+  pub rising : IsStrictlyIncreasing updates
+  pub newest_is : last_of updates ≡ newest
+  pub within : IfSome newest (λ update. update ≤ last)
+  pub few : length updates ≤ looks
+
+-- the lines that so many looks write, or where they stop; the answer is the newest update
+pub record WritesLooks (looks : ℕ) (config : ConfigValues) (before after : SinkState)
+    (result : Result (Option ℕ) WriteStop) : Type 0 where
+  pub updates : List ℕ
+  pub newest : Option ℕ
+  pub seen : AreSeen looks config.updates newest updates
+  pub answer : IfOk result (λ told. told ≡ newest)
+  pub writes : WritesAll before after (pictures_text config updates) result

@@ -1,0 +1,10 @@
+//! A run that writes its log, alone or with a watcher beside it.
+#![tactic(auto)]
+
+mod logging;
+mod publishing;
+mod run;
+mod watched_run;
+mod watching;
+
+pub use run::write_run;

@@ -1,0 +1,149 @@
+// The runner of a run with a watcher: it publishes a picture of each update.
+ghost use Rattle.std.specs.Prelude.{◌≡◌, ◌<◌, ◌≤◌, ◌+◌, IfOk, OnOk};
+ghost use Rattle.world_config.specs.Shown.{values_of};
+ghost use Rattle.world_rules.specs.LogText.{update_text, updates_text};
+ghost use Rattle.written_texts.specs.WrittenText.{WritesAll};
+ghost use Rattle.logged_run.specs.Publishing.{HasCome, IsBegun, WritesLog};
+ghost use Rattle.logged_run.specs.RunText.{IsFinalWorld, run_text};
+ghost use Rattle.logged_run.specs.Watching.{ArePictures};
+
+use crate::logging::{write_first, write_last, write_update};
+use avida_port::{Gate, Memory, Sink};
+use published_world::{Note, Publisher};
+use std::alloc::Global;
+use std::sync::atomic::{AtomicBool, Ordering};
+use std::sync::{Arc, Wait};
+use std::thread::Threads;
+use world_config::Config;
+use world_core::{World, WorldPicture};
+use written_texts::WriteStop;
+
+/// How far a run has come: its world, the world's picture, which was published last, and a note of
+/// it. The first picture has no note.
+#[derive(Drop)]
+pub struct Progress {
+    pub world: World,
+    pub picture: Arc<WorldPicture, Global>,
+    pub note: Option<Note<WorldPicture>>,
+}
+
+/// Publishes the picture of a world. It gives the picture, and a note of it.
+fn publish_picture<R: Wait>(
+    rt: &R,
+    alloc: Global,
+    world: &World,
+    publisher: &mut Publisher<WorldPicture>,
+) -> Result<(Arc<WorldPicture>, Note<WorldPicture>), Memory>
+    requires { ArePictures world.now.config world.now.update publisher.old }
+    ensures published { OnOk result
+        (ArePictures world.now.config (world.now.update + 1) publisher.new) }
+    ensures update { IfOk result (λ made. made.0.value.update ≡ world.now.update) }
+    ensures config { IfOk result
+        (λ made. values_of made.0.value.config.value ≡ world.now.config) }
+    ensures note { IfOk result (λ made. made.1 ≡ publisher.new) }
+{
+    let picture = world.picture(alloc)?;
+    let note = publisher.publish(rt, Arc::try_clone(&picture)?)?;
+    Ok((picture, note))
+}
+
+/// One update: its text is put whole, then its picture is published. The note of the picture before
+/// is dropped.
+fn publish_update<R: Threads + Wait + Sync, O: Sink, G: Gate + Sync>(
+    rt: &R,
+    alloc: Global,
+    progress: Progress,
+    publisher: &mut Publisher<WorldPicture>,
+    out: &mut O,
+    gate: &G,
+) -> Result<Progress, WriteStop>
+    requires update { progress.world.update < 1000000 }
+    requires come { HasCome publisher.old progress }
+    ensures come { IfOk result (HasCome publisher.new) }
+    ensures config { IfOk result (λ next. next.world.config ≡ progress.world.config) }
+    ensures update { IfOk result (λ next. next.world.update ≡ progress.world.update + 1) }
+    ensures text { WritesAll (O.seen out.old) (O.seen out.new)
+        (update_text progress.world.config (progress.world.update + 1)) result }
+{
+    let Progress { world, .. } = progress;
+    let world = write_update(rt, alloc, world, out, gate)?;
+    let (picture, note) = publish_picture(rt, alloc, &world, publisher)?;
+    Ok(Progress {
+        world,
+        picture,
+        note: Some(note),
+    })
+}
+
+/// The updates of a new world, with their texts and pictures.
+fn publish_updates<R: Threads + Wait + Sync, O: Sink, G: Gate + Sync>(
+    rt: &R,
+    alloc: Global,
+    mut progress: Progress,
+    updates: u32,
+    publisher: &mut Publisher<WorldPicture>,
+    out: &mut O,
+    gate: &G,
+) -> Result<Progress, WriteStop>
+    requires new { progress.world.update ≡ 0 }
+    requires updates { updates ≤ 1000000 }
+    requires come { HasCome publisher.old progress }
+    ensures come { IfOk result (HasCome publisher.new) }
+    ensures config { IfOk result (λ after. after.world.config ≡ progress.world.config) }
+    ensures update { IfOk result (λ after. after.world.update ≡ updates) }
+    ensures text { WritesAll (O.seen out.old) (O.seen out.new)
+        (updates_text progress.world.config updates) result }
+{
+    for _ in 0..updates {
+        progress = publish_update(rt, alloc, progress, publisher, out, gate)?;
+    }
+    Ok(progress)
+}
+
+/// Writes the log of a run, and publishes its pictures.
+fn publish_log<R: Threads + Wait + Sync, O: Sink, G: Gate + Sync>(
+    rt: &R,
+    alloc: Global,
+    config: &Config,
+    progress: Progress,
+    publisher: &mut Publisher<WorldPicture>,
+    out: &mut O,
+    gate: &G,
+) -> Result<Progress, WriteStop>
+    requires config { progress.world.config ≡ values_of config.now }
+    requires new { progress.world.update ≡ 0 }
+    requires come { HasCome publisher.old progress }
+    ensures come { IfOk result (HasCome publisher.new) }
+    ensures world { IfOk result (λ after. IsFinalWorld (values_of config.now) after.world) }
+    ensures text { WritesAll (O.seen out.old) (O.seen out.new)
+        (run_text (values_of config.now)) result }
+{
+    write_first(alloc, &progress.world, out)?;
+    let progress = publish_updates(rt, alloc, progress, config.updates, publisher, out, gate)?;
+    write_last(alloc, &progress.world, out)?;
+    Ok(progress)
+}
+
+/// The same, of a run that was begun. It takes what was begun, and tells when the run has ended.
+pub fn publish_run<R: Threads + Wait + Sync, O: Sink, G: Gate + Sync>(
+    rt: &R,
+    alloc: Global,
+    config: &Config,
+    begun: &mut Option<Progress>,
+    publisher: &mut Publisher<WorldPicture>,
+    ended: &AtomicBool,
+    out: &mut O,
+    gate: &G,
+) -> Result<Progress, WriteStop>
+    requires { IsBegun (values_of config.now) publisher.old begun.old }
+    ensures come { IfOk result (HasCome publisher.new) }
+    ensures world { IfOk result (λ after. IsFinalWorld (values_of config.now) after.world) }
+    ensures log { WritesLog (values_of config.now) (O.seen out.old) (O.seen out.new) result }
+{
+    let Some(progress) = begun.take() else {
+        unreachable!()
+    };
+    let run = publish_log(rt, alloc, config, progress, publisher, out, gate);
+    ended.store(true, Ordering::SeqCst);
+    run
+}

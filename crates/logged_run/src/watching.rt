@@ -1,0 +1,148 @@
+// The watcher of a run.
+ghost use Rattle.std.specs.Prelude.{◌≡◌, ◌<◌, ℕ, IfOk, OnOk, None, length};
+ghost use Rattle.world_config.specs.Shown.{values_of};
+ghost use Rattle.world_config.specs.Values.{ConfigValues};
+ghost use Rattle.world_rules.specs.Picture.{picture_of, picture_text};
+ghost use Rattle.written_texts.specs.WrittenText.{WritesAll};
+ghost use Rattle.logged_run.specs.Watching.{BeginsAs, IsHeard, WritesLooks, is_news, newest_after, news};
+ghost use Rattle.logged_run.specs.WatchText.{pictures_text};
+
+use avida_port::{Memory, Sink};
+use published_world::{Note, Observer};
+use std::alloc::Global;
+use std::sync::Arc;
+use std::sync::atomic::{AtomicBool, Ordering};
+use std::thread;
+use std::time::{Clock, Duration};
+use world_config::Config;
+use world_core::{WorldPicture, picture_line};
+use written_texts::WriteStop;
+
+/// How many milliseconds a watcher sleeps.
+const PAUSE: u64 = 1;
+
+/// Whether the line of this update's picture is to be written: it is newer than the newest that was
+/// written, and the run comes to it.
+fn is_news_of(update: u32, newest: Option<u32>, last: u32) -> bool
+    ensures { result ≡ is_news newest last update }
+{
+    match newest {
+        Some(written) => written < update && update <= last,
+        None => update <= last,
+    }
+}
+
+fn write_line<W: Sink>(alloc: Global, picture: &WorldPicture, sink: &mut W) -> Result<(), WriteStop>
+    ensures { WritesAll (W.seen sink.old) (W.seen sink.new)
+        (picture_text (picture_of (values_of picture.now.config.value) picture.now.update)) result }
+{
+    let mut line = Vec::new(alloc);
+    picture_line(picture, &mut line)?;
+    sink.put(&line)?;
+    Ok(())
+}
+
+/// Writes the line of a picture where it is news, and gives the newest update that was written.
+fn write_news<W: Sink>(
+    alloc: Global,
+    picture: &WorldPicture,
+    newest: Option<u32>,
+    last: u32,
+    sink: &mut W,
+) -> Result<Option<u32>, WriteStop>
+    ensures newest { IfOk result (λ after. after ≡ newest_after newest last picture.now.update) }
+    ensures lines { WritesAll (W.seen sink.old) (W.seen sink.new)
+        (pictures_text (values_of picture.now.config.value)
+        (news newest last picture.now.update)) result }
+{
+    if !is_news_of(picture.update, newest, last) {
+        return Ok(newest);
+    }
+    write_line(alloc, picture, sink)?;
+    Ok(Some(picture.update))
+}
+
+/// Looks so often, and writes the line of each picture that is news. It gives the newest update
+/// that was written. After a look that showed no news it sleeps, or ends where the run has ended.
+pub fn write_looks<R: Clock, W: Sink>(
+    rt: &R,
+    alloc: Global,
+    config: &Config,
+    observer: &mut Observer<WorldPicture>,
+    looks: u32,
+    ended: &AtomicBool,
+    sink: &mut W,
+) -> Result<Option<u32>, WriteStop>
+    requires { BeginsAs (values_of config.now) observer.old }
+    ensures seen { OnOk result (BeginsAs (values_of config.now) observer.new) }
+    ensures lines { WritesLooks looks (values_of config.now)
+        (W.seen sink.old) (W.seen sink.new) result }
+{
+    let mut newest = None;
+    for _ in 0..looks {
+        let at_end = ended.load(Ordering::SeqCst);
+        let picture = observer.look()?;
+        let written = write_news(alloc, &picture, newest, config.updates, sink)?;
+        if written == newest {
+            if at_end {
+                return Ok(written);
+            }
+            thread::sleep(rt, Duration::from_millis(PAUSE));
+        }
+        newest = written;
+    }
+    Ok(newest)
+}
+
+/// Hears the last note, where there is one.
+fn hear_last(observer: &mut Observer<WorldPicture>, note: Option<Note<WorldPicture>>)
+    ensures { (config : ConfigValues) (update : ℕ)
+        → BeginsAs config observer.old → IsHeard config update note
+        → BeginsAs config observer.new × (update < length observer.new) }
+{
+    if let Some(note) = note {
+        observer.hear(note);
+    }
+}
+
+/// The last picture of a run: what a last look shows. A picture of a later update isn't of this
+/// run, and what was published last stands in for it.
+fn last_picture(
+    observer: &mut Observer<WorldPicture>,
+    published: Arc<WorldPicture>,
+    note: Option<Note<WorldPicture>>,
+) -> Result<Arc<WorldPicture>, Memory>
+    requires observer { BeginsAs (values_of published.value.config.value) observer.old }
+    requires note { IsHeard (values_of published.value.config.value) published.value.update note }
+    ensures update { IfOk result (λ last. last.value.update ≡ published.value.update) }
+    ensures config { IfOk result (λ last.
+        values_of last.value.config.value ≡ values_of published.value.config.value) }
+{
+    hear_last(observer, note);
+    let picture = observer.look()?;
+    if picture.update > published.update {
+        return Ok(published);
+    }
+    Ok(picture)
+}
+
+/// Looks once more after a run's end, and writes the line of the run's last picture where it is
+/// news.
+pub fn write_last_picture<W: Sink>(
+    alloc: Global,
+    observer: &mut Observer<WorldPicture>,
+    published: Arc<WorldPicture>,
+    note: Option<Note<WorldPicture>>,
+    newest: Option<u32>,
+    sink: &mut W,
+) -> Result<(), WriteStop>
+    requires observer { BeginsAs (values_of published.value.config.value) observer.old }
+    requires note { IsHeard (values_of published.value.config.value) published.value.update note }
+    ensures { WritesAll (W.seen sink.old) (W.seen sink.new)
+        (pictures_text (values_of published.value.config.value)
+        (news newest published.value.update published.value.update)) result }
+{
+    let last = last_picture(observer, published, note)?;
+    write_news(alloc, &last, newest, last.update, sink)?;
+    Ok(())
+}

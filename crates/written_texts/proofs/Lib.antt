@@ -1,0 +1,4 @@
+pub mod GainedLemmas
+pub mod PutLemmas
+pub mod PieceLemmas
+pub mod WriteLemmas

@@ -1,0 +1,92 @@
+-- How texts that are written, or stop, add up.
+use Rattle.std.proofs.Common.{◌≡◌, Result, Ok, Err, List, ℕ, [], ◌++◌, append-nil, arith, refl, subst}
+use Rattle.avida_port.specs.Ports.{SinkState, GainedPrefix, Puts}
+use Rattle.avida_port.specs.declared.sink.SinkStop.{SinkStop}
+use Rattle.avida_port.specs.declared.sink.SinkStop.TheVariants as sink
+use Rattle.written_texts.specs.declared.stop.WriteStop.{WriteStop}
+use Rattle.written_texts.specs.declared.stop.WriteStop.TheVariants as stop
+use Rattle.written_texts.specs.WrittenText.{WritesAll, write_stop_of}
+use Rattle.written_texts.proofs.GainedLemmas.{append_known-nothing, front_short, front_then, gained_then, nothing_gained, rose_later}
+
+-- nothing is written
+pub writes_nothing : (a : SinkState) → WritesAll {T = Unit {0}} a a [] (Ok tt)
+writes_nothing a = record {
+  ok = append_known-nothing a.held;
+  err = tt;
+  fault = tt;
+  counts = record { faults = omega arith; wants = omega arith };
+}
+
+-- memory ran out before anything was written
+pub nothing_written : {T : Type 0} (a : SinkState) (text : List ℕ)
+    → WritesAll {T = T} a a text (Err stop.Memory)
+nothing_written a text = record {
+  ok = tt;
+  err = nothing_gained a a text refl;
+  fault = λ is. absurd (cc);
+  counts = record { faults = omega arith; wants = omega arith };
+}
+
+-- the put of a text stopped
+pub put_ended : {T U : Type 0} {a b : SinkState} {text : List ℕ} {e : SinkStop}
+    (whole : List ℕ) → Puts {T = U} a b text (Err e) → text ≡ whole
+    → WritesAll {T = T} a b whole (Err (write_stop_of e))
+put_ended {a = a} {b = b} {e = sink.Fault} whole p same = record {
+  ok = tt;
+  err = subst (GainedPrefix a b) same p.err;
+  fault = λ is. p.fault refl;
+  counts = p.counts;
+}
+put_ended {a = a} {b = b} {e = sink.Memory} whole p same = record {
+  ok = tt;
+  err = subst (GainedPrefix a b) same p.err;
+  fault = λ is. absurd (cc);
+  counts = p.counts;
+}
+
+-- a text, and a text after it
+pub writes_then : {T U : Type 0} {a b c : SinkState} {xs : List ℕ} {u : U} {r : Result T WriteStop}
+    (ys : List ℕ)
+    → WritesAll a b xs (Ok u) → WritesAll b c ys r → WritesAll a c (xs ++ ys) r
+writes_then {xs = xs} {r = Ok t} ys p q = record {
+  ok = gained_then _ _ _ xs ys p.ok q.ok;
+  err = tt;
+  fault = tt;
+  counts = record { faults = omega arith; wants = omega arith };
+}
+writes_then {a = a} {b = b} {c = c} {xs = xs} {r = Err e} ys p q = record {
+  ok = tt;
+  err = front_then a.held b.held c.held xs ys p.ok q.err;
+  fault = λ is. rose_later a.faults b.faults c.faults p.counts.faults (q.fault is);
+  counts = record { faults = omega arith; wants = omega arith };
+}
+
+-- a text that stopped has not come to what was to follow
+pub writes_short : {T U : Type 0} {a b : SinkState} {xs : List ℕ} {e : WriteStop} (ys : List ℕ)
+    → WritesAll {T = T} a b xs (Err e) → WritesAll {T = U} a b (xs ++ ys) (Err e)
+writes_short {a = a} {b = b} {xs = xs} ys p = record {
+  ok = tt;
+  err = front_short a.held b.held xs ys p.err;
+  fault = p.fault;
+  counts = p.counts;
+}
+
+-- a text that is written, whatever the answer holds
+pub writes_same : {T U : Type 0} {a b : SinkState} {xs : List ℕ} {t : T} {u : U}
+    → WritesAll {T = T} a b xs (Ok t) → WritesAll {T = U} a b xs (Ok u)
+writes_same p = record { ok = p.ok; err = tt; fault = tt; counts = p.counts }
+
+-- a text that stopped, whatever the answer would have held
+pub stopped_same : {T U : Type 0} {a b : SinkState} {xs : List ℕ} {e : WriteStop}
+    → WritesAll {T = T} a b xs (Err e) → WritesAll {T = U} a b xs (Err e)
+stopped_same p = record { ok = tt; err = p.err; fault = p.fault; counts = p.counts }
+
+-- memory ran out after a text was written
+pub wanting_after : {T U : Type 0} {a b : SinkState} {xs : List ℕ} {t : T}
+    → WritesAll {T = T} a b xs (Ok t) → WritesAll {T = U} a b xs (Err stop.Memory)
+wanting_after {xs = xs} p = record {
+  ok = tt;
+  err = (xs, ([], append-nil xs), p.ok);
+  fault = λ is. absurd (cc);
+  counts = p.counts;
+}

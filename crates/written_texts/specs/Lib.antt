@@ -1,0 +1,4 @@
+pub mod SinkChanges
+pub mod WrittenText
+pub mod Pieces
+pub mod NumberText

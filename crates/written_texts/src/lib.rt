@@ -1,0 +1,10 @@
+//! Texts that are written to a sink, whole or in pieces.
+#![tactic(auto)]
+
+mod fixed_text;
+mod piece;
+mod stop;
+
+pub use fixed_text::{push_integer, push_natural, push_spaced, push_text};
+pub use piece::{PIECE_SIZE, Piece, make_room, write_byte, write_letters, write_text};
+pub use stop::WriteStop;
