@@ -112,6 +112,7 @@ impl Everyone {
         self.earlier = count;
         Ok(mem::replace(&mut self.latest, Vec::new(alloc)))
     }
+
     /// Of all that were there nothing but their number is known from now on.
     pub(crate) fn forget(&mut self)
         requires { length self.old.links ≤ 2 ^ 62 + 2 ^ 60 }

@@ -84,7 +84,7 @@ impl Residents {
             Some(organism) => Ok(Some(Resident {
                 cell,
                 id: self.ids[cell as usize],
-                image: organism.image(alloc)?,
+                image: organism.get().image(alloc)?,
             })),
             None => Ok(None),
         }

@@ -17,6 +17,7 @@ use crate::population::Population;
 use crate::scene::Scene;
 use crate::settings::rates_at;
 use avida_port::Memory;
+use cell_shards::BoxedOrganism;
 use genome::Genome;
 use instruction_set::Letter;
 use organism::Organism;
@@ -164,5 +165,10 @@ fn restore<R: Wait>(
     let handle = scene.intern(rt, alloc, image.genome.copy(alloc)?)?;
     image.genome = handle.genome;
     let organism = Organism::from_image(alloc, &image, memory_limit)?;
-    scene.come(id, cell, handle.number, organism)
+    scene.come(
+        id,
+        cell,
+        handle.number,
+        BoxedOrganism::new(alloc, organism)?,
+    )
 }

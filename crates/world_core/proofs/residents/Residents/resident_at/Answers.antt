@@ -1,5 +1,6 @@
 use Rattle.std.proofs.Common.{◌≡◌, ◌∙◌, ◌<◌, refl, Option, Some, None, List, ap, get_or, length, subst, sym, arith}
 use Rattle.std.proofs.lemmas.List.{get_or_default, get_or_read}
+use Rattle.organism.specs.OrganismState.{OrganismState}
 use Rattle.saved_lines.specs.declared.resident.Resident.{Resident}
 use Rattle.world_rules.specs.World.{Occupant}
 use Rattle.world_core.specs.Residents.{with_id}
@@ -52,8 +53,9 @@ returns-in_ok-image-in-Some c =
       id = c.index-in-Some.result.now;
       image = c.in_ok-image-in-Some.field-0;
     } in
-    subst (λ (slot : Option Occupant). IsResidentIn cell slot (Some resident)) (sym slot)
-    (resident_is cell (get_or ids cell 0) c.in-Some.organism resident refl named
+    let stands = ap (λ (o : OrganismState). with_id (get_or ids cell 0) (Some o)) c.get.ensures in
+    subst (λ (slot : Option Occupant). IsResidentIn cell slot (Some resident)) (stands ∙ sym slot)
+    (resident_is cell (get_or ids cell 0) c.get.result.now resident refl named
     c.in_ok-image-in-Some.ensures.organism c.in_ok-image-in-Some.ensures.cpu)
 
 pub returns-in-None : goal.returns-in-None
