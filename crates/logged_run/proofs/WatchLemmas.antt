@@ -1,5 +1,5 @@
 -- What a run with a watcher leaves, by how the runner and the watcher ended.
-use Rattle.std.proofs.Common.{◌≡◌, ◌+◌, ℕ, List, [], ◌∷◌, ◌++◌, Option, None, Some, IfSome, Result, Ok, Err, refl, sym, append-nil, arith, inl, inr, subst}
+use Rattle.std.proofs.Common.{◌≡◌, ℕ, List, [], ◌∷◌, ◌++◌, Option, None, Some, IfSome, Result, Ok, Err, refl, sym, append-nil, arith, inl, inr, subst}
 use Rattle.avida_port.specs.Ports.{SinkState}
 use Rattle.world_config.specs.Values.{ConfigValues}
 use Rattle.written_texts.specs.declared.stop.WriteStop.{WriteStop}
