@@ -2,7 +2,6 @@
 use Rattle.std.proofs.Common.{◌≡◌, ℕ, suc, ◌+◌, ◌-◌, ◌<◌, ◌≤◌, List, [], ◌∷◌, ◌++◌, length, get_or, take, drop, set, Option, Some, None, refl, sym, ap, ◌∙◌, arith, append_assoc, append-nil, drop-cons, add-one, length-set}
 use Rattle.std.specs.Prelude.{option_map, option_and_then}
 use Rattle.std.proofs.lemmas.List.{drop_all, take_more, take-set-le, get_or-set_same, take_all}
-use Rattle.numerals.specs.Numeral.{number_of}
 use Rattle.saved_lines.specs.declared.ranges.Range.{Range}
 use Rattle.saved_lines.specs.SavedReading.{head_line}
 use Rattle.saved_lines.specs.SavedRows.{AreWithin, if_last, with_item, read_several, read_within}
@@ -21,11 +20,6 @@ behind_item {A = A} front item (Some p) =
     ap (λ (l : List A). let q : List A × List (List ℕ) = (l, p.1) in Some q)
     (sym (append_assoc front (item ∷ []) p.0))
 
--- nothing was read yet
-pub behind_none : {A : Type 0} (found : Option (List A × List (List ℕ))) → behind [] found ≡ found
-behind_none None = refl
-behind_none (Some p) = refl
-
 -- the front of a list, an item of which was set
 pub front_more : {A : Type 0} (items : List A) (k : ℕ) (item : A) → k < length items
     → take (k + 1) (set items k item) ≡ take k items ++ item ∷ []
@@ -38,46 +32,12 @@ front_more {A = A} items k item low =
 
 -- ---- numbers within ranges
 
--- the next number is read
-within_more : (front : List ℕ) (range : Range) (ranges : List Range) (word : List ℕ)
-    (words : List (List ℕ)) (n : ℕ) → number_of range.least range.greatest word ≡ Some n
-    → behind front (read_within (range ∷ ranges) (word ∷ words))
-    ≡ behind (front ++ n ∷ []) (read_within ranges words)
-within_more front range ranges word words n is =
-    ap (λ (o : Option ℕ). behind front (option_and_then (with_item (read_within ranges words)) o))
-    is ∙ behind_item front n (read_within ranges words)
-
--- the next word is no such number
-within_fails : (front : List ℕ) (range : Range) (ranges : List Range) (word : List ℕ)
-    (words : List (List ℕ)) → number_of range.least range.greatest word ≡ None
-    → behind front (read_within (range ∷ ranges) (word ∷ words)) ≡ None
-within_fails front range ranges word words is =
-    ap (λ (o : Option ℕ). behind front (option_and_then (with_item (read_within ranges words)) o))
-    is
-
 module _ (ranges : List Range) (front : List ℕ) (k : ℕ) (any : Range) (low : k < length ranges)
   where
     -- the range whose turn it is
     next_range : drop k ranges ≡ get_or ranges k any ∷ drop (k + 1) ranges
     next_range = drop-cons ranges k any low
         ∙ ap (λ (n : ℕ). get_or ranges k any ∷ drop n ranges) (sym (add-one k))
-
-    -- the number at a place is read
-    pub number_on : (word : List ℕ) (words : List (List ℕ)) (n : ℕ)
-        → number_of (get_or ranges k any).least (get_or ranges k any).greatest word ≡ Some n
-        → behind front (read_within (drop k ranges) (word ∷ words))
-        ≡ behind (front ++ n ∷ []) (read_within (drop (k + 1) ranges) words)
-    number_on word words n is =
-        ap (λ (l : List Range). behind front (read_within l (word ∷ words))) next_range
-        ∙ within_more front (get_or ranges k any) (drop (k + 1) ranges) word words n is
-
-    -- the word at a place is no such number
-    pub number_fails : (word : List ℕ) (words : List (List ℕ))
-        → number_of (get_or ranges k any).least (get_or ranges k any).greatest word ≡ None
-        → behind front (read_within (drop k ranges) (word ∷ words)) ≡ None
-    number_fails word words is =
-        ap (λ (l : List Range). behind front (read_within l (word ∷ words))) next_range
-        ∙ within_fails front (get_or ranges k any) (drop (k + 1) ranges) word words is
 
     -- no word is left
     pub number_ends : behind front (read_within (drop k ranges) []) ≡ None
@@ -100,18 +60,6 @@ module _ {A : Type 0} (read : List ℕ → Option A) (front : List A) (k count :
         ∙ ap (λ (o : Option A). behind front
         (option_and_then (with_item (read_several read (count - (k + 1)) words)) o)) is
         ∙ behind_item front item (read_several read (count - (k + 1)) words)
-
-    -- the next word is no such item
-    pub item_fails : (word : List ℕ) (words : List (List ℕ)) → read word ≡ None
-        → behind front (read_several read (count - k) (word ∷ words)) ≡ None
-    item_fails word words is =
-        ap (λ (n : ℕ). behind front (read_several read n (word ∷ words))) one_less
-        ∙ ap (λ (o : Option A). behind front
-        (option_and_then (with_item (read_several read (count - (k + 1)) words)) o)) is
-
-    -- no word is left
-    pub item_ends : behind front (read_several read (count - k) []) ≡ None
-    item_ends = ap (λ (n : ℕ). behind front (read_several read n [])) one_less
 
 -- ---- the end
 

@@ -1,5 +1,5 @@
 -- Nops that are read letter by letter.
-use Rattle.std.proofs.Common.{◌≡◌, ℕ, ◌+◌, ◌-◌, ◌<◌, ◌≤◌, ◌⊎◌, Bool, true, false, List, [], ◌∷◌, ◌++◌, length, get_or, drop, Option, Some, None, refl, sym, ap, ◌∙◌, arith, append_assoc, append-nil, length-append, drop-cons, add-one}
+use Rattle.std.proofs.Common.{◌≡◌, ℕ, ◌+◌, ◌-◌, ◌<◌, ◌⊎◌, Bool, true, false, List, [], ◌∷◌, ◌++◌, length, get_or, drop, Option, Some, None, refl, sym, ap, ◌∙◌, arith, append_assoc, length-append, drop-cons, add-one}
 use Rattle.std.specs.Prelude.{◌&&◌, nat_lt, nat_le, option_and_then, option_map}
 use Rattle.std.specs.List.{list_all}
 use Rattle.std.proofs.lemmas.Bool.{and_parts}
@@ -20,15 +20,6 @@ abbrev pub nops_behind : List Letter → List ℕ → Option (List Letter)
 nops_behind front word =
     if_nops (option_map (λ others. front ++ others) (each letter_of_byte word))
 
--- nothing in front
-same : (o : Option (List Letter)) → option_map (λ others. [] ++ others) o ≡ o
-same None = refl
-same (Some l) = refl
-
--- nothing was read yet
-pub nops_begin : (word : List ℕ) → nops_behind [] word ≡ some_nops word
-nops_begin word = ap if_nops (same (each letter_of_byte word))
-
 -- a letter more in front
 onto : (front : List Letter) (l : Letter) (o : Option (List Letter))
     → option_map (λ others. front ++ others) (option_map (λ others. l ∷ others) o)
@@ -44,46 +35,6 @@ nop_more front b bs l is =
     (option_and_then (λ a. option_map (λ others. a ∷ others) (each letter_of_byte bs)) o))) is
     ∙ ap if_nops (onto front l (each letter_of_byte bs))
 
--- and, with false
-and_false : (b : Bool) → (b && false) ≡ false
-and_false true = refl
-and_false false = refl
-
--- another letter among them
-all_other : (front : List Letter) (l : Letter) (ls : List Letter) → is_nop l ≡ false
-    → list_all is_nop (front ++ l ∷ ls) ≡ false
-all_other [] l ls isnt = ap (λ (b : Bool). b && list_all is_nop ls) isnt
-all_other (a ∷ front) l ls isnt =
-    ap (λ (b : Bool). is_nop a && b) (all_other front l ls isnt) ∙ and_false (is_nop a)
-
--- another letter among them gives none
-other_none : (front : List Letter) (l : Letter) (o : Option (List Letter)) → is_nop l ≡ false
-    → if_nops (option_map (λ others. front ++ others) (option_map (λ others. l ∷ others) o))
-    ≡ None
-other_none front l None isnt = refl
-other_none front l (Some ls) isnt =
-    let letters = front ++ l ∷ ls in
-    let other : are_nops letters ≡ false =
-    ap (λ (b : Bool). nat_lt 0 (length letters) && nat_le (length letters) 10 && b)
-    (all_other front l ls isnt)
-    ∙ and_false (nat_lt 0 (length letters) && nat_le (length letters) 10)
-    in rw other refl
-
--- a letter that is no nop
-nop_other : (front : List Letter) (b : ℕ) (bs : List ℕ) (l : Letter) → letter_of_byte b ≡ Some l
-    → is_nop l ≡ false → nops_behind front (b ∷ bs) ≡ None
-nop_other front b bs l is isnt =
-    ap (λ (o : Option Letter). if_nops (option_map (λ others. front ++ others)
-    (option_and_then (λ a. option_map (λ others. a ∷ others) (each letter_of_byte bs)) o))) is
-    ∙ other_none front l (each letter_of_byte bs) isnt
-
--- a byte that is no letter
-nop_fails : (front : List Letter) (b : ℕ) (bs : List ℕ) → letter_of_byte b ≡ None
-    → nops_behind front (b ∷ bs) ≡ None
-nop_fails front b bs is =
-    ap (λ (o : Option Letter). if_nops (option_map (λ others. front ++ others)
-    (option_and_then (λ a. option_map (λ others. a ∷ others) (each letter_of_byte bs)) o))) is
-
 module _ (word : List ℕ) (front : List Letter) (k : ℕ) (low : k < length word) where
   -- the byte whose turn it is
   next_byte : drop k word ≡ get_or word k 0 ∷ drop (k + 1) word
@@ -95,25 +46,6 @@ module _ (word : List ℕ) (front : List Letter) (k : ℕ) (low : k < length wor
       → nops_behind front (drop k word) ≡ nops_behind (front ++ l ∷ []) (drop (k + 1) word)
   nop_on l is = ap (nops_behind front) next_byte
       ∙ nop_more front (get_or word k 0) (drop (k + 1) word) l is
-
-  -- the byte at a place is another letter
-  pub other_on : (l : Letter) → letter_of_byte (get_or word k 0) ≡ Some l → is_nop l ≡ false
-      → nops_behind front (drop k word) ≡ None
-  other_on l is isnt = ap (nops_behind front) next_byte
-      ∙ nop_other front (get_or word k 0) (drop (k + 1) word) l is isnt
-
-  -- the byte at a place is no letter
-  pub none_on : letter_of_byte (get_or word k 0) ≡ None → nops_behind front (drop k word) ≡ None
-  none_on is = ap (nops_behind front) next_byte
-      ∙ nop_fails front (get_or word k 0) (drop (k + 1) word) is
-
--- nothing is left
-pub nops_end : (front : List Letter) → 0 < length front → length front ≤ 10
-    → list_all is_nop front ≡ true → nops_behind front [] ≡ Some front
-nops_end front some few all =
-    let any : nat_lt 0 (length front) ≡ true = grind (arith, nat_tests, some) in
-    let low : nat_le (length front) 10 ≡ true = grind (arith, nat_tests, few) in
-    rw (append-nil front, any, low, all) refl
 
 -- ---- how many
 

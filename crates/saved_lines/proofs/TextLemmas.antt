@@ -59,8 +59,6 @@ pub ruleset nops_spell = (keeps_front, nops_text-some)
 
 pub ruleset words_grow = (keeps_front, words_text_more)
 
-pub ruleset lines_join = (keeps_front, organism_line, stacks_text, machine_line)
-
 -- ---- lines made step by step
 
 -- a mark, words, and a newline

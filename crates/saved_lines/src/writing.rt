@@ -242,7 +242,7 @@ fn texts(image: &CpuImage, out: &mut Vec<u8>) -> Result<(), Memory>
 }
 
 /// The nops read last and the stacks of a machine's line.
-#[tactic(auto, using(crate::proofs::TextLemmas::lines_join))]
+#[tactic(auto, using(crate::proofs::TextLemmas::fronts_stay))]
 fn nops_and_stacks(image: &CpuImage, out: &mut Vec<u8>) -> Result<(), Memory>
     ensures ok { OnOk result (out.new.items
         ≡ out.old.items ++ words_text (nops_text image.now.nops
