@@ -69,7 +69,7 @@ form_plain row law mark a high fits =
 module _ (numbers : OneNumber) where
   -- a field whose bytes are above a space
   low : {A : Type 0} (f : Field A) → IsField 44 f → IsField 32 f
-  low f law = field_lower f 32 44 (omega arith) law
+  low f law = field_lower law 32 (omega arith)
 
   -- words whose bytes are above a space
   low_front : {A : Type 0} (f : Front A) → IsFront 44 f → IsFront 32 f
@@ -96,14 +96,12 @@ module _ (numbers : OneNumber) where
   organism_law : IsRow 32 organism_row
   organism_law = front_law (within organism_ranges) 32
       (low_front (within organism_ranges) (within_law numbers organism_ranges (search arith)))
-      (last letters) (last_law letters 32 letters32)
+      (last letters) (last_law letters32)
 
   -- the four texts
   texts_law : IsRow 32 texts_row
   texts_law =
-      row_law letters (letters ◂ (marks ◂ last marks)) 32 letters32
-      (row_law letters (marks ◂ last marks) 32 letters32
-      (row_law marks (last marks) 32 marks32 (last_law marks 32 marks32)))
+      row_law letters32 (row_law letters32 (row_law marks32 (last_law marks32)))
 
   -- the row of a machine
   machine_law : IsRow 32 machine_row
@@ -114,14 +112,14 @@ module _ (numbers : OneNumber) where
       (front_law (within machine_ranges) 32
       (low_front (within machine_ranges) (within_law numbers machine_ranges (search arith)))
       (nops ◂ (several 10 signed ◁ (several 10 signed ◁ texts_row)))
-      (row_law nops (several 10 signed ◁ (several 10 signed ◁ texts_row)) 32 (low nops nops_law)
+      (row_law (low nops nops_law)
       (front_law (several 10 signed) 32 stack (several 10 signed ◁ texts_row)
       (front_law (several 10 signed) 32 stack texts_row texts_law))))
 
   -- the row of a count
   count_law : IsRow 32 (last large)
   count_law =
-      last_law large 32 (low large (number_law numbers 0 18446744073709551615 (omega arith)))
+      last_law (low large (number_law numbers 0 18446744073709551615 (omega arith)))
 
   -- ---- lines
 
