@@ -58,6 +58,7 @@ config_is config =
       copied_asked = config.copied_percent_bounds.0;
       copied_percent = config.copied_percent_bounds.1;
       average = config.average_slices_bounds.1;
+      some_age = config.age_limit_bounds.0;
       least = config.least_length_bounds.0;
       ordered = config.greatest_length_bounds.0;
       room = config.memory_limit_bounds.0;

@@ -1,5 +1,5 @@
 -- What the bounds of a configuration say of its values.
-use Rattle.std.proofs.Common.{◌≡◌, ℕ, ◌+◌, ◌*◌, ◌<◌, ◌≤◌, Bool, List, [], ◌∷◌, length, ap, ◌∙◌, arith}
+use Rattle.std.proofs.Common.{ℕ, ◌+◌, ◌*◌, ◌<◌, ◌≤◌, Bool, List, [], ◌∷◌, length, arith}
 use Rattle.std.specs.Prelude.{filter, ◌==◌}
 use Rattle.std.specs.List.{AllByRecursion, enumerate_from}
 use Rattle.std.proofs.lemmas.List.FromFn.{length-enumerate_from}
@@ -44,6 +44,7 @@ pub record IsConfig (config : ConfigValues) : Type 0 where
   pub copied_asked : 1 ≤ config.copied_percent
   pub copied_percent : config.copied_percent ≤ 100
   pub average : config.average_slices ≤ 1000
+  pub some_age : 1 ≤ config.age_limit
   pub least : 8 ≤ config.least_length
   pub ordered : config.least_length ≤ config.greatest_length
   pub room : config.greatest_length ≤ config.memory_limit

@@ -76,7 +76,7 @@ more-kept settings words start now kept =
       credited = λ none. same.credited ∙ kept.credited none;
     })
 
-steps-kept : (settings : SettingNumbers) (words : ℕ → ℕ) (start : LifeState) (steps : ℕ)
+pub steps-kept : (settings : SettingNumbers) (words : ℕ → ℕ) (start : LifeState) (steps : ℕ)
     → HasKept start (state_after settings words start steps)
 unfolding state_after
 steps-kept settings words start zero =

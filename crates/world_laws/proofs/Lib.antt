@@ -22,3 +22,6 @@ mod LineDescents
 mod Merits
 pub mod Keepings
 mod Turnovers
+mod LifeRanges
+mod Each
+mod Ranges

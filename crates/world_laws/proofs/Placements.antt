@@ -1,12 +1,26 @@
 -- Newborns are placed in cells of the torus, one placing each.
-use Rattle.std.proofs.Common.{◌≡◌, ℕ, zero, suc, ◌+◌, ◌*◌, ◌/◌, ◌<◌, ◌≤◌, Bool, true, false, cond, List, [], ◌∷◌, ◌++◌, length, Option, arith, length-append}
-use Rattle.std.specs.Prelude.{slice_index_or, filter, fold}
+use Rattle.std.proofs.Common.{◌≡◌, ℕ, zero, suc, ◌+◌, ◌*◌, ◌/◌, ◌^◌, ◌<◌, ◌≤◌, Bool, true, false, cond, List, [], ◌∷◌, ◌++◌, length, Option, arith, length-append, refl}
+use Rattle.std.specs.Prelude.{◌%◌, ◌==◌, count_by, slice_index_or, filter, fold}
 use Rattle.std.specs.List.{AllByRecursion}
 use Rattle.std.proofs.Math.Nat.{mul-le-mul_left, div-lt_iff_lt-mul}
+use Rattle.logic_tasks.specs.Inputs.{HasTopBytes, inputs_of}
 use Rattle.birth_board.specs.declared.placing.Placing.{Placing}
 use Rattle.birth_board.specs.declared.season.Season.{Season}
 use Rattle.birth_board.specs.Torus.{TorusNumbers, cells_of, column_of, row_of, west_of, east_of, north_of, south_of, around, neighbours_of}
-use Rattle.birth_board.specs.Placement.{Board, is_free, choices_of, chosen_cell, placing_of, next_placing, next_board, placements_of}
+use Rattle.birth_board.specs.Placement.{Board, is_free, choices_of, chosen_cell, words_of, placing_of, next_placing, next_board, placements_of}
+
+-- the top byte of an input
+input_top : (top n : ℕ) → (top * 2 ^ 24 + n % 2 ^ 24) / 2 ^ 24 ≡ top
+input_top top n = omega arith
+
+-- the inputs that are made of three words have the top bytes
+pub inputs_top : (words : List ℕ) → HasTopBytes (inputs_of words)
+inputs_top words =
+    rw (
+      input_top 15 (slice_index_or words 0 0),
+      input_top 51 (slice_index_or words 1 0),
+      input_top 85 (slice_index_or words 2 0),
+    ) refl
 
 -- in the torus
 abbrev pub IsCell : TorusNumbers → ℕ → Type 0
@@ -158,3 +172,35 @@ unfolding placements_of
 placements_number torus parents occupants season =
     let empty : Board = record { occupants = occupants; placings = []; parents = [] } in
     omega (arith, placed_number torus season empty parents)
+
+-- the inputs of a newborn have the top bytes
+abbrev pub IsEquipped : Placing → Type 0
+IsEquipped placing = HasTopBytes placing.inputs
+
+placing_equipped : (torus : TorusNumbers) (prefer : Bool) (occupants : List (Option ℕ))
+    (id parent : ℕ) (words : List ℕ) → IsEquipped (placing_of torus prefer occupants id parent words)
+unfolding placing_of
+placing_equipped torus prefer occupants id parent words =
+    inputs_top (slice_index_or words 1 0 ∷ slice_index_or words 2 0 ∷ slice_index_or words 3 0 ∷ [])
+
+placed_equipped : (torus : TorusNumbers) (season : Season) (board : Board) (parents : List ℕ)
+    → AllByRecursion IsEquipped board.placings
+    → AllByRecursion IsEquipped (fold (next_board torus season) board parents).placings
+unfolding next_board
+placed_equipped torus season board [] before = before
+placed_equipped torus season board (parent ∷ parents) before =
+    placed_equipped torus season (next_board torus season board parent) parents
+    (all_append IsEquipped board.placings (next_placing torus season board parent ∷ []) before (
+      placing_equipped torus season.prefer_empty board.occupants
+          (season.next_id + length board.parents) parent
+          (words_of season parent (count_by (λ cell. cell == parent) board.parents)),
+      tt,
+    ))
+
+pub placements_equipped : (torus : TorusNumbers) (parents : List ℕ) (occupants : List (Option ℕ))
+    (season : Season)
+    → AllByRecursion IsEquipped (placements_of torus parents occupants season).placings
+unfolding placements_of
+placements_equipped torus parents occupants season =
+    placed_equipped torus season (record { occupants = occupants; placings = []; parents = [] })
+    parents tt

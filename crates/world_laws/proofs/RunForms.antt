@@ -92,7 +92,7 @@ module _ (laws : LifeLaws) (config : ConfigValues) (fit : IsConfig config) where
       deaths births_forms) events_forms) (counted, tt)
 
   -- all who ever were in a world are few
-  everyone_few : (n : ℕ) → length (world_after config n).everyone ≤ 1 + 65537000 * n
+  pub everyone_few : (n : ℕ) → length (world_after config n).everyone ≤ 1 + 65537000 * n
   unfolding world_after first_world
   everyone_few zero = omega arith
   everyone_few (suc n) =

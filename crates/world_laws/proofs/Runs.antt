@@ -1,12 +1,11 @@
 -- The lines of a run take the reader from the founder's world to that after its updates.
-use Rattle.std.proofs.Common.{◌≡◌, ℕ, suc, ◌+◌, ◌*◌, ◌<◌, ◌≤◌, List, [], ◌∷◌, map, length, subst, ◌∙◌, arith}
+use Rattle.std.proofs.Common.{◌≡◌, ℕ, suc, ◌+◌, ◌*◌, ◌<◌, ◌≤◌, List, [], ◌∷◌, map, length, subst, sum, ◌∙◌, arith}
 use Rattle.std.specs.Prelude.{slice_index_or}
 use Rattle.std.specs.List.{AllByRecursion, range_with_len}
 use Rattle.std.proofs.Math.Nat.{mul-le-mul}
 use Rattle.std.proofs.lemmas.List.{length-map}
 use Rattle.std.proofs.lemmas.List.FromFn.{length-range_with_len}
 use Rattle.std.proofs.lemmas.Slice.Zip.{length-zip}
-use Rattle.merit_slices.specs.Slices.{slices_of}
 use Rattle.birth_board.specs.declared.placing.Placing.{Placing}
 use Rattle.lineage_log.specs.Order.{Place, Within}
 use Rattle.lineage_log.specs.Replay.{Seen}
@@ -169,20 +168,25 @@ module _ (laws : LifeLaws) (config : ConfigValues) (fit : IsConfig config) (n : 
         update = omega (arith, goes.update, is.update);
       }
 
-  -- few are born in it
-  pub few_born : length (births_of (lives_after config w)) ≤ 65536000
+  -- all cells together get few steps in it
+  pub few_steps : sum (slices_at config w.cells) ≤ 65536000
   unfolding slices_at
-  few_born =
-      let lives = lives_after config w in
-      let few = births_few config (slice_at config w.cells) w.cells lives lives_lawful in
+  few_steps =
       let merits = map merit_in w.cells in
-      let entries = entries_few (slices_of merits config.average_slices) (length w.cells) in
       let all = laws.slices merits config.average_slices in
       let cells : length merits ≤ 65536 =
       omega (arith, length-map w.cells merit_in, is.world.sized, few_cells config fit) in
       let bound : config.average_slices * length merits ≤ 1000 * 65536 =
       mul-le-mul fit.average cells in
-      omega (arith, few, entries, all, bound)
+      omega (arith, all, bound)
+
+  -- few are born in it
+  pub few_born : length (births_of (lives_after config w)) ≤ 65536000
+  few_born =
+      let lives = lives_after config w in
+      let few = births_few config (slice_at config w.cells) w.cells lives lives_lawful in
+      let entries = entries_few (slices_at config w.cells) (length w.cells) in
+      omega (arith, few, entries, few_steps)
 
   -- and few come in it
   pub few_come : length (next_world config w).everyone ≤ length w.everyone + 65537000

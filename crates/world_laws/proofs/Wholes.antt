@@ -47,7 +47,7 @@ none_there (suc count) zero o e = absurd cc
 none_there (suc count) (suc cell) o e = none_there count cell o e
 
 -- who stands in the founder's world
-only_founder : (config : ConfigValues) (cell : ℕ) (o : Occupant)
+pub only_founder : (config : ConfigValues) (cell : ℕ) (o : Occupant)
     → Stands (slice_set (empty_cells config) config.founder_cell (Some (first_occupant config)))
     cell o → (cell ≡ config.founder_cell) × (first_occupant config ≡ o)
 only_founder config cell o h =

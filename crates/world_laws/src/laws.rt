@@ -11,6 +11,7 @@ ghost use Rattle.world_rules.specs.Update.{next_scene, next_world};
 ghost use Rattle.world_rules.specs.World.{Occupant, World};
 ghost use Rattle.world_rules.specs.WorldRun.{world_after};
 ghost use Rattle.world_laws.specs.Keeping.{AreSound, HasKept, LiveOn};
+ghost use Rattle.world_laws.specs.Ranges.{HasFewIds, IsInRange};
 ghost use Rattle.world_laws.specs.Heredity.{AreDescended, IsDescent, IsLastOfLine};
 ghost use Rattle.world_laws.specs.Turnover.{IsTurnover};
 
@@ -112,4 +113,20 @@ pub fn sound_organisms_live_on(config: &Config)
     organism::laws::lives_are_sound();
     organism::laws::new_organisms_are_sound();
     random_streams::laws::words_fit();
+}
+
+/// Each organism of a world has a genome of an allowed length, is younger than the age of death,
+/// and keeps the memory limit of its world. Those in different cells have different ids.
+pub fn organisms_stay_in_range(config: &Config, updates: u32)
+    ensures each { (cell : ℕ) (occupant : Occupant)
+        → slice_get (world_after (values_of config.now) updates).cells cell ≡ Some (Some occupant)
+        → IsInRange (values_of config.now) updates occupant.organism }
+    ensures ids { HasFewIds (values_of config.now) updates
+        (world_after (values_of config.now) updates) }
+{
+    merit_slices::laws::slices_are_few();
+    organism::laws::lives_are_sound();
+    organism::laws::new_organisms_are_sound();
+    random_streams::laws::words_fit();
+    virtual_cpu::laws::steps_leave_machines();
 }

@@ -1,0 +1,130 @@
+-- What holds of each who stands in the cells, as organisms go and come.
+use Rattle.std.proofs.Common.{◌≡◌, ◌≢◌, ◌⊎◌, inl, inr, ◌∙◌, refl, sym, ap, subst, ℕ, zero, suc, ◌+◌, ◌<◌, ◌≤◌, Bool, true, false, cond, List, [], ◌∷◌, length, map, get_or, Option, Some, None, arith}
+use Rattle.std.specs.Prelude.{filter, flat_map, option_map}
+use Rattle.std.specs.List.{AllByRecursion, enumerate_from, range_with_len}
+use Rattle.std.proofs.lemmas.Bool.{cases_eq}
+use Rattle.std.proofs.lemmas.List.{length-map}
+use Rattle.std.proofs.lemmas.List.Elements.{recursion_from_All}
+use Rattle.std.proofs.lemmas.List.FromFn.{get_or-map-range_with_len, length-map-range_with_len}
+use Rattle.std.proofs.lemmas.Option.{slice_get-get_or, slice_get-map, slice_get_within}
+use Rattle.organism.specs.Newborns.{NewbornValue}
+use Rattle.organism.specs.OrganismState.{OrganismState}
+use Rattle.lineage_log.specs.Links.{Link}
+use Rattle.world_rules.specs.Lives.{CellLife, no_life}
+use Rattle.world_rules.specs.Scene.{Scene, with_death, with_deaths, with_newcomer}
+use Rattle.world_rules.specs.Update.{Delivery, births_by, births_in, delivery_of}
+use Rattle.world_rules.specs.World.{Occupant}
+use Rattle.world_laws.proofs.FolkLemmas.{left_by}
+use Rattle.world_laws.proofs.Placements.{all_append}
+use Rattle.world_laws.proofs.Scenes.{Each, Stands, stands_before, stands_with}
+
+-- ---- who stands once some have died
+
+-- who stands after some deaths stood before them, in none of their cells
+pub stood_before : (scene : Scene) (ats : List ℕ) (cell : ℕ) (o : Occupant)
+    → Stands (with_deaths scene ats).cells cell o
+    → Stands scene.cells cell o × AllByRecursion (λ at. cell ≢ at) ats
+unfolding with_death
+stood_before scene [] cell o h = (h, tt)
+stood_before scene (at ∷ ats) cell o h =
+    let later = stood_before (with_death scene at) ats cell o h in
+    let first = stands_before scene.cells cell at o later.0 in
+    (first.0, (first.1, later.1))
+
+-- a place that is not among those of a test fails it
+fails_here : (P : ℕ → Type 0) (test : Bool) (place : ℕ) (others : List ℕ)
+    → AllByRecursion P (cond test (place ∷ others) others)
+    → ((test ≡ false) ⊎ P place) × AllByRecursion P others
+fails_here P true place others all = (inr all.0, all.1)
+fails_here P false place others all = (inl refl, all)
+
+pub fails_test : (test : ℕ → Bool) (from count cell : ℕ)
+    → AllByRecursion (λ at. cell ≢ at) (filter test (range_with_len from count)) → from ≤ cell
+    → cell < from + count → test cell ≡ false
+fails_test test from zero cell others low high = absurd (omega (arith, low, high))
+fails_test test from (suc count) cell others low high =
+    let parts = fails_here (λ at. cell ≢ at) (test from) from
+    (filter test (range_with_len (from + 1) count)) others in
+    elim (cases_eq cell from) [
+      | inl same ↦ elim parts.0 [
+        | inl fails ↦ ap test same ∙ fails
+        | inr other ↦ absurd (other same)
+      ]
+      | inr other ↦
+          let above : from + 1 ≤ cell = omega (arith, low, other) in
+          fails_test test (from + 1) count cell parts.1 above (omega (arith, high))
+    ]
+
+-- ---- what holds of each, as organisms go and come
+
+module _ (Holds : OrganismState → Type 0) where
+  pub each_left : (scene : Scene) (ats : List ℕ) → Each Holds scene.cells
+      → Each Holds (with_deaths scene ats).cells
+  each_left scene ats each cell o h = each cell o (stood_before scene ats cell o h).0
+
+  pub each_with : (scene : Scene) (link : Link) (organism : OrganismState) → Holds organism
+      → Each Holds scene.cells → Each Holds (with_newcomer scene link organism).cells
+  unfolding with_newcomer
+  each_with scene link organism holds each cell o h =
+      let new : Occupant = record { id = link.id; organism = organism } in
+      elim (stands_with scene.cells cell link.cell new o h) [
+        | inl here ↦ subst (λ (x : Occupant). Holds x.organism) here.1 holds
+        | inr there ↦ each cell o there.0
+      ]
+
+-- ---- lives and their newborns by their cells
+
+-- the life of who stands in a cell after the lives
+pub life_there : (run : ℕ → CellLife) (count cell : ℕ) (o : Occupant)
+    → Stands (left_by (map run (range_with_len 0 count))) cell o
+    → (cell < count) × (get_or (map run (range_with_len 0 count)) cell no_life ≡ run cell)
+    × ((run cell).occupant ≡ Some o)
+life_there run count cell o h =
+    let lives = map run (range_with_len 0 count) in
+    let long : length lives ≡ count = length-map-range_with_len run 0 count in
+    let low : cell < count = omega (
+      arith,
+      slice_get_within (left_by lives) cell (Some o) h,
+      length-map lives (λ (l : CellLife). l.occupant),
+      long,
+    ) in
+    let at : get_or lives cell no_life ≡ run cell =
+    get_or-map-range_with_len run 0 count cell cell no_life low (omega arith) in
+    let there : Some (run cell).occupant ≡ Some (Some o) =
+    ap (λ (l : CellLife). Some l.occupant) (sym at)
+    ∙ ap (option_map (λ (l : CellLife). l.occupant))
+    (sym (slice_get-get_or lives cell no_life (omega (arith, low, long))))
+    ∙ sym (slice_get-map (λ (l : CellLife). l.occupant) lives cell) ∙ h in
+    (low, at, cc)
+
+-- what holds of the lives of all cells
+pub all_lives : (P : CellLife → Type 0) (run : ℕ → CellLife) (count : ℕ)
+    → ((cell : ℕ) → cell < count → P (run cell))
+    → AllByRecursion P (map run (range_with_len 0 count))
+all_lives P run count each =
+    recursion_from_All P (map run (range_with_len 0 count)) (λ k d there.
+    let low : k < count = omega (arith, there, length-map-range_with_len run 0 count) in
+    subst P (sym (get_or-map-range_with_len run 0 count k k d low (omega arith))) (each k low))
+
+module _ (P : NewbornValue → Type 0) where
+  newborns_by : (cell parent : ℕ) (newborns : List NewbornValue) → AllByRecursion P newborns
+      → AllByRecursion (λ (d : Delivery). P d.newborn) (map (delivery_of cell parent) newborns)
+  newborns_by cell parent [] all = tt
+  newborns_by cell parent (n ∷ newborns) all = (all.0, newborns_by cell parent newborns all.1)
+
+  births_there : (cell : ℕ) (newborns : List NewbornValue) (slot : Option Occupant)
+      → AllByRecursion P newborns
+      → AllByRecursion (λ (d : Delivery). P d.newborn) (births_by cell newborns slot)
+  births_there cell newborns None all = tt
+  births_there cell newborns (Some o) all = newborns_by cell o.id newborns all
+
+  -- what holds of the newborns of all lives
+  pub all_births : (from : ℕ) (lives : List CellLife)
+      → AllByRecursion (λ (l : CellLife). AllByRecursion P l.newborns) lives
+      → AllByRecursion (λ (d : Delivery). P d.newborn)
+      (flat_map births_in (enumerate_from from lives))
+  all_births from [] all = tt
+  all_births from (l ∷ lives) all =
+      all_append (λ (d : Delivery). P d.newborn) (births_by from l.newborns l.occupant)
+      (flat_map births_in (enumerate_from (from + 1) lives))
+      (births_there from l.newborns l.occupant all.0) (all_births (from + 1) lives all.1)

@@ -1,0 +1,246 @@
+-- A life keeps the limit and the sets of an organism, and ends before the age of death or with it.
+use Rattle.std.proofs.Common.{◌≡◌, ◌⊎◌, inl, inr, ◌∙◌, refl, sym, ap, ℕ, ℤ, zero, suc, ◌+◌, ◌*◌, ◌<◌, ◌≤◌, Bool, true, false, cond, [], ◌∷◌, length, Option, Some, None, arith}
+use Rattle.std.specs.Prelude.{◌&&◌, ◌==◌, find}
+use Rattle.std.specs.List.{AllByRecursion, range_with_len}
+use Rattle.std.proofs.lemmas.Bool.{cases_eq, cases_lt, eqb-false}
+use Rattle.std.proofs.lemmas.List.{length-set, length-replicate}
+use Rattle.instruction_set.specs.declared.letter.Letter.{Letter}
+use Rattle.divide_rules.specs.Rules.{RuleNumbers}
+use Rattle.logic_tasks.specs.LogicTasks.{place_of}
+use Rattle.logic_tasks.specs.declared.task.Task.{Task}
+use Rattle.virtual_cpu.specs.declared.did.Did.{Did}
+use Rattle.virtual_cpu.specs.declared.did.Did.TheVariants.{Output, Asks}
+use Rattle.virtual_cpu.specs.Machine.{Machine}
+use Rattle.virtual_cpu.specs.Step.{KeepsLimits, step}
+use Rattle.organism.specs.declared.outcome.Outcome.{Outcome}
+use Rattle.organism.specs.declared.outcome.Outcome.TheVariants as outcome
+use Rattle.organism.specs.declared.ran.Ran.{Ran}
+use Rattle.organism.specs.Life.{after_did, after_output, life_step, machine_step, newly_done, next_input, older, renewed, with_done}
+use Rattle.organism.specs.Newborns.{NewbornValue}
+use Rattle.organism.specs.OrganismState.{OrganismState}
+use Rattle.organism.specs.SettingNumbers.{SettingNumbers}
+use Rattle.organism.specs.UpdateLife.{LifeState, after_copy, after_outcome, after_step, copy_drawn, death_in, dies_at, ended, is_old, life, newborn_of, state_after}
+use Rattle.world_rules.specs.Lives.{is_death}
+use Rattle.world_laws.proofs.Keepings.{steps-kept}
+use Rattle.world_laws.proofs.Placements.{all_append}
+
+-- no step changes the limit of a machine
+abbrev pub KeepLimits : Type 0
+KeepLimits = (m : Machine) (input : ℤ) (copy : Option Letter) → KeepsLimits m (step m input copy).0
+
+-- an organism under a limit, with two sets of nine tasks
+pub record HasNine (bound : ℕ) (o : OrganismState) : Type 0 where
+  pub limit : o.machine.limit ≡ bound
+  pub credited : length o.credited ≡ 9
+  pub gestation : length o.gestation ≡ 9
+
+-- a newborn has a set of nine tasks
+abbrev pub BringsNine : NewbornValue → Type 0
+BringsNine newborn = length newborn.credited ≡ 9
+
+-- another organism of this age, and of such a kind if the first is
+record IsOfAge (steps : ℕ) (o other : OrganismState) : Type 0 where
+  age : other.age ≡ steps
+  nine : (limit : ℕ) → HasNine limit o → HasNine limit other
+
+done-of-age : (o : OrganismState) (task : Option Task) → IsOfAge o.age o (with_done o task).0
+done-of-age o None = record { age = refl; nine = λ limit has. has }
+done-of-age o (Some task) = record {
+  age = refl;
+  nine = λ limit has. record {
+    limit = has.limit;
+    credited = has.credited;
+    gestation = length-set o.gestation (place_of task) true ∙ has.gestation;
+  };
+}
+
+output-of-age : (o : OrganismState) (output : ℤ) → IsOfAge o.age o (after_output o output).0
+unfolding after_output
+output-of-age o output =
+    let read : OrganismState = record o { read = o.read + 1 } in
+    let done = done-of-age read (newly_done o output) in
+    record {
+      age = done.age;
+      nine = λ limit has. done.nine limit (record {
+        limit = has.limit;
+        credited = has.credited;
+        gestation = has.gestation;
+      });
+    }
+
+did-of-age : (o : OrganismState) (rules : RuleNumbers) (did : Did)
+    → IsOfAge o.age o (after_did o rules did).0
+did-of-age o rules (Output value) = output-of-age o value
+did-of-age o rules (Asks ask) = record { age = refl; nine = λ limit has. has }
+did-of-age o rules _ = record { age = refl; nine = λ limit has. has }
+
+step-of-age : KeepLimits → (o : OrganismState) (copy : Option Letter) (rules : RuleNumbers)
+    → IsOfAge (o.age + 1) o (life_step o copy rules).0
+unfolding life_step
+step-of-age keep o copy rules =
+    let aged = older o (machine_step o copy).0 in
+    let did = did-of-age aged rules (machine_step o copy).1 in
+    record {
+      age = did.age;
+      nine = λ limit has. did.nine limit (record {
+        limit = (keep o.machine (next_input o) copy).limit ∙ has.limit;
+        credited = has.credited;
+        gestation = has.gestation;
+      });
+    }
+
+-- an organism in its life, and its newborns so far
+pub record LivesWithNine (bound : ℕ) (s : LifeState) : Type 0 where
+  pub organism : HasNine bound s.organism
+  pub newborns : AllByRecursion BringsNine s.newborns
+
+outcome-nine : (settings : SettingNumbers) (words : ℕ → ℕ) (limit : ℕ) (s : LifeState)
+    (told : Outcome) → LivesWithNine limit s
+    → LivesWithNine limit (after_outcome settings words s told)
+unfolding renewed
+outcome-nine settings words limit s (outcome.Viable ask) has = record {
+  organism = record {
+    limit = has.organism.limit;
+    credited = has.organism.gestation;
+    gestation = length-replicate 9 false;
+  };
+  newborns = all_append BringsNine s.newborns (newborn_of settings words s ask ∷ [])
+      has.newborns (has.organism.gestation, tt);
+}
+outcome-nine settings words limit s _ has = has
+
+-- an outcome leaves the age, or begins it anew
+outcome-age : (settings : SettingNumbers) (words : ℕ → ℕ) (s : LifeState) (told : Outcome)
+    → ((after_outcome settings words s told).organism.age ≡ s.organism.age)
+    ⊎ ((after_outcome settings words s told).organism.age ≡ 0)
+unfolding renewed
+outcome-age settings words s (outcome.Viable ask) = inr refl
+outcome-age settings words s _ = inl refl
+
+module _ (keep : KeepLimits) (settings : SettingNumbers) (words : ℕ → ℕ) where
+  more-nine : (limit : ℕ) (s : LifeState) → LivesWithNine limit s
+      → LivesWithNine limit (after_step settings words s)
+  unfolding after_step
+  more-nine limit s has =
+      let copy = copy_drawn words settings.rates.copy s.next s.organism in
+      let stepped = life_step s.organism copy settings.rules in
+      let next = after_copy words settings.rates.copy s.next s.organism in
+      outcome-nine settings words limit (record s { organism = stepped.0; next = next }) stepped.1
+      (record {
+        organism = (step-of-age keep s.organism copy settings.rules).nine limit has.organism;
+        newborns = has.newborns;
+      })
+
+  more-age : (s : LifeState)
+      → ((after_step settings words s).organism.age ≡ s.organism.age + 1)
+      ⊎ ((after_step settings words s).organism.age ≡ 0)
+  unfolding after_step
+  more-age s =
+      let copy = copy_drawn words settings.rates.copy s.next s.organism in
+      let stepped = life_step s.organism copy settings.rules in
+      let next = after_copy words settings.rates.copy s.next s.organism in
+      let between : LifeState = record s { organism = stepped.0; next = next } in
+      let told = step-of-age keep s.organism copy settings.rules in
+      elim (outcome-age settings words between stepped.1) [
+        | inl same ↦ inl (same ∙ told.age)
+        | inr anew ↦ inr anew
+      ]
+
+  steps-nine : (limit : ℕ) (start : LifeState) (steps : ℕ) → LivesWithNine limit start
+      → LivesWithNine limit (state_after settings words start steps)
+  unfolding state_after
+  steps-nine limit start zero has = has
+  steps-nine limit start (suc steps) has =
+      more-nine limit (state_after settings words start steps)
+      (steps-nine limit start steps has)
+
+  -- the age at which an organism dies
+  abbrev last-age : LifeState → ℕ
+  last-age start = settings.age_limit * length start.organism.genome
+
+  -- where a step is no death, its age is another
+  other-age : (o : OrganismState) (genome : ℕ) → length o.genome ≡ genome
+      → settings.death ≡ true → is_old settings o ≡ false
+      → o.age ≡ settings.age_limit * genome → ⊥
+  other-age o genome same death alive at =
+      let here : (true && (o.age == settings.age_limit * genome)) ≡ false =
+      ap (λ (b : Bool). b && (o.age == settings.age_limit * genome)) (sym death)
+      ∙ ap (λ (n : ℕ). settings.death && (o.age == settings.age_limit * n)) (sym same) ∙ alive in
+      eqb-false o.age (settings.age_limit * genome) here at
+
+  -- before the age of death, and with no death so far, it is still before it
+  steps-young : (start : LifeState) (steps : ℕ)
+      → ((step : ℕ) → step < steps → dies_at settings words start step ≡ false)
+      → settings.death ≡ true → start.organism.age < last-age start
+      → (state_after settings words start steps).organism.age < last-age start
+  unfolding state_after
+  steps-young start zero alive death young = young
+  steps-young start (suc steps) alive death young =
+      let before : LifeState = state_after settings words start steps in
+      let now : LifeState = after_step settings words before in
+      let one_more : steps + 1 ≡ suc steps = omega arith in
+      let early : before.organism.age < last-age start =
+      steps-young start steps (λ step low. alive step (omega (arith, low))) death young in
+      let kept = steps-kept settings words start (suc steps) in
+      let lives : is_old settings now.organism ≡ false =
+      ap (λ (n : ℕ). is_old settings (state_after settings words start n).organism)
+      (sym one_more) ∙ alive steps (omega arith) in
+      let other = other-age now.organism (length start.organism.genome) (ap length kept.genome)
+      death lives in
+      elim (more-age before) [
+        | inl older ↦ elim (cases_lt now.organism.age (last-age start)) [
+          | inl low ↦ low
+          | inr high ↦ absurd (other (omega (arith, high, older, early)))
+        ]
+        | inr anew ↦ omega (arith, anew, early)
+      ]
+
+-- a step that is no death, and none later
+no-first : (low : ℕ) (here : Bool) (others : Option ℕ) → cond here (Some low) others ≡ None
+    → (here ≡ false) × (others ≡ None)
+no-first low true others none = absurd cc
+no-first low false others none = (refl, none)
+
+-- where no step is found, each fails the test
+none-found : (test : ℕ → Bool) (low count : ℕ) → find test (range_with_len low count) ≡ None
+    → (step : ℕ) → low ≤ step → step < low + count → test step ≡ false
+none-found test low zero none step above below = absurd (omega (arith, above, below))
+none-found test low (suc count) none step above below =
+    let parts = no-first low (test low) (find test (range_with_len (low + 1) count)) none in
+    elim (cases_eq step low) [
+      | inl same ↦ ap test same ∙ parts.0
+      | inr other ↦
+          let later : low + 1 ≤ step = omega (arith, above, other) in
+          none-found test (low + 1) count parts.1 step later (omega (arith, below))
+    ]
+
+-- what a life leaves; where it was no death, the age is below that of death
+pub record LeavesInRange (settings : SettingNumbers) (start : LifeState)
+    (left : LifeState × Ran) : Type 0 where
+  pub nine : LivesWithNine start.organism.machine.limit left.0
+  pub young : is_death left.1 ≡ false → settings.death ≡ true
+      → start.organism.age < settings.age_limit * length start.organism.genome
+      → left.0.organism.age < settings.age_limit * length start.organism.genome
+
+pub life-in-range : KeepLimits → (settings : SettingNumbers) (words : ℕ → ℕ) (start : LifeState)
+    (steps : ℕ) → LivesWithNine start.organism.machine.limit start
+    → LeavesInRange settings start (life settings words start steps)
+unfolding life death_in
+life-in-range keep settings words start steps has =
+    by (death_in settings words start steps) refl
+  where
+    limit : ℕ
+    limit = start.organism.machine.limit
+
+    by : (death : Option ℕ) → death_in settings words start steps ≡ death
+        → LeavesInRange settings start (ended settings words start steps death)
+    by None none = record {
+      nine = steps-nine keep settings words limit start steps has;
+      young = λ alive death young. steps-young keep settings words start steps
+          (λ step low. none-found (dies_at settings words start) 0 steps none step (omega arith)
+          (omega (arith, low))) death young;
+    }
+    by (Some step) some = record {
+      nine = steps-nine keep settings words limit start (step + 1) has;
+      young = λ alive. absurd cc;
+    }

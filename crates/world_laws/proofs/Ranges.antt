@@ -1,0 +1,312 @@
+-- The organisms of a run stay in range, and its worlds gave few ids.
+use Rattle.std.proofs.Common.{◌≡◌, inl, inr, ◌∙◌, refl, sym, ap, subst, ℕ, zero, suc, ◌+◌, ◌*◌, ◌<◌, ◌≤◌, Bool, false, List, [], ◌∷◌, length, map, sum, Option, Some, None, arith}
+use Rattle.std.specs.Prelude.{fold, slice_index_or}
+use Rattle.std.specs.List.{AllByRecursion, zip}
+use Rattle.std.proofs.Math.Nat.{mul-le-mul}
+use Rattle.std.proofs.lemmas.Bool.{cases_lt}
+use Rattle.std.proofs.lemmas.List.{get_or_past, length-map, length-replicate}
+use Rattle.std.proofs.lemmas.List.FromFn.{length-map-range_with_len}
+use Rattle.std.proofs.lemmas.List.Sums.{get_or-le-sum_by}
+use Rattle.instruction_set.specs.declared.letter.Letter.{Letter}
+use Rattle.logic_tasks.specs.Inputs.{HasTopBytes, inputs_of}
+use Rattle.logic_tasks.specs.TaskSet.{no_tasks}
+use Rattle.random_streams.specs.declared.purpose.Purpose.TheVariants.{Run}
+use Rattle.random_streams.specs.RandomStream.{draw}
+use Rattle.birth_board.specs.declared.placing.Placing.{Placing}
+use Rattle.organism.specs.Lived.{IsSoundOrganism, beginning}
+use Rattle.organism.specs.OrganismState.{new_organism}
+use Rattle.organism.specs.UpdateLife.{life}
+use Rattle.world_config.specs.Events.{EventValue, WhatValue, inject, clear, rate}
+use Rattle.world_config.specs.Values.{ConfigValues}
+use Rattle.world_rules.specs.Lives.{CellLife, life_at, life_of, lives_of, no_life, slice_at, slices_at}
+use Rattle.world_rules.specs.Scene.{Scene, cells_from, next_id}
+use Rattle.world_rules.specs.Settings.{settings_at, season_at, torus_of}
+use Rattle.world_rules.specs.Update.{Delivery, after_births, after_burials, after_event, after_events, after_lives, after_what, birth_link, births_of, child_of_birth, deaths_of, events_at, last_scene, lives_after, next_scene, next_world, placings_of, scene_of_lives, with_newborn}
+use Rattle.world_rules.specs.World.{Occupant, World, first_world, founder_link, founder_of, founder_words, ids_of}
+use Rattle.world_rules.specs.WorldRun.{world_after}
+use Rattle.world_laws.specs.Ranges.{HasFewIds, IsInRange}
+use Rattle.world_laws.proofs.Configs.{FitsPlaced, FitsWhat, IsConfig, events_fit, rules_are}
+use Rattle.world_laws.proofs.Each.{all_births, all_lives, each_left, each_with, fails_test, life_there, stood_before}
+use Rattle.world_laws.proofs.FolkLemmas.{IsBorn, births_born}
+use Rattle.world_laws.proofs.LifeRanges.{BringsNine, KeepLimits, LeavesInRange, LivesWithNine, life-in-range}
+use Rattle.world_laws.proofs.ListLemmas.{got_some}
+use Rattle.world_laws.proofs.LivesLemmas.{LifeLaws}
+use Rattle.world_laws.proofs.Mirror.{People, written}
+use Rattle.world_laws.proofs.Placements.{IsEquipped, inputs_top, placements_equipped}
+use Rattle.world_laws.proofs.RunForms.{everyone_few}
+use Rattle.world_laws.proofs.Runs.{IsRun, few_steps, lives_lawful}
+use Rattle.world_laws.proofs.Scenes.{Each, id_below}
+use Rattle.world_laws.proofs.Turnovers.{turnover_after}
+use Rattle.world_laws.proofs.Wholes.{kept_after, only_founder, run_after}
+
+-- no cell gets more steps than all together
+entry_few : (xs : List ℕ) (i : ℕ) → slice_index_or xs i 0 ≤ sum xs
+entry_few xs i = elim (cases_lt i (length xs)) [
+  | inl low ↦ omega (arith, get_or-le-sum_by (λ x. x) xs i 0 low)
+  | inr past ↦ omega (arith, get_or_past xs i 0 past)
+]
+
+module _ (config : ConfigValues) (fit : IsConfig config) (updates : ℕ) where
+  -- an organism that comes
+  range_new : (letters : List Letter) (inputs : List ℕ) (merit : ℕ) (credited : List Bool)
+      → config.least_length ≤ length letters → length letters ≤ config.greatest_length
+      → length credited ≡ 9 → HasTopBytes inputs
+      → IsInRange config updates
+      (new_organism letters inputs merit credited config.memory_limit)
+  unfolding new_organism
+  range_new letters inputs merit credited least greatest nine top =
+      let long : 1 ≤ length letters = omega (arith, least, fit.least) in
+      let some : 1 * 1 ≤ config.age_limit * length letters = mul-le-mul fit.some_age long in
+      record {
+        least = least;
+        greatest = greatest;
+        age = omega arith;
+        young = λ death. omega (arith, some);
+        limit = refl;
+        credited = nine;
+        gestation = length-replicate 9 false;
+        inputs = top;
+      }
+
+  range_founder : (cell nth : ℕ) (letters : List Letter) → config.least_length ≤ length letters
+      → length letters ≤ config.greatest_length
+      → IsInRange config updates (founder_of config cell nth letters)
+  unfolding founder_of
+  range_founder cell nth letters least greatest =
+      let words = founder_words config.seed cell nth in
+      range_new letters (inputs_of words) (length letters) no_tasks least greatest
+      (length-replicate 9 false) (inputs_top words)
+
+  -- a newborn, with its placing
+  record ComesInRange (turn : Delivery × Placing) : Type 0 where
+    born : IsBorn config turn.0
+    nine : BringsNine turn.0.newborn
+    equipped : IsEquipped turn.1
+
+  come_in_range : (births : List Delivery) (placings : List Placing)
+      → AllByRecursion (IsBorn config) births
+      → AllByRecursion (λ (d : Delivery). BringsNine d.newborn) births
+      → AllByRecursion IsEquipped placings → AllByRecursion ComesInRange (zip births placings)
+  come_in_range [] placings born nine equipped = tt
+  come_in_range (b ∷ births) [] born nine equipped = tt
+  come_in_range (b ∷ births) (p ∷ placings) born nine equipped = (
+    record { born = born.0; nine = nine.0; equipped = equipped.0 },
+    come_in_range births placings born.1 nine.1 equipped.1,
+  )
+
+  abbrev InRange : List (Option Occupant) → Type 0
+  InRange cells = Each (IsInRange config updates) cells
+
+  range_births : (scene : Scene) (turns : List (Delivery × Placing))
+      → AllByRecursion ComesInRange turns → InRange scene.cells
+      → InRange (fold (with_newborn config) scene turns).cells
+  unfolding with_newborn
+  range_births scene [] come each = each
+  range_births scene (turn ∷ turns) come each =
+      let child = range_new turn.0.newborn.genome turn.1.inputs turn.0.newborn.merit
+      turn.0.newborn.credited come.0.born.born.least come.0.born.born.greatest come.0.nine
+      come.0.equipped in
+      range_births (with_newborn config scene turn) turns come.1
+      (each_with (IsInRange config updates) scene
+      (birth_link (next_id scene) scene.update turn.0 turn.1.cell)
+      (child_of_birth config turn.0 turn.1) child each)
+
+  range_what : (scene : Scene) (nth : ℕ) (what : WhatValue) → FitsWhat config what
+      → InRange scene.cells → InRange (after_what config scene nth what).cells
+  range_what scene nth (inject cell letters) fits each =
+      each_with (IsInRange config updates) scene
+      (founder_link (next_id scene) scene.update cell letters)
+      (founder_of config cell nth letters) (range_founder cell nth letters fits.1 fits.2) each
+  range_what scene nth (clear first last) fits each =
+      each_left (IsInRange config updates) scene (cells_from first last) each
+  range_what scene nth (rate name ppm) fits each = each
+
+  range_events : (scene : Scene) (events : List (ℕ × EventValue))
+      → AllByRecursion (FitsPlaced config) events → InRange scene.cells
+      → InRange (fold (after_event config) scene events).cells
+  unfolding after_event
+  range_events scene [] fits each = each
+  range_events scene (event ∷ events) fits each =
+      range_events (after_what config scene event.0 event.1.what) events fits.1
+      (range_what scene event.0 event.1.what fits.0 each)
+
+module _ (laws : LifeLaws) (keep : KeepLimits) (config : ConfigValues) (fit : IsConfig config)
+  where
+    -- a life of who stands there in range
+    life_leaves : (n update cell steps : ℕ) (x : Occupant) → IsInRange config n x.organism
+        → LeavesInRange (settings_at config update) (beginning x.organism)
+        (life (settings_at config update) (draw config.seed update cell Run)
+        (beginning x.organism) steps)
+    life_leaves n update cell steps x range =
+        let has : LivesWithNine x.organism.machine.limit (beginning x.organism) = record {
+          organism =
+              record { limit = refl; credited = range.credited; gestation = range.gestation };
+          newborns = tt;
+        } in
+        life-in-range keep (settings_at config update) (draw config.seed update cell Run)
+        (beginning x.organism) steps has
+
+    -- who lives on after a life
+    range_ended : (n update cell steps : ℕ) (x : Occupant) → steps ≤ 65536000
+        → IsSoundOrganism x.organism → IsInRange config n x.organism
+        → (life_of config update cell steps (Some x)).died ≡ false
+        → IsInRange config (suc n) (life (settings_at config update)
+        (draw config.seed update cell Run) (beginning x.organism) steps).0.organism
+    unfolding life_of settings_at
+    range_ended n update cell steps x few sound range alive =
+        let words = draw config.seed update cell Run in
+        let settings = settings_at config update in
+        let lived = laws.lives settings words x.organism steps (rules_are config fit)
+        (laws.words config.seed update cell Run) sound in
+        let left = life_leaves n update cell steps x range in
+        let genome = sym (ap length lived.genome) in
+        record {
+          least = subst (λ k. config.least_length ≤ k) genome range.least;
+          greatest = subst (λ k. k ≤ config.greatest_length) genome range.greatest;
+          age = omega (arith, lived.age, range.age, few);
+          young = λ death. subst (λ k. (life settings words (beginning x.organism)
+              steps).0.organism.age < config.age_limit * k) genome
+              (left.young alive death (range.young death));
+          limit = left.nine.organism.limit ∙ range.limit;
+          credited = left.nine.organism.credited;
+          gestation = left.nine.organism.gestation;
+          inputs = subst HasTopBytes (sym lived.inputs) range.inputs;
+        }
+
+    -- who is left by a life that was no death
+    range_left : (n update cell steps : ℕ) (slot : Option Occupant) (o : Occupant)
+        → steps ≤ 65536000
+        → ((x : Occupant) → slot ≡ Some x
+        → IsSoundOrganism x.organism × IsInRange config n x.organism)
+        → (life_of config update cell steps slot).occupant ≡ Some o
+        → (life_of config update cell steps slot).died ≡ false
+        → IsInRange config (suc n) o.organism
+    unfolding life_of
+    range_left n update cell steps None o few stood there alive = absurd cc
+    range_left n update cell steps (Some x) o few stood there alive =
+        let ended = life (settings_at config update) (draw config.seed update cell Run)
+        (beginning x.organism) steps in
+        let who : Occupant = record { id = x.id; organism = ended.0.organism } in
+        let is : who ≡ o = cc in
+        subst (λ (y : Occupant). IsInRange config (suc n) y.organism) is
+        (range_ended n update cell steps x few (stood x refl).0 (stood x refl).1 alive)
+
+    -- the newborns of a life
+    range_newborns : (n update cell steps : ℕ) (slot : Option Occupant)
+        → ((x : Occupant) → slot ≡ Some x → IsInRange config n x.organism)
+        → AllByRecursion BringsNine (life_of config update cell steps slot).newborns
+    unfolding life_of
+    range_newborns n update cell steps None stood = tt
+    range_newborns n update cell steps (Some x) stood =
+        (life_leaves n update cell steps x (stood x refl)).nine.newborns
+
+    module _ (n : ℕ) (start : People) (w : World) (is : IsRun config n start w)
+        (range : Each (IsInRange config n) w.cells) where
+      -- the scene as the lives have ended
+      abbrev lived : Scene
+      lived = after_lives (w.update + 1) w.everyone (lives_after config w)
+
+      steps_few : (cell : ℕ) → slice_at config w.cells cell ≤ 65536000
+      steps_few cell =
+          omega (
+            arith,
+            entry_few (slices_at config w.cells) cell,
+            few_steps laws config fit n start w is,
+          )
+
+      -- once the dead have left
+      range_buried : Each (IsInRange config (suc n))
+          (after_burials lived (lives_after config w)).cells
+      unfolding after_burials deaths_of lives_of
+      range_buried cell o h =
+          let run = life_at config (w.update + 1) w.cells in
+          let lives = lives_after config w in
+          let stood = stood_before lived (deaths_of lives) cell o h in
+          let there = life_there run (length w.cells) cell o stood.0 in
+          let long : length lives ≡ length w.cells =
+          length-map-range_with_len run 0 (length w.cells) in
+          let alive : (run cell).died ≡ false =
+          ap (λ (l : CellLife). l.died) (sym there.1)
+          ∙ fails_test (λ (at : ℕ). (slice_index_or lives at no_life).died) 0 (length lives) cell
+          stood.1 (omega arith) (omega (arith, there.0, long)) in
+          range_left n (w.update + 1) cell (slice_at config w.cells cell)
+          (slice_index_or w.cells cell None) o (steps_few cell)
+          (λ x e.
+          let here = got_some w.cells cell x e in (is.sound cell x here, range cell x here))
+          there.2 alive
+
+      births_nine : AllByRecursion (λ (d : Delivery). BringsNine d.newborn)
+          (births_of (lives_after config w))
+      unfolding births_of lives_of
+      births_nine =
+          let run = life_at config (w.update + 1) w.cells in
+          all_births BringsNine 0 (lives_after config w)
+          (all_lives (λ (l : CellLife). AllByRecursion BringsNine l.newborns) run (length w.cells)
+          (λ cell low. range_newborns n (w.update + 1) cell (slice_at config w.cells cell)
+          (slice_index_or w.cells cell None)
+          (λ x e. range cell x (got_some w.cells cell x e))))
+
+      equipped : (scene : Scene) (births : List Delivery)
+          → AllByRecursion IsEquipped (placings_of config scene births)
+      unfolding placings_of
+      equipped scene births = placements_equipped (torus_of config)
+          (map (λ (b : Delivery). b.cell) births) (ids_of scene.cells)
+          (season_at config scene.update (next_id scene))
+
+      -- the next world
+      range_next : Each (IsInRange config (suc n)) (next_world config w).cells
+      unfolding next_world next_scene scene_of_lives last_scene after_births after_events
+      range_next =
+          let lives = lives_after config w in
+          let births = births_of lives in
+          let buried = after_burials lived lives in
+          let placings = placings_of config buried births in
+          let born = after_births config buried births in
+          range_events config fit (suc n) born (events_at config born.update)
+          (events_fit config fit born.update)
+          (range_births config fit (suc n) buried (zip births placings)
+          (come_in_range config fit (suc n) births placings
+          (births_born config (slice_at config w.cells) w.cells lives
+          (lives_lawful laws config fit n start w is)) births_nine (equipped buried births))
+          range_buried)
+
+    -- the founder
+    range_first : Each (IsInRange config 0) (first_world config).cells
+    unfolding first_world
+    range_first cell o h =
+        subst (λ (x : Occupant). IsInRange config 0 x.organism) (only_founder config cell o h).1
+        (range_founder config fit 0 config.founder_cell 0 config.ancestor fit.long_enough
+        fit.short_enough)
+
+    -- each organism of a run
+    pub range_after : (n : ℕ) → Each (IsInRange config n) (world_after config n).cells
+    unfolding world_after
+    range_after zero = range_first
+    range_after (suc n) =
+        range_next n (kept_after config n) (world_after config n) (run_after laws config fit n)
+        (range_after n)
+
+module _ (laws : LifeLaws) (config : ConfigValues) (fit : IsConfig config) where
+  some_ids : (n : ℕ) → 1 ≤ length (world_after config n).everyone
+  unfolding world_after first_world next_world
+  some_ids zero = omega arith
+  some_ids (suc n) = omega (arith, some_ids n, (turnover_after laws config fit n).grown)
+
+  -- the ids of a run
+  pub ids_after : (n : ℕ) → HasFewIds config n (world_after config n)
+  ids_after n =
+      let w = world_after config n in
+      let is = run_after laws config fit n in
+      record {
+        update = is.update;
+        cells = is.world.sized;
+        some = some_ids n;
+        few = everyone_few laws config fit n;
+        given = λ cell o h.
+            omega (
+              arith,
+              id_below (map written w.everyone) w.cells cell o is.world.kept h,
+              length-map w.everyone written,
+            );
+        apart = is.world.apart;
+      }

@@ -1,0 +1,34 @@
+-- In which ranges the organisms and the ids of a run stay (docs/WORLD.md, "Saved worlds").
+use Rattle.std.specs.Prelude.{◌≡◌, ℕ, ◌+◌, ◌*◌, ◌<◌, ◌≤◌, true, Some, length, slice_get}
+use Rattle.logic_tasks.specs.Inputs.{HasTopBytes}
+use Rattle.organism.specs.OrganismState.{OrganismState}
+use Rattle.world_config.specs.Values.{ConfigValues}
+use Rattle.world_rules.specs.World.{Occupant, World}
+
+-- an organism after so many updates has a genome of an allowed length, an age below that of death,
+-- the memory limit of its world, sets of nine tasks, and inputs with the top bytes
+pub record IsInRange (config : ConfigValues) (updates : ℕ) (o : OrganismState) : Type 0 where
+  pub least : config.least_length ≤ length o.genome
+  pub greatest : length o.genome ≤ config.greatest_length
+  pub age : o.age ≤ 65536000 * updates
+  pub young : config.death ≡ true → o.age < config.age_limit * length o.genome
+  pub limit : o.machine.limit ≡ config.memory_limit
+  pub credited : length o.credited ≡ 9
+  pub gestation : length o.gestation ≡ 9
+  pub inputs : HasTopBytes o.inputs
+
+-- a world after so many updates has all its cells, and gave few ids; who stand in different cells
+-- have different ones
+pub record HasFewIds (config : ConfigValues) (updates : ℕ) (w : World) : Type 0 where
+  pub update : w.update ≡ updates
+  pub cells : length w.cells ≡ config.width * config.height
+  pub some : 1 ≤ length w.everyone
+  pub few : length w.everyone ≤ 1 + 65537000 * updates
+  pub given : (cell : ℕ) (o : Occupant)
+      → slice_get w.cells cell ≡ Some (Some o)
+      → o.id < length w.everyone
+  pub apart : (cell other : ℕ) (o x : Occupant)
+      → slice_get w.cells cell ≡ Some (Some o)
+      → slice_get w.cells other ≡ Some (Some x)
+      → o.id ≡ x.id
+      → cell ≡ other
