@@ -7,3 +7,5 @@ pub mod ToldLemmas
 pub mod AgainLemmas
 pub mod FormLemmas
 pub mod BackLemmas
+pub mod HeadLemmas
+pub mod RunLemmas

@@ -1,9 +1,11 @@
 // The parts of a saved world's text (docs/FORMATS.md, "Saved worlds").
-ghost use Rattle.std.specs.Prelude.{◌≡◌, ℕ, ◌+◌, ◌<◌, ◌++◌, List, [], None, Ok, Option, length, slice_index_or};
+ghost use Rattle.std.specs.Prelude.{◌≡◌, ℕ, ◌+◌, ◌<◌, ◌≤◌, ◌++◌, List, [], None, Ok, Option, length, slice_index_or};
 ghost use Rattle.lineage_log.specs.Slots.{taken};
+ghost use Rattle.world_config.specs.Shown.{values_of};
 ghost use Rattle.world_rules.specs.World.{Occupant, ids_of};
+ghost use Rattle.world_rules.specs.WorldRun.{world_after};
 ghost use Rattle.saved_lines.specs.SavedText.{count_text, head_text};
-ghost use Rattle.saved_worlds.specs.SavedState.{SavedState};
+ghost use Rattle.saved_worlds.specs.SavedState.{SavedState, state_of, state_of_world};
 ghost use Rattle.saved_worlds.specs.SavedGrammar.{saved_of};
 ghost use Rattle.saved_worlds.specs.SavedWorldText.{saved_text, slot_text};
 ghost use Rattle.checkpoint.specs.Parts.{first_cells_text};
@@ -11,6 +13,8 @@ ghost use Rattle.checkpoint.specs.Standing.{IsWritable};
 
 use saved_lines::laws::one_spelling;
 use virtual_cpu::laws::images_are_whole;
+use world_config::Config;
+use world_laws::laws::{organisms_are_sound, organisms_stay_in_range};
 
 /// The text of a saved world is that of its head, then of each cell in rising order, then of the
 /// number of organisms.
@@ -31,4 +35,24 @@ pub fn written_is_read_again()
 {
     one_spelling();
     images_are_whole();
+}
+
+/// The state of each world of a run can be written so that it is read again.
+pub fn runs_can_be_written(config: &Config, updates: u32)
+    requires { updates ≤ 1000000 }
+    ensures { let run = values_of config.now in
+        IsWritable (state_of_world run (world_after run updates)) }
+{
+    organisms_are_sound(config, updates);
+    organisms_stay_in_range(config, updates);
+}
+
+/// What a run leaves is read again as it is written.
+#[tactic(auto, unfolding(saved_worlds::specs::SavedState::state_of))]
+pub fn runs_are_read_again(config: &Config)
+    ensures { let left = state_of (values_of config.now) in
+        saved_of (saved_text left) ≡ Ok left }
+{
+    runs_can_be_written(config, config.updates);
+    written_is_read_again();
 }
