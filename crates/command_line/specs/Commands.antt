@@ -7,6 +7,7 @@ use Rattle.command_line.specs.declared.assay.Assay.{Assay}
 use Rattle.command_line.specs.declared.bench.Bench.{Bench}
 use Rattle.command_line.specs.declared.run.Run.{Run}
 use Rattle.command_line.specs.declared.lineage.Lineage.{Lineage}
+use Rattle.command_line.specs.declared.resume.Resume.{Resume}
 use Rattle.command_line.specs.declared.trace.Trace.{Trace}
 
 -- `trace steps [--org]`
@@ -36,6 +37,14 @@ lineage_form = positional_form
 -- `bench seed [--workers k]`
 abbrev pub bench_form : Form
 bench_form = positional_form
+
+-- `resume more [--workers k]`
+abbrev pub resume_form : Form
+resume_form = positional_form
+
+-- `save [--workers k]`
+abbrev pub save_form : Form
+save_form = record { options = workers_option ∷ []; flags = []; positionals = 0 }
 
 -- `assay count first [--workers k]`
 abbrev pub assay_form : Form
@@ -100,6 +109,14 @@ abbrev pub bench_of : Told → Option Bench
 bench_of = positional_of (λ seed workers. record { seed = seed; workers = workers })
     9223372036854775807
 
+-- `resume` of so many updates more, with the workers, that its texts spell
+abbrev pub resume_of : Told → Option Resume
+resume_of = positional_of (λ more workers. record { more = more; workers = workers }) 1000000
+
+-- the workers of `save` that its value spells
+abbrev pub save_of : Told → Option ℕ
+save_of told = workers_at 0 told
+
 -- `assay` of so many seeds, from this one on, and the workers, where there is a number of them
 abbrev pub assay_with : ℕ → ℕ → Option ℕ → Option Assay
 assay_with count first =
@@ -126,6 +143,14 @@ lineage_told words = option_and_then lineage_of (told_by lineage_form words)
 -- what the words after the name tell `bench`
 abbrev pub bench_told : List (List ℕ) → Option Bench
 bench_told words = option_and_then bench_of (told_by bench_form words)
+
+-- what the words after the name tell `resume`
+abbrev pub resume_told : List (List ℕ) → Option Resume
+resume_told words = option_and_then resume_of (told_by resume_form words)
+
+-- the workers that the words after the name tell `save`
+abbrev pub save_told : List (List ℕ) → Option ℕ
+save_told words = option_and_then save_of (told_by save_form words)
 
 -- what the words after the name tell `assay`
 abbrev pub assay_told : List (List ℕ) → Option Assay

@@ -9,7 +9,7 @@ use Rattle.clap.specs.Kinds.{Kinds}
 use Rattle.clap.specs.Faults.{fault_of}
 use Rattle.clap.specs.declared.builder.action.ArgAction.TheVariants.{SetTrue}
 use Rattle.command_line.specs.Form.{Form, Told, Valued}
-use Rattle.command_line.specs.Commands.{assay_form, bare_form, landscape_form, run_form, trace_form}
+use Rattle.command_line.specs.Commands.{assay_form, bare_form, landscape_form, run_form, save_form, trace_form}
 
 -- the rule of an option of a form
 abbrev pub option_rule : Valued → Rule
@@ -49,6 +49,10 @@ lineage_texts = codes "cell" ∷ []
 abbrev pub bench_texts : List (List ℕ)
 bench_texts = codes "seed" ∷ []
 
+-- the name of the positional of `resume`
+abbrev pub resume_texts : List (List ℕ)
+resume_texts = codes "more" ∷ []
+
 -- the names of the positionals of `assay`
 abbrev pub assay_texts : List (List ℕ)
 assay_texts = codes "count" ∷ codes "first" ∷ []
@@ -64,6 +68,10 @@ trace_app = app_by (codes "trace") trace_form trace_texts
 -- the command that reads the words of `run`
 abbrev pub run_app : App
 run_app = app_by (codes "run") run_form []
+
+-- the command that reads the words of `save`
+abbrev pub save_app : App
+save_app = app_by (codes "save") save_form []
 
 -- the command that reads the words of `assay`
 abbrev pub assay_app : App

@@ -5,8 +5,8 @@ ghost use Rattle.command_line.specs.Parsers.{parsed_by};
 ghost use Rattle.command_line.specs.Words.{told_by, undashed};
 
 use crate::{
-    LEAST_WORKERS, MOST_CELL, MOST_FIRST_SEED, MOST_LOOKS, MOST_SEED, MOST_SEEDS, MOST_STEPS,
-    MOST_TRIED_STEPS, MOST_WORKERS,
+    LEAST_WORKERS, MOST_CELL, MOST_FIRST_SEED, MOST_FURTHER_UPDATES, MOST_LOOKS, MOST_SEED,
+    MOST_SEEDS, MOST_STEPS, MOST_TRIED_STEPS, MOST_WORKERS,
 };
 
 /// For every form, the parser's result is the one that the form gives when the words are read from
@@ -34,6 +34,7 @@ pub fn limits()
     ensures most_steps { MOST_STEPS ≡ 1000000 }
     ensures most_tried_steps { MOST_TRIED_STEPS ≡ 100000 }
     ensures most_cell { MOST_CELL ≡ 65535 }
+    ensures most_further_updates { MOST_FURTHER_UPDATES ≡ 1000000 }
     ensures most_looks { MOST_LOOKS ≡ 1000000 }
     ensures most_seed { MOST_SEED ≡ 9223372036854775807 }
     ensures most_seeds { MOST_SEEDS ≡ 64 }

@@ -10,7 +10,9 @@ mod nothing;
 mod numbers;
 mod parser;
 mod refused;
+mod resume;
 mod run;
+mod save;
 mod trace;
 mod workers;
 
@@ -20,6 +22,8 @@ pub use landscape::{MOST_TRIED_STEPS, read_landscape};
 pub use lineage::{Lineage, MOST_CELL, read_lineage};
 pub use nothing::read_nothing;
 pub use refused::Refused;
+pub use resume::{MOST_FURTHER_UPDATES, Resume, read_resume};
 pub use run::{MOST_LOOKS, Run, read_run};
+pub use save::read_save;
 pub use trace::{MOST_STEPS, Trace, read_trace};
 pub use workers::{LEAST_WORKERS, MOST_WORKERS};
