@@ -8,12 +8,13 @@ use Rattle.clap.specs.Simple.{App, matches_of}
 use Rattle.clap.specs.Faults.{fault_of}
 use Rattle.command_line.specs.Form.{Form, IsSimple, Told}
 use Rattle.command_line.specs.Words.{begins_dashed, has_dashed, is_dashed, told_by}
-use Rattle.command_line.specs.Commands.{assay_form, assay_of, assay_with, bare_form, bench_form, bench_of, landscape_form, landscape_of, lineage_form, lineage_of, positional_form, positional_of, run_form, run_of, run_with, trace_form, trace_of}
-use Rattle.command_line.specs.Parsers.{app_by, assay_texts, bench_texts, landscape_texts, lineage_texts, told_in, trace_texts}
+use Rattle.command_line.specs.Commands.{assay_form, assay_of, assay_with, bare_form, bench_form, bench_of, landscape_form, landscape_of, lineage_form, lineage_of, positional_form, positional_of, resume_form, resume_of, run_form, run_of, run_with, save_form, save_of, trace_form, trace_of}
+use Rattle.command_line.specs.Parsers.{app_by, assay_texts, bench_texts, landscape_texts, lineage_texts, resume_texts, told_in, trace_texts}
 use Rattle.command_line.specs.Refusals.{IsRefusedBy, Refuses}
 use Rattle.command_line.specs.declared.assay.Assay.{Assay}
 use Rattle.command_line.specs.declared.bench.Bench.{Bench}
 use Rattle.command_line.specs.declared.lineage.Lineage.{Lineage}
+use Rattle.command_line.specs.declared.resume.Resume.{Resume}
 use Rattle.command_line.specs.declared.run.Run.{Run}
 use Rattle.command_line.specs.declared.trace.Trace.{Trace}
 use Rattle.command_line.specs.declared.refused.Refused.{Refused}
@@ -195,6 +196,30 @@ module _ (no_minus : (least greatest : ℕ) (text : Text)
     refuses = positional_refuses (λ seed workers. record { seed = seed; workers = workers })
         9223372036854775807;
   }
+
+  pub resume_reads : Reads Resume (codes "resume") resume_form resume_texts resume_of
+  resume_reads = record {
+    simple = record { names = refl; count = refl; few = omega arith };
+    refuses = positional_refuses (λ more workers. record { more = more; workers = workers })
+        1000000;
+  }
+
+  pub save_reads : Reads ℕ (codes "save") save_form [] save_of
+  save_reads = record {
+    simple = record { names = refl; count = refl; few = omega arith };
+    refuses = λ told is d. go told.positionals told.values told.flags is.positionals is.values d;
+  }
+    where
+      go : (ps : List Text) (vs : List (Option Text)) (fs : List Bool) → length ps ≡ 0
+          → length vs ≡ 1 → (list_any begins_dashed ps || list_any is_dashed vs) ≡ true
+          → save_of (record { positionals = ps; values = vs; flags = fs }) ≡ None
+      go [] (w ∷ []) fs n m d = elim (cases_Bool (is_dashed w)) [
+        | inl a ↦ dashed_text 1 64 w a
+        | inr a ↦ absurd (false≢true (rw a at d))
+      ]
+      go (p ∷ ps) vs fs n m d = absurd (omega arith)
+      go [] [] fs n m d = absurd (omega arith)
+      go [] (w ∷ v ∷ vs) fs n m d = absurd (omega arith)
 
   pub assay_reads : Reads Assay (codes "assay") assay_form assay_texts assay_of
   assay_reads = record {
