@@ -1,91 +1,37 @@
--- The forms of the commands are simple, and a text that begins with `-` is none of their numbers.
-use Rattle.std.proofs.Common.{◌≡◌, ◌∙◌, ◌<◌, ◌||◌, arith, refl, sym, subst, ap, inl, inr, Bool, true, ℕ, List, [], ◌∷◌, length, codes, drop, Option, Some, None, Result, MatchResult, option_map, option_and_then, ok_or}
+-- Each command reads what its form says: its names are distinct, and a text that begins with `-` is
+-- none of its numbers.
+use Rattle.std.proofs.Common.{◌≡◌, ◌<◌, ◌||◌, ◌++◌, arith, refl, ap, inl, inr, Bool, true, ℕ, List, [], ◌∷◌, length, codes, Option, Some, None, option_map, option_and_then}
 use Rattle.std.specs.List.{list_any}
 use Rattle.std.proofs.lemmas.Bool.{cases_Bool, eqb-true, false≢true}
 use Rattle.numerals.specs.Numeral.{number_of}
-use Rattle.clap.specs.Walk.{Row, Text}
-use Rattle.clap.specs.Simple.{App, matches_of}
-use Rattle.clap.specs.Faults.{fault_of}
-use Rattle.command_line.specs.Form.{Form, IsSimple, Told}
-use Rattle.command_line.specs.Words.{begins_dashed, has_dashed, is_dashed, told_by}
-use Rattle.command_line.specs.Commands.{assay_form, assay_of, assay_with, bare_form, bench_form, bench_of, landscape_form, landscape_of, lineage_form, lineage_of, positional_form, positional_of, resume_form, resume_of, run_form, run_of, run_with, save_form, save_of, trace_form, trace_of}
-use Rattle.command_line.specs.Parsers.{app_by, assay_texts, bench_texts, landscape_texts, lineage_texts, resume_texts, told_in, trace_texts}
-use Rattle.command_line.specs.Refusals.{IsRefusedBy, Refuses}
+use Rattle.clap.specs.Lexer.{usize_max}
+use Rattle.clap.specs.Walk.{Text}
+use Rattle.clap.specs.Simple.{is_simple}
+use Rattle.clap.specs.Faults.{is_simple_and_free}
+use Rattle.command_line.specs.Form.{Form, Told, are_distinct, option_names}
+use Rattle.command_line.specs.Words.{begins_dashed, has_dashed, is_dashed}
+use Rattle.command_line.specs.Commands.{assay_form, assay_of, assay_with, bare_form, bench_form, bench_of, landscape_form, landscape_of, lineage_form, lineage_of, nothing_of, positional_form, positional_of, resume_form, resume_of, run_form, run_of, run_with, save_form, save_of, trace_form, trace_of, workers_form}
+use Rattle.command_line.specs.Parsers.{app_by, assay_texts, bench_texts, landscape_texts, lineage_texts, resume_texts, trace_texts}
+use Rattle.command_line.specs.Reading.{IsOf, NoMinus, Reads}
 use Rattle.command_line.specs.declared.assay.Assay.{Assay}
 use Rattle.command_line.specs.declared.bench.Bench.{Bench}
 use Rattle.command_line.specs.declared.lineage.Lineage.{Lineage}
 use Rattle.command_line.specs.declared.resume.Resume.{Resume}
 use Rattle.command_line.specs.declared.run.Run.{Run}
 use Rattle.command_line.specs.declared.trace.Trace.{Trace}
-use Rattle.command_line.specs.declared.refused.Refused.{Refused}
-use Rattle.command_line.specs.declared.refused.Refused.TheVariants.{BadWords}
-use Rattle.command_line.proofs.DashedValues.{IsOf}
-use Rattle.command_line.proofs.FormLaw.{form_fits, form_stops}
-use Rattle.command_line.proofs.RefusalLemmas.{ends_told, refuses}
+use Rattle.command_line.proofs.TakenNumbers.{none_after}
 
--- a command of which the law holds, and what is taken of what it is told
-pub record Reads (T : Type 0) (name : Text) (form : Form) (texts : List Text)
-    (take : Told → Option T) : Type 0 where
-  pub simple : IsSimple form texts
-  pub refuses : (told : Told) → IsOf form told → has_dashed told ≡ true → take told ≡ None
-
-module _ {T : Type 0} {name : Text} {form : Form} {texts : List Text} {take : Told → Option T}
-    (reads : Reads T name form texts take) where
-  -- words that the parser refuses
-  pub stops : (words : List Text) (a : App) (r : Refused) → 0 < length words
-      → a ≡ app_by name form texts → IsRefusedBy (fault_of a words) r
-      → Refuses (option_and_then take (told_by form (drop 1 words))) r
-  stops words a r some is refused =
-      let here : IsRefusedBy (fault_of (app_by name form texts) words) r =
-      subst (λ (b : App). IsRefusedBy (fault_of b words) r) is refused in
-      refuses (option_and_then take (told_by form (drop 1 words)))
-      (fault_of (app_by name form texts) words) r here
-      (form_stops name form texts reads.simple T take reads.refuses words some)
-
-  pub fits : (words : List Text) (a : App) (rows : List Row) → 0 < length words
-      → a ≡ app_by name form texts → fault_of a words ≡ [] → rows ≡ matches_of a words
-      → option_and_then take (told_in form texts rows)
-      ≡ option_and_then take (told_by form (drop 1 words))
-  fits words a rows some is free same =
-      ap (λ found. option_and_then take (told_in form texts found))
-      (same ∙ ap (λ b. matches_of b words) is)
-      ∙ form_fits name form texts reads.simple T take reads.refuses words some
-      (ap (λ b. fault_of b words) (sym is) ∙ free)
-
-  -- words that the parser takes
-  pub ends : (words : List Text) (a : App) (rows : List Row) (taken : Option T)
-      (result : Result T Refused) → 0 < length words → a ≡ app_by name form texts
-      → fault_of a words ≡ [] → rows ≡ matches_of a words
-      → taken ≡ option_and_then take (told_in form texts rows) → result ≡ ok_or taken BadWords
-      → MatchResult result (λ t. option_and_then take (told_by form (drop 1 words)) ≡ Some t)
-      (Refuses (option_and_then take (told_by form (drop 1 words))))
-  ends words a rows taken result some is free same from gives =
-      ends_told (option_and_then take (told_by form (drop 1 words))) taken result
-      (from ∙ fits words a rows some is free same) gives
-
--- ---- the commands
-
-pub bare_reads : Reads (Unit {0}) (codes "bare") bare_form [] (λ told. Some tt)
-bare_reads = record {
-  simple = record { names = refl; count = refl; few = omega arith };
-  refuses = λ told is d. go told.positionals told.values is.positionals is.values d;
-}
+nothing_refuses : NoMinus → (told : Told) → IsOf bare_form told → has_dashed told ≡ true
+    → nothing_of told ≡ None
+nothing_refuses no_minus told is d = go told.positionals told.values is.positionals is.values d
   where
     go : (ps : List Text) (vs : List (Option Text)) → length ps ≡ 0 → length vs ≡ 0
-        → (list_any begins_dashed ps || list_any is_dashed vs) ≡ true
-        → (let none : Option (Unit {0}) = None in Some tt ≡ none)
+        → (list_any begins_dashed ps || list_any is_dashed vs) ≡ true → nothing_of told ≡ None
     go [] [] n m d = absurd (false≢true d)
     go (p ∷ ps) vs n m d = absurd (omega arith)
     go [] (v ∷ vs) n m d = absurd (omega arith)
 
-none_after : {X Y : Type 0} (f : X → Option Y) (o : Option X) → ((x : X) → f x ≡ None)
-    → option_and_then f o ≡ None
-none_after f None none = refl
-none_after f (Some x) none = none x
-
--- where no text that begins with `-` is a number
-module _ (no_minus : (least greatest : ℕ) (text : Text)
-    → number_of least greatest (45 ∷ text) ≡ None) where
+module _ (no_minus : NoMinus) where
   dashed_number : (least greatest : ℕ) (text : Text) → begins_dashed text ≡ true
       → number_of least greatest text ≡ None
   dashed_number least greatest [] d = absurd (false≢true d)
@@ -97,45 +43,56 @@ module _ (no_minus : (least greatest : ℕ) (text : Text)
   dashed_text least greatest None d = absurd (false≢true d)
   dashed_text least greatest (Some text) d = dashed_number least greatest text d
 
-  pub trace_reads : Reads Trace (codes "trace") trace_form trace_texts trace_of
-  trace_reads = record {
-    simple = record { names = refl; count = refl; few = omega arith };
-    refuses = λ told is d. go told.positionals told.values told.flags is.positionals is.values d;
-  }
+  -- one positional alone
+  text_refuses : {T : Type 0} (take : Told → Option T) (told : Told)
+      → ((p : Text) → begins_dashed p ≡ true
+      → take (record { positionals = p ∷ []; values = []; flags = told.flags }) ≡ None)
+      → length told.positionals ≡ 1 → length told.values ≡ 0 → has_dashed told ≡ true
+      → take told ≡ None
+  text_refuses take told none n m d = go told.positionals told.values n m d
     where
-      go : (ps : List Text) (vs : List (Option Text)) (fs : List Bool) → length ps ≡ 1
-          → length vs ≡ 0 → (list_any begins_dashed ps || list_any is_dashed vs) ≡ true
-          → trace_of (record { positionals = ps; values = vs; flags = fs }) ≡ None
-      go (p ∷ []) [] fs n m d = elim (cases_Bool (begins_dashed p)) [
-        | inl a ↦ rw (dashed_number 0 1000000 p a) refl
+      go : (ps : List Text) (vs : List (Option Text)) → length ps ≡ 1 → length vs ≡ 0
+          → (list_any begins_dashed ps || list_any is_dashed vs) ≡ true
+          → take (record { positionals = ps; values = vs; flags = told.flags }) ≡ None
+      go (p ∷ []) [] n m d = elim (cases_Bool (begins_dashed p)) [
+        | inl a ↦ none p a
         | inr a ↦ absurd (false≢true (rw a at d))
       ]
-      go [] vs fs n m d = absurd (omega arith)
-      go (p ∷ q ∷ ps) vs fs n m d = absurd (omega arith)
-      go (p ∷ []) (v ∷ vs) fs n m d = absurd (omega arith)
+      go [] vs n m d = absurd (omega arith)
+      go (p ∷ q ∷ ps) vs n m d = absurd (omega arith)
+      go (p ∷ []) (v ∷ vs) n m d = absurd (omega arith)
 
-  pub landscape_reads : Reads ℕ (codes "landscape") landscape_form landscape_texts landscape_of
-  landscape_reads = record {
-    simple = record { names = refl; count = refl; few = omega arith };
-    refuses = λ told is d. go told.positionals told.values told.flags is.positionals is.values d;
-  }
+  trace_refuses : (told : Told) → IsOf trace_form told → has_dashed told ≡ true
+      → trace_of told ≡ None
+  trace_refuses told is d =
+      text_refuses trace_of told (λ p a. rw (dashed_number 0 1000000 p a) refl) is.positionals
+      is.values d
+
+  landscape_refuses : (told : Told) → IsOf landscape_form told → has_dashed told ≡ true
+      → landscape_of told ≡ None
+  landscape_refuses told is d =
+      text_refuses landscape_of told (dashed_number 1 100000) is.positionals is.values d
+
+  -- the workers alone
+  save_refuses : (told : Told) → IsOf workers_form told → has_dashed told ≡ true
+      → save_of told ≡ None
+  save_refuses told is d = go told.positionals told.values is.positionals is.values d
     where
-      go : (ps : List Text) (vs : List (Option Text)) (fs : List Bool) → length ps ≡ 1
-          → length vs ≡ 0 → (list_any begins_dashed ps || list_any is_dashed vs) ≡ true
-          → landscape_of (record { positionals = ps; values = vs; flags = fs }) ≡ None
-      go (p ∷ []) [] fs n m d = elim (cases_Bool (begins_dashed p)) [
-        | inl a ↦ dashed_number 1 100000 p a
+      go : (ps : List Text) (vs : List (Option Text)) → length ps ≡ 0 → length vs ≡ 1
+          → (list_any begins_dashed ps || list_any is_dashed vs) ≡ true
+          → save_of (record { positionals = ps; values = vs; flags = told.flags }) ≡ None
+      go [] (w ∷ []) n m d = elim (cases_Bool (is_dashed w)) [
+        | inl a ↦ dashed_text 1 64 w a
         | inr a ↦ absurd (false≢true (rw a at d))
       ]
-      go [] vs fs n m d = absurd (omega arith)
-      go (p ∷ q ∷ ps) vs fs n m d = absurd (omega arith)
-      go (p ∷ []) (v ∷ vs) fs n m d = absurd (omega arith)
+      go (p ∷ ps) vs n m d = absurd (omega arith)
+      go [] [] n m d = absurd (omega arith)
+      go [] (w ∷ v ∷ vs) n m d = absurd (omega arith)
 
-  pub run_reads : Reads Run (codes "run") run_form [] run_of
-  run_reads = record {
-    simple = record { names = refl; count = refl; few = omega arith };
-    refuses = λ told is d. go told.positionals told.values told.flags is.positionals is.values d;
-  }
+  -- the workers and the looks
+  run_refuses : (told : Told) → IsOf run_form told → has_dashed told ≡ true → run_of told ≡ None
+  run_refuses told is d =
+      go told.positionals told.values told.flags is.positionals is.values d
     where
       no_looks : (watch : Option Text) (workers : ℕ) → is_dashed watch ≡ true
           → run_with watch workers ≡ None
@@ -184,48 +141,10 @@ module _ (no_minus : (least greatest : ℕ) (text : Text)
       go (p ∷ []) [] fs n m d = absurd (omega arith)
       go (p ∷ []) (w ∷ v ∷ vs) fs n m d = absurd (omega arith)
 
-  pub lineage_reads : Reads Lineage (codes "lineage") lineage_form lineage_texts lineage_of
-  lineage_reads = record {
-    simple = record { names = refl; count = refl; few = omega arith };
-    refuses = positional_refuses (λ cell workers. record { cell = cell; workers = workers }) 65535;
-  }
-
-  pub bench_reads : Reads Bench (codes "bench") bench_form bench_texts bench_of
-  bench_reads = record {
-    simple = record { names = refl; count = refl; few = omega arith };
-    refuses = positional_refuses (λ seed workers. record { seed = seed; workers = workers })
-        9223372036854775807;
-  }
-
-  pub resume_reads : Reads Resume (codes "resume") resume_form resume_texts resume_of
-  resume_reads = record {
-    simple = record { names = refl; count = refl; few = omega arith };
-    refuses = positional_refuses (λ more workers. record { more = more; workers = workers })
-        1000000;
-  }
-
-  pub save_reads : Reads ℕ (codes "save") save_form [] save_of
-  save_reads = record {
-    simple = record { names = refl; count = refl; few = omega arith };
-    refuses = λ told is d. go told.positionals told.values told.flags is.positionals is.values d;
-  }
-    where
-      go : (ps : List Text) (vs : List (Option Text)) (fs : List Bool) → length ps ≡ 0
-          → length vs ≡ 1 → (list_any begins_dashed ps || list_any is_dashed vs) ≡ true
-          → save_of (record { positionals = ps; values = vs; flags = fs }) ≡ None
-      go [] (w ∷ []) fs n m d = elim (cases_Bool (is_dashed w)) [
-        | inl a ↦ dashed_text 1 64 w a
-        | inr a ↦ absurd (false≢true (rw a at d))
-      ]
-      go (p ∷ ps) vs fs n m d = absurd (omega arith)
-      go [] [] fs n m d = absurd (omega arith)
-      go [] (w ∷ v ∷ vs) fs n m d = absurd (omega arith)
-
-  pub assay_reads : Reads Assay (codes "assay") assay_form assay_texts assay_of
-  assay_reads = record {
-    simple = record { names = refl; count = refl; few = omega arith };
-    refuses = λ told is d. go told.positionals told.values told.flags is.positionals is.values d;
-  }
+  assay_refuses : (told : Told) → IsOf assay_form told → has_dashed told ≡ true
+      → assay_of told ≡ None
+  assay_refuses told is d =
+      go told.positionals told.values told.flags is.positionals is.values d
     where
       go : (ps : List Text) (vs : List (Option Text)) (fs : List Bool) → length ps ≡ 2
           → length vs ≡ 1 → (list_any begins_dashed ps || list_any is_dashed vs) ≡ true
@@ -255,3 +174,51 @@ module _ (no_minus : (least greatest : ℕ) (text : Text)
       go (p ∷ q ∷ r ∷ ps) vs fs n m d = absurd (omega arith)
       go (p ∷ q ∷ []) [] fs n m d = absurd (omega arith)
       go (p ∷ q ∷ []) (w ∷ v ∷ vs) fs n m d = absurd (omega arith)
+
+-- ---- the commands
+
+reads_by : {T : Type 0} {name : Text} {form : Form} {texts : List Text} {take : Told → Option T}
+    → are_distinct (option_names form ++ (form.flags ++ texts)) ≡ true
+    → length texts ≡ form.positionals → length texts < usize_max
+    → is_simple (app_by name form texts) ≡ true
+    → is_simple_and_free (app_by name form texts) ≡ true
+    → (NoMinus → (told : Told) → IsOf form told → has_dashed told ≡ true → take told ≡ None)
+    → Reads T name form texts take
+reads_by distinct count few simple free refuses = record {
+  distinct = record { names = distinct; count = count; few = few };
+  simple = simple;
+  free = free;
+  refuses = refuses;
+}
+
+pub nothing_reads : Reads (Unit {0}) (codes "bare") bare_form [] nothing_of
+nothing_reads = reads_by refl refl (omega arith) refl refl nothing_refuses
+
+pub trace_reads : Reads Trace (codes "trace") trace_form trace_texts trace_of
+trace_reads = reads_by refl refl (omega arith) refl refl trace_refuses
+
+pub landscape_reads : Reads ℕ (codes "landscape") landscape_form landscape_texts landscape_of
+landscape_reads = reads_by refl refl (omega arith) refl refl landscape_refuses
+
+pub save_reads : Reads ℕ (codes "save") save_form [] save_of
+save_reads = reads_by refl refl (omega arith) refl refl save_refuses
+
+pub run_reads : Reads Run (codes "run") run_form [] run_of
+run_reads = reads_by refl refl (omega arith) refl refl run_refuses
+
+pub lineage_reads : Reads Lineage (codes "lineage") lineage_form lineage_texts lineage_of
+lineage_reads = reads_by refl refl (omega arith) refl refl (λ no_minus.
+    positional_refuses no_minus (λ cell workers. record { cell = cell; workers = workers }) 65535)
+
+pub bench_reads : Reads Bench (codes "bench") bench_form bench_texts bench_of
+bench_reads = reads_by refl refl (omega arith) refl refl (λ no_minus.
+    positional_refuses no_minus (λ seed workers. record { seed = seed; workers = workers })
+    9223372036854775807)
+
+pub resume_reads : Reads Resume (codes "resume") resume_form resume_texts resume_of
+resume_reads = reads_by refl refl (omega arith) refl refl (λ no_minus.
+    positional_refuses no_minus (λ more workers. record { more = more; workers = workers })
+    1000000)
+
+pub assay_reads : Reads Assay (codes "assay") assay_form assay_texts assay_of
+assay_reads = reads_by refl refl (omega arith) refl refl assay_refuses

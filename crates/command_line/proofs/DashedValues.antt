@@ -13,6 +13,7 @@ use Rattle.clap.specs.Kinds.{Kinds}
 use Rattle.command_line.specs.Form.{Form, IsSimple, Told, Valued, has_name, option_names}
 use Rattle.command_line.specs.Words.{begins_dashed, has_dashed, is_dashed}
 use Rattle.command_line.specs.Parsers.{all_of, told_in}
+use Rattle.command_line.specs.Reading.{IsOf}
 use Rattle.command_line.proofs.Names.{bytes_same, same_text}
 use Rattle.command_line.proofs.Uses.{Use, rows_by, use_of, value_in}
 use Rattle.command_line.proofs.UseLists.{seen, value_kept, value_new}
@@ -21,11 +22,6 @@ use Rattle.command_line.proofs.Defaults.{default_in}
 use Rattle.command_line.proofs.FormEnd.{ended, told_at_end, told_with}
 use Rattle.command_line.proofs.RuleReading.{Stand, as_flag, as_named, as_option, as_positional, as_seen, as_value, next_seen, read_seen, unless_fault, with_use}
 use Rattle.command_line.proofs.WordViews.{View, view, ending, long, short, torn, dash, clean}
-
--- so many positionals and values as the form has
-pub record IsOf (form : Form) (told : Told) : Type 0 where
-  pub positionals : length told.positionals ≡ form.positionals
-  pub values : length told.values ≡ length form.options
 
 all_length : (values : List (Option Text)) (texts : List Text) → all_of values ≡ Some texts
     → length texts ≡ length values

@@ -8,12 +8,12 @@ use Rattle.clap.specs.Faults.{built_fault, fault_of}
 use Rattle.clap.proofs.FaultLemmas.{leaf_fault}
 use Rattle.command_line.specs.Form.{Form, IsSimple, Told}
 use Rattle.command_line.specs.Words.{has_dashed, told_by, undashed}
+use Rattle.command_line.specs.Reading.{IsOf}
 use Rattle.command_line.specs.Parsers.{app_by, parsed_by, told_in, unless_fault as told_unless_fault}
 use Rattle.command_line.proofs.FormRules.{looks, rules_by}
 use Rattle.command_line.proofs.RuleReading.{shape_by, unless_fault}
 use Rattle.command_line.proofs.RuleWords.{told_by_rules}
 use Rattle.command_line.proofs.BuiltForms.{built_is}
-use Rattle.command_line.proofs.DashedValues.{IsOf}
 use Rattle.command_line.proofs.FormWords.{form_agrees}
 
 abbrev parsed_of : App → List Text → Option (List Row)

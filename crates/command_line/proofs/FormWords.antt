@@ -12,6 +12,7 @@ use Rattle.clap.specs.Walk.{Row, Rule, Text, arg_by_index, arg_by_long}
 use Rattle.command_line.specs.Form.{Form, IsSimple, Told, Valued, has_name, option_names}
 use Rattle.command_line.specs.Words.{Given, Word, as_word, begins_dashed, dashed, ends, has_dashed, is_given, is_set, kind_of_word, names, next_where, option_or_flag, plain, read_from, told_by, value_or_wait, with_flag, with_option, with_positional, with_value}
 use Rattle.command_line.specs.Parsers.{told_in}
+use Rattle.command_line.specs.Reading.{IsOf}
 use Rattle.command_line.proofs.Names.{place_by_map, place_of, placed_has, position_is}
 use Rattle.command_line.proofs.Uses.{Use, flag_filled, use_of, value_in, value_rule}
 use Rattle.command_line.proofs.UseLists.{seen, seen_at}
@@ -20,7 +21,7 @@ use Rattle.command_line.proofs.FormReading.{Fits, filled, filled_next, fits_flag
 use Rattle.command_line.proofs.FormEnd.{end_agrees}
 use Rattle.command_line.proofs.RuleReading.{Stand, as_flag, as_named, as_option, as_positional, as_seen, as_value, read_seen}
 use Rattle.command_line.proofs.WordViews.{View, view, ending, long, short, torn, dash, clean}
-use Rattle.command_line.proofs.DashedValues.{IsOf, or_true, spoilt_new, spoilt_reads}
+use Rattle.command_line.proofs.DashedValues.{or_true, spoilt_new, spoilt_reads}
 
 past_end : (ids : List Text) (k : ℕ) → slice_get ids k ≡ None → length ids ≤ k
 past_end [] k is = omega arith

@@ -13,6 +13,6 @@ pub mod FormEnd
 pub mod DashedValues
 pub mod FormWords
 pub mod FormLaw
-pub mod RefusalLemmas
+pub mod ParserEnds
+pub mod TakenNumbers
 pub mod CommandForms
-pub mod PositionalTexts

@@ -18,6 +18,10 @@ trace_form = record { options = []; flags = codes "org" ∷ []; positionals = 1 
 abbrev pub workers_option : Valued
 workers_option = record { name = codes "workers"; default = Some (codes "1") }
 
+-- `--workers k` alone
+abbrev pub workers_form : Form
+workers_form = record { options = workers_option ∷ []; flags = []; positionals = 0 }
+
 -- `run [--workers k] [--watch looks]`
 abbrev pub run_form : Form
 run_form = record {
@@ -44,7 +48,7 @@ resume_form = positional_form
 
 -- `save [--workers k]`
 abbrev pub save_form : Form
-save_form = record { options = workers_option ∷ []; flags = []; positionals = 0 }
+save_form = workers_form
 
 -- `assay count first [--workers k]`
 abbrev pub assay_form : Form
@@ -117,6 +121,10 @@ resume_of = positional_of (λ more workers. record { more = more; workers = work
 abbrev pub save_of : Told → Option ℕ
 save_of told = workers_at 0 told
 
+-- a command that takes no words, whatever is told
+abbrev pub nothing_of : Told → Option (Unit {0})
+nothing_of told = Some tt
+
 -- `assay` of so many seeds, from this one on, and the workers, where there is a number of them
 abbrev pub assay_with : ℕ → ℕ → Option ℕ → Option Assay
 assay_with count first =
@@ -162,4 +170,4 @@ landscape_told words = option_and_then landscape_of (told_by landscape_form word
 
 -- what the words after the name tell a command that takes none
 abbrev pub nothing_told : List (List ℕ) → Option (Unit {0})
-nothing_told words = option_map (λ told. tt) (told_by bare_form words)
+nothing_told words = option_and_then nothing_of (told_by bare_form words)

@@ -3,4 +3,5 @@ pub mod Words
 pub mod Commands
 pub mod Refusals
 pub mod Parsers
+pub mod Reading
 pub use Rattle.clap.specs.Lexer.{long_of}

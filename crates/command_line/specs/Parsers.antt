@@ -9,7 +9,6 @@ use Rattle.clap.specs.Kinds.{Kinds}
 use Rattle.clap.specs.Faults.{fault_of}
 use Rattle.clap.specs.declared.builder.action.ArgAction.TheVariants.{SetTrue}
 use Rattle.command_line.specs.Form.{Form, Told, Valued}
-use Rattle.command_line.specs.Commands.{assay_form, bare_form, landscape_form, run_form, save_form, trace_form}
 
 -- the rule of an option of a form
 abbrev pub option_rule : Valued → Rule
@@ -60,30 +59,6 @@ assay_texts = codes "count" ∷ codes "first" ∷ []
 -- the name of the positional of `landscape`
 abbrev pub landscape_texts : List (List ℕ)
 landscape_texts = codes "steps" ∷ []
-
--- the command that reads the words of `trace`
-abbrev pub trace_app : App
-trace_app = app_by (codes "trace") trace_form trace_texts
-
--- the command that reads the words of `run`
-abbrev pub run_app : App
-run_app = app_by (codes "run") run_form []
-
--- the command that reads the words of `save`
-abbrev pub save_app : App
-save_app = app_by (codes "save") save_form []
-
--- the command that reads the words of `assay`
-abbrev pub assay_app : App
-assay_app = app_by (codes "assay") assay_form assay_texts
-
--- the command that reads the words of `landscape`
-abbrev pub landscape_app : App
-landscape_app = app_by (codes "landscape") landscape_form landscape_texts
-
--- the command that reads the words of a name that stands alone
-abbrev pub bare_app : App
-bare_app = app_by (codes "bare") bare_form []
 
 -- a flag's text says that it stands
 abbrev pub is_given_true : Option (List ℕ) → Bool

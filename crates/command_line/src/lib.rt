@@ -9,6 +9,7 @@ mod lineage;
 mod nothing;
 mod numbers;
 mod parser;
+mod reading;
 mod refused;
 mod resume;
 mod run;

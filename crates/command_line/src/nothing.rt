@@ -1,29 +1,40 @@
 // The words of a command that takes none.
-ghost use Rattle.std.specs.Prelude.{◌≡◌, ◌<◌, length, Some, MatchResult, drop, map, string_bytes};
-ghost use Rattle.clap.specs.Words.{app_of};
-ghost use Rattle.command_line.specs.Commands.{nothing_told};
-ghost use Rattle.command_line.specs.Parsers.{bare_app};
-ghost use Rattle.command_line.specs.Refusals.{Refuses};
+ghost use Rattle.std.specs.Prelude.{◌<◌, [], codes, length};
+ghost use Rattle.command_line.specs.Commands.{bare_form, nothing_of, nothing_told};
+ghost use Rattle.command_line.specs.Reading.{IsTold};
 
-use crate::parser::matches;
+use crate::reading::{Arguments, read};
 use crate::refused::Refused;
-use clap::Command;
-use std::alloc::Global;
+use clap::{ArgMatches, Command};
+use std::alloc::{AllocError, Global};
 
-fn command<'a>(alloc: Global) -> Command<'a>
-    ensures { app_of result ≡ bare_app }
-{
-    Command::new(alloc, "bare").disable_help_flag(true)
+struct Nothing;
+
+impl Arguments for Nothing {
+    type Taken = ();
+
+    ghost name = { codes "bare" };
+
+    ghost form = { bare_form };
+
+    ghost texts = { [] };
+
+    ghost take = { nothing_of };
+
+    fn command<'a>(alloc: Global) -> Result<Command<'a>, AllocError> {
+        Ok(Command::new(alloc, "bare").disable_help_flag(true))
+    }
+
+    fn taken(_matches: &ArgMatches<'_>) -> Option<()> {
+        Some(())
+    }
 }
 
 /// Reads the words of a command that has no arguments. The first word is the name, and only `--`
 /// may follow it.
 pub fn read_nothing(alloc: Global, words: &[String]) -> Result<(), Refused>
     requires { 0 < length words.now }
-    ensures { MatchResult result
-        (λ nothing. nothing_told (drop 1 (map string_bytes words.now)) ≡ Some nothing)
-        (Refuses (nothing_told (drop 1 (map string_bytes words.now)))) }
+    ensures { IsTold nothing_told words.now result }
 {
-    matches(command(alloc), words)?;
-    Ok(())
+    read::<Nothing>(alloc, words)
 }

@@ -1,17 +1,15 @@
 // The words of `resume`.
-ghost use Rattle.std.specs.Prelude.{◌≡◌, ◌<◌, length, Some, MatchResult, drop, map, string_bytes, option_and_then};
-ghost use Rattle.clap.specs.Words.{found_of, rows_of};
+ghost use Rattle.std.specs.Prelude.{◌<◌, codes, length};
 ghost use Rattle.command_line.specs.Commands.{resume_form, resume_of, resume_told};
-ghost use Rattle.command_line.specs.Parsers.{resume_texts, told_in};
-ghost use Rattle.command_line.specs.Refusals.{Refuses};
+ghost use Rattle.command_line.specs.Parsers.{resume_texts};
+ghost use Rattle.command_line.specs.Reading.{IsTold};
 
 use crate::numbers::number_in;
-use crate::parser::matches;
+use crate::reading::{Arguments, read};
 use crate::refused::Refused;
 use crate::workers::{positional_command, workers_in};
-use clap::ArgMatches;
-use numerals::laws::one_spelling;
-use std::alloc::Global;
+use clap::{ArgMatches, Command};
+use std::alloc::{AllocError, Global};
 
 /// The greatest number of further updates that `resume` accepts.
 pub const MOST_FURTHER_UPDATES: u32 = 1_000_000;
@@ -23,27 +21,32 @@ pub struct Resume {
     pub workers: u32,
 }
 
-fn in_matches(matches: &ArgMatches<'_>) -> Option<Resume>
-    ensures { result ≡ option_and_then resume_of
-        (told_in resume_form resume_texts (rows_of (found_of matches.now))) }
-{
-    let more = number_in(0, MOST_FURTHER_UPDATES, matches.get_str("more")?)?;
-    let workers = workers_in(matches)?;
-    Some(Resume { more, workers })
+impl Arguments for Resume {
+    type Taken = Resume;
+
+    ghost name = { codes "resume" };
+
+    ghost form = { resume_form };
+
+    ghost texts = { resume_texts };
+
+    ghost take = { resume_of };
+
+    fn command<'a>(alloc: Global) -> Result<Command<'a>, AllocError> {
+        positional_command(alloc, "resume", "more")
+    }
+
+    fn taken(matches: &ArgMatches<'_>) -> Option<Resume> {
+        let more = number_in(matches, "more", 0, MOST_FURTHER_UPDATES)?;
+        let workers = workers_in(matches)?;
+        Some(Resume { more, workers })
+    }
 }
 
 /// Reads the words of `resume`. The first word is the name of the command.
 pub fn read_resume(alloc: Global, words: &[String]) -> Result<Resume, Refused>
     requires { 0 < length words.now }
-    ensures { MatchResult result
-        (λ resume. resume_told (drop 1 (map string_bytes words.now)) ≡ Some resume)
-        (Refuses (resume_told (drop 1 (map string_bytes words.now)))) }
+    ensures { IsTold resume_told words.now result }
 {
-    one_spelling();
-    let command = match positional_command(alloc, "resume", "more") {
-        Ok(command) => command,
-        Err(_) => return Err(Refused::Memory),
-    };
-    let matches = matches(command, words)?;
-    in_matches(&matches).ok_or(Refused::BadWords)
+    read::<Resume>(alloc, words)
 }

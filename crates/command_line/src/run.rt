@@ -1,16 +1,13 @@
 // The words of `run`.
-ghost use Rattle.std.specs.Prelude.{◌≡◌, ◌<◌, [], length, Some, MatchResult, IfOk, drop, map, string_bytes, option_and_then, option_map};
-ghost use Rattle.clap.specs.Words.{app_of, found_of, rows_of};
-ghost use Rattle.command_line.specs.Commands.{looks_of, run_form, run_of, run_told, run_with};
-ghost use Rattle.command_line.specs.Parsers.{run_app, told_in};
-ghost use Rattle.command_line.specs.Refusals.{Refuses};
+ghost use Rattle.std.specs.Prelude.{◌≡◌, ◌<◌, [], codes, length, option_map};
+ghost use Rattle.command_line.specs.Commands.{run_form, run_of, run_told, run_with};
+ghost use Rattle.command_line.specs.Reading.{IsTold};
 
-use crate::numbers::number_in;
-use crate::parser::matches;
+use crate::numbers::{spelled, text_in};
+use crate::reading::{Arguments, read};
 use crate::refused::Refused;
-use crate::workers::workers_in;
+use crate::workers::{workers_command, workers_in};
 use clap::{Arg, ArgMatches, Command};
-use numerals::laws::one_spelling;
 use std::alloc::{AllocError, Global};
 
 /// The greatest number of looks that `run --watch` accepts.
@@ -23,25 +20,12 @@ pub struct Run {
     pub watch: Option<u32>,
 }
 
-fn command<'a>(alloc: Global) -> Result<Command<'a>, AllocError>
-    ensures { IfOk result (λ c. app_of c ≡ run_app) }
-{
-    let workers = Arg::new(alloc, "workers")
-        .long("workers")
-        .default_value("1");
-    let watch = Arg::new(alloc, "watch").long("watch");
-    Command::new(alloc, "run")
-        .disable_help_flag(true)
-        .arg(workers)?
-        .arg(watch)
-}
-
 fn with_watch(workers: u32, watch: Option<&str>) -> Option<Run>
     ensures { result ≡ run_with (option_map (λ t. t.now) watch.entry) workers }
 {
     match watch {
         Some(text) => {
-            let looks = number_in(0, MOST_LOOKS, text)?;
+            let looks = spelled(0, MOST_LOOKS, text)?;
             Some(Run {
                 workers,
                 watch: Some(looks),
@@ -54,26 +38,32 @@ fn with_watch(workers: u32, watch: Option<&str>) -> Option<Run>
     }
 }
 
-fn in_matches(matches: &ArgMatches<'_>) -> Option<Run>
-    ensures { result ≡ option_and_then run_of
-        (told_in run_form [] (rows_of (found_of matches.now))) }
-{
-    let workers = workers_in(matches)?;
-    with_watch(workers, matches.get_str("watch"))
+impl Arguments for Run {
+    type Taken = Run;
+
+    ghost name = { codes "run" };
+
+    ghost form = { run_form };
+
+    ghost texts = { [] };
+
+    ghost take = { run_of };
+
+    fn command<'a>(alloc: Global) -> Result<Command<'a>, AllocError> {
+        let watch = Arg::new(alloc, "watch").long("watch");
+        workers_command(alloc, "run")?.arg(watch)
+    }
+
+    fn taken(matches: &ArgMatches<'_>) -> Option<Run> {
+        let workers = workers_in(matches)?;
+        with_watch(workers, text_in(matches, "watch"))
+    }
 }
 
 /// Reads the words of `run`. The first word is the name of the command.
 pub fn read_run(alloc: Global, words: &[String]) -> Result<Run, Refused>
     requires { 0 < length words.now }
-    ensures { MatchResult result
-        (λ run. run_told (drop 1 (map string_bytes words.now)) ≡ Some run)
-        (Refuses (run_told (drop 1 (map string_bytes words.now)))) }
+    ensures { IsTold run_told words.now result }
 {
-    one_spelling();
-    let command = match command(alloc) {
-        Ok(command) => command,
-        Err(_) => return Err(Refused::Memory),
-    };
-    let matches = matches(command, words)?;
-    in_matches(&matches).ok_or(Refused::BadWords)
+    read::<Run>(alloc, words)
 }

@@ -2,7 +2,7 @@
 ghost use Rattle.std.specs.Prelude.{◌≡◌, ◌∷◌, [], IfOk, codes, option_and_then};
 ghost use Rattle.clap.specs.Words.{app_of, found_of, rows_of, first_of};
 ghost use Rattle.numerals.specs.Numeral.{number_of};
-ghost use Rattle.command_line.specs.Commands.{positional_form};
+ghost use Rattle.command_line.specs.Commands.{positional_form, workers_form};
 ghost use Rattle.command_line.specs.Parsers.{app_by};
 
 use crate::numbers::number_in;
@@ -19,7 +19,19 @@ pub(crate) fn workers_in(matches: &ArgMatches<'_>) -> Option<u32>
     ensures { result ≡ option_and_then (number_of 1 64)
         (first_of (codes "workers") (rows_of (found_of matches.now))) }
 {
-    number_in(LEAST_WORKERS, MOST_WORKERS, matches.get_str("workers")?)
+    number_in(matches, "workers", LEAST_WORKERS, MOST_WORKERS)
+}
+
+/// The command of this name with `--workers`.
+pub(crate) fn workers_command<'a>(alloc: Global, name: &'a str) -> Result<Command<'a>, AllocError>
+    ensures { IfOk result (λ c. app_of c ≡ app_by name.entry.now workers_form []) }
+{
+    let workers = Arg::new(alloc, "workers")
+        .long("workers")
+        .default_value("1");
+    Command::new(alloc, name)
+        .disable_help_flag(true)
+        .arg(workers)
 }
 
 /// The command of this name with one positional, of this name, and `--workers`.
@@ -31,12 +43,6 @@ pub(crate) fn positional_command<'a>(
     ensures { IfOk result (λ c. app_of c
         ≡ app_by name.entry.now positional_form (positional.entry.now ∷ [])) }
 {
-    let workers = Arg::new(alloc, "workers")
-        .long("workers")
-        .default_value("1");
     let required = Arg::new(alloc, positional).required(true);
-    Command::new(alloc, name)
-        .disable_help_flag(true)
-        .arg(workers)?
-        .arg(required)
+    workers_command(alloc, name)?.arg(required)
 }

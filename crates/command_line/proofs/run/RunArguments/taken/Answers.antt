@@ -1,11 +1,10 @@
 use Rattle.std.proofs.Common.{◌≡◌, ◌∙◌, ℕ, List, [], ap, codes, Option, Some, option_and_then}
-use Rattle.clap.proofs.WalkLemmas.{first_value-rows}
 use Rattle.clap.specs.Words.{found_of, rows_of, first_of}
 use Rattle.clap.specs.Walk.{Row, Text}
 use Rattle.command_line.specs.Commands.{run_form, run_of, run_with}
 use Rattle.numerals.specs.Numeral.{number_of}
 use Rattle.command_line.specs.Parsers.{told_in}
-use Rattle.command_line.proofs.run.in_matches.Goals as goal
+use Rattle.command_line.proofs.run.RunArguments.taken.Goals as goal
 
 taken : (rows : List Row) (workers : ℕ) (watch : Option Text)
     → watch ≡ first_of (codes "watch") rows
@@ -16,6 +15,5 @@ taken rows workers watch read number =
 
 pub returns : goal.returns
 returns c =
-    let f = found_of c.args.matches.now in
-    c.with_watch.ensures ∙ taken (rows_of f) c.in_ok-workers.workers _
-    (c.get_str.ensures ∙ first_value-rows f (codes "watch")) c.in_ok-workers.ensures
+    c.with_watch.ensures ∙ taken (rows_of (found_of c.args.matches.now)) c.in_ok-workers.workers _
+    c.text_in.ensures c.in_ok-workers.ensures
