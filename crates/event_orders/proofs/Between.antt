@@ -20,7 +20,7 @@ use Rattle.world_rules.specs.WorldRun.{world_after}
 use Rattle.event_orders.specs.declared.schedule.ScheduleEvent.{ScheduleEvent}
 use Rattle.event_orders.specs.declared.schedule.ScheduleEvent.TheVariants.{Run, Intern, Gather, Publish, Look, Hear}
 use Rattle.event_orders.specs.State.{State, genome_entry, opening, life_in, newborn_genomes, result_of, results_of, injections_at}
-use Rattle.event_orders.specs.Schedule.{MayIntern, MayGather, MayPublish, IsLawful, with_value, with_update, after, state_after, IsSchedule}
+use Rattle.event_orders.specs.Schedule.{MayIntern, MayGather, MayPublish, IsLawful, with_seen, with_value, with_update, after, state_after, IsSchedule}
 use Rattle.event_orders.specs.Orders.{is_gather, ShowsEachUpdate, LooksNeverFall}
 use Rattle.event_orders.proofs.Members.{Contains-flat_map, Contains-flat_map_cases, Contains-from_fn, Contains-from_fn_cases, get_last}
 use Rattle.event_orders.proofs.Everyone.{genomes_ever, genomes_next, births_are}
@@ -353,6 +353,17 @@ module _ (config : ConfigValues) where
   abbrev counted : ℕ → ScheduleEvent → ℕ
   counted n e = n + cond (is_gather e) 1 0
 
+  -- what an observer has seen is no part of it
+  look_kept : (n : ℕ) (s : State) (observer number : ℕ) → HoldsAt config n s
+      → HoldsAt config (n + 0) (with_seen s observer number)
+  look_kept n s observer number h =
+      rw add-zero (record {
+        world = h.world;
+        results = h.results;
+        bank = h.bank;
+        pictures = h.pictures;
+      })
+
   -- each lawful event keeps what holds
   kept : (n : ℕ) (s : State) (e : ScheduleEvent) → IsLawful config s e → HoldsAt config n s
       → HoldsAt config (counted n e) (after config s e)
@@ -382,22 +393,8 @@ module _ (config : ConfigValues) where
         pictures =
             publish_shown s.pictures s.world.update (next_number s may h.pictures) h.pictures;
       })
-  kept n s (Look observer number) may h =
-      rw add-zero (record {
-        world = h.world;
-        results = h.results;
-        bank = h.bank;
-        pictures =
-            h.pictures;
-      })
-  kept n s (Hear observer number) may h =
-      rw add-zero (record {
-        world = h.world;
-        results = h.results;
-        bank = h.bank;
-        pictures =
-            h.pictures;
-      })
+  kept n s (Look observer number) may h = look_kept n s observer number h
+  kept n s (Hear observer number) may h = look_kept n s observer number h
 
 -- the events up to and with the one at a place
 take_with : (events : List ScheduleEvent) (n : ℕ) (e : ScheduleEvent) → slice_get events n ≡ Some e
