@@ -15,7 +15,7 @@ use Rattle.world_tree.specs.WorldTrees.{IsTreeOf}
 use Rattle.world_tree.proofs.NumberLemmas.{older_of, without_from, without_to}
 use Rattle.world_tree.proofs.EnterLemmas.{IsUpdate, KeepingLaws}
 
-module _ (laws : KeepingLaws) (w : World) (scene : Scene) (is : IsUpdate w scene) where
+module _ (laws : KeepingLaws) {w : World} {scene : Scene} (is : IsUpdate w scene) where
   -- nobody died twice
   died_once : (place other id : ℕ) → place < other → slice_get scene.gone place ≡ Some id
       → slice_get scene.gone other ≡ Some id → ⊥
@@ -27,7 +27,7 @@ module _ (laws : KeepingLaws) (w : World) (scene : Scene) (is : IsUpdate w scene
       true≢false (sym (eq-eqb (get_or scene.gone place id) (get_or scene.gone other id)
       (one ∙ sym two)) ∙ apart)
 
-  module _ (count id : ℕ) (tree : TreeValue) (buried : HasBuried w scene count tree)
+  module _ {count id : ℕ} {tree : TreeValue} (buried : HasBuried w scene count tree)
       (there : slice_get scene.gone count ≡ Some id) where
     -- the next one lives still
     pub can_die : Contains tree.living id
@@ -62,9 +62,9 @@ module _ (laws : KeepingLaws) (w : World) (scene : Scene) (is : IsUpdate w scene
     }
 
   -- all are buried
-  pub buried_all : (tree : TreeValue) → HasBuried w scene (length scene.gone) tree
+  pub buried_all : {tree : TreeValue} → HasBuried w scene (length scene.gone) tree
       → IsTreeOf (world_of scene) tree
-  buried_all tree buried = record {
+  buried_all buried = record {
     links = buried.links;
     living = λ id lives.
         let old = buried.living id lives in

@@ -1,5 +1,5 @@
 -- Those that come in an update enter the tree.
-use Rattle.std.proofs.Common.{◌≡◌, inl, inr, ⊎_elim, ◌∙◌, refl, sym, ap, subst, ℕ, zero, suc, ◌+◌, ◌<◌, ◌≤◌, List, [], ◌∷◌, ◌++◌, length, take, drop, get_or, Some, arith}
+use Rattle.std.proofs.Common.{◌≡◌, ◌↔◌, inl, inr, ⊎_elim, ◌∙◌, refl, sym, ap, subst, ℕ, zero, suc, ◌+◌, ◌<◌, ◌≤◌, List, [], ◌∷◌, ◌++◌, length, take, drop, get_or, Some, arith}
 use Rattle.std.specs.Prelude.{All, Contains, is_some, slice_get}
 use Rattle.std.proofs.lemmas.Bool.{cases_lt}
 use Rattle.std.proofs.lemmas.List.{take_all}
@@ -19,20 +19,25 @@ use Rattle.world_tree.specs.Growing.{HasBuried, HasEntered}
 use Rattle.world_tree.specs.WorldTrees.{IsTreeOf, scene_after}
 use Rattle.world_tree.proofs.NumberLemmas.{contains_from, contains_last, contains_push, get_taken, link_at, numbered_front, older_of, standing_low, take_first, take_next}
 
--- what is kept goes on
-pub record KeepingLaws : Type 0 where
-  pub more : (everyone : List Link) (living : List ℕ) (link : Link) → AreOlder everyone
+-- what is kept goes on, as the law of that name says it
+abbrev pub KeepingLaws : Type 0
+KeepingLaws = record {
+  more : (everyone : List Link) (living : List ℕ) (link : Link) → AreOlder everyone
       → All (λ (other : Link). other.id < link.id) everyone → All (λ id. id < link.id) living
       → ((above : ℕ) → link.parent ≡ Some above → Contains living above)
       → kept_of (everyone ++ link ∷ []) (living ++ link.id ∷ []) ≡ kept_of everyone living
-      ++ link ∷ []
-  pub fewer : (everyone : List Link) (living left : List ℕ) → AreOlder everyone
+      ++ link ∷ [];
+  fewer : (everyone : List Link) (living left : List ℕ) → AreOlder everyone
       → ((id : ℕ) → Contains left id → Contains living id)
-      → kept_of (kept_of everyone living) left ≡ kept_of everyone left
-  pub links : (everyone : List Link) (living : List ℕ) (id : ℕ) → AreOlder everyone
-      → Contains living id → link_of (kept_of everyone living) id ≡ link_of everyone id
-  pub lines : (everyone : List Link) (living : List ℕ) (id : ℕ) → AreOlder everyone
-      → Contains living id → line_of (kept_of everyone living) id ≡ line_of everyone id
+      → kept_of (kept_of everyone living) left ≡ kept_of everyone left;
+  same : (everyone : List Link) (living others : List ℕ)
+      → ((id : ℕ) → Contains living id ↔ Contains others id)
+      → kept_of everyone living ≡ kept_of everyone others;
+  links : (everyone : List Link) (living : List ℕ) (id : ℕ) → AreOlder everyone
+      → Contains living id → link_of (kept_of everyone living) id ≡ link_of everyone id;
+  lines : (everyone : List Link) (living : List ℕ) (id : ℕ) → AreOlder everyone
+      → Contains living id → line_of (kept_of everyone living) id ≡ line_of everyone id;
+}
 
 -- an update of a world
 pub record IsUpdate (w : World) (scene : Scene) : Type 0 where
@@ -47,7 +52,8 @@ unfolding kept_of
 kept_all P everyone living all =
     All-filter (λ (link : Link). is_kept everyone living link.id) P everyone all
 
-module _ (laws : KeepingLaws) (w : World) (scene : Scene) (is : IsUpdate w scene) where
+module _ (laws : KeepingLaws) {w : World} {scene : Scene} (is : IsUpdate w scene) where
+  -- the first id of those that come
   abbrev first : ℕ
   first = length w.everyone
 
@@ -72,8 +78,9 @@ module _ (laws : KeepingLaws) (w : World) (scene : Scene) (is : IsUpdate w scene
       none : first + 0 ≡ first
       none = omega arith
 
-  module _ (count : ℕ) (tree : TreeValue) (link : Link) (entered : HasEntered w scene count tree)
+  module _ {count : ℕ} {tree : TreeValue} {link : Link} (entered : HasEntered w scene count tree)
       (there : slice_get scene.everyone (first + count) ≡ Some link) where
+    -- those before it
     abbrev before : List Link
     before = take (first + count) scene.everyone
 
@@ -178,9 +185,9 @@ module _ (laws : KeepingLaws) (w : World) (scene : Scene) (is : IsUpdate w scene
         lift id (inr came) = inr (came.0, omega (arith, came.1))
 
   -- all have entered
-  pub entered_all : (tree : TreeValue) (count : ℕ) → first + count ≡ length scene.everyone
+  pub entered_all : {tree : TreeValue} {count : ℕ} → first + count ≡ length scene.everyone
       → HasEntered w scene count tree → HasBuried w scene 0 tree
-  entered_all tree count all entered = record {
+  entered_all {tree = tree} {count = count} all entered = record {
     links = entered.links ∙ ap (λ (links : List Link). kept_of links tree.living)
         (take_all (first + count) scene.everyone (omega (arith, all)));
     living = λ id lives. (

@@ -6,7 +6,6 @@ use Rattle.lineage_log.specs.Trees.{TreeValue}
 use Rattle.world_rules.specs.World.{World}
 use Rattle.world_rules.specs.Descent.{IsNumberedWorld, line_of}
 use Rattle.world_tree.specs.WorldTrees.{IsTreeOf}
-use Rattle.world_tree.proofs.EnterLemmas.{KeepingLaws}
 use Rattle.world_tree.proofs.SeenLemmas.{LineLaws, if_ok, path_is}
 use Rattle.world_tree.proofs.world_tree.WorldTree.lineage.Goals as goal
 
@@ -16,13 +15,6 @@ path-requires c = c.nodes-nodes.ensures.living c.args.id
 
 pub returns : goal.returns
 returns c =
-    let laws : KeepingLaws =
-    record {
-      more = c.keeping_goes_on.ensures.more;
-      fewer = c.keeping_goes_on.ensures.fewer;
-      links = c.keeping_goes_on.ensures.links;
-      lines = c.keeping_goes_on.ensures.lines;
-    } in
     let lines : LineLaws = record {
       trees = c.lines_come_from_parents.ensures;
       all = c.lines_come_from_parents-2.ensures;
@@ -33,5 +25,5 @@ returns c =
     → path ≡ line_of w.everyone c.args.id)
     (λ path is w numbered of. is
     ∙ ap (λ (t : TreeValue). tree.line_of t.links c.args.id) c.self.view_is
-    ∙ path_is laws lines w c.args.self.now c.args.id numbered of c.requires)
+    ∙ path_is c.keeping_goes_on.ensures lines w c.args.self.now c.args.id numbered of c.requires)
     c.path.ensures
