@@ -1,11 +1,11 @@
 -- Jobs that part the cells, and what comes of them as one.
-use Rattle.std.proofs.Common.{◌≡◌, ◌∙◌, refl, sym, ap, subst, ℕ, suc, ◌+◌, ◌<◌, ◌≤◌, ◌^◌, List, [], ◌∷◌, ◌++◌, append-nil, append_assoc, length, map, Option, arith, inl, inr}
+use Rattle.std.proofs.Common.{◌≡◌, ◌∙◌, refl, sym, ap, subst, ℕ, suc, ◌+◌, ◌<◌, ◌≤◌, ◌^◌, List, [], ◌∷◌, ◌++◌, append_assoc, length, map, Option, arith, inl, inr}
 use Rattle.std.specs.Prelude.{◌↔◌}
 use Rattle.std.specs.List.{All, Contains, cons_option, filter_map, flat_map, sum_by}
 use Rattle.std.specs.List.Sorted.{IsPermutation}
 use Rattle.std.proofs.lemmas.List.{length-append, map-append}
-use Rattle.std.proofs.lemmas.List.Elements.{All-append, All-cons, All-head, All-nil, All-same, All-tail, All-weaker, Contains-append_cases, Contains-append_left, Contains-append_right, filter_map-append}
-use Rattle.std.proofs.lemmas.List.Sorted.{IsPermutation-append_left, IsPermutation-refl, IsPermutation-sym, IsPermutation-trans}
+use Rattle.std.proofs.lemmas.List.Elements.{All-cons, All-head, All-nil, All-tail, All-weaker, Contains-append_cases, Contains-append_left, Contains-append_right, filter_map-append}
+use Rattle.std.proofs.lemmas.List.Sorted.{IsPermutation-refl, IsPermutation-sym}
 use Rattle.std.proofs.lemmas.List.Sums.{sum_by-cons}
 use mathlib.Core.List.{IsPrefix}
 use Rattle.cell_shards.specs.CellLives.{CellLife, IsYoung, RoundNumbers, births_from, deaths_from, left_in, lives_of, part_from}
@@ -19,29 +19,31 @@ use Rattle.genotype_bank.specs.declared.view.Entry.{Entry}
 use Rattle.instruction_set.specs.declared.letter.Letter.{Letter}
 use Rattle.organism.specs.OrganismState.{OrganismState}
 use Rattle.world_core.specs.Genotypes.{HasNumber, TakesIn}
-use Rattle.world_core.proofs.StandingLemmas.{prefix-stays}
 use Rattle.world_core.specs.Sharding.{IsJoined, LieSideBySide, PartCells, ShareSeat, seat_from}
 
--- what the crate of shards says of parts that lie side by side
-pub record PartsLaws : Type 0 where
-  pub lives : (round : RoundNumbers) (first : ℕ) (cells others : List (Option OrganismState))
+-- what the crate of shards says of parts that lie side by side, in its own words
+abbrev pub PartsLaws : Type 0
+PartsLaws = record {
+  lives : (round : RoundNumbers) (first : ℕ) (cells others : List (Option OrganismState))
       (slices more : List ℕ) → length slices ≡ length cells
       → lives_of round (part_from first (cells ++ others) (slices ++ more))
       ≡ lives_of round (part_from first cells slices)
-      ++ lives_of round (part_from (first + length cells) others more)
-  pub births : (first : ℕ) (lives more : List CellLife)
+      ++ lives_of round (part_from (first + length cells) others more);
+  births : (first : ℕ) (lives more : List CellLife)
       → births_from first (lives ++ more) ≡ births_from first lives
-      ++ births_from (first + length lives) more
-  pub deaths : (first : ℕ) (lives more : List CellLife)
+      ++ births_from (first + length lives) more;
+  deaths : (first : ℕ) (lives more : List CellLife)
       → deaths_from first (lives ++ more) ≡ deaths_from first lives
-      ++ deaths_from (first + length lives) more
-  pub count : (round : RoundNumbers) (first : ℕ) (cells : List (Option OrganismState))
-      (slices : List ℕ) → length (lives_of round (part_from first cells slices)) ≡ length cells
+      ++ deaths_from (first + length lives) more;
+  count : (round : RoundNumbers) (first : ℕ) (cells : List (Option OrganismState))
+      (slices : List ℕ) → length (lives_of round (part_from first cells slices)) ≡ length cells;
+}
 
--- the cells and the steps of some jobs
+-- the cells of some jobs
 abbrev pub cells_in : List Job → List (Option OrganismState)
 cells_in jobs = flat_map (λ job. job.cells) jobs
 
+-- the steps of their cells
 abbrev pub slices_in : List Job → List ℕ
 slices_in jobs = flat_map (λ job. job.slices) jobs
 
@@ -123,6 +125,7 @@ module _ (laws : PartsLaws) (round : RoundNumbers) where
   abbrev pub lives_in : List Job → List CellLife
   lives_in jobs = flat_map (λ job. lives_of round (part_of job)) jobs
 
+  -- they are the lives of all cells
   jobs-live : (first : ℕ) (jobs : List Job) → LieSideBySide first jobs
       → lives_of round (part_from first (cells_in jobs) (slices_in jobs)) ≡ lives_in jobs
   unfolding lives_of
@@ -132,6 +135,7 @@ module _ (laws : PartsLaws) (round : RoundNumbers) where
       ∙ (λ i. lives_of round (part_from (sym beside.0 i) job.cells job.slices)
       ++ jobs-live (first + length job.cells) jobs beside.2 i)
 
+  -- what the shards leave in the cells is what those lives leave
   cells-joined : (jobs : List Job) (all : List Finished) → AllPairwise round jobs all
       → flat_map (λ one. one.cells) all ≡ map left_in (lives_in jobs)
   cells-joined [] [] are = refl
@@ -141,6 +145,7 @@ module _ (laws : PartsLaws) (round : RoundNumbers) where
       (λ i. are.0.cells i ++ cells-joined jobs all are.1 i)
       ∙ sym (map-append left_in (lives_of round (part_of job)) (lives_in jobs))
 
+  -- so are the newborns
   births-joined : (first : ℕ) (jobs : List Job) (all : List Finished) → LieSideBySide first jobs
       → AllPairwise round jobs all
       → map birth_of (flat_map (λ one. one.births) all) ≡ births_from first (lives_in jobs)
@@ -157,6 +162,7 @@ module _ (laws : PartsLaws) (round : RoundNumbers) where
       ∙ ap (λ n. births_from n (lives_in jobs)) many) i)
       ∙ sym (laws.births first (lives_of round (part_of job)) (lives_in jobs))
 
+  -- and the dead
   dead-joined : (first : ℕ) (jobs : List Job) (all : List Finished) → LieSideBySide first jobs
       → AllPairwise round jobs all
       → flat_map (λ one. one.dead) all ≡ deaths_from first (lives_in jobs)
@@ -286,7 +292,7 @@ ends-as laws round seat cells slices (job ∷ jobs) (first ∷ others) whole par
       numbers = is.numbers;
     }
 
--- the seats and the numbers of finished shards
+-- the seats of finished shards
 pub seats-finished : (round : RoundNumbers) (seat : SeatValue) (jobs : List Job)
     (all : List Finished) → All (λ (job : Job). job.seat.bank ≡ seat.bank) jobs
     → AllPairwise round jobs all → All (λ (one : Finished). one.seat.bank ≡ seat.bank) all
@@ -299,6 +305,7 @@ seats-finished round seat (job ∷ jobs) (one ∷ all) banks are =
     (seats-finished round seat jobs all
     (All-tail (λ (job : Job). job.seat.bank ≡ seat.bank) job jobs banks) are.1)
 
+-- the numbers of their newborns
 pub numbers-finished : (round : RoundNumbers) (jobs : List Job) (all : List Finished)
     → AllPairwise round jobs all
     → All (λ (one : Finished). All (IsNumbered one.seat.seen) one.births) all
@@ -369,84 +376,4 @@ takes-in laws round seat cells slices whole owns all ends = record {
       history);
   numbers = All-weaker (IsNumbered whole.seat.seen) (HasNumber (genotypes_of whole.seat.seen))
       (λ d number. number.place) whole.births ends.numbers;
-}
-
--- a number stays in a longer history
-number-stays : ((early history : List Entry) → IsPrefix early history
-    → IsPrefix (genotypes_of early) (genotypes_of history))
-    → (early history : List Entry) (d : Delivered) → IsPrefix early history → IsNumbered early d
-    → IsNumbered history d
-number-stays stay early history d longer number = record {
-  place = prefix-stays (genotypes_of early) (genotypes_of history) d.handle.number (genome_in d)
-      (stay early history longer) number.place;
-  small = number.small;
-}
-
--- two shards as one
-pub record AreTwo (front back whole : Finished) : Type 0 where
-  pub cells : whole.cells ≡ front.cells ++ back.cells
-  pub births : whole.births ≡ front.births ++ back.births
-  pub dead : whole.dead ≡ front.dead ++ back.dead
-  pub bank : whole.seat.bank ≡ front.seat.bank
-  pub share : whole.seat.share ≡ front.seat.share + back.seat.share
-  pub front_seen : IsPrefix front.seat.seen whole.seat.seen
-  pub back_seen : IsPrefix back.seat.seen whole.seat.seen
-  pub own : IsPermutation (own_calls_of front.seat ++ own_calls_of back.seat)
-      (own_calls_of whole.seat)
-
--- the newborns of both have their numbers
-pub two-numbered : ((early history : List Entry) → IsPrefix early history
-    → IsPrefix (genotypes_of early) (genotypes_of history)) → (front back whole : Finished)
-    → AreTwo front back whole → All (IsNumbered front.seat.seen) front.births
-    → All (IsNumbered back.seat.seen) back.births → All (IsNumbered whole.seat.seen) whole.births
-two-numbered stay front back whole two first second =
-    All-same (IsNumbered whole.seat.seen) whole.births (front.births ++ back.births) two.births
-    (All-append (IsNumbered whole.seat.seen) front.births back.births
-    (All-weaker (IsNumbered front.seat.seen) (IsNumbered whole.seat.seen)
-    (λ d. number-stays stay front.seat.seen whole.seat.seen d two.front_seen) front.births
-    first)
-    (All-weaker (IsNumbered back.seat.seen) (IsNumbered whole.seat.seen)
-    (λ d. number-stays stay back.seat.seen whole.seat.seen d two.back_seen) back.births second))
-
--- a shard alone
-pub joined-alone : (whole : Finished) → All (IsNumbered whole.seat.seen) whole.births
-    → IsJoined whole [] whole
-joined-alone whole numbers = record {
-  cells = sym (append-nil whole.cells);
-  births = sym (append-nil whole.births);
-  dead = sym (append-nil whole.dead);
-  bank = refl;
-  share = omega arith;
-  seen = ([], append-nil whole.seat.seen);
-  numbers = numbers;
-  own = subst (λ calls. IsPermutation calls (own_calls_of whole.seat))
-      (sym (append-nil (own_calls_of whole.seat))) (IsPermutation-refl (own_calls_of whole.seat));
-}
-
--- what joins others behind two joins the second and the others behind the first
-pub joined-more : (front back two end : Finished) (others : List Finished) → AreTwo front back two
-    → IsJoined two others end → IsJoined front (back ∷ others) end
-joined-more front back two end others are joined = record {
-  cells = joined.cells ∙ ap (λ cells. cells ++ flat_map (λ one. one.cells) others) are.cells
-      ∙ append_assoc front.cells back.cells (flat_map (λ one. one.cells) others);
-  births = joined.births ∙ ap (λ births. births ++ flat_map (λ one. one.births) others) are.births
-      ∙ append_assoc front.births back.births (flat_map (λ one. one.births) others);
-  dead = joined.dead ∙ ap (λ dead. dead ++ flat_map (λ one. one.dead) others) are.dead
-      ∙ append_assoc front.dead back.dead (flat_map (λ one. one.dead) others);
-  bank = joined.bank ∙ are.bank;
-  share = omega (
-    arith,
-    joined.share,
-    are.share,
-    sum_by-cons (λ (one : Finished). one.seat.share) back others,
-  );
-  seen = IsPrefix-trans front.seat.seen two.seat.seen end.seat.seen are.front_seen joined.seen;
-  numbers = joined.numbers;
-  own = subst (λ calls. IsPermutation calls (own_calls_of end.seat))
-      (append_assoc (own_calls_of front.seat) (own_calls_of back.seat) (calls_in others))
-      (IsPermutation-trans ((own_calls_of front.seat ++ own_calls_of back.seat) ++ calls_in others)
-      (own_calls_of two.seat ++ calls_in others) (own_calls_of end.seat)
-      (IsPermutation-append_left (calls_in others)
-      (own_calls_of front.seat ++ own_calls_of back.seat) (own_calls_of two.seat) are.own)
-      joined.own);
 }

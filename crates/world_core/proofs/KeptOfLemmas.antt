@@ -10,7 +10,8 @@ use Rattle.world_rules.specs.World.{Occupant}
 use mathlib.Core.List.{IsPrefix}
 use Rattle.genotype_bank.specs.BankHistory.{with_genome}
 use Rattle.world_core.specs.Population.{IsKeptOf, AreCountedIn, AreDifferent, AreSummedIn, genome_of, genomes_of}
-use Rattle.world_core.proofs.StandingLemmas.{OneList, AreCountedIn-more, AreCountedIn-none, AreCountedIn-put, AreCountedIn-removed, some-counted, with_genome-prefix}
+use Rattle.world_core.proofs.ChangeLemmas.{AreCountedIn-put, AreCountedIn-removed}
+use Rattle.world_core.proofs.StandingLemmas.{OneList, AreCountedIn-more, AreCountedIn-none, some-counted, with_genome-prefix}
 use Rattle.world_core.proofs.SumLemmas.{AreSummedIn-none, AreSummedIn-put, AreSummedIn-removed, credited-counted, merit-counted, merit-room, tasks-room}
 
 -- where nobody stands no genome does

@@ -7,6 +7,7 @@ mod ShardLemmas
 mod BurialLemmas
 mod BoundLemmas
 mod JoinLemmas
+mod TwoShardLemmas
 mod CutLemmas
 mod BirthLemmas
 mod GrowLemmas
@@ -17,6 +18,7 @@ mod UpdateLemmas
 mod WorldLemmas
 mod ResumeLemmas
 mod StandingLemmas
+mod ChangeLemmas
 mod KeptOfLemmas
 mod StatLemmas
 mod SumLemmas

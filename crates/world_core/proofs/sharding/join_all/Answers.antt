@@ -5,7 +5,7 @@ use Rattle.std.proofs.lemmas.List.Elements.{All-head, All-same, All-tail}
 use Rattle.cell_shards.specs.Finishing.{IsNumbered}
 use Rattle.cell_shards.specs.declared.finished.Finished.{Finished}
 use Rattle.world_core.specs.Sharding.{IsJoined}
-use Rattle.world_core.proofs.JoinLemmas.{AreTwo, joined-alone, joined-more, two-numbered}
+use Rattle.world_core.proofs.TwoShardLemmas.{AreTwo, joined-alone, joined-more, two-numbered}
 use Rattle.world_core.proofs.sharding.join_all.Goals as goal
 
 pub loop-next-init : goal.loop-next-init

@@ -9,7 +9,35 @@ use Rattle.instruction_set.specs.declared.letter.Letter.{Letter}
 use Rattle.world_core.specs.Genotypes.{TakesIn}
 use Rattle.world_core.proofs.GenotypeLemmas.{genotypes-different, len-taken, next_len}
 use Rattle.world_core.proofs.JoinLemmas.{EndsAs, each-finished, ends-as, jobs-can-run, numbers-finished, seats-finished, seats-shared, takes-in}
+use Rattle.world_core.proofs.sharding.live_in_shards.Given as given
+use Rattle.world_core.proofs.sharding.live_in_shards.Goals.{After-owns_all-2, In_ok-cells}
 use Rattle.world_core.proofs.sharding.live_in_shards.Goals as goal
+
+-- the shards as one
+ends : (g : given.Over) (c : In_ok-cells g)
+    → EndsAs (round_numbers c.args.round.now) c.genotypes.inside.seat c.args.cells.items
+    c.args.slices.items c.in_ok-cells.field-0
+ends g c =
+    ends-as c.parts_live_as_one.ensures (round_numbers c.args.round.now) c.genotypes.inside.seat
+    c.args.cells.items c.args.slices.items c.in_ok-jobs.jobs.items c.in_ok-shards.shards.items
+    c.in_ok-cells.field-0 c.in_ok-jobs.ensures.cells c.in_ok-jobs.ensures.seats
+    (omega (arith, c.in_ok-jobs.ensures.few, c.genotypes.invariant.1)) c.in_ok-shards.ensures
+    c.in_ok-cells.ensures
+
+-- the bank has taken in their newborns
+takes : (g : given.Over) (c : After-owns_all-2 g)
+    → EndsAs (round_numbers c.args.round.now) c.genotypes.inside.seat c.args.cells.items
+    c.args.slices.items c.in_ok-cells.field-0
+    → TakesIn (genotypes_of c.genotypes.inside.seat.seen)
+    (genotypes_of c.in_ok-cells.field-0.seat.seen) c.in_ok-cells.field-0.births
+takes g c ends =
+    takes-in (record {
+      stay = c.calls_number_genotypes.ensures.stay;
+      calls = c.genotypes_are_what_was_interned.ensures.calls;
+    }) (round_numbers c.args.round.now)
+    c.genotypes.inside.seat c.args.cells.items c.args.slices.items c.in_ok-cells.field-0
+    (c.owns_all.ensures c.genotypes.invariant.1)
+    (c.owns_all-2.ensures (ends.share ∙ c.genotypes.invariant.1)) ends
 
 pub run_all-requires-clause-jobs : goal.run_all-requires-clause-jobs
 run_all-requires-clause-jobs g c l b k d within =
@@ -38,140 +66,50 @@ join_all-requires-clause-numbers g c =
 
 pub len_after-len-requires : goal.len_after-len-requires
 len_after-len-requires g c =
-    let ends : EndsAs (round_numbers c.args.round.now) c.genotypes.inside.seat c.args.cells.items
-    c.args.slices.items c.in_ok-cells.field-0 =
-    ends-as (record {
-      lives = c.parts_live_as_one.ensures.lives;
-      births = c.parts_live_as_one.ensures.births;
-      deaths = c.parts_live_as_one.ensures.deaths;
-      count = c.parts_live_as_one.ensures.count;
-    }) (round_numbers c.args.round.now)
-    c.genotypes.inside.seat c.args.cells.items c.args.slices.items c.in_ok-jobs.jobs.items
-    c.in_ok-shards.shards.items c.in_ok-cells.field-0 c.in_ok-jobs.ensures.cells
-    c.in_ok-jobs.ensures.seats
-    (omega (arith, c.in_ok-jobs.ensures.few, c.genotypes.invariant.1)) c.in_ok-shards.ensures
-    c.in_ok-cells.ensures in
     let births = c.in_ok-cells.field-0.births in
     All-same (λ (d : Delivered). d.handle.number < 2 ^ 63) c.as_slice.result.now births
     c.as_slice.ensures
     (All-weaker (IsNumbered c.in_ok-cells.field-0.seat.seen)
     (λ (d : Delivered). d.handle.number < 2 ^ 63) (λ d numbered. numbered.small) births
-    ends.numbers)
+    (ends g (goal.at.len_after-len-requires g c).In_ok-cells).numbers)
 
 pub invariant_of-genotypes : goal.invariant_of-genotypes
 invariant_of-genotypes g c =
-    let ends : EndsAs (round_numbers c.args.round.now) c.genotypes.inside.seat c.args.cells.items
-    c.args.slices.items c.in_ok-cells.field-0 =
-    ends-as (record {
-      lives = c.parts_live_as_one.ensures.lives;
-      births = c.parts_live_as_one.ensures.births;
-      deaths = c.parts_live_as_one.ensures.deaths;
-      count = c.parts_live_as_one.ensures.count;
-    }) (round_numbers c.args.round.now)
-    c.genotypes.inside.seat c.args.cells.items c.args.slices.items c.in_ok-jobs.jobs.items
-    c.in_ok-shards.shards.items c.in_ok-cells.field-0 c.in_ok-jobs.ensures.cells
-    c.in_ok-jobs.ensures.seats
-    (omega (arith, c.in_ok-jobs.ensures.few, c.genotypes.invariant.1)) c.in_ok-shards.ensures
-    c.in_ok-cells.ensures in
-    let takes : TakesIn (genotypes_of c.genotypes.inside.seat.seen)
-    (genotypes_of c.in_ok-cells.field-0.seat.seen) c.in_ok-cells.field-0.births =
-    takes-in (record {
-      stay = c.calls_number_genotypes.ensures.stay;
-      calls = c.genotypes_are_what_was_interned.ensures.calls;
-    }) (round_numbers c.args.round.now)
-    c.genotypes.inside.seat c.args.cells.items c.args.slices.items c.in_ok-cells.field-0
-    (c.owns_all.ensures c.genotypes.invariant.1)
-    (c.owns_all-2.ensures (ends.share ∙ c.genotypes.invariant.1)) ends in
+    let at = goal.at.invariant_of-genotypes g c in
+    let whole = ends g at.In_ok-cells in
     let births = c.in_ok-cells.field-0.births in (
-      ends.bank ∙ c.genotypes.invariant.0,
-      ends.share ∙ c.genotypes.invariant.1,
+      whole.bank ∙ c.genotypes.invariant.0,
+      whole.share ∙ c.genotypes.invariant.1,
       c.len_after-len.ensures
           ∙ ap (fold next_len c.genotypes.inside.len) c.as_slice.ensures
           ∙ ap (λ n. fold next_len n births) c.genotypes.invariant.2
           ∙ len-taken (genotypes_of c.genotypes.inside.seat.seen)
-          (genotypes_of c.in_ok-cells.field-0.seat.seen) births takes
+          (genotypes_of c.in_ok-cells.field-0.seat.seen) births
+          (takes g at.After-owns_all-2 whole)
           (genotypes-different c.numbers_agree.ensures c.in_ok-cells.field-0.seat.seen),
     )
 
 pub returns-clause-cells : goal.returns-clause-cells
 returns-clause-cells g c =
-    let ends : EndsAs (round_numbers c.args.round.now) c.genotypes.inside.seat c.args.cells.items
-    c.args.slices.items c.in_ok-cells.field-0 =
-    ends-as (record {
-      lives = c.parts_live_as_one.ensures.lives;
-      births = c.parts_live_as_one.ensures.births;
-      deaths = c.parts_live_as_one.ensures.deaths;
-      count = c.parts_live_as_one.ensures.count;
-    }) (round_numbers c.args.round.now)
-    c.genotypes.inside.seat c.args.cells.items c.args.slices.items c.in_ok-jobs.jobs.items
-    c.in_ok-shards.shards.items c.in_ok-cells.field-0 c.in_ok-jobs.ensures.cells
-    c.in_ok-jobs.ensures.seats
-    (omega (arith, c.in_ok-jobs.ensures.few, c.genotypes.invariant.1)) c.in_ok-shards.ensures
-    c.in_ok-cells.ensures in
-    c.into_vec.ensures ∙ ends.left
+    c.into_vec.ensures ∙ (ends g (goal.at.returns-clause-cells g c).In_ok-cells).left
 
 pub returns-clause-births : goal.returns-clause-births
 returns-clause-births g c =
-    let ends : EndsAs (round_numbers c.args.round.now) c.genotypes.inside.seat c.args.cells.items
-    c.args.slices.items c.in_ok-cells.field-0 =
-    ends-as (record {
-      lives = c.parts_live_as_one.ensures.lives;
-      births = c.parts_live_as_one.ensures.births;
-      deaths = c.parts_live_as_one.ensures.deaths;
-      count = c.parts_live_as_one.ensures.count;
-    }) (round_numbers c.args.round.now)
-    c.genotypes.inside.seat c.args.cells.items c.args.slices.items c.in_ok-jobs.jobs.items
-    c.in_ok-shards.shards.items c.in_ok-cells.field-0 c.in_ok-jobs.ensures.cells
-    c.in_ok-jobs.ensures.seats
-    (omega (arith, c.in_ok-jobs.ensures.few, c.genotypes.invariant.1)) c.in_ok-shards.ensures
-    c.in_ok-cells.ensures in
-    ap (map birth_of) c.into_vec-2.ensures ∙ ends.births
+    ap (map birth_of) c.into_vec-2.ensures
+    ∙ (ends g (goal.at.returns-clause-births g c).In_ok-cells).births
 
 pub returns-clause-dead : goal.returns-clause-dead
 returns-clause-dead g c =
-    let ends : EndsAs (round_numbers c.args.round.now) c.genotypes.inside.seat c.args.cells.items
-    c.args.slices.items c.in_ok-cells.field-0 =
-    ends-as (record {
-      lives = c.parts_live_as_one.ensures.lives;
-      births = c.parts_live_as_one.ensures.births;
-      deaths = c.parts_live_as_one.ensures.deaths;
-      count = c.parts_live_as_one.ensures.count;
-    }) (round_numbers c.args.round.now)
-    c.genotypes.inside.seat c.args.cells.items c.args.slices.items c.in_ok-jobs.jobs.items
-    c.in_ok-shards.shards.items c.in_ok-cells.field-0 c.in_ok-jobs.ensures.cells
-    c.in_ok-jobs.ensures.seats
-    (omega (arith, c.in_ok-jobs.ensures.few, c.genotypes.invariant.1)) c.in_ok-shards.ensures
-    c.in_ok-cells.ensures in
-    c.into_vec-3.ensures ∙ ends.dead
+    c.into_vec-3.ensures ∙ (ends g (goal.at.returns-clause-dead g c).In_ok-cells).dead
 
 pub returns-clause-bank : goal.returns-clause-bank
 returns-clause-bank g c =
-    let ends : EndsAs (round_numbers c.args.round.now) c.genotypes.inside.seat c.args.cells.items
-    c.args.slices.items c.in_ok-cells.field-0 =
-    ends-as (record {
-      lives = c.parts_live_as_one.ensures.lives;
-      births = c.parts_live_as_one.ensures.births;
-      deaths = c.parts_live_as_one.ensures.deaths;
-      count = c.parts_live_as_one.ensures.count;
-    }) (round_numbers c.args.round.now)
-    c.genotypes.inside.seat c.args.cells.items c.args.slices.items c.in_ok-jobs.jobs.items
-    c.in_ok-shards.shards.items c.in_ok-cells.field-0 c.in_ok-jobs.ensures.cells
-    c.in_ok-jobs.ensures.seats
-    (omega (arith, c.in_ok-jobs.ensures.few, c.genotypes.invariant.1)) c.in_ok-shards.ensures
-    c.in_ok-cells.ensures in
-    let takes : TakesIn (genotypes_of c.genotypes.inside.seat.seen)
-    (genotypes_of c.in_ok-cells.field-0.seat.seen) c.in_ok-cells.field-0.births =
-    takes-in (record {
-      stay = c.calls_number_genotypes.ensures.stay;
-      calls = c.genotypes_are_what_was_interned.ensures.calls;
-    }) (round_numbers c.args.round.now)
-    c.genotypes.inside.seat c.args.cells.items c.args.slices.items c.in_ok-cells.field-0
-    (c.owns_all.ensures c.genotypes.invariant.1)
-    (c.owns_all-2.ensures (ends.share ∙ c.genotypes.invariant.1)) ends in
+    let at = goal.at.returns-clause-bank g c in
     subst (λ (births : List Delivered). TakesIn c.args.genotypes
     (genotypes_of c.in_ok-cells.field-0.seat.seen) births) (sym c.into_vec-2.ensures)
     (subst (λ (old : List (List Letter)). TakesIn old (genotypes_of c.in_ok-cells.field-0.seat.seen)
-    c.in_ok-cells.field-0.births) c.genotypes.view_is takes)
+    c.in_ok-cells.field-0.births) c.genotypes.view_is
+    (takes g at.After-owns_all-2 (ends g at.In_ok-cells)))
 
 pub returns-clause-different : goal.returns-clause-different
 returns-clause-different g c =

@@ -1,0 +1,97 @@
+-- A finished shard behind another, as one.
+use Rattle.std.proofs.Common.{◌≡◌, ◌∙◌, refl, sym, ap, subst, ◌+◌, List, [], ◌∷◌, ◌++◌, append-nil, append_assoc, arith}
+use Rattle.std.specs.List.{All, flat_map}
+use Rattle.std.specs.List.Sorted.{IsPermutation}
+use Rattle.std.proofs.lemmas.List.Elements.{All-append, All-same, All-weaker}
+use Rattle.std.proofs.lemmas.List.Sorted.{IsPermutation-append_left, IsPermutation-refl, IsPermutation-trans}
+use Rattle.std.proofs.lemmas.List.Sums.{sum_by-cons}
+use mathlib.Core.List.{IsPrefix}
+use Rattle.cell_shards.specs.Finishing.{IsNumbered, genome_in}
+use Rattle.cell_shards.specs.declared.delivered.Delivered.{Delivered}
+use Rattle.cell_shards.specs.declared.finished.Finished.{Finished}
+use Rattle.genotype_bank.specs.BankHistory.{genotypes_of}
+use Rattle.genotype_bank.specs.Seats.{own_calls_of}
+use Rattle.genotype_bank.specs.declared.view.Entry.{Entry}
+use Rattle.world_core.specs.Sharding.{IsJoined}
+use Rattle.world_core.proofs.JoinLemmas.{IsPrefix-trans, calls_in}
+use Rattle.world_core.proofs.StandingLemmas.{prefix-stays}
+
+-- a number stays in a longer history
+number-stays : ((early history : List Entry) → IsPrefix early history
+    → IsPrefix (genotypes_of early) (genotypes_of history))
+    → (early history : List Entry) (d : Delivered) → IsPrefix early history → IsNumbered early d
+    → IsNumbered history d
+number-stays stay early history d longer number = record {
+  place = prefix-stays (genotypes_of early) (genotypes_of history) d.handle.number (genome_in d)
+      (stay early history longer) number.place;
+  small = number.small;
+}
+
+-- two shards as one
+pub record AreTwo (front back whole : Finished) : Type 0 where
+  pub cells : whole.cells ≡ front.cells ++ back.cells
+  pub births : whole.births ≡ front.births ++ back.births
+  pub dead : whole.dead ≡ front.dead ++ back.dead
+  pub bank : whole.seat.bank ≡ front.seat.bank
+  pub share : whole.seat.share ≡ front.seat.share + back.seat.share
+  pub front_seen : IsPrefix front.seat.seen whole.seat.seen
+  pub back_seen : IsPrefix back.seat.seen whole.seat.seen
+  pub own : IsPermutation (own_calls_of front.seat ++ own_calls_of back.seat)
+      (own_calls_of whole.seat)
+
+-- the newborns of both have their numbers
+pub two-numbered : ((early history : List Entry) → IsPrefix early history
+    → IsPrefix (genotypes_of early) (genotypes_of history)) → (front back whole : Finished)
+    → AreTwo front back whole → All (IsNumbered front.seat.seen) front.births
+    → All (IsNumbered back.seat.seen) back.births → All (IsNumbered whole.seat.seen) whole.births
+two-numbered stay front back whole two first second =
+    All-same (IsNumbered whole.seat.seen) whole.births (front.births ++ back.births) two.births
+    (All-append (IsNumbered whole.seat.seen) front.births back.births
+    (All-weaker (IsNumbered front.seat.seen) (IsNumbered whole.seat.seen)
+    (λ d. number-stays stay front.seat.seen whole.seat.seen d two.front_seen) front.births
+    first)
+    (All-weaker (IsNumbered back.seat.seen) (IsNumbered whole.seat.seen)
+    (λ d. number-stays stay back.seat.seen whole.seat.seen d two.back_seen) back.births second))
+
+-- a shard alone
+pub joined-alone : (whole : Finished) → All (IsNumbered whole.seat.seen) whole.births
+    → IsJoined whole [] whole
+joined-alone whole numbers = record {
+  cells = sym (append-nil whole.cells);
+  births = sym (append-nil whole.births);
+  dead = sym (append-nil whole.dead);
+  bank = refl;
+  share = omega arith;
+  seen = ([], append-nil whole.seat.seen);
+  numbers = numbers;
+  own = subst (λ calls. IsPermutation calls (own_calls_of whole.seat))
+      (sym (append-nil (own_calls_of whole.seat))) (IsPermutation-refl (own_calls_of whole.seat));
+}
+
+-- what joins others behind two joins the second and the others behind the first
+pub joined-more : (front back two end : Finished) (others : List Finished) → AreTwo front back two
+    → IsJoined two others end → IsJoined front (back ∷ others) end
+joined-more front back two end others are joined = record {
+  cells = joined.cells ∙ ap (λ cells. cells ++ flat_map (λ one. one.cells) others) are.cells
+      ∙ append_assoc front.cells back.cells (flat_map (λ one. one.cells) others);
+  births = joined.births ∙ ap (λ births. births ++ flat_map (λ one. one.births) others) are.births
+      ∙ append_assoc front.births back.births (flat_map (λ one. one.births) others);
+  dead = joined.dead ∙ ap (λ dead. dead ++ flat_map (λ one. one.dead) others) are.dead
+      ∙ append_assoc front.dead back.dead (flat_map (λ one. one.dead) others);
+  bank = joined.bank ∙ are.bank;
+  share = omega (
+    arith,
+    joined.share,
+    are.share,
+    sum_by-cons (λ (one : Finished). one.seat.share) back others,
+  );
+  seen = IsPrefix-trans front.seat.seen two.seat.seen end.seat.seen are.front_seen joined.seen;
+  numbers = joined.numbers;
+  own = subst (λ calls. IsPermutation calls (own_calls_of end.seat))
+      (append_assoc (own_calls_of front.seat) (own_calls_of back.seat) (calls_in others))
+      (IsPermutation-trans ((own_calls_of front.seat ++ own_calls_of back.seat) ++ calls_in others)
+      (own_calls_of two.seat ++ calls_in others) (own_calls_of end.seat)
+      (IsPermutation-append_left (calls_in others)
+      (own_calls_of front.seat ++ own_calls_of back.seat) (own_calls_of two.seat) are.own)
+      joined.own);
+}
