@@ -72,6 +72,12 @@ looked_still count parent parents others now later at other here looked (suc i) 
     let e : count + suc i ≡ count + 1 + i = omega arith in
     other (count + suc i) (λ same. absurd (omega arith)) ∙ ap later e ∙ looked i ∙ sym (at (suc i))
 
+below_still : (count : ℕ) (slots : List (Option ℕ)) (now : ℕ) (others : List (Option ℕ))
+    → now ≡ count → others ≡ slots → AreBelow count slots → AreBelow now others
+below_still count slots now others same is below cell id at =
+    let b = below cell id (sym (ap (λ (l : List (Option ℕ)). get_or l cell None) is) ∙ at) in
+    omega (arith, b, same)
+
 either_way : (o : Option ℕ) (b : Bool) → o ≡ cond b o o
 either_way o true = refl
 either_way o false = refl
@@ -108,11 +114,9 @@ stays count standing next line lines nobody no_parent untold stands cells follow
           ∙ sym (ap (λ (ps : List (Option ℕ)). parent_at ps i) parents);
       ids = ap (λ (ids : List ℕ). ids ++ flat_map newcomer lines) nobody ∙ follows.ids
           ∙ sym (ap (λ (ps : List (Option ℕ)). range_with_len count (length ps)) parents);
-      below = λ cell id is.
-          let b = follows.below cell id
-          (sym (ap (λ (slots : List (Option ℕ)). get_or slots cell None) after) ∙ is) in
-          let len = ap length parents in
-          omega (arith, b, len);
+      below = below_still (count + length (parents_in lines)) (standing_after next lines)
+          (count + length (parents_in (line ∷ lines))) (standing_after standing (line ∷ lines))
+          (omega (arith, ap length parents)) after follows.below;
       cells = ap length after ∙ follows.cells ∙ cells;
     }
 
@@ -149,11 +153,9 @@ comes count standing next line parent lines somebody its_parent told older stand
       ids = ap (λ (ids : List ℕ). ids ++ flat_map newcomer lines) somebody
           ∙ ap (λ (ids : List ℕ). count ∷ ids) follows.ids
           ∙ sym (ap (λ (ps : List (Option ℕ)). range_with_len count (length ps)) parents);
-      below = λ cell id is.
-          let b = follows.below cell id
-          (sym (ap (λ (slots : List (Option ℕ)). get_or slots cell None) after) ∙ is) in
-          let len = ap length parents in
-          omega (arith, b, len);
+      below = below_still (count + 1 + length (parents_in lines)) (standing_after next lines)
+          (count + length (parents_in (line ∷ lines))) (standing_after standing (line ∷ lines))
+          (omega (arith, ap length parents)) after follows.below;
       cells = ap length after ∙ follows.cells ∙ cells;
     }
 
