@@ -35,6 +35,10 @@ LETTER_OF = {name: letter for letter, name in NAME_OF.items()}
 
 LEAST_LENGTH, GREATEST_LENGTH = 8, 8192
 
+# The columns of a table of replays: its seed, the saved update and the last one, for each task the first update in which
+# it stood above 0, and the counts after the last update.
+TAPE_HEADER = ("seed", "from", "to", *(task.lower() for task in TASKS), *(f"{task.lower()}_end" for task in TASKS))
+
 CHANGES = re.compile(r"([pi])(\d+)([a-z])|(d)(\d+)")
 
 
@@ -313,6 +317,13 @@ def answer(words, given):
     if ran.returncode:
         raise Fault(f"{words[1]}: {ran.stderr.decode(errors='replace').strip() or f'status {ran.returncode}'}")
     return ran.stdout.decode("ascii")
+
+
+def table(rows):
+    """Prints columns of equal width: numbers to the right, the last one as it is."""
+    widths = [max(len(row[at]) for row in rows) for at in range(len(rows[0]) - 1)]
+    for row in rows:
+        print("  ".join([cell.rjust(width) for cell, width in zip(row, widths)] + [row[-1]]))
 
 
 def given_text(path):
