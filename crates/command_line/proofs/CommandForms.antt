@@ -1,6 +1,6 @@
 -- Each command reads what its form says: its names are distinct, and a text that begins with `-` is
 -- none of its numbers.
-use Rattle.std.proofs.Common.{◌≡◌, ◌<◌, ◌||◌, ◌++◌, arith, refl, ap, inl, inr, Bool, true, ℕ, List, [], ◌∷◌, length, codes, Option, Some, None, option_map, option_and_then}
+use Rattle.std.proofs.Common.{◌≡◌, ◌<◌, ◌||◌, ◌++◌, arith, refl, ap, inl, inr, Bool, true, ℕ, List, [], ◌∷◌, length, Option, Some, None, option_map, option_and_then}
 use Rattle.std.specs.List.{list_any}
 use Rattle.std.proofs.lemmas.Bool.{cases_Bool, eqb-true, false≢true}
 use Rattle.numerals.specs.Numeral.{number_of}
@@ -8,18 +8,12 @@ use Rattle.clap.specs.Lexer.{usize_max}
 use Rattle.clap.specs.Walk.{Text}
 use Rattle.clap.specs.Simple.{is_simple}
 use Rattle.clap.specs.Faults.{is_simple_and_free}
-use Rattle.command_line.specs.Form.{Form, Told, are_distinct, option_names}
+use Rattle.command_line.specs.Form.{Told, are_distinct, option_names}
 use Rattle.command_line.specs.Words.{begins_dashed, has_dashed, is_dashed}
-use Rattle.command_line.specs.Commands.{assay_form, assay_of, assay_with, bare_form, bench_form, bench_of, landscape_form, landscape_of, lineage_form, lineage_of, nothing_of, positional_form, positional_of, resume_form, resume_of, run_form, run_of, run_with, save_form, save_of, trace_form, trace_of, workers_form}
-use Rattle.command_line.specs.Parsers.{app_by, assay_texts, bench_texts, landscape_texts, lineage_texts, resume_texts, trace_texts}
+use Rattle.command_line.specs.Commands.{assay_form, assay_of, assay_with, bare_form, landscape_form, landscape_of, nothing_of, positional_form, positional_of, run_form, run_of, run_with, save_of, trace_form, trace_of, workers_form}
+use Rattle.command_line.specs.Parsers.{app_by}
 use Rattle.command_line.specs.Reading.{IsOf, NoMinus, Reads}
-use Rattle.command_line.specs.declared.assay.Assay.{Assay}
-use Rattle.command_line.specs.declared.bench.Bench.{Bench}
-use Rattle.command_line.specs.declared.lineage.Lineage.{Lineage}
-use Rattle.command_line.specs.declared.resume.Resume.{Resume}
-use Rattle.command_line.specs.declared.run.Run.{Run}
-use Rattle.command_line.specs.declared.trace.Trace.{Trace}
-use Rattle.command_line.proofs.TakenNumbers.{none_after}
+use Rattle.command_line.specs.Rows.{CommandRow, assay_row, bench_row, landscape_row, lineage_row, nothing_row, resume_row, run_row, save_row, trace_row}
 
 nothing_refuses : NoMinus → (told : Told) → IsOf bare_form told → has_dashed told ≡ true
     → nothing_of told ≡ None
@@ -30,6 +24,11 @@ nothing_refuses no_minus told is d = go told.positionals told.values is.position
     go [] [] n m d = absurd (false≢true d)
     go (p ∷ ps) vs n m d = absurd (omega arith)
     go [] (v ∷ vs) n m d = absurd (omega arith)
+
+none_after : {X Y : Type 0} (f : X → Option Y) (o : Option X) → ((x : X) → f x ≡ None)
+    → option_and_then f o ≡ None
+none_after f None none = refl
+none_after f (Some x) none = none x
 
 module _ (no_minus : NoMinus) where
   dashed_number : (least greatest : ℕ) (text : Text) → begins_dashed text ≡ true
@@ -177,13 +176,13 @@ module _ (no_minus : NoMinus) where
 
 -- ---- the commands
 
-reads_by : {T : Type 0} {name : Text} {form : Form} {texts : List Text} {take : Told → Option T}
-    → are_distinct (option_names form ++ (form.flags ++ texts)) ≡ true
-    → length texts ≡ form.positionals → length texts < usize_max
-    → is_simple (app_by name form texts) ≡ true
-    → is_simple_and_free (app_by name form texts) ≡ true
-    → (NoMinus → (told : Told) → IsOf form told → has_dashed told ≡ true → take told ≡ None)
-    → Reads T name form texts take
+reads_by : {T : Type 0} {row : CommandRow T}
+    → are_distinct (option_names row.form ++ (row.form.flags ++ row.texts)) ≡ true
+    → length row.texts ≡ row.form.positionals → length row.texts < usize_max
+    → is_simple (app_by row.name row.form row.texts) ≡ true
+    → is_simple_and_free (app_by row.name row.form row.texts) ≡ true
+    → (NoMinus → (told : Told) → IsOf row.form told → has_dashed told ≡ true
+    → row.take told ≡ None) → Reads row
 reads_by distinct count few simple free refuses = record {
   distinct = record { names = distinct; count = count; few = few };
   simple = simple;
@@ -191,34 +190,34 @@ reads_by distinct count few simple free refuses = record {
   refuses = refuses;
 }
 
-pub nothing_reads : Reads (Unit {0}) (codes "bare") bare_form [] nothing_of
+pub nothing_reads : Reads nothing_row
 nothing_reads = reads_by refl refl (omega arith) refl refl nothing_refuses
 
-pub trace_reads : Reads Trace (codes "trace") trace_form trace_texts trace_of
+pub trace_reads : Reads trace_row
 trace_reads = reads_by refl refl (omega arith) refl refl trace_refuses
 
-pub landscape_reads : Reads ℕ (codes "landscape") landscape_form landscape_texts landscape_of
+pub landscape_reads : Reads landscape_row
 landscape_reads = reads_by refl refl (omega arith) refl refl landscape_refuses
 
-pub save_reads : Reads ℕ (codes "save") save_form [] save_of
+pub save_reads : Reads save_row
 save_reads = reads_by refl refl (omega arith) refl refl save_refuses
 
-pub run_reads : Reads Run (codes "run") run_form [] run_of
+pub run_reads : Reads run_row
 run_reads = reads_by refl refl (omega arith) refl refl run_refuses
 
-pub lineage_reads : Reads Lineage (codes "lineage") lineage_form lineage_texts lineage_of
+pub lineage_reads : Reads lineage_row
 lineage_reads = reads_by refl refl (omega arith) refl refl (λ no_minus.
     positional_refuses no_minus (λ cell workers. record { cell = cell; workers = workers }) 65535)
 
-pub bench_reads : Reads Bench (codes "bench") bench_form bench_texts bench_of
+pub bench_reads : Reads bench_row
 bench_reads = reads_by refl refl (omega arith) refl refl (λ no_minus.
     positional_refuses no_minus (λ seed workers. record { seed = seed; workers = workers })
     9223372036854775807)
 
-pub resume_reads : Reads Resume (codes "resume") resume_form resume_texts resume_of
+pub resume_reads : Reads resume_row
 resume_reads = reads_by refl refl (omega arith) refl refl (λ no_minus.
     positional_refuses no_minus (λ more workers. record { more = more; workers = workers })
     1000000)
 
-pub assay_reads : Reads Assay (codes "assay") assay_form assay_texts assay_of
+pub assay_reads : Reads assay_row
 assay_reads = reads_by refl refl (omega arith) refl refl assay_refuses

@@ -147,30 +147,30 @@ module _ (command : Text) (form : Form) (ids : List Text) (simple : IsSimple for
   keeps_either false x y p q = q
 
   keeps_use : (s : Stand) (a : Rule) (v : Text) → spoilt s.uses ≡ true
-      → Keeps (with_use command rules s a v)
+      → Keeps (with_use s a v)
   keeps_use s a v is = elim (cases_Bool (is_some (value_in a.id s.uses))) [
     | inl b ↦ rw b tt
     | inr b ↦ rw b (spoilt_kept (option_names form ++ ids) s.uses (use_of a v) is)
   ]
 
   keeps_positional : (s : Stand) (word : Text) (found : Option Rule) → spoilt s.uses ≡ true
-      → Keeps (as_positional command rules s word found)
+      → Keeps (as_positional s word found)
   keeps_positional s word None is = tt
   keeps_positional s word (Some a) is =
       keeps_use (record s { place = min (s.place + 1) usize_max }) a word is
 
   keeps_option : (s : Stand) (a : Rule) (v : Option Text) → spoilt s.uses ≡ true
-      → Keeps (as_option command rules s a v)
+      → Keeps (as_option s a v)
   keeps_option s a (Some v) is = keeps_use s a v is
   keeps_option s a None is = is
 
   keeps_flag : (s : Stand) (a : Rule) (v : Option Text) → spoilt s.uses ≡ true
-      → Keeps (as_flag command rules s a v)
+      → Keeps (as_flag s a v)
   keeps_flag s a (Some v) is = tt
   keeps_flag s a None is = keeps_use s a (codes "true") is
 
   keeps_named : (s : Stand) (v : Option Text) (found : Option Rule) → spoilt s.uses ≡ true
-      → Keeps (as_named command rules s v found)
+      → Keeps (as_named s v found)
   keeps_named s v None is = tt
   keeps_named s v (Some a) is = elim (cases_Bool (takes_values a)) [
     | inl b ↦ rw b (keeps_option s a v is)
@@ -178,7 +178,7 @@ module _ (command : Text) (form : Form) (ids : List Text) (simple : IsSimple for
   ]
 
   keeps_seen : (s : Stand) (word : Text) (seen : View word) → spoilt s.uses ≡ true
-      → Keeps (as_seen command rules s word seen)
+      → Keeps (as_seen rules s word seen)
   keeps_seen s word (ending e d) is = is
   keeps_seen s word (long n v e l d) is = keeps_named s v (arg_by_long rules n) is
   keeps_seen s word (short y ys c e l h i d) is = tt
@@ -188,7 +188,7 @@ module _ (command : Text) (form : Form) (ids : List Text) (simple : IsSimple for
   keeps_seen s word (clean e l h d) is = keeps_positional s word (arg_by_index rules s.place) is
 
   keeps_value : (s : Stand) (a : Rule) (word : Text) (seen : View word) → spoilt s.uses ≡ true
-      → Keeps (as_value command rules s a word seen)
+      → Keeps (as_value s a word seen)
   keeps_value s a word (ending e d) is = tt
   keeps_value s a word (long n v e l d) is = tt
   keeps_value s a word (short y ys c e l h i d) is = tt
@@ -197,11 +197,11 @@ module _ (command : Text) (form : Form) (ids : List Text) (simple : IsSimple for
   keeps_value s a word (clean e l h d) is = keeps_use s a word is
 
   keeps_next : (s : Stand) (word : Text) (seen : View word) (waits : Option Rule)
-      → spoilt s.uses ≡ true → Keeps (next_seen command rules s word seen waits)
+      → spoilt s.uses ≡ true → Keeps (next_seen rules s word seen waits)
   keeps_next s word seen (Some a) is = keeps_value s a word seen is
   keeps_next s word seen None is =
-      keeps_either s.ended (as_positional command rules s word (arg_by_index rules s.place))
-      (as_seen command rules s word seen)
+      keeps_either s.ended (as_positional s word (arg_by_index rules s.place))
+      (as_seen rules s word seen)
       (keeps_positional s word (arg_by_index rules s.place) is) (keeps_seen s word seen is)
 
   spoilt_told : (uses : List Use) → spoilt uses ≡ true
@@ -254,7 +254,7 @@ module _ (command : Text) (form : Form) (ids : List Text) (simple : IsSimple for
     | inr b ↦ rw b (spoilt_end s.uses _ is)
   ]
   spoilt_reads (word ∷ words) s is =
-      go (next_seen command rules s word (view word) s.waits)
+      go (next_seen rules s word (view word) s.waits)
       (keeps_next s word (view word) s.waits is) (λ t k. spoilt_reads words t k)
     where
       go : (next : Option Stand) → Keeps next

@@ -12,11 +12,10 @@ use Rattle.clap.specs.Walk.{Rule, Text}
 use Rattle.command_line.specs.Form.{Form, IsSimple, are_distinct, has_name, option_names}
 use Rattle.command_line.specs.Words.{Given}
 use Rattle.command_line.proofs.Names.{bytes_same, head_apart, same_text, place_of, placed_has}
-use Rattle.command_line.proofs.Uses.{Use, flag_filled, use_of, value_in, value_rule}
+use Rattle.command_line.proofs.Uses.{Use, flag_filled, set_use, use_of, value_in, value_rule}
 use Rattle.command_line.proofs.UseLists.{seen, seen_kept, seen_set}
 use Rattle.command_line.proofs.Defaults.{are_typed}
 use Rattle.command_line.proofs.FormRules.{flag_is_no_option, flags_parted, option_is_no_other, options_parted, positional_is_no_flag, positional_is_no_option, get_has, positional_filled}
-use Rattle.command_line.proofs.RuleReading.{Stand}
 
 -- the text of a flag
 abbrev pub flag_text : Bool → Option Text
@@ -82,12 +81,6 @@ pub record Fits (form : Form) (ids : List Text) (uses : List Use) (texts : List 
 abbrev pub given : List Text → List (Option Text) → List Bool → Option ℕ → Bool → Given
 given texts values flags waits ended =
     record { ended = ended; waits = waits; positionals = texts; values = values; flags = flags }
-
-abbrev pub stand : List Use → Option Rule → ℕ → Bool → Stand
-stand uses waits place ended = record { uses = uses; waits = waits; place = place; ended = ended }
-
-abbrev pub set_use : List Use → Rule → Text → List Use
-set_use uses a v = uses ++ use_of a v ∷ []
 
 module _ (form : Form) (ids : List Text) (simple : IsSimple form ids) where
   typed_more : (uses : List Use) (a : Rule) (v : Text) → are_typed uses ≡ true

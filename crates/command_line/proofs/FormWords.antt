@@ -1,32 +1,26 @@
 -- What words tell by the parser's rules of a form is what they tell by the form, where a text that
 -- begins with `-` is refused.
-use Rattle.std.proofs.Common.{◌≡◌, ◌∙◌, ◌+◌, ◌||◌, ◌<◌, ◌≤◌, arith, refl, sym, ap, ℕ, zero, suc, min, Bool, true, false, is_some, List, [], ◌∷◌, ◌++◌, map, length, position, slice_get, slice_set, length-append, nat_lt, Option, Some, None, option_map, option_and_then, codes}
+use Rattle.std.proofs.Common.{◌≡◌, ◌∙◌, ◌+◌, ◌||◌, arith, refl, sym, ap, ℕ, Bool, true, false, is_some, List, [], ◌∷◌, ◌++◌, map, length, slice_get, slice_set, Option, Some, None, option_and_then, codes}
 use Rattle.std.specs.Prelude.{if◌then◌else◌}
-use Rattle.std.specs.Option.{option_map_or, option_to_list}
+use Rattle.std.specs.Option.{option_to_list}
 use Rattle.std.specs.Str.{bytes_eq}
-use Rattle.std.proofs.lemmas.Bool.Decides.{nat_tests}
 use Rattle.std.proofs.lemmas.List.Folds.{list_any-append}
-use Rattle.std.proofs.lemmas.Option.{slice_get-map, slice_get_within}
-use Rattle.clap.specs.Lexer.{usize_max}
+use Rattle.std.proofs.lemmas.Option.{slice_get_within}
 use Rattle.clap.specs.Walk.{Row, Rule, Text, arg_by_index, arg_by_long}
 use Rattle.command_line.specs.Form.{Form, IsSimple, Told, Valued, has_name, option_names}
-use Rattle.command_line.specs.Words.{Given, Word, as_word, begins_dashed, dashed, ends, has_dashed, is_given, is_set, kind_of_word, names, next_where, option_or_flag, plain, read_from, told_by, value_or_wait, with_flag, with_option, with_positional, with_value}
+use Rattle.command_line.specs.Words.{Given, Word, as_word, begins_dashed, dashed, ends, has_dashed, kind_of_word, names, next_where, option_or_flag, plain, read_from, told_by, value_or_wait, with_flag, with_option, with_positional, with_value}
 use Rattle.command_line.specs.Parsers.{told_in}
 use Rattle.command_line.specs.Reading.{IsOf}
-use Rattle.command_line.proofs.Names.{place_by_map, place_of, placed_has, position_is}
-use Rattle.command_line.proofs.Uses.{Use, flag_filled, use_of, value_in, value_rule}
-use Rattle.command_line.proofs.UseLists.{seen, seen_at}
-use Rattle.command_line.proofs.FormRules.{Named, at_index, get_has, is_flag, is_none, is_option, named, positional_filled, rules_by}
-use Rattle.command_line.proofs.FormReading.{Fits, filled, filled_next, fits_flag, fits_text, fits_value, flag_text, given, set_use, stand}
+use Rattle.command_line.proofs.Names.{place_of, placed_has}
+use Rattle.command_line.proofs.Uses.{Use, flag_filled, set_use, use_of, value_in, value_rule}
+use Rattle.command_line.proofs.UseLists.{seen}
+use Rattle.command_line.proofs.FormRules.{Named, get_has, is_flag, is_none, is_option, named, positional_filled, rules_by}
+use Rattle.command_line.proofs.FormReading.{Fits, filled, filled_next, fits_flag, fits_text, fits_value, flag_text, given}
+use Rattle.command_line.proofs.FormPlaces.{flag_place, given_at, has_none, has_room, no_text, option_place, past_end, set_at, used_text}
 use Rattle.command_line.proofs.FormEnd.{end_agrees}
-use Rattle.command_line.proofs.RuleReading.{Stand, as_flag, as_named, as_option, as_positional, as_seen, as_value, read_seen}
+use Rattle.command_line.proofs.RuleReading.{Stand, as_flag, as_named, as_option, as_positional, as_seen, as_value, read_seen, stand}
 use Rattle.command_line.proofs.WordViews.{View, view, ending, long, short, torn, dash, clean}
 use Rattle.command_line.proofs.DashedValues.{or_true, spoilt_new, spoilt_reads}
-
-past_end : (ids : List Text) (k : ℕ) → slice_get ids k ≡ None → length ids ≤ k
-past_end [] k is = omega arith
-past_end (id ∷ ids) zero is = cc
-past_end (id ∷ ids) (suc k) is = let less : length ids ≤ k = past_end ids k is in omega arith
 
 module _ (command : Text) (form : Form) (ids : List Text) (simple : IsSimple form ids) (T : Type 0)
     (take : Told → Option T)
@@ -64,87 +58,42 @@ module _ (command : Text) (form : Form) (ids : List Text) (simple : IsSimple for
       ≡ (if is_some (value_in name uses) then None else option_and_then take
       (read_from form (given texts values flags (Some i) false) words))
 
-  next_place : (texts : List Text) (word : Text) → length texts < length ids
-      → min (length texts + 1 + 1) usize_max ≡ length (texts ++ word ∷ []) + 1
-  next_place texts word less =
-      let few = simple.few in omega (arith, length-append texts (word ∷ []))
-
-  has_room : (texts : List Text) → length texts < length ids
-      → nat_lt (length texts) form.positionals ≡ true
-  has_room texts less = rw (← simple.count) (grind (arith, nat_tests))
-
-  has_none : (texts : List Text) → length ids ≤ length texts
-      → nat_lt (length texts) form.positionals ≡ false
-  has_none texts less = rw (← simple.count) (grind (arith, nat_tests))
-
-  -- a positional that was found
-  used_text : (uses : List Use) (texts : List Text) (values : List (Option Text))
-      (flags : List Bool) (over : Bool) (word id : Text)
-      → Fits form ids uses texts values flags → slice_get ids (length texts) ≡ Some id
-      → as_positional command rules (stand uses None (length texts + 1) over) word
-      (arg_by_index rules (length texts + 1))
-      ≡ Some (stand (set_use uses (positional_filled (length texts + 1) id) word) None
-      (length (texts ++ word ∷ []) + 1) over)
-  used_text uses texts values flags over word id f at =
-      let less : length texts < length ids = slice_get_within ids (length texts) id at in
-      let there : arg_by_index rules (length texts + 1)
-      ≡ Some (positional_filled (length texts + 1) id) =
-      at_index form ids (length texts)
-      ∙ ap (λ o. option_map (λ m. positional_filled (length texts + 1) m) o) at in
-      let none : is_some (value_in id uses) ≡ false =
-      ap is_some (filled_next ids texts uses id f.texts_are at) in
-      ap (λ found. as_positional command rules (stand uses None (length texts + 1) over) word found)
-      there
-      ∙ ap (λ b. if b then None else Some
-      (stand (set_use uses (positional_filled (length texts + 1) id) word) None
-      (min (length texts + 1 + 1) usize_max) over)) none
-      ∙ ap (λ n. Some (stand (set_use uses (positional_filled (length texts + 1) id) word) None n
-      over)) (next_place texts word less)
-
-  no_text : (uses : List Use) (texts : List Text) (over : Bool) (word : Text)
-      → slice_get ids (length texts) ≡ None
-      → as_positional command rules (stand uses None (length texts + 1) over) word
-      (arg_by_index rules (length texts + 1)) ≡ None
-  no_text uses texts over word at =
-      ap (λ found. as_positional command rules (stand uses None (length texts + 1) over) word found)
-      (at_index form ids (length texts)
-      ∙ ap (λ o. option_map (λ m. positional_filled (length texts + 1) m) o) at)
-
   takes_text : (uses : List Use) (texts : List Text) (values : List (Option Text))
       (flags : List Bool) (over : Bool) (word : Text) (words : List Text)
       → Fits form ids uses texts values flags → Agree words
-      → rest_of words (as_positional command rules (stand uses None (length texts + 1) over) word
+      → rest_of words (as_positional (stand uses None (length texts + 1) over) word
       (arg_by_index rules (length texts + 1)))
       ≡ told_rest words (with_positional form (given texts values flags None over) word)
   takes_text uses texts values flags over word words f ih = go (slice_get ids (length texts)) refl
     where
       go : (at : Option Text) → slice_get ids (length texts) ≡ at
-          → rest_of words (as_positional command rules (stand uses None (length texts + 1) over)
+          → rest_of words (as_positional (stand uses None (length texts + 1) over)
           word (arg_by_index rules (length texts + 1)))
           ≡ told_rest words (with_positional form (given texts values flags None over) word)
-      go None at = ap (rest_of words) (no_text uses texts over word at)
+      go None at = ap (rest_of words) (no_text form ids simple uses texts over word at)
           ∙ sym (ap (λ b. told_rest words
           (if b then Some (given (texts ++ word ∷ []) values flags None over) else None))
-          (has_none texts (past_end ids (length texts) at)))
-      go (Some id) at = ap (rest_of words) (used_text uses texts values flags over word id f at)
+          (has_none form ids simple texts (past_end ids (length texts) at)))
+      go (Some id) at =
+          ap (rest_of words) (used_text form ids simple uses texts values flags over word id f at)
           ∙ ih (set_use uses (positional_filled (length texts + 1) id) word) (texts ++ word ∷ [])
           values flags over (fits_text form ids simple uses texts values flags id word f at)
           ∙ sym (ap (λ b. told_rest words
           (if b then Some (given (texts ++ word ∷ []) values flags None over) else None))
-          (has_room texts (slice_get_within ids (length texts) id at)))
+          (has_room form ids simple texts (slice_get_within ids (length texts) id at)))
 
   -- a positional that begins with `-`
   spoils_text : (uses : List Use) (texts : List Text) (values : List (Option Text))
       (flags : List Bool) (over : Bool) (word : Text) (words : List Text)
       → Fits form ids uses texts values flags → begins_dashed word ≡ true
-      → rest_of words (as_positional command rules (stand uses None (length texts + 1) over) word
+      → rest_of words (as_positional (stand uses None (length texts + 1) over) word
       (arg_by_index rules (length texts + 1))) ≡ None
   spoils_text uses texts values flags over word words f d = go (slice_get ids (length texts)) refl
     where
       go : (at : Option Text) → slice_get ids (length texts) ≡ at
-          → rest_of words (as_positional command rules (stand uses None (length texts + 1) over)
+          → rest_of words (as_positional (stand uses None (length texts + 1) over)
           word (arg_by_index rules (length texts + 1))) ≡ None
-      go None at = ap (rest_of words) (no_text uses texts over word at)
+      go None at = ap (rest_of words) (no_text form ids simple uses texts over word at)
       go (Some id) at =
           let none : is_some (value_in id uses) ≡ false =
           ap is_some (filled_next ids texts uses id f.texts_are at) in
@@ -152,7 +101,7 @@ module _ (command : Text) (form : Form) (ids : List Text) (simple : IsSimple for
           list_any-append (λ m. bytes_eq m id) (option_names form) ids
           ∙ ap (λ b. has_name id (option_names form) || b) (get_has ids (length texts) id at)
           ∙ or_true (has_name id (option_names form)) in
-          ap (rest_of words) (used_text uses texts values flags over word id f at)
+          ap (rest_of words) (used_text form ids simple uses texts values flags over word id f at)
           ∙ spoilt_reads command form ids simple T take refuses words
           (stand (set_use uses (positional_filled (length texts + 1) id) word) None
           (length (texts ++ word ∷ []) + 1) over)
@@ -161,54 +110,17 @@ module _ (command : Text) (form : Form) (ids : List Text) (simple : IsSimple for
 
   -- ---- options and flags
 
-  option_place : (name : Text) (found : Option ℕ) → place_of name (option_names form) ≡ found
-      → position (λ o. bytes_eq o.name name) form.options ≡ found
-  option_place name found is = position_is (λ o. bytes_eq o.name name) form.options
-      ∙ place_by_map (λ o. o.name) name form.options ∙ is
-
-  flag_place : (name : Text) (found : Option ℕ) → place_of name form.flags ≡ found
-      → position (λ f. bytes_eq f name) form.flags ≡ found
-  flag_place name found is = position_is (λ f. bytes_eq f name) form.flags ∙ is
-
-  given_at : (uses : List Use) (values : List (Option Text)) (name : Text) (i : ℕ)
-      → seen uses (option_names form) ≡ values → place_of name (option_names form) ≡ Some i
-      → is_given values i ≡ is_some (value_in name uses)
-  given_at uses values name i same at =
-      let here : slice_get values i ≡ Some (value_in name uses) =
-      ap (λ vs. slice_get vs i) (sym same) ∙ seen_at (option_names form) uses name i at in
-      ap (λ o. option_map_or is_some o false) here
-
-  set_at : (uses : List Use) (flags : List Bool) (name : Text) (j : ℕ)
-      → seen uses form.flags ≡ map flag_text flags → place_of name form.flags ≡ Some j
-      → is_set flags j ≡ is_some (value_in name uses)
-  set_at uses flags name j same at = go (slice_get flags j) refl
-    where
-      here : option_map flag_text (slice_get flags j) ≡ Some (value_in name uses)
-      here = sym (slice_get-map flag_text flags j) ∙ ap (λ fs. slice_get fs j) (sym same)
-          ∙ seen_at form.flags uses name j at
-
-      text_of : (b : Bool) (o : Option Text) → flag_text b ≡ o → b ≡ is_some o
-      text_of true o is = rw (← is) refl
-      text_of false o is = rw (← is) refl
-
-      go : (o : Option Bool) → slice_get flags j ≡ o → is_set flags j ≡ is_some (value_in name uses)
-      go None is = let bad : None ≡ Some (value_in name uses) = rw is at here in cc
-      go (Some b) is =
-          let both : Some (flag_text b) ≡ Some (value_in name uses) = rw is at here in
-          let text : flag_text b ≡ value_in name uses = cc in
-          ap (λ o. option_map_or (λ f. f) o false) is ∙ text_of b (value_in name uses) text
-
   takes_option : (uses : List Use) (texts : List Text) (values : List (Option Text))
       (flags : List Bool) (words : List Text) (name : Text) (y : Option Text)
       (i : ℕ) (d : Option Text) → Fits form ids uses texts values flags → Agree words → Ahead words
       → place_of name (option_names form) ≡ Some i
-      → rest_of words (as_option command rules (stand uses None (length texts + 1) false)
+      → rest_of words (as_option (stand uses None (length texts + 1) false)
       (value_rule name (Some name) None (option_to_list d) false) y)
       ≡ told_rest words (with_option (given texts values flags None false) y i)
   takes_option uses texts values flags words name y i d f ih ahead at =
       go y ∙ sym (ap (λ b. told_rest words
       (if b then None else Some (value_or_wait (given texts values flags None false) i y)))
-      (given_at uses values name i f.values_are at))
+      (given_at form uses values name i f.values_are at))
     where
       own : Rule
       own = value_rule name (Some name) None (option_to_list d) false
@@ -232,7 +144,7 @@ module _ (command : Text) (form : Form) (ids : List Text) (simple : IsSimple for
       split false = refl
 
       go : (y : Option Text) → rest_of words
-          (as_option command rules (stand uses None (length texts + 1) false)
+          (as_option (stand uses None (length texts + 1) false)
           (value_rule name (Some name) None (option_to_list d) false) y)
           ≡ told_rest words (if is_some (value_in name uses) then None else Some
           (value_or_wait (given texts values flags None false) i y))
@@ -243,7 +155,7 @@ module _ (command : Text) (form : Form) (ids : List Text) (simple : IsSimple for
       (flags : List Bool) (words : List Text) (name : Text) (y : Option Text) (j : ℕ)
       → Fits form ids uses texts values flags → Agree words
       → place_of name (option_names form) ≡ None → place_of name form.flags ≡ Some j
-      → rest_of words (as_flag command rules (stand uses None (length texts + 1) false)
+      → rest_of words (as_flag (stand uses None (length texts + 1) false)
       (flag_filled name) y)
       ≡ told_rest words (with_flag (given texts values flags None false) y j)
   takes_flag uses texts values flags words name (Some v) j f ih none at = refl
@@ -251,7 +163,7 @@ module _ (command : Text) (form : Form) (ids : List Text) (simple : IsSimple for
       go (is_some (value_in name uses)) refl
       ∙ sym (ap (λ b. told_rest words
       (if b then None else Some (given texts values (slice_set flags j true) None false)))
-      (set_at uses flags name j f.flags_are at))
+      (set_at form uses flags name j f.flags_are at))
     where
       go : (b : Bool) → is_some (value_in name uses) ≡ b
           → rest_of words (if b then None else Some
@@ -268,35 +180,35 @@ module _ (command : Text) (form : Form) (ids : List Text) (simple : IsSimple for
       (flags : List Bool) (word : Text) (words : List Text) (name : Text) (y : Option Text)
       → Fits form ids uses texts values flags → Agree words → Ahead words
       → Named form ids simple name
-      → rest_of words (as_named command rules (stand uses None (length texts + 1) false) y
+      → rest_of words (as_named (stand uses None (length texts + 1) false) y
       (arg_by_long rules name))
       ≡ told_rest words (as_word form (given texts values flags None false) word (names name y))
   takes_named uses texts values flags word words name y f ih ahead (is_option i d at l k) =
       ap (λ found. rest_of words
-      (as_named command rules (stand uses None (length texts + 1) false) y found)) l
+      (as_named (stand uses None (length texts + 1) false) y found)) l
       ∙ takes_option uses texts values flags words name y i d f ih ahead at
       ∙ sym (ap (λ found. told_rest words
       (option_or_flag form (given texts values flags None false) name y found))
-      (option_place name (Some i) at))
+      (option_place form name (Some i) at))
   takes_named uses texts values flags word words name y f ih ahead (is_flag j none at l) =
       ap (λ found. rest_of words
-      (as_named command rules (stand uses None (length texts + 1) false) y found)) l
+      (as_named (stand uses None (length texts + 1) false) y found)) l
       ∙ takes_flag uses texts values flags words name y j f ih none at
       ∙ sym (ap (λ found. told_rest words
       (option_or_flag form (given texts values flags None false) name y found))
-      (option_place name None none)
+      (option_place form name None none)
       ∙ ap (λ found. told_rest words
       (option_and_then (with_flag (given texts values flags None false) y) found))
-      (flag_place name (Some j) at))
+      (flag_place form name (Some j) at))
   takes_named uses texts values flags word words name y f ih ahead (is_none none no_flag l) =
       ap (λ found. rest_of words
-      (as_named command rules (stand uses None (length texts + 1) false) y found)) l
+      (as_named (stand uses None (length texts + 1) false) y found)) l
       ∙ sym (ap (λ found. told_rest words
       (option_or_flag form (given texts values flags None false) name y found))
-      (option_place name None none)
+      (option_place form name None none)
       ∙ ap (λ found. told_rest words
       (option_and_then (with_flag (given texts values flags None false) y) found))
-      (flag_place name None no_flag))
+      (flag_place form name None no_flag))
 
   -- ---- one word
 
@@ -307,7 +219,7 @@ module _ (command : Text) (form : Form) (ids : List Text) (simple : IsSimple for
   takes_word : (uses : List Use) (texts : List Text) (values : List (Option Text))
       (flags : List Bool) (word : Text) (words : List Text)
       → Fits form ids uses texts values flags → Agree words → Ahead words → (look : View word)
-      → rest_of words (as_seen command rules (stand uses None (length texts + 1) false) word look)
+      → rest_of words (as_seen rules (stand uses None (length texts + 1) false) word look)
       ≡ told_kind words texts values flags word (kind_of_word word)
   takes_word uses texts values flags word words f ih ahead (ending e d) =
       let k : kind_of_word word ≡ ends = rw e refl in
@@ -368,7 +280,7 @@ module _ (command : Text) (form : Form) (ids : List Text) (simple : IsSimple for
       (flags : List Bool) (word : Text) (words : List Text) (name : Text) (d : Option Text) (i : ℕ)
       → Fits form ids uses texts values flags → Agree words
       → place_of name (option_names form) ≡ Some i → (look : View word)
-      → rest_of words (as_value command rules
+      → rest_of words (as_value
       (stand uses (Some (value_rule name (Some name) None (option_to_list d) false))
       (length texts + 1) false)
       (value_rule name (Some name) None (option_to_list d) false) word look)

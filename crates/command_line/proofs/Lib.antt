@@ -5,14 +5,16 @@ pub mod UseLists
 pub mod Defaults
 pub mod RuleReading
 pub mod RuleLooks
+pub mod WalkSteps
+pub mod ValueWords
 pub mod RuleWords
 pub mod FormRules
 pub mod BuiltForms
 pub mod FormReading
+pub mod FormPlaces
 pub mod FormEnd
 pub mod DashedValues
 pub mod FormWords
 pub mod FormLaw
 pub mod ParserEnds
-pub mod TakenNumbers
 pub mod CommandForms

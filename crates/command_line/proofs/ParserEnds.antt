@@ -1,15 +1,14 @@
 -- What the parser makes of the words of a command is what they tell by its form.
-use Rattle.std.proofs.Common.{◌≡◌, ◌∙◌, ◌<◌, refl, sym, subst, ap, ℕ, List, [], ◌∷◌, length, drop, Option, Some, None, Result, MatchResult, option_and_then}
+use Rattle.std.proofs.Common.{◌≡◌, ◌∙◌, ◌<◌, refl, sym, subst, ap, List, [], ◌∷◌, length, drop, Option, Some, None, Result, MatchResult, option_and_then}
 use Rattle.std.specs.Option.{ok_or}
 use Rattle.clap.specs.Walk.{Row, Text}
 use Rattle.clap.specs.Simple.{App, matches_of}
 use Rattle.clap.specs.Faults.{fault_of}
 use Rattle.clap.specs.Kinds.{Kinds}
 use Rattle.clap.specs.declared.error.kind.ErrorKind.{ErrorKind}
-use Rattle.command_line.specs.Form.{Form, Told}
-use Rattle.command_line.specs.Words.{told_by}
 use Rattle.command_line.specs.Parsers.{app_by, told_in}
 use Rattle.command_line.specs.Reading.{NoMinus, Reads}
+use Rattle.command_line.specs.Rows.{CommandRow, told_of}
 use Rattle.command_line.specs.Refusals.{IsRefusedBy, Refuses}
 use Rattle.command_line.specs.declared.refused.Refused.{Refused}
 use Rattle.command_line.specs.declared.refused.Refused.TheVariants.{Memory, BadWords}
@@ -27,37 +26,38 @@ told_or_bad : {T : Type 0} (told : Option T)
 told_or_bad None = refl
 told_or_bad (Some t) = refl
 
-module _ {T : Type 0} {name : Text} {form : Form} {texts : List Text} {take : Told → Option T}
-    (reads : Reads T name form texts take) (no_minus : NoMinus) where
+module _ {T : Type 0} {row : CommandRow T} (reads : Reads row) (no_minus : NoMinus) where
   -- words that the parser refuses
   pub stops : (words : List Text) (a : App) (r : Refused) → 0 < length words
-      → a ≡ app_by name form texts → IsRefusedBy (fault_of a words) r
-      → Refuses (option_and_then take (told_by form (drop 1 words))) r
+      → a ≡ app_by row.name row.form row.texts → IsRefusedBy (fault_of a words) r
+      → Refuses (told_of row (drop 1 words)) r
   stops words a r some is refused =
-      let here : IsRefusedBy (fault_of (app_by name form texts) words) r =
+      let here : IsRefusedBy (fault_of (app_by row.name row.form row.texts) words) r =
       subst (λ (b : App). IsRefusedBy (fault_of b words) r) is refused in
-      refuses_fault (option_and_then take (told_by form (drop 1 words)))
-      (fault_of (app_by name form texts) words) r here
-      (form_stops name form texts reads.distinct T take (reads.refuses no_minus) words some)
+      refuses_fault (told_of row (drop 1 words))
+      (fault_of (app_by row.name row.form row.texts) words) r here
+      (form_stops row.name row.form row.texts reads.distinct T row.take
+      (reads.refuses no_minus) words some)
 
   fits : (words : List Text) (a : App) (rows : List Row) → 0 < length words
-      → a ≡ app_by name form texts → fault_of a words ≡ [] → rows ≡ matches_of a words
-      → option_and_then take (told_in form texts rows)
-      ≡ option_and_then take (told_by form (drop 1 words))
+      → a ≡ app_by row.name row.form row.texts → fault_of a words ≡ [] → rows ≡ matches_of a words
+      → option_and_then row.take (told_in row.form row.texts rows) ≡ told_of row (drop 1 words)
   fits words a rows some is free same =
-      ap (λ found. option_and_then take (told_in form texts found))
+      ap (λ found. option_and_then row.take (told_in row.form row.texts found))
       (same ∙ ap (λ b. matches_of b words) is)
-      ∙ form_fits name form texts reads.distinct T take (reads.refuses no_minus) words some
+      ∙ form_fits row.name row.form row.texts reads.distinct T row.take
+      (reads.refuses no_minus) words some
       (ap (λ b. fault_of b words) (sym is) ∙ free)
 
   -- words that the parser takes
   pub ends : (words : List Text) (a : App) (rows : List Row) (taken : Option T)
-      (result : Result T Refused) → 0 < length words → a ≡ app_by name form texts
+      (result : Result T Refused) → 0 < length words → a ≡ app_by row.name row.form row.texts
       → fault_of a words ≡ [] → rows ≡ matches_of a words
-      → taken ≡ option_and_then take (told_in form texts rows) → result ≡ ok_or taken BadWords
-      → MatchResult result (λ t. option_and_then take (told_by form (drop 1 words)) ≡ Some t)
-      (Refuses (option_and_then take (told_by form (drop 1 words))))
+      → taken ≡ option_and_then row.take (told_in row.form row.texts rows)
+      → result ≡ ok_or taken BadWords
+      → MatchResult result (λ t. told_of row (drop 1 words) ≡ Some t)
+      (Refuses (told_of row (drop 1 words)))
   ends words a rows taken result some is free same from gives =
-      let told : taken ≡ option_and_then take (told_by form (drop 1 words)) =
+      let told : taken ≡ told_of row (drop 1 words) =
       from ∙ fits words a rows some is free same in
-      rw (gives, told) (told_or_bad (option_and_then take (told_by form (drop 1 words))))
+      rw (gives, told) (told_or_bad (told_of row (drop 1 words)))

@@ -64,6 +64,10 @@ pub record Use : Type 0 where
 abbrev pub use_of : Rule → Text → Use
 use_of a v = record { id = a.id; value = v; source = CommandLine; how = reading_by a }
 
+-- one more use
+abbrev pub set_use : List Use → Rule → Text → List Use
+set_use uses a v = uses ++ use_of a v ∷ []
+
 abbrev pub row_by : Use → Row
 row_by u = record {
   id = u.id;

@@ -72,9 +72,17 @@ abbrev pub trace_of : Told → Option Trace
 trace_of told = option_map (λ steps. record { steps = steps; org = is_set told.flags 0 })
     (number_at 0 1000000 0 told)
 
+-- what the words after the name tell `trace`
+abbrev pub trace_told : List (List ℕ) → Option Trace
+trace_told words = option_and_then trace_of (told_by trace_form words)
+
 -- the steps of `landscape` that the positional spells
 abbrev pub landscape_of : Told → Option ℕ
 landscape_of told = number_at 1 100000 0 told
+
+-- the steps that the words after the name tell `landscape`
+abbrev pub landscape_told : List (List ℕ) → Option ℕ
+landscape_told words = option_and_then landscape_of (told_by landscape_form words)
 
 -- the looks that the value spells, where there is a value
 abbrev pub looks_of : Option (List ℕ) → Option (Option ℕ)
@@ -99,6 +107,10 @@ run_with watch workers =
 abbrev pub run_of : Told → Option Run
 run_of told = option_and_then (run_with (value_at 1 told)) (workers_at 0 told)
 
+-- what the words after the name tell `run`
+abbrev pub run_told : List (List ℕ) → Option Run
+run_told words = option_and_then run_of (told_by run_form words)
+
 -- what is made of the number up to this one, and the workers, that the texts spell
 abbrev pub positional_of : {T : Type 0} → (ℕ → ℕ → T) → ℕ → Told → Option T
 positional_of make greatest told = option_and_then (λ number.
@@ -108,22 +120,42 @@ positional_of make greatest told = option_and_then (λ number.
 abbrev pub lineage_of : Told → Option Lineage
 lineage_of = positional_of (λ cell workers. record { cell = cell; workers = workers }) 65535
 
+-- what the words after the name tell `lineage`
+abbrev pub lineage_told : List (List ℕ) → Option Lineage
+lineage_told words = option_and_then lineage_of (told_by lineage_form words)
+
 -- `bench` of the seed, with the workers, that its texts spell
 abbrev pub bench_of : Told → Option Bench
 bench_of = positional_of (λ seed workers. record { seed = seed; workers = workers })
     9223372036854775807
 
+-- what the words after the name tell `bench`
+abbrev pub bench_told : List (List ℕ) → Option Bench
+bench_told words = option_and_then bench_of (told_by bench_form words)
+
 -- `resume` of so many updates more, with the workers, that its texts spell
 abbrev pub resume_of : Told → Option Resume
 resume_of = positional_of (λ more workers. record { more = more; workers = workers }) 1000000
+
+-- what the words after the name tell `resume`
+abbrev pub resume_told : List (List ℕ) → Option Resume
+resume_told words = option_and_then resume_of (told_by resume_form words)
 
 -- the workers of `save` that its value spells
 abbrev pub save_of : Told → Option ℕ
 save_of told = workers_at 0 told
 
+-- the workers that the words after the name tell `save`
+abbrev pub save_told : List (List ℕ) → Option ℕ
+save_told words = option_and_then save_of (told_by save_form words)
+
 -- a command that takes no words, whatever is told
 abbrev pub nothing_of : Told → Option (Unit {0})
 nothing_of told = Some tt
+
+-- what the words after the name tell a command that takes none
+abbrev pub nothing_told : List (List ℕ) → Option (Unit {0})
+nothing_told words = option_and_then nothing_of (told_by bare_form words)
 
 -- `assay` of so many seeds, from this one on, and the workers, where there is a number of them
 abbrev pub assay_with : ℕ → ℕ → Option ℕ → Option Assay
@@ -136,38 +168,6 @@ assay_of told = option_and_then (λ count.
     option_and_then (λ first. assay_with count first (workers_at 0 told))
     (number_at 0 9223372036854775744 1 told)) (number_at 1 64 0 told)
 
--- what the words after the name tell `trace`
-abbrev pub trace_told : List (List ℕ) → Option Trace
-trace_told words = option_and_then trace_of (told_by trace_form words)
-
--- what the words after the name tell `run`
-abbrev pub run_told : List (List ℕ) → Option Run
-run_told words = option_and_then run_of (told_by run_form words)
-
--- what the words after the name tell `lineage`
-abbrev pub lineage_told : List (List ℕ) → Option Lineage
-lineage_told words = option_and_then lineage_of (told_by lineage_form words)
-
--- what the words after the name tell `bench`
-abbrev pub bench_told : List (List ℕ) → Option Bench
-bench_told words = option_and_then bench_of (told_by bench_form words)
-
--- what the words after the name tell `resume`
-abbrev pub resume_told : List (List ℕ) → Option Resume
-resume_told words = option_and_then resume_of (told_by resume_form words)
-
--- the workers that the words after the name tell `save`
-abbrev pub save_told : List (List ℕ) → Option ℕ
-save_told words = option_and_then save_of (told_by save_form words)
-
 -- what the words after the name tell `assay`
 abbrev pub assay_told : List (List ℕ) → Option Assay
 assay_told words = option_and_then assay_of (told_by assay_form words)
-
--- the steps that the words after the name tell `landscape`
-abbrev pub landscape_told : List (List ℕ) → Option ℕ
-landscape_told words = option_and_then landscape_of (told_by landscape_form words)
-
--- what the words after the name tell a command that takes none
-abbrev pub nothing_told : List (List ℕ) → Option (Unit {0})
-nothing_told words = option_and_then nothing_of (told_by bare_form words)

@@ -1,6 +1,7 @@
 pub mod Form
 pub mod Words
 pub mod Commands
+pub mod Rows
 pub mod Refusals
 pub mod Parsers
 pub mod Reading

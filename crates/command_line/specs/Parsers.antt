@@ -36,30 +36,6 @@ app_by name form positionals = record {
   subs = [];
 }
 
--- the name of the positional of `trace`
-abbrev pub trace_texts : List (List ℕ)
-trace_texts = codes "steps" ∷ []
-
--- the name of the positional of `lineage`
-abbrev pub lineage_texts : List (List ℕ)
-lineage_texts = codes "cell" ∷ []
-
--- the name of the positional of `bench`
-abbrev pub bench_texts : List (List ℕ)
-bench_texts = codes "seed" ∷ []
-
--- the name of the positional of `resume`
-abbrev pub resume_texts : List (List ℕ)
-resume_texts = codes "more" ∷ []
-
--- the names of the positionals of `assay`
-abbrev pub assay_texts : List (List ℕ)
-assay_texts = codes "count" ∷ codes "first" ∷ []
-
--- the name of the positional of `landscape`
-abbrev pub landscape_texts : List (List ℕ)
-landscape_texts = codes "steps" ∷ []
-
 -- a flag's text says that it stands
 abbrev pub is_given_true : Option (List ℕ) → Bool
 is_given_true (Some text) = bytes_eq text (codes "true")

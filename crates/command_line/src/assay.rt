@@ -1,8 +1,8 @@
 // The words of `assay`.
-ghost use Rattle.std.specs.Prelude.{◌<◌, codes, length};
-ghost use Rattle.command_line.specs.Commands.{assay_form, assay_of, assay_told};
-ghost use Rattle.command_line.specs.Parsers.{assay_texts};
-ghost use Rattle.command_line.specs.Reading.{IsTold};
+ghost use Rattle.std.specs.Prelude.{◌<◌, length};
+ghost use Rattle.command_line.specs.Commands.{assay_told};
+ghost use Rattle.command_line.specs.Refusals.{IsTold};
+ghost use Rattle.command_line.specs.Rows.{assay_row};
 
 use crate::numbers::{number_in, wide_number_in};
 use crate::reading::{Arguments, read};
@@ -29,13 +29,7 @@ pub struct Assay {
 impl Arguments for Assay {
     type Taken = Assay;
 
-    ghost name = { codes "assay" };
-
-    ghost form = { assay_form };
-
-    ghost texts = { assay_texts };
-
-    ghost take = { assay_of };
+    ghost table_row = { assay_row };
 
     fn command<'a>(alloc: Global) -> Result<Command<'a>, AllocError> {
         let first = Arg::new(alloc, "first").required(true);

@@ -1,8 +1,8 @@
 // The words of `bench`.
-ghost use Rattle.std.specs.Prelude.{◌<◌, codes, length};
-ghost use Rattle.command_line.specs.Commands.{bench_form, bench_of, bench_told};
-ghost use Rattle.command_line.specs.Parsers.{bench_texts};
-ghost use Rattle.command_line.specs.Reading.{IsTold};
+ghost use Rattle.std.specs.Prelude.{◌<◌, length};
+ghost use Rattle.command_line.specs.Commands.{bench_told};
+ghost use Rattle.command_line.specs.Refusals.{IsTold};
+ghost use Rattle.command_line.specs.Rows.{bench_row};
 
 use crate::numbers::wide_number_in;
 use crate::reading::{Arguments, read};
@@ -24,13 +24,7 @@ pub struct Bench {
 impl Arguments for Bench {
     type Taken = Bench;
 
-    ghost name = { codes "bench" };
-
-    ghost form = { bench_form };
-
-    ghost texts = { bench_texts };
-
-    ghost take = { bench_of };
+    ghost table_row = { bench_row };
 
     fn command<'a>(alloc: Global) -> Result<Command<'a>, AllocError> {
         positional_command(alloc, "bench", "seed")

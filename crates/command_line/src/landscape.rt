@@ -1,8 +1,8 @@
 // The words of `landscape`.
-ghost use Rattle.std.specs.Prelude.{◌<◌, codes, length};
-ghost use Rattle.command_line.specs.Commands.{landscape_form, landscape_of, landscape_told};
-ghost use Rattle.command_line.specs.Parsers.{landscape_texts};
-ghost use Rattle.command_line.specs.Reading.{IsTold};
+ghost use Rattle.std.specs.Prelude.{◌<◌, length};
+ghost use Rattle.command_line.specs.Commands.{landscape_told};
+ghost use Rattle.command_line.specs.Refusals.{IsTold};
+ghost use Rattle.command_line.specs.Rows.{landscape_row};
 
 use crate::numbers::number_in;
 use crate::reading::{Arguments, read};
@@ -18,13 +18,7 @@ struct Landscape;
 impl Arguments for Landscape {
     type Taken = u32;
 
-    ghost name = { codes "landscape" };
-
-    ghost form = { landscape_form };
-
-    ghost texts = { landscape_texts };
-
-    ghost take = { landscape_of };
+    ghost table_row = { landscape_row };
 
     fn command<'a>(alloc: Global) -> Result<Command<'a>, AllocError> {
         let steps = Arg::new(alloc, "steps").required(true);

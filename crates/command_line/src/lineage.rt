@@ -1,8 +1,8 @@
 // The words of `lineage`.
-ghost use Rattle.std.specs.Prelude.{◌<◌, codes, length};
-ghost use Rattle.command_line.specs.Commands.{lineage_form, lineage_of, lineage_told};
-ghost use Rattle.command_line.specs.Parsers.{lineage_texts};
-ghost use Rattle.command_line.specs.Reading.{IsTold};
+ghost use Rattle.std.specs.Prelude.{◌<◌, length};
+ghost use Rattle.command_line.specs.Commands.{lineage_told};
+ghost use Rattle.command_line.specs.Refusals.{IsTold};
+ghost use Rattle.command_line.specs.Rows.{lineage_row};
 
 use crate::numbers::number_in;
 use crate::reading::{Arguments, read};
@@ -24,13 +24,7 @@ pub struct Lineage {
 impl Arguments for Lineage {
     type Taken = Lineage;
 
-    ghost name = { codes "lineage" };
-
-    ghost form = { lineage_form };
-
-    ghost texts = { lineage_texts };
-
-    ghost take = { lineage_of };
+    ghost table_row = { lineage_row };
 
     fn command<'a>(alloc: Global) -> Result<Command<'a>, AllocError> {
         positional_command(alloc, "lineage", "cell")

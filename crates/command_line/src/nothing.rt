@@ -1,7 +1,8 @@
 // The words of a command that takes none.
-ghost use Rattle.std.specs.Prelude.{◌<◌, [], codes, length};
-ghost use Rattle.command_line.specs.Commands.{bare_form, nothing_of, nothing_told};
-ghost use Rattle.command_line.specs.Reading.{IsTold};
+ghost use Rattle.std.specs.Prelude.{◌<◌, length};
+ghost use Rattle.command_line.specs.Commands.{nothing_told};
+ghost use Rattle.command_line.specs.Refusals.{IsTold};
+ghost use Rattle.command_line.specs.Rows.{nothing_row};
 
 use crate::reading::{Arguments, read};
 use crate::refused::Refused;
@@ -13,13 +14,7 @@ struct Nothing;
 impl Arguments for Nothing {
     type Taken = ();
 
-    ghost name = { codes "bare" };
-
-    ghost form = { bare_form };
-
-    ghost texts = { [] };
-
-    ghost take = { nothing_of };
+    ghost table_row = { nothing_row };
 
     fn command<'a>(alloc: Global) -> Result<Command<'a>, AllocError> {
         Ok(Command::new(alloc, "bare").disable_help_flag(true))

@@ -1,11 +1,11 @@
 // How the words of a command are read: the parser takes them by their form, and each number is
 // read of a text.
-ghost use Rattle.std.specs.Prelude.{◌≡◌, ◌<◌, ℕ, List, Option, length, IfOk, option_and_then};
+ghost use Rattle.std.specs.Prelude.{◌≡◌, ◌<◌, length, IfOk, option_and_then};
 ghost use Rattle.clap.specs.Words.{app_of, found_of, rows_of};
-ghost use Rattle.command_line.specs.Form.{Form, Told};
 ghost use Rattle.command_line.specs.Parsers.{app_by, told_in};
-ghost use Rattle.command_line.specs.Reading.{IsTold, Reads};
-ghost use Rattle.command_line.specs.Words.{told_by};
+ghost use Rattle.command_line.specs.Reading.{Reads};
+ghost use Rattle.command_line.specs.Refusals.{IsTold};
+ghost use Rattle.command_line.specs.Rows.{CommandRow, told_of};
 
 use crate::parser::matches;
 use crate::refused::Refused;
@@ -13,38 +13,30 @@ use clap::{ArgMatches, Command};
 use numerals::laws::one_spelling;
 use std::alloc::{AllocError, Global};
 
-/// The arguments of a command: its form, and what is taken of the words.
+/// The arguments of a command.
 pub(crate) trait Arguments {
-    /// What is taken.
+    /// What is taken of its words.
     type Taken;
 
-    /// The command's name.
-    ghost name: { List ℕ };
-
-    /// The form of the words.
-    ghost form: { Form };
-
-    /// The names of the positionals.
-    ghost texts: { List (List ℕ) };
-
-    /// What is taken of what the words tell.
-    ghost take: { Told → Option Self.Taken };
+    /// Its row in the table.
+    ghost table_row: { CommandRow Self.Taken };
 
     /// The command that reads the words.
     fn command<'a>(alloc: Global) -> Result<Command<'a>, AllocError>
-        ensures { IfOk result (λ c. app_of c ≡ app_by name form texts) };
+        ensures { IfOk result (λ c. app_of c
+            ≡ app_by table_row.name table_row.form table_row.texts) };
 
     /// What is taken of the matches.
     fn taken(matches: &ArgMatches<'_>) -> Option<Self::Taken>
-        ensures { result ≡ option_and_then take
-            (told_in form texts (rows_of (found_of matches.now))) };
+        ensures { result ≡ option_and_then table_row.take
+            (told_in table_row.form table_row.texts (rows_of (found_of matches.now))) };
 }
 
 /// Reads the words of a command. The first word is the name of the command.
 pub(crate) fn read<A: Arguments>(alloc: Global, words: &[String]) -> Result<A::Taken, Refused>
     requires some { 0 < length words.now }
-    requires reads { Reads A.Taken A.name A.form A.texts A.take }
-    ensures { IsTold (λ after. option_and_then A.take (told_by A.form after)) words.now result }
+    requires reads { Reads A.table_row }
+    ensures { IsTold (told_of A.table_row) words.now result }
 {
     one_spelling();
     let command = match A::command(alloc) {

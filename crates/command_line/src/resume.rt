@@ -1,8 +1,8 @@
 // The words of `resume`.
-ghost use Rattle.std.specs.Prelude.{◌<◌, codes, length};
-ghost use Rattle.command_line.specs.Commands.{resume_form, resume_of, resume_told};
-ghost use Rattle.command_line.specs.Parsers.{resume_texts};
-ghost use Rattle.command_line.specs.Reading.{IsTold};
+ghost use Rattle.std.specs.Prelude.{◌<◌, length};
+ghost use Rattle.command_line.specs.Commands.{resume_told};
+ghost use Rattle.command_line.specs.Refusals.{IsTold};
+ghost use Rattle.command_line.specs.Rows.{resume_row};
 
 use crate::numbers::number_in;
 use crate::reading::{Arguments, read};
@@ -24,13 +24,7 @@ pub struct Resume {
 impl Arguments for Resume {
     type Taken = Resume;
 
-    ghost name = { codes "resume" };
-
-    ghost form = { resume_form };
-
-    ghost texts = { resume_texts };
-
-    ghost take = { resume_of };
+    ghost table_row = { resume_row };
 
     fn command<'a>(alloc: Global) -> Result<Command<'a>, AllocError> {
         positional_command(alloc, "resume", "more")

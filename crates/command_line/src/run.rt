@@ -1,7 +1,8 @@
 // The words of `run`.
-ghost use Rattle.std.specs.Prelude.{◌≡◌, ◌<◌, [], codes, length, option_map};
-ghost use Rattle.command_line.specs.Commands.{run_form, run_of, run_told, run_with};
-ghost use Rattle.command_line.specs.Reading.{IsTold};
+ghost use Rattle.std.specs.Prelude.{◌≡◌, ◌<◌, length, option_map};
+ghost use Rattle.command_line.specs.Commands.{run_told, run_with};
+ghost use Rattle.command_line.specs.Refusals.{IsTold};
+ghost use Rattle.command_line.specs.Rows.{run_row};
 
 use crate::numbers::{spelled, text_in};
 use crate::reading::{Arguments, read};
@@ -41,13 +42,7 @@ fn with_watch(workers: u32, watch: Option<&str>) -> Option<Run>
 impl Arguments for Run {
     type Taken = Run;
 
-    ghost name = { codes "run" };
-
-    ghost form = { run_form };
-
-    ghost texts = { [] };
-
-    ghost take = { run_of };
+    ghost table_row = { run_row };
 
     fn command<'a>(alloc: Global) -> Result<Command<'a>, AllocError> {
         let watch = Arg::new(alloc, "watch").long("watch");

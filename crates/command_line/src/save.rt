@@ -1,7 +1,8 @@
 // The words of `save`.
-ghost use Rattle.std.specs.Prelude.{◌<◌, [], codes, length};
-ghost use Rattle.command_line.specs.Commands.{save_form, save_of, save_told};
-ghost use Rattle.command_line.specs.Reading.{IsTold};
+ghost use Rattle.std.specs.Prelude.{◌<◌, length};
+ghost use Rattle.command_line.specs.Commands.{save_told};
+ghost use Rattle.command_line.specs.Refusals.{IsTold};
+ghost use Rattle.command_line.specs.Rows.{save_row};
 
 use crate::reading::{Arguments, read};
 use crate::refused::Refused;
@@ -14,13 +15,7 @@ struct Save;
 impl Arguments for Save {
     type Taken = u32;
 
-    ghost name = { codes "save" };
-
-    ghost form = { save_form };
-
-    ghost texts = { [] };
-
-    ghost take = { save_of };
+    ghost table_row = { save_row };
 
     fn command<'a>(alloc: Global) -> Result<Command<'a>, AllocError> {
         workers_command(alloc, "save")

@@ -1,8 +1,9 @@
 // The words of `trace`.
-ghost use Rattle.std.specs.Prelude.{◌≡◌, ◌<◌, codes, length, option_map};
-ghost use Rattle.command_line.specs.Commands.{trace_form, trace_of, trace_told};
-ghost use Rattle.command_line.specs.Parsers.{is_given_true, trace_texts};
-ghost use Rattle.command_line.specs.Reading.{IsTold};
+ghost use Rattle.std.specs.Prelude.{◌≡◌, ◌<◌, length, option_map};
+ghost use Rattle.command_line.specs.Commands.{trace_told};
+ghost use Rattle.command_line.specs.Parsers.{is_given_true};
+ghost use Rattle.command_line.specs.Refusals.{IsTold};
+ghost use Rattle.command_line.specs.Rows.{trace_row};
 
 use crate::numbers::{number_in, text_in};
 use crate::reading::{Arguments, read};
@@ -32,13 +33,7 @@ fn is_true(text: Option<&str>) -> bool
 impl Arguments for Trace {
     type Taken = Trace;
 
-    ghost name = { codes "trace" };
-
-    ghost form = { trace_form };
-
-    ghost texts = { trace_texts };
-
-    ghost take = { trace_of };
+    ghost table_row = { trace_row };
 
     fn command<'a>(alloc: Global) -> Result<Command<'a>, AllocError> {
         let org = Arg::new(alloc, "org")

@@ -1,0 +1,107 @@
+-- Where a word stands in a form: the place of an option or a flag, and of the next positional.
+use Rattle.std.proofs.Common.{◌≡◌, ◌∙◌, ◌+◌, ◌<◌, ◌≤◌, arith, refl, sym, ap, ℕ, zero, suc, min, Bool, true, false, is_some, List, [], ◌∷◌, ◌++◌, map, length, position, slice_get, length-append, nat_lt, Option, Some, None, option_map}
+use Rattle.std.specs.Prelude.{if◌then◌else◌}
+use Rattle.std.specs.Option.{option_map_or}
+use Rattle.std.specs.Str.{bytes_eq}
+use Rattle.std.proofs.lemmas.Bool.Decides.{nat_tests}
+use Rattle.std.proofs.lemmas.Option.{slice_get-map, slice_get_within}
+use Rattle.clap.specs.Lexer.{usize_max}
+use Rattle.clap.specs.Walk.{Text, arg_by_index}
+use Rattle.command_line.specs.Form.{Form, IsSimple, option_names}
+use Rattle.command_line.specs.Words.{is_given, is_set}
+use Rattle.command_line.proofs.Names.{place_by_map, place_of, position_is}
+use Rattle.command_line.proofs.Uses.{Use, set_use, value_in}
+use Rattle.command_line.proofs.UseLists.{seen, seen_at}
+use Rattle.command_line.proofs.FormRules.{at_index, positional_filled, rules_by}
+use Rattle.command_line.proofs.FormReading.{Fits, filled_next, flag_text}
+use Rattle.command_line.proofs.RuleReading.{as_positional, stand}
+
+pub past_end : (ids : List Text) (k : ℕ) → slice_get ids k ≡ None → length ids ≤ k
+past_end [] k is = omega arith
+past_end (id ∷ ids) zero is = cc
+past_end (id ∷ ids) (suc k) is = let less : length ids ≤ k = past_end ids k is in omega arith
+
+module _ (form : Form) where
+  pub option_place : (name : Text) (found : Option ℕ) → place_of name (option_names form) ≡ found
+      → position (λ o. bytes_eq o.name name) form.options ≡ found
+  option_place name found is = position_is (λ o. bytes_eq o.name name) form.options
+      ∙ place_by_map (λ o. o.name) name form.options ∙ is
+
+  pub flag_place : (name : Text) (found : Option ℕ) → place_of name form.flags ≡ found
+      → position (λ f. bytes_eq f name) form.flags ≡ found
+  flag_place name found is = position_is (λ f. bytes_eq f name) form.flags ∙ is
+
+  pub given_at : (uses : List Use) (values : List (Option Text)) (name : Text) (i : ℕ)
+      → seen uses (option_names form) ≡ values → place_of name (option_names form) ≡ Some i
+      → is_given values i ≡ is_some (value_in name uses)
+  given_at uses values name i same at =
+      let here : slice_get values i ≡ Some (value_in name uses) =
+      ap (λ vs. slice_get vs i) (sym same) ∙ seen_at (option_names form) uses name i at in
+      ap (λ o. option_map_or is_some o false) here
+
+  pub set_at : (uses : List Use) (flags : List Bool) (name : Text) (j : ℕ)
+      → seen uses form.flags ≡ map flag_text flags → place_of name form.flags ≡ Some j
+      → is_set flags j ≡ is_some (value_in name uses)
+  set_at uses flags name j same at = go (slice_get flags j) refl
+    where
+      here : option_map flag_text (slice_get flags j) ≡ Some (value_in name uses)
+      here = sym (slice_get-map flag_text flags j) ∙ ap (λ fs. slice_get fs j) (sym same)
+          ∙ seen_at form.flags uses name j at
+
+      text_of : (b : Bool) (o : Option Text) → flag_text b ≡ o → b ≡ is_some o
+      text_of true o is = rw (← is) refl
+      text_of false o is = rw (← is) refl
+
+      go : (o : Option Bool) → slice_get flags j ≡ o → is_set flags j ≡ is_some (value_in name uses)
+      go None is = let bad : None ≡ Some (value_in name uses) = rw is at here in cc
+      go (Some b) is =
+          let both : Some (flag_text b) ≡ Some (value_in name uses) = rw is at here in
+          let text : flag_text b ≡ value_in name uses = cc in
+          ap (λ o. option_map_or (λ f. f) o false) is ∙ text_of b (value_in name uses) text
+
+module _ (form : Form) (ids : List Text) (simple : IsSimple form ids) where
+  next_place : (texts : List Text) (word : Text) → length texts < length ids
+      → min (length texts + 1 + 1) usize_max ≡ length (texts ++ word ∷ []) + 1
+  next_place texts word less =
+      let few = simple.few in omega (arith, length-append texts (word ∷ []))
+
+  pub has_room : (texts : List Text) → length texts < length ids
+      → nat_lt (length texts) form.positionals ≡ true
+  has_room texts less = rw (← simple.count) (grind (arith, nat_tests))
+
+  pub has_none : (texts : List Text) → length ids ≤ length texts
+      → nat_lt (length texts) form.positionals ≡ false
+  has_none texts less = rw (← simple.count) (grind (arith, nat_tests))
+
+  -- a positional that was found
+  pub used_text : (uses : List Use) (texts : List Text) (values : List (Option Text))
+      (flags : List Bool) (over : Bool) (word id : Text)
+      → Fits form ids uses texts values flags → slice_get ids (length texts) ≡ Some id
+      → as_positional (stand uses None (length texts + 1) over) word
+      (arg_by_index (rules_by form ids) (length texts + 1))
+      ≡ Some (stand (set_use uses (positional_filled (length texts + 1) id) word) None
+      (length (texts ++ word ∷ []) + 1) over)
+  used_text uses texts values flags over word id f at =
+      let less : length texts < length ids = slice_get_within ids (length texts) id at in
+      let there : arg_by_index (rules_by form ids) (length texts + 1)
+      ≡ Some (positional_filled (length texts + 1) id) =
+      at_index form ids (length texts)
+      ∙ ap (λ o. option_map (λ m. positional_filled (length texts + 1) m) o) at in
+      let none : is_some (value_in id uses) ≡ false =
+      ap is_some (filled_next ids texts uses id f.texts_are at) in
+      ap (λ found. as_positional (stand uses None (length texts + 1) over) word found)
+      there
+      ∙ ap (λ b. if b then None else Some
+      (stand (set_use uses (positional_filled (length texts + 1) id) word) None
+      (min (length texts + 1 + 1) usize_max) over)) none
+      ∙ ap (λ n. Some (stand (set_use uses (positional_filled (length texts + 1) id) word) None n
+      over)) (next_place texts word less)
+
+  pub no_text : (uses : List Use) (texts : List Text) (over : Bool) (word : Text)
+      → slice_get ids (length texts) ≡ None
+      → as_positional (stand uses None (length texts + 1) over) word
+      (arg_by_index (rules_by form ids) (length texts + 1)) ≡ None
+  no_text uses texts over word at =
+      ap (λ found. as_positional (stand uses None (length texts + 1) over) word found)
+      (at_index form ids (length texts)
+      ∙ ap (λ o. option_map (λ m. positional_filled (length texts + 1) m) o) at)
