@@ -65,6 +65,21 @@ module _ (founder : Link) (id : founder.id ≡ 0) (t : TreeValue) (is : t ≡ fo
           (link_of (record founder { id = m } ∷ child_in (founded_by founder) 1 0 1 origin ∷ []) 1))
           (sym e) refl
 
+-- the tree as it is told of a child that came with its parent's genome
+abbrev BornAs : TreeValue → TreeValue → ℕ → ℕ → BirthRecord → Type 0
+BornAs t later id parent origin =
+    (genome : List Letter) → child_of (genome_in t parent) origin ≡ Ok genome
+    → later ≡ with_newcomer t (record (child_in t id parent id origin) { genome = genome })
+
+-- a child and a grandchild came
+pub family_of : (t one all : TreeValue) (origin other : BirthRecord) → origin ≡ unchanged
+    → other ≡ unchanged → BornAs t one 1 0 origin → BornAs one all 2 1 other
+    → all ≡ three t origin other
+family_of t one all origin other first second child grandchild =
+    grandchild (genome_in one 1) (same_child (genome_in one 1) other second)
+    ∙ ap (λ (t : TreeValue). with_newcomer t (child_in t 2 1 2 other))
+    (child (genome_in t 0) (same_child (genome_in t 0) origin first))
+
 -- who lives after the deaths
 pub lives_first : (t : TreeValue) → t.living ≡ 0 ∷ 1 ∷ 2 ∷ [] → Contains t.living 0
 lives_first t is = subst (λ ids. Contains ids 0) (sym is) (0, omega arith, refl)

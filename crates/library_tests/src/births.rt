@@ -60,6 +60,16 @@ fn run_stream(seed: u64, update: u32, cell: u16) -> Draws
     Draws::start(seed, update, u32::from(cell), Purpose::Run)
 }
 
+/// The rates of a run without errors.
+pub(crate) const NO_ERRORS: Rates = Rates {
+    copy: 0,
+    insert: 0,
+    delete: 0,
+    site_point: 0,
+    site_insert: 0,
+    site_delete: 0,
+};
+
 /// At most a million.
 fn rate(ppm: u32) -> u32
     ensures { result ≤ MILLION }

@@ -1,8 +1,9 @@
 // Lives of an organism, and its traced steps.
+use crate::births::NO_ERRORS;
 use divide_rules::{DivideRules, Rule};
 use genome::{GREATEST_LENGTH, Genome, read_letters};
 use logic_tasks::{Inputs, Task, Tasks};
-use mutations::{Base, Rates};
+use mutations::Base;
 use organism::{Births, Organism, Ran, Remark, Settings, Traced};
 use random_streams::{Draws, Purpose};
 use std::alloc::Global;
@@ -147,14 +148,7 @@ fn the_ancestor_divides_at_step_389(rt: HostRuntime) -> Result<(), Fail> {
 /// The default rules, no errors, and death at this multiple of the genome's length.
 fn settings(age_limit: u32) -> Settings {
     Settings {
-        rates: Rates {
-            copy: 0,
-            insert: 0,
-            delete: 0,
-            site_point: 0,
-            site_insert: 0,
-            site_delete: 0,
-        },
+        rates: NO_ERRORS,
         rules: DivideRules {
             least: 8,
             greatest: 2048,

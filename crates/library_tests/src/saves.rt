@@ -1,7 +1,7 @@
 // The lines of a saved world.
+use crate::births::NO_ERRORS;
 use genome::{Genome, read_letters};
 use logic_tasks::{Inputs, Tasks};
-use mutations::Rates;
 use organism::{Image, Organism};
 use saved_lines::{
     OrganismLine, Resident, SavedLine, StateHead, read_saved_line, write_count, write_head,
@@ -57,14 +57,7 @@ fn a_head_and_a_count_are_lines_of_their_numbers(rt: HostRuntime) -> Result<(), 
         average_slices: 30,
         death: true,
         age_limit: 20,
-        rates: Rates {
-            copy: 0,
-            insert: 0,
-            delete: 0,
-            site_point: 0,
-            site_insert: 0,
-            site_delete: 0,
-        },
+        rates: NO_ERRORS,
         prefer_empty: true,
         need_alloc: true,
         executed_percent: 50,

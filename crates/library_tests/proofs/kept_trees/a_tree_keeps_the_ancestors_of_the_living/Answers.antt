@@ -1,7 +1,7 @@
-use Rattle.std.proofs.Common.{◌≡◌, ◌∙◌, ap, sym, subst, refl, Some}
+use Rattle.std.proofs.Common.{◌∙◌, ap, sym, subst, refl, Some}
 use Rattle.mutations.specs.BirthRecord.{record_of}
-use Rattle.lineage_log.specs.Trees.{TreeValue, CanCome, genome_in, with_newcomer}
-use Rattle.library_tests.proofs.FamilyLemmas.{applies, child_in, grandchild_comes, lives_first, lives_last, lives_middle, living_three, middle_stays, same_child, three, two}
+use Rattle.lineage_log.specs.Trees.{TreeValue, CanCome, genome_in}
+use Rattle.library_tests.proofs.FamilyLemmas.{applies, family_of, grandchild_comes, lives_first, lives_last, lives_middle, living_three, middle_stays, same_child}
 use Rattle.library_tests.proofs.kept_trees.a_tree_keeps_the_ancestors_of_the_living.Goals as goal
 
 pub born-requires-clause-applies : goal.born-requires-clause-applies
@@ -21,16 +21,9 @@ born-requires-2-clause-applies g c = applies _ _ c.unchanged-2.ensures
 
 pub died-requires : goal.died-requires
 died-requires g c =
-    let child = c.in_ok-born.ensures.ok (genome_in c.in_ok-tree.tree 0)
-    (same_child (genome_in c.in_ok-tree.tree 0) (record_of c.unchanged.result)
-    c.unchanged.ensures) in
-    let grandchild = c.in_ok-born-2.ensures.ok (genome_in c.born.new.self 1)
-    (same_child (genome_in c.born.new.self 1) (record_of c.unchanged-2.result)
-    c.unchanged-2.ensures) in
-    let family : c.born-2.new.self ≡ three c.in_ok-tree.tree (record_of c.unchanged.result)
-    (record_of c.unchanged-2.result) = grandchild
-    ∙ ap (λ (t : TreeValue).
-    with_newcomer t (child_in t 2 1 2 (record_of c.unchanged-2.result))) child in
+    let family = family_of c.in_ok-tree.tree c.born.new.self c.born-2.new.self
+    (record_of c.unchanged.result) (record_of c.unchanged-2.result) c.unchanged.ensures
+    c.unchanged-2.ensures c.in_ok-born.ensures.ok c.in_ok-born-2.ensures.ok in
     lives_first c.born-2.new.self
     (ap (λ (t : TreeValue). t.living) family
     ∙ living_three _ refl c.in_ok-tree.tree c.in_ok-tree.ensures (record_of c.unchanged.result)
@@ -38,16 +31,9 @@ died-requires g c =
 
 pub died-requires-2 : goal.died-requires-2
 died-requires-2 g c =
-    let child = c.in_ok-born.ensures.ok (genome_in c.in_ok-tree.tree 0)
-    (same_child (genome_in c.in_ok-tree.tree 0) (record_of c.unchanged.result)
-    c.unchanged.ensures) in
-    let grandchild = c.in_ok-born-2.ensures.ok (genome_in c.born.new.self 1)
-    (same_child (genome_in c.born.new.self 1) (record_of c.unchanged-2.result)
-    c.unchanged-2.ensures) in
-    let family : c.born-2.new.self ≡ three c.in_ok-tree.tree (record_of c.unchanged.result)
-    (record_of c.unchanged-2.result) = grandchild
-    ∙ ap (λ (t : TreeValue).
-    with_newcomer t (child_in t 2 1 2 (record_of c.unchanged-2.result))) child in
+    let family = family_of c.in_ok-tree.tree c.born.new.self c.born-2.new.self
+    (record_of c.unchanged.result) (record_of c.unchanged-2.result) c.unchanged.ensures
+    c.unchanged-2.ensures c.in_ok-born.ensures.ok c.in_ok-born-2.ensures.ok in
     lives_last c.born-2.new.self c.died.new.self
     (ap (λ (t : TreeValue). t.living) family
     ∙ living_three _ refl c.in_ok-tree.tree c.in_ok-tree.ensures (record_of c.unchanged.result)
@@ -55,32 +41,18 @@ died-requires-2 g c =
 
 pub path-requires : goal.path-requires
 path-requires g c =
-    let child = c.in_ok-born.ensures.ok (genome_in c.in_ok-tree.tree 0)
-    (same_child (genome_in c.in_ok-tree.tree 0) (record_of c.unchanged.result)
-    c.unchanged.ensures) in
-    let grandchild = c.in_ok-born-2.ensures.ok (genome_in c.born.new.self 1)
-    (same_child (genome_in c.born.new.self 1) (record_of c.unchanged-2.result)
-    c.unchanged-2.ensures) in
-    let family : c.born-2.new.self ≡ three c.in_ok-tree.tree (record_of c.unchanged.result)
-    (record_of c.unchanged-2.result) = grandchild
-    ∙ ap (λ (t : TreeValue).
-    with_newcomer t (child_in t 2 1 2 (record_of c.unchanged-2.result))) child in
+    let family = family_of c.in_ok-tree.tree c.born.new.self c.born-2.new.self
+    (record_of c.unchanged.result) (record_of c.unchanged-2.result) c.unchanged.ensures
+    c.unchanged-2.ensures c.in_ok-born.ensures.ok c.in_ok-born-2.ensures.ok in
     middle_stays _ c.in_ok-tree.tree c.born-2.new.self c.died.new.self c.died-2.new.self
     (record_of c.unchanged.result) (record_of c.unchanged-2.result) c.in_ok-tree.ensures family
     c.died.ensures c.died-2.ensures
 
 pub died-requires-3 : goal.died-requires-3
 died-requires-3 g c =
-    let child = c.in_ok-born.ensures.ok (genome_in c.in_ok-tree.tree 0)
-    (same_child (genome_in c.in_ok-tree.tree 0) (record_of c.unchanged.result)
-    c.unchanged.ensures) in
-    let grandchild = c.in_ok-born-2.ensures.ok (genome_in c.born.new.self 1)
-    (same_child (genome_in c.born.new.self 1) (record_of c.unchanged-2.result)
-    c.unchanged-2.ensures) in
-    let family : c.born-2.new.self ≡ three c.in_ok-tree.tree (record_of c.unchanged.result)
-    (record_of c.unchanged-2.result) = grandchild
-    ∙ ap (λ (t : TreeValue).
-    with_newcomer t (child_in t 2 1 2 (record_of c.unchanged-2.result))) child in
+    let family = family_of c.in_ok-tree.tree c.born.new.self c.born-2.new.self
+    (record_of c.unchanged.result) (record_of c.unchanged-2.result) c.unchanged.ensures
+    c.unchanged-2.ensures c.in_ok-born.ensures.ok c.in_ok-born-2.ensures.ok in
     lives_middle c.born-2.new.self c.died.new.self c.died-2.new.self
     (ap (λ (t : TreeValue). t.living) family
     ∙ living_three _ refl c.in_ok-tree.tree c.in_ok-tree.ensures (record_of c.unchanged.result)
