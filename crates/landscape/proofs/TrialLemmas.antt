@@ -32,12 +32,13 @@ step_left genome from steps within =
     ap (λ (ns : List ℕ). slice_get (filter_map (trial_after genome) ns) 0)
     (range_next from steps within)
 
--- what the step of an organism that has come so far shows
-pub shown_after : (genome : List Letter) (n : ℕ) (o : OrganismState) (step : TracedStep)
+-- what is shown of the step of an organism that has come so far
+pub shown_after : (genome : List Letter) (n number : ℕ) (o : OrganismState) (step : TracedStep)
+    (shown : Option Trial) → shown ≡ trial_at genome (number + 1) step.remark → number ≡ n
     → o ≡ organism_after (traced_organism genome) n → step ≡ (trace_step_of o).1
-    → trial_at genome (n + 1) step.remark ≡ trial_after genome n
-shown_after genome n o step so is =
-    (λ i. trial_at genome (n + 1) (is i).remark)
+    → shown ≡ trial_after genome n
+shown_after genome n number o step shown at same so is =
+    at ∙ (λ i. trial_at genome (same i + 1) (is i).remark)
     ∙ (λ i. trial_at genome (n + 1) (trace_step_of (so i)).1.remark)
 
 first_shown : (genome : List Letter) (from steps : ℕ) (trial : Trial) → from < steps

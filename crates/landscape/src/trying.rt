@@ -15,12 +15,10 @@ use genome::Genome;
 use instruction_set::Letter;
 use instruction_set::laws::one_index;
 use organism::Remark;
+use rayon::current_num_threads;
 use rayon::prelude::*;
 use std::alloc::Global;
 use std::thread::Threads;
-
-/// How few genomes are worth a thread of their own.
-const LEAST_PIECE: usize = 8;
 
 /// Tries a genome: an organism of it takes so many steps at most, alone, as in a trace. None
 /// exactly where no divide is viable.
@@ -83,9 +81,11 @@ fn try_all<R: Threads + Sync>(
     ensures { IfOk result
         (λ entries. entries.items ≡ map (entry_of (letters genome.now) steps) changes.now) }
 {
+    // More than half of a processor's share, so that no more threads start than there is work for.
+    let least = changes.len() / current_num_threads(rt) / 2 + 1;
     let entries: Result<Vec<Entry>, Memory> = changes
         .par_iter()
-        .with_min_len(LEAST_PIECE)
+        .with_min_len(least)
         .map(
             |change: &Change| -> Result<Entry, Memory>
                 ensures { IfOk result

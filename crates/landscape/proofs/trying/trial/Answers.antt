@@ -1,8 +1,7 @@
-use Rattle.std.proofs.Common.{ℕ, ◌+◌, add-one, ap, sym, ◌∙◌, arith}
+use Rattle.std.proofs.Common.{add-one, ap, sym, ◌∙◌, arith}
 use Rattle.genome.specs.Genome.{letters}
-use Rattle.organism.specs.TracedStep.{remark_value, trace_step_of, traced_value}
+use Rattle.organism.specs.TracedStep.{trace_step_of, traced_value}
 use Rattle.landscape.specs.Trace.{organism_after, traced_organism}
-use Rattle.landscape.specs.Trials.{trial_at}
 use Rattle.landscape.proofs.TrialLemmas.{first_start, found, missed, shown_after}
 use Rattle.landscape.proofs.trying.trial.Goals as goal
 
@@ -17,11 +16,9 @@ pub returns-then-is_some : goal.returns-then-is_some
 returns-then-is_some c =
     let genome = letters c.args.genome.now in
     let n = c.loop-step.step in
-    let traced = c.in_ok-traced.traced in
-    let shown = c.trial_at-shown.ensures
-    ∙ ap (λ (k : ℕ). trial_at genome (k + 1) (remark_value traced.remark)) c.from-number.ensures
-    ∙ shown_after genome n c.loop-step.organism (traced_value traced) c.loop-step.invariant.stepped
-    c.in_ok-traced.ensures.traced in
+    let shown = shown_after genome n c.from-number.result c.loop-step.organism
+    (traced_value c.in_ok-traced.traced) c.trial_at-shown.result c.trial_at-shown.ensures
+    c.from-number.ensures c.loop-step.invariant.stepped c.in_ok-traced.ensures.traced in
     found genome n c.args.steps c.trial_at-shown.result c.loop-step-test.true shown
     (sym c.is_some.ensures ∙ c.if-is_some.true) ∙ c.loop-step.invariant.left
 
@@ -29,11 +26,9 @@ pub loop-step-preserved : goal.loop-step-preserved
 loop-step-preserved c =
     let genome = letters c.args.genome.now in
     let n = c.loop-step.step in
-    let traced = c.in_ok-traced.traced in
-    let shown = c.trial_at-shown.ensures
-    ∙ ap (λ (k : ℕ). trial_at genome (k + 1) (remark_value traced.remark)) c.from-number.ensures
-    ∙ shown_after genome n c.loop-step.organism (traced_value traced) c.loop-step.invariant.stepped
-    c.in_ok-traced.ensures.traced in
+    let shown = shown_after genome n c.from-number.result c.loop-step.organism
+    (traced_value c.in_ok-traced.traced) c.trial_at-shown.result c.trial_at-shown.ensures
+    c.from-number.ensures c.loop-step.invariant.stepped c.in_ok-traced.ensures.traced in
     record {
       age = omega (arith, c.in_ok-traced.ensures.age, c.loop-step.invariant.age);
       stepped =
