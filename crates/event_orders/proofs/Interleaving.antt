@@ -18,7 +18,8 @@ use Rattle.event_orders.specs.State.{State, genome_entry, life_in, newborn_genom
 use Rattle.event_orders.specs.Schedule.{with_value, MayGather, after, state_after, IsSchedule}
 use Rattle.event_orders.specs.Interleaving.{StartsUpdate, newborns_for, IsInterleaving, GoesOnWith}
 use Rattle.event_orders.proofs.Members.{Contains-nil, Contains-cons, Contains-cons_cases, Contains-here}
-use Rattle.event_orders.proofs.Between.{AreLives, result_kept, holds_after}
+use Rattle.event_orders.proofs.Results.{AreLives, result_kept}
+use Rattle.event_orders.proofs.Between.{holds_after}
 use Rattle.event_orders.proofs.Going.{at_same, at_other, AllLawful-append, all_lawful, lawful_at, Goes, goes_one, goes_on, goes_none}
 use Rattle.event_orders.proofs.Pairs.{Pair, Apart, pairs_at, pairs_from, in_pairs, pairs_have, pairs_apart}
 

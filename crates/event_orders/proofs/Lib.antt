@@ -1,6 +1,10 @@
 mod Members
 mod Everyone
+mod Results
+mod Banked
+mod Pictures
 mod Between
+mod Looks
 mod Going
 mod Serial
 mod Pairs

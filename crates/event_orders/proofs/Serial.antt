@@ -17,7 +17,7 @@ use Rattle.event_orders.specs.Schedule.{MayPublish, MayLook, with_value, after}
 use Rattle.event_orders.specs.Orders.{IsScheduleFor}
 use Rattle.event_orders.proofs.Members.{last_pushed}
 use Rattle.event_orders.proofs.Everyone.{update_after, update_next}
-use Rattle.event_orders.proofs.Between.{picture_update}
+use Rattle.event_orders.proofs.Pictures.{picture_update}
 use Rattle.event_orders.proofs.Going.{at_same, at_other, Goes, goes_one, goes_on, goes_none, lawful_at}
 
 -- a newborn is interned by the seat of its cell

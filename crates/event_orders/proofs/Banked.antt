@@ -1,0 +1,165 @@
+-- The bank between two ends of updates.
+use Rattle.std.proofs.Common.{◌≡◌, ◌⊎◌, ℕ, ◌+◌, ◌<◌, Bool, true, false, List, [], ◌∷◌, ◌++◌, length, map, Contains, refl, sym, subst, ap, ◌∙◌, inr, ⊎_elim}
+use Rattle.std.specs.Prelude.{if◌then◌else◌, ◌↔◌, slice_index_or, ◌==◌}
+use Rattle.std.proofs.lemmas.Bool.{eqb-true}
+use Rattle.std.proofs.lemmas.List.Elements.{Contains-append_left, Contains-append_right, Contains-append_cases, Contains-push_cases, Contains-push, filter_map-append}
+use Rattle.genotype_bank.specs.declared.view.Entry.{Entry}
+use Rattle.genotype_bank.specs.BankHistory.{genome_of, genomes_of}
+use Rattle.instruction_set.specs.declared.letter.Letter.{Letter}
+use Rattle.world_config.specs.Values.{ConfigValues}
+use Rattle.world_rules.specs.World.{World}
+use Rattle.world_rules.specs.Lives.{CellLife}
+use Rattle.world_rules.specs.Update.{scene_of_lives, world_of}
+use Rattle.event_orders.specs.declared.schedule.ScheduleEvent.TheVariants.{Intern}
+use Rattle.event_orders.specs.State.{State, genome_entry, life_in, newborn_genomes, result_of, results_of, injections_at}
+use Rattle.event_orders.specs.Schedule.{MayIntern, MayGather, with_value, with_update, after}
+use Rattle.event_orders.proofs.Everyone.{genomes_ever, genomes_next, births_are}
+use Rattle.event_orders.proofs.Results.{lives_in, born_in, AreLives, results_are_lives, newborn_is_birth, birth_is_newborn}
+
+-- what holds of the bank between two ends of updates
+pub record IsBanked (config : ConfigValues) (world : World) (done : ℕ → ℕ → Bool)
+    (history : List Entry) : Type 0 where
+  -- who was ever in the world is in the bank
+  pub old : (g : List Letter) → Contains (genomes_ever world.everyone) g
+      → Contains (genomes_of history) g
+  -- so is each newborn that was interned
+  pub young : (cell nth : ℕ) → done cell nth ≡ true
+      → Contains (genomes_of history) (slice_index_or
+      (newborn_genomes (life_in config world cell)) nth [])
+  -- and nobody else
+  pub only : (g : List Letter) → Contains (genomes_of history) g
+      → Contains (genomes_ever world.everyone) g ⊎ Contains (born_in config world) g
+
+-- the genomes of a history with a further one
+genomes-push : (history : List Entry) (seat : ℕ) (g : List Letter)
+    → genomes_of (history ++ genome_entry seat g ∷ []) ≡ genomes_of history ++ g ∷ []
+genomes-push history seat g =
+    filter_map-append (λ (one : Entry). genome_of one.call) history (genome_entry seat g ∷ [])
+
+-- the genomes of a list that a seat interned
+genomes-interned : (seat : ℕ) (gs : List (List Letter))
+    → genomes_of (map (genome_entry seat) gs) ≡ gs
+genomes-interned seat [] = refl
+genomes-interned seat (g ∷ gs) = ap (λ l. g ∷ l) (genomes-interned seat gs)
+
+module _ (config : ConfigValues) where
+  -- a newborn was interned
+  young_kept : (known : List (List Letter)) (newborns : ℕ → List (List Letter))
+      (done : ℕ → ℕ → Bool) (cell nth : ℕ)
+      → ((c k : ℕ) → done c k ≡ true → Contains known (slice_index_or (newborns c) k []))
+      → (c k : ℕ) → with_value done cell (with_value (done cell) nth true) c k ≡ true
+      → Contains (known ++ slice_index_or (newborns cell) nth [] ∷ [])
+      (slice_index_or (newborns c) k [])
+  young_kept known newborns done cell nth had c k = by (c == cell) (eqb-true c cell)
+    where
+      here : (d : Bool) → (d ≡ true → k ≡ nth) → c ≡ cell → (if d then true else done cell k) ≡ true
+          → Contains (known ++ slice_index_or (newborns cell) nth [] ∷ [])
+          (slice_index_or (newborns c) k [])
+      here true f e h = subst (Contains (known ++ slice_index_or (newborns cell) nth [] ∷ []))
+          (ap (λ k. slice_index_or (newborns cell) k []) (sym (f refl))
+          ∙ ap (λ c. slice_index_or (newborns c) k []) (sym e))
+          (Contains-push known (slice_index_or (newborns cell) nth []))
+      here false f e h = Contains-append_left known _ _ (had c k (ap (λ c. done c k) e ∙ h))
+
+      by : (b : Bool) → (b ≡ true → c ≡ cell) →
+          (if b then (λ j. if j == nth then true else done cell j) else done c) k ≡ true
+          → Contains (known ++ slice_index_or (newborns cell) nth [] ∷ [])
+          (slice_index_or (newborns c) k [])
+      by true e h = here (k == nth) (eqb-true k nth) (e refl) h
+      by false e h = Contains-append_left known _ _ (had c k h)
+
+  -- a newborn was interned, and the bank is as it was to be
+  pub intern_banked : (s : State) (seat cell nth : ℕ) → MayIntern s cell nth
+      → AreLives config s.world s.results → IsBanked config s.world s.interned s.history
+      → IsBanked config s.world (after config s (Intern seat cell nth)).interned
+      (after config s (Intern seat cell nth)).history
+  intern_banked s seat cell nth may are h =
+      let w = s.world in
+      let is = are cell may.has_result in
+      let newborns : newborn_genomes (result_of s cell) ≡ newborn_genomes (life_in config w cell) =
+      ap newborn_genomes is.1 in
+      let g0 = slice_index_or (newborn_genomes (life_in config w cell)) nth [] in
+      let more : genomes_of (s.history ++ genome_entry seat
+      (slice_index_or (newborn_genomes (result_of s cell)) nth []) ∷ []) ≡ genomes_of s.history
+      ++ g0 ∷ []
+      =
+      genomes-push s.history seat _ ∙ ap (λ (l : List (List Letter)). genomes_of s.history
+      ++ slice_index_or l nth [] ∷ []) newborns in
+      record {
+        old =
+            λ g k. subst (λ l. Contains l g) (sym more)
+            (Contains-append_left (genomes_of s.history) (g0 ∷ []) g (h.old g k));
+        young =
+            λ c k e. subst (λ l. Contains l (slice_index_or
+            (newborn_genomes (life_in config w c)) k [])) (sym more)
+            (young_kept (genomes_of s.history) (λ c. newborn_genomes (life_in config w c))
+            s.interned cell nth h.young c k e);
+        only = λ g k. ⊎_elim
+            (λ (l : Contains (genomes_of s.history) g). h.only g l)
+            (λ (e : g0 ≡ g). inr (subst (Contains (born_in config w)) e
+            (newborn_is_birth config w cell nth is.0 (subst
+            (λ (l : List (List Letter)). nth < length l) newborns may.is_newborn))))
+            (Contains-push_cases (genomes_of s.history) g0 g (subst (λ l. Contains l g) more k));
+      }
+
+  -- the list of all, at the end of an update over these results
+  ever_gathered : (s : State) → MayGather s → AreLives config s.world s.results
+      → genomes_ever (world_of (scene_of_lives config s.world (results_of s))).everyone
+      ≡ genomes_ever s.world.everyone ++ (born_in config s.world ++ injections_at config
+      (s.world.update + 1))
+  ever_gathered s may are =
+      let w = s.world in
+      ap (λ (lives : List CellLife). genomes_ever
+      (world_of (scene_of_lives config w lives)).everyone)
+      (results_are_lives config s are may.every_cell)
+      ∙ genomes_next config w (lives_in config w)
+      ∙ ap (λ births. genomes_ever w.everyone ++ (births ++ injections_at config (w.update + 1)))
+      (births_are config (w.update + 1) w.cells)
+
+  -- at the end of an update the bank has exactly those that were ever in the world
+  pub gather_members : (s : State) (seat : ℕ) → MayGather s → AreLives config s.world s.results
+      → IsBanked config s.world s.interned s.history → (g : List Letter)
+      → Contains (genomes_of (with_update config s seat).history) g ↔ Contains
+      (genomes_ever (with_update config s seat).world.everyone) g
+  gather_members s seat may are h g =
+      let w = s.world in
+      let known = genomes_of s.history in
+      let added = injections_at config (w.update + 1) in
+      let born = born_in config w in
+      let ever : genomes_ever (with_update config s seat).world.everyone ≡ genomes_ever w.everyone
+      ++ (born ++ added) = ever_gathered s may are in
+      let more : genomes_of (s.history ++ map (genome_entry seat) added) ≡ known ++ added
+      =
+      filter_map-append (λ (one : Entry). genome_of one.call) s.history
+      (map (genome_entry seat) added) ∙ ap (λ l. known ++ l)
+      (genomes-interned seat added) in (
+        (λ (k : Contains (genomes_of (s.history ++ map (genome_entry seat) added)) g). subst
+            (λ l. Contains l g) (sym ever) (⊎_elim
+            (λ (l : Contains known g). ⊎_elim
+            (λ (o : Contains (genomes_ever w.everyone) g). Contains-append_left
+            (genomes_ever w.everyone) (born ++ added) g o)
+            (λ (b : Contains born g). Contains-append_right (genomes_ever w.everyone)
+            (born ++ added) g (Contains-append_left born added g b))
+            (h.only g l))
+            (λ (i : Contains added g). Contains-append_right (genomes_ever w.everyone)
+            (born ++ added) g (Contains-append_right born added g i))
+            (Contains-append_cases known added g (subst (λ l. Contains l g) more k)))),
+        (λ (k : Contains (genomes_ever (with_update config s seat).world.everyone) g). subst
+            (λ l. Contains l g) (sym more) (⊎_elim
+            (λ (o : Contains (genomes_ever w.everyone) g). Contains-append_left known added g
+            (h.old g o))
+            (λ (r : Contains (born ++ added) g). ⊎_elim
+            (λ (b : Contains born g).
+            let at = birth_is_newborn config w g b in
+            let newborns : newborn_genomes (result_of s at.0) ≡ newborn_genomes
+            (life_in config w at.0) = ap newborn_genomes
+            (are at.0 (may.every_cell at.0 at.2)).1 in
+            let done = may.every_newborn at.0 at.1 at.2
+            (subst (λ (l : List (List Letter)). at.1 < length l) (sym newborns) at.3) in
+            Contains-append_left known added g (subst (Contains known) at.4
+            (h.young at.0 at.1 done)))
+            (λ (i : Contains added g). Contains-append_right known added g i)
+            (Contains-append_cases born added g r))
+            (Contains-append_cases (genomes_ever w.everyone) (born ++ added) g
+            (subst (λ l. Contains l g) ever k)))),
+      )

@@ -1,0 +1,72 @@
+-- What an observer has seen never falls.
+use Rattle.std.proofs.Common.{◌≡◌, ◌-◌, ℕ, zero, suc, ◌+◌, ◌<◌, ◌≤◌, Bool, true, false, List, length, get_or, refl, ap, ◌∙◌, arith, add-zero}
+use Rattle.std.specs.Prelude.{if◌then◌else◌, max, ◌==◌}
+use Rattle.std.proofs.lemmas.Bool.{eqb-true, eq-eqb}
+use Rattle.std.proofs.lemmas.Option.{slice_get_within, slice_get-get_or}
+use Rattle.world_config.specs.Values.{ConfigValues}
+use Rattle.event_orders.specs.declared.schedule.ScheduleEvent.{ScheduleEvent}
+use Rattle.event_orders.specs.declared.schedule.ScheduleEvent.TheVariants.{Run, Intern, Gather, Publish, Look, Hear}
+use Rattle.event_orders.specs.State.{State}
+use Rattle.event_orders.specs.Schedule.{with_value, after, IsSchedule}
+use Rattle.event_orders.specs.Orders.{LooksNeverFall}
+use Rattle.event_orders.proofs.Between.{at_place, state_with}
+
+module _ (config : ConfigValues) (events : List ScheduleEvent) where
+  -- the greatest number that an observer has seen before a place
+  abbrev seen_at : ℕ → ℕ → ℕ
+  seen_at n observer = (at_place config events n).seen observer
+
+  -- a look or a note leaves each observer at least where it was
+  with_seen_kept : (seen : ℕ → ℕ) (observer number o : ℕ)
+      → seen o ≤ with_value seen observer (max (seen observer) number) o
+  with_seen_kept seen observer number o = by (o == observer) (eqb-true o observer)
+    where
+      by : (b : Bool) → (b ≡ true → o ≡ observer)
+          → seen o ≤ (if b then max (seen observer) number else seen o)
+      by true e = let is : seen o ≡ seen observer = ap seen (e refl) in omega arith
+      by false e = omega arith
+
+  -- what an observer has seen never falls
+  seen_kept : (s : State) (e : ScheduleEvent) (o : ℕ) → s.seen o ≤ (after config s e).seen o
+  seen_kept s (Run cell) o = omega arith
+  seen_kept s (Intern seat cell nth) o = omega arith
+  seen_kept s (Gather seat) o = omega arith
+  seen_kept s Publish o = omega arith
+  seen_kept s (Look observer number) o = with_seen_kept s.seen observer number o
+  seen_kept s (Hear observer number) o = with_seen_kept s.seen observer number o
+
+  -- nor does it over several events
+  seen_later : (m d o : ℕ) → m + d ≤ length events → seen_at m o ≤ seen_at (m + d) o
+  seen_later m zero o l = rw add-zero (omega arith)
+  seen_later m (suc d) o l =
+      let within : m + d < length events = omega arith in
+      let e = get_or events (m + d) Publish in
+      let more = seen_kept (at_place config events (m + d)) e o in
+      let same : seen_at (m + d + 1) o ≡ (after config (at_place config events (m + d)) e).seen o =
+      ap (λ (t : State). t.seen o) (state_with config events (m + d) e
+      (slice_get-get_or events (m + d) Publish within)) in
+      let place : m + d + 1 ≡ m + suc d = omega arith in
+      let moved : seen_at (m + d + 1) o ≡ seen_at (m + suc d) o = ap (λ k. seen_at k o) place in
+      let rest = seen_later m d o (omega arith) in
+      omega arith
+
+  -- no observer looks at a lower number than before
+  pub looks_never_fall : IsSchedule config events → LooksNeverFall events
+  looks_never_fall lawful m n observer i j below at later =
+      let l : n < length events = slice_get_within events n (Look observer j) later in
+      let may = lawful n (Look observer j) later in
+      let s = at_place config events m in
+      let looked : with_value s.seen observer (max (s.seen observer) i) observer ≡ max
+      (s.seen observer) i
+      =
+      ap (λ b. if b then max (s.seen observer) i else s.seen observer)
+      (eq-eqb observer observer refl) in
+      let same : seen_at (m + 1) observer ≡ max (s.seen observer) i =
+      ap (λ (t : State). t.seen observer) (state_with config events m (Look observer i) at)
+      ∙ looked in
+      let rest = seen_later (m + 1) (n - (m + 1)) observer (omega arith) in
+      let place : m + 1 + (n - (m + 1)) ≡ n = omega arith in
+      let moved : seen_at (m + 1 + (n - (m + 1))) observer ≡ seen_at n observer =
+      ap (λ k. seen_at k observer) place in
+      let bound : seen_at n observer ≤ j = may.is_not_older in
+      omega arith
