@@ -31,6 +31,7 @@ pub record KeepsBounds (config : ConfigValues) (update steps : ℕ) (slot : Opti
   pub few : length l.newborns ≤ steps
   pub newborns : All (FitsMachine config) l.newborns
 
+-- where nobody stands the bounds are kept
 nobody-keeps : (config : ConfigValues) (update steps : ℕ)
     → KeepsBounds config update steps None no_life
 nobody-keeps config update steps =
@@ -98,6 +99,7 @@ module _ (config : ConfigValues) (update : ℕ) (cells : List (Option Occupant))
             (nobody-keeps config update (slice_at config cells place)))
       ]
 
+  -- there are as many lives as cells
   lives-long : length (lives_of config (update + 1) cells) ≡ length cells
   unfolding lives_of
   lives-long = length-map-range_with_len (life_at config (update + 1) cells) 0 (length cells)

@@ -23,6 +23,7 @@ deaths_at first (l ∷ lives) =
 abbrev died_in : List CellLife → ℕ → Bool
 died_in lives cell = (get_or lives cell no_life).died
 
+-- the dead behind other cells
 deaths-behind : (before lives : List CellLife) (first : ℕ) → length before ≡ first
     → filter (died_in (before ++ lives)) (range_with_len first (length lives))
     ≡ deaths_at first lives
@@ -38,11 +39,13 @@ deaths-behind before (l ∷ lives) first long =
     ∙ deaths-behind (before ++ l ∷ []) lives (first + 1) next in
     λ i. cond (here i) (first ∷ rest i) (rest i)
 
+-- the dead of all cells
 deaths_of-at : (lives : List CellLife) → deaths_of lives ≡ deaths_at 0 lives
 unfolding deaths_of
 deaths_of-at lives = deaths-behind [] lives 0 refl
 
 module _ (update : ℕ) (everyone : List Link) where
+  -- the scene with these cells and these dead
   abbrev scene_with : List (Option Occupant) → List ℕ → Scene
   scene_with cells gone =
       record { update = update; cells = cells; everyone = everyone; gone = gone }
@@ -55,6 +58,7 @@ module _ (update : ℕ) (everyone : List Link) where
   abbrev ids_in : List Departed → List ℕ
   ids_in dead = map (λ one. one.id) dead
 
+  -- one cell becomes empty
   one-death : (before rest : List (Option Occupant)) (slot : Option Occupant) (gone : List ℕ)
       (first : ℕ) → length before ≡ first
       → with_death (scene_with (before ++ slot ∷ rest) gone) first
@@ -68,12 +72,14 @@ module _ (update : ℕ) (everyone : List Link) where
     gone = gone ++ option_to_list (id_of (get_or_at before slot rest None first long i));
   }
 
+  -- the id of one who died
   ids-in-one : (first : ℕ) (slot : Option Occupant)
       → ids_in (option_to_list (option_map (λ o. record { cell = first; id = o.id }) slot))
       ≡ option_to_list (id_of slot)
   ids-in-one first None = refl
   ids-in-one first (Some o) = refl
 
+  -- the line of one who died
   lines-in-one : (first : ℕ) (slot : Option Occupant)
       → filter_map (λ line. line) (option_map (λ id. Death id update first) (id_of slot) ∷ [])
       ≡ map (departure_line update)

@@ -55,7 +55,8 @@ living-set : (standing : List (Option (List Letter))) (cell : ℕ) (was now : Op
 living-set standing cell was now within here =
     omega (
       arith,
-      sum_by-set (λ (slot : Option (List Letter)). one (is_some slot)) standing cell now None within,
+      sum_by-set (λ (slot : Option (List Letter)). one (is_some slot)) standing cell now None
+          within,
       ap (λ (slot : Option (List Letter)). one (is_some slot)) here,
     )
 

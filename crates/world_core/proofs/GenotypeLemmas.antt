@@ -65,11 +65,13 @@ next-within n most birth few below = by (nat_lt birth.handle.number n) where
   by true = few
   by false = omega (arith, below)
 
+-- newborns make no genotype fewer
 len-grows : (n : ℕ) (births : List Delivered) → n ≤ fold next_len n births
 len-grows n [] = omega arith
 len-grows n (birth ∷ births) =
     omega (arith, (next-above n birth).0, len-grows (next_len n birth) births)
 
+-- their numbers are below how many there are then
 len-above : (n : ℕ) (births : List Delivered)
     → All (λ birth. birth.handle.number < fold next_len n births) births
 len-above n [] = All-nil (λ birth. birth.handle.number < n)
@@ -79,6 +81,7 @@ len-above n (birth ∷ births) =
     (omega (arith, (next-above n birth).1, len-grows (next_len n birth) births))
     (len-above (next_len n birth) births)
 
+-- where their numbers are below a bound, so is how many there are
 len-within : (n most : ℕ) (births : List Delivered) → n ≤ most
     → All (λ birth. birth.handle.number < most) births → fold next_len n births ≤ most
 len-within n most [] few below = few

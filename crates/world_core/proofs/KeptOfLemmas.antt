@@ -76,6 +76,7 @@ module _ (one_list : OneList) (cells : List (Option Occupant)) (genomes : List (
       tasks = credited-counted cells cell o before.merit before.tasks within here kept.sums;
     }
 
+    -- once it has gone
     pub IsKeptOf-removed : after ≡ without_organism before (get_or keys cell 0) o.organism.merit
         o.organism.credited → ((other : ℕ)
         → genotype_at after.genotypes other ≡ genotype_without_one before.genotypes
@@ -115,6 +116,7 @@ module _ (one_list : OneList) (cells : List (Option Occupant)) (genomes : List (
       tasks = tasks-room cells before.merit before.tasks kept.sums;
     }
 
+    -- once it stands there
     pub IsKeptOf-put : after ≡ with_organism before number o.organism.genome o.organism.merit
         o.organism.credited → ((other : ℕ)
         → genotype_at after.genotypes other

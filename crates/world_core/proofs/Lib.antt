@@ -2,6 +2,7 @@ pub mod ScanLemmas
 pub mod SoundLemmas
 mod LifeLemmas
 mod CountLemmas
+mod TurnLemmas
 mod ResidentLemmas
 mod ShardLemmas
 mod BurialLemmas

@@ -4,7 +4,7 @@ use Rattle.std.specs.List.{All, enumerate_from}
 use Rattle.std.proofs.lemmas.Bool.{cases_lt}
 use Rattle.std.proofs.lemmas.List.{get_or-map, get_or_past, length-map}
 use Rattle.std.proofs.lemmas.List.Elements.{All-append, All-cons, All-head, All-map, All-nil, All-same, All-tail}
-use Rattle.cell_shards.specs.CellLives.{BirthValue, CellLife as ShardLife, IsYoung, birth_in, births_from as shard_births, deaths_from as shard_deaths, has_died, left_in, lives_of as shard_lives_of, part_from}
+use Rattle.cell_shards.specs.CellLives.{BirthValue, CellLife as ShardLife, IsYoung, RoundNumbers, birth_in, births_from as shard_births, deaths_from as shard_deaths, has_died, left_in, lives_of as shard_lives_of, part_from}
 use Rattle.cell_shards.specs.Finishing.{birth_of}
 use Rattle.cell_shards.specs.declared.delivered.Delivered.{Delivered}
 use Rattle.merit_slices.specs.Slices.{slices_of}
@@ -22,8 +22,8 @@ use Rattle.world_core.specs.declared.lived.Delivery.{Delivery}
 use Rattle.world_core.specs.declared.lived.Departed.{Departed}
 use Rattle.world_core.proofs.CountLemmas.{GoesOn}
 use Rattle.world_core.proofs.LivesLemmas.{All-unmap, map-both}
-use Rattle.world_core.proofs.ResidentLemmas.{merits-of, occupants_of-at}
-use Rattle.world_core.proofs.ShardLemmas.{HaveIds-all, bare, births-are, departed-are, lives-bare, lives-have_ids, lives-long, round_of, staying-are, with_parent}
+use Rattle.world_core.proofs.ResidentLemmas.{merits-of, occupants_of-at, occupants_of-length}
+use Rattle.world_core.proofs.ShardLemmas.{HasId, HaveIds-all, bare, births-are, departed-are, lives-bare, lives-have_ids, lives-long, round_of, staying-are, with_parent}
 
 -- the newborns of some cells stand in them
 shard-births-below : (first most : ℕ) (lives : List ShardLife) → first + length lives ≤ most
@@ -81,37 +81,66 @@ merits-fit os ids merits long same fit =
     (All-map (λ (merit : ℕ). merit ≤ 2 ^ 38) merit_in (occupants_of os ids) fit)
 
 -- the steps of the cells
-pub slices-are : (config : ConfigValues) (os : List (Option OrganismState))
-    (ids merits slices : List ℕ) → length ids ≡ length os → merits ≡ map merit_of os
-    → slices ≡ slices_of merits config.average_slices
-    → slices ≡ slices_at config (occupants_of os ids)
+pub slices-are : (config : ConfigValues) (cells : List (Option Occupant))
+    (os : List (Option OrganismState)) (ids merits slices : List ℕ) → length ids ≡ length os
+    → occupants_of os ids ≡ cells → merits ≡ map merit_of os
+    → slices ≡ slices_of merits config.average_slices → slices ≡ slices_at config cells
 unfolding slices_at
-slices-are config os ids merits slices long same bought =
+slices-are config cells os ids merits slices long were same bought =
     bought ∙ ap (λ ms. slices_of ms config.average_slices) (same ∙ sym (merits-of os ids long))
+    ∙ ap (slices_at config) were
 
-module _ (config : ConfigValues) (update : ℕ) (os : List (Option OrganismState)) (ids : List ℕ)
-    (long : length ids ≡ length os) (slices : List ℕ)
-    (bought : slices ≡ slices_at config (occupants_of os ids)) where
+-- the cells of a world as its shards have them: organisms and ids apart, the steps of each cell,
+-- and what all lives of an update share
+pub record LiveApart (config : ConfigValues) (update : ℕ) (cells : List (Option Occupant))
+    (os : List (Option OrganismState)) (ids slices : List ℕ) (round : RoundNumbers) : Type 0 where
+  pub long : length ids ≡ length os
+  pub were : occupants_of os ids ≡ cells
+  pub bought : slices ≡ slices_at config cells
+  pub shared : round ≡ round_of config update
+
+module _ {config : ConfigValues} {update : ℕ} {cells : List (Option Occupant)}
+    {os : List (Option OrganismState)} {ids slices : List ℕ} {round : RoundNumbers}
+    (apart : LiveApart config update cells os ids slices round) where
   -- the lives of the cells
   abbrev lives : List CellLife
-  lives = lives_of config update (occupants_of os ids)
+  lives = lives_of config update cells
 
   -- the lives of the shards
   abbrev shard_lives : List ShardLife
-  shard_lives = shard_lives_of (round_of config update) (part_from 0 os slices)
+  shard_lives = shard_lives_of round (part_from 0 os slices)
 
+  -- there are as many cells as organisms and gaps
+  pub cells-long : length cells ≡ length os
+  cells-long = sym (ap length apart.were) ∙ occupants_of-length os ids apart.long
+
+  -- the shards live as the cells do
   lives_are : shard_lives ≡ map bare lives
-  lives_are = lives-bare config update os ids long slices bought
+  lives_are = ap (λ (r : RoundNumbers). shard_lives_of r (part_from 0 os slices)) apart.shared
+      ∙ lives-bare config update os ids apart.long slices
+      (apart.bought ∙ ap (slices_at config) (sym apart.were))
+      ∙ ap (λ (cells : List (Option Occupant)). map bare (lives_of config update cells)) apart.were
 
+  -- each cell has an id
   many : length ids ≡ length lives
-  many = long ∙ sym (lives-long config update os ids long)
+  many = apart.long
+      ∙ sym (ap (λ (cells : List (Option Occupant)). length (lives_of config update cells))
+      (sym apart.were) ∙ lives-long config update os ids apart.long)
+
+  -- which is that of who lives there
+  have_ids : (place : ℕ) → HasId (get_or ids place 0) (get_or lives place no_life)
+  have_ids place = subst
+      (λ (cells : List (Option Occupant)).
+      HasId (get_or ids place 0) (get_or (lives_of config update cells) place no_life))
+      apart.were (lives-have_ids config update os ids apart.long place)
 
   -- who stays in the cells
   pub lived-cells : (left : List (Option OrganismState)) → left ≡ map left_in shard_lives
       → occupants_of left ids ≡ map staying_in lives
   lived-cells left are = ap (λ os. occupants_of os ids) (are ∙ ap (map left_in) lives_are)
-      ∙ staying-are lives ids many (lives-have_ids config update os ids long)
+      ∙ staying-are lives ids many have_ids
 
+  -- as many as have an id
   pub lived-length : (left : List (Option OrganismState)) → left ≡ map left_in shard_lives
       → length ids ≡ length left
   lived-length left are = many
@@ -130,8 +159,9 @@ module _ (config : ConfigValues) (update : ℕ) (os : List (Option OrganismState
       record { parent = get_or ids birth.cell 0; newborn = birth }) delivery_in delivered
       ∙ sym (map-both birth_of (with_parent ids) delivered)
       ∙ ap (map (with_parent ids)) (born ∙ ap (shard_births 0) lives_are)
-      ∙ births-are ids 0 lives (HaveIds-all ids lives (lives-have_ids config update os ids long))
+      ∙ births-are ids 0 lives (HaveIds-all ids lives have_ids)
 
+  -- stand in cells with an id
   pub births-within : (delivered : List Delivered)
       → map birth_of delivered ≡ shard_births 0 shard_lives
       → All (λ birth. birth.cell < length ids) delivered
@@ -147,9 +177,9 @@ module _ (config : ConfigValues) (update : ℕ) (os : List (Option OrganismState
       → departed ≡ map (departed_from ids) dead → departed ≡ departed_of 0 lives
   lived-dead dead departed died are =
       are ∙ ap (map (departed_from ids)) (died ∙ ap (shard_deaths 0) lives_are)
-      ∙ departed-are ids 0 lives
-      (HaveIds-all ids lives (lives-have_ids config update os ids long))
+      ∙ departed-are ids 0 lives (HaveIds-all ids lives have_ids)
 
+  -- stood in such cells
   pub dead-within : (dead : List ℕ) → dead ≡ shard_deaths 0 shard_lives
       → All (λ cell. cell < length ids) dead
   dead-within dead died =
@@ -188,15 +218,17 @@ module _ (config : ConfigValues) (update : ℕ) (os : List (Option OrganismState
   -- so do all lives
   pub goes-on : (left : List (Option OrganismState)) → left ≡ map left_in shard_lives
       → ((place : ℕ) → IsBoundedIn update (get_or lives place no_life).occupant
-      × (genome_of (get_or lives place no_life).occupant
-      ≡ genome_of (get_or (occupants_of os ids) place None))) → (place : ℕ)
+      × (genome_of (get_or lives place no_life).occupant ≡ genome_of (get_or cells place None)))
+      → (place : ℕ)
       → GoesOn (get_or os place None) (get_or left place None)
   goes-on left are keep place =
       subst (GoesOn (get_or os place None))
       (sym (ap (λ ls. get_or ls place None) (are ∙ ap (map left_in) lives_are)
       ∙ here (cases_lt place (length lives))))
       (goes-by (get_or os place None) (get_or ids place 0) (get_or lives place no_life)
-      (keep place).0 ((keep place).1 ∙ ap genome_of (occupants_of-at os ids place long)))
+      (keep place).0 ((keep place).1
+      ∙ ap (λ (cells : List (Option Occupant)). genome_of (get_or cells place None))
+      (sym apart.were) ∙ ap genome_of (occupants_of-at os ids place apart.long)))
     where
       here : (place < length lives) ⊎ (length lives ≤ place)
           → get_or (map left_in (map bare lives)) place None

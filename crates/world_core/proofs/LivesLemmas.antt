@@ -71,6 +71,7 @@ cells_of-one cell id (b ∷ bs) =
     All-cons (λ x. x ≡ cell) cell (cells_of (map (delivery_of cell id) bs)) refl
     (cells_of-one cell id bs)
 
+-- the newborns of a life stand in one cell
 cells_of-births_by : (cell : ℕ) (newborns : List NewbornValue) (slot : Option Occupant)
     → All (λ x. x ≡ cell) (cells_of (births_by cell newborns slot))
 cells_of-births_by cell newborns None = All-nil (λ x. x ≡ cell)
@@ -87,6 +88,7 @@ cells_of-from : (k : ℕ) (l : CellLife) (ls : List CellLife)
 cells_of-from k l ls =
     map-append (λ (d : Delivery). d.cell) (births_in (k, l)) (births_from (k + 1) ls)
 
+-- no newborn of these cells stands below them
 births_from-above : (k : ℕ) (lives : List CellLife)
     → All (λ x. k ≤ x) (cells_of (births_from k lives))
 births_from-above k [] = All-nil (λ x. k ≤ x)
@@ -99,6 +101,7 @@ births_from-above k (l ∷ ls) =
     (All-append (λ x. k ≤ x) (cells_of (births_in (k, l))) (cells_of (births_from (k + 1) ls))
     first rest)
 
+-- their cells never fall
 births_from-rise : (k : ℕ) (lives : List CellLife)
     → IsNonDecreasing (cells_of (births_from k lives))
 births_from-rise k [] = nondecreasing-level [] k (All-nil (λ x. x ≡ k))
@@ -176,6 +179,7 @@ unfolding births_of
 births_of-fit config cells lives long fit =
     births_from-fit config cells 0 lives (omega (arith, long)) fit
 
+-- there are no more newborns than steps
 pub births_of-few : (lives : List CellLife) (slices : List ℕ) → length slices ≡ length lives
     → ((place : ℕ) → length (get_or lives place no_life).newborns ≤ get_or slices place 0)
     → length (births_of lives) ≤ sum slices

@@ -1,5 +1,6 @@
 -- Organisms beside their ids, as one cell changes.
-use Rattle.std.proofs.Common.{◌≡◌, refl, ap, ℕ, zero, suc, List, [], ◌∷◌, length, map, set, get_or, replicate, Option, Some, None, arith}
+use Rattle.std.proofs.Common.{◌≡◌, ◌∙◌, ◌<◌, refl, sym, ap, ℕ, zero, suc, List, [], ◌∷◌, length, map, set, get_or, replicate, Option, Some, None, arith}
+use Rattle.std.proofs.lemmas.List.{get_or_read}
 use Rattle.organism.specs.Image.{organism_of_image}
 use Rattle.organism.specs.OrganismState.{OrganismState}
 use Rattle.saved_lines.specs.declared.resident.Resident.{Resident}
@@ -11,6 +12,7 @@ use Rattle.world_rules.specs.World.{Occupant}
 use Rattle.world_core.specs.Population.{merit_of}
 use Rattle.world_core.specs.Residents.{occupants_of, with_id}
 use Rattle.world_core.specs.Resumed.{IsResident}
+use Rattle.world_core.specs.declared.residents.Residents.TheInside.{Inside}
 
 -- there are as many cells as organisms and gaps
 pub occupants_of-length : (os : List (Option OrganismState)) (ids : List ℕ) → length ids ≡ length os
@@ -58,6 +60,41 @@ occupants_of-none zero ids long = refl
 occupants_of-none (suc n) [] long = absurd (omega (arith, long))
 occupants_of-none (suc n) (id ∷ ids) long =
     ap (λ rest. None ∷ rest) (occupants_of-none n ids (omega (arith, long)))
+
+-- a cell of residents, whose organisms and ids lie apart
+module _ (r : Inside) {cells : List (Option Occupant)}
+    (long : length r.ids.items ≡ length r.organisms.items)
+    (are : occupants_of r.organisms.items r.ids.items ≡ cells) (cell : ℕ)
+    (within : cell < length cells) where
+  -- has an organism or a gap
+  pub has-slot : cell < r.organisms.len
+  has-slot =
+      omega (
+        arith,
+        within,
+        r.organisms.ok.0,
+        occupants_of-length r.organisms.items r.ids.items long,
+        ap length are,
+      )
+
+  -- and an id
+  pub has-id : cell < r.ids.len
+  has-id = omega (arith, has-slot, r.organisms.ok.0, r.ids.ok.0, long)
+
+  -- who stands there, by what was read
+  pub read-slot : (read slot : Option OrganismState) → read ≡ get_or r.organisms.items cell read
+      → read ≡ slot → get_or cells cell None ≡ with_id (get_or r.ids.items cell 0) slot
+  read-slot read slot found is =
+      sym (ap (λ (cells : List (Option Occupant)). get_or cells cell None) are)
+      ∙ occupants_of-at r.organisms.items r.ids.items cell long
+      ∙ ap (with_id (get_or r.ids.items cell 0))
+      (sym (get_or_read r.organisms.items cell read (omega (arith, has-slot, r.organisms.ok.0))
+      found None) ∙ is)
+
+  -- the id
+  pub read-id : (id : ℕ) → id ≡ get_or r.ids.items cell id → id ≡ get_or r.ids.items cell 0
+  read-id id found =
+      get_or_read r.ids.items cell id (omega (arith, has-id, r.ids.ok.0)) found 0
 
 -- an organism with an id is that organism
 pub organism-of : (id : ℕ) (o : Option OrganismState) → organism_in (with_id id o) ≡ o

@@ -62,9 +62,11 @@ pub record HasId (id : ℕ) (l : CellLife) : Type 0 where
   pub alive : l.occupant ≡ None → l.died ≡ false
   pub barren : l.occupant ≡ None → l.newborns ≡ []
 
+-- where nobody lives any id will do
 nobody-has_id : (id : ℕ) → HasId id no_life
 nobody-has_id id = record { stands = refl; alive = λ none. refl; barren = λ none. refl }
 
+-- a life has the id of who lived it
 life-has_id : (config : ConfigValues) (update cell steps id : ℕ) (slot : Option OrganismState)
     → HasId id (life_of config update cell steps (with_id id slot))
 unfolding life_of
@@ -150,17 +152,20 @@ abbrev pub HaveIds : List ℕ → ℕ → List CellLife → Type 0
 HaveIds ids first lives =
     (place : ℕ) → HasId (get_or ids (first + place) 0) (get_or lives place no_life)
 
+-- the first of these cells
 HaveIds-here : (ids : List ℕ) (first : ℕ) (l : CellLife) (lives : List CellLife)
     → HaveIds ids first (l ∷ lives) → HasId (get_or ids first 0) l
 HaveIds-here ids first l lives each = let here : first + 0 ≡ first = omega arith in
     subst (λ n. HasId (get_or ids n 0) l) here (each 0)
 
+-- the cells behind it
 HaveIds-next : (ids : List ℕ) (first : ℕ) (l : CellLife) (lives : List CellLife)
     → HaveIds ids first (l ∷ lives) → HaveIds ids (first + 1) lives
 HaveIds-next ids first l lives each place = let there : first + suc place ≡ first + 1 + place =
     omega arith in subst (λ n. HasId (get_or ids n 0) (get_or lives place no_life)) there
     (each (suc place))
 
+-- all cells
 pub HaveIds-all : (ids : List ℕ) (lives : List CellLife)
     → ((place : ℕ) → HasId (get_or ids place 0) (get_or lives place no_life)) → HaveIds ids 0 lives
 HaveIds-all ids lives each place = let here : place ≡ 0 + place = omega arith in
@@ -174,6 +179,7 @@ id-is id o stands = ap (λ (slot : Option Occupant). unwrap_or (id_of slot) 0) s
 abbrev pub with_parent : List ℕ → BirthValue → Delivery
 with_parent ids b = record { cell = b.cell; parent = get_or ids b.cell 0; newborn = b.newborn }
 
+-- the newborns of one cell
 births-of : (ids : List ℕ) (cell : ℕ) (newborns : List NewbornValue) (slot : Option Occupant)
     → slot ≡ with_id (get_or ids cell 0) (organism_in slot) → (slot ≡ None → newborns ≡ [])
     → map (with_parent ids) (map (birth_in cell) newborns) ≡ births_by cell newborns slot
@@ -200,6 +206,7 @@ births-are ids first (l ∷ lives) each =
     ∙ (λ i. births-of ids first l.newborns l.occupant here.stands here.barren i
     ++ births-are ids (first + 1) lives (HaveIds-next ids first l lives each) i)
 
+-- who died in one cell
 departed-of : (ids : List ℕ) (cell : ℕ) (l : CellLife) (rest : List Departed)
     → HasId (get_or ids cell 0) l → l.died ≡ true
     → departed_from ids cell ∷ rest

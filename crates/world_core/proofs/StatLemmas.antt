@@ -116,6 +116,7 @@ place-of (Some o ∷ cells) genome (suc k, within, is) =
     let later = place-of cells genome (k, omega (arith, within), is) in (suc later.0, later.1)
 
 module _ (one_list : OneList) where
+  -- the test of two lists of letters is an equivalence
   letters-equal : IsEquivalence same_letters
   letters-equal = record {
     refl = λ x. (one_list x x).1 refl;
@@ -143,6 +144,7 @@ module _ (one_list : OneList) where
         by false same some later = let rest = later (omega (arith, some, ap one same)) in
             (suc rest.0, omega (arith, rest.1), rest.2)
 
+  -- a genome that is among others is counted
   among-counted : (genomes : List (List Letter)) (genome : List Letter) → Contains genomes genome
       → 0 < count_of genomes genome
   among-counted genomes genome has =
@@ -241,12 +243,14 @@ module _ (one_list : OneList) where
     abbrev shown : List (List Letter)
     shown = map (λ (g : GenotypeCount). g.genome) (values_of genotypes)
 
+    -- what is found under the key of an entry
     entry-at : (i : ℕ) (d : ℕ × GenotypeCount) → i < length genotypes
         → genotype_at genotypes (get_or genotypes i d).0 ≡ Some (get_or genotypes i d).1
     entry-at i d within =
         lookup-from_Contains (eq_by_cmp_equiv nat_cmp_total) (get_or genotypes i d).0
         (get_or genotypes i d).1 genotypes key-distinct (Contains-get_or genotypes i d within)
 
+    -- the genome of an entry
     shown-at : (i : ℕ) (d : List Letter) → i < length genotypes
         → get_or shown i d ≡ (get_or genotypes i (0, record { genome = d; count = 0 })).1.genome
     shown-at i d within =
@@ -256,14 +260,17 @@ module _ (one_list : OneList) where
         (get_or-map (λ (e : ℕ × GenotypeCount). e.1) genotypes i
         (0, record { genome = d; count = 0 }) (record { genome = d; count = 0 }) within)
 
+    -- the key of an entry
     key-at : (i : ℕ) (d : ℕ × GenotypeCount) → i < length genotypes
         → get_or (keys_of genotypes) i 0 ≡ (get_or genotypes i d).0
     key-at i d within = get_or-map (λ (e : ℕ × GenotypeCount). e.0) genotypes i d 0 within
 
+    -- there are as many genomes as entries
     shown-long : length shown ≡ length genotypes
     shown-long = length-map (values_of genotypes) (λ (g : GenotypeCount). g.genome)
         ∙ length-values_of genotypes
 
+    -- no genome stands twice
     shown-distinct : IsDistinct same_letters shown
     shown-distinct = IsDistinct-from_apart same_letters shown
         (λ i j d upward within. apart i j d upward (omega (arith, within, shown-long))
@@ -288,11 +295,13 @@ module _ (one_list : OneList) where
                 key,
               ))
 
+    -- two tests of which each follows from the other
     both : (a b : Bool) → (a ≡ true → b ≡ true) → (b ≡ true → a ≡ true) → a ≡ b
     both true b forth back = sym (forth refl)
     both false true forth back = back refl
     both false false forth back = refl
 
+    -- the genotypes of some genomes are those that differ
     genotypes_of-is : (gs : List (List Letter)) → genotypes_of gs ≡ different_of gs
     genotypes_of-is [] = refl
     genotypes_of-is (g ∷ gs) =

@@ -17,6 +17,7 @@ use Rattle.world_rules.specs.World.{Occupant}
 use Rattle.world_rules.specs.Lives.{merit_in}
 use Rattle.world_core.specs.Population.{AreSummedIn, is_credited}
 
+-- what two like functions make of a list
 pub map_alike : {A B : Type 0} (f g : A → B) → ((a : A) → f a ≡ g a) → (xs : List A)
     → map f xs ≡ map g xs
 map_alike f g alike [] = refl
@@ -39,6 +40,7 @@ at_task f Equ = refl
 abbrev pub one : Bool → ℕ
 one b = cond b 1 0
 
+-- a test as a number
 from_bool-one : (b : Bool) → from_bool b ≡ one b
 from_bool-one true = refl
 from_bool-one false = refl
@@ -47,6 +49,7 @@ from_bool-one false = refl
 abbrev pub cells_with : List (Option Occupant) → Task → ℕ
 cells_with cells task = count_by (is_credited task) cells
 
+-- how many have one task
 pub task_sum : (cells : List (Option Occupant)) (merit : ℕ) (tasks : List ℕ)
     → AreSummedIn cells merit tasks → (task : Task)
     → slice_index tasks (place_of task) ≡ cells_with cells task
@@ -104,6 +107,7 @@ credited-counted cells cell o merit tasks within here are task has =
       ap one stands,
     )
 
+-- a merit is part of the sum
 pub merit-counted : (cells : List (Option Occupant)) (cell : ℕ) (o : Occupant) (merit : ℕ)
     (tasks : List ℕ) → cell < length cells → get_or cells cell None ≡ Some o
     → AreSummedIn cells merit tasks → o.organism.merit ≤ merit
@@ -116,6 +120,7 @@ pub merit-room : (cells : List (Option Occupant)) (merit : ℕ) (tasks : List �
 merit-room cells merit tasks are =
     omega (arith, are.merit_sum, are.few, sum_by-le merit_in (2 ^ 38) cells are.fits)
 
+-- and so have the counts of tasks
 pub tasks-room : (cells : List (Option Occupant)) (merit : ℕ) (tasks : List ℕ)
     → AreSummedIn cells merit tasks → All (λ count. count < 2 ^ 32) tasks
 tasks-room cells merit tasks are =
@@ -127,6 +132,7 @@ tasks-room cells merit tasks are =
       count_by-le-length (is_credited (get_or all_tasks k task)) cells,
     )))
 
+-- an organism may have another merit and credited set
 pub can-renew : (cells : List (Option Occupant)) (cell : ℕ) (o : Occupant) (merit : ℕ)
     (tasks : List ℕ) (genotypes : List (ℕ × GenotypeCount)) → cell < length cells
     → get_or cells cell None ≡ Some o → AreSummedIn cells merit tasks

@@ -23,30 +23,36 @@ use Rattle.world_core.specs.Lived.{departed_of, departure_line, staying_in}
 use Rattle.world_core.specs.declared.lived.Departed.{Departed}
 use Rattle.world_core.proofs.BurialLemmas.{burial-lines-are, burials-are}
 
+-- a death leaves the update
 pub with_death-update : (scene : Scene) (cell : ℕ) → (with_death scene cell).update ≡ scene.update
 unfolding with_death
 with_death-update scene cell = refl
 
+-- so does a newcomer
 pub with_newcomer-update : (scene : Scene) (link : Link) (organism : OrganismState)
     → (with_newcomer scene link organism).update ≡ scene.update
 unfolding with_newcomer
 with_newcomer-update scene link organism = refl
 
+-- so do many steps that leave it
 pub fold-update : {A : Type 0} (f : Scene → A → Scene)
     → ((scene : Scene) (x : A) → (f scene x).update ≡ scene.update) → (scene : Scene) (xs : List A)
     → (fold f scene xs).update ≡ scene.update
 fold-update f keeps scene [] = refl
 fold-update f keeps scene (x ∷ xs) = fold-update f keeps (f scene x) xs ∙ keeps scene x
 
+-- so do deaths
 pub with_deaths-update : (scene : Scene) (cells : List ℕ)
     → (with_deaths scene cells).update ≡ scene.update
 with_deaths-update scene cells = fold-update with_death with_death-update scene cells
 
+-- so does a newborn
 pub with_newborn-update : (config : ConfigValues) (scene : Scene) (turn : Delivery × Placing)
     → (with_newborn config scene turn).update ≡ scene.update
 unfolding with_newborn
 with_newborn-update config scene turn = with_newcomer-update scene _ _
 
+-- so do all newborns
 pub after_births-update : (config : ConfigValues) (scene : Scene) (births : List Delivery)
     → (after_births config scene births).update ≡ scene.update
 unfolding after_births
@@ -54,6 +60,7 @@ after_births-update config scene births =
     fold-update (with_newborn config) (with_newborn-update config) scene
     (turns_of config scene births)
 
+-- so does what happens in an event
 pub after_what-update : (config : ConfigValues) (scene : Scene) (nth : ℕ) (what : WhatValue)
     → (after_what config scene nth what).update ≡ scene.update
 after_what-update config scene nth (inject cell letters) = with_newcomer-update scene _ _
@@ -61,11 +68,13 @@ after_what-update config scene nth (clear first last) =
     with_deaths-update scene (cells_from first last)
 after_what-update config scene nth (rate name ppm) = refl
 
+-- so does an event
 pub after_event-update : (config : ConfigValues) (scene : Scene) (event : ℕ × EventValue)
     → (after_event config scene event).update ≡ scene.update
 unfolding after_event
 after_event-update config scene event = after_what-update config scene event.0 event.1.what
 
+-- so do all events
 pub after_events-update : (config : ConfigValues) (scene : Scene)
     → (after_events config scene).update ≡ scene.update
 unfolding after_events
@@ -104,10 +113,11 @@ pub record Phases (config : ConfigValues) (w : World) (dead : List Departed)
 
 module _ (config : ConfigValues) (w : World) (dead : List Departed) (births : List Delivery)
     (s0 s1 s2 s3 : Scene) (stats : Stats) (p : Phases config w dead births s0 s1 s2 s3 stats) where
-  -- the lives, and the scene as they have ended
+  -- the lives
   abbrev lives : List CellLife
   lives = lives_after config w
 
+  -- the scene after them
   abbrev lived_scene : Scene
   lived_scene = after_lives (w.update + 1) w.everyone lives
 
@@ -131,6 +141,7 @@ module _ (config : ConfigValues) (w : World) (dead : List Departed) (births : Li
   unfolding next_stats
   stats_of_phases = p.counted ∙ (λ i. scene_stats (scene_of_phases i) (length (p.births_are i)))
 
+  -- what is counted, by the last scene
   counted_is : stats ≡ scene_stats (last_scene config lived_scene lives) (length (births_of lives))
   unfolding last_scene
   counted_is = p.counted ∙ (λ i. scene_stats ((p.happened ∙ ap (after_events config) placed_is) i)

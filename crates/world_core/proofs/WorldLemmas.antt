@@ -12,19 +12,23 @@ use Rattle.world_rules.specs.LogText.{update_lines, update_text}
 use Rattle.world_core.specs.Scenes.{Grows, SceneValue, scene_in}
 use Rattle.world_core.specs.WorldValue.{IsWorldOf}
 
+-- one more is the next number
 one_more : (n : ℕ) → n + 1 ≡ suc n
 one_more n = omega arith
 
+-- the world after one more update
 pub world_after-more : (config : ConfigValues) (n : ℕ)
     → world_after config (n + 1) ≡ next_world config (world_after config n)
 unfolding world_after
 world_after-more config n = rw one_more refl
 
+-- what is counted then
 stats_of-more : (config : ConfigValues) (n : ℕ)
     → stats_of config (n + 1) ≡ next_stats config (world_after config n)
 unfolding stats_of
 stats_of-more config n = rw one_more refl
 
+-- the text of that update
 update_text-more : (config : ConfigValues) (n : ℕ)
     → update_text config (n + 1) ≡ lines_text (update_lines config (world_after config n))
 unfolding update_text
@@ -40,6 +44,7 @@ pub record IsNext (config : ConfigValues) (before after : SceneValue) (stats : S
   pub first : after.first ≡ before.first
   pub bank : Grows before.bank after.bank before.everyone after.everyone
 
+-- the world that the next scene leaves
 pub world_of-next : (config : ConfigValues) (before : SceneValue)
     → world_of (next_scene config (world_of (scene_in before)))
     ≡ next_world config (world_of (scene_in before))

@@ -1,11 +1,11 @@
 use Rattle.std.proofs.Common.{◌≡◌, ◌∙◌, ap, get_or, subst, sym, ◌+◌, ◌++◌, [], ◌∷◌, List, length, map, take, fold, arith, rules}
 use Rattle.std.specs.Iterator.Adapters.{zip_first, zip_second}
 use Rattle.std.specs.List.{scan}
-use Rattle.std.specs.Vec.Iter.{into_iter_items, into_iter_len}
+use Rattle.std.specs.Vec.Iter.{into_iter_items, into_iter_len, into_iter_steps}
 use Rattle.std.proofs.lemmas.List.{length_push, take_all}
 use Rattle.std.proofs.lemmas.List.Sums.{fold_more}
 use Rattle.std.proofs.lemmas.Slice.Zip.{get_or-zip, length-zip}
-use Rattle.std.proofs.lemmas.Iterator.{YieldsList-from_zip}
+use Rattle.std.proofs.lemmas.Iterator.{YieldsList, YieldsList-from_zip, zips}
 use Rattle.std.proofs.lemmas.Iterator.Adapters.{YieldsList-from_vec}
 use Rattle.std.proofs.lemmas.Iterator.Consumers.{YieldsList-turn, YieldsList-end}
 use Rattle.birth_board.specs.declared.placing.Placing.{Placing}
@@ -22,33 +22,49 @@ use Rattle.world_core.proofs.BirthLemmas.{all-placed, all-told, genomes-beside, 
 use Rattle.world_core.specs.Soundness.{IsDelivery}
 use Rattle.world_core.proofs.LivesLemmas.{All-unmap}
 use Rattle.world_core.proofs.ScanLemmas.{lines-step}
+use Rattle.world_core.proofs.births.place_births.Goals.{After-into_iter-birth-iterator}
 use Rattle.world_core.proofs.births.place_births.Goals as goal
+
+-- the placings are those of the births
+found : (c : After-into_iter-birth-iterator) → c.into_vec.result.items
+    ≡ placings_of (values_of c.args.config.now) (scene_in c.args.scene.now)
+    (map delivery_in c.args.births.items)
+found c = c.into_vec.ensures ∙ c.in_ok-placings.ensures.placings
+    ∙ ap (λ births. placings_of (values_of c.args.config.now) (scene_in c.args.scene.now)
+    (map delivery_in births)) c.deref.ensures.value
+
+-- the loop goes over each newborn with its placing
+road : (c : After-into_iter-birth-iterator)
+    → YieldsList {B = Delivery × Placing} (zips into_iter_steps into_iter_steps) (λ turn. turn)
+    c.into_iter-birth-iterator.result
+    (turns_in (values_of c.args.config.now) (scene_in c.args.scene.now) c.args.births.items)
+road c =
+    let births = c.args.births.items in
+    let placings = placings_of (values_of c.args.config.now) (scene_in c.args.scene.now)
+    (map delivery_in births) in
+    let same = c.into_iter-birth-iterator.ensures.into_iter_gives in
+    let zipped = c.zip-birth-items.ensures in
+    YieldsList-from_zip {s = c.into_iter-birth-iterator.result}
+    (YieldsList-from_vec births
+    (ap (λ s. into_iter_items (zip_first s)) same ∙ ap into_iter_items zipped.first
+    ∙ c.into_iter.ensures.rest)
+    (search rules))
+    (YieldsList-from_vec placings
+    (ap (λ s. into_iter_items (zip_second s)) same ∙ zipped.second.0 ∙ found c)
+    (ap (λ s. into_iter_len (zip_second s)) same ∙ zipped.second.1 ∙ c.into_vec.result.ok.0
+    ∙ ap length (found c)))
 
 pub settle-requires-clause-birth : goal.settle-requires-clause-birth
 settle-requires-clause-birth c =
     let config = values_of c.args.config.now in
     let births = c.args.births.items in
-    let first = scene_in c.args.scene.now in
-    let placings = placings_of config first (map delivery_in births) in
-    let turns = turns_in config first births in
-    let so_far = c.loop-birth.yielded in
-    let n = length so_far in
+    let placings = placings_of config (scene_in c.args.scene.now) (map delivery_in births) in
+    let n = length c.loop-birth.yielded in
     let turn : Delivery × Placing = (c.in-Some.birth, c.in-Some.placing) in
-    let same = c.into_iter-birth-iterator.ensures.into_iter_gives in
-    let found : c.into_vec.result.items ≡ placings = c.into_vec.ensures
-    ∙ c.in_ok-placings.ensures.placings
-    ∙ ap (λ bs. placings_of config first (map delivery_in bs)) c.deref.ensures.value in
-    let road = YieldsList-from_zip {s = c.into_iter-birth-iterator.result}
-    (YieldsList-from_vec births
-    (ap (λ s. into_iter_items (zip_first s)) same
-    ∙ ap into_iter_items c.zip-birth-items.ensures.first ∙ c.into_iter.ensures.rest)
-    (search rules))
-    (YieldsList-from_vec placings
-    (ap (λ s. into_iter_items (zip_second s)) same ∙ c.zip-birth-items.ensures.second.0 ∙ found)
-    (ap (λ s. into_iter_len (zip_second s)) same ∙ c.zip-birth-items.ensures.second.1
-    ∙ c.into_vec.result.ok.0 ∙ ap length found)) in
-    let here = YieldsList-turn road so_far c.loop-birth.birth-iterator c.loop-birth.yielded_by
-    c.next.result c.next.new.self turn c.in-Some.is c.next.ensures.steps in
+    let here = YieldsList-turn
+    (road (goal.at.settle-requires-clause-birth c).After-into_iter-birth-iterator)
+    c.loop-birth.yielded c.loop-birth.birth-iterator c.loop-birth.yielded_by c.next.result
+    c.next.new.self turn c.in-Some.is c.next.ensures.steps in
     let many = length-zip births placings in
     let is : c.in-Some.birth ≡ get_or births n c.in-Some.birth =
     ap (λ (pair : Delivery × Placing). pair.0)
@@ -64,29 +80,16 @@ pub loop-birth-preserved : goal.loop-birth-preserved
 loop-birth-preserved c =
     let config = values_of c.args.config.now in
     let first = scene_in c.args.scene.now in
-    let births = c.args.births.items in
-    let placings = placings_of config first (map delivery_in births) in
-    let turns = turns_in config first births in
+    let turns = turns_in config first c.args.births.items in
     let so_far = c.loop-birth.yielded in
     let n = length so_far in
     let turn : Delivery × Placing = (c.in-Some.birth, c.in-Some.placing) in
     let before = c.loop-birth.invariant in
     let told = c.in_ok-settle.ensures in
-    let same = c.into_iter-birth-iterator.ensures.into_iter_gives in
-    let found : c.into_vec.result.items ≡ placings = c.into_vec.ensures
-    ∙ c.in_ok-placings.ensures.placings
-    ∙ ap (λ bs. placings_of config first (map delivery_in bs)) c.deref.ensures.value in
-    let road = YieldsList-from_zip {s = c.into_iter-birth-iterator.result}
-    (YieldsList-from_vec births
-    (ap (λ s. into_iter_items (zip_first s)) same
-    ∙ ap into_iter_items c.zip-birth-items.ensures.first ∙ c.into_iter.ensures.rest)
-    (search rules))
-    (YieldsList-from_vec placings
-    (ap (λ s. into_iter_items (zip_second s)) same ∙ c.zip-birth-items.ensures.second.0 ∙ found)
-    (ap (λ s. into_iter_len (zip_second s)) same ∙ c.zip-birth-items.ensures.second.1
-    ∙ c.into_vec.result.ok.0 ∙ ap length found)) in
-    let here = YieldsList-turn road so_far c.loop-birth.birth-iterator c.loop-birth.yielded_by
-    c.next.result c.next.new.self turn c.in-Some.is c.next.ensures.steps in
+    let here = YieldsList-turn
+    (road (goal.at.loop-birth-preserved c).After-into_iter-birth-iterator) so_far
+    c.loop-birth.birth-iterator c.loop-birth.yielded_by c.next.result c.next.new.self turn
+    c.in-Some.is c.next.ensures.steps in
     let long : length (so_far ++ turn ∷ []) ≡ n + 1 = length_push so_far turn in
     let scene = scene_in c.loop-birth.scene in
     record {
@@ -112,20 +115,8 @@ returns c =
     let placings = placings_of config first (map delivery_in births) in
     let turns = turns_in config first births in
     let so_far = c.loop-birth.yielded in
-    let same = c.into_iter-birth-iterator.ensures.into_iter_gives in
-    let found : c.into_vec.result.items ≡ placings = c.into_vec.ensures
-    ∙ c.in_ok-placings.ensures.placings
-    ∙ ap (λ bs. placings_of config first (map delivery_in bs)) c.deref.ensures.value in
-    let road = YieldsList-from_zip {s = c.into_iter-birth-iterator.result}
-    (YieldsList-from_vec births
-    (ap (λ s. into_iter_items (zip_first s)) same
-    ∙ ap into_iter_items c.zip-birth-items.ensures.first ∙ c.into_iter.ensures.rest)
-    (search rules))
-    (YieldsList-from_vec placings
-    (ap (λ s. into_iter_items (zip_second s)) same ∙ c.zip-birth-items.ensures.second.0 ∙ found)
-    (ap (λ s. into_iter_len (zip_second s)) same ∙ c.zip-birth-items.ensures.second.1
-    ∙ c.into_vec.result.ok.0 ∙ ap length found)) in
-    let whole = YieldsList-end road so_far c.loop-birth.birth-iterator c.loop-birth.yielded_by
+    let at = (goal.at.returns c).After-into_iter-birth-iterator in
+    let whole = YieldsList-end (road at) so_far c.loop-birth.birth-iterator c.loop-birth.yielded_by
     c.next.result c.next.new.self c.in-None.is c.next.ensures.steps in
     let all : take (length so_far) turns ≡ turns =
     take_all (length so_far) turns (omega (arith, whole.1)) in
@@ -143,8 +134,8 @@ returns c =
           ∙ placed-genomes config first turns
           ∙ ap (λ gs. genomes_ever first.everyone ++ gs)
           (genomes-beside births placings
-          (sym (ap length found) ∙ ap length c.into_vec.ensures ∙ c.in_ok-placings.ensures.count
-          ∙ ap length c.deref.ensures.value));
+          (sym (ap length (found at)) ∙ ap length c.into_vec.ensures
+          ∙ c.in_ok-placings.ensures.count ∙ ap length c.deref.ensures.value));
       size = c.loop-birth.invariant.size;
       everyone = omega (
         arith,
@@ -152,7 +143,7 @@ returns c =
         whole.1,
         many,
         c.in_ok-placings.ensures.count,
-        ap length found,
+        ap length (found at),
         ap length c.into_vec.ensures,
         ap length c.deref.ensures.value,
       );
