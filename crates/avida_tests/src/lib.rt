@@ -10,6 +10,8 @@ mod one_cell;
 #[cfg(test)]
 mod run_faults;
 #[cfg(test)]
+mod saved_faults;
+#[cfg(test)]
 mod served;
 #[cfg(test)]
 mod trace_faults;

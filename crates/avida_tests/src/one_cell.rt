@@ -1,4 +1,5 @@
 // The run of one cell in which the ancestor's child replaces it.
+use crate::served::front_of_puts;
 use std::alloc::{AllocError, Global};
 
 /// One cell for 13 updates without errors.
@@ -51,16 +52,7 @@ pub const PICTURE: &str =
 
 /// What is held where the put of this number fails, taking so many bytes.
 pub fn front_of(alloc: Global, call: u64, takes: usize) -> Result<Vec<u8>, AllocError> {
-    let mut held = Vec::new(alloc);
-    for (number, put) in (1u64..).zip(PUTS.split("---\n")) {
-        if number < call {
-            held.extend_from_slice(put.as_bytes())?;
-        }
-        if number == call {
-            held.extend_from_slice(&put.as_bytes()[..takes.min(put.len())])?;
-        }
-    }
-    Ok(held)
+    front_of_puts(alloc, PUTS, call, takes)
 }
 
 /// The whole log, which has fifteen puts.

@@ -121,3 +121,23 @@ pub fn serve_on<R: Threads + Wait + Clock + Sync>(
 ) -> Result<Served, AllocError> {
     serve_with(rt, alloc, words, bytes, NO_FAULTS)
 }
+
+/// What is held of these texts, put one after another, where the put of this number fails, taking
+/// so many bytes.
+pub fn front_of_puts(
+    alloc: Global,
+    puts: &str,
+    call: u64,
+    takes: usize,
+) -> Result<Vec<u8>, AllocError> {
+    let mut held = Vec::new(alloc);
+    for (number, put) in (1u64..).zip(puts.split("---\n")) {
+        if number < call {
+            held.extend_from_slice(put.as_bytes())?;
+        }
+        if number == call {
+            held.extend_from_slice(&put.as_bytes()[..takes.min(put.len())])?;
+        }
+    }
+    Ok(held)
+}
