@@ -4,4 +4,7 @@ pub mod RangeLemmas
 pub mod StopLemmas
 pub mod RunEnds
 pub mod BenchLemmas
+pub mod GrowingTexts
+pub mod ResumeLemmas
+pub mod SavedLemmas
 pub mod Serves

@@ -7,7 +7,7 @@ use Rattle.avida_port.specs.Ports.{SinkState, SourceState}
 use Rattle.logged_run.proofs.WatchLemmas.{no_pictures}
 use Rattle.written_texts.proofs.GainedLemmas.{stays_front}
 use Rattle.avida_program.specs.declared.command.Command.{Command}
-use Rattle.avida_program.specs.declared.command.Command.TheVariants.{Trace, Run, Lineage, Bench, Assay, Replay, Upgrade, Tree, Landscape}
+use Rattle.avida_program.specs.declared.command.Command.TheVariants.{Trace, Run, Lineage, Bench, Assay, Save, Resume, Replay, Upgrade, Tree, Landscape}
 use Rattle.avida_program.specs.declared.status.Status.TheVariants as status
 use Rattle.avida_program.specs.declared.outcome.Outcome.{Outcome}
 use Rattle.avida_program.specs.declared.outcome.Outcome.TheVariants as outcome
@@ -318,6 +318,14 @@ serves_command (Assay count first workers) call told did tells = λ bytes is. re
   serves = serves_input None _ _ call told did.watch_stays (did.does bytes is).reads tells;
   last_stays = (did.does bytes is).last_stays;
 }
+serves_command (Save workers) call told did tells = λ bytes is. record {
+  serves = serves_input None _ _ call told did.watch_stays (did.does bytes is).reads tells;
+  last_stays = (did.does bytes is).last_stays;
+}
+serves_command (Resume more workers) call told did tells = λ bytes is. record {
+  serves = serves_input None _ _ call told did.watch_stays (did.does bytes is).reads tells;
+  last_stays = (did.does bytes is).last_stays;
+}
 serves_command Replay call told did tells = λ bytes is. record {
   serves = serves_input None _ _ call told did.watch_stays (did.does bytes is).reads tells;
   last_stays = (did.does bytes is).last_stays;
@@ -401,6 +409,10 @@ does_nothing (Bench seed workers) source out watch last = record {
   leaves = λ e. absurd (cc);
 }
 does_nothing (Assay count first workers) source out watch last =
+    λ bytes is. record { reads = inl refl; last_stays = refl }
+does_nothing (Save workers) source out watch last =
+    λ bytes is. record { reads = inl refl; last_stays = refl }
+does_nothing (Resume more workers) source out watch last =
     λ bytes is. record { reads = inl refl; last_stays = refl }
 does_nothing Replay source out watch last =
     λ bytes is. record { reads = inl refl; last_stays = refl }

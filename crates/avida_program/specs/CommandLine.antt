@@ -3,7 +3,7 @@ use Rattle.std.specs.Prelude.{Bool, ℕ, List, [], ◌∷◌, Option, None, ◌�
 use Rattle.std.specs.Str.{bytes_eq}
 use Rattle.command_line.specs.Commands as told
 use Rattle.avida_program.specs.declared.command.Command.{Command}
-use Rattle.avida_program.specs.declared.command.Command.TheVariants.{Trace, Run, Lineage, Bench, Assay, Replay, Upgrade, Tree, Landscape}
+use Rattle.avida_program.specs.declared.command.Command.TheVariants.{Trace, Run, Lineage, Bench, Assay, Save, Resume, Replay, Upgrade, Tree, Landscape}
 use Rattle.avida_program.specs.declared.command.Spelling.{Spelling}
 use Rattle.avida_program.specs.declared.command.Spelling.TheVariants.{Letters, Names}
 
@@ -38,6 +38,15 @@ abbrev pub assay_command : List (List ℕ) → Option Command
 assay_command words =
     option_map (λ assay. Assay assay.count assay.first assay.workers) (told.assay_told words)
 
+-- `save` by the words after the name
+abbrev pub save_command : List (List ℕ) → Option Command
+save_command words = option_map (λ workers. Save workers) (told.save_told words)
+
+-- `resume` by the words after the name
+abbrev pub resume_command : List (List ℕ) → Option Command
+resume_command words =
+    option_map (λ resume. Resume resume.more resume.workers) (told.resume_told words)
+
 -- a command that takes no words
 abbrev pub bare_command : Command → List (List ℕ) → Option Command
 bare_command command words = option_map (λ nothing. command) (told.nothing_told words)
@@ -50,6 +59,8 @@ command_named name words =
     else if bytes_eq name (codes "lineage") then lineage_command words
     else if bytes_eq name (codes "bench") then bench_command words
     else if bytes_eq name (codes "assay") then assay_command words
+    else if bytes_eq name (codes "save") then save_command words
+    else if bytes_eq name (codes "resume") then resume_command words
     else if bytes_eq name (codes "replay") then bare_command Replay words
     else if bytes_eq name (codes "upgrade") then bare_command Upgrade words
     else if bytes_eq name (codes "tree") then bare_command Tree words
@@ -68,6 +79,8 @@ looks_of (Run workers looks) = looks
 looks_of (Lineage cell workers) = None
 looks_of (Bench seed workers) = None
 looks_of (Assay count first workers) = None
+looks_of (Save workers) = None
+looks_of (Resume more workers) = None
 looks_of Replay = None
 looks_of Upgrade = None
 looks_of Tree = None
@@ -87,6 +100,8 @@ IsInRange (Bench seed workers) =
     (seed ≤ 9223372036854775807) × (1 ≤ workers) × (workers ≤ 64)
 IsInRange (Assay count first workers) = (1 ≤ count) × (count ≤ 64)
     × (first ≤ 9223372036854775744) × (1 ≤ workers) × (workers ≤ 64)
+IsInRange (Save workers) = (1 ≤ workers) × (workers ≤ 64)
+IsInRange (Resume more workers) = (1 ≤ workers) × (workers ≤ 64)
 IsInRange Replay = ⊤
 IsInRange Upgrade = ⊤
 IsInRange Tree = ⊤

@@ -4,12 +4,13 @@ use Rattle.std.specs.Prelude.{◌≡◌, ◌≢◌, ◌⊎◌, ℕ, List, Option
 use Rattle.assay.specs.AssayText.{assay_text}
 use Rattle.landscape.specs.LandscapeText.{landscape_text}
 use Rattle.phylogeny.specs.TreeText.{tree_text}
+use Rattle.saved_worlds.specs.Resuming.{continued_text}
 use Rattle.world_config.specs.Values.{ConfigValues}
 use Rattle.world_core.specs.WorldValue.{WorldValue}
 use Rattle.avida_program.specs.declared.command.Command.{Command}
 use Rattle.avida_program.specs.declared.command.Command.TheVariants.{Trace, Run, Lineage, Bench}
-use Rattle.avida_program.specs.declared.command.Command.TheVariants.{Assay, Replay, Upgrade, Tree}
-use Rattle.avida_program.specs.declared.command.Command.TheVariants.{Landscape}
+use Rattle.avida_program.specs.declared.command.Command.TheVariants.{Assay, Save, Resume, Replay}
+use Rattle.avida_program.specs.declared.command.Command.TheVariants.{Upgrade, Tree, Landscape}
 use Rattle.avida_program.specs.declared.command.Spelling.{Spelling}
 use Rattle.avida_program.specs.declared.command.Spelling.TheVariants.{Letters}
 use Rattle.avida_program.specs.declared.status.Status.{Status}
@@ -19,9 +20,10 @@ use Rattle.avida_program.specs.BenchText.{bench_config, bench_text}
 use Rattle.avida_program.specs.Changes.{Call, OnBytes, TellsOf}
 use Rattle.written_texts.specs.SinkChanges.{Stays, SinkFailed, GainedText, GainedFront}
 use Rattle.avida_program.specs.Input.{IsInputWith, assay_input_of, configuration_of, genome_of}
-use Rattle.avida_program.specs.Input.{lineage_input_of, log_input_of}
+use Rattle.avida_program.specs.Input.{lineage_input_of, log_input_of, resume_input_of}
 use Rattle.avida_program.specs.PathText.{path_text}
 use Rattle.avida_program.specs.ReplayText.{replay_text, upgrade_text}
+use Rattle.avida_program.specs.SaveText.{save_text}
 use Rattle.avida_program.specs.FinalWorld.{GainedLogOf, LeavesFinal}
 use Rattle.logged_run.specs.RunText.{run_text}
 use Rattle.avida_program.specs.ServesInput.{ServesInput, ServesNothing}
@@ -99,6 +101,19 @@ pub record ServesAssay (count first : ℕ) (bytes : List ℕ) (call : Call) (s :
       (λ config. assay_text config first count) call s
   pub last_stays : Stays call.last
 
+-- `save`, on a source that tells these bytes
+pub record ServesSave (bytes : List ℕ) (call : Call) (s : Status) : Type 0 where
+  -- what is read and written
+  pub serves : ServesInput None (configuration_of bytes) save_text call s
+  pub last_stays : Stays call.last
+
+-- `resume` with so many more updates, on a source that tells these bytes
+pub record ServesResume (more : ℕ) (bytes : List ℕ) (call : Call) (s : Status) : Type 0 where
+  -- what is read and written; a saved world that would go past the greatest update is refused
+  pub serves :
+      ServesInput None (resume_input_of more bytes) (λ state. continued_text state more) call s
+  pub last_stays : Stays call.last
+
 -- `replay`, on a source that tells these bytes
 pub record ServesReplay (bytes : List ℕ) (call : Call) (s : Status) : Type 0 where
   pub serves : ServesInput None (log_input_of bytes) replay_text call s
@@ -132,6 +147,9 @@ ServesCommand (Lineage cell workers) call s =
 ServesCommand (Bench seed workers) call s = ServesBench seed call s
 ServesCommand (Assay count first workers) call s =
     OnBytes call.source (λ bytes. ServesAssay count first bytes call s)
+ServesCommand (Save workers) call s = OnBytes call.source (λ bytes. ServesSave bytes call s)
+ServesCommand (Resume more workers) call s =
+    OnBytes call.source (λ bytes. ServesResume more bytes call s)
 ServesCommand Replay call s = OnBytes call.source (λ bytes. ServesReplay bytes call s)
 ServesCommand Upgrade call s = OnBytes call.source (λ bytes. ServesUpgrade bytes call s)
 ServesCommand Tree call s = OnBytes call.source (λ bytes. ServesTree bytes call s)

@@ -1,18 +1,22 @@
 -- Which input a command takes (docs/FORMATS.md, "Genomes by letters", "Genomes by names", "The
--- configuration" and "The log").
-use Rattle.std.specs.Prelude.{◌≡◌, ◌*◌, ℕ, List, Result, Ok, Err, length, nat_lt, if◌then◌else◌}
+-- configuration", "The log" and "Saved worlds").
+use Rattle.std.specs.Prelude.{◌≡◌, ◌*◌, ◌+◌, ℕ, List, Result, Ok, Err, length, nat_lt, if◌then◌else◌}
 use Rattle.instruction_set.specs.declared.letter.Letter.{Letter}
 use Rattle.genome.specs.declared.stop.GenomeStop.{GenomeStop}
 use Rattle.genome.specs.GenomeText.{spelled_by_letters, spelled_by_names}
+use Rattle.checkpoint.specs.declared.saved_stop.SavedStop.{SavedStop}
+use Rattle.checkpoint.specs.declared.saved_stop.SavedStop.TheVariants as saved
 use Rattle.log_lines.specs.Line.{Line}
 use Rattle.lineage_log.specs.LogGrammar.{log_of}
 use Rattle.lineage_log.specs.LogValues.{answer_of}
+use Rattle.saved_worlds.specs.SavedGrammar.{SavedCause, SavedFault, BadLine, BadState, Unended, saved_of}
+use Rattle.saved_worlds.specs.SavedState.{SavedState}
 use Rattle.world_config.specs.Config.{config_of}
 use Rattle.world_config.specs.Values.{ConfigValues}
 use Rattle.avida_program.specs.declared.command.Spelling.{Spelling}
 use Rattle.avida_program.specs.declared.command.Spelling.TheVariants.{Letters, Names}
 use Rattle.avida_program.specs.declared.refusal.Refusal.{Refusal}
-use Rattle.avida_program.specs.declared.refusal.Refusal.TheVariants.{TooLong, Genome, Config, Log, Cell, Cells}
+use Rattle.avida_program.specs.declared.refusal.Refusal.TheVariants.{TooLong, Genome, Config, Log, Saved, Cell, Cells, Updates}
 
 -- an input, or what refuses it as the reason of a refusal
 abbrev pub refused_as : {A E : Type 0} → (E → Refusal) → Result A E → Result A Refusal
@@ -66,3 +70,28 @@ assay_input_of count bytes = with_worlds count (configuration_of bytes)
 -- the lines of an input that is a log, or why it is refused
 abbrev pub log_input_of : List ℕ → Result (List Line) Refusal
 log_input_of bytes = within 536870912 bytes (refused_as Log (answer_of (log_of bytes)))
+
+-- the answer for a faulty line of a saved world
+abbrev pub saved_stop_at : ℕ → SavedCause → SavedStop
+saved_stop_at line BadLine = saved.BadLine line
+saved_stop_at line BadState = saved.BadState line
+saved_stop_at line Unended = saved.Unended line
+
+-- which line of a saved world is faulty, and how
+abbrev pub saved_refusal : SavedFault → Refusal
+saved_refusal fault = Saved (saved_stop_at fault.line fault.cause)
+
+-- the state of an input that is a saved world, or why it is refused
+abbrev pub saved_input_of : List ℕ → Result SavedState Refusal
+saved_input_of bytes = within 536870912 bytes (refused_as saved_refusal (saved_of bytes))
+
+-- a saved world, unless so many more updates go past the greatest; what refuses it comes first
+abbrev pub with_more : ℕ → Result SavedState Refusal → Result SavedState Refusal
+with_more more (Ok state) =
+    let updates = state.head.update + more in
+    if nat_lt 1000000 updates then Err (Updates updates) else Ok state
+with_more more (Err why) = Err why
+
+-- the state of an input of which so many more updates are asked for, or why it is refused
+abbrev pub resume_input_of : ℕ → List ℕ → Result SavedState Refusal
+resume_input_of more bytes = with_more more (saved_input_of bytes)

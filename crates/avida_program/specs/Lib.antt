@@ -5,6 +5,7 @@ pub mod PathText
 pub mod Input
 pub mod ReplayText
 pub mod TreeText
+pub mod SaveText
 pub mod Changes
 pub mod ServesInput
 pub mod Commands

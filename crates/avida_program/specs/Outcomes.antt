@@ -25,6 +25,11 @@ abbrev pub outcome_at : WriteStop → Outcome
 outcome_at written.Fault = outcome.WriteFault
 outcome_at written.Memory = outcome.NoMemory
 
+-- how a call ends whose text is written so
+abbrev pub outcome_by : Result (Unit {0}) WriteStop → Outcome
+outcome_by (Ok done) = outcome.Done
+outcome_by (Err stop) = outcome_at stop
+
 -- how a call ends whose puts ended so
 abbrev pub outcome_of : Result (Unit {0}) SinkStop → Outcome
 outcome_of (Ok done) = outcome.Done

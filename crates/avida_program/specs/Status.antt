@@ -6,11 +6,13 @@ use Rattle.avida_program.specs.declared.status.Status.TheVariants as status
 use Rattle.avida_program.specs.declared.outcome.Outcome.{Outcome}
 use Rattle.avida_program.specs.declared.outcome.Outcome.TheVariants as outcome
 use Rattle.avida_program.specs.declared.refusal.Refusal.{Refusal}
-use Rattle.avida_program.specs.declared.refusal.Refusal.TheVariants.{TooLong, Genome, Config, Log, Cell, Cells}
+use Rattle.avida_program.specs.declared.refusal.Refusal.TheVariants.{TooLong, Genome, Config, Log, Saved, Cell, Cells, Updates}
 use Rattle.genome.specs.declared.stop.GenomeStop.{GenomeStop}
 use Rattle.genome.specs.declared.stop.GenomeStop.TheVariants as stop
 use Rattle.lineage_log.specs.declared.log_stop.LogStop.{LogStop}
 use Rattle.lineage_log.specs.declared.log_stop.LogStop.TheVariants as log
+use Rattle.checkpoint.specs.declared.saved_stop.SavedStop.{SavedStop}
+use Rattle.checkpoint.specs.declared.saved_stop.SavedStop.TheVariants as saved
 use Rattle.world_config.specs.KeyTable.{key_name}
 use Rattle.world_config.specs.declared.stop.ConfigStop.{ConfigStop}
 use Rattle.world_config.specs.declared.stop.ConfigStop.TheVariants as config
@@ -84,14 +86,23 @@ log_reason (log.UnknownParent line) = codes "parent " ++ decimal line
 log_reason (log.BadChange line) = codes "change " ++ decimal line
 log_reason (log.Unended line) = codes "unended " ++ decimal line
 
+-- which line of a saved world is faulty, and how; running out of memory refuses no input
+abbrev pub saved_reason : SavedStop → List ℕ
+saved_reason saved.Memory = []
+saved_reason (saved.BadLine line) = codes "line " ++ decimal line
+saved_reason (saved.BadState line) = codes "state " ++ decimal line
+saved_reason (saved.Unended line) = codes "unended " ++ decimal line
+
 -- the reason of a refusal, as its line tells it
 abbrev pub reason_of : Refusal → List ℕ
 reason_of TooLong = codes "too long"
 reason_of (Genome why) = genome_reason why
 reason_of (Config why) = config_reason why
 reason_of (Log why) = log_reason why
+reason_of (Saved why) = saved_reason why
 reason_of (Cell cell) = codes "cell " ++ decimal cell
 reason_of (Cells cells) = codes "cells " ++ decimal cells
+reason_of (Updates updates) = codes "updates " ++ decimal updates
 
 -- the line that tells of an outcome
 abbrev pub fault_line : Outcome → List ℕ

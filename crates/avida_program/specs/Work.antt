@@ -4,11 +4,12 @@ use Rattle.std.specs.Prelude.{◌≡◌, ◌≢◌, ◌⊎◌, ℕ, List, [], Op
 use Rattle.assay.specs.AssayText.{assay_text}
 use Rattle.landscape.specs.LandscapeText.{landscape_text}
 use Rattle.phylogeny.specs.TreeText.{tree_text}
+use Rattle.saved_worlds.specs.Resuming.{continued_text}
 use Rattle.world_config.specs.Values.{ConfigValues}
 use Rattle.world_core.specs.WorldValue.{WorldValue}
 use Rattle.world_rules.specs.Laws.{ReplaysToLiving}
 use Rattle.avida_program.specs.declared.command.Command.{Command}
-use Rattle.avida_program.specs.declared.command.Command.TheVariants.{Trace, Run, Lineage, Bench, Assay, Replay, Upgrade, Tree, Landscape}
+use Rattle.avida_program.specs.declared.command.Command.TheVariants.{Trace, Run, Lineage, Bench, Assay, Save, Resume, Replay, Upgrade, Tree, Landscape}
 use Rattle.avida_program.specs.declared.command.Spelling.TheVariants.{Letters}
 use Rattle.avida_program.specs.declared.outcome.Outcome.{Outcome}
 use Rattle.avida_program.specs.declared.outcome.Outcome.TheVariants as outcome
@@ -18,10 +19,11 @@ use Rattle.written_texts.specs.SinkChanges.{Change, Stays, SinkFailed, GainedTex
 use Rattle.avida_program.specs.Changes.{OnBytes, SourceFailed, Work}
 use Rattle.logged_run.specs.RunStops.{PutFailed}
 use Rattle.avida_program.specs.CommandLine.{looks_of}
-use Rattle.avida_program.specs.Input.{IsInputWith, assay_input_of, configuration_of, genome_of, lineage_input_of, log_input_of}
+use Rattle.avida_program.specs.Input.{IsInputWith, assay_input_of, configuration_of, genome_of, lineage_input_of, log_input_of, resume_input_of}
 use Rattle.avida_program.specs.Outcomes.{WritesText}
 use Rattle.avida_program.specs.PathText.{path_text}
 use Rattle.avida_program.specs.ReplayText.{replay_text, upgrade_text}
+use Rattle.avida_program.specs.SaveText.{save_text}
 use Rattle.avida_program.specs.FinalWorld.{LeavesFinal}
 use Rattle.logged_run.specs.RunText.{run_text}
 use Rattle.avida_program.specs.TraceText.{trace_text}
@@ -103,6 +105,10 @@ Does (Lineage cell workers) work told = OnBytes work.source (λ bytes. Descends 
 Does (Bench seed workers) work told = Benches seed work told
 Does (Assay count first workers) work told = OnBytes work.source (λ bytes.
     ReadsAndWrites (assay_input_of count bytes) (λ config. assay_text config first count) work told)
+Does (Save workers) work told = OnBytes work.source (λ bytes.
+    ReadsAndWrites (configuration_of bytes) save_text work told)
+Does (Resume more workers) work told = OnBytes work.source (λ bytes.
+    ReadsAndWrites (resume_input_of more bytes) (λ state. continued_text state more) work told)
 Does Replay work told =
     OnBytes work.source (λ bytes. ReadsAndWrites (log_input_of bytes) replay_text work told)
 Does Upgrade work told =

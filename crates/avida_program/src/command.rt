@@ -1,11 +1,11 @@
 // The words of a command line.
 ghost use Rattle.std.specs.Prelude.{◌≡◌, ◌<◌, Some, MatchResult, IfOk, drop, length, map, string_bytes};
 ghost use Rattle.command_line.specs.Refusals.{Refuses};
-ghost use Rattle.avida_program.specs.CommandLine.{IsInRange, assay_command, bare_command, bench_command, command_named, command_of, landscape_command, lineage_command, run_command, spelling_of, trace_command};
+ghost use Rattle.avida_program.specs.CommandLine.{IsInRange, assay_command, bare_command, bench_command, command_named, command_of, landscape_command, lineage_command, resume_command, run_command, save_command, spelling_of, trace_command};
 
 use command_line::{
-    Refused, read_assay, read_bench, read_landscape, read_lineage, read_nothing, read_run,
-    read_trace,
+    Refused, read_assay, read_bench, read_landscape, read_lineage, read_nothing, read_resume,
+    read_run, read_save, read_trace,
 };
 use std::alloc::Global;
 
@@ -40,6 +40,14 @@ pub enum Command {
     Assay {
         count: u32,
         first: u64,
+        workers: u32,
+    },
+    Save {
+        workers: u32,
+    },
+    /// So many updates more of a saved world.
+    Resume {
+        more: u32,
         workers: u32,
     },
     Replay,
@@ -138,6 +146,29 @@ fn read_assay_words(alloc: Global, words: &[String]) -> Result<Command, Refused>
     })
 }
 
+fn read_save_words(alloc: Global, words: &[String]) -> Result<Command, Refused>
+    requires { 0 < length words.now }
+    ensures { MatchResult result
+        (λ command. save_command (drop 1 (map string_bytes words.now)) ≡ Some command)
+        (Refuses (save_command (drop 1 (map string_bytes words.now)))) }
+{
+    let workers = read_save(alloc, words)?;
+    Ok(Command::Save { workers })
+}
+
+fn read_resume_words(alloc: Global, words: &[String]) -> Result<Command, Refused>
+    requires { 0 < length words.now }
+    ensures { MatchResult result
+        (λ command. resume_command (drop 1 (map string_bytes words.now)) ≡ Some command)
+        (Refuses (resume_command (drop 1 (map string_bytes words.now)))) }
+{
+    let resume = read_resume(alloc, words)?;
+    Ok(Command::Resume {
+        more: resume.more,
+        workers: resume.workers,
+    })
+}
+
 /// A command that takes no words.
 fn read_bare_words(alloc: Global, words: &[String], command: Command) -> Result<Command, Refused>
     requires { 0 < length words.now }
@@ -165,6 +196,8 @@ fn read_named(alloc: Global, name: &str, words: &[String]) -> Result<Command, Re
         "lineage" => read_lineage_words(alloc, words),
         "bench" => read_bench_words(alloc, words),
         "assay" => read_assay_words(alloc, words),
+        "save" => read_save_words(alloc, words),
+        "resume" => read_resume_words(alloc, words),
         "replay" => read_bare_words(alloc, words, Command::Replay),
         "upgrade" => read_bare_words(alloc, words, Command::Upgrade),
         "tree" => read_bare_words(alloc, words, Command::Tree),

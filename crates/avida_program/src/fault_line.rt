@@ -3,10 +3,11 @@ ghost use Rattle.std.specs.Prelude.{◌≡◌, ◌≤◌, ◌+◌, ◌++◌, len
 ghost use Rattle.std.specs.Fmt.{signed_decimal};
 ghost use Rattle.arrayvec.specs.ArrayVec.{array_vec_len};
 ghost use Rattle.world_config.specs.KeyTable.{key_name};
-ghost use Rattle.avida_program.specs.Status.{config_reason, fault_line, genome_reason, log_reason, reason_of, shown_byte, shown_key};
+ghost use Rattle.avida_program.specs.Status.{config_reason, fault_line, genome_reason, log_reason, reason_of, saved_reason, shown_byte, shown_key};
 
 use crate::{Outcome, Refusal};
 use arrayvec::ArrayVec;
+use checkpoint::SavedStop;
 use genome::GenomeStop;
 use lineage_log::LogStop;
 use world_config::{ConfigStop, Key};
@@ -150,6 +151,19 @@ fn push_log_reason(line: &mut Line, stop: LogStop)
     }
 }
 
+fn push_saved_reason(line: &mut Line, stop: SavedStop)
+    requires { array_vec_len line.old ≤ 20 }
+    ensures items { line.new.items ≡ line.old.items ++ saved_reason stop }
+    ensures len { array_vec_len line.new ≤ array_vec_len line.old + 40 }
+{
+    match stop {
+        SavedStop::Memory => {}
+        SavedStop::BadLine { line: number } => push_number(line, "line ", number),
+        SavedStop::BadState { line: number } => push_number(line, "state ", number),
+        SavedStop::Unended { line: number } => push_number(line, "unended ", number),
+    }
+}
+
 fn push_reason(line: &mut Line, refusal: &Refusal)
     requires { array_vec_len line.old ≤ 20 }
     ensures items { line.new.items ≡ line.old.items ++ reason_of refusal.now }
@@ -160,8 +174,10 @@ fn push_reason(line: &mut Line, refusal: &Refusal)
         Refusal::Genome(stop) => push_genome_reason(line, *stop),
         Refusal::Config(stop) => push_config_reason(line, stop),
         Refusal::Log(stop) => push_log_reason(line, *stop),
+        Refusal::Saved(stop) => push_saved_reason(line, *stop),
         Refusal::Cell(cell) => push_number(line, "cell ", u64::from(*cell)),
         Refusal::Cells(cells) => push_number(line, "cells ", u64::from(*cells)),
+        Refusal::Updates(updates) => push_number(line, "updates ", *updates),
     }
 }
 

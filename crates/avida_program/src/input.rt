@@ -1,19 +1,22 @@
 // What a command reads.
-ghost use Rattle.std.specs.Prelude.{◌≡◌, ◌≢◌, ◌≤◌, ◌<◌, ◌*◌, ℕ, List, [], length, Some, IfOk, IfErr, OnOk, Ok, Err};
+ghost use Rattle.std.specs.Prelude.{◌≡◌, ◌≢◌, ◌≤◌, ◌<◌, ◌*◌, ◌+◌, ℕ, List, [], length, Some, IfOk, IfErr, OnOk, Ok, Err};
 ghost use Rattle.avida_port.specs.Ports.{IsAllOf};
 ghost use Rattle.genome.specs.Genome.{letters};
 ghost use Rattle.lineage_log.specs.Replay.{replay_of};
 ghost use Rattle.world_config.specs.Shown.{values_of};
 ghost use Rattle.written_texts.specs.SinkChanges.{change};
-ghost use Rattle.avida_program.specs.Input.{IsInputWith, assay_input_of, configuration_of, genome_of, genome_spelled, lineage_input_of, log_input_of};
+ghost use Rattle.avida_program.specs.Input.{IsInputWith, assay_input_of, configuration_of, genome_of, genome_spelled, lineage_input_of, log_input_of, resume_input_of, saved_input_of};
 ghost use Rattle.avida_program.specs.Outcomes.{RefusesInput, StopsReading};
 
 use crate::{Outcome, Refusal, Spelling};
 use avida_port::{LONGEST_INPUT, ReadStop, Source, read_all};
+use checkpoint::{SavedStop, read_saved};
 use genome::{Genome, GenomeStop, read_letters, read_names};
 use lineage_log::{Livings, Log, LogStop, living_at_end, read_log};
 use std::alloc::Global;
-use world_config::{Config, ConfigStop};
+use std::sync::Wait;
+use world_config::{Config, ConfigStop, GREATEST_UPDATES};
+use world_core::State;
 
 /// A genome or a configuration with more bytes is rejected as too long.
 pub const INPUT_LIMIT: usize = 1_048_576;
@@ -136,5 +139,49 @@ pub fn read_livings(alloc: Global, bytes: Vec<u8>) -> Result<Livings, Outcome>
         Ok(livings) => Ok(livings),
         Err(LogStop::Memory) => Err(Outcome::NoMemory),
         Err(stop) => Err(Outcome::BadInput(Refusal::Log(stop))),
+    }
+}
+
+/// Reads a saved world from the bytes and drops them. It may wait, since it interns the genomes of
+/// the organisms.
+pub fn read_state<R: Wait>(
+    rt: &R,
+    alloc: Global,
+    bytes: Vec<u8>,
+    workers: u32,
+) -> Result<State, Outcome>
+    requires bytes { length bytes.items ≤ 536870912 }
+    requires workers { (1 ≤ workers) × (workers ≤ 64) }
+    ensures ok { IfOk result (λ state. saved_input_of bytes.items ≡ Ok state) }
+    ensures refused { IfErr result (RefusesInput (saved_input_of bytes.items)) }
+{
+    match read_saved(rt, alloc, bytes.as_slice(), workers) {
+        Ok(state) => Ok(state),
+        Err(SavedStop::Memory) => Err(Outcome::NoMemory),
+        Err(stop) => Err(Outcome::BadInput(Refusal::Saved(stop))),
+    }
+}
+
+/// Reads a saved world from the bytes and drops them. One that would go past the greatest update in
+/// so many more is rejected. It may wait, since it interns the genomes of the organisms.
+pub fn read_state_for<R: Wait>(
+    rt: &R,
+    alloc: Global,
+    bytes: Vec<u8>,
+    more: u32,
+    workers: u32,
+) -> Result<State, Outcome>
+    requires bytes { length bytes.items ≤ 536870912 }
+    requires workers { (1 ≤ workers) × (workers ≤ 64) }
+    ensures ok { IfOk result (λ state. resume_input_of more bytes.items ≡ Ok state) }
+    ensures updates { IfOk result (λ state. state.head.update + more ≤ 1000000) }
+    ensures refused { IfErr result (RefusesInput (resume_input_of more bytes.items)) }
+{
+    let state = read_state(rt, alloc, bytes, workers)?;
+    let updates = u64::from(state.update()) + u64::from(more);
+    if updates <= u64::from(GREATEST_UPDATES) {
+        Ok(state)
+    } else {
+        Err(Outcome::BadInput(Refusal::Updates(updates)))
     }
 }

@@ -1,6 +1,6 @@
 // A status, with the reason of a refusal.
 ghost use Rattle.std.specs.Prelude.{◌≡◌};
-ghost use Rattle.avida_program.specs.Outcomes.{outcome_of};
+ghost use Rattle.avida_program.specs.Outcomes.{outcome_by, outcome_of};
 ghost use Rattle.avida_program.specs.Status.{status_of};
 
 use crate::{Refusal, Status};
@@ -90,6 +90,16 @@ pub fn ended(puts: Result<(), SinkStop>) -> Outcome
     ensures { result ≡ outcome_of puts }
 {
     match puts {
+        Ok(()) => Outcome::Done,
+        Err(stop) => Outcome::from(stop),
+    }
+}
+
+/// The outcome of a call whose text is written so.
+pub fn written(text: Result<(), WriteStop>) -> Outcome
+    ensures { result ≡ outcome_by text }
+{
+    match text {
         Ok(()) => Outcome::Done,
         Err(stop) => Outcome::from(stop),
     }

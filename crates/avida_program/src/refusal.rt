@@ -1,5 +1,6 @@
 // Why an input is refused.
 
+use checkpoint::SavedStop;
 use genome::GenomeStop;
 use lineage_log::LogStop;
 use world_config::ConfigStop;
@@ -12,8 +13,11 @@ pub enum Refusal {
     Genome(GenomeStop),
     Config(ConfigStop),
     Log(LogStop),
+    Saved(SavedStop),
     /// This cell is outside the world.
     Cell(u32),
     /// So many cells are more than worlds may have that run side by side.
     Cells(u32),
+    /// A saved world would come to this update, which is past the greatest.
+    Updates(u64),
 }

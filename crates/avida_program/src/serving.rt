@@ -14,7 +14,9 @@ use crate::fault_line::line_of;
 use crate::lineage::lineage;
 use crate::neighbours::landscape;
 use crate::replay::replay;
+use crate::resume::resume;
 use crate::run::run;
+use crate::save::save;
 use crate::seeds::assay;
 use crate::trace::trace;
 use crate::tree::tree;
@@ -78,6 +80,8 @@ fn carry_out<
             first,
             workers,
         } => assay(rt, alloc, count, first, workers, source, out, gate),
+        Command::Save { workers } => save(rt, alloc, workers, source, out, gate),
+        Command::Resume { more, workers } => { resume(rt, alloc, more, workers, source, out, gate) }
         Command::Replay => replay(alloc, source, out),
         Command::Upgrade => upgrade(alloc, source, out),
         Command::Tree => tree(alloc, source, out),

@@ -18,6 +18,13 @@ pub returns-in-Assay : goal.returns-in-Assay
 returns-in-Assay g c =
     rw c.in-Assay.is (c.assay.ensures (g.W.Sink.seen c.args.watch.now) c.args.last.now)
 
+pub returns-in-Save : goal.returns-in-Save
+returns-in-Save g c = rw c.in-Save.is (c.save.ensures (g.W.Sink.seen c.args.watch.now) c.args.last.now)
+
+pub returns-in-Resume : goal.returns-in-Resume
+returns-in-Resume g c =
+    rw c.in-Resume.is (c.resume.ensures (g.W.Sink.seen c.args.watch.now) c.args.last.now)
+
 pub returns-in-Replay : goal.returns-in-Replay
 returns-in-Replay g c =
     rw c.in-Replay.is (c.replay.ensures (g.W.Sink.seen c.args.watch.now) c.args.last.now)

@@ -1,0 +1,24 @@
+use Rattle.std.proofs.Common.{◌≡◌, ◌∙◌, ap, subst, sym}
+use Rattle.std.proofs.lemmas.Result.{err_from_is_err_and}
+use Rattle.saved_worlds.specs.SavedState.{SavedState, state_of}
+use Rattle.saved_worlds.specs.SavedWorldText.{saved_text}
+use Rattle.world_config.specs.Shown.{values_of}
+use Rattle.world_config.specs.Values.{ConfigValues}
+use Rattle.written_texts.specs.WrittenText.{WritesAll}
+use Rattle.written_texts.proofs.WriteLemmas.{nothing_written}
+use Rattle.avida_program.specs.SaveText.{save_text}
+use Rattle.avida_program.proofs.save.run_and_write.Goals as goal
+
+pub returns-in_err-world : goal.returns-in_err-world
+returns-in_err-world g c =
+    let p = err_from_is_err_and c.from_residual.result c.from_residual.ensures.1 in
+    rw (p.1, p.2) (nothing_written (g.O.Sink.seen c.args.out.now)
+    (save_text (values_of c.args.config)))
+
+pub returns : goal.returns
+returns g c =
+    let is : c.into_state-state.result ≡ state_of (values_of c.args.config) =
+    c.into_state-state.ensures ∙ ap state_of c.in_ok-world.ensures.config in
+    subst (λ (s : SavedState). WritesAll {T = Unit {0}} (g.O.Sink.seen c.args.out.now)
+    (g.O.Sink.seen c.write_state.new.out) (saved_text s) c.write_state.result) is
+    c.write_state.ensures

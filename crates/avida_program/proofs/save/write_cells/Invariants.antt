@@ -1,0 +1,10 @@
+-- The cells so far are written.
+use Rattle.std.proofs.Common.{Ok}
+use Rattle.checkpoint.specs.Parts.{first_cells_text}
+use Rattle.written_texts.specs.WrittenText.{WritesAll}
+use Rattle.avida_program.proofs.save.write_cells.Given as goal
+
+abbrev pub invariant-loop-cell : goal.invariant-loop-cell
+invariant-loop-cell g l =
+    WritesAll {T = Unit {0}} (g.O.Sink.seen l.fn.out) (g.O.Sink.seen l.out)
+    (first_cells_text l.fn.state.now.cells l.cell) (Ok tt)

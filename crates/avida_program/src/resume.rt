@@ -1,0 +1,130 @@
+// The command `resume`.
+ghost use Rattle.std.specs.Prelude.{◌≡◌, ◌≤◌, ◌<◌, ◌+◌, IfOk, Option};
+ghost use Rattle.avida_port.specs.Ports.{SinkState};
+ghost use Rattle.saved_worlds.specs.Resuming.{continued_text, later_texts, next_state, next_text, state_after};
+ghost use Rattle.world_core.specs.WorldValue.{WorldValue};
+ghost use Rattle.world_rules.specs.LogText.{end_text};
+ghost use Rattle.written_texts.specs.SinkChanges.{change, unchanged};
+ghost use Rattle.written_texts.specs.WrittenText.{WritesAll};
+ghost use Rattle.avida_program.specs.declared.command.Command.TheVariants.{Resume};
+ghost use Rattle.avida_program.specs.Outcomes.{WritesText};
+ghost use Rattle.avida_program.specs.Work.{CarriesOut};
+
+use crate::Outcome;
+use crate::input::{read_bytes, read_state_for};
+use crate::outcome::written;
+use avida_port::{Gate, LONGEST_INPUT, Sink, Source};
+use log_lines::{LogLine, write_line};
+use std::alloc::Global;
+use std::sync::Wait;
+use std::thread::Threads;
+use world_core::State;
+use written_texts::WriteStop;
+
+/// One update, whose text is put whole.
+fn write_update<R: Threads + Wait + Sync, O: Sink, G: Gate + Sync>(
+    rt: &R,
+    alloc: Global,
+    state: State,
+    out: &mut O,
+    gate: &G,
+) -> Result<State, WriteStop>
+    requires { state.head.update < 1000000 }
+    ensures state { IfOk result (λ next. next ≡ next_state state) }
+    ensures text { WritesAll (O.seen out.old) (O.seen out.new) (next_text state) result }
+{
+    let (next, text) = state.advance(rt, alloc, gate)?;
+    out.put(&text)?;
+    Ok(next)
+}
+
+/// So many updates more, with their texts.
+fn write_updates<R: Threads + Wait + Sync, O: Sink, G: Gate + Sync>(
+    rt: &R,
+    alloc: Global,
+    mut state: State,
+    more: u32,
+    out: &mut O,
+    gate: &G,
+) -> Result<State, WriteStop>
+    requires { state.head.update + more ≤ 1000000 }
+    ensures state { IfOk result (λ after. after ≡ state_after state more) }
+    ensures text { WritesAll (O.seen out.old) (O.seen out.new) (later_texts state more) result }
+{
+    for _ in 0..more {
+        state = write_update(rt, alloc, state, out, gate)?;
+    }
+    Ok(state)
+}
+
+/// Puts the last line of a log that ends with this update.
+#[tactic(auto, unfolding(world_rules::specs::LogText::end_text))]
+fn write_end<O: Sink>(alloc: Global, updates: u32, out: &mut O) -> Result<(), WriteStop>
+    ensures { WritesAll (O.seen out.old) (O.seen out.new) (end_text updates) result }
+{
+    let mut line = Vec::new(alloc);
+    write_line(&LogLine::End { updates }, &mut line)?;
+    out.put(&line)?;
+    Ok(())
+}
+
+/// Writes what becomes of a saved world in so many updates more, and the last line of a log.
+fn write_on<R: Threads + Wait + Sync, O: Sink, G: Gate + Sync>(
+    rt: &R,
+    alloc: Global,
+    state: State,
+    more: u32,
+    out: &mut O,
+    gate: &G,
+) -> Result<(), WriteStop>
+    requires { state.head.update + more ≤ 1000000 }
+    ensures { WritesAll (O.seen out.old) (O.seen out.new) (continued_text state more) result }
+{
+    let after = write_updates(rt, alloc, state, more, out, gate)?;
+    write_end(alloc, after.update(), out)
+}
+
+fn write_continued<R: Threads + Wait + Sync, O: Sink, G: Gate + Sync>(
+    rt: &R,
+    alloc: Global,
+    state: State,
+    more: u32,
+    out: &mut O,
+    gate: &G,
+) -> Outcome
+    requires { state.head.update + more ≤ 1000000 }
+    ensures { WritesText (continued_text state more)
+        (change (O.seen out.old) (O.seen out.new)) result }
+{
+    written(write_on(rt, alloc, state, more, out, gate))
+}
+
+/// Reads a saved world, and writes what becomes of it in so many updates more, and the last line
+/// of a log.
+pub fn resume<R: Threads + Wait + Sync, S: Source, O: Sink, G: Gate + Sync>(
+    rt: &R,
+    alloc: Global,
+    more: u32,
+    workers: u32,
+    source: &mut S,
+    out: &mut O,
+    gate: &G,
+) -> Outcome
+    requires { (1 ≤ workers) × (workers ≤ 64) }
+    ensures { (watch : SinkState) (last : Option WorldValue)
+        → CarriesOut (Resume more workers) (record {
+          source = change (S.seen source.old) (S.seen source.new);
+          out = change (O.seen out.old) (O.seen out.new);
+          watch = unchanged watch;
+          last = unchanged last;
+        }) result }
+{
+    let bytes = match read_bytes(alloc, source, LONGEST_INPUT) {
+        Ok(bytes) => bytes,
+        Err(outcome) => return outcome,
+    };
+    match read_state_for(rt, alloc, bytes, more, workers) {
+        Ok(state) => write_continued(rt, alloc, state, more, out, gate),
+        Err(outcome) => outcome,
+    }
+}
