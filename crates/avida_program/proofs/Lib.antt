@@ -7,4 +7,8 @@ pub mod BenchLemmas
 pub mod GrowingTexts
 pub mod ResumeLemmas
 pub mod SavedLemmas
+pub mod ServesInputs
+pub mod ServesRuns
 pub mod Serves
+pub mod NothingDone
+pub mod Causes

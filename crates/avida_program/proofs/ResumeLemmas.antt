@@ -1,5 +1,5 @@
 -- How a saved world goes on, and how what it writes adds up.
-use Rattle.std.proofs.Common.{◌≡◌, ◌<◌, ◌+◌, ℕ, zero, suc, ◌++◌, Result, Ok, Err, sym, ap, ◌∙◌, add-zero, add-one, arith, subst}
+use Rattle.std.proofs.Common.{◌≡◌, ◌<◌, ◌+◌, ℕ, zero, suc, ◌++◌, Result, Ok, Err, refl, sym, ap, ◌∙◌, add-zero, add-one, arith, subst}
 use Rattle.avida_port.specs.Ports.{SinkState}
 use Rattle.saved_worlds.specs.SavedState.{SavedState}
 use Rattle.saved_worlds.specs.Resuming.{config_of, continued_text, later_texts, next_state, next_text, state_after, world_of_state}
@@ -11,9 +11,14 @@ use Rattle.written_texts.proofs.WriteLemmas.{writes_short, writes_then}
 use Rattle.avida_program.proofs.GrowingTexts.{Grows, part_stopped, part_written}
 
 -- one update more
-next_state_update : (state : SavedState) → (next_state state).head.update ≡ state.head.update + 1
+pub next_state_update : (state : SavedState) → (next_state state).head.update ≡ state.head.update + 1
 unfolding next_state
 next_state_update state = next_update (config_of state.head) (world_of_state state)
+
+-- no update, and one more
+pub state_begun : (state : SavedState) → state ≡ state_after state 0
+unfolding state_after
+state_begun state = refl
 
 pub state_next : (state : SavedState) (n : ℕ)
     → state_after state (n + 1) ≡ next_state (state_after state n)

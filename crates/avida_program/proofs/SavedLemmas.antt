@@ -1,21 +1,64 @@
--- How a saved world is refused, and how its text is written.
-use Rattle.std.proofs.Common.{◌≡◌, ◌≢◌, ap, refl, sym, subst, ◌++◌, ℕ, List, Result, Ok, Err, length}
-use Rattle.avida_port.specs.Ports.{SinkState}
-use Rattle.lineage_log.specs.Slots.{taken}
-use Rattle.saved_lines.specs.SavedText.{count_text, head_text}
-use Rattle.saved_worlds.specs.SavedGrammar.{SavedFault}
-use Rattle.saved_worlds.specs.SavedState.{SavedState}
-use Rattle.checkpoint.specs.declared.saved_stop.SavedStop.{SavedStop}
-use Rattle.checkpoint.specs.declared.saved_stop.SavedStop.TheVariants as stop
-use Rattle.checkpoint.specs.Reading.{IsFaultOf}
+-- A run that is saved and resumed goes on.
+use Rattle.std.proofs.Common.{◌≡◌, ◌≤◌, ◌+◌, ◌∙◌, ap, refl, ◌++◌, ℕ, List, false, Result, Ok, length, arith}
+use Rattle.std.specs.Prelude.{nat_lt}
+use Rattle.saved_worlds.specs.Resuming.{continued_text}
+use Rattle.saved_worlds.specs.SavedGrammar.{saved_of}
+use Rattle.saved_worlds.specs.SavedState.{SavedState, state_of}
+use Rattle.saved_worlds.proofs.Updates.{update_of}
+use Rattle.world_config.specs.Values.{ConfigValues}
+use Rattle.world_rules.specs.LogText.{end_text, head_text, log_text, updates_text}
 use Rattle.avida_program.specs.declared.refusal.Refusal.{Refusal}
-use Rattle.avida_program.specs.declared.refusal.Refusal.TheVariants.{Saved}
-use Rattle.avida_program.specs.Input.{refused_as, saved_refusal}
+use Rattle.avida_program.specs.Input.{refused_as, resume_input_of, saved_refusal, with_more, within}
+use Rattle.avida_program.specs.ResumedRun.{CanResume, GoesOn}
+use Rattle.avida_program.specs.SaveText.{save_text}
 
--- the reason of a refusal is the faulty line
-pub saved_refused : (read : Result SavedState SavedFault) (why : SavedStop) → why ≢ stop.Memory
-    → IsFaultOf why read → refused_as saved_refusal read ≡ Err (Saved why)
-saved_refused read stop.Memory faulty is = absurd (faulty refl)
-saved_refused read (stop.BadLine line) faulty is = ap (refused_as saved_refusal) is
-saved_refused read (stop.BadState line) faulty is = ap (refused_as saved_refusal) is
-saved_refused read (stop.Unended line) faulty is = ap (refused_as saved_refusal) is
+-- a test that fails
+not_below : (least n : ℕ) → n ≤ least → nat_lt least n ≡ false
+not_below least n within = grind arith
+
+-- bytes that are not too many
+read_within : {A : Type 0} (limit : ℕ) (bytes : List ℕ) (read : Result A Refusal)
+    → length bytes ≤ limit → within limit bytes read ≡ read
+read_within limit bytes read short = rw (not_below limit (length bytes) short) refl
+
+-- updates that do not go past the greatest
+more_within : (more : ℕ) (state : SavedState) → state.head.update + more ≤ 1000000
+    → with_more more (Ok state) ≡ Ok state
+more_within more state early = rw (not_below 1000000 (state.head.update + more) early) refl
+
+-- the update of what a run leaves
+run_update : (config : ConfigValues) → (state_of config).head.update ≡ config.updates
+unfolding state_of
+run_update config = update_of config config.updates
+
+-- `resume` reads what `save` wrote
+reads_again : (config : ConfigValues) (more : ℕ) → CanResume config more
+    → saved_of (save_text config) ≡ Ok (state_of config)
+    → resume_input_of more (save_text config) ≡ Ok (state_of config)
+reads_again config more can again =
+    ap (with_more more)
+    (read_within 536870912 (save_text config)
+    (refused_as saved_refusal (saved_of (save_text config))) can.short
+    ∙ ap (refused_as saved_refusal) again)
+    ∙ more_within more (state_of config) (omega (arith, run_update config, can.updates))
+
+-- the first run's log, and its last line
+log_ends : (config : ConfigValues)
+    → (head_text config ++ updates_text config config.updates) ++ end_text config.updates
+    ≡ log_text config config.updates
+unfolding log_text
+log_ends config = refl
+
+-- a run that is saved and resumed goes on
+pub run_goes_on : (config : ConfigValues) (more : ℕ) → CanResume config more
+    → saved_of (save_text config) ≡ Ok (state_of config)
+    → (head_text config ++ updates_text config config.updates)
+    ++ continued_text (state_of config) more ≡ log_text config (config.updates + more)
+    → GoesOn config more
+run_goes_on config more can again goes = record {
+  log = head_text config ++ updates_text config config.updates;
+  is_log = log_ends config;
+  state = state_of config;
+  reads = reads_again config more can again;
+  goes_on = goes;
+}

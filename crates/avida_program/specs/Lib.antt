@@ -6,6 +6,7 @@ pub mod Input
 pub mod ReplayText
 pub mod TreeText
 pub mod SaveText
+pub mod ResumedRun
 pub mod Changes
 pub mod ServesInput
 pub mod Commands

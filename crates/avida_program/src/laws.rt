@@ -1,7 +1,13 @@
-// The program's limits (docs/FORMATS.md, "The command line" and "Statuses and fault lines").
+// The program's limits, and what holds of its commands together (docs/FORMATS.md, "The command line"
+// and "Statuses and fault lines"; docs/WORLD.md, "Saved worlds").
 ghost use Rattle.std.specs.Prelude.{◌≡◌};
+ghost use Rattle.world_config.specs.Shown.{values_of};
+ghost use Rattle.avida_program.specs.ResumedRun.{CanResume, GoesOn};
 
 use crate::{INPUT_LIMIT, MOST_CELLS, PIECE_SIZE};
+use checkpoint::laws::written_is_read_again;
+use saved_worlds::laws::resumed_runs_go_on;
+use world_config::Config;
 
 /// The limits of the input, of worlds that run side by side, and of a piece of output.
 pub fn limits()
@@ -9,3 +15,12 @@ pub fn limits()
     ensures cells { MOST_CELLS ≡ 131072 }
     ensures piece { PIECE_SIZE ≡ 8192 }
 {}
+
+/// A run that is saved and resumed goes on: its log without the last line, and then what `resume`
+/// writes of what `save` wrote, are the log of a run so much longer.
+pub fn saved_runs_go_on(config: &Config, more: u32)
+    ensures { CanResume (values_of config.now) more → GoesOn (values_of config.now) more }
+{
+    resumed_runs_go_on(config, more);
+    written_is_read_again();
+}

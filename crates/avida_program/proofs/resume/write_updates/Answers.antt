@@ -2,16 +2,16 @@ use Rattle.std.proofs.Common.{◌≡◌, ◌<◌, ◌+◌, ◌∙◌, ap, arith,
 use Rattle.std.proofs.lemmas.Result.{err_from_is_err_and}
 use Rattle.saved_worlds.specs.Resuming.{next_state}
 use Rattle.saved_worlds.specs.SavedState.{SavedState}
-use Rattle.written_texts.proofs.WriteLemmas.{writes_same}
-use Rattle.avida_program.proofs.ResumeLemmas.{next_stopped, next_written, state_next, update_after}
+use Rattle.written_texts.proofs.WriteLemmas.{writes_nothing, writes_same}
+use Rattle.avida_program.proofs.ResumeLemmas.{next_state_update, next_stopped, next_written, state_begun, state_next}
 use Rattle.avida_program.proofs.resume.write_updates.Goals as goal
 
-pub write_update-requires : goal.write_update-requires
-write_update-requires g c =
-    let n = c.loop.counter in
-    let at : c.loop.state.head.update ≡ c.args.state.head.update + n =
-    ap (λ (s : SavedState). s.head.update) c.loop.invariant.state ∙ update_after c.args.state n in
-    omega (arith, at)
+pub loop-init : goal.loop-init
+loop-init g c = record {
+  state = state_begun c.args.state;
+  update = omega arith;
+  written = writes_nothing _;
+}
 
 pub returns-in_err-state-clause-text : goal.returns-in_err-state-clause-text
 returns-in_err-state-clause-text g c =
@@ -28,8 +28,11 @@ loop-preserved g c =
     let within : n < c.args.more = omega arith in
     let so = c.loop.invariant in
     let next = c.in_ok-state.ensures in
+    let update : c.in_ok-state.state.head.update ≡ c.loop.state.head.update + 1 =
+    ap (λ (s : SavedState). s.head.update) next.state ∙ next_state_update c.loop.state in
     record {
       state = next.state ∙ ap next_state so.state ∙ sym (state_next c.args.state n);
+      update = omega (arith, update, so.update);
       written = writes_same (next_written c.args.state c.loop.state c.args.more n within so.state
           so.written next.text);
     }

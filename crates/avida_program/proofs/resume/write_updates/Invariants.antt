@@ -1,5 +1,5 @@
 -- The texts so far are written, and the saved world has come so far.
-use Rattle.std.proofs.Common.{◌≡◌, Ok}
+use Rattle.std.proofs.Common.{◌≡◌, ◌+◌, Ok}
 use Rattle.saved_worlds.specs.Resuming.{later_texts, state_after}
 use Rattle.written_texts.specs.WrittenText.{WritesAll}
 use Rattle.avida_program.proofs.resume.write_updates.Given as goal
@@ -7,6 +7,7 @@ use Rattle.avida_program.proofs.resume.write_updates.Given as goal
 abbrev pub invariant-loop : goal.invariant-loop
 invariant-loop g l = record {
   state : l.state ≡ state_after l.fn.state l.counter;
+  update : l.state.head.update ≡ l.fn.state.head.update + l.counter;
   written : WritesAll {T = Unit {0}} (g.O.Sink.seen l.fn.out) (g.O.Sink.seen l.out)
       (later_texts l.fn.state l.counter) (Ok tt);
 }

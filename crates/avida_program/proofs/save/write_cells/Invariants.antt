@@ -7,4 +7,4 @@ use Rattle.avida_program.proofs.save.write_cells.Given as goal
 abbrev pub invariant-loop-cell : goal.invariant-loop-cell
 invariant-loop-cell g l =
     WritesAll {T = Unit {0}} (g.O.Sink.seen l.fn.out) (g.O.Sink.seen l.out)
-    (first_cells_text l.fn.state.now.cells l.cell) (Ok tt)
+    (first_cells_text l.fn.state.cells l.cell) (Ok tt)

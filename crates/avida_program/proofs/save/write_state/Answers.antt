@@ -1,4 +1,4 @@
-use Rattle.std.proofs.Common.{◌++◌, length, rw, sym}
+use Rattle.std.proofs.Common.{length}
 use Rattle.std.proofs.lemmas.Result.{err_from_is_err_and}
 use Rattle.lineage_log.specs.Slots.{taken}
 use Rattle.saved_lines.specs.SavedText.{count_text}
@@ -14,7 +14,7 @@ returns-in_err-write_head g c =
     let cells = first_cells_text state.cells (length state.cells) in
     let tail = count_text (taken (ids_of state.cells)) in
     rw (p.1, p.2, c.texts_are_written_by_cells.ensures.whole state)
-    (writes_short (cells ++ tail) c.in_err-write_head.ensures)
+    (writes_short tail (writes_short {U = Unit {0}} cells c.in_err-write_head.ensures))
 
 pub returns-in_err-write_cells : goal.returns-in_err-write_cells
 returns-in_err-write_cells g c =
@@ -24,8 +24,8 @@ returns-in_err-write_cells g c =
     let cells = first_cells_text state.cells (length state.cells) in
     let tail = count_text (taken (ids_of state.cells)) in
     rw (p.1, p.2, c.texts_are_written_by_cells.ensures.whole state)
-    (writes_then (cells ++ tail) c.in_ok-write_head.ensures
-    (writes_short tail c.in_err-write_cells.ensures))
+    (writes_short tail
+    (writes_then cells c.in_ok-write_head.ensures c.in_err-write_cells.ensures))
 
 pub returns : goal.returns
 returns g c =
@@ -33,5 +33,6 @@ returns g c =
     let cells = first_cells_text state.cells (length state.cells) in
     let tail = count_text (taken (ids_of state.cells)) in
     rw (c.texts_are_written_by_cells.ensures.whole state)
-    (writes_then (cells ++ tail) c.in_ok-write_head.ensures
-    (writes_then tail c.in_ok-write_cells.ensures c.write_tail.ensures))
+    (writes_then tail
+    (writes_then cells c.in_ok-write_head.ensures c.in_ok-write_cells.ensures)
+    c.write_tail.ensures)

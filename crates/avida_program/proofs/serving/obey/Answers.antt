@@ -1,6 +1,6 @@
 use Rattle.std.proofs.Common.{map, string_bytes}
 use Rattle.avida_program.specs.CommandLine.{command_of}
-use Rattle.avida_program.proofs.Serves.{nothing_done}
+use Rattle.avida_program.proofs.NothingDone.{nothing_done}
 use Rattle.avida_program.proofs.serving.obey.Goals as goal
 
 pub returns-in-Ok-clause-bad_words : goal.returns-in-Ok-clause-bad_words

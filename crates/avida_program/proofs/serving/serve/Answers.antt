@@ -1,4 +1,5 @@
-use Rattle.avida_program.proofs.Serves.{last_kept, put_failed, serves, source_failed, watch_kept}
+use Rattle.avida_program.proofs.Causes.{last_kept, put_failed, source_failed, watch_kept}
+use Rattle.avida_program.proofs.Serves.{serves}
 use Rattle.avida_program.proofs.serving.serve.Goals as goal
 
 pub returns-clause-read_fault : goal.returns-clause-read_fault

@@ -1,0 +1,80 @@
+-- A call for which memory ran out before anything was done.
+use Rattle.std.proofs.Common.{ℕ, Option, None, Some, IfSome, Result, refl, inl, inr}
+use Rattle.world_config.specs.Values.{ConfigValues}
+use Rattle.world_core.specs.WorldValue.{WorldValue}
+use Rattle.avida_port.specs.Ports.{SinkState, SourceState}
+use Rattle.written_texts.proofs.GainedLemmas.{stays_front}
+use Rattle.avida_program.specs.declared.command.Command.{Command}
+use Rattle.avida_program.specs.declared.command.Command.TheVariants.{Trace, Run, Lineage, Bench, Assay, Save, Resume, Replay, Upgrade, Tree, Landscape}
+use Rattle.avida_program.specs.declared.outcome.Outcome.TheVariants as outcome
+use Rattle.avida_program.specs.declared.refusal.Refusal.{Refusal}
+use Rattle.avida_program.specs.Input.{configuration_of}
+use Rattle.avida_program.specs.BenchText.{bench_text}
+use Rattle.avida_program.specs.Changes.{Work}
+use Rattle.written_texts.specs.SinkChanges.{Stays, unchanged}
+use Rattle.avida_program.specs.Work.{Does, Obeys, Watches}
+
+-- a watcher that has written nothing
+nothing_watched : (looks : Option ℕ) (read : Result ConfigValues Refusal) (work : Work)
+    → Stays work.watch → IfSome looks (λ n. Watches n read work outcome.NoMemory)
+nothing_watched None read work stays = tt
+nothing_watched (Some n) read work stays = inl stays
+
+-- nothing was read, written or left
+abbrev pub untouched : SourceState → SinkState → SinkState → Option WorldValue → Work
+untouched source out watch last = record {
+  source = unchanged source;
+  out = unchanged out;
+  watch = unchanged watch;
+  last = unchanged last;
+}
+
+does_nothing : (command : Command) (source : SourceState) (out watch : SinkState)
+    (last : Option WorldValue) → Does command (untouched source out watch last) outcome.NoMemory
+does_nothing (Trace steps spelling) source out watch last =
+    λ bytes is. record { reads = inl refl; last_stays = refl }
+does_nothing (Run workers looks) source out watch last = λ bytes is. record {
+  reads = inl refl;
+  watches = nothing_watched looks (configuration_of bytes) (untouched source out watch last) refl;
+  leaves = refl;
+}
+does_nothing (Lineage cell workers) source out watch last =
+    λ bytes is. record { reads = inl refl; leaves = refl }
+does_nothing (Bench seed workers) source out watch last = record {
+  source_stays = refl;
+  writes = stays_front (unchanged out) (bench_text seed) refl;
+  leaves = λ e. absurd (cc);
+}
+does_nothing (Assay count first workers) source out watch last =
+    λ bytes is. record { reads = inl refl; last_stays = refl }
+does_nothing (Save workers) source out watch last =
+    λ bytes is. record { reads = inl refl; last_stays = refl }
+does_nothing (Resume more workers) source out watch last =
+    λ bytes is. record { reads = inl refl; last_stays = refl }
+does_nothing Replay source out watch last =
+    λ bytes is. record { reads = inl refl; last_stays = refl }
+does_nothing Upgrade source out watch last =
+    λ bytes is. record { reads = inl refl; last_stays = refl }
+does_nothing Tree source out watch last = λ bytes is. record { reads = inl refl; last_stays = refl }
+does_nothing (Landscape steps) source out watch last =
+    λ bytes is. record { reads = inl refl; last_stays = refl }
+
+-- memory ran out before anything was done, whatever the words give
+pub nothing_done : (command : Option Command) (source : SourceState) (out watch : SinkState)
+    (last : Option WorldValue)
+    → Obeys command (untouched source out watch last) outcome.NoMemory
+nothing_done None source out watch last = record {
+  refused = inr refl;
+  source_stays = refl;
+  out_stays = refl;
+  watch_stays = refl;
+  last_stays = refl;
+}
+nothing_done (Some command) source out watch last = record {
+  words = λ e. cc;
+  read_fault = λ e. absurd (cc);
+  write_fault = λ e. absurd (cc);
+  watch_stays = λ e. refl;
+  last_stays = λ e. refl;
+  does = does_nothing command source out watch last;
+}

@@ -1,0 +1,8 @@
+use Rattle.world_config.specs.Shown.{values_of}
+use Rattle.avida_program.proofs.SavedLemmas.{run_goes_on}
+use Rattle.avida_program.proofs.laws.saved_runs_go_on.Goals as goal
+
+pub returns : goal.returns
+returns c can =
+    run_goes_on (values_of c.args.config.now) c.args.more can
+    (c.written_is_read_again.ensures _ can.writable) c.resumed_runs_go_on.ensures.log
