@@ -5,7 +5,7 @@ ghost use Rattle.world_config.specs.Shown.{values_of};
 ghost use Rattle.avida_program.specs.ResumedRun.{CanResume, GoesOn};
 
 use crate::{INPUT_LIMIT, MOST_CELLS, PIECE_SIZE};
-use checkpoint::laws::written_is_read_again;
+use checkpoint::laws::runs_are_read_again;
 use saved_worlds::laws::resumed_runs_go_on;
 use world_config::Config;
 
@@ -22,5 +22,5 @@ pub fn saved_runs_go_on(config: &Config, more: u32)
     ensures { CanResume (values_of config.now) more → GoesOn (values_of config.now) more }
 {
     resumed_runs_go_on(config, more);
-    written_is_read_again();
+    runs_are_read_again(config);
 }

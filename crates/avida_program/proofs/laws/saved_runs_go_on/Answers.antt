@@ -5,4 +5,4 @@ use Rattle.avida_program.proofs.laws.saved_runs_go_on.Goals as goal
 pub returns : goal.returns
 returns c can =
     run_goes_on (values_of c.args.config.now) c.args.more can
-    (c.written_is_read_again.ensures _ can.writable) c.resumed_runs_go_on.ensures.log
+    c.runs_are_read_again.ensures c.resumed_runs_go_on.ensures.log
