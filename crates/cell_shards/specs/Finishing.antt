@@ -1,6 +1,7 @@
 -- What the jobs of an update come to (docs/ARCHITECTURE.md, "Shards").
-use Rattle.std.specs.Prelude.{◌≡◌, ℕ, ◌+◌, ◌<◌, ◌≤◌, ◌^◌, ◌++◌, All, List, Some, length, map, slice_get, slice_index_or}
+use Rattle.std.specs.Prelude.{◌≡◌, ℕ, ◌+◌, ◌<◌, ◌≤◌, ◌^◌, ◌++◌, All, IfOk, List, Result, Some, length, map, slice_get, slice_index_or}
 use mathlib.Core.List.{IsPrefix}
+use Rattle.avida_port.specs.declared.memory.Memory.{Memory}
 use Rattle.genome.specs.Genome.{letters}
 use Rattle.genotype_bank.specs.BankHistory.{genotypes_of}
 use Rattle.genotype_bank.specs.Seats.{SeatValue, own_calls_of}
@@ -13,6 +14,7 @@ use Rattle.cell_shards.specs.CellLives.{BirthValue, IsYoung, Part, RoundNumbers,
 use Rattle.cell_shards.specs.declared.delivered.Delivered.{Delivered}
 use Rattle.cell_shards.specs.declared.finished.Finished.{Finished}
 use Rattle.cell_shards.specs.declared.job.Job.{Job}
+use Rattle.cell_shards.specs.declared.running.Task.{Task}
 
 -- the cells of a job
 abbrev pub part_of : Job → Part
@@ -72,6 +74,10 @@ pub record IsFinished (round : RoundNumbers) (job : Job) (finished : Finished) :
   pub births : map birth_of finished.births ≡ births_from job.first (lives_of round (part_of job))
   pub dead : finished.dead ≡ deaths_from job.first (lives_of round (part_of job))
   pub seat : HasInterned job.seat finished.seat finished.births
+
+-- what is answered to a task: its job, finished, where memory suffices
+abbrev pub HasAnswer : RoundNumbers → Task → Result Finished Memory → Type 0
+HasAnswer round task answer = IfOk answer (IsFinished round task.job)
 
 -- all jobs are finished, in their order
 pub record AreFinished (round : RoundNumbers) (jobs : List Job) (all : List Finished) : Type 0 where

@@ -1,7 +1,9 @@
 // The jobs of an update, each in a thread of its own.
-ghost use Rattle.std.specs.Prelude.{◌≡◌, ◌<◌, ℕ, All, IfOk, Ok, length, map, slice_index_or};
+ghost use denote.Param.Send.{IsSync};
+ghost use Rattle.std.specs.Prelude.{◌≡◌, ◌++◌, ◌∷◌, [], All, IfOk, Ok, map};
+ghost use Rattle.std.specs.List.{AllZip};
 ghost use Rattle.cell_shards.specs.CellLives.{round_numbers};
-ghost use Rattle.cell_shards.specs.Finishing.{AreFinished, CanRun, IsFinished};
+ghost use Rattle.cell_shards.specs.Finishing.{AreFinished, CanRun, HasAnswer, IsFinished};
 
 use crate::delivering::deliver;
 use crate::finished::{Dead, Finished};
@@ -55,30 +57,52 @@ fn numbered(alloc: Global, jobs: Vec<Job>) -> Result<Vec<Task>, Memory>
     Ok(tasks)
 }
 
-/// By as many threads as there are jobs, where they can be made.
+/// By as many threads as there are jobs, where they can be made: this thread starts all others, and
+/// runs the first job. The answers are in order of the tasks.
+#[cycle(tasks)]
 fn run_tasks<R: Threads + Wait + Sync, G: Gate + Sync>(
     rt: &R,
     alloc: Global,
-    tasks: Vec<Task>,
+    mut tasks: Vec<Task>,
     bank: &Bank,
     round: &Round,
     gate: &G,
 ) -> Result<Vec<Result<Finished, Memory>>, AllocError>
     requires tasks { All (λ task. CanRun task.job × (task.job.seat.bank ≡ bank.now)) tasks.items }
-    ensures count { IfOk result (λ all. length all.items ≡ length tasks.items) }
-    ensures each { IfOk result (λ all. (place : ℕ) (task : _) (end : _) → place < length tasks.items
-        →
-        IfOk (slice_index_or all.items place end)
-        (IsFinished (round_numbers round.now) (slice_index_or tasks.items place task).job)) }
+    ensures { IfOk result
+        (λ results. AllZip (HasAnswer (round_numbers round.now)) tasks.items results.items) }
 {
-    thread::map_vec(
-        rt,
-        tasks,
-        &|task: Task| -> Result<Finished, Memory>
-            requires { CanRun task.job × (task.job.seat.bank ≡ bank.now) }
-            ensures { IfOk result (IsFinished (round_numbers round.entry.now) task.job) }
-        { run_task(rt, alloc, task, bank, round, gate) },
-    )
+    let Some(last) = tasks.pop() else {
+        return Ok(Vec::new(alloc));
+    };
+    if tasks.is_empty() {
+        let answer = run_task(rt, alloc, last, bank, round, gate);
+        return with_answer(Vec::new(alloc), answer);
+    }
+    let there = move || -> Result<Finished, Memory>
+        requires { IsSync R.row × IsSync G.row × CanRun last.job
+            × (last.job.seat.bank ≡ bank.now) }
+        ensures { HasAnswer (round_numbers round.entry.now) last result }
+    { run_task(rt, alloc, last, bank, round, gate) };
+    let here = move || -> Result<Vec<Result<Finished, Memory>>, AllocError>
+        requires { IsSync R.row × IsSync G.row
+            × All (λ task. CanRun task.job × (task.job.seat.bank ≡ bank.now)) tasks.items }
+        ensures { IfOk result
+            (λ results. AllZip (HasAnswer (round_numbers round.entry.now)) tasks.items results.items) }
+    { run_tasks(rt, alloc, tasks, bank, round, gate) };
+    let (answer, results) = thread::join(rt, there, here);
+    with_answer(results?, answer)
+}
+
+/// The answers, and this one after them.
+fn with_answer(
+    mut results: Vec<Result<Finished, Memory>>,
+    answer: Result<Finished, Memory>,
+) -> Result<Vec<Result<Finished, Memory>>, AllocError>
+    ensures { IfOk result (λ all. all.items ≡ results.items ++ answer ∷ []) }
+{
+    results.push(answer)?;
+    Ok(results)
 }
 
 /// Passes the gate, and then runs the job.

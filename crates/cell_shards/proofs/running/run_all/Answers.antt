@@ -14,4 +14,4 @@ pub returns : goal.returns
 returns g c = IfOk-weaker _ _ c.all_finished.result
     (λ all done. AreFinished-all (round_numbers c.args.round.now) c.args.jobs.items
     c.in_ok-tasks.tasks.items c.in_ok-results.results.items all.items c.in_ok-tasks.ensures
-    c.in_ok-results.ensures.count c.in_ok-results.ensures.each done) c.all_finished.ensures
+    c.in_ok-results.ensures done) c.all_finished.ensures
