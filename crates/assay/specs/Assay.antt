@@ -34,8 +34,8 @@ pub record AssayValue : Type 0 where
   pub dominant : Option (List Letter)
 
 -- what becomes of a configuration's run
-abbrev pub assay_of : ConfigValues → AssayValue
-assay_of config = record {
+abbrev pub assay_of_run : ConfigValues → AssayValue
+assay_of_run config = record {
   seed = config.seed;
   births = births_until config config.updates;
   deaths = deaths_until config config.updates;
@@ -45,7 +45,7 @@ assay_of config = record {
 
 -- what becomes of the run of the same configuration with this seed
 abbrev pub assay_of_seed : ConfigValues → ℕ → AssayValue
-assay_of_seed config seed = assay_of (record config { seed = seed })
+assay_of_seed config seed = assay_of_run (record config { seed = seed })
 
 -- what becomes of the runs with so many seeds, from the first on, one after another
 unfoldable pub assay_list : ConfigValues → ℕ → ℕ → List AssayValue

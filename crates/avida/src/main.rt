@@ -7,8 +7,8 @@ use std::env;
 use std::io::ErrorKind;
 use std::process::ExitCode;
 
-// The words after the name of the program, or None when out of memory. Words that aren't UTF-8 count
-// as no words at all.
+// The words after the name of the program, or None when out of memory. Words that aren't UTF-8
+// count as no words at all.
 fn words(rt: &HostRuntime) -> Option<Vec<String>> {
     let mut words = Vec::new(rt.alloc());
     let args = match env::args(rt) {

@@ -21,6 +21,7 @@ told_read_fault outcome.ReadFault e = refl
 told_read_fault outcome.WriteFault e = absurd (cc)
 told_read_fault outcome.NoMemory e = absurd (cc)
 
+-- the status of a write fault tells of a write fault
 told_write_fault : (told : Outcome) → status_of told ≡ status.WriteFault → told ≡ outcome.WriteFault
 told_write_fault outcome.Done e = absurd (cc)
 told_write_fault outcome.BadWords e = absurd (cc)
@@ -36,6 +37,7 @@ source_failed None work told did e =
     absurd (elim did.refused [ inl p ↦ cc (ap status_of p) | inr p ↦ cc (ap status_of p) ])
 source_failed (Some command) work told did e = did.read_fault (told_read_fault told e)
 
+-- where the status is a write fault, the faults of a sink rose
 pub put_failed : (command : Option Command) (work : Work) (told : Outcome) → Obeys command work told
     → status_of told ≡ status.WriteFault
     → PutFailed (option_and_then looks_of command) work.out work.watch
@@ -43,11 +45,13 @@ put_failed None work told did e =
     absurd (elim did.refused [ inl p ↦ cc (ap status_of p) | inr p ↦ cc (ap status_of p) ])
 put_failed (Some command) work told did e = did.write_fault (told_write_fault told e)
 
+-- where the status is not Done, the last world stays
 pub last_kept : (command : Option Command) (work : Work) (told : Outcome) → Obeys command work told
     → status_of told ≢ status.Done → Stays work.last
 last_kept None work told did other = did.last_stays
 last_kept (Some command) work told did other = kept_by work.last told did.last_stays other
 
+-- where the command has no watcher, the watcher's sink stays
 pub watch_kept : (command : Option Command) (work : Work) (told : Outcome) → Obeys command work told
     → option_and_then looks_of command ≡ None → Stays work.watch
 watch_kept None work told did e = did.watch_stays

@@ -29,6 +29,7 @@ untouched source out watch last = record {
   last = unchanged last;
 }
 
+-- each command may run out of memory before anything was read, written or left
 does_nothing : (command : Command) (source : SourceState) (out watch : SinkState)
     (last : Option WorldValue) → Does command (untouched source out watch last) outcome.NoMemory
 does_nothing (Trace steps spelling) source out watch last =

@@ -1,8 +1,8 @@
 -- How a saved world goes on, and how what it writes adds up.
-use Rattle.std.proofs.Common.{◌≡◌, ◌<◌, ◌+◌, ℕ, zero, suc, ◌++◌, Result, Ok, Err, refl, sym, ap, ◌∙◌, add-zero, add-one, arith, subst}
+use Rattle.std.proofs.Common.{◌≡◌, ◌<◌, ◌+◌, ℕ, zero, suc, Result, Ok, Err, refl, sym, ap, ◌∙◌, add-zero, add-one, arith, subst}
 use Rattle.avida_port.specs.Ports.{SinkState}
 use Rattle.saved_worlds.specs.SavedState.{SavedState}
-use Rattle.saved_worlds.specs.Resuming.{config_of, continued_text, later_texts, next_state, next_text, state_after, world_of_state}
+use Rattle.saved_worlds.specs.Resuming.{config_of_head, continued_text, later_texts, next_state, next_text, saved_state_after, world_of_state}
 use Rattle.saved_worlds.proofs.Updates.{next_update}
 use Rattle.world_rules.specs.LogText.{end_text}
 use Rattle.written_texts.specs.declared.stop.WriteStop.{WriteStop}
@@ -11,51 +11,54 @@ use Rattle.written_texts.proofs.WriteLemmas.{writes_short, writes_then}
 use Rattle.avida_program.proofs.GrowingTexts.{Grows, part_stopped, part_written}
 
 -- one update more
-pub next_state_update : (state : SavedState) → (next_state state).head.update ≡ state.head.update + 1
+pub next_state_update : (state : SavedState)
+    → (next_state state).head.update ≡ state.head.update + 1
 unfolding next_state
-next_state_update state = next_update (config_of state.head) (world_of_state state)
+next_state_update state = next_update (config_of_head state.head) (world_of_state state)
 
 -- no update, and one more
-pub state_begun : (state : SavedState) → state ≡ state_after state 0
-unfolding state_after
+pub state_begun : (state : SavedState) → state ≡ saved_state_after state 0
+unfolding saved_state_after
 state_begun state = refl
 
+-- the state after n + 1 updates is the next one of that after n
 pub state_next : (state : SavedState) (n : ℕ)
-    → state_after state (n + 1) ≡ next_state (state_after state n)
-unfolding state_after
-state_next state n = ap (state_after state) (add-one n)
+    → saved_state_after state (n + 1) ≡ next_state (saved_state_after state n)
+unfolding saved_state_after
+state_next state n = ap (saved_state_after state) (add-one n)
 
 -- the update after so many more
 pub update_after : (state : SavedState) (n : ℕ)
-    → (state_after state n).head.update ≡ state.head.update + n
-unfolding state_after
+    → (saved_state_after state n).head.update ≡ state.head.update + n
+unfolding saved_state_after
 update_after state zero = sym (add-zero state.head.update)
 update_after state (suc n) =
-    next_state_update (state_after state n) ∙ ap (λ k. k + 1) (update_after state n) ∙ omega arith
+    next_state_update (saved_state_after state n) ∙ ap (λ k. k + 1) (update_after state n)
+    ∙ omega arith
 
 -- the texts of the updates so far grow by the next one
 later_grows : (state : SavedState) (more : ℕ)
-    → Grows (later_texts state) (λ n. next_text (state_after state n)) more
+    → Grows (later_texts state) (λ n. next_text (saved_state_after state n)) more
 later_grows state more n within = ap (later_texts state) (add-one n)
 
 -- one more update is written, or stopped
 pub next_written : {T : Type 0} {a b c : SinkState} {r : Result T WriteStop}
-    (state here : SavedState) (more n : ℕ) → n < more → here ≡ state_after state n
+    (state here : SavedState) (more n : ℕ) → n < more → here ≡ saved_state_after state n
     → WritesAll {T = Unit {0}} a b (later_texts state n) (Ok tt) → WritesAll b c (next_text here) r
     → WritesAll a c (later_texts state (n + 1)) r
 next_written {T = T} {b = b} {c = c} {r = r} state here more n within at p q =
-    part_written (later_texts state) (λ k. next_text (state_after state k)) more n
+    part_written (later_texts state) (λ k. next_text (saved_state_after state k)) more n
     (later_grows state more) within p
     (subst (λ (s : SavedState). WritesAll {T = T} b c (next_text s) r) at q)
 
 -- an update stopped before the last one
 pub next_stopped : {T U : Type 0} {a b c : SinkState} {e : WriteStop}
-    (state here : SavedState) (more n : ℕ) → n < more → here ≡ state_after state n
+    (state here : SavedState) (more n : ℕ) → n < more → here ≡ saved_state_after state n
     → WritesAll {T = Unit {0}} a b (later_texts state n) (Ok tt)
     → WritesAll {T = T} b c (next_text here) (Err e)
     → WritesAll {T = U} a c (later_texts state more) (Err e)
 next_stopped {T = T} {b = b} {c = c} {e = e} state here more n within at p q =
-    part_stopped (later_texts state) (λ k. next_text (state_after state k)) more n
+    part_stopped (later_texts state) (λ k. next_text (saved_state_after state k)) more n
     (later_grows state more) within p
     (subst (λ (s : SavedState). WritesAll {T = T} b c (next_text s) (Err e)) at q)
 
@@ -70,7 +73,7 @@ updates_stopped state more p = writes_short (end_text (state.head.update + more)
 pub end_written : {T U : Type 0} {a b c : SinkState} {u : U} {r : Result T WriteStop}
     (state after : SavedState) (more at : ℕ)
     → WritesAll {T = U} a b (later_texts state more) (Ok u) → WritesAll b c (end_text at) r
-    → after ≡ state_after state more → at ≡ after.head.update
+    → after ≡ saved_state_after state more → at ≡ after.head.update
     → WritesAll a c (continued_text state more) r
 unfolding continued_text
 end_written {T = T} {b = b} {c = c} {r = r} state after more at p q is now =

@@ -1,29 +1,22 @@
 -- A run whose configuration was read, by how it ended.
-use Rattle.std.proofs.Common.{◌≡◌, ℕ, List, [], Option, None, Some, IfSome, IfOk, IfErr, OnOk, Result, Ok, Err, MatchResult, ◌∙◌, sym, subst, refl, inr}
+use Rattle.std.proofs.Common.{◌≡◌, ℕ, List, Option, None, Some, IfSome, Ok, refl, inr}
 use Rattle.world_config.specs.Values.{ConfigValues}
-use Rattle.world_core.specs.WorldValue.{WorldValue}
 use Rattle.world_rules.specs.Laws.{ReplaysToLiving}
-use Rattle.avida_port.specs.Ports.{SourceState}
-use Rattle.avida_program.specs.declared.command.Command.TheVariants.{Run}
+use Rattle.avida_program.specs.declared.command.Command.TheVariants.{Lineage, Run}
 use Rattle.avida_program.specs.declared.outcome.Outcome.{Outcome}
 use Rattle.avida_program.specs.declared.outcome.Outcome.TheVariants as outcome
 use Rattle.written_texts.specs.declared.stop.WriteStop.{WriteStop}
 use Rattle.written_texts.specs.declared.stop.WriteStop.TheVariants as stop
-use Rattle.written_texts.specs.SinkChanges.{Change, GainedText, Stays}
+use Rattle.written_texts.specs.SinkChanges.{GainedText, Stays}
 use Rattle.avida_program.specs.Changes.{Work}
-use Rattle.avida_program.specs.Input.{configuration_of}
-use Rattle.avida_program.specs.Outcomes.{StopsRunning, outcome_at}
+use Rattle.avida_program.specs.Input.{configuration_of, lineage_input_of}
+use Rattle.avida_program.specs.Outcomes.{GivesInput, StopsWithin, outcome_at}
 use Rattle.logged_run.specs.RunStops.{StopsRun}
-use Rattle.logged_run.specs.RunText.{IsFinalWorld, run_text}
+use Rattle.logged_run.specs.RunText.{run_text}
 use Rattle.avida_program.specs.FinalWorld.{LeavesFinal}
+use Rattle.avida_program.specs.PathText.{path_text}
 use Rattle.logged_run.specs.WatchText.{GainedPictures}
 use Rattle.avida_program.specs.Work.{CarriesOut, Watches}
-
--- the bytes of the source are this configuration, and nothing of them is left
-pub record ReadsConfig (source : Change SourceState) (config : ConfigValues) : Type 0 where
-  pub reads : (bytes : List ℕ) → source.before.left ≡ Some bytes
-      → configuration_of bytes ≡ Ok config
-  pub whole : (bytes : List ℕ) → source.before.left ≡ Some bytes → source.after.left ≡ Some []
 
 -- what the watcher of a run that came to its end leaves
 watched : (looks : Option ℕ) (bytes : List ℕ) (work : Work) (config : ConfigValues)
@@ -51,8 +44,8 @@ watch_wanted None bytes work config is stops = tt
 watch_wanted (Some n) bytes work config is stops = inr (config, is, stops.pictures)
 
 -- the run came to its end
-ran_to_end : (workers : ℕ) (looks : Option ℕ) (work : Work) (config : ConfigValues)
-    → ReadsConfig work.source config
+pub ran_to_end : (workers : ℕ) (looks : Option ℕ) (work : Work) (config : ConfigValues)
+    → GivesInput configuration_of work.source config
     → GainedText work.out (run_text config) → IfSome looks (λ n. GainedPictures n config work.watch)
     → (looks ≡ None → Stays work.watch)
     → LeavesFinal work.last config → ReplaysToLiving config config.updates
@@ -71,8 +64,8 @@ ran_to_end workers looks work config read wrote pictures unwatched left replays 
 }
 
 -- the run stopped
-run_stopped : (workers : ℕ) (looks : Option ℕ) (work : Work) (config : ConfigValues)
-    (e : WriteStop) → ReadsConfig work.source config
+pub run_stopped : (workers : ℕ) (looks : Option ℕ) (work : Work) (config : ConfigValues)
+    (e : WriteStop) → GivesInput configuration_of work.source config
     → StopsRun looks config work.out work.watch e → (looks ≡ None → Stays work.watch)
     → Stays work.last → CarriesOut (Run workers looks) work (outcome_at e)
 run_stopped workers looks work config stop.Fault read stops unwatched kept = record {
@@ -100,23 +93,52 @@ run_stopped workers looks work config stop.Memory read stops unwatched kept = re
   };
 }
 
--- a run, by its result
-pub run_ended : (workers : ℕ) (looks : Option ℕ) (work : Work) (config : ConfigValues)
-    (r : Result WorldValue Outcome) (told : Outcome)
-    → ReadsConfig work.source config → IfOk r (IsFinalWorld config)
-    → OnOk r (GainedText work.out (run_text config))
-    → OnOk r (IfSome looks (λ n. GainedPictures n config work.watch))
-    → IfErr r (StopsRunning looks config work.out work.watch)
-    → (looks ≡ None → Stays work.watch) → ReplaysToLiving config config.updates
-    → MatchResult r (λ world. (told ≡ outcome.Done) × (work.last.after ≡ Some world))
-    (λ e. (told ≡ e) × (work.last.after ≡ work.last.before))
-    → CarriesOut (Run workers looks) work told
-run_ended workers looks work config (Ok world) told read final wrote pictures stops unwatched
-    replays left =
-    let here : LeavesFinal work.last config = (world, left.1, final) in
-    subst (CarriesOut (Run workers looks) work) (sym left.0)
-    (ran_to_end workers looks work config read wrote pictures unwatched here replays)
-run_ended workers looks work config (Err e) told read final wrote pictures stops unwatched replays
-    left =
-    subst (CarriesOut (Run workers looks) work) (sym (left.0 ∙ stops.is))
-    (run_stopped workers looks work config stops.stop read stops.stops unwatched left.1)
+-- a run stopped whose line of descent was to be written
+pub descent_stopped : (cell workers : ℕ) (work : Work) (config : ConfigValues) (told : Outcome)
+    → GivesInput (lineage_input_of cell) work.source config → Stays work.watch → Stays work.last
+    → StopsWithin (path_text config cell) work.out told
+    → CarriesOut (Lineage cell workers) work told
+descent_stopped cell workers work config outcome.Done read unwatched kept stops = absurd stops
+descent_stopped cell workers work config outcome.BadWords read unwatched kept stops = absurd stops
+descent_stopped cell workers work config (outcome.BadInput why) read unwatched kept stops =
+    absurd stops
+descent_stopped cell workers work config outcome.ReadFault read unwatched kept stops = absurd stops
+descent_stopped cell workers work config outcome.WriteFault read unwatched kept stops = record {
+  words = λ e. cc;
+  read_fault = λ e. absurd (cc);
+  write_fault = λ e. stops.0;
+  watch_stays = λ e. unwatched;
+  last_stays = λ other. kept;
+  does = λ bytes is. record {
+    reads = (stops.0, (config, read.reads bytes is, stops.1));
+    leaves = kept;
+  };
+}
+descent_stopped cell workers work config outcome.NoMemory read unwatched kept stops = record {
+  words = λ e. cc;
+  read_fault = λ e. absurd (cc);
+  write_fault = λ e. absurd (cc);
+  watch_stays = λ e. unwatched;
+  last_stays = λ other. kept;
+  does = λ bytes is. record {
+    reads = inr (config, read.reads bytes is, stops);
+    leaves = kept;
+  };
+}
+
+-- a run came to its end, and its line of descent is written
+pub descent_written : (cell workers : ℕ) (work : Work) (config : ConfigValues)
+    → GivesInput (lineage_input_of cell) work.source config → Stays work.watch
+    → GainedText work.out (path_text config cell) → LeavesFinal work.last config
+    → CarriesOut (Lineage cell workers) work outcome.Done
+descent_written cell workers work config read unwatched wrote left = record {
+  words = λ e. cc;
+  read_fault = λ e. absurd (cc);
+  write_fault = λ e. absurd (cc);
+  watch_stays = λ e. unwatched;
+  last_stays = λ other. absurd (other refl);
+  does = λ bytes is. record {
+    reads = (read.whole bytes is, (config, read.reads bytes is, wrote));
+    leaves = (config, read.reads bytes is, left);
+  };
+}

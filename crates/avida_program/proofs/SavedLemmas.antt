@@ -8,8 +8,8 @@ use Rattle.saved_worlds.proofs.Updates.{update_of}
 use Rattle.world_config.specs.Values.{ConfigValues}
 use Rattle.world_rules.specs.LogText.{end_text, head_text, log_text, updates_text}
 use Rattle.avida_program.specs.declared.refusal.Refusal.{Refusal}
-use Rattle.avida_program.specs.Input.{refused_as, resume_input_of, saved_refusal, with_more, within}
-use Rattle.avida_program.specs.ResumedRun.{CanResume, GoesOn}
+use Rattle.avida_program.specs.Input.{refused_as, resume_input_of, saved_refusal, unless_too_long, with_more}
+use Rattle.avida_program.specs.ResumedRun.{CanResume, ResumesExactly}
 use Rattle.avida_program.specs.SaveText.{save_text}
 
 -- a test that fails
@@ -18,7 +18,7 @@ not_below least n within = grind arith
 
 -- bytes that are not too many
 read_within : {A : Type 0} (limit : ℕ) (bytes : List ℕ) (read : Result A Refusal)
-    → length bytes ≤ limit → within limit bytes read ≡ read
+    → length bytes ≤ limit → unless_too_long limit bytes read ≡ read
 read_within limit bytes read short = rw (not_below limit (length bytes) short) refl
 
 -- updates that do not go past the greatest
@@ -54,7 +54,7 @@ pub run_goes_on : (config : ConfigValues) (more : ℕ) → CanResume config more
     → saved_of (save_text config) ≡ Ok (state_of config)
     → (head_text config ++ updates_text config config.updates)
     ++ continued_text (state_of config) more ≡ log_text config (config.updates + more)
-    → GoesOn config more
+    → ResumesExactly config more
 run_goes_on config more can again goes = record {
   log = head_text config ++ updates_text config config.updates;
   is_log = log_ends config;

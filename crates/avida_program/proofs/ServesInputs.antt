@@ -5,7 +5,7 @@ use Rattle.avida_program.specs.declared.status.Status.TheVariants as status
 use Rattle.avida_program.specs.declared.outcome.Outcome.{Outcome}
 use Rattle.avida_program.specs.declared.outcome.Outcome.TheVariants as outcome
 use Rattle.avida_program.specs.declared.refusal.Refusal.{Refusal}
-use Rattle.avida_program.specs.Status.{status_of, told_by}
+use Rattle.avida_program.specs.Status.{outcome_of_status, status_of}
 use Rattle.avida_program.specs.Changes.{Call, TellsOf, work_of}
 use Rattle.written_texts.specs.SinkChanges.{GainedFront, Stays}
 use Rattle.avida_program.specs.ServesInput.{ServesInput}
@@ -45,7 +45,7 @@ serves_input looks read text_of call (outcome.BadInput why) w h t = record {
   nothing_refused = λ other is. h.0;
   front = elim [ inl p ↦ absurd (cc) | inr p ↦ absurd (cc) ];
   watch_stays = w;
-  tells = subst (λ seen. TellsOf call.err (told_by seen status.BadInput)) (sym h.1) t;
+  tells = subst (λ seen. TellsOf call.err (outcome_of_status seen status.BadInput)) (sym h.1) t;
   complete = λ input is read_well put_well. absurd (cc (is, h.1));
 }
 serves_input looks read text_of call outcome.ReadFault w h t = record {

@@ -35,8 +35,8 @@ left_by read Leaves last outcome.WriteFault h e = absurd (cc)
 left_by read Leaves last outcome.NoMemory h e = absurd (cc)
 
 -- what was there stays in every other case
-pub kept_by : (last : Change (Option WorldValue)) (told : Outcome) → (told ≢ outcome.Done → Stays last)
-    → status_of told ≢ status.Done → Stays last
+pub kept_by : (last : Change (Option WorldValue)) (told : Outcome)
+    → (told ≢ outcome.Done → Stays last) → status_of told ≢ status.Done → Stays last
 kept_by last told kept other = kept (λ is. other (ap status_of is))
 
 -- the world after the last update, by its value
@@ -137,6 +137,7 @@ serves_watch : (looks : Option ℕ) (read : Result ConfigValues Refusal) (call :
 serves_watch None read call told h = h
 serves_watch (Some n) read call told h = serves_watcher n read call told h
 
+-- what `run` promises by its status, from what it did and told
 pub serves_run : (looks : Option ℕ) (bytes : List ℕ) (call : Call) (told : Outcome)
     → (looks ≡ None → Stays call.watch) → (told ≢ outcome.Done → Stays call.last)
     → Runs looks bytes (work_of call) told → TellsOf call.err told
@@ -152,6 +153,7 @@ serves_run looks bytes call told watch kept ran tells = record {
   last_stays = λ e. kept_by call.last told kept e;
 }
 
+-- what `lineage` promises by its status, from what it did and told
 pub serves_lineage : (cell : ℕ) (bytes : List ℕ) (call : Call) (told : Outcome)
     → ((let none : Option ℕ = None in none ≡ None) → Stays call.watch)
     → (told ≢ outcome.Done → Stays call.last)
@@ -163,6 +165,7 @@ serves_lineage cell bytes call told watch kept ran tells = record {
   last_stays = λ e. kept_by call.last told kept e;
 }
 
+-- what `bench` promises by its status, from what it did and told
 pub serves_bench : (seed : ℕ) (call : Call) (told : Outcome) → Stays call.watch
     → (status_of told ≢ status.Done → Stays call.last)
     → Benches seed (work_of call) told → TellsOf call.err told

@@ -11,27 +11,27 @@ use Rattle.written_texts.specs.SinkChanges.{change}
 use Rattle.avida_program.specs.Outcomes.{WritesText, outcome_of}
 use Rattle.written_texts.specs.Pieces.{Writes}
 use Rattle.landscape.specs.Trace.{organism_after, step_after}
-use Rattle.avida_program.specs.TraceText.{lines_of, numbers_below, trace_line}
+use Rattle.avida_program.specs.TraceText.{numbers_below, trace_line, trace_lines}
 use Rattle.written_texts.proofs.PieceLemmas.{writes_then}
 
 -- one more line
 pub lines_next : (o : OrganismState) (n : ℕ)
-    → lines_of o (n + 1) ≡ lines_of o n ++ trace_line (n + 1) (step_after o n)
+    → trace_lines o (n + 1) ≡ trace_lines o n ++ trace_line (n + 1) (step_after o n)
 lines_next o n =
-    ap (lines_of o) (add-one n)
+    ap (trace_lines o) (add-one n)
     ∙ flat_map-append (λ k. trace_line (k + 1) (step_after o k)) (numbers_below n) (n ∷ [])
-    ∙ ap (λ l. lines_of o n ++ l) (append-nil (trace_line (n + 1) (step_after o n)))
+    ∙ ap (λ l. trace_lines o n ++ l) (append-nil (trace_line (n + 1) (step_after o n)))
 
 -- the lines up to a step, and those behind it
 pub lines_more : (o : OrganismState) (n k : ℕ)
-    → (rest : List ℕ) × (lines_of o n ++ rest ≡ lines_of o (n + k))
-lines_more o n zero = ([], rw add-zero (append-nil (lines_of o n)))
+    → (rest : List ℕ) × (trace_lines o n ++ rest ≡ trace_lines o (n + k))
+lines_more o n zero = ([], rw add-zero (append-nil (trace_lines o n)))
 lines_more o n (suc k) =
     let h = lines_more o n k in
     let line = trace_line (n + k + 1) (step_after o (n + k)) in (
       h.0 ++ line,
-      sym (append_assoc (lines_of o n) h.0 line) ∙ ap (λ l. l ++ line) h.1
-          ∙ sym (lines_next o (n + k)) ∙ ap (lines_of o) (add_one_inside n k),
+      sym (append_assoc (trace_lines o n) h.0 line) ∙ ap (λ l. l ++ line) h.1
+          ∙ sym (lines_next o (n + k)) ∙ ap (trace_lines o) (add_one_inside n k),
     )
   where
     add_one_inside : (m j : ℕ) → m + j + 1 ≡ m + suc j
@@ -39,11 +39,11 @@ lines_more o n (suc k) =
 
 -- the lines up to a step before the last one
 pub lines_front : (o : OrganismState) (n steps : ℕ) → n < steps + 1
-    → (rest : List ℕ) × (lines_of o n ++ rest ≡ lines_of o steps)
+    → (rest : List ℕ) × (trace_lines o n ++ rest ≡ trace_lines o steps)
 lines_front o n steps h =
     let more = lines_more o n (steps - n) in
     let same : n + (steps - n) ≡ steps = omega arith in
-    (more.0, more.1 ∙ ap (lines_of o) same)
+    (more.0, more.1 ∙ ap (trace_lines o) same)
 
 -- what was put of a text so far is a front of all of it
 pub front_put : (a b : SinkState) (kept front rest all : List ℕ) → Writes a b [] kept front (Ok tt)
@@ -81,23 +81,23 @@ piece_put {a = a} {b = b} {c = c} {kept = kept} {text = text} {r = r} p is q =
 -- the last piece is put
 pub last_put : (a b c : SinkState) (o : OrganismState) (n steps : ℕ) (kept held : List ℕ)
     (r : Result (Unit {0}) SinkStop)
-    → Writes a b [] kept (lines_of o n) (Ok tt) → n ≡ steps → held ≡ kept → Puts b c held r
-    → WritesText (lines_of o steps) (change a c) (outcome_of r)
+    → Writes a b [] kept (trace_lines o n) (Ok tt) → n ≡ steps → held ≡ kept → Puts b c held r
+    → WritesText (trace_lines o steps) (change a c) (outcome_of r)
 last_put a b c o n steps kept held r p at_end is q =
-    piece_put (subst (λ m. Writes a b [] kept (lines_of o m) (Ok tt)) at_end p) is q
+    piece_put (subst (λ m. Writes a b [] kept (trace_lines o m) (Ok tt)) at_end p) is q
 
 -- one more line is written
 pub line_written : {a b c : SinkState} {kept new : List ℕ} {r : Result (Unit {0}) SinkStop}
     {here : OrganismState} {shown : TracedStep}
-    (o : OrganismState) (n : ℕ) → Writes a b [] kept (lines_of o n) (Ok tt)
+    (o : OrganismState) (n : ℕ) → Writes a b [] kept (trace_lines o n) (Ok tt)
     → Writes b c kept new (trace_line (n + 1) shown) r
     → shown ≡ (trace_step_of here).1 → here ≡ organism_after o n
-    → Writes a c [] new (lines_of o (n + 1)) r
+    → Writes a c [] new (trace_lines o (n + 1)) r
 line_written {a = a} {c = c} {new = new} {r = r} {shown = shown} o n p q shows at =
     let same : trace_line (n + 1) shown ≡ trace_line (n + 1) (step_after o n) =
     ap (trace_line (n + 1)) (shows ∙ ap (λ organism. (trace_step_of organism).1) at) in
-    let all : lines_of o n ++ trace_line (n + 1) shown ≡ lines_of o (n + 1) =
-    ap (λ l. lines_of o n ++ l) same ∙ sym (lines_next o n) in
+    let all : trace_lines o n ++ trace_line (n + 1) shown ≡ trace_lines o (n + 1) =
+    ap (λ l. trace_lines o n ++ l) same ∙ sym (lines_next o n) in
     subst (λ text. Writes a c [] new text r) all (writes_then (trace_line (n + 1) shown) p q)
 
 -- the organism one step further

@@ -3,7 +3,7 @@ use Rattle.std.specs.Prelude.{ℕ, List, [], ◌++◌, codes, decimal, length}
 use Rattle.toml.specs.Data.{no_members}
 use Rattle.log_lines.specs.Line.{Count}
 use Rattle.log_lines.specs.LineText.{line_text}
-use Rattle.world_config.specs.Config.{values_in}
+use Rattle.world_config.specs.Config.{values_in_table}
 use Rattle.world_config.specs.Values.{ConfigValues}
 use Rattle.world_rules.specs.Statistics.{stats_of}
 use Rattle.assay.specs.Assay.{births_until}
@@ -11,7 +11,7 @@ use Rattle.logged_run.specs.RunText.{run_text}
 
 -- the configuration that is run: each key has its default but the seed and the updates
 unfoldable pub bench_config : ℕ → ConfigValues
-bench_config seed = record (values_in no_members []) { seed = seed; updates = 200 }
+bench_config seed = record (values_in_table no_members []) { seed = seed; updates = 200 }
 
 -- what is counted after a run's last update, its births, and how many bytes its log has
 unfoldable pub sums_text : ConfigValues → List ℕ

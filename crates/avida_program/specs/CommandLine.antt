@@ -92,17 +92,17 @@ looks_told words = option_and_then looks_of (command_of words)
 
 -- a command that runs worlds has from 1 to 64 workers for each, `bench` has a seed of a
 -- configuration, and `assay` has from 1 to 64 of them
-abbrev pub IsInRange : Command → Type 0
-IsInRange (Trace steps spelling) = ⊤
-IsInRange (Run workers looks) = (1 ≤ workers) × (workers ≤ 64)
-IsInRange (Lineage cell workers) = (1 ≤ workers) × (workers ≤ 64)
-IsInRange (Bench seed workers) =
+abbrev pub HasNumbersInRange : Command → Type 0
+HasNumbersInRange (Trace steps spelling) = ⊤
+HasNumbersInRange (Run workers looks) = (1 ≤ workers) × (workers ≤ 64)
+HasNumbersInRange (Lineage cell workers) = (1 ≤ workers) × (workers ≤ 64)
+HasNumbersInRange (Bench seed workers) =
     (seed ≤ 9223372036854775807) × (1 ≤ workers) × (workers ≤ 64)
-IsInRange (Assay count first workers) = (1 ≤ count) × (count ≤ 64)
+HasNumbersInRange (Assay count first workers) = (1 ≤ count) × (count ≤ 64)
     × (first ≤ 9223372036854775744) × (1 ≤ workers) × (workers ≤ 64)
-IsInRange (Save workers) = (1 ≤ workers) × (workers ≤ 64)
-IsInRange (Resume more workers) = (1 ≤ workers) × (workers ≤ 64)
-IsInRange Replay = ⊤
-IsInRange Upgrade = ⊤
-IsInRange Tree = ⊤
-IsInRange (Landscape steps) = ⊤
+HasNumbersInRange (Save workers) = (1 ≤ workers) × (workers ≤ 64)
+HasNumbersInRange (Resume more workers) = (1 ≤ workers) × (workers ≤ 64)
+HasNumbersInRange Replay = ⊤
+HasNumbersInRange Upgrade = ⊤
+HasNumbersInRange Tree = ⊤
+HasNumbersInRange (Landscape steps) = ⊤

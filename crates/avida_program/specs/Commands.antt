@@ -19,7 +19,7 @@ use Rattle.avida_program.specs.declared.refusal.Refusal.{Refusal}
 use Rattle.avida_program.specs.BenchText.{bench_config, bench_text}
 use Rattle.avida_program.specs.Changes.{Call, OnBytes, TellsOf}
 use Rattle.written_texts.specs.SinkChanges.{Stays, SinkFailed, GainedText, GainedFront}
-use Rattle.avida_program.specs.Input.{IsInputWith, assay_input_of, configuration_of, genome_of}
+use Rattle.avida_program.specs.Input.{IsInputWith, assay_input_of, configuration_of, genome_of_input}
 use Rattle.avida_program.specs.Input.{lineage_input_of, log_input_of, resume_input_of}
 use Rattle.avida_program.specs.PathText.{path_text}
 use Rattle.avida_program.specs.ReplayText.{replay_text, upgrade_text}
@@ -27,7 +27,7 @@ use Rattle.avida_program.specs.SaveText.{save_text}
 use Rattle.avida_program.specs.FinalWorld.{GainedLogOf, LeavesFinal}
 use Rattle.logged_run.specs.RunText.{run_text}
 use Rattle.avida_program.specs.ServesInput.{ServesInput, ServesNothing}
-use Rattle.avida_program.specs.Status.{told_by}
+use Rattle.avida_program.specs.Status.{outcome_of_status}
 use Rattle.logged_run.specs.WatchText.{GainedPictures, GainedPicturesFront}
 use Rattle.avida_program.specs.TraceText.{trace_text}
 
@@ -35,7 +35,7 @@ use Rattle.avida_program.specs.TraceText.{trace_text}
 pub record ServesTrace (steps : ℕ) (spelling : Spelling) (bytes : List ℕ)
     (call : Call) (s : Status) : Type 0 where
   pub serves :
-      ServesInput None (genome_of spelling bytes) (λ genome. trace_text genome steps) call s
+      ServesInput None (genome_of_input spelling bytes) (λ genome. trace_text genome steps) call s
   pub last_stays : Stays call.last
 
 -- the watcher of a run, which looks at most so often, where the configuration is read so
@@ -91,7 +91,7 @@ pub record ServesBench (seed : ℕ) (call : Call) (s : Status) : Type 0 where
   pub last_stays : s ≢ status.Done → Stays call.last
   pub write_fault : s ≡ status.WriteFault → SinkFailed call.out
   pub watch_stays : Stays call.watch
-  pub tells : TellsOf call.err (told_by {A = ℕ} (Ok seed) s)
+  pub tells : TellsOf call.err (outcome_of_status {A = ℕ} (Ok seed) s)
 
 -- `assay` of so many seeds, from the first one on, on a source that tells these bytes
 pub record ServesAssay (count first : ℕ) (bytes : List ℕ) (call : Call) (s : Status)
@@ -133,7 +133,8 @@ pub record ServesTree (bytes : List ℕ) (call : Call) (s : Status) : Type 0 whe
 pub record ServesLandscape (steps : ℕ) (bytes : List ℕ) (call : Call) (s : Status)
     : Type 0 where
   pub serves :
-      ServesInput None (genome_of Letters bytes) (λ genome. landscape_text genome steps) call s
+      ServesInput None (genome_of_input Letters bytes)
+      (λ genome. landscape_text genome steps) call s
   pub last_stays : Stays call.last
 
 -- a call of each command; the number of workers changes nothing

@@ -24,8 +24,8 @@ refused_as reason (Ok input) = Ok input
 refused_as reason (Err why) = Err (reason why)
 
 -- an input, unless its bytes are more than this; too many bytes come first
-abbrev pub within : {A : Type 0} → ℕ → List ℕ → Result A Refusal → Result A Refusal
-within limit bytes read = if nat_lt limit (length bytes) then Err TooLong else read
+abbrev pub unless_too_long : {A : Type 0} → ℕ → List ℕ → Result A Refusal → Result A Refusal
+unless_too_long limit bytes read = if nat_lt limit (length bytes) then Err TooLong else read
 
 -- the input is accepted, and this holds of it
 abbrev pub IsInputWith : {A : Type 0} → Result A Refusal → (A → Type 0) → Type 0
@@ -37,13 +37,13 @@ genome_spelled Letters bytes = spelled_by_letters bytes
 genome_spelled Names bytes = spelled_by_names bytes
 
 -- the genome of an input, or why it is refused
-abbrev pub genome_of : Spelling → List ℕ → Result (List Letter) Refusal
-genome_of spelling bytes =
-    within 1048576 bytes (refused_as Genome (genome_spelled spelling bytes))
+abbrev pub genome_of_input : Spelling → List ℕ → Result (List Letter) Refusal
+genome_of_input spelling bytes =
+    unless_too_long 1048576 bytes (refused_as Genome (genome_spelled spelling bytes))
 
 -- the configuration of an input, or why it is refused
 abbrev pub configuration_of : List ℕ → Result ConfigValues Refusal
-configuration_of bytes = within 1048576 bytes (refused_as Config (config_of bytes))
+configuration_of bytes = unless_too_long 1048576 bytes (refused_as Config (config_of bytes))
 
 -- a configuration, unless this cell is not in its world; what refuses the configuration comes first
 abbrev pub with_cell : ℕ → Result ConfigValues Refusal → Result ConfigValues Refusal
@@ -69,7 +69,7 @@ assay_input_of count bytes = with_worlds count (configuration_of bytes)
 
 -- the lines of an input that is a log, or why it is refused
 abbrev pub log_input_of : List ℕ → Result (List Line) Refusal
-log_input_of bytes = within 536870912 bytes (refused_as Log (answer_of (log_of bytes)))
+log_input_of bytes = unless_too_long 536870912 bytes (refused_as Log (answer_of (log_of bytes)))
 
 -- the answer for a faulty line of a saved world
 abbrev pub saved_stop_at : ℕ → SavedCause → SavedStop
@@ -83,7 +83,7 @@ saved_refusal fault = Saved (saved_stop_at fault.line fault.cause)
 
 -- the state of an input that is a saved world, or why it is refused
 abbrev pub saved_input_of : List ℕ → Result SavedState Refusal
-saved_input_of bytes = within 536870912 bytes (refused_as saved_refusal (saved_of bytes))
+saved_input_of bytes = unless_too_long 536870912 bytes (refused_as saved_refusal (saved_of bytes))
 
 -- a saved world, unless so many more updates go past the greatest; what refuses it comes first
 abbrev pub with_more : ℕ → Result SavedState Refusal → Result SavedState Refusal

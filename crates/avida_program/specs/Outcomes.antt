@@ -1,6 +1,6 @@
 -- How reading and writing below `serve` stop, by the outcome (docs/FORMATS.md, "Statuses and fault
 -- lines").
-use Rattle.std.specs.Prelude.{◌≡◌, ◌<◌, ⊤, ℕ, List, length, Option, Some, Result, Ok, Err}
+use Rattle.std.specs.Prelude.{◌≡◌, ◌<◌, ⊤, ℕ, List, [], length, Some, Result, Ok, Err}
 use Rattle.avida_port.specs.Ports.{SinkState, SourceState}
 use Rattle.avida_port.specs.declared.sink.SinkStop.{SinkStop}
 use Rattle.avida_port.specs.declared.sink.SinkStop.TheVariants.{Fault, Memory}
@@ -8,12 +8,10 @@ use Rattle.avida_program.specs.declared.outcome.Outcome.{Outcome}
 use Rattle.avida_program.specs.declared.outcome.Outcome.TheVariants as outcome
 use Rattle.avida_program.specs.declared.refusal.Refusal.{Refusal}
 use Rattle.avida_program.specs.declared.refusal.Refusal.TheVariants.{TooLong}
-use Rattle.world_config.specs.Values.{ConfigValues}
 use Rattle.written_texts.specs.declared.stop.WriteStop.{WriteStop}
 use Rattle.written_texts.specs.declared.stop.WriteStop.TheVariants as written
 use Rattle.written_texts.specs.SinkChanges.{Change, SinkFailed, GainedText, GainedFront}
-use Rattle.logged_run.specs.RunStops.{StopsRun}
-use Rattle.avida_program.specs.Changes.{SourceFailed}
+use Rattle.avida_program.specs.Changes.{OnBytes, SourceFailed}
 
 -- how a call ends whose put stopped so
 abbrev pub stopped_by : SinkStop → Outcome
@@ -45,14 +43,22 @@ StopsReading limit source outcome.ReadFault = SourceFailed source
 StopsReading limit source outcome.WriteFault = ⊥
 StopsReading limit source outcome.NoMemory = ⊤
 
--- how bytes that were read give no input: it is refused, or memory runs out
-abbrev pub RefusesInput : {A : Type 0} → Result A Refusal → Outcome → Type 0
-RefusesInput read outcome.Done = ⊥
-RefusesInput read outcome.BadWords = ⊥
-RefusesInput read (outcome.BadInput why) = read ≡ Err why
-RefusesInput read outcome.ReadFault = ⊥
-RefusesInput read outcome.WriteFault = ⊥
-RefusesInput read outcome.NoMemory = ⊤
+-- a source is read to its end, and its bytes are this input
+pub record GivesInput {A : Type 0} (input_of : List ℕ → Result A Refusal)
+    (source : Change SourceState) (input : A) : Type 0 where
+  pub reads : OnBytes source (λ bytes. input_of bytes ≡ Ok input)
+  pub whole : OnBytes source (λ bytes. source.after.left ≡ Some [])
+
+-- how a source gives no input: its bytes are refused, a read fails, or memory runs out
+abbrev pub GivesNoInput : {A : Type 0}
+    → (List ℕ → Result A Refusal) → Change SourceState → Outcome → Type 0
+GivesNoInput input_of source outcome.Done = ⊥
+GivesNoInput input_of source outcome.BadWords = ⊥
+GivesNoInput input_of source (outcome.BadInput why) =
+    OnBytes source (λ bytes. input_of bytes ≡ Err why)
+GivesNoInput input_of source outcome.ReadFault = SourceFailed source
+GivesNoInput input_of source outcome.WriteFault = ⊥
+GivesNoInput input_of source outcome.NoMemory = ⊤
 
 -- how the writing of a text stops
 abbrev pub StopsWithin : List ℕ → Change SinkState → Outcome → Type 0
@@ -67,10 +73,3 @@ StopsWithin text out outcome.NoMemory = GainedFront out text
 abbrev pub WritesText : List ℕ → Change SinkState → Outcome → Type 0
 WritesText text out outcome.Done = GainedText out text
 WritesText text out told = StopsWithin text out told
-
--- how the writing of a run stops, which may have a watcher
-pub record StopsRunning (looks : Option ℕ) (config : ConfigValues) (out watch : Change SinkState)
-    (told : Outcome) : Type 0 where
-  pub stop : WriteStop
-  pub is : told ≡ outcome_at stop
-  pub stops : StopsRun looks config out watch stop

@@ -15,7 +15,7 @@ pub record CanResume (config : ConfigValues) (more : ℕ) : Type 0 where
 
 -- `resume` reads what `save` writes of a run; the log without its last line, and then what `resume`
 -- writes, are the log of a run so much longer
-pub record GoesOn (config : ConfigValues) (more : ℕ) : Type 0 where
+pub record ResumesExactly (config : ConfigValues) (more : ℕ) : Type 0 where
   pub log : List ℕ
   pub is_log : log ++ end_text config.updates ≡ run_text config
   pub state : SavedState

@@ -8,7 +8,7 @@ use Rattle.avida_program.specs.Changes.{Call, SourceFailed, TellsOf}
 use Rattle.written_texts.specs.SinkChanges.{Stays, GainedText, GainedFront}
 use Rattle.logged_run.specs.RunStops.{PutFailed}
 use Rattle.avida_program.specs.Input.{IsInputWith}
-use Rattle.avida_program.specs.Status.{told_by, told_by_words}
+use Rattle.avida_program.specs.Status.{outcome_of_status, told_by_words}
 
 -- the words give no command
 pub record ServesNothing (call : Call) (s : Status) : Type 0 where
@@ -42,7 +42,7 @@ pub record ServesInput {A : Type 0} (looks : Option ℕ) (read : Result A Refusa
   pub front : (s ≡ status.WriteFault) ⊎ (s ≡ status.NoMemory)
       → (input : A) → read ≡ Ok input → GainedFront call.out (text_of input)
   pub watch_stays : looks ≡ None → Stays call.watch
-  pub tells : TellsOf call.err (told_by read s)
+  pub tells : TellsOf call.err (outcome_of_status read s)
   -- an accepted input is served where nothing fails, unless memory runs out
   pub complete : (input : A) → read ≡ Ok input
       → ¬ SourceFailed call.source → ¬ PutFailed looks call.out call.watch

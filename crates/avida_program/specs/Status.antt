@@ -36,14 +36,14 @@ status_of outcome.WriteFault = status.WriteFault
 status_of outcome.NoMemory = status.NoMemory
 
 -- the outcome that a status tells of, where the input reads so
-abbrev pub told_by : {A : Type 0} → Result A Refusal → Status → Outcome
-told_by read status.Done = outcome.Done
-told_by read status.BadWords = outcome.BadWords
-told_by (Ok input) status.BadInput = outcome.Done
-told_by (Err why) status.BadInput = outcome.BadInput why
-told_by read status.ReadFault = outcome.ReadFault
-told_by read status.WriteFault = outcome.WriteFault
-told_by read status.NoMemory = outcome.NoMemory
+abbrev pub outcome_of_status : {A : Type 0} → Result A Refusal → Status → Outcome
+outcome_of_status read status.Done = outcome.Done
+outcome_of_status read status.BadWords = outcome.BadWords
+outcome_of_status (Ok input) status.BadInput = outcome.Done
+outcome_of_status (Err why) status.BadInput = outcome.BadInput why
+outcome_of_status read status.ReadFault = outcome.ReadFault
+outcome_of_status read status.WriteFault = outcome.WriteFault
+outcome_of_status read status.NoMemory = outcome.NoMemory
 
 -- the outcome that a status tells of, where the words give no command
 abbrev pub told_by_words : Status → Outcome

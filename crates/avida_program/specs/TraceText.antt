@@ -13,7 +13,7 @@ use Rattle.written_texts.specs.NumberText.{spaced, spaced_value}
 -- what stands behind the registers
 abbrev pub remark_text : TracedRemark → List ℕ
 remark_text nothing = []
-remark_text (task done) = codes " " ++ tasks.name_of done
+remark_text (task done) = codes " " ++ tasks.task_name done
 remark_text (refused rule found bound) =
     codes " refused " ++ rule_name_of rule ++ spaced found ++ spaced bound
 remark_text (divide executed copied merit child) =
@@ -36,10 +36,10 @@ numbers_below zero = []
 numbers_below (suc n) = numbers_below n ++ n ∷ []
 
 -- the lines of an organism's first steps, numbered from 1
-abbrev pub lines_of : OrganismState → ℕ → List ℕ
-lines_of organism steps =
+abbrev pub trace_lines : OrganismState → ℕ → List ℕ
+trace_lines organism steps =
     flat_map (λ n. trace_line (n + 1) (step_after organism n)) (numbers_below steps)
 
 -- what the trace of a genome writes
 abbrev pub trace_text : List Letter → ℕ → List ℕ
-trace_text letters steps = lines_of (traced_organism letters) steps
+trace_text letters steps = trace_lines (traced_organism letters) steps

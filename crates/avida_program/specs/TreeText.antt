@@ -1,7 +1,8 @@
 -- The lines of a tree that was found (docs/FORMATS.md, "Tree lines").
 use Rattle.std.specs.Prelude.{ℕ, ◌++◌, ◌∷◌, [], List, codes, flat_map}
 use Rattle.phylogeny.specs.declared.tree.Phylogeny.{Phylogeny}
-use Rattle.phylogeny.specs.TreeText.{ancestor_line, depth_line, numbers_text}
+use Rattle.log_lines.specs.LineText.{numbers_text}
+use Rattle.phylogeny.specs.TreeText.{ancestor_line, depth_line}
 
 -- how many ids are kept, and how many of these are branches
 abbrev pub counts_line : ℕ → ℕ → List ℕ

@@ -19,7 +19,7 @@ use Rattle.written_texts.specs.SinkChanges.{Change, Stays, SinkFailed, GainedTex
 use Rattle.avida_program.specs.Changes.{OnBytes, SourceFailed, Work}
 use Rattle.logged_run.specs.RunStops.{PutFailed}
 use Rattle.avida_program.specs.CommandLine.{looks_of}
-use Rattle.avida_program.specs.Input.{IsInputWith, assay_input_of, configuration_of, genome_of, lineage_input_of, log_input_of, resume_input_of}
+use Rattle.avida_program.specs.Input.{IsInputWith, assay_input_of, configuration_of, genome_of_input, lineage_input_of, log_input_of, resume_input_of}
 use Rattle.avida_program.specs.Outcomes.{WritesText}
 use Rattle.avida_program.specs.PathText.{path_text}
 use Rattle.avida_program.specs.ReplayText.{replay_text, upgrade_text}
@@ -99,7 +99,7 @@ pub record Benches (seed : ℕ) (work : Work) (told : Outcome) : Type 0 where
 -- what each command reads, writes and leaves
 abbrev pub Does : Command → Work → Outcome → Type 0
 Does (Trace steps spelling) work told = OnBytes work.source (λ bytes.
-    ReadsAndWrites (genome_of spelling bytes) (λ genome. trace_text genome steps) work told)
+    ReadsAndWrites (genome_of_input spelling bytes) (λ genome. trace_text genome steps) work told)
 Does (Run workers looks) work told = OnBytes work.source (λ bytes. Runs looks bytes work told)
 Does (Lineage cell workers) work told = OnBytes work.source (λ bytes. Descends cell bytes work told)
 Does (Bench seed workers) work told = Benches seed work told
@@ -116,7 +116,8 @@ Does Upgrade work told =
 Does Tree work told =
     OnBytes work.source (λ bytes. ReadsAndWrites (log_input_of bytes) tree_text work told)
 Does (Landscape steps) work told = OnBytes work.source (λ bytes.
-    ReadsAndWrites (genome_of Letters bytes) (λ genome. landscape_text genome steps) work told)
+    ReadsAndWrites (genome_of_input Letters bytes)
+    (λ genome. landscape_text genome steps) work told)
 
 -- a command is carried out, and ends so
 pub record CarriesOut (command : Command) (work : Work) (told : Outcome) : Type 0 where

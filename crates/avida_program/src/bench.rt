@@ -210,5 +210,8 @@ pub fn bench<R: Threads + Wait + Sync, O: Sink, G: Gate + Sync>(
           last = change last.old last.new;
         }) result }
 {
-    leave(write_bench(rt, alloc, seed, workers, out, gate), last)
+    match write_bench(rt, alloc, seed, workers, out, gate) {
+        Ok(world) => leave(world, last),
+        Err(outcome) => outcome,
+    }
 }

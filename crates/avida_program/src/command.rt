@@ -1,7 +1,7 @@
 // The words of a command line.
 ghost use Rattle.std.specs.Prelude.{◌≡◌, ◌<◌, Some, MatchResult, IfOk, drop, length, map, string_bytes};
 ghost use Rattle.command_line.specs.Refusals.{Refuses};
-ghost use Rattle.avida_program.specs.CommandLine.{IsInRange, assay_command, bare_command, bench_command, command_named, command_of, landscape_command, lineage_command, resume_command, run_command, save_command, spelling_of, trace_command};
+ghost use Rattle.avida_program.specs.CommandLine.{HasNumbersInRange, assay_command, bare_command, bench_command, command_named, command_of, landscape_command, lineage_command, resume_command, run_command, save_command, spelling_of, trace_command};
 
 use command_line::{
     Refused, read_assay, read_bench, read_landscape, read_lineage, read_nothing, read_resume,
@@ -87,7 +87,7 @@ fn read_run_words(alloc: Global, words: &[String]) -> Result<Command, Refused>
     ensures command { MatchResult result
         (λ command. run_command (drop 1 (map string_bytes words.now)) ≡ Some command)
         (Refuses (run_command (drop 1 (map string_bytes words.now)))) }
-    ensures range { IfOk result IsInRange }
+    ensures range { IfOk result HasNumbersInRange }
 {
     let run = read_run(alloc, words)?;
     Ok(Command::Run {
@@ -188,7 +188,7 @@ fn read_named(alloc: Global, name: &str, words: &[String]) -> Result<Command, Re
     ensures command { MatchResult result
         (λ command. command_named name.now (drop 1 (map string_bytes words.now)) ≡ Some command)
         (Refuses (command_named name.now (drop 1 (map string_bytes words.now)))) }
-    ensures range { IfOk result IsInRange }
+    ensures range { IfOk result HasNumbersInRange }
 {
     match name {
         "trace" => read_trace_words(alloc, words),
@@ -212,7 +212,7 @@ pub fn read_words(alloc: Global, words: &[String]) -> Result<Command, Refused>
     ensures command { MatchResult result
         (λ command. command_of (map string_bytes words.now) ≡ Some command)
         (Refuses (command_of (map string_bytes words.now))) }
-    ensures range { IfOk result IsInRange }
+    ensures range { IfOk result HasNumbersInRange }
 {
     let Some(name) = words.first() else {
         return Err(Refused::BadWords);

@@ -3,10 +3,11 @@ ghost use Rattle.std.specs.Prelude.{◌≡◌, ◌≢◌, ◌≤◌, ◌<◌, �
 ghost use Rattle.avida_port.specs.Ports.{IsAllOf};
 ghost use Rattle.genome.specs.Genome.{letters};
 ghost use Rattle.lineage_log.specs.Replay.{replay_of};
+ghost use Rattle.log_lines.specs.Line.{Line};
 ghost use Rattle.world_config.specs.Shown.{values_of};
 ghost use Rattle.written_texts.specs.SinkChanges.{change};
-ghost use Rattle.avida_program.specs.Input.{IsInputWith, assay_input_of, configuration_of, genome_of, genome_spelled, lineage_input_of, log_input_of, resume_input_of, saved_input_of};
-ghost use Rattle.avida_program.specs.Outcomes.{RefusesInput, StopsReading};
+ghost use Rattle.avida_program.specs.Input.{assay_input_of, configuration_of, genome_of_input, genome_spelled, lineage_input_of, log_input_of, resume_input_of, saved_input_of};
+ghost use Rattle.avida_program.specs.Outcomes.{GivesInput, GivesNoInput, StopsReading};
 
 use crate::{Outcome, Refusal, Spelling};
 use avida_port::{LONGEST_INPUT, ReadStop, Source, read_all};
@@ -25,11 +26,7 @@ pub const INPUT_LIMIT: usize = 1_048_576;
 pub const MOST_CELLS: u32 = 131_072;
 
 /// Reads a source to its end. More bytes than the limit are rejected with `TooLong`.
-pub fn read_bytes<S: Source>(
-    alloc: Global,
-    source: &mut S,
-    limit: usize,
-) -> Result<Vec<u8>, Outcome>
+fn read_bytes<S: Source>(alloc: Global, source: &mut S, limit: usize) -> Result<Vec<u8>, Outcome>
     requires { limit ≤ 536870912 }
     ensures within { IfOk result (λ bytes. length bytes.items ≤ limit) }
     ensures all { IfOk result (λ bytes. IsAllOf (S.seen source.old) bytes.items) }
@@ -57,12 +54,18 @@ fn read_spelled(alloc: Global, spelling: Spelling, bytes: &[u8]) -> Result<Genom
     }
 }
 
-/// Reads a genome from the bytes and drops them.
-pub fn read_genome(alloc: Global, spelling: Spelling, bytes: Vec<u8>) -> Result<Genome, Outcome>
-    requires { length bytes.items ≤ 1048576 }
-    ensures ok { IfOk result (λ genome. genome_of spelling bytes.items ≡ Ok (letters genome)) }
-    ensures refused { IfErr result (RefusesInput (genome_of spelling bytes.items)) }
+/// Reads a genome.
+pub fn read_genome<S: Source>(
+    alloc: Global,
+    spelling: Spelling,
+    source: &mut S,
+) -> Result<Genome, Outcome>
+    ensures ok { IfOk result (λ genome. GivesInput (genome_of_input spelling)
+        (change (S.seen source.old) (S.seen source.new)) (letters genome)) }
+    ensures err { IfErr result (GivesNoInput (genome_of_input spelling)
+        (change (S.seen source.old) (S.seen source.new))) }
 {
+    let bytes = read_bytes(alloc, source, INPUT_LIMIT)?;
     match read_spelled(alloc, spelling, bytes.as_slice()) {
         Ok(genome) => Ok(genome),
         Err(GenomeStop::Memory) => Err(Outcome::NoMemory),
@@ -70,12 +73,14 @@ pub fn read_genome(alloc: Global, spelling: Spelling, bytes: Vec<u8>) -> Result<
     }
 }
 
-/// Reads a configuration from the bytes and drops them.
-pub fn read_config(alloc: Global, bytes: Vec<u8>) -> Result<Config, Outcome>
-    requires { length bytes.items ≤ 1048576 }
-    ensures ok { IfOk result (λ config. configuration_of bytes.items ≡ Ok (values_of config)) }
-    ensures refused { IfErr result (RefusesInput (configuration_of bytes.items)) }
+/// Reads a configuration.
+pub fn read_config<S: Source>(alloc: Global, source: &mut S) -> Result<Config, Outcome>
+    ensures ok { IfOk result (λ config. GivesInput configuration_of
+        (change (S.seen source.old) (S.seen source.new)) (values_of config)) }
+    ensures err { IfErr result (GivesNoInput configuration_of
+        (change (S.seen source.old) (S.seen source.new))) }
 {
+    let bytes = read_bytes(alloc, source, INPUT_LIMIT)?;
     match world_config::read(alloc, bytes.as_slice()) {
         Ok(config) => Ok(config),
         Err(ConfigStop::Memory) => Err(Outcome::NoMemory),
@@ -83,14 +88,19 @@ pub fn read_config(alloc: Global, bytes: Vec<u8>) -> Result<Config, Outcome>
     }
 }
 
-/// Reads a configuration from the bytes and drops them. A cell outside its world is rejected.
-pub fn read_config_with(alloc: Global, bytes: Vec<u8>, cell: u32) -> Result<Config, Outcome>
-    requires { length bytes.items ≤ 1048576 }
-    ensures ok { IfOk result (λ config. lineage_input_of cell bytes.items ≡ Ok (values_of config)) }
+/// Reads a configuration. A cell outside its world is rejected.
+pub fn read_config_with<S: Source>(
+    alloc: Global,
+    source: &mut S,
+    cell: u32,
+) -> Result<Config, Outcome>
+    ensures ok { IfOk result (λ config. GivesInput (lineage_input_of cell)
+        (change (S.seen source.old) (S.seen source.new)) (values_of config)) }
     ensures cell { IfOk result (λ config. cell < config.width * config.height) }
-    ensures refused { IfErr result (RefusesInput (lineage_input_of cell bytes.items)) }
+    ensures err { IfErr result (GivesNoInput (lineage_input_of cell)
+        (change (S.seen source.old) (S.seen source.new))) }
 {
-    let config = read_config(alloc, bytes)?;
+    let config = read_config(alloc, source)?;
     if cell < config.width * config.height {
         Ok(config)
     } else {
@@ -98,15 +108,20 @@ pub fn read_config_with(alloc: Global, bytes: Vec<u8>, cell: u32) -> Result<Conf
     }
 }
 
-/// Reads a configuration from the bytes and drops them. So many of its worlds are rejected if
-/// together they have more cells than run side by side.
-pub fn read_config_for(alloc: Global, bytes: Vec<u8>, count: u32) -> Result<Config, Outcome>
-    requires bytes { length bytes.items ≤ 1048576 }
-    requires count { count ≤ 64 }
-    ensures ok { IfOk result (λ config. assay_input_of count bytes.items ≡ Ok (values_of config)) }
-    ensures refused { IfErr result (RefusesInput (assay_input_of count bytes.items)) }
+/// Reads a configuration. So many of its worlds are rejected if together they have more cells than
+/// run side by side.
+pub fn read_config_for<S: Source>(
+    alloc: Global,
+    source: &mut S,
+    count: u32,
+) -> Result<Config, Outcome>
+    requires { count ≤ 64 }
+    ensures ok { IfOk result (λ config. GivesInput (assay_input_of count)
+        (change (S.seen source.old) (S.seen source.new)) (values_of config)) }
+    ensures err { IfErr result (GivesNoInput (assay_input_of count)
+        (change (S.seen source.old) (S.seen source.new))) }
 {
-    let config = read_config(alloc, bytes)?;
+    let config = read_config(alloc, source)?;
     let cells = count * config.width * config.height;
     if cells <= MOST_CELLS {
         Ok(config)
@@ -115,12 +130,14 @@ pub fn read_config_for(alloc: Global, bytes: Vec<u8>, count: u32) -> Result<Conf
     }
 }
 
-/// Reads a log from the bytes and drops them.
-pub fn read_lines(alloc: Global, bytes: Vec<u8>) -> Result<Log, Outcome>
-    requires { length bytes.items ≤ 536870912 }
-    ensures ok { IfOk result (λ log. log_input_of bytes.items ≡ Ok log) }
-    ensures refused { IfErr result (RefusesInput (log_input_of bytes.items)) }
+/// Reads a log.
+pub fn read_lines<S: Source>(alloc: Global, source: &mut S) -> Result<Log, Outcome>
+    ensures ok { IfOk result (λ log. GivesInput log_input_of
+        (change (S.seen source.old) (S.seen source.new)) log) }
+    ensures err { IfErr result (GivesNoInput log_input_of
+        (change (S.seen source.old) (S.seen source.new))) }
 {
+    let bytes = read_bytes(alloc, source, LONGEST_INPUT)?;
     match read_log(alloc, bytes.as_slice()) {
         Ok(log) => Ok(log),
         Err(LogStop::Memory) => Err(Outcome::NoMemory),
@@ -128,13 +145,15 @@ pub fn read_lines(alloc: Global, bytes: Vec<u8>) -> Result<Log, Outcome>
     }
 }
 
-/// Replays the log in the bytes and drops them. No line of it is kept.
-pub fn read_livings(alloc: Global, bytes: Vec<u8>) -> Result<Livings, Outcome>
-    requires { length bytes.items ≤ 536870912 }
-    ensures ok { IfOk result (λ livings.
-        IsInputWith (log_input_of bytes.items) (λ lines. livings ≡ replay_of lines)) }
-    ensures refused { IfErr result (RefusesInput (log_input_of bytes.items)) }
+/// Replays a log. No line of it is kept.
+pub fn read_livings<S: Source>(alloc: Global, source: &mut S) -> Result<Livings, Outcome>
+    ensures ok { IfOk result (λ livings. (lines : List Line)
+        × GivesInput log_input_of (change (S.seen source.old) (S.seen source.new)) lines
+        × (livings ≡ replay_of lines)) }
+    ensures err { IfErr result (GivesNoInput log_input_of
+        (change (S.seen source.old) (S.seen source.new))) }
 {
+    let bytes = read_bytes(alloc, source, LONGEST_INPUT)?;
     match living_at_end(alloc, bytes.as_slice()) {
         Ok(livings) => Ok(livings),
         Err(LogStop::Memory) => Err(Outcome::NoMemory),
@@ -142,19 +161,20 @@ pub fn read_livings(alloc: Global, bytes: Vec<u8>) -> Result<Livings, Outcome>
     }
 }
 
-/// Reads a saved world from the bytes and drops them. It may wait, since it interns the genomes of
-/// the organisms.
-pub fn read_state<R: Wait>(
+/// Reads a saved world. It may wait, since it interns the genomes of the organisms.
+fn read_state<R: Wait, S: Source>(
     rt: &R,
     alloc: Global,
-    bytes: Vec<u8>,
+    source: &mut S,
     workers: u32,
 ) -> Result<State, Outcome>
-    requires bytes { length bytes.items ≤ 536870912 }
-    requires workers { (1 ≤ workers) × (workers ≤ 64) }
-    ensures ok { IfOk result (λ state. saved_input_of bytes.items ≡ Ok state) }
-    ensures refused { IfErr result (RefusesInput (saved_input_of bytes.items)) }
+    requires { (1 ≤ workers) × (workers ≤ 64) }
+    ensures ok { IfOk result (λ state. GivesInput saved_input_of
+        (change (S.seen source.old) (S.seen source.new)) state) }
+    ensures err { IfErr result (GivesNoInput saved_input_of
+        (change (S.seen source.old) (S.seen source.new))) }
 {
+    let bytes = read_bytes(alloc, source, LONGEST_INPUT)?;
     match read_saved(rt, alloc, bytes.as_slice(), workers) {
         Ok(state) => Ok(state),
         Err(SavedStop::Memory) => Err(Outcome::NoMemory),
@@ -162,22 +182,23 @@ pub fn read_state<R: Wait>(
     }
 }
 
-/// Reads a saved world from the bytes and drops them. One that would go past the greatest update in
-/// so many more is rejected. It may wait, since it interns the genomes of the organisms.
-pub fn read_state_for<R: Wait>(
+/// Reads a saved world. One that would go past the greatest update in so many more is rejected. It
+/// may wait, since it interns the genomes of the organisms.
+pub fn read_state_for<R: Wait, S: Source>(
     rt: &R,
     alloc: Global,
-    bytes: Vec<u8>,
+    source: &mut S,
     more: u32,
     workers: u32,
 ) -> Result<State, Outcome>
-    requires bytes { length bytes.items ≤ 536870912 }
-    requires workers { (1 ≤ workers) × (workers ≤ 64) }
-    ensures ok { IfOk result (λ state. resume_input_of more bytes.items ≡ Ok state) }
+    requires { (1 ≤ workers) × (workers ≤ 64) }
+    ensures ok { IfOk result (λ state. GivesInput (resume_input_of more)
+        (change (S.seen source.old) (S.seen source.new)) state) }
     ensures updates { IfOk result (λ state. state.head.update + more ≤ 1000000) }
-    ensures refused { IfErr result (RefusesInput (resume_input_of more bytes.items)) }
+    ensures err { IfErr result (GivesNoInput (resume_input_of more)
+        (change (S.seen source.old) (S.seen source.new))) }
 {
-    let state = read_state(rt, alloc, bytes, workers)?;
+    let state = read_state(rt, alloc, source, workers)?;
     let updates = u64::from(state.update()) + u64::from(more);
     if updates <= u64::from(GREATEST_UPDATES) {
         Ok(state)

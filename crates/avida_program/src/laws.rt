@@ -1,8 +1,8 @@
-// The program's limits, and what holds of its commands together (docs/FORMATS.md, "The command line"
-// and "Statuses and fault lines"; docs/WORLD.md, "Saved worlds").
+// The program's limits, and what holds of its commands together (docs/FORMATS.md, "The command
+// line" and "Statuses and fault lines"; docs/WORLD.md, "Saved worlds").
 ghost use Rattle.std.specs.Prelude.{◌≡◌};
 ghost use Rattle.world_config.specs.Shown.{values_of};
-ghost use Rattle.avida_program.specs.ResumedRun.{CanResume, GoesOn};
+ghost use Rattle.avida_program.specs.ResumedRun.{CanResume, ResumesExactly};
 
 use crate::{INPUT_LIMIT, MOST_CELLS, PIECE_SIZE};
 use checkpoint::laws::runs_are_read_again;
@@ -19,7 +19,7 @@ pub fn limits()
 /// A run that is saved and resumed goes on: its log without the last line, and then what `resume`
 /// writes of what `save` wrote, are the log of a run so much longer.
 pub fn saved_runs_go_on(config: &Config, more: u32)
-    ensures { CanResume (values_of config.now) more → GoesOn (values_of config.now) more }
+    ensures { CanResume (values_of config.now) more → ResumesExactly (values_of config.now) more }
 {
     resumed_runs_go_on(config, more);
     runs_are_read_again(config);

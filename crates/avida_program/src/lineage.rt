@@ -12,10 +12,10 @@ ghost use Rattle.avida_program.specs.PathText.{origin_text, parent_text, path_li
 ghost use Rattle.logged_run.specs.RunText.{IsFinalWorld};
 ghost use Rattle.avida_program.specs.Work.{CarriesOut};
 
-use crate::input::{read_bytes, read_config_with};
+use crate::Outcome;
+use crate::input::read_config_with;
 use crate::outcome::ended;
 use crate::run::{leave, run_to_end};
-use crate::{INPUT_LIMIT, Outcome};
 use avida_port::{Gate, Memory, Sink, Source};
 use genome::letters_text;
 use lineage_log::{Link, Path};
@@ -163,15 +163,11 @@ pub fn lineage<R: Threads + Wait + Sync, S: Source, O: Sink, G: Gate + Sync>(
       last = change last.old last.new;
     }) result }
 {
-    let bytes = match read_bytes(alloc, source, INPUT_LIMIT) {
-        Ok(bytes) => bytes,
-        Err(outcome) => return outcome,
-    };
-    match read_config_with(alloc, bytes, cell) {
-        Ok(config) => leave(
-            run_and_write(rt, alloc, config, cell, workers, out, gate),
-            last,
-        ),
+    match read_config_with(alloc, source, cell) {
+        Ok(config) => match run_and_write(rt, alloc, config, cell, workers, out, gate) {
+            Ok(world) => leave(world, last),
+            Err(outcome) => outcome,
+        },
         Err(outcome) => outcome,
     }
 }

@@ -11,9 +11,9 @@ ghost use Rattle.avida_program.specs.Outcomes.{WritesText};
 ghost use Rattle.written_texts.specs.Pieces.{Writes};
 ghost use Rattle.avida_program.specs.Work.{CarriesOut};
 
-use crate::input::{read_bytes, read_genome};
+use crate::input::read_genome;
 use crate::outcome::ended;
-use crate::{INPUT_LIMIT, Outcome, Spelling};
+use crate::{Outcome, Spelling};
 use avida_port::{Memory, Sink, SinkStop, Source};
 use genome::Genome;
 use instruction_set::Letter;
@@ -178,11 +178,7 @@ pub fn landscape<R: Threads + Sync, S: Source, O: Sink>(
           last = unchanged last;
         }) result }
 {
-    let bytes = match read_bytes(alloc, source, INPUT_LIMIT) {
-        Ok(bytes) => bytes,
-        Err(outcome) => return outcome,
-    };
-    match read_genome(alloc, Spelling::Letters, bytes) {
+    match read_genome(alloc, Spelling::Letters, source) {
         Ok(genome) => write_landscape(rt, alloc, &genome, steps, out),
         Err(outcome) => outcome,
     }

@@ -5,7 +5,6 @@ ghost use Rattle.avida_program.specs.Status.{status_of};
 
 use crate::{Refusal, Status};
 use avida_port::{Memory, SinkStop};
-use std::alloc::AllocError;
 use written_texts::WriteStop;
 
 /// How a call ends: its status, and for a rejected input the reason.
@@ -42,17 +41,6 @@ impl From<Memory> for Outcome {
     ghost from_gives = { λ _ told. told ≡ outcome.NoMemory };
 
     fn from(_e: Memory) -> Outcome {
-        Outcome::NoMemory
-    }
-}
-
-impl From<AllocError> for Outcome {
-    ghost use Rattle.std.specs.Prelude.{◌≡◌};
-    ghost use Rattle.avida_program.specs.declared.outcome.Outcome.TheVariants as outcome;
-
-    ghost from_gives = { λ _ told. told ≡ outcome.NoMemory };
-
-    fn from(_e: AllocError) -> Outcome {
         Outcome::NoMemory
     }
 }

@@ -13,9 +13,9 @@ ghost use Rattle.avida_program.specs.ReplayText.{replay_text, resident_line};
 ghost use Rattle.avida_program.specs.Work.{CarriesOut};
 
 use crate::Outcome;
-use crate::input::{read_bytes, read_livings};
+use crate::input::read_livings;
 use crate::outcome::ended;
-use avida_port::{LONGEST_INPUT, Sink, SinkStop, Source};
+use avida_port::{Sink, SinkStop, Source};
 use lineage_log::{Living, Livings};
 use std::alloc::Global;
 use written_texts::{PIECE_SIZE, Piece, make_room, push_natural, write_byte, write_letters};
@@ -73,11 +73,7 @@ pub fn replay<S: Source, O: Sink>(alloc: Global, source: &mut S, out: &mut O) ->
       last = unchanged last;
     }) result }
 {
-    let bytes = match read_bytes(alloc, source, LONGEST_INPUT) {
-        Ok(bytes) => bytes,
-        Err(outcome) => return outcome,
-    };
-    match read_livings(alloc, bytes) {
+    match read_livings(alloc, source) {
         Ok(livings) => write_replayed(livings, out),
         Err(outcome) => outcome,
     }

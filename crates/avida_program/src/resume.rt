@@ -1,7 +1,7 @@
 // The command `resume`.
 ghost use Rattle.std.specs.Prelude.{◌≡◌, ◌≤◌, ◌<◌, ◌+◌, IfOk, Option};
 ghost use Rattle.avida_port.specs.Ports.{SinkState};
-ghost use Rattle.saved_worlds.specs.Resuming.{continued_text, later_texts, next_state, next_text, state_after};
+ghost use Rattle.saved_worlds.specs.Resuming.{continued_text, later_texts, next_state, next_text, saved_state_after};
 ghost use Rattle.world_core.specs.WorldValue.{WorldValue};
 ghost use Rattle.world_rules.specs.LogText.{end_text};
 ghost use Rattle.written_texts.specs.SinkChanges.{change, unchanged};
@@ -11,9 +11,9 @@ ghost use Rattle.avida_program.specs.Outcomes.{WritesText};
 ghost use Rattle.avida_program.specs.Work.{CarriesOut};
 
 use crate::Outcome;
-use crate::input::{read_bytes, read_state_for};
+use crate::input::read_state_for;
 use crate::outcome::written;
-use avida_port::{Gate, LONGEST_INPUT, Sink, Source};
+use avida_port::{Gate, Sink, Source};
 use log_lines::{LogLine, write_line};
 use std::alloc::Global;
 use std::sync::Wait;
@@ -48,7 +48,7 @@ fn write_updates<R: Threads + Wait + Sync, O: Sink, G: Gate + Sync>(
     gate: &G,
 ) -> Result<State, WriteStop>
     requires { state.head.update + more ≤ 1000000 }
-    ensures state { IfOk result (λ after. after ≡ state_after state more) }
+    ensures state { IfOk result (λ after. after ≡ saved_state_after state more) }
     ensures text { WritesAll (O.seen out.old) (O.seen out.new) (later_texts state more) result }
 {
     for _ in 0..more {
@@ -119,11 +119,7 @@ pub fn resume<R: Threads + Wait + Sync, S: Source, O: Sink, G: Gate + Sync>(
           last = unchanged last;
         }) result }
 {
-    let bytes = match read_bytes(alloc, source, LONGEST_INPUT) {
-        Ok(bytes) => bytes,
-        Err(outcome) => return outcome,
-    };
-    match read_state_for(rt, alloc, bytes, more, workers) {
+    match read_state_for(rt, alloc, source, more, workers) {
         Ok(state) => write_continued(rt, alloc, state, more, out, gate),
         Err(outcome) => outcome,
     }

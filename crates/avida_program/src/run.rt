@@ -1,16 +1,13 @@
 // The command `run`.
-ghost use Rattle.std.specs.Prelude.{◌≡◌, ◌≤◌, ◌<◌, ◌+◌, Some, None, IfOk, IfErr, OnOk, IfSome, MatchResult};
+ghost use Rattle.std.specs.Prelude.{◌≡◌, ◌≤◌, ◌<◌, ◌+◌, Some, IfOk};
 ghost use Rattle.world_config.specs.Shown.{values_of};
-ghost use Rattle.world_rules.specs.Laws.{ReplaysToLiving};
-ghost use Rattle.written_texts.specs.SinkChanges.{GainedText, change};
-ghost use Rattle.logged_run.specs.RunText.{IsFinalWorld, run_text};
-ghost use Rattle.logged_run.specs.WatchText.{GainedPictures};
+ghost use Rattle.written_texts.specs.SinkChanges.{change};
+ghost use Rattle.logged_run.specs.RunText.{IsFinalWorld};
 ghost use Rattle.avida_program.specs.declared.command.Command.TheVariants.{Run};
-ghost use Rattle.avida_program.specs.Outcomes.{StopsRunning};
 ghost use Rattle.avida_program.specs.Work.{CarriesOut};
 
-use crate::input::{read_bytes, read_config};
-use crate::{INPUT_LIMIT, Outcome};
+use crate::Outcome;
+use crate::input::read_config;
 use avida_port::{Gate, Memory, Sink, Source};
 use logged_run::write_run;
 use std::alloc::Global;
@@ -20,33 +17,6 @@ use std::time::Clock;
 use world_config::Config;
 use world_core::World;
 use world_core::laws::replay_gives_living;
-
-/// Runs a configuration to its end, and writes the log, which replays to who lives then. With
-/// `looks` a watcher works beside the run.
-fn run_and_log<R: Threads + Wait + Clock + Sync, O: Sink + Send, W: Sink + Send, G: Gate + Sync>(
-    rt: &R,
-    alloc: Global,
-    config: Config,
-    workers: u32,
-    looks: Option<u32>,
-    out: &mut O,
-    watch: &mut W,
-    gate: &G,
-) -> Result<World, Outcome>
-    requires { (1 ≤ workers) × (workers ≤ 64) }
-    ensures world { IfOk result (IsFinalWorld (values_of config)) }
-    ensures ok { OnOk result (GainedText (change (O.seen out.old) (O.seen out.new))
-        (run_text (values_of config))) }
-    ensures watched { OnOk result (IfSome looks (λ n. GainedPictures n (values_of config)
-        (change (W.seen watch.old) (W.seen watch.new)))) }
-    ensures unwatched { looks ≡ None → W.seen watch.new ≡ W.seen watch.old }
-    ensures err { IfErr result (StopsRunning looks (values_of config)
-        (change (O.seen out.old) (O.seen out.new)) (change (W.seen watch.old) (W.seen watch.new))) }
-    ensures replays { ReplaysToLiving (values_of config) config.updates }
-{
-    replay_gives_living(&config, config.updates);
-    Ok(write_run(rt, alloc, config, workers, looks, out, watch, gate)?)
-}
 
 /// One update, whose text is dropped.
 fn pass_update<R: Threads + Wait + Sync, G: Gate + Sync>(
@@ -99,22 +69,17 @@ pub fn run_to_end<R: Threads + Wait + Sync, G: Gate + Sync>(
 }
 
 /// Stores the world of a run that came to its end in `last`.
-pub fn leave(run: Result<World, Outcome>, last: &mut Option<World>) -> Outcome
-    ensures { MatchResult run (λ world. (result ≡ Outcome.Done) × (last.new ≡ Some world))
-        (λ told. (result ≡ told) × (last.new ≡ last.old)) }
+pub fn leave(world: World, last: &mut Option<World>) -> Outcome
+    ensures done { result ≡ Outcome.Done }
+    ensures left { last.new ≡ Some world }
 {
-    match run {
-        Ok(world) => {
-            *last = Some(world);
-            Outcome::Done
-        }
-        Err(outcome) => outcome,
-    }
+    *last = Some(world);
+    Outcome::Done
 }
 
-/// Reads a configuration, and writes the log of its run. With `looks` there is a watcher, which
-/// writes lines of pictures to `watch`. On `Done` the last world is left in `last`, and otherwise
-/// `last` stays as it was.
+/// Reads a configuration, and writes the log of its run, which replays to who lives at its end.
+/// With `looks` there is a watcher, which writes lines of pictures to `watch`. On `Done` the last
+/// world is left in `last`, and otherwise `last` stays as it was.
 pub fn run<
     R: Threads + Wait + Clock + Sync,
     S: Source,
@@ -140,15 +105,14 @@ pub fn run<
       last = change last.old last.new;
     }) result }
 {
-    let bytes = match read_bytes(alloc, source, INPUT_LIMIT) {
-        Ok(bytes) => bytes,
-        Err(outcome) => return outcome,
-    };
-    match read_config(alloc, bytes) {
-        Ok(config) => leave(
-            run_and_log(rt, alloc, config, workers, looks, out, watch, gate),
-            last,
-        ),
+    match read_config(alloc, source) {
+        Ok(config) => {
+            replay_gives_living(&config, config.updates);
+            match write_run(rt, alloc, config, workers, looks, out, watch, gate) {
+                Ok(world) => leave(world, last),
+                Err(stop) => Outcome::from(stop),
+            }
+        }
         Err(outcome) => outcome,
     }
 }

@@ -15,10 +15,10 @@ ghost use Rattle.avida_program.specs.Outcomes.{WritesText};
 ghost use Rattle.avida_program.specs.SaveText.{save_text};
 ghost use Rattle.avida_program.specs.Work.{CarriesOut};
 
-use crate::input::{read_bytes, read_config};
+use crate::Outcome;
+use crate::input::read_config;
 use crate::outcome::written;
 use crate::run::run_to_end;
-use crate::{INPUT_LIMIT, Outcome};
 use avida_port::{Gate, Sink, Source};
 use checkpoint::laws::texts_are_written_by_cells;
 use checkpoint::{cell_text, head_text, tail_text};
@@ -30,7 +30,8 @@ use world_core::State;
 use written_texts::WriteStop;
 
 fn write_head<O: Sink>(alloc: Global, state: &State, out: &mut O) -> Result<(), WriteStop>
-    ensures { WritesAll (O.seen out.old) (O.seen out.new) (text.head_text state.now.head) result }
+    ensures { WritesAll (O.seen out.old) (O.seen out.new)
+        (text.saved_head_text state.now.head) result }
 {
     let mut line = Vec::new(alloc);
     head_text(state, &mut line)?;
@@ -137,11 +138,7 @@ pub fn save<R: Threads + Wait + Sync, S: Source, O: Sink, G: Gate + Sync>(
       last = unchanged last;
     }) result }
 {
-    let bytes = match read_bytes(alloc, source, INPUT_LIMIT) {
-        Ok(bytes) => bytes,
-        Err(outcome) => return outcome,
-    };
-    match read_config(alloc, bytes) {
+    match read_config(alloc, source) {
         Ok(config) => write_saved(rt, alloc, config, workers, out, gate),
         Err(outcome) => outcome,
     }

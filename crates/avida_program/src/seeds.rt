@@ -11,9 +11,9 @@ ghost use Rattle.written_texts.specs.SinkChanges.{change, unchanged};
 ghost use Rattle.avida_program.specs.Outcomes.{WritesText};
 ghost use Rattle.avida_program.specs.Work.{CarriesOut};
 
-use crate::input::{read_bytes, read_config_for};
+use crate::Outcome;
+use crate::input::read_config_for;
 use crate::outcome::ended;
-use crate::{INPUT_LIMIT, Outcome};
 use assay::{Assay, seeds_with_each};
 use avida_port::{Gate, Memory, Sink, Source};
 use genome::{Genome, letters_text};
@@ -175,11 +175,7 @@ pub fn assay<R: Threads + Wait + Sync, S: Source, O: Sink, G: Gate + Sync>(
           last = unchanged last;
         }) result }
 {
-    let bytes = match read_bytes(alloc, source, INPUT_LIMIT) {
-        Ok(bytes) => bytes,
-        Err(outcome) => return outcome,
-    };
-    match read_config_for(alloc, bytes, count) {
+    match read_config_for(alloc, source, count) {
         Ok(config) => write_assay(rt, alloc, &config, count, first, workers, out, gate),
         Err(outcome) => outcome,
     }

@@ -1,7 +1,7 @@
 // The whole program.
 ghost use Rattle.std.specs.Prelude.{◌≡◌, ◌≢◌, None, map, string_bytes};
 ghost use Rattle.avida_port.specs.Faults.{Rose};
-ghost use Rattle.avida_program.specs.CommandLine.{IsInRange, command_of, looks_told};
+ghost use Rattle.avida_program.specs.CommandLine.{HasNumbersInRange, command_of, looks_told};
 ghost use Rattle.logged_run.specs.RunStops.{PutFailed};
 ghost use Rattle.avida_program.specs.Changes.{TellsOf};
 ghost use Rattle.written_texts.specs.SinkChanges.{change};
@@ -31,7 +31,7 @@ use std::time::Clock;
 use world_core::World;
 
 /// Writes the fault line to `err`. A failure there changes no status.
-fn tell<E: Sink>(err: &mut E, outcome: &Outcome)
+fn write_fault_line<E: Sink>(err: &mut E, outcome: &Outcome)
     ensures { TellsOf (change (E.seen err.old) (E.seen err.new)) outcome.now }
 {
     if let Outcome::Done = outcome {
@@ -58,7 +58,7 @@ fn carry_out<
     last: &mut Option<World>,
     gate: &G,
 ) -> Outcome
-    requires { IsInRange command }
+    requires { HasNumbersInRange command }
     ensures { CarriesOut command (record {
       source = change (S.seen source.old) (S.seen source.new);
       out = change (O.seen out.old) (O.seen out.new);
@@ -164,6 +164,6 @@ pub fn serve<
     }) result }
 {
     let outcome = obey(rt, alloc, words, source, out, watch, last, gate);
-    tell(err, &outcome);
+    write_fault_line(err, &outcome);
     outcome.status()
 }

@@ -6,13 +6,13 @@ ghost use Rattle.world_core.specs.WorldValue.{WorldValue};
 ghost use Rattle.avida_program.specs.declared.command.Command.TheVariants.{Trace};
 ghost use Rattle.written_texts.specs.SinkChanges.{change, unchanged};
 ghost use Rattle.avida_program.specs.Outcomes.{WritesText};
-ghost use Rattle.avida_program.specs.TraceText.{lines_of, trace_text};
+ghost use Rattle.avida_program.specs.TraceText.{trace_lines, trace_text};
 ghost use Rattle.avida_program.specs.Work.{CarriesOut};
 
-use crate::input::{read_bytes, read_genome};
+use crate::input::read_genome;
 use crate::outcome::ended;
 use crate::trace_line::write_line;
-use crate::{INPUT_LIMIT, Outcome, Spelling};
+use crate::{Outcome, Spelling};
 use avida_port::{Memory, Sink, Source};
 use genome::Genome;
 use landscape::traced_organism;
@@ -23,7 +23,7 @@ use written_texts::Piece;
 /// Steps an organism of age 0, and writes a line a step.
 fn write_steps<O: Sink>(alloc: Global, mut organism: Organism, steps: u32, out: &mut O) -> Outcome
     requires { organism.age ≡ 0 }
-    ensures { WritesText (lines_of organism steps)
+    ensures { WritesText (trace_lines organism steps)
         (change (O.seen out.old) (O.seen out.new)) result }
 {
     let mut piece = Piece::new();
@@ -64,11 +64,7 @@ pub fn trace<S: Source, O: Sink>(
           last = unchanged last;
         }) result }
 {
-    let bytes = match read_bytes(alloc, source, INPUT_LIMIT) {
-        Ok(bytes) => bytes,
-        Err(outcome) => return outcome,
-    };
-    match read_genome(alloc, spelling, bytes) {
+    match read_genome(alloc, spelling, source) {
         Ok(genome) => write_trace(alloc, genome, steps, out),
         Err(outcome) => outcome,
     }

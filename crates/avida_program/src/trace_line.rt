@@ -49,7 +49,7 @@ fn push_step(piece: &mut Piece, number: u32, traced: &Traced)
 
 fn push_task(piece: &mut Piece, task: Task)
     requires { array_vec_len piece.old + 5 ≤ PIECE_SIZE }
-    ensures { piece.new.items ≡ piece.old.items ++ codes " " ++ tasks.name_of task }
+    ensures { piece.new.items ≡ piece.old.items ++ codes " " ++ tasks.task_name task }
 {
     piece.push(b' ');
     push_text(piece, task.name());

@@ -12,9 +12,9 @@ ghost use Rattle.avida_program.specs.TreeText.{counts_line, last_lines, lines_of
 ghost use Rattle.avida_program.specs.Work.{CarriesOut};
 
 use crate::Outcome;
-use crate::input::{read_bytes, read_lines};
+use crate::input::read_lines;
 use crate::outcome::ended;
-use avida_port::{LONGEST_INPUT, Memory, Sink, SinkStop, Source};
+use avida_port::{Memory, Sink, SinkStop, Source};
 use lineage_log::Log;
 use phylogeny::{Depth, Phylogeny, phylogeny};
 use std::alloc::Global;
@@ -127,11 +127,7 @@ pub fn tree<S: Source, O: Sink>(alloc: Global, source: &mut S, out: &mut O) -> O
       last = unchanged last;
     }) result }
 {
-    let bytes = match read_bytes(alloc, source, LONGEST_INPUT) {
-        Ok(bytes) => bytes,
-        Err(outcome) => return outcome,
-    };
-    match read_lines(alloc, bytes) {
+    match read_lines(alloc, source) {
         Ok(log) => write_tree(alloc, &log, out),
         Err(outcome) => outcome,
     }

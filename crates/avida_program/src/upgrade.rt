@@ -11,9 +11,9 @@ ghost use Rattle.avida_program.specs.ReplayText.{upgrade_text};
 ghost use Rattle.avida_program.specs.Work.{CarriesOut};
 
 use crate::Outcome;
-use crate::input::{read_bytes, read_lines};
+use crate::input::read_lines;
 use crate::outcome::ended;
-use avida_port::{LONGEST_INPUT, Sink, Source};
+use avida_port::{Sink, Source};
 use lineage_log::{Log, LogLine, write_line};
 use std::alloc::Global;
 use written_texts::{Piece, write_text};
@@ -53,11 +53,7 @@ pub fn upgrade<S: Source, O: Sink>(alloc: Global, source: &mut S, out: &mut O) -
       last = unchanged last;
     }) result }
 {
-    let bytes = match read_bytes(alloc, source, LONGEST_INPUT) {
-        Ok(bytes) => bytes,
-        Err(outcome) => return outcome,
-    };
-    match read_lines(alloc, bytes) {
+    match read_lines(alloc, source) {
         Ok(log) => write_upgraded(alloc, log, out),
         Err(outcome) => outcome,
     }

@@ -33,7 +33,8 @@ impl Sink for CountedSink<'_> {
     ghost seen = { λ s. sure_sink_seen s.sink };
 
     fn put(&mut self, piece: &[u8]) -> Result<(), SinkStop>
-        ensures puts { Puts (sure_sink_seen self.old.sink) (sure_sink_seen self.new.sink) piece.now result }
+        ensures puts { Puts (sure_sink_seen self.old.sink) (sure_sink_seen self.new.sink) piece.now
+            result }
         ensures empty { piece.now ≡ []
             → IsOk result × (sure_sink_seen self.new.sink ≡ sure_sink_seen self.old.sink) }
     {

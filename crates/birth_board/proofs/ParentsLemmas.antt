@@ -19,6 +19,7 @@ range-more n = sym (map-id (range_with_len 0 (n + 1)))
     ∙ map-range_with_len_more (λ x. x) 0 n n (omega arith)
     ∙ ap (λ l. l ++ n ∷ []) (map-id (range_with_len 0 n))
 
+-- with one cell more come its parents, as many as are counted for it
 pub parents_below-more : (counts : List ℕ) (n : ℕ)
     → parents_below counts (n + 1) ≡ parents_below counts n ++ replicate (get_or counts n 0) n
 parents_below-more counts n =

@@ -5,25 +5,25 @@ use Rattle.std.proofs.Math.Nat.{mul-le-mul}
 use Rattle.std.proofs.lemmas.Bool.Decides.{eqb_tells, Decides-eqb}
 use Rattle.std.proofs.lemmas.List.Sums.{fold_more}
 use Rattle.birth_board.specs.declared.torus.Torus.{Torus}
-use Rattle.birth_board.specs.declared.season.Season.{Season}
+use Rattle.birth_board.specs.declared.placing_round.PlacingRound.{PlacingRound}
 use Rattle.birth_board.specs.Torus.{TorusNumbers, torus_numbers, cells_of}
 use Rattle.birth_board.specs.Placement.{Board, next_board, next_placing, place_stream, placing_of}
 use Rattle.birth_board.specs.declared.placing.Placing.{Placing}
 use Rattle.random_streams.specs.RandomStream.{Stream, word_of}
 
 -- the board once some parents had their newborns placed
-abbrev pub board_after : TorusNumbers → Season → List (Option ℕ) → List ℕ → Board
-board_after torus season occupants parents =
-    fold (next_board torus season) (record { occupants = occupants; placings = []; parents = [] })
+abbrev pub board_after : TorusNumbers → PlacingRound → List (Option ℕ) → List ℕ → Board
+board_after torus round occupants parents =
+    fold (next_board torus round) (record { occupants = occupants; placings = []; parents = [] })
     parents
 
 -- a board tells whose newborns were placed
-pub board-parents : (torus : TorusNumbers) (season : Season) (board : Board) (parents : List ℕ)
-    → (fold (next_board torus season) board parents).parents ≡ board.parents ++ parents
+pub board-parents : (torus : TorusNumbers) (round : PlacingRound) (board : Board) (parents : List ℕ)
+    → (fold (next_board torus round) board parents).parents ≡ board.parents ++ parents
 unfolding next_board
-board-parents torus season board [] = sym (append-nil board.parents)
-board-parents torus season board (parent ∷ parents) =
-    board-parents torus season (next_board torus season board parent) parents
+board-parents torus round board [] = sym (append-nil board.parents)
+board-parents torus round board (parent ∷ parents) =
+    board-parents torus round (next_board torus round board parent) parents
     ∙ append_assoc board.parents (parent ∷ []) parents
 
 -- how many words the stream of a cell gave, where cells come in order
@@ -37,49 +37,46 @@ words-taken current cell taken before order same later =
       | inr h ↦ rw h.0 (sym (ap (λ n. 4 * n) (later cell (omega (arith, h.1)))))
     ]
 
--- a torus has few cells
-pub cells_of-few : (torus : Torus) → cells_of (torus_numbers torus) ≤ 65536
-cells_of-few torus = mul-le-mul torus.few_columns torus.few_rows
-
 -- what a turn places is the next placing
-pub placing-next : (torus : TorusNumbers) (season : Season) (board : Board) (parent : ℕ)
+pub placing-next : (torus : TorusNumbers) (round : PlacingRound) (board : Board) (parent : ℕ)
     (before : List ℕ) (occupants : List (Option ℕ)) (id : ℕ) (draws : Stream) (placing : Placing)
-    → board.parents ≡ before → occupants ≡ board.occupants → id ≡ season.next_id + length before
-    → draws ≡ place_stream season parent (4 * count_by (λ p. p == parent) before)
-    → placing ≡ placing_of torus season.prefer_empty occupants id parent
+    → board.parents ≡ before → occupants ≡ board.occupants → id ≡ round.next_id + length before
+    → draws ≡ place_stream round parent (4 * count_by (λ p. p == parent) before)
+    → placing ≡ placing_of torus round.prefer_empty occupants id parent
     (word_of draws draws.taken ∷ word_of draws (draws.taken + 1) ∷ word_of draws (draws.taken + 2)
-    ∷ word_of draws (draws.taken + 3) ∷ []) → placing ≡ next_placing torus season board parent
-placing-next torus season board parent before occupants id draws placing same who id_is stream
+    ∷ word_of draws (draws.taken + 3) ∷ []) → placing ≡ next_placing torus round board parent
+placing-next torus round board parent before occupants id draws placing same who id_is stream
     placed =
     placed ∙ rw (stream, who, id_is, same) refl
 
 -- who stands where after a turn
-pub next_board-occupants : (torus : TorusNumbers) (season : Season) (board : Board) (parent : ℕ)
+pub next_board-occupants : (torus : TorusNumbers) (round : PlacingRound) (board : Board)
+    (parent : ℕ)
     (occupants new : List (Option ℕ)) (placing : Placing) → occupants ≡ board.occupants
-    → placing ≡ next_placing torus season board parent
+    → placing ≡ next_placing torus round board parent
     → new ≡ set occupants placing.cell (Some placing.id)
-    → new ≡ (next_board torus season board parent).occupants
+    → new ≡ (next_board torus round board parent).occupants
 unfolding next_board
-next_board-occupants torus season board parent occupants new placing who placed stands =
+next_board-occupants torus round board parent occupants new placing who placed stands =
     stands ∙ rw (who, placed) refl
 
 -- the placings after a turn
-pub next_board-placings : (torus : TorusNumbers) (season : Season) (board : Board) (parent : ℕ)
+pub next_board-placings : (torus : TorusNumbers) (round : PlacingRound) (board : Board) (parent : ℕ)
     (placings new : List Placing) (placing : Placing) → placings ≡ board.placings
-    → placing ≡ next_placing torus season board parent → new ≡ placings ++ placing ∷ []
-    → new ≡ (next_board torus season board parent).placings
+    → placing ≡ next_placing torus round board parent → new ≡ placings ++ placing ∷ []
+    → new ≡ (next_board torus round board parent).placings
 unfolding next_board
-next_board-placings torus season board parent placings new placing so_far placed stands =
+next_board-placings torus round board parent placings new placing so_far placed stands =
     stands ∙ rw (so_far, placed) refl
 
 -- the board after one parent more
-pub board_after-more : (torus : TorusNumbers) (season : Season) (occupants : List (Option ℕ))
+pub board_after-more : (torus : TorusNumbers) (round : PlacingRound) (occupants : List (Option ℕ))
     (parents : List ℕ) (i : ℕ) → i < length parents
-    → board_after torus season occupants (take (i + 1) parents)
-    ≡ next_board torus season (board_after torus season occupants (take i parents))
+    → board_after torus round occupants (take (i + 1) parents)
+    ≡ next_board torus round (board_after torus round occupants (take i parents))
     (get_or parents i 0)
-board_after-more torus season occupants parents i within =
-    fold_more (next_board torus season)
+board_after-more torus round occupants parents i within =
+    fold_more (next_board torus round)
     (record { occupants = occupants; placings = []; parents = [] }) parents i 0 within
 
 -- a number below another is not that number

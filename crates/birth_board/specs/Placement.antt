@@ -4,7 +4,7 @@ use Rattle.std.specs.List.Sorted.{IsNonDecreasing}
 use Rattle.logic_tasks.specs.Inputs.{inputs_of}
 use Rattle.random_streams.specs.declared.purpose.Purpose.TheVariants.{Place}
 use Rattle.random_streams.specs.RandomStream.{Stream, draw, scaled}
-use Rattle.birth_board.specs.declared.season.Season.{Season}
+use Rattle.birth_board.specs.declared.placing_round.PlacingRound.{PlacingRound}
 use Rattle.birth_board.specs.declared.placing.Placing.{Placing}
 use Rattle.birth_board.specs.Torus.{TorusNumbers, cells_of, neighbours_of}
 
@@ -29,23 +29,23 @@ chosen_cell torus prefer_empty occupants parent word =
     chosen_from (choices_of torus prefer_empty occupants parent) word
 
 -- the stream of a cell's newborns, of which so many words were taken
-abbrev pub place_stream : Season → ℕ → ℕ → Stream
-place_stream season cell taken =
+abbrev pub place_stream : PlacingRound → ℕ → ℕ → Stream
+place_stream round cell taken =
     record {
-      seed = season.seed;
-      update = season.update;
+      seed = round.seed;
+      update = round.update;
       cell = cell;
       purpose = Place;
       taken = taken;
     }
 
 -- the four words of newborn `nth` of a cell, from 0
-abbrev pub words_of : Season → ℕ → ℕ → List ℕ
-words_of season cell nth =
-    draw season.seed season.update cell Place (4 * nth)
-    ∷ draw season.seed season.update cell Place (4 * nth + 1)
-    ∷ draw season.seed season.update cell Place (4 * nth + 2)
-    ∷ draw season.seed season.update cell Place (4 * nth + 3)
+abbrev pub placing_words : PlacingRound → ℕ → ℕ → List ℕ
+placing_words round cell nth =
+    draw round.seed round.update cell Place (4 * nth)
+    ∷ draw round.seed round.update cell Place (4 * nth + 1)
+    ∷ draw round.seed round.update cell Place (4 * nth + 2)
+    ∷ draw round.seed round.update cell Place (4 * nth + 3)
     ∷ []
 
 -- the first word chooses the cell, the others make the inputs
@@ -67,16 +67,16 @@ pub record Board : Type 0 where
   pub parents : List ℕ
 
 -- the placing of the next newborn, of a parent in this cell
-abbrev pub next_placing : TorusNumbers → Season → Board → ℕ → Placing
-next_placing torus season board parent =
+abbrev pub next_placing : TorusNumbers → PlacingRound → Board → ℕ → Placing
+next_placing torus round board parent =
     let nth = count_by (λ cell. cell == parent) board.parents in
-    placing_of torus season.prefer_empty board.occupants (season.next_id + length board.parents)
-    parent (words_of season parent nth)
+    placing_of torus round.prefer_empty board.occupants (round.next_id + length board.parents)
+    parent (placing_words round parent nth)
 
 -- the board once that newborn is placed
-unfoldable pub next_board : TorusNumbers → Season → Board → ℕ → Board
-next_board torus season board parent =
-    let placing = next_placing torus season board parent in
+unfoldable pub next_board : TorusNumbers → PlacingRound → Board → ℕ → Board
+next_board torus round board parent =
+    let placing = next_placing torus round board parent in
     record {
       occupants = slice_set board.occupants placing.cell (Some placing.id);
       placings = board.placings ++ placing ∷ [];
@@ -84,30 +84,30 @@ next_board torus season board parent =
     }
 
 -- the board once the newborns of these parents are placed, one after another
-unfoldable pub placements_of : TorusNumbers → List ℕ → List (Option ℕ) → Season → Board
-placements_of torus parents occupants season =
-    fold (next_board torus season) (record { occupants = occupants; placings = []; parents = [] })
+unfoldable pub placements_of : TorusNumbers → List ℕ → List (Option ℕ) → PlacingRound → Board
+placements_of torus parents occupants round =
+    fold (next_board torus round) (record { occupants = occupants; placings = []; parents = [] })
     parents
 
 -- what a placing needs: a slot for each cell, parents in the torus in the order of their cells,
 -- and ids that fit 63 bits
 pub record CanPlace (torus : TorusNumbers) (parents : List ℕ) (occupants : List (Option ℕ))
-    (season : Season) : Type 0 where
+    (round : PlacingRound) : Type 0 where
   pub cells : length occupants ≡ cells_of torus
   pub in_torus : All (λ cell. cell < cells_of torus) parents
   pub rising : IsNonDecreasing parents
   pub few : length parents < 2 ^ 32
-  pub ids : season.next_id + length parents < 2 ^ 63
+  pub ids : round.next_id + length parents < 2 ^ 63
 
 -- what a placing leaves: the definition's placings, one a parent, each in the torus
 pub record ArePlaced (torus : TorusNumbers) (parents : List ℕ) (standing : List (Option ℕ))
-    (season : Season) (placed : List Placing) : Type 0 where
-  pub placings : placed ≡ (placements_of torus parents standing season).placings
+    (round : PlacingRound) (placed : List Placing) : Type 0 where
+  pub placings : placed ≡ (placements_of torus parents standing round).placings
   pub count : length placed ≡ length parents
   pub in_torus : All (λ placing. placing.cell < cells_of torus) placed
 
 -- and the definition's occupants, a slot for each cell
 pub record AreSettled (torus : TorusNumbers) (parents : List ℕ) (standing : List (Option ℕ))
-    (season : Season) (settled : List (Option ℕ)) : Type 0 where
-  pub occupants : settled ≡ (placements_of torus parents standing season).occupants
+    (round : PlacingRound) (settled : List (Option ℕ)) : Type 0 where
+  pub occupants : settled ≡ (placements_of torus parents standing round).occupants
   pub cells : length settled ≡ cells_of torus

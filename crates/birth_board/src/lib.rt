@@ -5,8 +5,8 @@ mod around;
 mod occupants;
 mod parents;
 mod placing;
+mod placing_round;
 mod placings;
-mod season;
 mod torus;
 mod turns;
 
@@ -14,7 +14,7 @@ pub use around::neighbours;
 pub use occupants::Occupants;
 pub use parents::{Parents, gather};
 pub use placing::Placing;
+pub use placing_round::PlacingRound;
 pub use placings::Placings;
-pub use season::Season;
 pub use torus::Torus;
 pub use turns::place;

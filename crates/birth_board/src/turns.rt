@@ -4,7 +4,7 @@ ghost use Rattle.random_streams.specs.RandomStream.{word_of, after};
 ghost use Rattle.birth_board.specs.Torus.{torus_numbers, cells_of};
 ghost use Rattle.birth_board.specs.Placement.{is_free, chosen_from, chosen_cell, placing_of, place_stream, CanPlace, ArePlaced, AreSettled};
 
-use crate::{Occupants, Parents, Placing, Placings, Season, Torus, neighbours};
+use crate::{Occupants, Parents, Placing, PlacingRound, Placings, Torus, neighbours};
 use arrayvec::ArrayVec;
 use avida_port::Memory;
 use logic_tasks::Inputs;
@@ -24,17 +24,17 @@ pub fn place(
     torus: &Torus,
     parents: &Parents,
     occupants: &mut Occupants,
-    season: &Season,
+    round: &PlacingRound,
 ) -> Result<Placings, Memory>
-    requires { CanPlace (torus_numbers torus.now) parents.now occupants.old season.now }
+    requires { CanPlace (torus_numbers torus.now) parents.now occupants.old round.now }
     ensures placings { IfOk result
-        (ArePlaced (torus_numbers torus.now) parents.now occupants.old season.now) }
+        (ArePlaced (torus_numbers torus.now) parents.now occupants.old round.now) }
     ensures occupants { OnOk result (AreSettled (torus_numbers torus.now) parents.now
-        occupants.old season.now occupants.new) }
+        occupants.old round.now occupants.new) }
     ensures err { OnErr result (occupants.new ≡ occupants.old) }
 {
     let mut placings = Vec::with_capacity(alloc, parents.len())?;
-    place_all(torus, parents.as_slice(), occupants, season, &mut placings);
+    place_all(torus, parents.as_slice(), occupants, round, &mut placings);
     Ok(Placings::from_vec(placings))
 }
 
@@ -43,29 +43,29 @@ fn place_all(
     torus: &Torus,
     parents: &[u32],
     occupants: &mut Occupants,
-    season: &Season,
+    round: &PlacingRound,
     placings: &mut Vec<Placing>,
 )
-    requires can { CanPlace (torus_numbers torus.now) parents.now occupants.old season.now }
+    requires can { CanPlace (torus_numbers torus.now) parents.now occupants.old round.now }
     requires none { placings.old.items ≡ [] }
     requires room { length parents.now ≤ vec_capacity placings.old }
-    ensures placings { ArePlaced (torus_numbers torus.now) parents.now occupants.old season.now
+    ensures placings { ArePlaced (torus_numbers torus.now) parents.now occupants.old round.now
         placings.new.items }
-    ensures occupants { AreSettled (torus_numbers torus.now) parents.now occupants.old season.now
+    ensures occupants { AreSettled (torus_numbers torus.now) parents.now occupants.old round.now
         occupants.new }
 {
-    let mut id = season.next_id;
+    let mut id = round.next_id;
     let mut turn = Turn {
         cell: 0,
-        draws: Draws::start(season.seed, season.update, 0, Purpose::Place),
+        draws: Draws::start(round.seed, round.update, 0, Purpose::Place),
     };
     for parent in parents {
-        turn = turn_to(turn, *parent, season);
+        turn = turn_to(turn, *parent, round);
         let placing = place_one(
             torus,
             *parent,
             occupants,
-            season.prefer_empty,
+            round.prefer_empty,
             id,
             &mut turn.draws,
         );
@@ -75,19 +75,19 @@ fn place_all(
 }
 
 /// The stream of this cell: a cell that comes again goes on in its own.
-fn turn_to(turn: Turn, cell: u32, season: &Season) -> Turn
+fn turn_to(turn: Turn, cell: u32, round: &PlacingRound) -> Turn
     requires cell { cell < 65536 }
-    requires stream { turn.draws ≡ place_stream season.now turn.cell turn.draws.taken }
+    requires stream { turn.draws ≡ place_stream round.now turn.cell turn.draws.taken }
     ensures cell { result.cell ≡ cell }
     ensures draws { result.draws
-        ≡ place_stream season.now cell (if turn.cell == cell then turn.draws.taken else 0) }
+        ≡ place_stream round.now cell (if turn.cell == cell then turn.draws.taken else 0) }
 {
     if turn.cell == cell {
         return turn;
     }
     Turn {
         cell,
-        draws: Draws::start(season.seed, season.update, cell, Purpose::Place),
+        draws: Draws::start(round.seed, round.update, cell, Purpose::Place),
     }
 }
 

@@ -63,7 +63,8 @@ pub AreFinished-all : (round : RoundNumbers) (jobs : List Job) (tasks : List Tas
     → AreFinished round jobs all
 AreFinished-all round jobs tasks results all same answers done =
     let ok : Finished → Result Finished Memory = λ finished. Ok finished in
-    let long : length results ≡ length tasks = AllZip-long (HasAnswer round) tasks results answers in
+    let long : length results ≡ length tasks =
+    AllZip-long (HasAnswer round) tasks results answers in
     let tasks_long : length (map job_of tasks) ≡ length tasks = length-map tasks job_of in
     let all_long : length (map ok all) ≡ length all = length-map all ok in
     record {

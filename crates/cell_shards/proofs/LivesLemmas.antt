@@ -7,10 +7,9 @@ use Rattle.random_streams.specs.declared.purpose.Purpose.TheVariants.{Run}
 use Rattle.random_streams.specs.RandomStream.{draw}
 use Rattle.organism.specs.declared.ran.Ran.{Ran}
 use Rattle.organism.specs.Lived.{beginning}
-use Rattle.organism.specs.Newborns.{NewbornValue}
 use Rattle.organism.specs.OrganismState.{OrganismState}
-use Rattle.organism.specs.UpdateLife.{LifeState, life}
-use Rattle.cell_shards.specs.CellLives.{CellLife, RoundNumbers, Part, BirthValue, IsYoung, is_death, cell_life, life_of, life_at, lives_of, left_in, birth_in, births_in, births_from, deaths_from}
+use Rattle.organism.specs.UpdateLife.{LifeState, is_death, life}
+use Rattle.cell_shards.specs.CellLives.{ShardLife, RoundNumbers, Part, BirthValue, IsYoung, as_shard_life, shard_life_of, shard_life_at, shard_lives_of, left_in, shard_births_in, births_from, deaths_from}
 use Rattle.cell_shards.proofs.PartLemmas.{births_from-push, deaths_from-push}
 
 -- the life of a cell is that of its organism
@@ -18,14 +17,14 @@ pub life_of-run : (round : RoundNumbers) (cell steps : ℕ) (o : OrganismState) 
     (start after : LifeState) (ran : Ran) (died : Bool)
     → words ≡ draw round.seed round.update cell Run → start ≡ beginning o
     → (after, ran) ≡ life round.settings words start steps → died ≡ is_death ran
-    → life_of round cell steps (Some o)
+    → shard_life_of round cell steps (Some o)
     ≡ record { organism = Some after.organism; died = died; newborns = after.newborns }
-unfolding life_of
+unfolding shard_life_of
 life_of-run round cell steps o words start after ran died alike begins ends dies =
     let whole : life round.settings words start steps
     ≡ life round.settings (draw round.seed round.update cell Run) (beginning o) steps =
     λ i. life round.settings (alike i) (begins i) steps in
-    sym (ap cell_life (ends ∙ whole))
+    sym (ap as_shard_life (ends ∙ whole))
     ∙ ap (λ (b : Bool). record {
       organism = Some after.organism;
       died = b;
@@ -33,8 +32,8 @@ life_of-run round cell steps o words start after ran died alike begins ends dies
     }) (sym dies)
 
 -- the lives of the first cells
-abbrev pub first_lives : RoundNumbers → Part → ℕ → List CellLife
-first_lives round part n = map (life_at round part) (range_with_len 0 n)
+abbrev pub first_lives : RoundNumbers → Part → ℕ → List ShardLife
+first_lives round part n = map (shard_life_at round part) (range_with_len 0 n)
 
 -- where the first cells have lived
 pub record HaveLived (round : RoundNumbers) (part : Part) (n : ℕ)
@@ -51,7 +50,7 @@ HaveLived-none round part births dead unborn alive =
     record { cells_are = refl; births_are = unborn; dead_are = alive }
 
 -- the next cell has not lived yet
-cell-next : (start cells : List (Option OrganismState)) (lives : List CellLife) (n : ℕ)
+cell-next : (start cells : List (Option OrganismState)) (lives : List ShardLife) (n : ℕ)
     (d : Option OrganismState) → length lives ≡ n → n < length start
     → cells ≡ map left_in lives ++ drop n start → get_or cells n d ≡ get_or start n d
 cell-next start cells lives n d long within here =
@@ -61,7 +60,7 @@ cell-next start cells lives n d long within here =
     ∙ get_or_at (map left_in lives) (get_or start n d) (drop (n + 1) start) d n front
 
 -- the cells where one more has lived
-cells-push : (start cells : List (Option OrganismState)) (lives : List CellLife) (l : CellLife)
+cells-push : (start cells : List (Option OrganismState)) (lives : List ShardLife) (l : ShardLife)
     (n : ℕ) → length lives ≡ n → n < length start → cells ≡ map left_in lives ++ drop n start
     → set cells n (left_in l) ≡ map left_in (lives ++ l ∷ []) ++ drop (n + 1) start
 cells-push start cells lives l n long within here =
@@ -79,61 +78,62 @@ pub HaveLived-next : (round : RoundNumbers) (part : Part) (n : ℕ)
     → All IsYoung part.cells → IsYoung (get_or cells n d)
 HaveLived-next round part n cells births dead d so_far within young =
     let next = cell-next part.cells cells (first_lives round part n) n d
-    (length-map-range_with_len (life_at round part) 0 n) within so_far.cells_are in
+    (length-map-range_with_len (shard_life_at round part) 0 n) within so_far.cells_are in
     subst IsYoung (sym next) (young n d within)
 
--- one more cell has
-pub HaveLived-more : (round : RoundNumbers) (part : Part) (n : ℕ)
-    (cells : List (Option OrganismState)) (births next_births : List BirthValue)
-    (dead next_dead : List ℕ) (cell steps : ℕ) (old slot left : Option OrganismState) (died : Bool)
-    (newborns : List NewbornValue)
-    → HaveLived round part n cells births dead → n < length part.cells → cell ≡ part.first + n
-    → steps ≡ get_or part.slices n 0 → old ≡ get_or cells n None
-    → life_of round cell steps old ≡ record { organism = slot; died = died; newborns = newborns }
-    → left ≡ cond died None slot → next_births ≡ births ++ map (birth_in cell) newborns
-    → next_dead ≡ dead ++ cond died (cell ∷ []) []
-    → HaveLived round part (n + 1) (set cells n left) next_births next_dead
-HaveLived-more round part n cells births next_births dead next_dead cell steps old slot left died
-    newborns so_far within here bought was lived gone born buried =
-    let l : CellLife = record { organism = slot; died = died; newborns = newborns } in
-    let lives = first_lives round part n in
-    let size : length lives ≡ n = length-map-range_with_len (life_at round part) 0 n in
-    let place : part.first + length lives ≡ cell = omega (arith, size, here) in
-    let stood : old ≡ get_or part.cells n None =
-    was ∙ cell-next part.cells cells lives n None size within so_far.cells_are in
-    let is : life_at round part n ≡ l =
-    sym (λ i. life_of round (here i) (bought i) (stood i)) ∙ lived in
-    let more : first_lives round part (n + 1) ≡ lives ++ l ∷ [] =
-    map-range_with_len_more (life_at round part) 0 n n (omega arith)
-    ∙ ap (λ x. lives ++ x ∷ []) is in
-    record {
-      cells_are = ap (set cells n) gone
-          ∙ cells-push part.cells cells lives l n size within so_far.cells_are
-          ∙ ap (λ ls. map left_in ls ++ drop (n + 1) part.cells) (sym more);
-      births_are = born ∙ ap (λ bs. bs ++ births_in (cell, l)) so_far.births_are
-          ∙ sym (births_from-push part.first lives l cell place)
-          ∙ ap (births_from part.first) (sym more);
-      dead_are = buried ∙ ap (λ ds. ds ++ cond died (cell ∷ []) []) so_far.dead_are
-          ∙ sym (deaths_from-push part.first lives l cell place)
-          ∙ ap (deaths_from part.first) (sym more);
-    }
+module _ {round : RoundNumbers} {part : Part} {n : ℕ} {cells : List (Option OrganismState)}
+    {births : List BirthValue} {dead : List ℕ} where
+  -- one more cell has
+  pub HaveLived-more : (l : ShardLife) {old left : Option OrganismState}
+      {next_births : List BirthValue} {next_dead : List ℕ}
+      → HaveLived round part n cells births dead → n < length part.cells
+      → old ≡ get_or cells n None
+      → shard_life_of round (part.first + n) (get_or part.slices n 0) old ≡ l → left ≡ left_in l
+      → next_births ≡ births ++ shard_births_in (part.first + n, l)
+      → next_dead ≡ dead ++ cond l.died ((part.first + n) ∷ []) []
+      → HaveLived round part (n + 1) (set cells n left) next_births next_dead
+  HaveLived-more l so_far within was lived gone born buried =
+      let cell = part.first + n in
+      let lives = first_lives round part n in
+      let size : length lives ≡ n = length-map-range_with_len (shard_life_at round part) 0 n in
+      let place : part.first + length lives ≡ cell = omega (arith, size) in
+      let stood = was ∙ cell-next part.cells cells lives n None size within so_far.cells_are in
+      let is : shard_life_at round part n ≡ l =
+      sym (ap (shard_life_of round cell (get_or part.slices n 0)) stood) ∙ lived in
+      let more : first_lives round part (n + 1) ≡ lives ++ l ∷ [] =
+      map-range_with_len_more (shard_life_at round part) 0 n n (omega arith)
+      ∙ ap (λ x. lives ++ x ∷ []) is in
+      record {
+        cells_are = ap (set cells n) gone
+            ∙ cells-push part.cells cells lives l n size within so_far.cells_are
+            ∙ ap (λ ls. map left_in ls ++ drop (n + 1) part.cells) (sym more);
+        births_are = born ∙ ap (λ bs. bs ++ shard_births_in (cell, l)) so_far.births_are
+            ∙ sym (births_from-push part.first lives l cell place)
+            ∙ ap (births_from part.first) (sym more);
+        dead_are = buried ∙ ap (λ ds. ds ++ cond l.died (cell ∷ []) []) so_far.dead_are
+            ∙ sym (deaths_from-push part.first lives l cell place)
+            ∙ ap (deaths_from part.first) (sym more);
+      }
 
 module _ (round : RoundNumbers) (part : Part) (n : ℕ) (cells : List (Option OrganismState))
     (births : List BirthValue) (dead : List ℕ) (so_far : HaveLived round part n cells births dead)
     (all : n ≡ length part.cells) where
   -- all cells have
-  lives_all : first_lives round part n ≡ lives_of round part
-  unfolding lives_of
+  lives_all : first_lives round part n ≡ shard_lives_of round part
+  unfolding shard_lives_of
   lives_all = ap (first_lives round part) all
 
-  pub all-cells : cells ≡ map left_in (lives_of round part)
+  -- the cells are what the lives of all leave in them
+  pub all-cells : cells ≡ map left_in (shard_lives_of round part)
   all-cells =
       so_far.cells_are ∙ ap (λ rest. map left_in (first_lives round part n) ++ rest)
       (drop_all n part.cells (omega (arith, all)))
       ∙ append-nil (map left_in (first_lives round part n)) ∙ ap (map left_in) lives_all
 
-  pub all-births : births ≡ births_from part.first (lives_of round part)
+  -- the births are those of all the lives
+  pub all-births : births ≡ births_from part.first (shard_lives_of round part)
   all-births = so_far.births_are ∙ ap (births_from part.first) lives_all
 
-  pub all-dead : dead ≡ deaths_from part.first (lives_of round part)
+  -- the dead are those of all the lives
+  pub all-dead : dead ≡ deaths_from part.first (shard_lives_of round part)
   all-dead = so_far.dead_are ∙ ap (deaths_from part.first) lives_all

@@ -6,7 +6,7 @@ use Rattle.std.proofs.lemmas.List.{map-append, get_or_append_left, get_or-append
 use Rattle.std.proofs.lemmas.List.Elements.{filter-append}
 use Rattle.std.proofs.lemmas.List.FromFn.{length-map-range_with_len, map-range_with_len_more}
 use Rattle.organism.specs.OrganismState.{OrganismState}
-use Rattle.cell_shards.specs.CellLives.{CellLife, RoundNumbers, part_from, life_of, life_at, lives_of, births_in, births_from, deaths_from, has_died}
+use Rattle.cell_shards.specs.CellLives.{ShardLife, RoundNumbers, part_from, shard_life_of, shard_life_at, shard_lives_of, shard_births_in, births_from, deaths_from, has_died}
 
 -- two lists, numbered one after the other
 enumerate_from-append : {X : Type 0} (k : ℕ) (xs ys : List X)
@@ -19,60 +19,61 @@ enumerate_from-append k (x ∷ xs) ys =
     ∙ ap (λ (n : ℕ). enumerate_from (k + 1) xs ++ enumerate_from n ys) next)
 
 -- the births of two parts
-pub births_from-append : (first : ℕ) (lives more : List CellLife)
+pub births_from-append : (first : ℕ) (lives more : List ShardLife)
     → births_from first (lives ++ more) ≡ births_from first lives
     ++ births_from (first + length lives) more
 unfolding births_from
 births_from-append first lives more =
-    ap (flat_map births_in) (enumerate_from-append first lives more)
-    ∙ flat_map-append births_in (enumerate_from first lives)
+    ap (flat_map shard_births_in) (enumerate_from-append first lives more)
+    ∙ flat_map-append shard_births_in (enumerate_from first lives)
     (enumerate_from (first + length lives) more)
 
 -- the cell of a numbered life
-abbrev cell_in : ℕ × CellLife → ℕ
+abbrev cell_in : ℕ × ShardLife → ℕ
 cell_in place = place.0
 
 -- the deaths of two parts
-pub deaths_from-append : (first : ℕ) (lives more : List CellLife)
+pub deaths_from-append : (first : ℕ) (lives more : List ShardLife)
     → deaths_from first (lives ++ more) ≡ deaths_from first lives
     ++ deaths_from (first + length lives) more
 unfolding deaths_from
 deaths_from-append first lives more =
     let front = enumerate_from first lives in
     let back = enumerate_from (first + length lives) more in
-    ap (λ (places : List (ℕ × CellLife)). map cell_in (filter has_died places))
+    ap (λ (places : List (ℕ × ShardLife)). map cell_in (filter has_died places))
     (enumerate_from-append first lives more)
     ∙ ap (map cell_in) (filter-append has_died front back)
     ∙ map-append cell_in (filter has_died front) (filter has_died back)
 
 -- the births of one cell
-births_from-one : (cell : ℕ) (l : CellLife) → births_from cell (l ∷ []) ≡ births_in (cell, l)
+births_from-one : (cell : ℕ) (l : ShardLife) → births_from cell (l ∷ []) ≡ shard_births_in (cell, l)
 unfolding births_from
-births_from-one cell l = append-nil (births_in (cell, l))
+births_from-one cell l = append-nil (shard_births_in (cell, l))
 
 -- the births with those of one more cell
-pub births_from-push : (first : ℕ) (lives : List CellLife) (l : CellLife) (cell : ℕ)
+pub births_from-push : (first : ℕ) (lives : List ShardLife) (l : ShardLife) (cell : ℕ)
     → first + length lives ≡ cell → births_from first (lives ++ l ∷ []) ≡ births_from first lives
-    ++ births_in (cell, l)
+    ++ shard_births_in (cell, l)
 births_from-push first lives l cell place =
     births_from-append first lives (l ∷ [])
     ∙ ap (λ births. births_from first lives ++ births)
     (births_from-one (first + length lives) l)
-    ∙ ap (λ (k : ℕ). births_from first lives ++ births_in (k, l)) place
+    ∙ ap (λ (k : ℕ). births_from first lives ++ shard_births_in (k, l)) place
 
 -- the cell of one life, where it ended by age
-cell_if : (died : Bool) (cell : ℕ) (l : CellLife)
+cell_if : (died : Bool) (cell : ℕ) (l : ShardLife)
     → map cell_in (cond died ((cell, l) ∷ []) []) ≡ cond died (cell ∷ []) []
 cell_if true cell l = refl
 cell_if false cell l = refl
 
 -- the deaths of one cell
-deaths_from-one : (cell : ℕ) (l : CellLife) → deaths_from cell (l ∷ []) ≡ cond l.died (cell ∷ []) []
+deaths_from-one : (cell : ℕ) (l : ShardLife)
+    → deaths_from cell (l ∷ []) ≡ cond l.died (cell ∷ []) []
 unfolding deaths_from
 deaths_from-one cell l = cell_if l.died cell l
 
 -- the deaths with that of one more cell
-pub deaths_from-push : (first : ℕ) (lives : List CellLife) (l : CellLife) (cell : ℕ)
+pub deaths_from-push : (first : ℕ) (lives : List ShardLife) (l : ShardLife) (cell : ℕ)
     → first + length lives ≡ cell → deaths_from first (lives ++ l ∷ []) ≡ deaths_from first lives
     ++ cond l.died (cell ∷ []) []
 deaths_from-push first lives l cell place =
@@ -113,21 +114,21 @@ map_range-split f a n (suc m) =
 pub lives_of-append : (round : RoundNumbers) (first : ℕ)
     (cells others : List (Option OrganismState)) (slices more : List ℕ)
     → length slices ≡ length cells
-    → lives_of round (part_from first (cells ++ others) (slices ++ more))
-    ≡ lives_of round (part_from first cells slices)
-    ++ lives_of round (part_from (first + length cells) others more)
-unfolding lives_of
+    → shard_lives_of round (part_from first (cells ++ others) (slices ++ more))
+    ≡ shard_lives_of round (part_from first cells slices)
+    ++ shard_lives_of round (part_from (first + length cells) others more)
+unfolding shard_lives_of
 lives_of-append round first cells others slices more same =
-    let whole = life_at round (part_from first (cells ++ others) (slices ++ more)) in
-    let front = life_at round (part_from first cells slices) in
-    let back = life_at round (part_from (first + length cells) others more) in
+    let whole = shard_life_at round (part_from first (cells ++ others) (slices ++ more)) in
+    let front = shard_life_at round (part_from first cells slices) in
+    let back = shard_life_at round (part_from (first + length cells) others more) in
     let n = length cells in
     let m = length others in
     let left : map whole (range_with_len 0 n) ≡ map front (range_with_len 0 n) =
     map_range-agree whole front 0 0 n (λ k below.
     let steps = get_or_append_left slices more 0 (0 + k) (omega (arith, below, same)) in
     let slot = get_or_append_left cells others None (0 + k) (omega (arith, below)) in
-    λ i. life_of round (first + (0 + k)) (steps i) (slot i)) in
+    λ i. shard_life_of round (first + (0 + k)) (steps i) (slot i)) in
     let right : map whole (range_with_len (0 + n) m) ≡ map back (range_with_len 0 m) =
     map_range-agree whole back (0 + n) 0 m (λ k below.
     let place : first + (0 + n + k) ≡ first + n + (0 + k) = omega arith in
@@ -136,13 +137,13 @@ lives_of-append round first cells others slices more same =
     ∙ ap (λ (j : ℕ). get_or more j 0) from in
     let slot = get_or-append_right cells others n (0 + n + k) None refl (omega arith)
     ∙ ap (λ (j : ℕ). get_or others j None) from in
-    λ i. life_of round (place i) (steps i) (slot i)) in
+    λ i. shard_life_of round (place i) (steps i) (slot i)) in
     ap (λ (k : ℕ). map whole (range_with_len 0 k)) (length-append cells others)
     ∙ map_range-split whole 0 n m ∙ ap₂ (λ xs ys. xs ++ ys) left right
 
 -- there is a life for each cell
 pub length-lives_of : (round : RoundNumbers) (first : ℕ) (cells : List (Option OrganismState))
-    (slices : List ℕ) → length (lives_of round (part_from first cells slices)) ≡ length cells
-unfolding lives_of
+    (slices : List ℕ) → length (shard_lives_of round (part_from first cells slices)) ≡ length cells
+unfolding shard_lives_of
 length-lives_of round first cells slices =
-    length-map-range_with_len (life_at round (part_from first cells slices)) 0 (length cells)
+    length-map-range_with_len (shard_life_at round (part_from first cells slices)) 0 (length cells)

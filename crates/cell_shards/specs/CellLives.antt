@@ -1,15 +1,14 @@
 -- The lives of cells that lie side by side (docs/WORLD.md, "The life of one update").
-use Rattle.std.specs.Prelude.{ℕ, ◌+◌, ◌<◌, ◌^◌, Bool, true, false, List, [], length, map, filter, Option, None, Some, slice_index_or, if◌then◌else◌}
+use Rattle.std.specs.Prelude.{ℕ, ◌+◌, ◌<◌, ◌^◌, Bool, false, List, [], length, map, filter, Option, None, Some, slice_index_or, if◌then◌else◌}
 use Rattle.std.specs.List.{range_with_len, flat_map, enumerate_from}
 use Rattle.random_streams.specs.declared.purpose.Purpose.TheVariants.{Run}
 use Rattle.random_streams.specs.RandomStream.{draw}
 use Rattle.organism.specs.declared.ran.Ran.{Ran}
-use Rattle.organism.specs.declared.ran.Ran.TheVariants.{Lives, Died}
 use Rattle.organism.specs.Lived.{beginning}
 use Rattle.organism.specs.Newborns.{NewbornValue}
 use Rattle.organism.specs.OrganismState.{OrganismState}
 use Rattle.organism.specs.SettingNumbers.{SettingNumbers, setting_numbers}
-use Rattle.organism.specs.UpdateLife.{LifeState, life}
+use Rattle.organism.specs.UpdateLife.{LifeState, is_death, life}
 use Rattle.cell_shards.specs.declared.round.Round.{Round}
 
 -- what all lives of an update share, as numbers
@@ -28,23 +27,18 @@ round_numbers round = record {
 
 -- what the life of a cell comes to: its organism after the last step, whether it died of age, and
 -- its newborns
-pub record CellLife : Type 0 where
+pub record ShardLife : Type 0 where
   pub organism : Option OrganismState
   pub died : Bool
   pub newborns : List NewbornValue
 
 -- of an empty cell
-abbrev pub no_life : CellLife
-no_life = record { organism = None; died = false; newborns = [] }
-
--- whether a life ended by age
-abbrev pub is_death : Ran → Bool
-is_death Lives = false
-is_death (Died after) = true
+abbrev pub no_shard_life : ShardLife
+no_shard_life = record { organism = None; died = false; newborns = [] }
 
 -- how a life ended, as that of its cell
-abbrev pub cell_life : LifeState × Ran → CellLife
-cell_life ended = record {
+abbrev pub as_shard_life : LifeState × Ran → ShardLife
+as_shard_life ended = record {
   organism = Some ended.0.organism;
   died = is_death ended.1;
   newborns = ended.0.newborns;
@@ -52,10 +46,10 @@ cell_life ended = record {
 
 -- the life of who stands in a cell, with the run stream of this cell and update, of at most so many
 -- steps
-unfoldable pub life_of : RoundNumbers → ℕ → ℕ → Option OrganismState → CellLife
-life_of round cell steps None = no_life
-life_of round cell steps (Some o) =
-    cell_life (life round.settings (draw round.seed round.update cell Run) (beginning o) steps)
+unfoldable pub shard_life_of : RoundNumbers → ℕ → ℕ → Option OrganismState → ShardLife
+shard_life_of round cell steps None = no_shard_life
+shard_life_of round cell steps (Some o) =
+    as_shard_life (life round.settings (draw round.seed round.update cell Run) (beginning o) steps)
 
 -- cells that lie side by side: the first one, who stands in each, and their steps
 pub record Part : Type 0 where
@@ -68,17 +62,17 @@ abbrev pub part_from : ℕ → List (Option OrganismState) → List ℕ → Part
 part_from first cells slices = record { first = first; cells = cells; slices = slices }
 
 -- the life of the cell at a place of a part, by that cell's own organism, steps and stream
-abbrev pub life_at : RoundNumbers → Part → ℕ → CellLife
-life_at round part place =
-    life_of round (part.first + place) (slice_index_or part.slices place 0)
+abbrev pub shard_life_at : RoundNumbers → Part → ℕ → ShardLife
+shard_life_at round part place =
+    shard_life_of round (part.first + place) (slice_index_or part.slices place 0)
     (slice_index_or part.cells place None)
 
 -- the lives of the cells of a part, in their order
-unfoldable pub lives_of : RoundNumbers → Part → List CellLife
-lives_of round part = map (life_at round part) (range_with_len 0 (length part.cells))
+unfoldable pub shard_lives_of : RoundNumbers → Part → List ShardLife
+shard_lives_of round part = map (shard_life_at round part) (range_with_len 0 (length part.cells))
 
 -- who stands in a cell once the dead have left
-abbrev pub left_in : CellLife → Option OrganismState
+abbrev pub left_in : ShardLife → Option OrganismState
 left_in l = if l.died then None else l.organism
 
 -- a newborn, with its parent's cell
@@ -91,21 +85,21 @@ abbrev pub birth_in : ℕ → NewbornValue → BirthValue
 birth_in cell newborn = record { cell = cell; newborn = newborn }
 
 -- the newborns of a cell, in order of birth
-abbrev pub births_in : ℕ × CellLife → List BirthValue
-births_in place = map (birth_in place.0) place.1.newborns
+abbrev pub shard_births_in : ℕ × ShardLife → List BirthValue
+shard_births_in place = map (birth_in place.0) place.1.newborns
 
 -- the newborns of these lives, whose cells go on from the first one, in order of cell and birth
-unfoldable pub births_from : ℕ → List CellLife → List BirthValue
-births_from first lives = flat_map births_in (enumerate_from first lives)
+unfoldable pub births_from : ℕ → List ShardLife → List BirthValue
+births_from first lives = flat_map shard_births_in (enumerate_from first lives)
 
 -- whether the organism of a cell died of age
-abbrev pub has_died : ℕ × CellLife → Bool
+abbrev pub has_died : ℕ × ShardLife → Bool
 has_died place = place.1.died
 
 -- the cells of these lives whose organism died of age, rising
-unfoldable pub deaths_from : ℕ → List CellLife → List ℕ
+unfoldable pub deaths_from : ℕ → List ShardLife → List ℕ
 deaths_from first lives =
-    map (λ (place : ℕ × CellLife). place.0) (filter has_died (enumerate_from first lives))
+    map (λ (place : ℕ × ShardLife). place.0) (filter has_died (enumerate_from first lives))
 
 -- who stands in a cell has an age that another update leaves in its range
 abbrev pub IsYoung : Option OrganismState → Type 0

@@ -10,7 +10,7 @@ use Rattle.genotype_bank.specs.declared.view.Call.TheVariants.{Interned}
 use Rattle.genotype_bank.specs.declared.view.Entry.{Entry}
 use Rattle.instruction_set.specs.declared.letter.Letter.{Letter}
 use Rattle.mutations.specs.BirthRecord.{record_of}
-use Rattle.cell_shards.specs.CellLives.{BirthValue, IsYoung, Part, RoundNumbers, births_from, deaths_from, left_in, lives_of, part_from}
+use Rattle.cell_shards.specs.CellLives.{BirthValue, IsYoung, Part, RoundNumbers, births_from, deaths_from, left_in, part_from, shard_lives_of}
 use Rattle.cell_shards.specs.declared.delivered.Delivered.{Delivered}
 use Rattle.cell_shards.specs.declared.finished.Finished.{Finished}
 use Rattle.cell_shards.specs.declared.job.Job.{Job}
@@ -70,9 +70,10 @@ pub record HasInterned (old new : SeatValue) (births : List Delivered) : Type 0 
 -- interned them
 pub record IsFinished (round : RoundNumbers) (job : Job) (finished : Finished) : Type 0 where
   pub first : finished.first ≡ job.first
-  pub cells : finished.cells ≡ map left_in (lives_of round (part_of job))
-  pub births : map birth_of finished.births ≡ births_from job.first (lives_of round (part_of job))
-  pub dead : finished.dead ≡ deaths_from job.first (lives_of round (part_of job))
+  pub cells : finished.cells ≡ map left_in (shard_lives_of round (part_of job))
+  pub births : map birth_of finished.births
+      ≡ births_from job.first (shard_lives_of round (part_of job))
+  pub dead : finished.dead ≡ deaths_from job.first (shard_lives_of round (part_of job))
   pub seat : HasInterned job.seat finished.seat finished.births
 
 -- what is answered to a task: its job, finished, where memory suffices

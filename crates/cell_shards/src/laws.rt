@@ -1,7 +1,7 @@
 // What the definitions mean for a world that is cut into shards.
 ghost use Rattle.std.specs.Prelude.{◌≡◌, ℕ, ◌+◌, ◌++◌, ◌<◌, ◌≤◌, List, Option, length};
 ghost use Rattle.organism.specs.OrganismState.{OrganismState};
-ghost use Rattle.cell_shards.specs.CellLives.{CellLife, RoundNumbers, births_from, deaths_from, lives_of, part_from};
+ghost use Rattle.cell_shards.specs.CellLives.{RoundNumbers, ShardLife, births_from, deaths_from, part_from, shard_lives_of};
 ghost use Rattle.cell_shards.specs.Shards.{IsInShard, bounds_of};
 
 /// The shards of some workers part the cells: the first begins at 0, each begins where the one
@@ -27,13 +27,14 @@ pub fn shards_part_the_cells()
 pub fn parts_live_as_one()
     ensures lives { (round : RoundNumbers) (first : ℕ) (cells others : List (Option OrganismState))
         (slices more : List ℕ) → length slices ≡ length cells
-        → lives_of round (part_from first (cells ++ others) (slices ++ more))
-        ≡ lives_of round (part_from first cells slices)
-        ++ lives_of round (part_from (first + length cells) others more) }
-    ensures births { (first : ℕ) (lives more : List CellLife) → births_from first (lives ++ more)
+        → shard_lives_of round (part_from first (cells ++ others) (slices ++ more))
+        ≡ shard_lives_of round (part_from first cells slices)
+        ++ shard_lives_of round (part_from (first + length cells) others more) }
+    ensures births { (first : ℕ) (lives more : List ShardLife) → births_from first (lives ++ more)
         ≡ births_from first lives ++ births_from (first + length lives) more }
-    ensures deaths { (first : ℕ) (lives more : List CellLife) → deaths_from first (lives ++ more)
+    ensures deaths { (first : ℕ) (lives more : List ShardLife) → deaths_from first (lives ++ more)
         ≡ deaths_from first lives ++ deaths_from (first + length lives) more }
     ensures count { (round : RoundNumbers) (first : ℕ) (cells : List (Option OrganismState))
-        (slices : List ℕ) → length (lives_of round (part_from first cells slices)) ≡ length cells }
+        (slices : List ℕ) → length (shard_lives_of round (part_from first cells slices))
+        ≡ length cells }
 {}

@@ -1,7 +1,8 @@
 // The lives of a shard's cells, one after another.
 ghost use Rattle.std.specs.Prelude.{◌≡◌, ◌+◌, ◌<◌, ◌≤◌, ◌^◌, ◌∷◌, ◌++◌, [], Some, None, All, OnOk, IfOk, length, map, if◌then◌else◌};
 ghost use Rattle.organism.specs.Newborns.{newborn_value};
-ghost use Rattle.cell_shards.specs.CellLives.{IsYoung, birth_in, births_from, deaths_from, is_death, left_in, life_of, lives_of, part_from, round_numbers};
+ghost use Rattle.organism.specs.UpdateLife.{is_death};
+ghost use Rattle.cell_shards.specs.CellLives.{IsYoung, birth_in, births_from, deaths_from, left_in, part_from, round_numbers, shard_life_of, shard_lives_of};
 
 use crate::boxed_organism::BoxedOrganism;
 use crate::cell_birth::CellBirth;
@@ -40,11 +41,11 @@ pub(crate) fn live(
     requires few { All (λ steps. steps < 2 ^ 27) slices.now }
     requires young { All IsYoung cells.old }
     ensures cells { OnOk result (cells.new ≡ map left_in
-        (lives_of (round_numbers round.now) (part_from first cells.old slices.now))) }
+        (shard_lives_of (round_numbers round.now) (part_from first cells.old slices.now))) }
     ensures births { IfOk result (λ lived. lived.births.items ≡ births_from first
-        (lives_of (round_numbers round.now) (part_from first cells.old slices.now))) }
+        (shard_lives_of (round_numbers round.now) (part_from first cells.old slices.now))) }
     ensures dead { IfOk result (λ lived. lived.dead.items ≡ deaths_from first
-        (lives_of (round_numbers round.now) (part_from first cells.old slices.now))) }
+        (shard_lives_of (round_numbers round.now) (part_from first cells.old slices.now))) }
 {
     let mut lived = Lived {
         births: Vec::new(alloc),
@@ -55,13 +56,13 @@ pub(crate) fn live(
         let slot = &mut cells[place];
         let life = live_in(alloc, round, cell, slices[place], slot)?;
         bury(slot, life.died);
-        lived.tell(cell, life)?;
+        lived.add_life(cell, life)?;
     }
     Ok(lived)
 }
 
 /// The life of who stands in a cell.
-#[tactic(auto, unfolding(crate::specs::CellLives::life_of))]
+#[tactic(auto, unfolding(crate::specs::CellLives::shard_life_of))]
 fn live_in(
     alloc: Global,
     round: &Round,
@@ -72,11 +73,12 @@ fn live_in(
     requires cell { cell < CELLS }
     requires steps { steps < 2 ^ 27 }
     requires young { IsYoung slot.old }
-    ensures { IfOk result (λ life. life_of (round_numbers round.now) cell steps slot.old ≡ record {
-      organism = slot.new;
-      died = life.died;
-      newborns = map newborn_value life.births;
-    }) }
+    ensures { IfOk result (λ life. shard_life_of (round_numbers round.now) cell steps slot.old
+        ≡ record {
+          organism = slot.new;
+          died = life.died;
+          newborns = map newborn_value life.births;
+        }) }
 {
     match slot {
         Some(organism) => live_once(alloc, round, cell, steps, &mut organism.inner),
@@ -99,7 +101,7 @@ fn live_once(
     requires steps { steps < 2 ^ 27 }
     requires young { organism.old.age < 2 ^ 62 }
     ensures { IfOk result
-        (λ life. life_of (round_numbers round.now) cell steps (Some organism.old) ≡ record {
+        (λ life. shard_life_of (round_numbers round.now) cell steps (Some organism.old) ≡ record {
           organism = Some organism.new;
           died = life.died;
           newborns = map newborn_value life.births;
@@ -134,7 +136,7 @@ fn bury(slot: &mut Option<BoxedOrganism>, died: bool)
 
 impl Lived {
     /// What the life of a cell brought.
-    fn tell(&mut self, cell: u32, life: Life) -> Result<(), Memory>
+    fn add_life(&mut self, cell: u32, life: Life) -> Result<(), Memory>
         ensures births { OnOk result (self.new.births.items
             ≡ self.old.births.items ++ map (birth_in cell) (map newborn_value life.births)) }
         ensures dead { OnOk result (self.new.dead.items

@@ -87,8 +87,8 @@ fn run_tasks<R: Threads + Wait + Sync, G: Gate + Sync>(
     let here = move || -> Result<Vec<Result<Finished, Memory>>, AllocError>
         requires { IsSync R.row × IsSync G.row
             × All (λ task. CanRun task.job × (task.job.seat.bank ≡ bank.now)) tasks.items }
-        ensures { IfOk result
-            (λ results. AllZip (HasAnswer (round_numbers round.entry.now)) tasks.items results.items) }
+        ensures { IfOk result (λ results.
+            AllZip (HasAnswer (round_numbers round.entry.now)) tasks.items results.items) }
     { run_tasks(rt, alloc, tasks, bank, round, gate) };
     let (answer, results) = thread::join(rt, there, here);
     with_answer(results?, answer)

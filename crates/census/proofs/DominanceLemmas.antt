@@ -14,11 +14,13 @@ use Rattle.instruction_set.specs.Letter.{index_of}
 use Rattle.census.specs.Counts.{GenotypeCount}
 use Rattle.census.specs.Dominance.{dominance_cmp, outranks, dominant_among}
 
+-- dominance is a total order
 pub dominance-total : IsTotalOrder dominance_cmp
 dominance-total =
     then_total (back_total (on_total (λ (g : GenotypeCount). g.count) nat_cmp_total))
     (on_total (λ (g : GenotypeCount). map index_of g.genome) nat_list_cmp_total)
 
+-- coming before another by dominance is a strict weak order
 outranks-order : IsStrictWeakOrder outranks
 outranks-order = ranks_by dominance-total (λ (g : GenotypeCount). g)
 

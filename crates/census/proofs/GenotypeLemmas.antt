@@ -71,27 +71,6 @@ AreGenotypes-set before after key new are ordered updates counted one_key = reco
         ∙ sym (tied key r s)
     one false false q r g h p s is has same = are.one_key q r g h is has same
 
--- a genotype that goes
-pub AreGenotypes-removed : (before after : List (ℕ × GenotypeCount)) (key : ℕ) → AreGenotypes before
-    → IsStrictlySortedBy nat_cmp (keys_of after)
-    → ((other : ℕ) → genotype_at after other ≡ cond (is_at (nat_cmp key) other) None
-    (genotype_at before other)) → AreGenotypes after
-AreGenotypes-removed before after key are ordered updates = record {
-  in_order = ordered;
-  counted = λ other g is. are.counted other g (was other g is);
-  one_key = λ q r g h is has same. are.one_key q r g h (was q g is) (was r h has) same;
-}
-  where
-    kept : (b : Bool) (old : Option GenotypeCount) (g : GenotypeCount) → cond b None old ≡ Some g
-        → old ≡ Some g
-    kept true old g is = cc
-    kept false old g is = is
-
-    was : (other : ℕ) (g : GenotypeCount) → genotype_at after other ≡ Some g
-        → genotype_at before other ≡ Some g
-    was other g is =
-        kept (is_at (nat_cmp key) other) (genotype_at before other) g (sym (updates other) ∙ is)
-
 -- one organism more has a genome
 pub living-raised : (genotypes : List (ℕ × GenotypeCount)) (key : ℕ) (new : GenotypeCount)
     → IsStrictlySortedBy nat_cmp (keys_of genotypes) → new.count ≡ count_under genotypes key + 1
@@ -110,6 +89,7 @@ pub found_under : (genotypes : List (ℕ × GenotypeCount)) (key : ℕ)
     → genotype_at genotypes key
     ≡ Some (record { genome = genome_under genotypes key; count = count_under genotypes key })
 found_under genotypes key some = by (genotype_at genotypes key) some where
+  -- what is found is a genome with its count
   by : (found : Option GenotypeCount) → IsSome found
       → found ≡ Some (record {
         genome = unwrap_or (option_map (λ (g : GenotypeCount). g.genome) found) [];
@@ -141,31 +121,3 @@ living-removed genotypes key counted last =
       sum_by-remove_entry (λ (g : GenotypeCount). g.count) (is_at (nat_cmp key))
           genotypes,
     )
-
--- a count that is lower
-pub AreGenotypes-lowered : (before after : List (ℕ × GenotypeCount)) (key : ℕ) → AreGenotypes before
-    → IsSome (genotype_at before key) → 1 < count_under before key
-    → IsStrictlySortedBy nat_cmp (keys_of after)
-    → ((other : ℕ) → genotype_at after other
-    ≡ cond (is_at (nat_cmp key) other) (Some (lowered before key)) (genotype_at before other))
-    → AreGenotypes after
-AreGenotypes-lowered before after key are some more ordered updates =
-    AreGenotypes-set before after key (lowered before key) are ordered updates (omega (arith, more))
-    (λ other g is same. are.one_key other key g _ is (found_under before key some) same)
-
--- a genotype stays where more than one had it, and else goes
-pub without_one-more : (genotypes : List (ℕ × GenotypeCount)) (key : ℕ)
-    → 1 < count_under genotypes key
-    → set_value (is_at (nat_cmp key)) genotypes (lowered genotypes key) ≡ without_one genotypes key
-without_one-more genotypes key more =
-    ap (λ b. cond b (set_value (is_at (nat_cmp key)) genotypes (lowered genotypes key))
-    (remove_entry (is_at (nat_cmp key)) genotypes))
-    (sym (lt-ltb 1 (count_under genotypes key) more))
-
-pub without_one-last : (genotypes : List (ℕ × GenotypeCount)) (key : ℕ)
-    → count_under genotypes key ≤ 1
-    → remove_entry (is_at (nat_cmp key)) genotypes ≡ without_one genotypes key
-without_one-last genotypes key last =
-    ap (λ b. cond b (set_value (is_at (nat_cmp key)) genotypes (lowered genotypes key))
-    (remove_entry (is_at (nat_cmp key)) genotypes))
-    (sym (le-ltb 1 (count_under genotypes key) last))

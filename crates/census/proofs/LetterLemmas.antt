@@ -14,7 +14,7 @@ use Rattle.genome.specs.contracts.genome.GenomeOrd.TheImpl as genome_order
 use Rattle.instruction_set.specs.contracts.letter.Letter.{the_parts, as_values}
 use Rattle.instruction_set.specs.contracts.letter.LetterOrd.TheImpl as letter_order
 use Rattle.instruction_set.specs.declared.letter.Letter.{Letter}
-use Rattle.instruction_set.specs.declared.letter.Letter.TheVariants.{NopA, NopB, NopC, IfNEqu, IfLess, IfLabel, MovHead, JmpHead, GetHead, SetFlow, ShiftR, ShiftL, Inc, Dec, Push, Pop, SwapStk, Swap, Add, Sub, Nand, HCopy, HAlloc, HDivide, Io, HSearch}
+use Rattle.instruction_set.specs.declared.letter.Letter.TheVariants.{NopA}
 use Rattle.instruction_set.specs.Letter.{index_of}
 use Rattle.census.specs.Dominance.{letters_cmp}
 
@@ -32,9 +32,11 @@ unfolding place
 by-place [] c d = absurd c
 by-place (fields ∷ variants) (inl x) (inl y) = refl
 by-place (fields ∷ variants) (inl x) (inr d) = first (place variants d) where
+  -- 0 is less than each number above it
   first : (n : ℕ) → Less ≡ nat_cmp 0 (n + 1)
   first n = grind (arith, nat_tests)
 by-place (fields ∷ variants) (inr c) (inl y) = last (place variants c) where
+  -- each number above 0 is greater than it
   last : (n : ℕ) → Greater ≡ nat_cmp (n + 1) 0
   last n = grind (arith, nat_tests)
 by-place (fields ∷ variants) (inr c) (inr d) =
@@ -42,39 +44,18 @@ by-place (fields ∷ variants) (inr c) (inr d) =
       both : (m n : ℕ) → nat_cmp m n ≡ nat_cmp (m + 1) (n + 1)
       both m n = grind (arith, nat_tests)
 
+-- the variant of a letter is its index
 letter-place : (letter : Letter) → place the_parts (as_values letter) ≡ index_of letter
 unfolding place
 letter-place NopA = refl
-letter-place NopB = refl
-letter-place NopC = refl
-letter-place IfNEqu = refl
-letter-place IfLess = refl
-letter-place IfLabel = refl
-letter-place MovHead = refl
-letter-place JmpHead = refl
-letter-place GetHead = refl
-letter-place SetFlow = refl
-letter-place ShiftR = refl
-letter-place ShiftL = refl
-letter-place Inc = refl
-letter-place Dec = refl
-letter-place Push = refl
-letter-place Pop = refl
-letter-place SwapStk = refl
-letter-place Swap = refl
-letter-place Add = refl
-letter-place Sub = refl
-letter-place Nand = refl
-letter-place HCopy = refl
-letter-place HAlloc = refl
-letter-place HDivide = refl
-letter-place Io = refl
-letter-place HSearch = refl
+letter-place _ = refl
 
+-- two letters are ordered by their indexes
 letter_cmp : (a b : Letter) → letter_order.ghosts.cmp a b ≡ nat_cmp (index_of a) (index_of b)
 letter_cmp a b = by-place the_parts (as_values a) (as_values b)
     ∙ (λ i. nat_cmp (letter-place a i) (letter-place b i))
 
+-- two lists of letters are ordered by their indexes
 by_index : (ls others : List Letter)
     → slice_cmp letter_order.ghosts.cmp ls others ≡ letters_cmp ls others
 by_index [] [] = refl

@@ -20,6 +20,7 @@ found : {X : Type 0} (p : X → Bool) (xs : List X) (a : X) → find p xs ≡ So
     → (p a ≡ true) × Contains xs a
 found p [] a is = cc
 found {X} p (x ∷ xs) a is = by (p x) refl is (found p xs a) where
+  -- whether the first passes or not, what is found passes and is among the elements
   by : (b : Bool) → p x ≡ b → cond b (Some x) (find p xs) ≡ Some a
       → (find p xs ≡ Some a → (p a ≡ true) × Contains xs a) → (p a ≡ true) × Contains (x ∷ xs) a
   by true passes is later =
@@ -43,6 +44,7 @@ finds {X} p (x ∷ xs) (suc k) d within passes =
 abbrev pub OneIndex : Type 0
 OneIndex = (letter other : Letter) → Decides (same_letter letter other) (letter ≡ other)
 
+-- two lists of letters with the same indexes are one list
 letters-of_indexes : OneIndex → (ls others : List Letter) → map index_of ls ≡ map index_of others
     → ls ≡ others
 letters-of_indexes one [] [] same = refl
@@ -63,6 +65,7 @@ both-tie Less second is = cc
 both-tie Equal second is = (refl, is)
 both-tie Greater second is = cc
 
+-- two genotypes that tie are one
 tied : OneIndex → (a b : GenotypeCount) → dominance_cmp a b ≡ Equal → a ≡ b
 tied one a b tie =
     let parts = both-tie (nat_cmp b.count a.count) (letters_cmp a.genome b.genome) tie in
@@ -87,6 +90,7 @@ record IsBest (genotypes : List GenotypeCount) (best : GenotypeCount) : Type 0 w
   pub among : Contains genotypes best
   pub before : AllPass (λ other. not (outranks other best)) genotypes
 
+-- two best genotypes of a list are one
 best-one : OneIndex → (genotypes : List GenotypeCount) (a b : GenotypeCount) → IsBest genotypes a
     → IsBest genotypes b → a ≡ b
 best-one one genotypes a b is has =
@@ -116,6 +120,7 @@ best-dominant genotypes a is =
       before = AllPass-from_list_all (λ other. not (outranks other a)) genotypes at.0;
     }
 
+-- the best is the dominant one
 dominant-best_one : OneIndex → (genotypes : List GenotypeCount) (a : GenotypeCount)
     → IsBest genotypes a → dominant_among genotypes ≡ Some a
 unfolding dominant_among
@@ -127,6 +132,7 @@ dominant-best_one one genotypes a is =
     is.before) in
     some.1 ∙ ap Some (best-one one genotypes some.0 a (best-dominant genotypes some.0 some.1) is)
 
+-- the best of a list is the best of each list with the same members
 best-same : (genotypes others : List GenotypeCount) (a : GenotypeCount)
     → HaveSameMembers genotypes others → IsBest genotypes a → IsBest others a
 best-same genotypes others a same is =
@@ -138,6 +144,7 @@ best-same genotypes others a same is =
           ∙ is.before here.0 (get_or others k d) here.1);
     }
 
+-- lists with the same members have the same dominant genotype, or none
 pub dominant-same : OneIndex → (genotypes others : List GenotypeCount)
     → HaveSameMembers genotypes others → dominant_among genotypes ≡ dominant_among others
 dominant-same one genotypes others same =

@@ -9,12 +9,12 @@ use Rattle.std.proofs.lemmas.List.Elements.{All-map}
 use Rattle.std.proofs.lemmas.List.{length-set, ext_get_or, get_or-map}
 use Rattle.logic_tasks.specs.declared.task.Task.{Task}
 use Rattle.logic_tasks.specs.declared.task.Task.TheVariants.{Not}
-use Rattle.logic_tasks.specs.LogicTasks.{all_tasks, place_of}
+use Rattle.logic_tasks.specs.LogicTasks.{all_tasks, task_place}
 use Rattle.logic_tasks.specs.TaskSet.{has_task}
 use Rattle.census.specs.Changes.{AreCounted, tasks_without}
 
 -- the place of a task of the table
-place_of-nth : (k : ℕ) → k < 9 → place_of (get_or all_tasks k Not) ≡ k
+place_of-nth : (k : ℕ) → k < 9 → task_place (get_or all_tasks k Not) ≡ k
 place_of-nth zero h = refl
 place_of-nth (suc zero) h = refl
 place_of-nth (suc (suc zero)) h = refl
@@ -29,7 +29,7 @@ place_of-nth (suc (suc (suc (suc (suc (suc (suc (suc (suc k))))))))) h = absurd 
 -- one more, or one fewer, where a set has the task
 abbrev pub changed : (ℕ → ℕ → ℕ) → List ℕ → List Bool → Task → ℕ
 changed change before credited task =
-    change (slice_index before (place_of task)) (from_bool (has_task credited task))
+    change (slice_index before (task_place task)) (from_bool (has_task credited task))
 
 -- the first of these counts are changed, and the others are as they were
 pub record HasChanged (change : ℕ → ℕ → ℕ) (before : List ℕ) (credited : List Bool) (after : List ℕ)
@@ -70,29 +70,13 @@ HasChanged-all change before credited after has =
     (λ k h. let within : k < 9 = omega (arith, has.long) in has.first k within
     ∙ sym (get_or-map (changed change before credited) all_tasks k Not 0 within))
 
--- where the tasks of a set are counted, one fewer is a number
-pub le-counted : (change : ℕ → ℕ → ℕ) (before : List ℕ) (credited : List Bool) (after : List ℕ)
-    (i by : ℕ) → i < 9 → AreCounted before credited → HasChanged change before credited after i
-    → by ≡ from_bool (has_task credited (get_or all_tasks i Not)) → by ≤ get_or after i 0
-le-counted change before credited after i by within counted has is =
-    let task : Task = get_or all_tasks i Not in
-    let same : get_or after i 0 ≡ slice_index before (place_of task) =
-    has.others i (omega arith) ∙ ap (λ k. get_or before k 0) (sym (place_of-nth i within)) in
-    let one : from_bool (has_task credited task) ≤ slice_index before (place_of task) =
-    one_le (has_task credited task) (slice_index before (place_of task)) (counted task) in
-    omega (arith, same, one, is)
-  where
-    one_le : (b : Bool) (count : ℕ) → (b ≡ true → 0 < count) → from_bool b ≤ count
-    one_le true count some = omega (arith, some refl)
-    one_le false count some = omega arith
-
 -- counts that are small stay so where each is one fewer or as it was
 pub fewer-small : (counts : List ℕ) (credited : List Bool) (most : ℕ) → 0 < most
     → All (λ count. count < most) counts
     → All (λ count. count < most) (tasks_without counts credited)
 fewer-small counts credited most some small =
     All-map (λ count. count < most) (changed (λ n by. n - by) counts credited) all_tasks
-    (λ k task within. omega (arith, read (place_of (get_or all_tasks k task))))
+    (λ k task within. omega (arith, read (task_place (get_or all_tasks k task))))
   where
     read : (place : ℕ) → get_or counts place 0 < most
     read place = elim (cases_lt place (length counts)) [

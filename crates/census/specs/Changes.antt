@@ -7,7 +7,7 @@ use Rattle.std.specs.Option.{option_map, unwrap_or}
 use Rattle.std.specs.Ordering.{nat_cmp}
 use Rattle.instruction_set.specs.declared.letter.Letter.{Letter}
 use Rattle.logic_tasks.specs.declared.task.Task.{Task}
-use Rattle.logic_tasks.specs.LogicTasks.{all_tasks, place_of}
+use Rattle.logic_tasks.specs.LogicTasks.{all_tasks, task_place}
 use Rattle.logic_tasks.specs.TaskSet.{has_task}
 use Rattle.census.specs.Counts.{GenotypeCount, Counts, genotype_at, living_of}
 
@@ -56,17 +56,19 @@ genotype_without_one genotypes key other =
 -- one more has each task of a set
 abbrev pub tasks_with : List ℕ → List Bool → List ℕ
 tasks_with counts credited =
-    map (λ task. slice_index counts (place_of task) + from_bool (has_task credited task)) all_tasks
+    map (λ task. slice_index counts (task_place task)
+    + from_bool (has_task credited task)) all_tasks
 
 -- one fewer has each task of a set
 abbrev pub tasks_without : List ℕ → List Bool → List ℕ
 tasks_without counts credited =
-    map (λ task. slice_index counts (place_of task) - from_bool (has_task credited task)) all_tasks
+    map (λ task. slice_index counts (task_place task)
+    - from_bool (has_task credited task)) all_tasks
 
 -- each task of a set is counted
 abbrev pub AreCounted : List ℕ → List Bool → Type 0
 AreCounted counts credited =
-    (task : Task) → has_task credited task ≡ true → 0 < slice_index counts (place_of task)
+    (task : Task) → has_task credited task ≡ true → 0 < slice_index counts (task_place task)
 
 -- one organism more is counted
 abbrev pub with_organism : Counts → ℕ → List Letter → ℕ → List Bool → Counts

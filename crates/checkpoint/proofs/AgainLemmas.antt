@@ -112,12 +112,12 @@ module _ (head : HeadValues) (cell : ℕ) (o : Occupant)
       let m = o.organism.machine in
       let size = length m.memory in
       let is = stands.occupant.sound.machine in
-      let made = stands.occupant.sound.organism.made in
+      let birth_length = stands.occupant.sound.organism.birth_length in
       let most = (if m.pending then 6 else 2) * length o.organism.genome in
       let limit = le-leb size head.memory_limit
       (omega (arith, is.greatest, stands.occupant.limit)) in
       let growth = le-leb size most
-      (subst (λ (n : ℕ). size ≤ (if m.pending then 6 else 2) * n) made is.growth) in
+      (subst (λ (n : ℕ). size ≤ (if m.pending then 6 else 2) * n) birth_length is.growth) in
       let flow = both (nat_lt m.heads.flow size) true (lt-ltb m.heads.flow size is.flow) refl in
       let write = both (nat_lt m.heads.write size) (nat_lt m.heads.flow size && true)
       (lt-ltb m.heads.write size is.write) flow in
@@ -144,15 +144,15 @@ module _ (head : HeadValues) (cell : ℕ) (o : Occupant)
 
   -- the two lines are of the organism
   pub placed_again : ((m : Machine) → IsMachine m
-      → machine_of_image (image_of m) m.made m.limit ≡ m)
+      → machine_of_image (image_of m) m.birth_length m.limit ≡ m)
       → placed_of head (values_in cell o) (image_of o.organism.machine)
       ≡ record { cell = cell; occupant = o }
   placed_again whole =
       let m = o.organism.machine in
       let same : machine_of_image (image_of m) (length o.organism.genome) head.memory_limit ≡ m =
       ap (λ (n : ℕ). machine_of_image (image_of m) n head.memory_limit)
-      (sym stands.occupant.sound.organism.made)
-      ∙ ap (λ (n : ℕ). machine_of_image (image_of m) m.made n) (sym stands.occupant.limit)
+      (sym stands.occupant.sound.organism.birth_length)
+      ∙ ap (λ (n : ℕ). machine_of_image (image_of m) m.birth_length n) (sym stands.occupant.limit)
       ∙ whole m stands.occupant.sound.machine in
       ap (λ (other : Machine). record {
         cell = cell;

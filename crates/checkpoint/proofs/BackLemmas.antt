@@ -11,11 +11,11 @@ use Rattle.virtual_cpu.specs.Machine.{Machine, IsMachine}
 use Rattle.lineage_log.specs.Slots.{taken}
 use Rattle.log_lines.specs.LineText.{form_text}
 use Rattle.saved_lines.specs.SavedValues.{HeadValues}
-use Rattle.saved_lines.specs.SavedText.{count_text, head_text, machine_fields, machine_row, machine_text, organism_numbers, organism_row, organism_text}
-use Rattle.saved_lines.specs.SavedForms.{HasForm, row_text}
+use Rattle.saved_lines.specs.SavedText.{count_text, machine_fields, machine_row, machine_text, organism_numbers, organism_row, organism_text, saved_head_text}
+use Rattle.saved_lines.specs.SavedForms.{HasSavedForm, saved_row_text}
 use Rattle.saved_lines.specs.SavedReading.{SavedLine, Head, Organism, Machine as MachineLine, Count, saved_line_of}
 use Rattle.saved_worlds.specs.SavedState.{SavedState}
-use Rattle.saved_worlds.specs.SavedGrammar.{Place, Before, Among, Halfway, After, Placed, SavedFault, after_told, may_follow, may_stand, one_piece, pieces_state, place_if, placed_of, saved_of, state_of_lines, told, with_placed}
+use Rattle.saved_worlds.specs.SavedGrammar.{SavedPlace, Before, Among, Halfway, After, Placed, SavedFault, after_saved_line, may_follow, may_stand, one_saved_piece, pieces_state, place_if, placed_of, saved_of, state_of_lines, told_saved_line, with_placed}
 use Rattle.saved_worlds.specs.SavedWorldText.{cell_text, saved_text, slot_text, values_in}
 use Rattle.saved_worlds.specs.ValidState.{AreSaved}
 use Rattle.checkpoint.specs.Standing.{HasKindsThere, IsWritable, standing_from}
@@ -60,17 +60,17 @@ cut_line (b ∷ bs) rest all =
     rw (other, cut_line bs rest all.1) refl
 
 -- a line that is read and fits
-pub line_on : (number : ℕ) (place next : Place) (text rest : List ℕ) (line : SavedLine)
+pub line_on : (number : ℕ) (place next : SavedPlace) (text rest : List ℕ) (line : SavedLine)
     → AllByRecursion (λ b. 10 < b) text → saved_line_of text ≡ Some line
-    → told place line ≡ Some next
+    → told_saved_line place line ≡ Some next
     → pieces_state number place (cut (text ++ 10 ∷ rest))
     ≡ pieces_state (number + 1) next (cut rest)
 line_on number place next text rest line plain is fits =
-    let others = λ (p : Place). pieces_state (number + 1) p (cut rest) in
+    let others = λ (p : SavedPlace). pieces_state (number + 1) p (cut rest) in
     ap (λ (l : List (List ℕ)). pieces_state number place l) (cut_line text rest plain)
     ∙ more_pieces number place text rest
-    ∙ ap (λ (o : Option SavedLine). one_piece number place o others) is
-    ∙ ap (λ (t : Option Place). after_told number t others) fits
+    ∙ ap (λ (o : Option SavedLine). one_saved_piece number place o others) is
+    ∙ ap (λ (t : Option SavedPlace). after_saved_line number t others) fits
 
 -- the text of the first of the two lines of an organism, without its newline
 abbrev organism_row_text : ℕ → Occupant → List ℕ
@@ -119,9 +119,10 @@ organism_on number head placed cell o rest back =
     ∙ append_assoc (organism_row_text cell o) (10 ∷ []) ((machine_row_text o ++ 10 ∷ []) ++ rest)
     ∙ ap (λ (l : List ℕ). organism_row_text cell o ++ 10 ∷ l)
     (append_assoc (machine_row_text o) (10 ∷ []) rest) in
-    let first : told (Among head placed) (Organism values) ≡ Some (Halfway head placed values) =
+    let first : told_saved_line (Among head placed) (Organism values)
+    ≡ Some (Halfway head placed values) =
     ap (λ (b : Bool). place_if b (Halfway head placed values)) back.stands in
-    let second : told (Halfway head placed values) (MachineLine image)
+    let second : told_saved_line (Halfway head placed values) (MachineLine image)
     ≡ Some (Among head (placed ++ one ∷ [])) =
     ap (λ (b : Bool). place_if b (Among head (placed ++ placed_of head values image ∷ [])))
     back.follows
@@ -162,12 +163,14 @@ cells_on number head placed first (Some o ∷ cells) rest back =
 
 -- what is used of the spelling of lines
 pub record OneSpelling : Type 0 where
-  pub again : (line : SavedLine) → HasForm line → saved_line_of (row_text line) ≡ Some line
-  pub one_line : (line : SavedLine) → HasForm line → AllByRecursion (λ b. 10 < b) (row_text line)
+  pub again : (line : SavedLine) → HasSavedForm line
+      → saved_line_of (saved_row_text line) ≡ Some line
+  pub one_line : (line : SavedLine) → HasSavedForm line
+      → AllByRecursion (λ b. 10 < b) (saved_row_text line)
 
 -- and of images
 abbrev pub WholeImages : Type 0
-WholeImages = (m : Machine) → IsMachine m → machine_of_image (image_of m) m.made m.limit ≡ m
+WholeImages = (m : Machine) → IsMachine m → machine_of_image (image_of m) m.birth_length m.limit ≡ m
 
 -- the lines of who stand in cells of a saved world are read again in their places
 pub all_read_back : OneSpelling → WholeImages → (head : HeadValues) (placed : List Placed)
@@ -184,8 +187,9 @@ all_read_back spell whole head placed first (Some o ∷ cells) saved forms =
     let image = image_of o.organism.machine in
     let stands = stands_itself head placed one others saved in
     let sound = stands.occupant.sound in
-    let line : HasForm (Organism values) = organism_form head first o saved.values stands forms.0 in
-    let machine : HasForm (MachineLine image) =
+    let line : HasSavedForm (Organism values) =
+    organism_form head first o saved.values stands forms.0 in
+    let machine : HasSavedForm (MachineLine image) =
     machine_form o.organism.machine sound.machine sound.words in (
       record {
         organism = spell.again (Organism values) line;
@@ -224,19 +228,19 @@ few_stand first (Some o ∷ cells) = omega (arith, few_stand (first + 1) cells)
 -- what is written of a state is read as it
 pub read_back : OneSpelling → WholeImages → (state : SavedState) → IsWritable state
     → saved_of (saved_text state) ≡ Ok state
-unfolding saved_of saved_text head_text count_text
+unfolding saved_of saved_text saved_head_text count_text
 read_back spell whole state is =
     let head = state.head in
     let standing = standing_from 0 state.cells in
     let count = taken (ids_of state.cells) in
     let lines = flat_map cell_text (enumerate_from 0 state.cells) in
-    let last = row_text (Count count) ++ 10 ∷ [] in
+    let last = saved_row_text (Count count) ++ 10 ∷ [] in
     let after = state_of_lines head standing in
-    let text : (((row_text (Head head) ++ 10 ∷ []) ++ lines) ++ last)
-    ≡ row_text (Head head) ++ 10 ∷ (lines ++ last) =
-    append_assoc (row_text (Head head) ++ 10 ∷ []) lines last
-    ∙ append_assoc (row_text (Head head)) (10 ∷ []) (lines ++ last) in
-    let first : HasForm (Head head) = head_form head is.saved.values in
+    let text : (((saved_row_text (Head head) ++ 10 ∷ []) ++ lines) ++ last)
+    ≡ saved_row_text (Head head) ++ 10 ∷ (lines ++ last) =
+    append_assoc (saved_row_text (Head head) ++ 10 ∷ []) lines last
+    ∙ append_assoc (saved_row_text (Head head)) (10 ∷ []) (lines ++ last) in
+    let first : HasSavedForm (Head head) = head_form head is.saved.values in
     let few : count ≤ 18446744073709551615 =
     omega (
       arith,
@@ -245,22 +249,23 @@ read_back spell whole state is =
       is.size,
       cells_fit head.width head.height is.saved.values.width.1 is.saved.values.height.1,
     ) in
-    let end : HasForm (Count count) = (omega arith, few) in
+    let end : HasSavedForm (Count count) = (omega arith, few) in
     let cells = cells_on 2 head [] 0 state.cells last
     (all_read_back spell whole head [] 0 state.cells is.saved is.kinds) in
-    let ends : told (Among head standing) (Count count) ≡ Some (After after) =
+    let ends : told_saved_line (Among head standing) (Count count) ≡ Some (After after) =
     ap (λ (b : Bool). place_if b (After after))
     (eq-eqb count (length standing) (counted 0 state.cells)) in
     let with_cells = λ (cells : List (Option Occupant)).
-    let made : SavedState = record { head = head; cells = cells } in made in
+    let birth_length : SavedState = record { head = head; cells = cells } in birth_length in
     let again : after ≡ state =
     ap with_cells
     (ap (λ (n : ℕ). fold with_placed (replicate n None) standing) (sym is.size)
     ∙ cells_again [] 0 state.cells refl) in
     ap (λ (l : List ℕ). pieces_state 1 Before (cut l)) text
-    ∙ line_on 1 Before (Among head []) (row_text (Head head)) (lines ++ last) (Head head)
+    ∙ line_on 1 Before (Among head []) (saved_row_text (Head head)) (lines ++ last) (Head head)
     (spell.one_line (Head head) first) (spell.again (Head head) first) refl
     ∙ cells.1
-    ∙ line_on cells.0 (Among head standing) (After after) (row_text (Count count)) [] (Count count)
+    ∙ line_on cells.0 (Among head standing) (After after) (saved_row_text (Count count)) []
+    (Count count)
     (spell.one_line (Count count) end) (spell.again (Count count) end) ends
     ∙ ap (λ (s : SavedState). let read : Result SavedState SavedFault = Ok s in read) again

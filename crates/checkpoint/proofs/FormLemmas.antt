@@ -8,7 +8,7 @@ use Rattle.std.proofs.lemmas.Bool.{le-leb}
 use Rattle.instruction_set.specs.declared.letter.Letter.{Letter}
 use Rattle.mutations.specs.Change.{is_genome_length}
 use Rattle.logic_tasks.specs.Inputs.{low_of}
-use Rattle.logic_tasks.specs.TaskBits.{number_of}
+use Rattle.logic_tasks.specs.TaskBits.{bits_of_tasks}
 use Rattle.logic_tasks.specs.TaskBitsLaws.{number_of-small}
 use Rattle.virtual_cpu.specs.Image.{image_of}
 use Rattle.virtual_cpu.specs.Machine.{Machine, IsMachine}
@@ -41,10 +41,10 @@ low_fits (input ∷ inputs) zero =
 low_fits (input ∷ inputs) (suc k) = low_fits inputs k
 
 -- the number of a set of nine tasks
-tasks_fit : (tasks : List Bool) → length tasks ≡ 9 → number_of tasks ≤ 511
+tasks_fit : (tasks : List Bool) → length tasks ≡ 9 → bits_of_tasks tasks ≤ 511
 tasks_fit tasks nine =
-    let small : number_of tasks < 2 ^ 9 =
-    subst (λ (n : ℕ). number_of tasks < 2 ^ n) nine (number_of-small tasks) in
+    let small : bits_of_tasks tasks < 2 ^ 9 =
+    subst (λ (n : ℕ). bits_of_tasks tasks < 2 ^ n) nine (number_of-small tasks) in
     omega (arith, small)
 
 -- each of a list, one after another

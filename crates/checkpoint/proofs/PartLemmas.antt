@@ -8,7 +8,7 @@ use Rattle.std.proofs.Math.Seq.{take-length}
 use Rattle.world_rules.specs.World.{Occupant}
 use Rattle.saved_worlds.specs.SavedState.{SavedState}
 use Rattle.saved_worlds.specs.SavedWorldText.{cell_text, saved_text, slot_text}
-use Rattle.saved_lines.specs.SavedText.{count_text, head_text}
+use Rattle.saved_lines.specs.SavedText.{count_text, saved_head_text}
 use Rattle.lineage_log.specs.Slots.{taken}
 use Rattle.world_rules.specs.World.{ids_of}
 use Rattle.checkpoint.specs.Parts.{first_cells_text}
@@ -44,11 +44,11 @@ one_more cells cell there =
 
 -- the text of all cells
 pub all_cells : (state : SavedState) → saved_text state
-    ≡ head_text state.head ++ first_cells_text state.cells (length state.cells)
+    ≡ saved_head_text state.head ++ first_cells_text state.cells (length state.cells)
     ++ count_text (taken (ids_of state.cells))
 unfolding saved_text
 all_cells state =
     let text = λ (cells : List (Option Occupant)). flat_map cell_text (enumerate_from 0 cells) in
     ap (λ (cells : List (Option Occupant)).
-    head_text state.head ++ text cells ++ count_text (taken (ids_of state.cells)))
+    saved_head_text state.head ++ text cells ++ count_text (taken (ids_of state.cells)))
     (sym (take-length state.cells))

@@ -7,7 +7,7 @@ use Rattle.std.proofs.lemmas.Bool.{cases_Bool}
 use Rattle.log_lines.specs.Words.{pieces_of}
 use Rattle.saved_lines.specs.SavedReading.{saved_line_of}
 use Rattle.saved_worlds.specs.SavedState.{SavedState}
-use Rattle.saved_worlds.specs.SavedGrammar.{Place, SavedFault, last_piece, one_piece, pieces_state}
+use Rattle.saved_worlds.specs.SavedGrammar.{SavedFault, SavedPlace, last_saved_piece, one_saved_piece, pieces_state}
 use Rattle.checkpoint.specs.declared.saved_stop.SavedStop.{SavedStop}
 use Rattle.checkpoint.specs.Reading.{IsFaultOf}
 
@@ -16,16 +16,17 @@ abbrev pub cut : List ℕ → List (List ℕ)
 cut bytes = slice_split (λ b. b == 10) bytes
 
 -- a piece before others, the first of which begins with a byte
-more_onto : (number : ℕ) (place : Place) (piece : List ℕ) (b : ℕ) (parts : List (List ℕ))
+more_onto : (number : ℕ) (place : SavedPlace) (piece : List ℕ) (b : ℕ) (parts : List (List ℕ))
     → pieces_state number place (piece ∷ onto_first b parts)
-    ≡ one_piece number place (saved_line_of piece)
+    ≡ one_saved_piece number place (saved_line_of piece)
     (λ p. pieces_state (number + 1) p (onto_first b parts))
 more_onto number place piece b [] = refl
 more_onto number place piece b (part ∷ parts) = refl
 
 -- a piece before a newline, and the others
-pub more_pieces : (number : ℕ) (place : Place) (piece rest : List ℕ)
-    → pieces_state number place (piece ∷ cut rest) ≡ one_piece number place (saved_line_of piece)
+pub more_pieces : (number : ℕ) (place : SavedPlace) (piece rest : List ℕ)
+    → pieces_state number place (piece ∷ cut rest)
+    ≡ one_saved_piece number place (saved_line_of piece)
     (λ p. pieces_state (number + 1) p (cut rest))
 more_pieces number place piece [] = refl
 more_pieces number place piece (b ∷ bs) = elim (cases_Bool (b == 10)) [
@@ -33,11 +34,11 @@ more_pieces number place piece (b ∷ bs) = elim (cases_Bool (b == 10)) [
   | inr not ↦ rw not (more_onto number place piece b (cut bs))
 ]
 
-module _ (number : ℕ) (place : Place) (left piece : List ℕ) (others : Option (Bor (List ℕ)))
+module _ (number : ℕ) (place : SavedPlace) (left piece : List ℕ) (others : Option (Bor (List ℕ)))
     (split : cut left ≡ piece ∷ pieces_of 10 (option_copied others)) where
   -- what is left begins with a piece before a newline
   pub left_more : (behind : Bor (List ℕ)) → others ≡ Some behind
-      → pieces_state number place (cut left) ≡ one_piece number place (saved_line_of piece)
+      → pieces_state number place (cut left) ≡ one_saved_piece number place (saved_line_of piece)
       (λ p. pieces_state (number + 1) p (cut behind.now))
   left_more behind is =
       let pieces : cut left ≡ piece ∷ cut behind.now =
@@ -45,26 +46,18 @@ module _ (number : ℕ) (place : Place) (left piece : List ℕ) (others : Option
       ap (λ (ps : List (List ℕ)). pieces_state number place ps) pieces
       ∙ more_pieces number place piece behind.now
 
-  -- what is left is a piece without a newline
-  pub left_last : others ≡ None
-      → pieces_state number place (cut left) ≡ last_piece number place piece
-  left_last none =
-      let pieces : cut left ≡ piece ∷ [] =
-      split ∙ ap (λ (o : Option (Bor (List ℕ))). piece ∷ pieces_of 10 (option_copied o)) none in
-      ap (λ (ps : List (List ℕ)). pieces_state number place ps) pieces
-
   -- what is left goes on from the next place
-  pub left_on : (next : Place) (behind : Bor (List ℕ)) → others ≡ Some behind
-      → ((f : Place → Result SavedState SavedFault)
-      → one_piece number place (saved_line_of piece) f ≡ f next)
+  pub left_on : (next : SavedPlace) (behind : Bor (List ℕ)) → others ≡ Some behind
+      → ((f : SavedPlace → Result SavedState SavedFault)
+      → one_saved_piece number place (saved_line_of piece) f ≡ f next)
       → pieces_state number place (cut left) ≡ pieces_state (number + 1) next (cut behind.now)
   left_on next behind is step =
       left_more behind is ∙ step (λ p. pieces_state (number + 1) p (cut behind.now))
 
   -- what is left has a faulty line
   pub left_faulty : (e : SavedStop) (behind : Bor (List ℕ)) → others ≡ Some behind
-      → ((f : Place → Result SavedState SavedFault)
-      → IsFaultOf e (one_piece number place (saved_line_of piece) f))
+      → ((f : SavedPlace → Result SavedState SavedFault)
+      → IsFaultOf e (one_saved_piece number place (saved_line_of piece) f))
       → IsFaultOf e (pieces_state number place (cut left))
   left_faulty e behind is bad =
       subst (λ (r : Result SavedState SavedFault). IsFaultOf e r) (sym (left_more behind is))

@@ -8,7 +8,7 @@ use Rattle.instruction_set.specs.declared.letter.Letter.{Letter}
 use Rattle.genome.specs.Genome.{IsGenome}
 use Rattle.mutations.specs.Change.{is_genome_length}
 use Rattle.virtual_cpu.specs.declared.cpu_image.CpuImage.{CpuImage}
-use Rattle.saved_lines.specs.SavedForms.{HasForm, IsHeadLine, IsMachineLine}
+use Rattle.saved_lines.specs.SavedForms.{HasSavedForm, IsHeadLine, IsMachineLine}
 use Rattle.saved_lines.specs.SavedReading.{SavedLine, Head, Organism, Machine, Count}
 use Rattle.saved_lines.specs.SavedValues.{HeadValues}
 use Rattle.saved_worlds.specs.ValidState.{IsHead}
@@ -96,7 +96,7 @@ image_is image form =
     }
 
 -- the values of a line
-pub form_readable : (line : SavedLine) → HasForm line → IsReadable line
+pub form_readable : (line : SavedLine) → HasSavedForm line → IsReadable line
 form_readable (Head head) form = head_is head form
 form_readable (Organism o) form = genome_is o.genome form.fields.1
 form_readable (Machine image) form = image_is image form

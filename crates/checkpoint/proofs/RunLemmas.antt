@@ -76,6 +76,7 @@ module _ (config : Config) (n : ℕ) (few : n ≤ 1000000) (w : World)
     (sound : (cell : ℕ) (o : Occupant) → Stands w.cells cell o → IsSoundOrganism o.organism)
     (range : (cell : ℕ) (o : Occupant) → Stands w.cells cell o
     → IsInRange (values_of config) n o.organism) where
+  -- the state of the run's world
   abbrev state : SavedState
   state = state_of_world (values_of config) w
 

@@ -140,7 +140,7 @@ module _ (head : HeadValues) (o : OrganismValues) (image : CpuImage) where
         least = read.least;
         greatest = follows.limit;
         growth = follows.growth;
-        made = omega (arith, short, in_range.memory_limit.0);
+        birth_length = omega (arith, short, in_range.memory_limit.0);
         limit = in_range.memory_limit.1;
       }
 
@@ -173,7 +173,7 @@ module _ (head : HeadValues) (o : OrganismValues) (image : CpuImage) where
     cell = stands.cell;
     occupant = record {
       sound = record {
-        organism = record { made = refl; read = stands.read };
+        organism = record { birth_length = refl; read = stands.read };
         machine = is_machine in_range stands.greatest read follows;
         words = has_words read;
         genome = genome;

@@ -20,19 +20,6 @@ use Rattle.checkpoint.specs.ToldValue.{ToldValue, IsKept, told_of}
 use Rattle.checkpoint.proofs.KeptLemmas.{above_more, new_more, saved_more}
 use Rattle.checkpoint.proofs.StandsLemmas.{follows_by_rules, may_stand_there, stands_by_rules}
 
--- nothing was told
-pub kept_none : (head : HeadValues) (ids : BTreeSet ℕ) → IsHead head → ids.keys ≡ []
-    → IsKept (record { head = head; placed = [] }) 0 ids
-kept_none head ids in_range empty = record {
-  saved = record {
-    values = in_range;
-    each = λ k d there. absurd (omega (arith, there));
-    rising = λ place next one other before at_place at_next. absurd cc;
-  };
-  above = λ cell. grind (arith, nat_tests);
-  fresh = λ id. ap (λ (keys : List ℕ). not (list_any (is_at (nat_cmp id)) keys)) (sym empty);
-}
-
 -- one organism more was told
 pub kept_more : (told : ToldValue) (next_cell : ℕ) (ids more : BTreeSet ℕ) (o : OrganismValues)
     (cpu : CpuImage) → IsKept told next_cell ids → may_stand told.head told.placed o ≡ true

@@ -4,7 +4,7 @@ ghost use Rattle.lineage_log.specs.Slots.{taken};
 ghost use Rattle.world_config.specs.Shown.{values_of};
 ghost use Rattle.world_rules.specs.World.{Occupant, ids_of};
 ghost use Rattle.world_rules.specs.WorldRun.{world_after};
-ghost use Rattle.saved_lines.specs.SavedText.{count_text, head_text};
+ghost use Rattle.saved_lines.specs.SavedText.{count_text, saved_head_text};
 ghost use Rattle.saved_worlds.specs.SavedState.{SavedState, state_of, state_of_world};
 ghost use Rattle.saved_worlds.specs.SavedGrammar.{saved_of};
 ghost use Rattle.saved_worlds.specs.SavedWorldText.{saved_text, slot_text};
@@ -25,7 +25,7 @@ pub fn texts_are_written_by_cells()
         → first_cells_text cells (cell + 1)
         ≡ first_cells_text cells cell ++ slot_text cell (slice_index_or cells cell None) }
     ensures whole { (state : SavedState) → saved_text state
-        ≡ head_text state.head ++ first_cells_text state.cells (length state.cells)
+        ≡ saved_head_text state.head ++ first_cells_text state.cells (length state.cells)
         ++ count_text (taken (ids_of state.cells)) }
 {}
 

@@ -2,8 +2,8 @@
 ghost use Rattle.std.specs.Prelude.{◌≡◌, IfOk, option_map};
 ghost use Rattle.saved_lines.specs.SavedLines.{values_of_line, values_of_organism};
 ghost use Rattle.saved_lines.specs.SavedReading.{Machine};
-ghost use Rattle.saved_worlds.specs.SavedGrammar.{told, told_among, told_first, told_halfway};
-ghost use Rattle.checkpoint.specs.Places.{place_of};
+ghost use Rattle.saved_worlds.specs.SavedGrammar.{told_among, told_halfway, told_head, told_saved_line};
+ghost use Rattle.checkpoint.specs.Places.{saved_place_of};
 ghost use Rattle.checkpoint.specs.Readable.{IsReadImage, IsReadable};
 
 use crate::half::Half;
@@ -14,7 +14,7 @@ use std::alloc::Global;
 use virtual_cpu::CpuImage;
 
 #[derive(Drop)]
-pub(crate) enum Place {
+pub(crate) enum ReadPlace {
     /// Before the first line.
     Before,
     /// Between organisms.
@@ -26,31 +26,36 @@ pub(crate) enum Place {
 }
 
 /// The place after a line. None exactly where the line doesn't fit.
-pub(crate) fn told(alloc: Global, place: Place, line: SavedLine) -> Result<Option<Place>, Memory>
+pub(crate) fn told(
+    alloc: Global,
+    place: ReadPlace,
+    line: SavedLine,
+) -> Result<Option<ReadPlace>, Memory>
     requires { IsReadable (values_of_line line) }
     ensures { IfOk result
-        (λ next. option_map place_of next ≡ told (place_of place) (values_of_line line)) }
+        (λ next. option_map saved_place_of next
+        ≡ told_saved_line (saved_place_of place) (values_of_line line)) }
 {
     match place {
-        Place::Before => Ok(told_first(alloc, line)),
-        Place::Among(told) => Ok(told_among(told, line)),
-        Place::Halfway(half) => told_halfway(alloc, half, line),
-        Place::After(_) => Ok(None),
+        ReadPlace::Before => Ok(told_first(alloc, line)),
+        ReadPlace::Among(told) => Ok(told_among(told, line)),
+        ReadPlace::Halfway(half) => told_halfway(alloc, half, line),
+        ReadPlace::After(_) => Ok(None),
     }
 }
 
-fn told_first(alloc: Global, line: SavedLine) -> Option<Place>
+fn told_first(alloc: Global, line: SavedLine) -> Option<ReadPlace>
     requires { IsReadable (values_of_line line) }
-    ensures { option_map place_of result ≡ told_first (values_of_line line) }
+    ensures { option_map saved_place_of result ≡ told_head (values_of_line line) }
 {
     match line {
-        SavedLine::Head(head) => Some(Place::Among(Told::new(alloc, head))),
+        SavedLine::Head(head) => Some(ReadPlace::Among(Told::new(alloc, head))),
         _ => None,
     }
 }
 
-fn told_among(told: Told, line: SavedLine) -> Option<Place>
-    ensures { option_map place_of result
+fn told_among(told: Told, line: SavedLine) -> Option<ReadPlace>
+    ensures { option_map saved_place_of result
         ≡ told_among told.head told.placed (values_of_line line) }
 {
     match line {
@@ -60,31 +65,31 @@ fn told_among(told: Told, line: SavedLine) -> Option<Place>
     }
 }
 
-fn told_organism(told: Told, organism: OrganismLine) -> Option<Place>
-    ensures { option_map place_of result
+fn told_organism(told: Told, organism: OrganismLine) -> Option<ReadPlace>
+    ensures { option_map saved_place_of result
         ≡ told_among told.head told.placed (values_of_line (SavedLine.Organism organism)) }
 {
     if told.may_stand(&organism) {
-        Some(Place::Halfway(Half { told, organism }))
+        Some(ReadPlace::Halfway(Half { told, organism }))
     } else {
         None
     }
 }
 
-fn told_count(told: Told, organisms: u64) -> Option<Place>
-    ensures { option_map place_of result
+fn told_count(told: Told, organisms: u64) -> Option<ReadPlace>
+    ensures { option_map saved_place_of result
         ≡ told_among told.head told.placed (values_of_line (SavedLine.Count organisms)) }
 {
     if organisms == told.len() as u64 {
-        Some(Place::After(told))
+        Some(ReadPlace::After(told))
     } else {
         None
     }
 }
 
-fn told_halfway(alloc: Global, half: Half, line: SavedLine) -> Result<Option<Place>, Memory>
+fn told_halfway(alloc: Global, half: Half, line: SavedLine) -> Result<Option<ReadPlace>, Memory>
     requires { IsReadable (values_of_line line) }
-    ensures { IfOk result (λ next. option_map place_of next
+    ensures { IfOk result (λ next. option_map saved_place_of next
         ≡ told_halfway half.told.head half.told.placed (values_of_organism half.organism)
         (values_of_line line)) }
 {
@@ -94,9 +99,9 @@ fn told_halfway(alloc: Global, half: Half, line: SavedLine) -> Result<Option<Pla
     }
 }
 
-fn told_machine(alloc: Global, half: Half, image: CpuImage) -> Result<Option<Place>, Memory>
+fn told_machine(alloc: Global, half: Half, image: CpuImage) -> Result<Option<ReadPlace>, Memory>
     requires { IsReadImage image }
-    ensures { IfOk result (λ next. option_map place_of next
+    ensures { IfOk result (λ next. option_map saved_place_of next
         ≡ told_halfway half.told.head half.told.placed (values_of_organism half.organism)
         (Machine image)) }
 {
@@ -105,5 +110,5 @@ fn told_machine(alloc: Global, half: Half, image: CpuImage) -> Result<Option<Pla
         return Ok(None);
     }
     let told = told.with_organism(alloc, organism, image)?;
-    Ok(Some(Place::Among(told)))
+    Ok(Some(ReadPlace::Among(told)))
 }

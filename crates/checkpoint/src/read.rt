@@ -1,11 +1,11 @@
 // Reads a saved world.
 ghost use Rattle.std.specs.Prelude.{◌≡◌, ◌≤◌, IfErr, IfOk, Ok};
 ghost use Rattle.saved_lines.specs.SavedReading.{saved_line_of};
-ghost use Rattle.saved_worlds.specs.SavedGrammar.{last_piece, saved_of};
-ghost use Rattle.checkpoint.specs.Places.{place_of};
+ghost use Rattle.saved_worlds.specs.SavedGrammar.{last_saved_piece, saved_of};
+ghost use Rattle.checkpoint.specs.Places.{saved_place_of};
 ghost use Rattle.checkpoint.specs.Reading.{Ends, IsFaultOf, Steps};
 
-use crate::place::{Place, told};
+use crate::place::{ReadPlace, told};
 use crate::saved_stop::SavedStop;
 use crate::told::Told;
 use log_lines::split_at;
@@ -38,7 +38,7 @@ fn read_lines(alloc: Global, bytes: &[u8]) -> Result<Told, SavedStop>
 {
     let mut rest = bytes;
     let mut number = 1;
-    let mut place = Place::Before;
+    let mut place = ReadPlace::Before;
     loop {
         let (piece, others) = split_at(rest, b'\n');
         let Some(behind) = others else {
@@ -51,8 +51,13 @@ fn read_lines(alloc: Global, bytes: &[u8]) -> Result<Told, SavedStop>
 }
 
 /// The place after one line more.
-fn place_after(alloc: Global, number: u64, place: Place, piece: &[u8]) -> Result<Place, SavedStop>
-    ensures { Steps result number (place_of place) (saved_line_of piece.now) }
+fn place_after(
+    alloc: Global,
+    number: u64,
+    place: ReadPlace,
+    piece: &[u8],
+) -> Result<ReadPlace, SavedStop>
+    ensures { Steps result number (saved_place_of place) (saved_line_of piece.now) }
 {
     one_spelling();
     let Some(line) = read_saved_line(alloc, piece)? else {
@@ -65,14 +70,14 @@ fn place_after(alloc: Global, number: u64, place: Place, piece: &[u8]) -> Result
 }
 
 /// The end of the bytes, behind the last newline.
-fn told_at_end(number: u64, place: Place, piece: &[u8]) -> Result<Told, SavedStop>
-    ensures { Ends result (last_piece number (place_of place) piece.now) }
+fn told_at_end(number: u64, place: ReadPlace, piece: &[u8]) -> Result<Told, SavedStop>
+    ensures { Ends result (last_saved_piece number (saved_place_of place) piece.now) }
 {
     if !piece.is_empty() {
         return Err(SavedStop::BadLine { line: number });
     }
     match place {
-        Place::After(told) => Ok(told),
+        ReadPlace::After(told) => Ok(told),
         _ => Err(SavedStop::Unended { line: number }),
     }
 }

@@ -12,7 +12,8 @@ use world_core::State;
 
 /// Appends the first line of a saved world. When memory runs out `out` stays as it was.
 pub fn head_text(state: &State, out: &mut Vec<u8>) -> Result<(), Memory>
-    ensures ok { OnOk result (out.new.items ≡ out.old.items ++ text.head_text state.now.head) }
+    ensures ok { OnOk result (out.new.items ≡ out.old.items
+        ++ text.saved_head_text state.now.head) }
     ensures err { OnErr result (out.new.items ≡ out.old.items) }
 {
     write_head(&state.head(), out)

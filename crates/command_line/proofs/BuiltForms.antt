@@ -9,12 +9,14 @@ use Rattle.command_line.proofs.Uses.{flag_filled}
 use Rattle.command_line.proofs.FormRules.{option_filled, positional_filled, positionals_from, rules_by}
 use Rattle.command_line.proofs.RuleReading.{shape_by}
 
+-- an option's rule as the parser fills it in, with its default or without
 filled_option : (name : Text) (default : Option Text)
     → filled (option_rule (record { name = name; default = default }))
     ≡ option_filled (record { name = name; default = default })
 filled_option name None = refl
 filled_option name (Some value) = refl
 
+-- so with each option; the rules behind them are numbered as if no option stood before
 filled_options : (options : List Valued) (rest : List Rule) (i : ℕ)
     → filled_from i (map option_rule options ++ rest) ≡ map option_filled options
     ++ filled_from i rest
@@ -23,11 +25,13 @@ filled_options (o ∷ os) rest i =
     ap (λ rule. rule ∷ filled_from i (map option_rule os ++ rest)) (filled_option o.name o.default)
     ∙ ap (λ rules. option_filled o ∷ rules) (filled_options os rest i)
 
+-- each flag's rule is filled in, and the rules behind are numbered as if no flag stood before
 filled_flags : (flags : List Text) (rest : List Rule) (i : ℕ)
     → filled_from i (map flag_rule flags ++ rest) ≡ map flag_filled flags ++ filled_from i rest
 filled_flags [] rest i = refl
 filled_flags (f ∷ fs) rest i = ap (λ rules. flag_filled f ∷ rules) (filled_flags fs rest i)
 
+-- the positionals are numbered one after another from i, as long as the numbers fit in a usize
 filled_positionals : (ids : List Text) (i : ℕ) → i + length ids ≤ usize_max
     → filled_from i (map positional_rule ids) ≡ positionals_from i ids
 filled_positionals [] i few = refl
@@ -36,6 +40,7 @@ filled_positionals (id ∷ ids) i few =
     rw next (ap (λ rules. positional_filled i id ∷ rules)
     (filled_positionals ids (i + 1) (omega arith)))
 
+-- the command of a simple form, once it is built: the rules of the form, and no subcommands
 pub built_is : (command : Text) (form : Form) (ids : List Text) → IsSimple form ids
     → built (app_by command form ids)
     ≡ record { top = shape_by command (rules_by form ids); subs = [] }

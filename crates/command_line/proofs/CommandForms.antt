@@ -12,9 +12,10 @@ use Rattle.command_line.specs.Form.{Told, are_distinct, option_names}
 use Rattle.command_line.specs.Words.{begins_dashed, has_dashed, is_dashed}
 use Rattle.command_line.specs.Commands.{assay_form, assay_of, assay_with, bare_form, landscape_form, landscape_of, nothing_of, positional_form, positional_of, run_form, run_of, run_with, save_of, trace_form, trace_of, workers_form}
 use Rattle.command_line.specs.Parsers.{app_by}
-use Rattle.command_line.specs.Reading.{IsOf, NoMinus, Reads}
+use Rattle.command_line.specs.Reading.{IsOf, IsReadableRow, NoMinus}
 use Rattle.command_line.specs.Rows.{CommandRow, assay_row, bench_row, landscape_row, lineage_row, nothing_row, resume_row, run_row, save_row, trace_row}
 
+-- a command that takes no words has no text that could begin with `-`
 nothing_refuses : NoMinus → (told : Told) → IsOf bare_form told → has_dashed told ≡ true
     → nothing_of told ≡ None
 nothing_refuses no_minus told is d = go told.positionals told.values is.positionals is.values d
@@ -25,18 +26,21 @@ nothing_refuses no_minus told is d = go told.positionals told.values is.position
     go (p ∷ ps) vs n m d = absurd (omega arith)
     go [] (v ∷ vs) n m d = absurd (omega arith)
 
+-- what gives nothing for each value gives nothing for a value that may be missing
 none_after : {X Y : Type 0} (f : X → Option Y) (o : Option X) → ((x : X) → f x ≡ None)
     → option_and_then f o ≡ None
 none_after f None none = refl
 none_after f (Some x) none = none x
 
 module _ (no_minus : NoMinus) where
+  -- a text that begins with `-` spells no number
   dashed_number : (least greatest : ℕ) (text : Text) → begins_dashed text ≡ true
       → number_of least greatest text ≡ None
   dashed_number least greatest [] d = absurd (false≢true d)
   dashed_number least greatest (byte ∷ bytes) d =
       rw (eqb-true byte 45 d) (no_minus least greatest bytes)
 
+  -- nor does a value that may be missing, where it begins with `-`
   dashed_text : (least greatest : ℕ) (text : Option Text) → is_dashed text ≡ true
       → option_and_then (number_of least greatest) text ≡ None
   dashed_text least greatest None d = absurd (false≢true d)
@@ -61,12 +65,14 @@ module _ (no_minus : NoMinus) where
       go (p ∷ q ∷ ps) vs n m d = absurd (omega arith)
       go (p ∷ []) (v ∷ vs) n m d = absurd (omega arith)
 
+  -- `trace` refuses steps that begin with `-`
   trace_refuses : (told : Told) → IsOf trace_form told → has_dashed told ≡ true
       → trace_of told ≡ None
   trace_refuses told is d =
       text_refuses trace_of told (λ p a. rw (dashed_number 0 1000000 p a) refl) is.positionals
       is.values d
 
+  -- `landscape` refuses steps that begin with `-`
   landscape_refuses : (told : Told) → IsOf landscape_form told → has_dashed told ≡ true
       → landscape_of told ≡ None
   landscape_refuses told is d =
@@ -140,6 +146,7 @@ module _ (no_minus : NoMinus) where
       go (p ∷ []) [] fs n m d = absurd (omega arith)
       go (p ∷ []) (w ∷ v ∷ vs) fs n m d = absurd (omega arith)
 
+  -- `assay` refuses a count, a first seed or workers that begin with `-`
   assay_refuses : (told : Told) → IsOf assay_form told → has_dashed told ≡ true
       → assay_of told ≡ None
   assay_refuses told is d =
@@ -176,13 +183,14 @@ module _ (no_minus : NoMinus) where
 
 -- ---- the commands
 
+-- what a row needs to be readable, with the facts of its simple form one by one
 reads_by : {T : Type 0} {row : CommandRow T}
     → are_distinct (option_names row.form ++ (row.form.flags ++ row.texts)) ≡ true
     → length row.texts ≡ row.form.positionals → length row.texts < usize_max
     → is_simple (app_by row.name row.form row.texts) ≡ true
     → is_simple_and_free (app_by row.name row.form row.texts) ≡ true
     → (NoMinus → (told : Told) → IsOf row.form told → has_dashed told ≡ true
-    → row.take told ≡ None) → Reads row
+    → row.take told ≡ None) → IsReadableRow row
 reads_by distinct count few simple free refuses = record {
   distinct = record { names = distinct; count = count; few = few };
   simple = simple;
@@ -190,34 +198,43 @@ reads_by distinct count few simple free refuses = record {
   refuses = refuses;
 }
 
-pub nothing_reads : Reads nothing_row
+-- the parser knows a command that takes no words, so no text can begin with `-`
+pub nothing_reads : IsReadableRow nothing_row
 nothing_reads = reads_by refl refl (omega arith) refl refl nothing_refuses
 
-pub trace_reads : Reads trace_row
+-- the parser knows `trace`, which refuses steps that begin with `-`
+pub trace_reads : IsReadableRow trace_row
 trace_reads = reads_by refl refl (omega arith) refl refl trace_refuses
 
-pub landscape_reads : Reads landscape_row
+-- the parser knows `landscape`, which refuses steps that begin with `-`
+pub landscape_reads : IsReadableRow landscape_row
 landscape_reads = reads_by refl refl (omega arith) refl refl landscape_refuses
 
-pub save_reads : Reads save_row
+-- the parser knows `save`, which refuses workers that begin with `-`
+pub save_reads : IsReadableRow save_row
 save_reads = reads_by refl refl (omega arith) refl refl save_refuses
 
-pub run_reads : Reads run_row
+-- the parser knows `run`, which refuses workers or looks that begin with `-`
+pub run_reads : IsReadableRow run_row
 run_reads = reads_by refl refl (omega arith) refl refl run_refuses
 
-pub lineage_reads : Reads lineage_row
+-- the parser knows `lineage`, which refuses a cell or workers that begin with `-`
+pub lineage_reads : IsReadableRow lineage_row
 lineage_reads = reads_by refl refl (omega arith) refl refl (λ no_minus.
     positional_refuses no_minus (λ cell workers. record { cell = cell; workers = workers }) 65535)
 
-pub bench_reads : Reads bench_row
+-- the parser knows `bench`, which refuses a seed or workers that begin with `-`
+pub bench_reads : IsReadableRow bench_row
 bench_reads = reads_by refl refl (omega arith) refl refl (λ no_minus.
     positional_refuses no_minus (λ seed workers. record { seed = seed; workers = workers })
     9223372036854775807)
 
-pub resume_reads : Reads resume_row
+-- the parser knows `resume`, which refuses updates or workers that begin with `-`
+pub resume_reads : IsReadableRow resume_row
 resume_reads = reads_by refl refl (omega arith) refl refl (λ no_minus.
     positional_refuses no_minus (λ more workers. record { more = more; workers = workers })
     1000000)
 
-pub assay_reads : Reads assay_row
+-- the parser knows `assay`, which refuses a count, a first seed or workers that begin with `-`
+pub assay_reads : IsReadableRow assay_row
 assay_reads = reads_by refl refl (omega arith) refl refl assay_refuses

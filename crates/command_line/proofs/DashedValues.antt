@@ -23,6 +23,7 @@ use Rattle.command_line.proofs.FormEnd.{ended, told_at_end, told_with}
 use Rattle.command_line.proofs.RuleReading.{Stand, as_flag, as_named, as_option, as_positional, as_seen, as_value, next_seen, read_seen, unless_fault, with_use}
 use Rattle.command_line.proofs.WordViews.{View, view, ending, long, short, torn, dash, clean}
 
+-- where all values are there, there are as many texts as values
 all_length : (values : List (Option Text)) (texts : List Text) → all_of values ≡ Some texts
     → length texts ≡ length values
 all_length [] texts is = let none : [] ≡ texts = cc in rw (← none) refl
@@ -40,18 +41,22 @@ all_length (Some v ∷ values) texts is = go (all_of values) refl (λ more e. al
 
 -- ---- a value that begins with `-` is never lost
 
+-- the value of one of these ids begins with `-`
 abbrev pub spoilt_at : List Use → List Text → Bool
 spoilt_at uses ids = list_any (λ m. is_dashed (value_in m uses)) ids
 
+-- anything or true is true
 pub or_true : (b : Bool) → (b || true) ≡ true
 or_true true = refl
 or_true false = refl
 
+-- a value that begins with `-` is still the value of its id after one more use
 dashed_kept : (m : Text) (uses : List Use) (u : Use) (found : Option Text) → value_in m uses ≡ found
     → is_dashed found ≡ true → is_dashed (value_in m (uses ++ u ∷ [])) ≡ true
 dashed_kept m uses u None at is = absurd (false≢true is)
 dashed_kept m uses u (Some v) at is = rw (value_kept m v uses u at) is
 
+-- where the value of one of these ids begins with `-`, one still does after one more use
 pub spoilt_kept : (ids : List Text) (uses : List Use) (u : Use) → spoilt_at uses ids ≡ true
     → spoilt_at (uses ++ u ∷ []) ids ≡ true
 spoilt_kept [] uses u is = absurd (false≢true is)
@@ -61,6 +66,7 @@ spoilt_kept (m ∷ ms) uses u is = elim (cases_Bool (is_dashed (value_in m uses)
       (spoilt_kept ms uses u (rw a at is)) ∙ or_true (is_dashed (value_in m (uses ++ u ∷ [])))
 ]
 
+-- and so does one after the first use of one of them, where its value begins with `-`
 pub spoilt_new : (ids : List Text) (uses : List Use) (u : Use) → has_name u.id ids ≡ true
     → is_some (value_in u.id uses) ≡ false → begins_dashed u.value ≡ true
     → spoilt_at (uses ++ u ∷ []) ids ≡ true
@@ -75,10 +81,12 @@ spoilt_new (m ∷ ms) uses u h none d = elim (cases_Bool (bytes_eq m u.id)) [
       (spoilt_new ms uses u (rw a at h) none d) ∙ or_true (is_dashed (value_in m (uses ++ u ∷ [])))
 ]
 
+-- a value that begins with `-` stands, whatever the default is
 dashed_first : (x y : Option Text) → is_dashed x ≡ true → is_dashed (option_or x y) ≡ true
 dashed_first None y is = absurd (false≢true is)
 dashed_first (Some v) y is = is
 
+-- whatever the defaults are, the value of one of the options still begins with `-`
 spoilt_values : (options : List Valued) (uses : List Use) (look : Text → Option Text)
     → spoilt_at uses (map (λ o. o.name) options) ≡ true
     → list_any is_dashed (map (λ o. option_or (value_in o.name uses) (look o.name)) options) ≡ true
@@ -90,6 +98,7 @@ spoilt_values (o ∷ os) uses look is = elim (cases_Bool (is_dashed (value_in o.
       ∙ or_true (is_dashed (option_or (value_in o.name uses) (look o.name)))
 ]
 
+-- whatever the defaults are, one of the positionals still begins with `-`, if all are there
 spoilt_texts : (ids : List Text) (uses : List Use) (look : Text → Option Text) (texts : List Text)
     → spoilt_at uses ids ≡ true
     → all_of (map (λ m. option_or (value_in m uses) (look m)) ids) ≡ Some texts
@@ -123,29 +132,37 @@ spoilt_texts (id ∷ ids) uses look texts is all =
 module _ (command : Text) (form : Form) (ids : List Text) (simple : IsSimple form ids) (T : Type 0)
     (take : Told → Option T)
     (refuses : (told : Told) → IsOf form told → has_dashed told ≡ true → take told ≡ None) where
+  -- the rules of the form
   abbrev rules : List Rule
   rules = rules_by form ids
 
+  -- the parser's rows of these uses, with the defaults of what does not stand
   abbrev rows_at : List Use → List Row
   rows_at uses = fold with_default (rows_by uses) rules
 
+  -- what is taken of what the matches tell, where there are matches
   abbrev pub taken : Option (List Row) → Option T
   taken rows = option_and_then take (option_and_then (told_in form ids) rows)
 
+  -- what is taken of these words, read from where the reading stands, if it goes on
   abbrev rest_of : List Text → Option Stand → Option T
   rest_of words next = taken (option_and_then (λ t. read_seen command rules t words) next)
 
+  -- the value of one of the options or positionals begins with `-`
   abbrev spoilt : List Use → Bool
   spoilt uses = spoilt_at uses (option_names form ++ ids)
 
+  -- if the reading goes on, some value of its uses begins with `-`
   abbrev Keeps : Option Stand → Type 0
   Keeps None = Unit {0}
   Keeps (Some s) = spoilt s.uses ≡ true
 
+  -- a choice between two readings keeps such a value, where both do
   keeps_either : (b : Bool) (x y : Option Stand) → Keeps x → Keeps y → Keeps (if b then x else y)
   keeps_either true x y p q = p
   keeps_either false x y p q = q
 
+  -- where some value begins with `-`, some value does after one more use of an argument
   keeps_use : (s : Stand) (a : Rule) (v : Text) → spoilt s.uses ≡ true
       → Keeps (with_use s a v)
   keeps_use s a v is = elim (cases_Bool (is_some (value_in a.id s.uses))) [
@@ -153,22 +170,26 @@ module _ (command : Text) (form : Form) (ids : List Text) (simple : IsSimple for
     | inr b ↦ rw b (spoilt_kept (option_names form ++ ids) s.uses (use_of a v) is)
   ]
 
+  -- and after a word as a positional
   keeps_positional : (s : Stand) (word : Text) (found : Option Rule) → spoilt s.uses ≡ true
       → Keeps (as_positional s word found)
   keeps_positional s word None is = tt
   keeps_positional s word (Some a) is =
       keeps_use (record s { place = min (s.place + 1) usize_max }) a word is
 
+  -- and after an option, with the value of its own word or without
   keeps_option : (s : Stand) (a : Rule) (v : Option Text) → spoilt s.uses ≡ true
       → Keeps (as_option s a v)
   keeps_option s a (Some v) is = keeps_use s a v is
   keeps_option s a None is = is
 
+  -- and after a flag
   keeps_flag : (s : Stand) (a : Rule) (v : Option Text) → spoilt s.uses ≡ true
       → Keeps (as_flag s a v)
   keeps_flag s a (Some v) is = tt
   keeps_flag s a None is = keeps_use s a (codes "true") is
 
+  -- and after an option or a flag that was found by its name
   keeps_named : (s : Stand) (v : Option Text) (found : Option Rule) → spoilt s.uses ≡ true
       → Keeps (as_named s v found)
   keeps_named s v None is = tt
@@ -177,6 +198,7 @@ module _ (command : Text) (form : Form) (ids : List Text) (simple : IsSimple for
     | inr b ↦ rw b (keeps_flag s a v is)
   ]
 
+  -- and after any word before the options end
   keeps_seen : (s : Stand) (word : Text) (seen : View word) → spoilt s.uses ≡ true
       → Keeps (as_seen rules s word seen)
   keeps_seen s word (ending e d) is = is
@@ -187,6 +209,7 @@ module _ (command : Text) (form : Form) (ids : List Text) (simple : IsSimple for
   keeps_seen s word (dash e l h d) is = keeps_positional s word (arg_by_index rules s.place) is
   keeps_seen s word (clean e l h d) is = keeps_positional s word (arg_by_index rules s.place) is
 
+  -- and after a word where an option waits for its value
   keeps_value : (s : Stand) (a : Rule) (word : Text) (seen : View word) → spoilt s.uses ≡ true
       → Keeps (as_value s a word seen)
   keeps_value s a word (ending e d) is = tt
@@ -196,6 +219,7 @@ module _ (command : Text) (form : Form) (ids : List Text) (simple : IsSimple for
   keeps_value s a word (dash e l h d) is = keeps_use s a word is
   keeps_value s a word (clean e l h d) is = keeps_use s a word is
 
+  -- and after any word, whether an option waits for it or the options have ended
   keeps_next : (s : Stand) (word : Text) (seen : View word) (waits : Option Rule)
       → spoilt s.uses ≡ true → Keeps (next_seen rules s word seen waits)
   keeps_next s word seen (Some a) is = keeps_value s a word seen is
@@ -204,6 +228,7 @@ module _ (command : Text) (form : Form) (ids : List Text) (simple : IsSimple for
       (as_seen rules s word seen)
       (keeps_positional s word (arg_by_index rules s.place) is) (keeps_seen s word seen is)
 
+  -- where a value begins with `-`, nothing is taken of what the values at the end tell
   spoilt_told : (uses : List Use) → spoilt uses ≡ true
       → option_and_then take (told_with command form ids simple
       (ended command form ids simple uses)) ≡ None
@@ -240,6 +265,7 @@ module _ (command : Text) (form : Form) (ids : List Text) (simple : IsSimple for
             values = length-map form.options (λ o. ended command form ids simple uses o.name);
           }) (dashed_told texts all))
 
+  -- nor of what the rows at the end tell, with a fault or without
   spoilt_end : (uses : List Use) (kinds : Kinds) → spoilt uses ≡ true
       → taken (unless_fault kinds (rows_at uses)) ≡ None
   spoilt_end uses [] is =

@@ -24,13 +24,16 @@ default_in id [] = None
 default_in id (a ∷ more) =
     if bytes_eq a.id id then option_or (default_by a) (default_in id more) else default_in id more
 
+-- this default as a use of the argument
 abbrev pub default_use : Rule → Text → Use
 default_use a v = record { id = a.id; value = v; source = DefaultValue; how = reading_by a }
 
+-- the uses, and this default of the argument behind them, where there is one
 abbrev pub or_default : List Use → Rule → Option Text → List Use
 or_default uses a None = uses
 or_default uses a (Some v) = uses ++ default_use a v ∷ []
 
+-- an argument without a use gets its default as one, if it has a default
 abbrev pub add_default : List Use → Rule → List Use
 add_default uses a = if is_some (value_in a.id uses) then uses else or_default uses a (default_by a)
 
@@ -39,20 +42,24 @@ pub record Plain (a : Rule) : Type 0 where
   pub one : a.defaults ≡ option_to_list (default_by a)
   pub taken : (rows : List Row) → default_fault rows a ≡ []
 
+-- each of these arguments has one default at most, which the parser takes
 abbrev pub AllPlain : List Rule → Type 0
 AllPlain [] = Unit {0}
 AllPlain (a ∷ more) = Plain a × AllPlain more
 
+-- two lists of such arguments, one behind the other
 pub plain_append : (more rest : List Rule) → AllPlain more → AllPlain rest → AllPlain (more ++ rest)
 plain_append [] rest p q = q
 plain_append (a ∷ more) rest p q = (p.0, plain_append more rest p.1 q)
 
+-- the parser adds the default of an argument without a use as the row of one more use
 one_default : (uses : List Use) (a : Rule) (d : Option Text) → is_some (value_in a.id uses) ≡ false
     → default_rows a.id (reading_by a) (option_to_list d) (rows_by uses)
     ≡ rows_by (or_default uses a d)
 one_default uses a None none = refl
 one_default uses a (Some v) none = appended (default_use a v) uses none
 
+-- so the parser's rows with an argument's default are those of the uses with it
 with_default_is : (uses : List Use) (a : Rule) → Plain a
     → with_default (rows_by uses) a ≡ rows_by (add_default uses a)
 with_default_is uses a p = go (is_some (value_in a.id uses)) refl
@@ -69,6 +76,7 @@ with_default_is uses a p = go (is_some (value_in a.id uses)) refl
         ∙ one_default uses a (default_by a) is
         ∙ ap (λ b. rows_by (if b then uses else or_default uses a (default_by a))) (sym is)
 
+-- and its rows with the defaults of all arguments are those of the uses with them
 pub finished_is : (rules : List Rule) (uses : List Use) → AllPlain rules
     → fold with_default (rows_by uses) rules ≡ rows_by (fold add_default uses rules)
 finished_is [] uses p = refl
@@ -76,6 +84,7 @@ finished_is (a ∷ more) uses p =
     ap (λ rows. fold with_default rows more) (with_default_is uses a p.0)
     ∙ finished_is more (add_default uses a) p.1
 
+-- the defaults of such arguments have no fault
 pub no_faults : (rules : List Rule) (rows : List Row) → AllPlain rules
     → defaults_fault rows rules ≡ []
 unfolding defaults_fault
@@ -110,6 +119,7 @@ defaulted_one id uses a d none = elim (cases_Bool (bytes_eq a.id id)) [
     other None b = refl
     other (Some v) b = value_other id uses (default_use a v) b
 
+-- an argument's default becomes the value of its own id, if that has none, and of no other id
 defaulted : (id : Text) (uses : List Use) (a : Rule)
     → value_in id (add_default uses a)
     ≡ (if bytes_eq a.id id then option_or (value_in id uses) (default_by a) else value_in id uses)
@@ -133,6 +143,7 @@ defaulted id uses a = go (value_in a.id uses) refl
           | inr b ↦ rw b refl
         ]
 
+-- the first of three that is there, however they are grouped
 or_or : (x y z : Option Text) → option_or (option_or x y) z ≡ option_or x (option_or y z)
 or_or None y z = refl
 or_or (Some v) y z = refl
@@ -157,6 +168,7 @@ abbrev pub given_in : Text → List Use → Bool
 given_in id [] = false
 given_in id (u ∷ us) = if bytes_eq u.id id then explicit_source (Some u.source) else given_in id us
 
+-- the parser counts an id as given just where the words gave it
 given_is : (id : Text) (uses : List Use) → is_given id (rows_by uses) ≡ given_in id uses
 given_is id [] = refl
 given_is id (u ∷ us) = elim (cases_Bool (bytes_eq u.id id)) [
@@ -164,10 +176,12 @@ given_is id (u ∷ us) = elim (cases_Bool (bytes_eq u.id id)) [
   | inr b ↦ rw b (given_is id us)
 ]
 
+-- a choice between false and false is false
 same_if : (b : Bool) → (if b then false else false) ≡ false
 same_if true = refl
 same_if false = refl
 
+-- a default as one more use doesn't change whether the words gave an id
 given_kept : (id : Text) (uses : List Use) (a : Rule) (v : Text)
     → given_in id (uses ++ default_use a v ∷ []) ≡ given_in id uses
 given_kept id [] a v = same_if (bytes_eq a.id id)
@@ -176,11 +190,13 @@ given_kept id (u ∷ us) a v = elim (cases_Bool (bytes_eq u.id id)) [
   | inr b ↦ rw b (given_kept id us a v)
 ]
 
+-- nor does a default that may be missing
 given_or : (id : Text) (uses : List Use) (a : Rule) (d : Option Text)
     → given_in id (or_default uses a d) ≡ given_in id uses
 given_or id uses a None = refl
 given_or id uses a (Some v) = given_kept id uses a v
 
+-- nor do the defaults of all arguments
 given_at_end : (id : Text) (rules : List Rule) (uses : List Use)
     → given_in id (fold add_default uses rules) ≡ given_in id uses
 given_at_end id [] uses = refl
@@ -194,10 +210,12 @@ given_at_end id (a ∷ more) uses =
 abbrev pub are_typed : List Use → Bool
 are_typed uses = list_all (λ u. explicit_source (Some u.source)) uses
 
+-- where `a && b` holds, a and b hold
 and_split : (a b : Bool) → (a && b) ≡ true → (a ≡ true) × (b ≡ true)
 and_split true b is = (refl, is)
 and_split false b is = absurd (false≢true is)
 
+-- where each use is one of the words, the words gave an id just where it has a value
 typed_given : (id : Text) (uses : List Use) → are_typed uses ≡ true
     → given_in id uses ≡ is_some (value_in id uses)
 typed_given id [] t = refl

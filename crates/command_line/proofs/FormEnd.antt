@@ -11,7 +11,7 @@ use Rattle.clap.specs.Takes.{is_given}
 use Rattle.clap.specs.Faults.{defaults_fault}
 use Rattle.clap.specs.declared.error.kind.ErrorKind.TheVariants as kind
 use Rattle.command_line.specs.Form.{Form, IsSimple, Told, Valued, are_distinct, has_name, option_names}
-use Rattle.command_line.specs.Words.{end_of}
+use Rattle.command_line.specs.Words.{told_with_defaults}
 use Rattle.command_line.specs.Parsers.{all_of, is_given_true, told_in}
 use Rattle.command_line.proofs.Names.{bytes_same, bytes_turned, head_apart, or_split}
 use Rattle.command_line.proofs.Uses.{Use, first_is, rows_by, value_in}
@@ -21,6 +21,7 @@ use Rattle.command_line.proofs.FormRules.{all_plain, flag_is_no_option, flags_be
 use Rattle.command_line.proofs.FormReading.{Fits, filled, flag_text, given}
 use Rattle.command_line.proofs.RuleReading.{rows_at_end, unless_fault}
 
+-- anything or true is true
 or_true : (b : Bool) → (b || true) ≡ true
 or_true true = refl
 or_true false = refl
@@ -37,6 +38,7 @@ map_on (m ∷ ms) g h same =
 
 -- ---- which default a name has
 
+-- a name that is no option has the default that the rules behind the options give it
 none_in_options : (m : Text) (options : List Valued) (rest : List Rule)
     → has_name m (map (λ o. o.name) options) ≡ false
     → default_in m (options_before options rest) ≡ default_in m rest
@@ -45,6 +47,7 @@ none_in_options m (o ∷ os) rest none =
     let p = or_split (bytes_eq o.name m) (has_name m (map (λ o. o.name) os)) none in
     rw p.0 (none_in_options m os rest p.1)
 
+-- a name that is no flag has the default that the rules behind the flags give it
 none_in_flags : (m : Text) (flags : List Text) (rest : List Rule) → has_name m flags ≡ false
     → default_in m (flags_before flags rest) ≡ default_in m rest
 none_in_flags m [] rest none = refl
@@ -52,6 +55,7 @@ none_in_flags m (f ∷ fs) rest none =
     let p = or_split (bytes_eq f m) (has_name m fs) none in
     rw p.0 (none_in_flags m fs rest p.1)
 
+-- the rules of positionals give no name a default
 none_in_positionals : (m : Text) (place : ℕ) (ids : List Text)
     → default_in m (positionals_from place ids) ≡ None
 none_in_positionals m place [] = refl
@@ -60,6 +64,7 @@ none_in_positionals m place (id ∷ ids) = elim (cases_Bool (bytes_eq id m)) [
   | inr b ↦ rw b (none_in_positionals m (place + 1) ids)
 ]
 
+-- a flag has the default `false`, whatever rules stand behind the flags
 flag_default : (m : Text) (flags : List Text) (rest : List Rule) → has_name m flags ≡ true
     → default_in m (flags_before flags rest) ≡ Some (codes "false")
 flag_default m [] rest h = absurd (false≢true h)
@@ -68,6 +73,7 @@ flag_default m (f ∷ fs) rest h = elim (cases_Bool (bytes_eq f m)) [
   | inr b ↦ rw b (flag_default m fs rest (rw b at h))
 ]
 
+-- an option in front doesn't change the defaults of options with other names
 skipped : (o : Valued) (ps : List Valued) (rest : List Rule)
     → has_name o.name (map (λ p. p.name) ps) ≡ false
     → map (λ p. default_in p.name (option_filled o ∷ rest)) ps
@@ -78,10 +84,12 @@ skipped o (p ∷ ps) rest none =
     let other : bytes_eq o.name p.name ≡ false = bytes_turned o.name p.name ∙ q.0 in
     rw (other, skipped o ps rest q.1) refl
 
+-- the first of the list that a default makes is that default
 listed : (d : Option Text) → option_or (slice_get (option_to_list d) 0) None ≡ d
 listed None = refl
 listed (Some v) = refl
 
+-- options with distinct names have their own defaults, if the rules behind give them none
 option_defaults : (options : List Valued) (rest : List Rule)
     → are_distinct (map (λ o. o.name) options) ≡ true
     → ((m : Text) → has_name m (map (λ o. o.name) options) ≡ true → default_in m rest ≡ None)
@@ -103,6 +111,7 @@ option_defaults (o ∷ os) rest one none =
 
 -- ---- the parts of what is told
 
+-- the options' values, with defaults found by name, are those with the defaults of the form
 values_end : (options : List Valued) (uses : List Use) (look : Text → Option Text)
     → map (λ o. look o.name) options ≡ map (λ o. o.default) options
     → map (λ o. option_or (value_in o.name uses) (look o.name)) options
@@ -114,10 +123,12 @@ values_end (o ∷ os) uses look is =
     let tail : map (λ p. look p.name) os ≡ map (λ p. p.default) os = cc in
     rw (head, values_end os uses look tail) refl
 
+-- a flag's text, or else `false`, says whether the flag stands
 flag_told : (b : Bool) → is_given_true (option_or (flag_text b) (Some (codes "false"))) ≡ b
 flag_told true = refl
 flag_told false = refl
 
+-- so do the texts of all flags, where each has the default `false`
 flags_end : (names : List Text) (bits : List Bool) (uses : List Use) (look : Text → Option Text)
     → seen uses names ≡ map flag_text bits
     → map look names ≡ map (λ m. Some (codes "false")) names
@@ -132,6 +143,7 @@ flags_end (m ∷ ms) (b ∷ bs) uses look is offs =
     let rest : map look ms ≡ map (λ n. Some (codes "false")) ms = cc in
     rw (here, off, flag_told b, flags_end ms bs uses look tail rest) refl
 
+-- with as many texts as positionals, each positional has its text
 filled_full : (ids texts : List Text) → length texts ≡ length ids
     → (all_of (filled ids texts) ≡ Some texts) × (list_any is_none (filled ids texts) ≡ false)
 filled_full [] [] is = (refl, refl)
@@ -139,6 +151,7 @@ filled_full [] (t ∷ ts) is = absurd (omega arith)
 filled_full (id ∷ ids) [] is = absurd (omega arith)
 filled_full (id ∷ ids) (t ∷ ts) is = let p = filled_full ids ts (omega arith) in (rw p.0 refl, p.1)
 
+-- with fewer texts than positionals, some positional has none
 filled_short : (ids texts : List Text) → length texts < length ids
     → (all_of (filled ids texts) ≡ None) × (list_any is_none (filled ids texts) ≡ true)
 filled_short [] texts less = absurd (omega arith)
@@ -148,18 +161,21 @@ filled_short (id ∷ ids) (t ∷ ts) less =
 
 -- ---- the required positionals
 
+-- no option is required, so an argument that is lacking stands behind the options
 lacks_after_options : (rows : List Row) (options : List Valued) (rest : List Rule)
     → list_any (λ a. a.required && not (is_given a.id rows)) (options_before options rest)
     ≡ list_any (λ a. a.required && not (is_given a.id rows)) rest
 lacks_after_options rows [] rest = refl
 lacks_after_options rows (o ∷ os) rest = lacks_after_options rows os rest
 
+-- no flag is required, so an argument that is lacking stands behind the flags
 lacks_after_flags : (rows : List Row) (flags : List Text) (rest : List Rule)
     → list_any (λ a. a.required && not (is_given a.id rows)) (flags_before flags rest)
     ≡ list_any (λ a. a.required && not (is_given a.id rows)) rest
 lacks_after_flags rows [] rest = refl
 lacks_after_flags rows (f ∷ fs) rest = lacks_after_flags rows fs rest
 
+-- one of the positionals is lacking just where one of their ids has no value
 lacks_positional : (rows : List Row) (uses : List Use) (place : ℕ) (ids : List Text)
     → ((m : Text) → is_given m rows ≡ is_some (value_in m uses))
     → list_any (λ a. a.required && not (is_given a.id rows)) (positionals_from place ids)
@@ -169,9 +185,11 @@ lacks_positional rows uses place (id ∷ ids) same =
     rw (same id, lacks_positional rows uses (place + 1) ids same) refl
 
 module _ (command : Text) (form : Form) (ids : List Text) (simple : IsSimple form ids) where
+  -- the rules of the form
   abbrev rules : List Rule
   rules = rules_by form ids
 
+  -- the parser's rows of these uses, with the defaults of what does not stand
   abbrev rows_at : List Use → List Row
   rows_at uses = fold with_default (rows_by uses) rules
 
@@ -179,6 +197,7 @@ module _ (command : Text) (form : Form) (ids : List Text) (simple : IsSimple for
   abbrev pub ended : List Use → Text → Option Text
   ended uses m = option_or (value_in m uses) (default_in m rules)
 
+  -- what the values of the form's names tell, which are looked up in this way
   abbrev pub told_with : (Text → Option Text) → Option Told
   told_with look = option_map (λ texts. record {
     positionals = texts;
@@ -186,28 +205,34 @@ module _ (command : Text) (form : Form) (ids : List Text) (simple : IsSimple for
     flags = map (λ f. is_given_true (look f)) form.flags;
   }) (all_of (map look ids))
 
+  -- the first value of a name in the rows at the end is its value at the end
   pub first_at_end : (uses : List Use) (m : Text) → first_of m (rows_at uses) ≡ ended uses m
   first_at_end uses m = ap (first_of m) (finished_is rules uses (all_plain form ids))
       ∙ first_is m (fold add_default uses rules) ∙ value_at_end m rules uses
 
+  -- look-ups that agree give the options the same values
   value_names_same : (options : List Valued) (g h : Text → Option Text) → ((m : Text) → g m ≡ h m)
       → map (λ o. g o.name) options ≡ map (λ o. h o.name) options
   value_names_same [] g h same = refl
   value_names_same (o ∷ os) g h same = rw (same o.name, value_names_same os g h same) refl
 
+  -- and let the same flags stand
   flags_same : (names : List Text) (g h : Text → Option Text) → ((m : Text) → g m ≡ h m)
       → map (λ m. is_given_true (g m)) names ≡ map (λ m. is_given_true (h m)) names
   flags_same [] g h same = refl
   flags_same (m ∷ ms) g h same = rw (same m, flags_same ms g h same) refl
 
+  -- so they tell the same
   told_same : (g h : Text → Option Text) → ((m : Text) → g m ≡ h m) → told_with g ≡ told_with h
   told_same g h same =
       let texts : map g ids ≡ map h ids = map_on ids g h (λ m is. same m) in
       rw (value_names_same form.options g h same, flags_same form.flags g h same, texts) refl
 
+  -- the rows at the end tell what the values at the end tell
   pub told_at_end : (uses : List Use) → told_in form ids (rows_at uses) ≡ told_with (ended uses)
   told_at_end uses = told_same (λ m. first_of m (rows_at uses)) (ended uses) (first_at_end uses)
 
+  -- a positional has no default in the rules of the form
   no_default : (m : Text) → has_name m ids ≡ true → default_in m rules ≡ None
   no_default m is =
       none_in_options m form.options (flags_before form.flags (positionals_from 1 ids))
@@ -216,20 +241,24 @@ module _ (command : Text) (form : Form) (ids : List Text) (simple : IsSimple for
       (positional_is_no_flag form ids simple m is)
       ∙ none_in_positionals m 1 ids
 
+  -- a value that may be missing, or else nothing, is that value
   or_none : (x y : Option Text) → y ≡ None → option_or x y ≡ x
   or_none None y is = is
   or_none (Some v) y is = refl
 
+  -- the positionals' values at the end are those of the uses
   texts_end : (uses : List Use) → map (ended uses) ids ≡ seen uses ids
   texts_end uses = map_on ids (ended uses) (λ m. value_in m uses)
       (λ m is. or_none (value_in m uses) (default_in m rules) (no_default m is))
 
+  -- the rules behind the options give no option a default
   option_default : (m : Text) → has_name m (option_names form) ≡ true
       → default_in m (flags_before form.flags (positionals_from 1 ids)) ≡ None
   option_default m is =
       none_in_flags m form.flags (positionals_from 1 ids)
       (option_is_no_other form ids simple m is).0 ∙ none_in_positionals m 1 ids
 
+  -- an option's value at the end is that of its use, or else the form's default
   option_values : (uses : List Use) → map (λ o. ended uses o.name) form.options
       ≡ map (λ pair. option_or pair.1 pair.0.default)
       (zip form.options (seen uses (option_names form)))
@@ -237,16 +266,19 @@ module _ (command : Text) (form : Form) (ids : List Text) (simple : IsSimple for
       (option_defaults form.options (flags_before form.flags (positionals_from 1 ids))
       (options_parted form ids simple).first option_default)
 
+  -- in the rules of the form each flag has the default `false`
   flag_off : (m : Text) → has_name m form.flags ≡ true → default_in m rules ≡ Some (codes "false")
   flag_off m is = none_in_options m form.options (flags_before form.flags (positionals_from 1 ids))
       (flag_is_no_option form ids simple m is)
       ∙ flag_default m form.flags (positionals_from 1 ids) is
 
+  -- the flags that stand at the end are those that were used
   flag_values : (uses : List Use) (bits : List Bool) → seen uses form.flags ≡ map flag_text bits
       → map (λ m. is_given_true (ended uses m)) form.flags ≡ bits
   flag_values uses bits is = flags_end form.flags bits uses (λ m. default_in m rules) is
       (map_on form.flags (λ m. default_in m rules) (λ m. Some (codes "false")) flag_off)
 
+  -- a required argument is lacking at the end just where a positional has no text
   lacking : (uses : List Use) (texts : List Text) (values : List (Option Text)) (flags : List Bool)
       → Fits form ids uses texts values flags
       → list_any (λ a. a.required && not (is_given a.id (rows_at uses))) rules
@@ -260,6 +292,7 @@ module _ (command : Text) (form : Form) (ids : List Text) (simple : IsSimple for
       ∙ given_end m rules uses f.typed)
       ∙ ap (list_any is_none) f.texts_are
 
+  -- the end gives no matches where a positional has no text, and else the rows at the end
   faults_at : (uses : List Use) (texts : List Text) (values : List (Option Text))
       (flags : List Bool) (b : Bool) → Fits form ids uses texts values flags
       → list_any is_none (filled ids texts) ≡ b
@@ -283,12 +316,12 @@ module _ (command : Text) (form : Form) (ids : List Text) (simple : IsSimple for
   pub end_agrees : (uses : List Use) (texts : List Text) (values : List (Option Text))
       (flags : List Bool) (over : Bool) → Fits form ids uses texts values flags
       → option_and_then (told_in form ids) (rows_at_end command rules uses)
-      ≡ end_of form (given texts values flags None over)
+      ≡ told_with_defaults form (given texts values flags None over)
   end_agrees uses texts values flags over f = go (length texts == length ids) refl
     where
       all_there : length texts ≡ length ids
           → option_and_then (told_in form ids) (rows_at_end command rules uses)
-          ≡ end_of form (given texts values flags None over)
+          ≡ told_with_defaults form (given texts values flags None over)
       all_there full =
           let there = filled_full ids texts full in
           let counted : (length texts == form.positionals) ≡ true =
@@ -308,7 +341,7 @@ module _ (command : Text) (form : Form) (ids : List Text) (simple : IsSimple for
 
       some_lack : length texts < length ids
           → option_and_then (told_in form ids) (rows_at_end command rules uses)
-          ≡ end_of form (given texts values flags None over)
+          ≡ told_with_defaults form (given texts values flags None over)
       some_lack less =
           let there = filled_short ids texts less in
           let counted : (length texts == form.positionals) ≡ false =
@@ -318,7 +351,7 @@ module _ (command : Text) (form : Form) (ids : List Text) (simple : IsSimple for
 
       go : (b : Bool) → (length texts == length ids) ≡ b
           → option_and_then (told_in form ids) (rows_at_end command rules uses)
-          ≡ end_of form (given texts values flags None over)
+          ≡ told_with_defaults form (given texts values flags None over)
       go true is = let full : length texts ≡ length ids = grind (arith, nat_tests) in all_there full
       go false is = let room = f.room in let less : length texts < length ids =
           grind (arith, nat_tests) in some_lack less

@@ -16,6 +16,7 @@ use Rattle.command_line.proofs.RuleWords.{told_by_rules}
 use Rattle.command_line.proofs.BuiltForms.{built_is}
 use Rattle.command_line.proofs.FormWords.{form_agrees}
 
+-- the matches of a built command on these words, where there is no fault
 abbrev parsed_of : App → List Text → Option (List Row)
 parsed_of b words =
     unless_fault (built_fault b nothing_held words) (rows_after b.top.rules (names_of b) words)
@@ -23,12 +24,15 @@ parsed_of b words =
 module _ (command : Text) (form : Form) (ids : List Text) (simple : IsSimple form ids) (T : Type 0)
     (take : Told → Option T)
     (refuses : (told : Told) → IsOf form told → has_dashed told ≡ true → take told ≡ None) where
+  -- what is taken of what the matches tell, where there are matches
   abbrev taken : Option (List Row) → Option T
   taken rows = option_and_then take (option_and_then (told_in form ids) rows)
 
+  -- the command of the form
   abbrev app : App
   app = app_by command form ids
 
+  -- of the matches, where there is no fault, the same is taken as of the words after the first one
   parsed : (first : Text) (words : List Text)
       → taken (unless_fault (fault_of app (first ∷ words)) (matches_of app (first ∷ words)))
       ≡ option_and_then take (told_by form words)
@@ -60,6 +64,7 @@ module _ (command : Text) (form : Form) (ids : List Text) (simple : IsSimple for
       sym (parsed first words)
       ∙ ap (λ kinds. taken (unless_fault kinds (matches_of app (first ∷ words)))) fails
 
+  -- a fault leaves nothing to take, whether it comes before or after what the rows tell
   told_unless : (kinds : Kinds) (rows : List Row)
       → option_and_then take (told_unless_fault kinds (told_in form ids rows))
       ≡ taken (unless_fault kinds rows)
@@ -75,6 +80,7 @@ module _ (command : Text) (form : Form) (ids : List Text) (simple : IsSimple for
       told_unless (fault_of app (first ∷ words)) (matches_of app (first ∷ words))
       ∙ parsed first words
 
+-- of texts with one that begins with `-`, `undashed` takes nothing
 undashed_refuses : (form : Form) (told : Told) → IsOf form told → has_dashed told ≡ true
     → undashed told ≡ None
 undashed_refuses form told is dashes = rw dashes refl

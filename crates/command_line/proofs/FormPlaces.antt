@@ -16,21 +16,25 @@ use Rattle.command_line.proofs.FormRules.{at_index, positional_filled, rules_by}
 use Rattle.command_line.proofs.FormReading.{Fits, filled_next, flag_text}
 use Rattle.command_line.proofs.RuleReading.{as_positional, stand}
 
+-- a place at which a list has nothing is past its end
 pub past_end : (ids : List Text) (k : ℕ) → slice_get ids k ≡ None → length ids ≤ k
 past_end [] k is = omega arith
 past_end (id ∷ ids) zero is = cc
 past_end (id ∷ ids) (suc k) is = let less : length ids ≤ k = past_end ids k is in omega arith
 
 module _ (form : Form) where
+  -- the form finds an option where its name stands among the names of the options, or nowhere
   pub option_place : (name : Text) (found : Option ℕ) → place_of name (option_names form) ≡ found
       → position (λ o. bytes_eq o.name name) form.options ≡ found
   option_place name found is = position_is (λ o. bytes_eq o.name name) form.options
       ∙ place_by_map (λ o. o.name) name form.options ∙ is
 
+  -- the form finds a flag where its name stands among the flags, or nowhere
   pub flag_place : (name : Text) (found : Option ℕ) → place_of name form.flags ≡ found
       → position (λ f. bytes_eq f name) form.flags ≡ found
   flag_place name found is = position_is (λ f. bytes_eq f name) form.flags ∙ is
 
+  -- the option at the place of a name is given just where that name has a value
   pub given_at : (uses : List Use) (values : List (Option Text)) (name : Text) (i : ℕ)
       → seen uses (option_names form) ≡ values → place_of name (option_names form) ≡ Some i
       → is_given values i ≡ is_some (value_in name uses)
@@ -39,6 +43,7 @@ module _ (form : Form) where
       ap (λ vs. slice_get vs i) (sym same) ∙ seen_at (option_names form) uses name i at in
       ap (λ o. option_map_or is_some o false) here
 
+  -- the flag at the place of a name is set just where that name has a value
   pub set_at : (uses : List Use) (flags : List Bool) (name : Text) (j : ℕ)
       → seen uses form.flags ≡ map flag_text flags → place_of name form.flags ≡ Some j
       → is_set flags j ≡ is_some (value_in name uses)
@@ -60,15 +65,18 @@ module _ (form : Form) where
           ap (λ o. option_map_or (λ f. f) o false) is ∙ text_of b (value_in name uses) text
 
 module _ (form : Form) (ids : List Text) (simple : IsSimple form ids) where
+  -- the number of the positional after one more text isn't cut off at the greatest usize
   next_place : (texts : List Text) (word : Text) → length texts < length ids
       → min (length texts + 1 + 1) usize_max ≡ length (texts ++ word ∷ []) + 1
   next_place texts word less =
       let few = simple.few in omega (arith, length-append texts (word ∷ []))
 
+  -- while there are fewer texts than positionals, the form has one more positional
   pub has_room : (texts : List Text) → length texts < length ids
       → nat_lt (length texts) form.positionals ≡ true
   has_room texts less = rw (← simple.count) (grind (arith, nat_tests))
 
+  -- once there is a text for each positional, it has no more
   pub has_none : (texts : List Text) → length ids ≤ length texts
       → nat_lt (length texts) form.positionals ≡ false
   has_none texts less = rw (← simple.count) (grind (arith, nat_tests))
@@ -97,6 +105,7 @@ module _ (form : Form) (ids : List Text) (simple : IsSimple form ids) where
       ∙ ap (λ n. Some (stand (set_use uses (positional_filled (length texts + 1) id) word) None n
       over)) (next_place texts word less)
 
+  -- where no positional is left, a word can't be one
   pub no_text : (uses : List Use) (texts : List Text) (over : Bool) (word : Text)
       → slice_get ids (length texts) ≡ None
       → as_positional (stand uses None (length texts + 1) over) word

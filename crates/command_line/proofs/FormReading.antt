@@ -28,6 +28,7 @@ filled [] texts = []
 filled (id ∷ ids) [] = None ∷ filled ids []
 filled (id ∷ ids) (text ∷ texts) = Some text ∷ filled ids texts
 
+-- before the first positional, no id of a positional has a value
 filled_none : (ids : List Text) (uses : List Use) (k : ℕ) (id : Text)
     → seen uses ids ≡ filled ids [] → slice_get ids k ≡ Some id → value_in id uses ≡ None
 filled_none [] uses k id is at = cc
@@ -78,11 +79,13 @@ pub record Fits (form : Form) (ids : List Text) (uses : List Use) (texts : List 
   pub room : length texts ≤ length ids
   pub typed : are_typed uses ≡ true
 
+-- what was given, as a record of these parts
 abbrev pub given : List Text → List (Option Text) → List Bool → Option ℕ → Bool → Given
 given texts values flags waits ended =
     record { ended = ended; waits = waits; positionals = texts; values = values; flags = flags }
 
 module _ (form : Form) (ids : List Text) (simple : IsSimple form ids) where
+  -- after one more use by the words, each use is still one of the words
   typed_more : (uses : List Use) (a : Rule) (v : Text) → are_typed uses ≡ true
       → are_typed (set_use uses a v) ≡ true
   typed_more uses a v t = list_all-append (λ u. explicit_source (Some u.source)) uses

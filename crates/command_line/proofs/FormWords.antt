@@ -8,7 +8,7 @@ use Rattle.std.proofs.lemmas.List.Folds.{list_any-append}
 use Rattle.std.proofs.lemmas.Option.{slice_get_within}
 use Rattle.clap.specs.Walk.{Row, Rule, Text, arg_by_index, arg_by_long}
 use Rattle.command_line.specs.Form.{Form, IsSimple, Told, Valued, has_name, option_names}
-use Rattle.command_line.specs.Words.{Given, Word, as_word, begins_dashed, dashed, ends, has_dashed, kind_of_word, names, next_where, option_or_flag, plain, read_from, told_by, value_or_wait, with_flag, with_option, with_positional, with_value}
+use Rattle.command_line.specs.Words.{Given, Word, as_word, begins_dashed, dashed, ends, has_dashed, kind_of_word, names, next_where, option_or_flag, plain, read_from, told_by, value_or_wait, with_flag, with_option, with_option_value, with_positional}
 use Rattle.command_line.specs.Parsers.{told_in}
 use Rattle.command_line.specs.Reading.{IsOf}
 use Rattle.command_line.proofs.Names.{place_of, placed_has}
@@ -25,15 +25,19 @@ use Rattle.command_line.proofs.DashedValues.{or_true, spoilt_new, spoilt_reads}
 module _ (command : Text) (form : Form) (ids : List Text) (simple : IsSimple form ids) (T : Type 0)
     (take : Told → Option T)
     (refuses : (told : Told) → IsOf form told → has_dashed told ≡ true → take told ≡ None) where
+  -- the rules of the form
   abbrev rules : List Rule
   rules = rules_by form ids
 
+  -- what is taken of what the matches tell, where there are matches
   abbrev pub taken : Option (List Row) → Option T
   taken rows = option_and_then take (option_and_then (told_in form ids) rows)
 
+  -- what is taken of these words by the rules, read from where the reading stands, if it goes on
   abbrev rest_of : List Text → Option Stand → Option T
   rest_of words next = taken (option_and_then (λ t. read_seen command rules t words) next)
 
+  -- what is taken of these words by the form, after what was given, if the form allowed it
   abbrev told_rest : List Text → Option Given → Option T
   told_rest words next = option_and_then take (option_and_then (λ g. read_from form g words) next)
 
@@ -58,6 +62,7 @@ module _ (command : Text) (form : Form) (ids : List Text) (simple : IsSimple for
       ≡ (if is_some (value_in name uses) then None else option_and_then take
       (read_from form (given texts values flags (Some i) false) words))
 
+  -- a word as the next positional, and what follows, tells the same by the rules and by the form
   takes_text : (uses : List Use) (texts : List Text) (values : List (Option Text))
       (flags : List Bool) (over : Bool) (word : Text) (words : List Text)
       → Fits form ids uses texts values flags → Agree words
@@ -110,6 +115,7 @@ module _ (command : Text) (form : Form) (ids : List Text) (simple : IsSimple for
 
   -- ---- options and flags
 
+  -- an option, and what follows, tells the same by both, with the value of its own word or without
   takes_option : (uses : List Use) (texts : List Text) (values : List (Option Text))
       (flags : List Bool) (words : List Text) (name : Text) (y : Option Text)
       (i : ℕ) (d : Option Text) → Fits form ids uses texts values flags → Agree words → Ahead words
@@ -130,7 +136,7 @@ module _ (command : Text) (form : Form) (ids : List Text) (simple : IsSimple for
           (stand (set_use uses (value_rule name (Some name) None (option_to_list d) false) v)
           None (length texts + 1) false))
           ≡ told_rest words (if b then None else Some
-          (with_value (given texts values flags None false) i v))
+          (with_option_value (given texts values flags None false) i v))
       used_or_not v true is = refl
       used_or_not v false is =
           ih (set_use uses (value_rule name (Some name) None (option_to_list d) false) v) texts
@@ -151,6 +157,7 @@ module _ (command : Text) (form : Form) (ids : List Text) (simple : IsSimple for
       go (Some v) = used_or_not v (is_some (value_in name uses)) refl
       go None = ahead uses texts values flags name d i f at ∙ split (is_some (value_in name uses))
 
+  -- so does a flag
   takes_flag : (uses : List Use) (texts : List Text) (values : List (Option Text))
       (flags : List Bool) (words : List Text) (name : Text) (y : Option Text) (j : ℕ)
       → Fits form ids uses texts values flags → Agree words
@@ -176,6 +183,7 @@ module _ (command : Text) (form : Form) (ids : List Text) (simple : IsSimple for
           (slice_set flags j true) false
           (fits_flag form ids simple uses texts values flags name j f none at is)
 
+  -- so does a word that names an option, a flag or neither
   takes_named : (uses : List Use) (texts : List Text) (values : List (Option Text))
       (flags : List Bool) (word : Text) (words : List Text) (name : Text) (y : Option Text)
       → Fits form ids uses texts values flags → Agree words → Ahead words
@@ -212,10 +220,12 @@ module _ (command : Text) (form : Form) (ids : List Text) (simple : IsSimple for
 
   -- ---- one word
 
+  -- what is taken by the form, if the first word is of this kind and the options haven't ended
   abbrev told_kind : List Text → List Text → List (Option Text) → List Bool → Text → Word → Option T
   told_kind words texts values flags word k =
       told_rest words (as_word form (given texts values flags None false) word k)
 
+  -- any word before the options end, and what follows, tells the same by the rules and the form
   takes_word : (uses : List Use) (texts : List Text) (values : List (Option Text))
       (flags : List Bool) (word : Text) (words : List Text)
       → Fits form ids uses texts values flags → Agree words → Ahead words → (look : View word)
@@ -255,7 +265,7 @@ module _ (command : Text) (form : Form) (ids : List Text) (simple : IsSimple for
       None (length texts + 1) false))
       ≡ (if b then None else told_rest words
       (if dashes then None else Some
-      (with_value (given texts values flags (Some i) false) i word)))
+      (with_option_value (given texts values flags (Some i) false) i word)))
   value_or_not uses texts values flags word words name d i f ih at true dashes used is = refl
   value_or_not uses texts values flags word words name d i f ih at false false fresh is =
       ih (set_use uses (value_rule name (Some name) None (option_to_list d) false) word) texts
@@ -271,11 +281,13 @@ module _ (command : Text) (form : Form) (ids : List Text) (simple : IsSimple for
       (spoilt_new (option_names form ++ ids) uses
       (use_of (value_rule name (Some name) None (option_to_list d) false) word) is_one fresh is)
 
+  -- a word that begins with `-` where a value is due tells nothing by the form
   no_value : (word : Text) (words : List Text) (g : Given) (b : Bool) → begins_dashed word ≡ true
       → None ≡ (if b then None else told_rest words (if begins_dashed word then None else Some g))
   no_value word words g true d = refl
   no_value word words g false d = rw d refl
 
+  -- any word where an option waits tells the same by both; nothing, where the option has a value
   waits_word : (uses : List Use) (texts : List Text) (values : List (Option Text))
       (flags : List Bool) (word : Text) (words : List Text) (name : Text) (d : Option Text) (i : ℕ)
       → Fits form ids uses texts values flags → Agree words
@@ -287,13 +299,13 @@ module _ (command : Text) (form : Form) (ids : List Text) (simple : IsSimple for
       ≡ (if is_some (value_in name uses) then None else told_rest words
       (next_where form (given texts values flags (Some i) false) word (Some i)))
   waits_word uses texts values flags word words name d i f ih at (ending e b) =
-      no_value word words (with_value (given texts values flags (Some i) false) i word)
+      no_value word words (with_option_value (given texts values flags (Some i) false) i word)
       (is_some (value_in name uses)) b
   waits_word uses texts values flags word words name d i f ih at (long n y e l b) =
-      no_value word words (with_value (given texts values flags (Some i) false) i word)
+      no_value word words (with_option_value (given texts values flags (Some i) false) i word)
       (is_some (value_in name uses)) b
   waits_word uses texts values flags word words name d i f ih at (short y ys c e l h is b) =
-      no_value word words (with_value (given texts values flags (Some i) false) i word)
+      no_value word words (with_option_value (given texts values flags (Some i) false) i word)
       (is_some (value_in name uses)) b
   waits_word uses texts values flags word words name d i f ih at (torn y ys e l h is b) =
       value_or_not uses texts values flags word words name d i f ih at
@@ -305,10 +317,12 @@ module _ (command : Text) (form : Form) (ids : List Text) (simple : IsSimple for
       value_or_not uses texts values flags word words name d i f ih at
       (is_some (value_in name uses)) (begins_dashed word) refl refl
 
+  -- a choice between nothing and nothing is nothing
   waits_end : (b : Bool) → (let none : Option T = None in none ≡ (if b then none else none))
   waits_end true = refl
   waits_end false = refl
 
+  -- words tell the same by the rules and by the form, where an option waits and where none does
   agrees : (words : List Text) → Agree words × Ahead words
   agrees [] = (
     agrees_end,
@@ -331,15 +345,18 @@ module _ (command : Text) (form : Form) (ids : List Text) (simple : IsSimple for
       agrees_ahead ih uses texts values flags name d i f at =
           waits_word uses texts values flags word words name d i f ih at (view word)
 
+  -- before any use, no option has a value
   nothing_seen : (options : List Valued)
       → seen [] (map (λ o. o.name) options) ≡ map (λ o. None) options
   nothing_seen [] = refl
   nothing_seen (o ∷ os) = ap (λ more. None ∷ more) (nothing_seen os)
 
+  -- before any use, no flag stands
   no_flags : (flags : List Text) → seen [] flags ≡ map flag_text (map (λ flag. false) flags)
   no_flags [] = refl
   no_flags (g ∷ gs) = ap (λ more. None ∷ more) (no_flags gs)
 
+  -- before any use, no positional has a text
   no_texts : (ids : List Text) → seen [] ids ≡ filled ids []
   no_texts [] = refl
   no_texts (id ∷ ids) = ap (λ more. None ∷ more) (no_texts ids)

@@ -10,12 +10,15 @@ use Rattle.std.proofs.lemmas.Slice.Eq.{bytes_eq-Decides}
 use Rattle.clap.specs.Walk.{Text}
 use Rattle.command_line.specs.Form.{are_distinct, has_name}
 
+-- texts that pass the test are the same
 pub same_text : (x y : Text) → bytes_eq x y ≡ true → x ≡ y
 same_text x y is = grind (arith, bytes_eq-Decides x y)
 
+-- a text passes the test with itself
 pub bytes_same : (x : Text) → bytes_eq x x ≡ true
 bytes_same x = grind (arith, bytes_eq-Decides x x)
 
+-- the test says the same of two texts in either order
 pub bytes_turned : (x y : Text) → bytes_eq x y ≡ bytes_eq y x
 bytes_turned x y = elim (cases_Bool (bytes_eq x y)) [
   | inl a ↦ let e : x ≡ y = same_text x y a in rw e refl
@@ -30,19 +33,24 @@ abbrev pub place_by : {X : Type 0} → (X → Bool) → List X → Option ℕ
 place_by p [] = None
 place_by p (x ∷ xs) = if p x then Some 0 else option_map (λ i. suc i) (place_by p xs)
 
+-- the first place of this name
 abbrev pub place_of : Text → List Text → Option ℕ
 place_of name names = place_by (λ m. bytes_eq m name) names
 
+-- k is less than n just where the number after k is less than the number after n
 less_suc : (k n : ℕ) (b : Bool) → nat_lt k n ≡ b → nat_lt (suc k) (suc n) ≡ b
 less_suc k n true is = grind (arith, nat_tests)
 less_suc k n false is = grind (arith, nat_tests)
 
+-- 1 + n is the number after n
 one_more : (n : ℕ) → 1 + n ≡ suc n
 one_more n = omega arith
 
+-- 0 is less than the number after any n
 less_one : (n : ℕ) → nat_lt 0 (suc n) ≡ true
 less_one n = grind (arith, nat_tests)
 
+-- `position` gives the first place that passes
 pub position_is : {X : Type 0} (p : X → Bool) (xs : List X) → position p xs ≡ place_by p xs
 position_is p [] = refl
 position_is {X} p (x ∷ xs) = elim (cases_Bool (p x)) [
@@ -60,6 +68,7 @@ position_is {X} p (x ∷ xs) = elim (cases_Bool (p x)) [
     later true is = rw (is, less_suc (position_or_len p xs) (length xs) true is) refl
     later false is = rw (is, less_suc (position_or_len p xs) (length xs) false is) refl
 
+-- the first item that has this name stands at the name's first place among the items' names
 pub place_by_map : {X : Type 0} (f : X → Text) (name : Text) (xs : List X)
     → place_by (λ x. bytes_eq (f x) name) xs ≡ place_of name (map f xs)
 place_by_map f name [] = refl
@@ -73,11 +82,13 @@ pub data Stands (name : Text) (names : List Text) : Type 0 where
   there : (i : ℕ) → place_of name names ≡ Some i → has_name name names ≡ true → Stands name names
   apart : place_of name names ≡ None → has_name name names ≡ false → Stands name names
 
+-- whether a name is there doesn't change with another name in front
 later : (name x : Text) (xs : List Text) → bytes_eq x name ≡ false → Stands name xs
     → Stands name (x ∷ xs)
 later name x xs a (there i p h) = there (suc i) (rw (a, p) refl) (rw (a, h) refl)
 later name x xs a (apart p h) = apart (rw (a, p) refl) (rw (a, h) refl)
 
+-- a name has a place in a list just where it is one of its names
 pub stands : (name : Text) (names : List Text) → Stands name names
 stands name [] = apart refl refl
 stands name (x ∷ xs) = elim (cases_Bool (bytes_eq x name)) [
@@ -85,18 +96,12 @@ stands name (x ∷ xs) = elim (cases_Bool (bytes_eq x name)) [
   | inr a ↦ later name x xs a (stands name xs)
 ]
 
+-- a name that has a place in a list is one of its names
 pub placed_has : (name : Text) (names : List Text) (i : ℕ) → place_of name names ≡ Some i
     → has_name name names ≡ true
 placed_has name names i is = elim (stands name names) [
   | there j p h ↦ h
   | apart p h ↦ cc
-]
-
-pub not_placed : (name : Text) (names : List Text) → place_of name names ≡ None
-    → has_name name names ≡ false
-not_placed name names is = elim (stands name names) [
-  | there j p h ↦ cc
-  | apart p h ↦ h
 ]
 
 -- a list and what follows it
@@ -105,19 +110,23 @@ pub record Parted (xs ys : List Text) : Type 0 where
   pub second : are_distinct ys ≡ true
   pub apart : (name : Text) → has_name name xs ≡ true → has_name name ys ≡ false
 
+-- where `a || b` is false, a and b are false
 pub or_split : (a b : Bool) → (a || b) ≡ false → (a ≡ false) × (b ≡ false)
 or_split true b is = absurd (false≢true (sym is))
 or_split false b is = (refl, is)
 
+-- where `not b` holds, b is false
 not_true : (b : Bool) → not b ≡ true → b ≡ false
 not_true true is = absurd (false≢true is)
 not_true false is = refl
 
+-- the first of distinct names is none of the others, which are distinct
 pub head_apart : (x : Text) (xs : List Text) → are_distinct (x ∷ xs) ≡ true
     → (has_name x xs ≡ false) × (are_distinct xs ≡ true)
 head_apart x xs is = let p = and_parts (not (has_name x xs)) (are_distinct xs) is in
     (not_true (has_name x xs) p.0, p.1)
 
+-- where two lists have no name twice, each has none twice, and they have none in common
 pub parted : (xs ys : List Text) → are_distinct (xs ++ ys) ≡ true → Parted xs ys
 parted [] ys is = record { first = refl; second = is; apart = λ name h. absurd (false≢true h) }
 parted (x ∷ xs) ys is = step (parted xs ys (head_apart x (xs ++ ys) is).1)

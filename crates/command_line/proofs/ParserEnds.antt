@@ -7,8 +7,8 @@ use Rattle.clap.specs.Faults.{fault_of}
 use Rattle.clap.specs.Kinds.{Kinds}
 use Rattle.clap.specs.declared.error.kind.ErrorKind.{ErrorKind}
 use Rattle.command_line.specs.Parsers.{app_by, told_in}
-use Rattle.command_line.specs.Reading.{NoMinus, Reads}
-use Rattle.command_line.specs.Rows.{CommandRow, told_of}
+use Rattle.command_line.specs.Reading.{IsReadableRow, NoMinus}
+use Rattle.command_line.specs.Rows.{CommandRow, told_by_row}
 use Rattle.command_line.specs.Refusals.{IsRefusedBy, Refuses}
 use Rattle.command_line.specs.declared.refused.Refused.{Refused}
 use Rattle.command_line.specs.declared.refused.Refused.TheVariants.{Memory, BadWords}
@@ -21,27 +21,29 @@ refuses_fault told kinds Memory is none = tt
 refuses_fault told [] BadWords is none = absurd is
 refuses_fault told (k ∷ ks) BadWords is none = none k ks refl
 
+-- the result is what is told, or bad words where nothing is told
 told_or_bad : {T : Type 0} (told : Option T)
     → MatchResult (ok_or told BadWords) (λ t. told ≡ Some t) (Refuses told)
 told_or_bad None = refl
 told_or_bad (Some t) = refl
 
-module _ {T : Type 0} {row : CommandRow T} (reads : Reads row) (no_minus : NoMinus) where
+module _ {T : Type 0} {row : CommandRow T} (reads : IsReadableRow row) (no_minus : NoMinus) where
   -- words that the parser refuses
   pub stops : (words : List Text) (a : App) (r : Refused) → 0 < length words
       → a ≡ app_by row.name row.form row.texts → IsRefusedBy (fault_of a words) r
-      → Refuses (told_of row (drop 1 words)) r
+      → Refuses (told_by_row row (drop 1 words)) r
   stops words a r some is refused =
       let here : IsRefusedBy (fault_of (app_by row.name row.form row.texts) words) r =
       subst (λ (b : App). IsRefusedBy (fault_of b words) r) is refused in
-      refuses_fault (told_of row (drop 1 words))
+      refuses_fault (told_by_row row (drop 1 words))
       (fault_of (app_by row.name row.form row.texts) words) r here
       (form_stops row.name row.form row.texts reads.distinct T row.take
       (reads.refuses no_minus) words some)
 
+  -- what is taken of the rows, where the parser finds no fault, is what the words tell the command
   fits : (words : List Text) (a : App) (rows : List Row) → 0 < length words
       → a ≡ app_by row.name row.form row.texts → fault_of a words ≡ [] → rows ≡ matches_of a words
-      → option_and_then row.take (told_in row.form row.texts rows) ≡ told_of row (drop 1 words)
+      → option_and_then row.take (told_in row.form row.texts rows) ≡ told_by_row row (drop 1 words)
   fits words a rows some is free same =
       ap (λ found. option_and_then row.take (told_in row.form row.texts found))
       (same ∙ ap (λ b. matches_of b words) is)
@@ -55,9 +57,9 @@ module _ {T : Type 0} {row : CommandRow T} (reads : Reads row) (no_minus : NoMin
       → fault_of a words ≡ [] → rows ≡ matches_of a words
       → taken ≡ option_and_then row.take (told_in row.form row.texts rows)
       → result ≡ ok_or taken BadWords
-      → MatchResult result (λ t. told_of row (drop 1 words) ≡ Some t)
-      (Refuses (told_of row (drop 1 words)))
+      → MatchResult result (λ t. told_by_row row (drop 1 words) ≡ Some t)
+      (Refuses (told_by_row row (drop 1 words)))
   ends words a rows taken result some is free same from gives =
-      let told : taken ≡ told_of row (drop 1 words) =
+      let told : taken ≡ told_by_row row (drop 1 words) =
       from ∙ fits words a rows some is free same in
-      rw (gives, told) (told_or_bad (told_of row (drop 1 words)))
+      rw (gives, told) (told_or_bad (told_by_row row (drop 1 words)))

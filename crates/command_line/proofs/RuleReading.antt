@@ -31,6 +31,7 @@ pub record Stand : Type 0 where
   pub place : ℕ
   pub ended : Bool
 
+-- where the reading stands, as a record of these parts
 abbrev pub stand : List Use → Option Rule → ℕ → Bool → Stand
 stand uses waits place ended = record { uses = uses; waits = waits; place = place; ended = ended }
 
@@ -39,18 +40,22 @@ abbrev pub with_use : Stand → Rule → Text → Option Stand
 with_use s a v = if is_some (value_in a.id s.uses) then None
     else Some (record s { uses = set_use s.uses a v; waits = None })
 
+-- the word is the value of the positional that was found; without one the reading stops
 abbrev pub as_positional : Stand → Text → Option Rule → Option Stand
 as_positional s word None = None
 as_positional s word (Some a) = with_use (record s { place = min (s.place + 1) usize_max }) a word
 
+-- an option has the value of its own word, or waits for the next one
 abbrev pub as_option : Stand → Rule → Option Text → Option Stand
 as_option s a (Some v) = with_use s a v
 as_option s a None = Some (record s { waits = Some a })
 
+-- a flag takes no value, and its use is the text `true`
 abbrev pub as_flag : Stand → Rule → Option Text → Option Stand
 as_flag s a (Some v) = None
 as_flag s a None = with_use s a (codes "true")
 
+-- the option or the flag that was found by its name; without one the reading stops
 abbrev pub as_named : Stand → Option Text → Option Rule → Option Stand
 as_named s v None = None
 as_named s v (Some a) = if takes_values a then as_option s a v else as_flag s a v
@@ -74,6 +79,7 @@ module _ (rules : List Rule) where
   as_seen s word (dash e l h d) = as_positional s word (arg_by_index rules s.place)
   as_seen s word (clean e l h d) = as_positional s word (arg_by_index rules s.place)
 
+  -- one more word, where an argument waits for it, or where none does
   abbrev pub next_seen : Stand → (word : Text) → View word → Option Rule → Option Stand
   next_seen s word seen (Some a) = as_value s a word seen
   next_seen s word seen None =
@@ -87,9 +93,11 @@ module _ (name : Text) (rules : List Rule) where
       unless_fault (or_else (defaults_fault (rows_by uses) rules)
       (check_fault (shape_by name rules) rows false)) rows
 
+  -- no more words: no matches where an argument still waits
   abbrev pub end_seen : Stand → Option (List Row)
   end_seen s = if is_some s.waits then None else rows_at_end s.uses
 
+  -- the matches of these words, read from where the reading stands
   abbrev pub read_seen : Stand → List Text → Option (List Row)
   read_seen s [] = end_seen s
   read_seen s (word ∷ words) =

@@ -14,14 +14,17 @@ use Rattle.command_line.proofs.WordViews.{View, view, ending, long, short, torn,
 use Rattle.command_line.proofs.WalkSteps.{Continues, idle_at, more, parsed_from, pending_at, stops, top, waiting_at}
 use Rattle.command_line.proofs.ValueWords.{after_value, lost_end, waits_word}
 
+-- anything or false stays as it is
 or_false : (b : Bool) → (b || false) ≡ b
 or_false true = refl
 or_false false = refl
 
 module _ (command : Text) (rules : List Rule) (looks : Looks rules) where
+  -- where the reading stands, if no option waits
   abbrev stand_at : List Use → ℕ → Bool → Stand
   stand_at uses place ended = stand uses None place ended
 
+  -- the matches of these words, read from where the reading stands, if it goes on
   abbrev rest_of : List Text → Option Stand → Option (List Row)
   rest_of words s = option_and_then (λ t. read_seen command rules t words) s
 
@@ -33,6 +36,7 @@ module _ (command : Text) (rules : List Rule) (looks : Looks rules) where
       → parsed_from command rules (waiting_at i uses place false) words
       ≡ read_seen command rules (stand uses (Some (value_rule i g p d r)) place false) words
 
+  -- the walk takes a word as the next positional where the reading does, and goes on alike
   takes_positional : (uses : List Use) (place : ℕ) (ended : Bool) (word : Text)
       (words : List Text) → Continues command rules words
       → word_met rules [] ended idle place word (idle_at uses place ended).held
@@ -63,27 +67,29 @@ module _ (command : Text) (rules : List Rule) (looks : Looks rules) where
       ∙ sym (ap (λ found. rest_of words
       (as_positional (stand_at uses place ended) word found)) p)
 
-  takes_value : (uses : List Use) (place : ℕ) (word : Text) (words : List Text) (n v : Text)
+  -- the walk takes an option with the value of its own word, and stops if it was used before
+  takes_value : {n v i : Text} {g : Option Text} {p : Option ℕ} {d : List Text} {r : Bool}
+      (uses : List Use) (place : ℕ) (word : Text) (words : List Text)
       → Continues command rules words
       → bytes_eq word (45 ∷ 45 ∷ []) ≡ false → long_of word ≡ Some (n, Some v)
-      → (i : Text) (g : Option Text) (p : Option ℕ) (d : List Text) (r : Bool)
       → arg_by_long rules n ≡ Some (value_rule i g p d r)
-      → (b : Bool) → is_some (value_in i uses) ≡ b
       → parsed_from command rules (idle_at uses place false) (word ∷ words)
-      ≡ rest_of words (if b then None else Some
+      ≡ rest_of words (if is_some (value_in i uses) then None else Some
       (stand_at (set_use uses (value_rule i g p d r) v) place false))
   unfolding walked
-  takes_value uses place word words n v ih e l i g p d r u true used =
-      let row : has_row i (rows_by uses) ≡ true = row_is i uses ∙ used in
-      stops command rules (idle_at uses place false) word words kind.ArgumentConflict []
-      (rw (e, l, u, row) refl)
-  takes_value uses place word words n v ih e l i g p d r u false fresh =
-      let row : has_row i (rows_by uses) ≡ false = row_is i uses ∙ fresh in
-      more command rules (idle_at uses place false)
-      (idle_at (set_use uses (value_rule i g p d r) v) place false) word words
-      (rw (e, l, u, row) refl) (rw (e, l, u, used_value i g p d r v uses fresh) refl)
-      ∙ ih (set_use uses (value_rule i g p d r) v) place false
+  takes_value {v = v} {i = i} {g = g} {p = p} {d = d} {r = r} uses place word words ih e l u =
+      elim (cases_Bool (is_some (value_in i uses))) [
+        | inl b ↦ let row : has_row i (rows_by uses) ≡ true = row_is i uses ∙ b in
+            rw b (stops command rules (idle_at uses place false) word words kind.ArgumentConflict []
+            (rw (e, l, u, row) refl))
+        | inr b ↦ let row : has_row i (rows_by uses) ≡ false = row_is i uses ∙ b in
+            rw b (more command rules (idle_at uses place false)
+            (idle_at (set_use uses (value_rule i g p d r) v) place false) word words
+            (rw (e, l, u, row) refl) (rw (e, l, u, used_value i g p d r v uses b) refl)
+            ∙ ih (set_use uses (value_rule i g p d r) v) place false)
+      ]
 
+  -- the walk takes a flag without a value, and stops if it was used before
   takes_flag : (uses : List Use) (place : ℕ) (word : Text) (words : List Text) (n : Text)
       → Continues command rules words
       → bytes_eq word (45 ∷ 45 ∷ []) ≡ false → long_of word ≡ Some (n, None)
@@ -104,6 +110,7 @@ module _ (command : Text) (rules : List Rule) (looks : Looks rules) where
       (rw (e, l, u, row) refl) (rw (e, l, u, used_flag i uses fresh) refl)
       ∙ ih (set_use uses (flag_filled i) (codes "true")) place false
 
+  -- the walk takes a word that names an option, a flag or neither as the reading does
   takes_named : (uses : List Use) (place : ℕ) (word : Text) (words : List Text) (n : Text)
       (y : Option Text) → Continues command rules words
       → Ahead words
@@ -119,7 +126,7 @@ module _ (command : Text) (rules : List Rule) (looks : Looks rules) where
       ∙ sym (ap (λ found. rest_of words
       (as_named (stand_at uses place false) y found)) u)
   takes_named uses place word words n (Some v) ih ahead e l (valued i g p d r u k) =
-      takes_value uses place word words n v ih e l i g p d r u (is_some (value_in i uses)) refl
+      takes_value uses place word words ih e l u
       ∙ sym (ap (λ found. rest_of words
       (as_named (stand_at uses place false) (Some v) found)) u)
   takes_named uses place word words n None ih ahead e l (valued i g p d r u k) =
@@ -138,6 +145,7 @@ module _ (command : Text) (rules : List Rule) (looks : Looks rules) where
       ∙ sym (ap (λ found. rest_of words
       (as_named (stand_at uses place false) None found)) u)
 
+  -- the walk takes any word before the options end as the reading does
   takes_word : (uses : List Use) (place : ℕ) (word : Text) (words : List Text)
       → Continues command rules words
       → Ahead words
@@ -164,12 +172,14 @@ module _ (command : Text) (rules : List Rule) (looks : Looks rules) where
       takes_positional uses place false word words ih (rw (e, l, h) refl) (rw (e, l, h) refl)
       (looks.by_index place)
 
+  -- at the end of the words, where no option waits, walk and reading have the same matches
   ends : (uses : List Use) (place : ℕ) (ended : Bool)
       → parsed_from command rules (idle_at uses place ended) []
       ≡ read_seen command rules (stand_at uses place ended) []
   unfolding walk_fault
   ends uses place ended = refl
 
+  -- over any words walk and reading have the same matches, whether or not an option waits
   walks : (words : List Text) → Continues command rules words × Ahead words
   walks [] =
       (ends, λ i g p d r k uses place. lost_end command rules looks i g p d r k uses place false)

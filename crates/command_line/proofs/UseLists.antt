@@ -7,9 +7,11 @@ use Rattle.command_line.specs.Form.{are_distinct, has_name}
 use Rattle.command_line.proofs.Names.{bytes_same, bytes_turned, head_apart, or_split, place_of, same_text}
 use Rattle.command_line.proofs.Uses.{Use, value_in}
 
+-- the value of each of these names, where it has one
 abbrev pub seen : List Use → List Text → List (Option Text)
 seen uses names = map (λ m. value_in m uses) names
 
+-- an id that has a value has the same one after one more use
 pub value_kept : (id v : Text) (uses : List Use) (u : Use) → value_in id uses ≡ Some v
     → value_in id (uses ++ u ∷ []) ≡ Some v
 value_kept id v [] u is = cc
@@ -18,6 +20,7 @@ value_kept id v (x ∷ xs) u is = elim (cases_Bool (bytes_eq x.id id)) [
   | inr a ↦ rw a (value_kept id v xs u (rw a at is))
 ]
 
+-- a use of another id doesn't change the value of this one
 pub value_other : (id : Text) (uses : List Use) (u : Use) → bytes_eq u.id id ≡ false
     → value_in id (uses ++ u ∷ []) ≡ value_in id uses
 value_other id [] u other = rw other refl
@@ -26,6 +29,7 @@ value_other id (x ∷ xs) u other = elim (cases_Bool (bytes_eq x.id id)) [
   | inr a ↦ rw a (value_other id xs u other)
 ]
 
+-- the first use of an id gives it its value
 pub value_new : (id : Text) (uses : List Use) (u : Use) → bytes_eq u.id id ≡ true
     → is_some (value_in id uses) ≡ false → value_in id (uses ++ u ∷ []) ≡ Some u.value
 value_new id [] u same none = rw same refl
@@ -104,7 +108,3 @@ seen_at (m ∷ ms) uses name i at = elim (cases_Bool (bytes_eq m name)) [
         let next : Some (suc j) ≡ Some i = rw is at at in
         let place : suc j ≡ i = cc in
         rw (← place) (ih j is)
-
-pub seen_length : (names : List Text) (uses : List Use) → length (seen uses names) ≡ length names
-seen_length [] uses = refl
-seen_length (m ∷ ms) uses = ap (λ n. suc n) (seen_length ms uses)

@@ -61,6 +61,7 @@ pub record Use : Type 0 where
   pub source : ValueSource
   pub how : Reading
 
+-- a use of the argument by the words, with this value
 abbrev pub use_of : Rule → Text → Use
 use_of a v = record { id = a.id; value = v; source = CommandLine; how = reading_by a }
 
@@ -68,6 +69,7 @@ use_of a v = record { id = a.id; value = v; source = CommandLine; how = reading_
 abbrev pub set_use : List Use → Rule → Text → List Use
 set_use uses a v = uses ++ use_of a v ∷ []
 
+-- the parser's row of a use
 abbrev pub row_by : Use → Row
 row_by u = record {
   id = u.id;
@@ -77,6 +79,7 @@ row_by u = record {
   reading = u.how;
 }
 
+-- the parser's rows of these uses
 abbrev pub rows_by : List Use → List Row
 rows_by uses = map row_by uses
 
@@ -85,6 +88,7 @@ abbrev pub value_in : Text → List Use → Option Text
 value_in id [] = None
 value_in id (u ∷ us) = if bytes_eq u.id id then Some u.value else value_in id us
 
+-- an id has a row of the uses just where it has a value
 pub row_is : (id : Text) (uses : List Use) → has_row id (rows_by uses) ≡ is_some (value_in id uses)
 row_is id [] = refl
 row_is id (u ∷ us) = elim (cases_Bool (bytes_eq u.id id)) [
@@ -92,6 +96,7 @@ row_is id (u ∷ us) = elim (cases_Bool (bytes_eq u.id id)) [
   | inr b ↦ rw b (row_is id us)
 ]
 
+-- the first value of an id in the rows of the uses is its value
 pub first_is : (id : Text) (uses : List Use) → first_of id (rows_by uses) ≡ value_in id uses
 first_is id [] = refl
 first_is id (u ∷ us) = elim (cases_Bool (bytes_eq u.id id)) [
@@ -99,6 +104,7 @@ first_is id (u ∷ us) = elim (cases_Bool (bytes_eq u.id id)) [
   | inr b ↦ rw b (first_is id us)
 ]
 
+-- an id without a value is not that of the first use, and has no value in the other uses
 new_id : (id : Text) (u : Use) (us : List Use) → is_some (value_in id (u ∷ us)) ≡ false
     → (bytes_eq u.id id ≡ false) × (is_some (value_in id us) ≡ false)
 new_id id u us none = elim (cases_Bool (bytes_eq u.id id)) [
@@ -106,6 +112,7 @@ new_id id u us none = elim (cases_Bool (bytes_eq u.id id)) [
   | inr b ↦ (b, rw b at none)
 ]
 
+-- taking away the row of an id that has no value changes nothing
 without_none : (id : Text) (uses : List Use) → is_some (value_in id uses) ≡ false
     → without id (rows_by uses) ≡ rows_by uses
 without_none id [] none = refl
@@ -113,6 +120,7 @@ without_none id (u ∷ us) none =
     let p = new_id id u us none in
     rw p.0 (ap (λ rows. row_by u ∷ rows) (without_none id us p.1))
 
+-- the first value of an id comes into the rows as the row of one more use
 pub appended : (u : Use) (uses : List Use) → is_some (value_in u.id uses) ≡ false
     → with_values u.id u.how u.source (u.value ∷ []) (rows_by uses) ≡ rows_by (uses ++ u ∷ [])
 appended u [] none = refl
@@ -130,6 +138,7 @@ used_value id long index defaults required v uses none =
     rw (without_none id uses none)
     (appended (use_of (value_rule id long index defaults required) v) uses none)
 
+-- a use of a flag with no use, which gets the value `true`
 pub used_flag : (id : Text) (uses : List Use) → is_some (value_in id uses) ≡ false
     → used (flag_filled id) [] (rows_by uses)
     ≡ rows_by (uses ++ use_of (flag_filled id) (codes "true") ∷ [])

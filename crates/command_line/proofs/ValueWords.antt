@@ -14,6 +14,7 @@ use Rattle.command_line.proofs.WordViews.{View, view, ending, long, short, torn,
 use Rattle.command_line.proofs.Names.{bytes_same}
 use Rattle.command_line.proofs.WalkSteps.{Continues, idle_at, meets, more, parsed_from, pending_at, stops, top, waiting_at}
 
+-- anything and false is false
 pub and_false : (b : Bool) → (b && false) ≡ false
 and_false true = refl
 and_false false = refl
@@ -23,31 +24,39 @@ module _ (command : Text) (rules : List Rule) (looks : Looks rules) (id : Text) 
     (index : Option ℕ)
     (defaults : List Text) (required : Bool)
     (known : arg_by_id rules id ≡ Some (value_rule id name index defaults required)) where
+  -- the rule of the argument
   abbrev own : Rule
   own = value_rule id name index defaults required
 
+  -- where the walk stands once this value of the argument is used
   abbrev settled_at : List Use → Text → ℕ → Bool → Walk
   settled_at uses v place ended = idle_at (set_use uses own v) place ended
 
+  -- where the reading stands, if the argument waits for its value
   abbrev waiting_stand : List Use → ℕ → Stand
   waiting_stand uses place = stand uses (Some own) place false
 
+  -- what the walk holds, if these values of the argument aren't used yet
   abbrev held_at : List Use → List Text → Held
   held_at uses values = record { rows = rows_by uses; pending = Some (id, values); skip = 0 }
 
+  -- to use this value is no fault, where the argument has no use
   fits : (uses : List Use) (v : Text) → is_some (value_in id uses) ≡ false
       → settle_fault rules false (held_at uses (v ∷ [])) ≡ []
   fits uses v fresh =
       let row : has_row id (rows_by uses) ≡ false = row_is id uses ∙ fresh in rw (known, row) refl
 
+  -- it is a conflict, where the argument has a use
   clashes : (uses : List Use) (v : Text) → is_some (value_in id uses) ≡ true
       → settle_fault rules false (held_at uses (v ∷ [])) ≡ kind.ArgumentConflict ∷ []
   clashes uses v used =
       let row : has_row id (rows_by uses) ≡ true = row_is id uses ∙ used in rw (known, row) refl
 
+  -- an argument that has to be used without a value is a fault
   lacks : (uses : List Use) → settle_fault rules false (held_at uses []) ≡ kind.InvalidValue ∷ []
   lacks uses = rw known refl
 
+  -- the value comes into the rows as the argument's use, where it had none
   settles_to : (uses : List Use) (v : Text) → is_some (value_in id uses) ≡ false
       → settled_rows rules (Some (id, v ∷ [])) (rows_by uses) ≡ rows_by (set_use uses own v)
   settles_to uses v fresh = rw known (used_value id name index defaults required v uses fresh)
@@ -60,6 +69,7 @@ module _ (command : Text) (rules : List Rule) (looks : Looks rules) (id : Text) 
   unfolding walk_fault
   settles_end uses v place ended fresh = rw (fits uses v fresh, settles_to uses v fresh) refl
 
+  -- before a word as a positional, it makes no difference whether a first value is used yet
   settles_positional : (uses : List Use) (v : Text) (place : ℕ) (ended : Bool) (word : Text)
       (words : List Text) → is_some (value_in id uses) ≡ false
       → word_met rules [] ended idle place word (held_at uses (v ∷ []))
@@ -86,6 +96,7 @@ module _ (command : Text) (rules : List Rule) (looks : Looks rules) (id : Text) 
       (rw (passed, met, passed', met', p, and_false (bytes_eq id i), fits uses v fresh) refl)
       (rw (met, met', p, and_false (bytes_eq id i), settles_to uses v fresh) refl)
 
+  -- nor before a word that names an option, a flag or neither
   settles_named : (uses : List Use) (v : Text) (place : ℕ) (word : Text) (words : List Text)
       (n : Text) (y : Option Text) → is_some (value_in id uses) ≡ false
       → bytes_eq word (45 ∷ 45 ∷ []) ≡ false → long_of word ≡ Some (n, y)
@@ -118,6 +129,7 @@ module _ (command : Text) (rules : List Rule) (looks : Looks rules) (id : Text) 
       (rw (e, l, u, fits uses v fresh, settles_to uses v fresh) refl)
       (rw (e, l, u, settles_to uses v fresh) refl)
 
+  -- nor before any word, where the options haven't ended
   settles_word : (uses : List Use) (v : Text) (place : ℕ) (word : Text) (words : List Text)
       → is_some (value_in id uses) ≡ false
       → parsed_from command rules (pending_at id uses v place true) words
@@ -150,6 +162,7 @@ module _ (command : Text) (rules : List Rule) (looks : Looks rules) (id : Text) 
       settles_positional uses v place false word words fresh (rw (e, l, h) refl)
       (rw (e, l, h) refl) (rw (e, l, h) refl) (rw (e, l, h) refl) (looks.by_index place)
 
+  -- nor before any words
   settles : (words : List Text) (uses : List Use) (v : Text) (place : ℕ) (ended : Bool)
       → is_some (value_in id uses) ≡ false
       → parsed_from command rules (pending_at id uses v place ended) words
@@ -169,6 +182,7 @@ module _ (command : Text) (rules : List Rule) (looks : Looks rules) (id : Text) 
   unfolding walk_fault
   twice_end uses v place ended used = rw (clashes uses v used) refl
 
+  -- before a word as a positional, a value of an argument that has a use gives no matches
   twice_positional : (uses : List Use) (v : Text) (place : ℕ) (ended : Bool) (word : Text)
       (words : List Text) → is_some (value_in id uses) ≡ true
       → word_met rules [] ended idle place word (held_at uses (v ∷ []))
@@ -184,6 +198,7 @@ module _ (command : Text) (rules : List Rule) (looks : Looks rules) (id : Text) 
       stops command rules (pending_at id uses v place ended) word words kind.ArgumentConflict []
       (rw (passed, met, p, and_false (bytes_eq id i), clashes uses v used) refl)
 
+  -- nor does it before a word that names an option, a flag or neither
   twice_named : (uses : List Use) (v : Text) (place : ℕ) (word : Text) (words : List Text)
       (n : Text) (y : Option Text) → is_some (value_in id uses) ≡ true
       → bytes_eq word (45 ∷ 45 ∷ []) ≡ false → long_of word ≡ Some (n, y)
@@ -206,6 +221,7 @@ module _ (command : Text) (rules : List Rule) (looks : Looks rules) (id : Text) 
       stops command rules (pending_at id uses v place false) word words kind.ArgumentConflict []
       (rw (e, l, u, clashes uses v used) refl)
 
+  -- nor before any word, where the options haven't ended
   twice_word : (uses : List Use) (v : Text) (place : ℕ) (word : Text) (words : List Text)
       → is_some (value_in id uses) ≡ true
       → parsed_from command rules (pending_at id uses v place true) words ≡ None → View word
@@ -230,6 +246,7 @@ module _ (command : Text) (rules : List Rule) (looks : Looks rules) (id : Text) 
       twice_positional uses v place false word words used (rw (e, l, h) refl) (rw (e, l, h) refl)
       (looks.by_index place)
 
+  -- nor before any words
   twice : (words : List Text) (uses : List Use) (v : Text) (place : ℕ) (ended : Bool)
       → is_some (value_in id uses) ≡ true
       → parsed_from command rules (pending_at id uses v place ended) words ≡ None
@@ -239,11 +256,13 @@ module _ (command : Text) (rules : List Rule) (looks : Looks rules) (id : Text) 
   twice (word ∷ words) uses v place false used =
       twice_word uses v place word words used (twice words uses v place true used) (view word)
 
+  -- where the argument still waits for its value at the end, there are no matches
   pub lost_end : (uses : List Use) (place : ℕ) (ended : Bool)
       → parsed_from command rules (waiting_at id uses place ended) [] ≡ None
   unfolding walk_fault
   lost_end uses place ended = rw (lacks uses) refl
 
+  -- nor are there where it waits after `--` and a word follows
   lost_word : (uses : List Use) (place : ℕ) (word : Text) (words : List Text)
       → Placed rules (arg_by_index rules place)
       → parsed_from command rules (waiting_at id uses place true) (word ∷ words) ≡ None
@@ -254,6 +273,7 @@ module _ (command : Text) (rules : List Rule) (looks : Looks rules) (id : Text) 
       stops command rules (waiting_at id uses place true) word words kind.InvalidValue []
       (rw (p, and_false (bytes_eq id i), lacks uses) refl)
 
+  -- nor where it waits after `--`, whatever words follow
   lost : (words : List Text) (uses : List Use) (place : ℕ)
       → parsed_from command rules (waiting_at id uses place true) words ≡ None
   lost [] uses place = lost_end uses place true
@@ -267,6 +287,7 @@ module _ (command : Text) (rules : List Rule) (looks : Looks rules) (id : Text) 
   after_value words uses v place ended true used = twice words uses v place ended used
   after_value words uses v place ended false fresh = settles words uses v place ended fresh
 
+  -- where the argument waits, a word that names an option, a flag or neither gives no matches
   waits_named : (uses : List Use) (place : ℕ) (word : Text) (words : List Text) (n : Text)
       (y : Option Text)
       → bytes_eq word (45 ∷ 45 ∷ []) ≡ false → long_of word ≡ Some (n, y)
@@ -288,6 +309,7 @@ module _ (command : Text) (rules : List Rule) (looks : Looks rules) (id : Text) 
       stops command rules (waiting_at id uses place false) word words kind.InvalidValue []
       (rw (e, l, u, lacks uses) refl)
 
+  -- a word that the walk takes as the value is used by the argument that waits, at most once
   waits_value : (uses : List Use) (place : ℕ) (word : Text) (words : List Text)
       → Continues command rules words
       → turn_fault (top command rules) [] (waiting_at id uses place false) word ≡ []
@@ -304,6 +326,7 @@ module _ (command : Text) (rules : List Rule) (looks : Looks rules) (id : Text) 
         | inr b ↦ rw b (ih (set_use uses own word) place false)
       ]
 
+  -- where the argument waits, the walk takes any word as the reading does
   pub waits_word : (uses : List Use) (place : ℕ) (word : Text) (words : List Text)
       → Continues command rules words
       → (seen : View word)

@@ -9,6 +9,7 @@ use Rattle.clap.specs.Faults.{check_fault, defaults_fault, settle_fault, turn_fa
 use Rattle.command_line.proofs.Uses.{Use, rows_by}
 use Rattle.command_line.proofs.RuleReading.{stand, read_seen, shape_by, unless_fault}
 
+-- where the walk stands, with these uses, this value that isn't used yet, and what waits
 abbrev pub walk_at : List Use → Option (Text × List Text) → Waiting → ℕ → Bool → Walk
 walk_at uses pending waiting place ended = record {
   held = record { rows = rows_by uses; pending = pending; skip = 0 };
@@ -31,9 +32,11 @@ abbrev pub waiting_at : Text → List Use → ℕ → Bool → Walk
 waiting_at id uses place ended = walk_at uses (Some (id, [])) (option id) place ended
 
 module _ (command : Text) (rules : List Rule) where
+  -- the built command of this name with these rules
   abbrev pub top : Shape
   top = shape_by command rules
 
+  -- the faults of the walk over these words from here, or else of what it leaves at the end
   abbrev pub fault_from : Walk → List Text → Kinds
   fault_from w words =
       let end = (fold (walked rules []) w words).held in
@@ -41,12 +44,15 @@ module _ (command : Text) (rules : List Rule) where
       (or_else (defaults_fault (settled rules end).rows rules)
       (check_fault top (finished rules end) false))))
 
+  -- the rows at the end of the walk over these words from here, with the defaults
   abbrev pub rows_from : Walk → List Text → List Row
   rows_from w words = finished rules (fold (walked rules []) w words).held
 
+  -- the matches of the walk over these words from here, where no fault comes
   abbrev pub parsed_from : Walk → List Text → Option (List Row)
   parsed_from w words = unless_fault (fault_from w words) (rows_from w words)
 
+  -- a word without a fault leaves the matches to the walk after it
   pub more : (w v : Walk) (word : Text) (words : List Text) → turn_fault top [] w word ≡ []
       → walked rules [] w word ≡ v → parsed_from w (word ∷ words) ≡ parsed_from v words
   unfolding walk_fault
@@ -55,11 +61,13 @@ module _ (command : Text) (rules : List Rule) where
       here : parsed_from w (word ∷ words) ≡ parsed_from (walked rules [] w word) words
       here = rw fits refl
 
+  -- a word with a fault leaves no matches
   pub stops : (w : Walk) (word : Text) (words : List Text) (k : ErrorKind) (ks : Kinds)
       → turn_fault top [] w word ≡ k ∷ ks → parsed_from w (word ∷ words) ≡ None
   unfolding walk_fault
   stops w word words k ks fails = rw fails refl
 
+  -- the matches of the walk over these words from here, where these faults came before
   abbrev pub parsed_after : Kinds → Walk → List Text → Option (List Row)
   parsed_after kinds w words =
       let end = (fold (walked rules []) w words).held in
@@ -68,6 +76,7 @@ module _ (command : Text) (rules : List Rule) where
       (or_else (defaults_fault (settled rules end).rows rules)
       (check_fault top (finished rules end) false))))) (rows_from w words)
 
+  -- the matches from a word on are those after it, where the faults of the word came before
   after_word : (w : Walk) (word : Text) (words : List Text)
       → parsed_from w (word ∷ words) ≡ parsed_after (turn_fault top [] w word)
       (walked rules [] w word) words

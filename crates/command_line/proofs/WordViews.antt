@@ -7,6 +7,7 @@ use Rattle.clap.specs.Lexer.{long_of, short_of, name_and_value}
 use Rattle.clap.specs.Walk.{Text}
 use Rattle.command_line.specs.Words.{begins_dashed}
 
+-- a word: `--`, one with a long or a short name, one torn after `-`, `-` alone, or one without `-`
 pub data View (word : Text) : Type 0 where
   ending : bytes_eq word (45 ∷ 45 ∷ []) ≡ true → begins_dashed word ≡ true → View word
   long : (name : Text) (v : Option Text) → bytes_eq word (45 ∷ 45 ∷ []) ≡ false
@@ -22,17 +23,20 @@ pub data View (word : Text) : Type 0 where
   clean : bytes_eq word (45 ∷ 45 ∷ []) ≡ false → long_of word ≡ None → short_of word ≡ None
       → begins_dashed word ≡ false → View word
 
+-- a word that begins with `--` is `--` or has a long name
 view_long : (x y : ℕ) (zs : Text) → (x == 45) ≡ true → (y == 45) ≡ true → View (x ∷ y ∷ zs)
 view_long x y [] a b = ending (rw (a, b) refl) a
 view_long x y (z ∷ zs) a b =
     long (name_and_value (z ∷ zs)).0 (name_and_value (z ∷ zs)).1 (rw (a, b) refl) (rw (a, b) refl) a
 
+-- a word that begins with just one `-` and goes on has a short name, or is torn
 view_short : (x y : ℕ) (ys : Text) (found : Option ℕ) → slice_get (chars (y ∷ ys)) 0 ≡ found
     → (x == 45) ≡ true → (y == 45) ≡ false → View (x ∷ y ∷ ys)
 view_short x y ys (Some c) is a b =
     short y ys c (rw (a, b) refl) (rw (a, b) refl) (rw (a, b) refl) is a
 view_short x y ys None is a b = torn y ys (rw (a, b) refl) (rw (a, b) refl) (rw (a, b) refl) is a
 
+-- what a word is that begins with `-`
 view_dash : (x : ℕ) (ys : Text) → (x == 45) ≡ true → View (x ∷ ys)
 view_dash x [] a = dash (rw a refl) (rw a refl) (rw a refl) a
 view_dash x (y ∷ ys) a = elim (cases_Bool (y == 45)) [
@@ -40,6 +44,7 @@ view_dash x (y ∷ ys) a = elim (cases_Bool (y == 45)) [
   | inr b ↦ view_short x y ys (slice_get (chars (y ∷ ys)) 0) refl a b
 ]
 
+-- what any word is
 pub view : (word : Text) → View word
 view [] = clean refl refl refl refl
 view (x ∷ xs) = elim (cases_Bool (x == 45)) [

@@ -63,14 +63,14 @@ abbrev pub bare_form : Form
 bare_form = record { options = []; flags = []; positionals = 0 }
 
 -- the number in this range that the positional at this place spells
-abbrev pub number_at : ℕ → ℕ → ℕ → Told → Option ℕ
-number_at least greatest place told =
+abbrev pub positional_number_at : ℕ → ℕ → ℕ → Told → Option ℕ
+positional_number_at least greatest place told =
     option_and_then (number_of least greatest) (slice_get told.positionals place)
 
 -- `trace` with the steps that the positional spells
 abbrev pub trace_of : Told → Option Trace
 trace_of told = option_map (λ steps. record { steps = steps; org = is_set told.flags 0 })
-    (number_at 0 1000000 0 told)
+    (positional_number_at 0 1000000 0 told)
 
 -- what the words after the name tell `trace`
 abbrev pub trace_told : List (List ℕ) → Option Trace
@@ -78,34 +78,34 @@ trace_told words = option_and_then trace_of (told_by trace_form words)
 
 -- the steps of `landscape` that the positional spells
 abbrev pub landscape_of : Told → Option ℕ
-landscape_of told = number_at 1 100000 0 told
+landscape_of told = positional_number_at 1 100000 0 told
 
 -- the steps that the words after the name tell `landscape`
 abbrev pub landscape_told : List (List ℕ) → Option ℕ
 landscape_told words = option_and_then landscape_of (told_by landscape_form words)
 
 -- the looks that the value spells, where there is a value
-abbrev pub looks_of : Option (List ℕ) → Option (Option ℕ)
-looks_of None = Some None
-looks_of (Some value) = option_map (λ looks. Some looks) (number_of 0 1000000 value)
+abbrev pub looks_of_value : Option (List ℕ) → Option (Option ℕ)
+looks_of_value None = Some None
+looks_of_value (Some value) = option_map (λ looks. Some looks) (number_of 0 1000000 value)
 
 -- the value of the option at this place
-abbrev pub value_at : ℕ → Told → Option (List ℕ)
-value_at place told = option_and_then (λ value. value) (slice_get told.values place)
+abbrev pub option_value_at : ℕ → Told → Option (List ℕ)
+option_value_at place told = option_and_then (λ value. value) (slice_get told.values place)
 
 -- the workers that the value at this place spells
 abbrev pub workers_at : ℕ → Told → Option ℕ
 workers_at place told =
-    option_and_then (number_of 1 64) (value_at place told)
+    option_and_then (number_of 1 64) (option_value_at place told)
 
 -- `run` with so many workers and this watch
 abbrev pub run_with : Option (List ℕ) → ℕ → Option Run
 run_with watch workers =
-    option_map (λ looks. record { workers = workers; watch = looks }) (looks_of watch)
+    option_map (λ looks. record { workers = workers; watch = looks }) (looks_of_value watch)
 
 -- `run` with the workers and the looks that its values spell
 abbrev pub run_of : Told → Option Run
-run_of told = option_and_then (run_with (value_at 1 told)) (workers_at 0 told)
+run_of told = option_and_then (run_with (option_value_at 1 told)) (workers_at 0 told)
 
 -- what the words after the name tell `run`
 abbrev pub run_told : List (List ℕ) → Option Run
@@ -114,7 +114,7 @@ run_told words = option_and_then run_of (told_by run_form words)
 -- what is made of the number up to this one, and the workers, that the texts spell
 abbrev pub positional_of : {T : Type 0} → (ℕ → ℕ → T) → ℕ → Told → Option T
 positional_of make greatest told = option_and_then (λ number.
-    option_map (make number) (workers_at 0 told)) (number_at 0 greatest 0 told)
+    option_map (make number) (workers_at 0 told)) (positional_number_at 0 greatest 0 told)
 
 -- `lineage` of the cell, with the workers, that its texts spell
 abbrev pub lineage_of : Told → Option Lineage
@@ -166,7 +166,7 @@ assay_with count first =
 abbrev pub assay_of : Told → Option Assay
 assay_of told = option_and_then (λ count.
     option_and_then (λ first. assay_with count first (workers_at 0 told))
-    (number_at 0 9223372036854775744 1 told)) (number_at 1 64 0 told)
+    (positional_number_at 0 9223372036854775744 1 told)) (positional_number_at 1 64 0 told)
 
 -- what the words after the name tell `assay`
 abbrev pub assay_told : List (List ℕ) → Option Assay

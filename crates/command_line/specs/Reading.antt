@@ -18,7 +18,7 @@ abbrev pub NoMinus : Type 0
 NoMinus = (least greatest : ℕ) (text : List ℕ) → number_of least greatest (45 ∷ text) ≡ None
 
 -- the parser knows the command of a row, and what is taken refuses each text that begins with `-`
-pub record Reads {T : Type 0} (row : CommandRow T) : Type 0 where
+pub record IsReadableRow {T : Type 0} (row : CommandRow T) : Type 0 where
   pub distinct : IsSimple row.form row.texts
   pub simple : is_simple (app_by row.name row.form row.texts) ≡ true
   pub free : is_simple_and_free (app_by row.name row.form row.texts) ≡ true

@@ -19,8 +19,8 @@ pub record CommandRow (T : Type 0) : Type 0 where
   pub take : Told → Option T
 
 -- what the words after the name tell the command of a row
-abbrev pub told_of : {T : Type 0} → CommandRow T → List (List ℕ) → Option T
-told_of row words = option_and_then row.take (told_by row.form words)
+abbrev pub told_by_row : {T : Type 0} → CommandRow T → List (List ℕ) → Option T
+told_by_row row words = option_and_then row.take (told_by row.form words)
 
 -- `trace`
 abbrev pub trace_row : CommandRow Trace

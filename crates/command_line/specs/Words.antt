@@ -66,13 +66,13 @@ with_positional form given word = if nat_lt (length given.positionals) form.posi
     then Some (record given { positionals = given.positionals ++ word ∷ [] }) else None
 
 -- the option at this place has this value
-abbrev pub with_value : Given → ℕ → List ℕ → Given
-with_value given place value =
+abbrev pub with_option_value : Given → ℕ → List ℕ → Given
+with_option_value given place value =
     record given { waits = None; values = slice_set given.values place (Some value) }
 
 -- the option at this place has the value of its own word, or waits for the next one
 abbrev pub value_or_wait : Given → ℕ → Option (List ℕ) → Given
-value_or_wait given place (Some value) = with_value given place value
+value_or_wait given place (Some value) = with_option_value given place value
 value_or_wait given place None = record given { waits = Some place }
 
 -- an option stands at most once
@@ -103,13 +103,13 @@ as_word form given word plain = with_positional form given word
 -- one more word, where the option at this place waits for it, or none
 abbrev pub next_where : Form → Given → List ℕ → Option ℕ → Option Given
 next_where form given word (Some place) =
-    if begins_dashed word then None else Some (with_value given place word)
+    if begins_dashed word then None else Some (with_option_value given place word)
 next_where form given word None = if given.ended then with_positional form given word
     else as_word form given word (kind_of_word word)
 
 -- no more words: each option that does not stand has its default
-abbrev pub end_of : Form → Given → Option Told
-end_of form given =
+abbrev pub told_with_defaults : Form → Given → Option Told
+told_with_defaults form given =
     if is_none given.waits && length given.positionals == form.positionals
     then Some (record {
       positionals = given.positionals;
@@ -119,7 +119,7 @@ end_of form given =
 
 -- these words after what was given
 abbrev pub read_from : Form → Given → List (List ℕ) → Option Told
-read_from form given [] = end_of form given
+read_from form given [] = told_with_defaults form given
 read_from form given (word ∷ words) = option_and_then (λ next. read_from form next words)
     (next_where form given word given.waits)
 

@@ -3,9 +3,9 @@
 ghost use Rattle.std.specs.Prelude.{◌≡◌, ◌<◌, length, IfOk, option_and_then};
 ghost use Rattle.clap.specs.Words.{app_of, found_of, rows_of};
 ghost use Rattle.command_line.specs.Parsers.{app_by, told_in};
-ghost use Rattle.command_line.specs.Reading.{Reads};
+ghost use Rattle.command_line.specs.Reading.{IsReadableRow};
 ghost use Rattle.command_line.specs.Refusals.{IsTold};
-ghost use Rattle.command_line.specs.Rows.{CommandRow, told_of};
+ghost use Rattle.command_line.specs.Rows.{CommandRow, told_by_row};
 
 use crate::parser::matches;
 use crate::refused::Refused;
@@ -35,8 +35,8 @@ pub(crate) trait Arguments {
 /// Reads the words of a command. The first word is the name of the command.
 pub(crate) fn read<A: Arguments>(alloc: Global, words: &[String]) -> Result<A::Taken, Refused>
     requires some { 0 < length words.now }
-    requires reads { Reads A.table_row }
-    ensures { IsTold (told_of A.table_row) words.now result }
+    requires reads { IsReadableRow A.table_row }
+    ensures { IsTold (told_by_row A.table_row) words.now result }
 {
     one_spelling();
     let command = match A::command(alloc) {

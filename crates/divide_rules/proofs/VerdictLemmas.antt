@@ -6,7 +6,7 @@ use Rattle.divide_rules.specs.Rules.{RuleNumbers}
 use Rattle.divide_rules.specs.declared.rule.Rule.{Rule}
 use Rattle.divide_rules.specs.declared.rule.Rule.TheVariants.{V1, V2, V3, V4, V5, V6}
 use Rattle.divide_rules.specs.declared.verdict.Verdict.TheVariants.{Viable}
-use Rattle.divide_rules.specs.Viability.{least_part, greatest_part, child_length, executed_share, copied_share, holds, first_broken, verdict_by, verdict_of, IsViable}
+use Rattle.divide_rules.specs.Viability.{least_part, greatest_part, child_length, executed_share, copied_share, rule_holds, first_broken, verdict_by, verdict_of, IsViable}
 
 -- a verdict that names no rule
 unbroken : (broken : Option Rule) (ask : DivideAsk) (genome_length : ℕ) (rules : RuleNumbers)
@@ -20,14 +20,16 @@ kept : (keeps : Bool) (rule : Rule) (others : Option Rule)
 kept true rule others none = (refl, none)
 kept false rule others none = absurd cc
 
--- what two tests mean
+-- a number between two bounds by two tests is between them
 between : (least number greatest : ℕ) → (leb least number && leb number greatest) ≡ true
     → (least ≤ number) × (number ≤ greatest)
 between least number greatest both = grind (arith, nat_tests)
 
+-- a number that passes the test for less is below the other
 below : (number most : ℕ) → ltb number most ≡ true → number < most
 below number most less = grind (arith, nat_tests)
 
+-- a number that passes the test for at most is at most the other
 within : (number most : ℕ) → leb number most ≡ true → number ≤ most
 within number most le = grind (arith, nat_tests)
 
@@ -38,12 +40,12 @@ unfolding verdict_of
 viable ask genome_length rules is_viable =
     let none : first_broken ask genome_length rules ≡ None =
     unbroken (first_broken ask genome_length rules) ask genome_length rules is_viable in
-    let v1 = kept (holds V1 ask genome_length rules) V1 _ none in
-    let v2 = kept (holds V2 ask genome_length rules) V2 _ v1.1 in
-    let v3 = kept (holds V3 ask genome_length rules) V3 _ v2.1 in
-    let v4 = kept (holds V4 ask genome_length rules) V4 _ v3.1 in
-    let v5 = kept (holds V5 ask genome_length rules) V5 _ v4.1 in
-    let v6 = kept (holds V6 ask genome_length rules) V6 _ v5.1 in
+    let v1 = kept (rule_holds V1 ask genome_length rules) V1 _ none in
+    let v2 = kept (rule_holds V2 ask genome_length rules) V2 _ v1.1 in
+    let v3 = kept (rule_holds V3 ask genome_length rules) V3 _ v2.1 in
+    let v4 = kept (rule_holds V4 ask genome_length rules) V4 _ v3.1 in
+    let v5 = kept (rule_holds V5 ask genome_length rules) V5 _ v4.1 in
+    let v6 = kept (rule_holds V6 ask genome_length rules) V6 _ v5.1 in
     let parent = between (least_part genome_length rules) ask.read
     (greatest_part genome_length rules) v2.0 in
     let child = between (least_part genome_length rules) (child_length ask)

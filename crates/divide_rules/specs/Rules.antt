@@ -1,5 +1,6 @@
 -- The rules of a divide as numbers (docs/MACHINE.md, "The rules of a divide").
 use Rattle.std.specs.Prelude.{ℕ, ◌≤◌, Bool}
+use Rattle.genome.specs.Lengths.{shortest_genome, longest_genome}
 use Rattle.divide_rules.specs.declared.limits.DivideRules.{DivideRules}
 
 -- the least and the greatest length of a part, the percentages asked for, and whether an allocation
@@ -21,11 +22,11 @@ rule_numbers rules = record {
   need_alloc = rules.need_alloc;
 }
 
--- lengths from 8 to 8192, and percentages from 1 to 100
+-- lengths of a genome, and percentages from 1 to 100
 pub record AreRules (rules : RuleNumbers) : Type 0 where
-  pub long_enough : 8 ≤ rules.least
+  pub long_enough : shortest_genome ≤ rules.least
   pub ordered : rules.least ≤ rules.greatest
-  pub short_enough : rules.greatest ≤ 8192
+  pub short_enough : rules.greatest ≤ longest_genome
   pub executed_is_asked : 1 ≤ rules.executed_percent
   pub executed_is_percent : rules.executed_percent ≤ 100
   pub copied_is_asked : 1 ≤ rules.copied_percent

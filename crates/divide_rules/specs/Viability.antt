@@ -32,17 +32,17 @@ abbrev pub copied_share : DivideAsk → RuleNumbers → ℕ
 copied_share ask rules = rules.copied_percent * child_length ask
 
 -- whether a rule holds
-abbrev pub holds : Rule → DivideAsk → ℕ → RuleNumbers → Bool
-holds V1 ask genome_length rules = ask.allocated || not rules.need_alloc
-holds V2 ask genome_length rules =
+abbrev pub rule_holds : Rule → DivideAsk → ℕ → RuleNumbers → Bool
+rule_holds V1 ask genome_length rules = ask.allocated || not rules.need_alloc
+rule_holds V2 ask genome_length rules =
     nat_le (least_part genome_length rules) ask.read
     && nat_le ask.read (greatest_part genome_length rules)
-holds V3 ask genome_length rules = nat_lt ask.read ask.end
-holds V4 ask genome_length rules =
+rule_holds V3 ask genome_length rules = nat_lt ask.read ask.end
+rule_holds V4 ask genome_length rules =
     nat_le (least_part genome_length rules) (child_length ask)
     && nat_le (child_length ask) (greatest_part genome_length rules)
-holds V5 ask genome_length rules = nat_le (executed_share ask rules) (100 * ask.executed)
-holds V6 ask genome_length rules = nat_le (copied_share ask rules) (100 * ask.copied)
+rule_holds V5 ask genome_length rules = nat_le (executed_share ask rules) (100 * ask.executed)
+rule_holds V6 ask genome_length rules = nat_le (copied_share ask rules) (100 * ask.copied)
 
 -- what a broken rule found
 abbrev pub found_of : Rule → DivideAsk → ℕ
@@ -76,7 +76,7 @@ bound_of V6 ask genome_length rules = hundredth (copied_share ask rules)
 -- the first rule that does not hold
 abbrev pub first_broken : DivideAsk → ℕ → RuleNumbers → Option Rule
 first_broken ask genome_length rules =
-    find (λ rule. not (holds rule ask genome_length rules)) all_rules
+    find (λ rule. not (rule_holds rule ask genome_length rules)) all_rules
 
 -- a rule that is broken is named with its two numbers
 abbrev pub verdict_by : Option Rule → DivideAsk → ℕ → RuleNumbers → Verdict
@@ -89,7 +89,8 @@ unfoldable pub verdict_of : DivideAsk → ℕ → RuleNumbers → Verdict
 verdict_of ask genome_length rules =
     verdict_by (first_broken ask genome_length rules) ask genome_length rules
 
--- all six rules hold
+-- all six rules hold: as facts with names, where `rule_holds` tests one rule, since a verdict names
+-- the first that is broken; `divide_rules::judge · viable` says that the two agree
 pub record IsViable (ask : DivideAsk) (genome_length : ℕ) (rules : RuleNumbers) : Type 0 where
   pub allocated : IsTrue (ask.allocated || not rules.need_alloc)
   pub parent_not_short : least_part genome_length rules ≤ ask.read

@@ -5,12 +5,10 @@ ghost use Rattle.divide_rules.specs.declared.verdict.Verdict.TheVariants.{Viable
 ghost use Rattle.divide_rules.specs.Rules.{RuleNumbers, AreRules, rule_numbers};
 ghost use Rattle.divide_rules.specs.Viability.{verdict_of, IsViable};
 
-use crate::limits::{GREATEST_LENGTH, GREATEST_PERCENT, LEAST_LENGTH, LEAST_PERCENT};
+use crate::limits::{GREATEST_PERCENT, LEAST_PERCENT};
 
 /// The code's limits are the numbers that the definitions state.
 pub fn limits()
-    ensures least_length { LEAST_LENGTH ≡ 8 }
-    ensures greatest_length { GREATEST_LENGTH ≡ 8192 }
     ensures least_percent { LEAST_PERCENT ≡ 1 }
     ensures greatest_percent { GREATEST_PERCENT ≡ 100 }
 {}

@@ -1,11 +1,6 @@
 // What the rules of a divide compare with.
 ghost use Rattle.std.specs.Prelude.{◌≤◌};
-
-/// The length of the shortest genome.
-pub const LEAST_LENGTH: u32 = 8;
-
-/// The length of the longest genome.
-pub const GREATEST_LENGTH: u32 = 8192;
+ghost use Rattle.genome.specs.Lengths.{shortest_genome, longest_genome};
 
 /// The smallest percentage of a length that a rule can ask for.
 pub const LEAST_PERCENT: u32 = 1;
@@ -22,9 +17,9 @@ pub struct DivideRules {
     pub executed_percent: u32,
     pub copied_percent: u32,
     pub need_alloc: bool,
-    ghost long_enough: { 8 ≤ least },
+    ghost long_enough: { shortest_genome ≤ least },
     ghost ordered: { least ≤ greatest },
-    ghost short_enough: { greatest ≤ 8192 },
+    ghost short_enough: { greatest ≤ longest_genome },
     ghost executed_is_asked: { 1 ≤ executed_percent },
     ghost executed_is_percent: { executed_percent ≤ 100 },
     ghost copied_is_asked: { 1 ≤ copied_percent },

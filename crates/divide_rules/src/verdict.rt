@@ -1,5 +1,6 @@
 // The answer to the question of a divide.
 ghost use Rattle.std.specs.Prelude.{◌≡◌, ◌*◌, ◌≤◌, ◌↔◌};
+ghost use Rattle.genome.specs.Lengths.{shortest_genome, longest_genome};
 ghost use Rattle.divide_rules.specs.Rules.{rule_numbers};
 ghost use Rattle.divide_rules.specs.Viability.{verdict_of, IsViable};
 
@@ -15,8 +16,8 @@ pub enum Verdict {
 
 #[tactic(auto, unfolding(crate::specs::Viability::verdict_of))]
 pub fn judge(ask: &DivideAsk, genome_len: u32, rules: &DivideRules) -> Verdict
-    requires long_enough { 8 ≤ genome_len }
-    requires short_enough { genome_len ≤ 8192 }
+    requires long_enough { shortest_genome ≤ genome_len }
+    requires short_enough { genome_len ≤ longest_genome }
     ensures verdict { result ≡ verdict_of ask.now genome_len (rule_numbers rules.now) }
     ensures viable { (result ≡ Verdict.Viable)
         ↔ IsViable ask.now genome_len (rule_numbers rules.now) }

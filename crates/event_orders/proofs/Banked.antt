@@ -4,7 +4,7 @@ use Rattle.std.specs.Prelude.{if◌then◌else◌, ◌↔◌, slice_index_or, �
 use Rattle.std.proofs.lemmas.Bool.{eqb-true}
 use Rattle.std.proofs.lemmas.List.Elements.{Contains-append_left, Contains-append_right, Contains-append_cases, Contains-push_cases, Contains-push, filter_map-append}
 use Rattle.genotype_bank.specs.declared.view.Entry.{Entry}
-use Rattle.genotype_bank.specs.BankHistory.{genome_of, genomes_of}
+use Rattle.genotype_bank.specs.BankHistory.{genomes_of, interned_genome}
 use Rattle.instruction_set.specs.declared.letter.Letter.{Letter}
 use Rattle.world_config.specs.Values.{ConfigValues}
 use Rattle.world_rules.specs.World.{World}
@@ -12,7 +12,7 @@ use Rattle.world_rules.specs.Lives.{CellLife}
 use Rattle.world_rules.specs.Update.{scene_of_lives, world_of}
 use Rattle.event_orders.specs.declared.schedule.ScheduleEvent.TheVariants.{Intern}
 use Rattle.event_orders.specs.State.{State, genome_entry, life_in, newborn_genomes, result_of, results_of, injections_at}
-use Rattle.event_orders.specs.Schedule.{MayIntern, MayGather, with_value, with_update, after}
+use Rattle.event_orders.specs.Schedule.{MayIntern, MayGather, with_value_at, with_update, state_after_event}
 use Rattle.event_orders.proofs.Everyone.{genomes_ever, genomes_next, births_are}
 use Rattle.event_orders.proofs.Results.{lives_in, born_in, AreLives, results_are_lives, newborn_is_birth, birth_is_newborn}
 
@@ -34,7 +34,7 @@ pub record IsBanked (config : ConfigValues) (world : World) (done : ℕ → ℕ 
 genomes-push : (history : List Entry) (seat : ℕ) (g : List Letter)
     → genomes_of (history ++ genome_entry seat g ∷ []) ≡ genomes_of history ++ g ∷ []
 genomes-push history seat g =
-    filter_map-append (λ (one : Entry). genome_of one.call) history (genome_entry seat g ∷ [])
+    filter_map-append (λ (one : Entry). interned_genome one.call) history (genome_entry seat g ∷ [])
 
 -- the genomes of a list that a seat interned
 genomes-interned : (seat : ℕ) (gs : List (List Letter))
@@ -47,7 +47,7 @@ module _ (config : ConfigValues) where
   young_kept : (known : List (List Letter)) (newborns : ℕ → List (List Letter))
       (done : ℕ → ℕ → Bool) (cell nth : ℕ)
       → ((c k : ℕ) → done c k ≡ true → Contains known (slice_index_or (newborns c) k []))
-      → (c k : ℕ) → with_value done cell (with_value (done cell) nth true) c k ≡ true
+      → (c k : ℕ) → with_value_at done cell (with_value_at (done cell) nth true) c k ≡ true
       → Contains (known ++ slice_index_or (newborns cell) nth [] ∷ [])
       (slice_index_or (newborns c) k [])
   young_kept known newborns done cell nth had c k = by (c == cell) (eqb-true c cell)
@@ -71,8 +71,8 @@ module _ (config : ConfigValues) where
   -- a newborn was interned, and the bank is as it was to be
   pub intern_banked : (s : State) (seat cell nth : ℕ) → MayIntern s cell nth
       → AreLives config s.world s.results → IsBanked config s.world s.interned s.history
-      → IsBanked config s.world (after config s (Intern seat cell nth)).interned
-      (after config s (Intern seat cell nth)).history
+      → IsBanked config s.world (state_after_event config s (Intern seat cell nth)).interned
+      (state_after_event config s (Intern seat cell nth)).history
   intern_banked s seat cell nth may are h =
       let w = s.world in
       let is = are cell may.has_result in
@@ -130,7 +130,7 @@ module _ (config : ConfigValues) where
       ++ (born ++ added) = ever_gathered s may are in
       let more : genomes_of (s.history ++ map (genome_entry seat) added) ≡ known ++ added
       =
-      filter_map-append (λ (one : Entry). genome_of one.call) s.history
+      filter_map-append (λ (one : Entry). interned_genome one.call) s.history
       (map (genome_entry seat) added) ∙ ap (λ l. known ++ l)
       (genomes-interned seat added) in (
         (λ (k : Contains (genomes_of (s.history ++ map (genome_entry seat) added)) g). subst

@@ -14,7 +14,7 @@ use Rattle.world_rules.specs.WorldRun.{world_after}
 use Rattle.event_orders.specs.declared.schedule.ScheduleEvent.{ScheduleEvent}
 use Rattle.event_orders.specs.declared.schedule.ScheduleEvent.TheVariants.{Run, Intern, Gather, Publish, Look, Hear}
 use Rattle.event_orders.specs.State.{State, opening}
-use Rattle.event_orders.specs.Schedule.{MayGather, IsLawful, with_update, with_seen, after, state_after, IsSchedule}
+use Rattle.event_orders.specs.Schedule.{MayGather, IsLawful, with_update, with_seen, state_after_event, state_after, IsSchedule}
 use Rattle.event_orders.specs.Orders.{is_gather, ShowsEachUpdate}
 use Rattle.event_orders.proofs.Everyone.{genomes_ever}
 use Rattle.event_orders.proofs.Results.{lives_in, AreLives, result_kept, results_are_lives}
@@ -34,10 +34,12 @@ module _ (config : ConfigValues) where
   unfolding first_world
   founder_genome = refl
 
+  -- the world after no update is the first one
   first_world_is : world_after config 0 ≡ first_world config
   unfolding world_after
   first_world_is = refl
 
+  -- what holds of a state after n updates holds of the opening, after none
   holds_at_first : HoldsAt config 0 (opening config)
   holds_at_first =
       let founder : genomes_ever (world_after config 0).everyone ≡ config.ancestor ∷ [] =
@@ -101,7 +103,7 @@ module _ (config : ConfigValues) where
 
   -- each lawful event keeps what holds
   kept : (n : ℕ) (s : State) (e : ScheduleEvent) → IsLawful config s e → HoldsAt config n s
-      → HoldsAt config (counted n e) (after config s e)
+      → HoldsAt config (counted n e) (state_after_event config s e)
   kept n s (Run cell) may h =
       rw add-zero (record {
         world = h.world;
@@ -146,10 +148,10 @@ module _ (config : ConfigValues) (events : List ScheduleEvent) where
 
   -- the state goes on by one event
   pub state_with : (n : ℕ) (e : ScheduleEvent) → slice_get events n ≡ Some e
-      → at_place (n + 1) ≡ after config (at_place n) e
+      → at_place (n + 1) ≡ state_after_event config (at_place n) e
   state_with n e at =
       ap (state_after config) (take_with events n e at)
-      ∙ fold_push (after config) (opening config) (take n events) e
+      ∙ fold_push (state_after_event config) (opening config) (take n events) e
 
   -- the updates that have ended by the next place
   gathers_with : (n : ℕ) (e : ScheduleEvent) → slice_get events n ≡ Some e
@@ -168,7 +170,8 @@ module _ (config : ConfigValues) (events : List ScheduleEvent) where
       let e = get_or events n Publish in
       let at : slice_get events n ≡ Some (get_or events n Publish) =
       slice_get-get_or events n Publish within in
-      let h : HoldsAt config (counted config (gathers n) e) (after config (at_place n) e)
+      let h : HoldsAt config (counted config (gathers n) e)
+      (state_after_event config (at_place n) e)
       =
       kept config (gathers n) (at_place n) e (lawful n e at)
       (holds_after lawful n (omega arith)) in

@@ -4,7 +4,7 @@ use Rattle.std.specs.List.{AllByRecursion, zip, flat_map, filter_map, cons_optio
 use Rattle.std.specs.Option.{option_to_list}
 use Rattle.std.proofs.lemmas.List.{map-append, length-map}
 use Rattle.birth_board.specs.declared.placing.Placing.{Placing}
-use Rattle.birth_board.specs.declared.season.Season.{Season}
+use Rattle.birth_board.specs.declared.placing_round.PlacingRound.{PlacingRound}
 use Rattle.birth_board.specs.Placement.{Board, next_placing, next_board, placements_of}
 use Rattle.birth_board.specs.Torus.{TorusNumbers}
 use Rattle.instruction_set.specs.declared.letter.Letter.{Letter}
@@ -14,7 +14,7 @@ use Rattle.organism.specs.OrganismState.{OrganismState}
 use Rattle.world_config.specs.Events.{EventValue, WhatValue, inject, clear, rate}
 use Rattle.world_config.specs.Values.{ConfigValues}
 use Rattle.world_rules.specs.World.{Occupant, World, founder_of, founder_link, first_world, ids_of}
-use Rattle.world_rules.specs.Settings.{torus_of, season_at}
+use Rattle.world_rules.specs.Settings.{torus_of, placing_round_at}
 use Rattle.world_rules.specs.Lives.{CellLife, life_of, life_at, slice_at}
 use Rattle.world_rules.specs.Scene.{Scene, next_id, with_death, cells_from, with_newcomer}
 use Rattle.world_rules.specs.Update.{Delivery, delivery_of, births_by, births_in, births_of, deaths_of, after_lives, after_burials, placings_of, birth_link, child_of_birth, with_newborn, after_births, after_what, after_event, events_at, after_events, last_scene, scene_of_lives, world_of, lives_after, next_scene, next_world}
@@ -161,18 +161,18 @@ events_update config scene (event ∷ events) =
     events_update config (after_event config scene event) events ∙ event_update config scene event
 
 -- a board has a placing for each parent
-placed_number : (torus : TorusNumbers) (season : Season) (board : Board) (parents : List ℕ)
-    → length (fold (next_board torus season) board parents).placings
+placed_number : (torus : TorusNumbers) (round : PlacingRound) (board : Board) (parents : List ℕ)
+    → length (fold (next_board torus round) board parents).placings
     ≡ length board.placings + length parents
 unfolding next_board
-placed_number torus season board [] = omega arith
-placed_number torus season board (parent ∷ parents) =
+placed_number torus round board [] = omega arith
+placed_number torus round board (parent ∷ parents) =
     omega (
       arith,
-      placed_number torus season
-          (next_board torus season board parent) parents,
+      placed_number torus round
+          (next_board torus round board parent) parents,
       length-append board.placings
-          (next_placing torus season board parent ∷ []),
+          (next_placing torus round board parent ∷ []),
     )
 
 -- there is a placing for each newborn
@@ -184,7 +184,7 @@ placings_number config scene births =
     omega (
       arith,
       placed_number (torus_of config)
-          (season_at config scene.update (next_id scene)) empty
+          (placing_round_at config scene.update (next_id scene)) empty
           (map (λ b. b.cell) births),
       length-map births (λ (b : Delivery). b.cell),
     )

@@ -8,37 +8,43 @@ use Rattle.std.proofs.lemmas.Grind.{fold-append}
 use Rattle.world_config.specs.Values.{ConfigValues}
 use Rattle.event_orders.specs.declared.schedule.ScheduleEvent.{ScheduleEvent}
 use Rattle.event_orders.specs.State.{State}
-use Rattle.event_orders.specs.Schedule.{with_value, IsLawful, after}
+use Rattle.event_orders.specs.Schedule.{with_value_at, IsLawful, state_after_event}
 use Rattle.event_orders.specs.Orders.{is_gather}
 
 -- the value at the place that was given another
-pub at_same : {X : Type 0} (f : ℕ → X) (k j : ℕ) (x : X) → j ≡ k → with_value f k x j ≡ x
+pub at_same : {X : Type 0} (f : ℕ → X) (k j : ℕ) (x : X) → j ≡ k → with_value_at f k x j ≡ x
 at_same f k j x e = ap (λ b. if b then x else f j) (eq-eqb j k e)
 
 -- and at another place
-pub at_other : {X : Type 0} (f : ℕ → X) (k j : ℕ) (x : X) → (j ≡ k → ⊥) → with_value f k x j ≡ f j
+pub at_other : {X : Type 0} (f : ℕ → X) (k j : ℕ) (x : X) → (j ≡ k → ⊥)
+    → with_value_at f k x j ≡ f j
 at_other f k j x n = by (j == k) (eqb-true j k)
   where
     by : (b : Bool) → (b ≡ true → j ≡ k) → (if b then x else f j) ≡ f j
     by true e = absurd (n (e refl))
     by false e = refl
 
+-- any event
+abbrev pub Any : ScheduleEvent → Type 0
+Any e = Unit {0}
+
 -- events that are lawful one after another, each of which is such an event
 module _ (config : ConfigValues) (Is : ScheduleEvent → Type 0) where
   -- the state that these events lead to
   abbrev pub from : State → List ScheduleEvent → State
-  from s events = fold (after config) s events
+  from s events = fold (state_after_event config) s events
 
   -- each event is lawful after those before it
   abbrev pub AllLawful : State → List ScheduleEvent → Type 0
   AllLawful s [] = Unit {0}
-  AllLawful s (e ∷ es) = (IsLawful config s e × Is e) × AllLawful (after config s e) es
+  AllLawful s (e ∷ es) = (IsLawful config s e × Is e) × AllLawful (state_after_event config s e) es
 
   -- events that are lawful after lawful ones
   pub AllLawful-append : (s : State) (es fs : List ScheduleEvent) → AllLawful s es
       → AllLawful (from s es) fs → AllLawful s (es ++ fs)
   AllLawful-append s [] fs a b = b
-  AllLawful-append s (e ∷ es) fs a b = (a.0, AllLawful-append (after config s e) es fs a.1 b)
+  AllLawful-append s (e ∷ es) fs a b =
+      (a.0, AllLawful-append (state_after_event config s e) es fs a.1 b)
 
   -- the same by place
   pub lawful_at : (s : State) (es : List ScheduleEvent) → AllLawful s es
@@ -46,7 +52,7 @@ module _ (config : ConfigValues) (Is : ScheduleEvent → Type 0) where
       → IsLawful config (from s (take n es)) e × Is e
   lawful_at s [] a n e at = absurd (none-some e at)
   lawful_at s (f ∷ es) a zero e at = subst (λ e. IsLawful config s e × Is e) (same_Some f e at) a.0
-  lawful_at s (f ∷ es) a (suc n) e at = lawful_at (after config s f) es a.1 n e at
+  lawful_at s (f ∷ es) a (suc n) e at = lawful_at (state_after_event config s f) es a.1 n e at
 
   -- and back
   pub all_lawful : (s : State) (es : List ScheduleEvent)
@@ -54,7 +60,7 @@ module _ (config : ConfigValues) (Is : ScheduleEvent → Type 0) where
       → IsLawful config (from s (take n es)) e × Is e) → AllLawful s es
   all_lawful s [] h = tt
   all_lawful s (f ∷ es) h =
-      (h 0 f refl, all_lawful (after config s f) es (λ n e at. h (suc n) e at))
+      (h 0 f refl, all_lawful (state_after_event config s f) es (λ n e at. h (suc n) e at))
 
   -- lawful events with so many ends of updates lead from s to t
   abbrev pub Goes : State → ℕ → State → Type 0
@@ -63,7 +69,7 @@ module _ (config : ConfigValues) (Is : ScheduleEvent → Type 0) where
 
   -- one lawful event
   pub goes_one : (s : State) (e : ScheduleEvent) → IsLawful config s e → Is e
-      → Goes s (cond (is_gather e) 1 0) (after config s e)
+      → Goes s (cond (is_gather e) 1 0) (state_after_event config s e)
   goes_one s e may of = (e ∷ [], ((may, of), tt), refl, zero-add (cond (is_gather e) 1 0))
 
   -- lawful events, and then others
@@ -71,7 +77,7 @@ module _ (config : ConfigValues) (Is : ScheduleEvent → Type 0) where
   goes_on s t u k j a b = (
     a.0 ++ b.0,
     AllLawful-append s a.0 b.0 a.1 (subst (λ t. AllLawful t b.0) (sym a.2) b.1),
-    fold-append (after config) s a.0 b.0 ∙ (ap (λ t. from t b.0) a.2 ∙ b.2),
+    fold-append (state_after_event config) s a.0 b.0 ∙ (ap (λ t. from t b.0) a.2 ∙ b.2),
     sum_by-append (λ x. cond (is_gather x) 1 0) a.0 b.0
         ∙ (ap (λ n. n + count_by is_gather b.0) a.3 ∙ ap (λ n. k + n) b.3),
   )

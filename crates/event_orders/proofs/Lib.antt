@@ -8,4 +8,8 @@ mod Looks
 mod Going
 mod Serial
 mod Pairs
+mod Marks
+mod LeftPairs
+mod Explained
+mod AllLive
 mod Interleaving

@@ -7,7 +7,7 @@ use Rattle.world_config.specs.Values.{ConfigValues}
 use Rattle.event_orders.specs.declared.schedule.ScheduleEvent.{ScheduleEvent}
 use Rattle.event_orders.specs.declared.schedule.ScheduleEvent.TheVariants.{Run, Intern, Gather, Publish, Look, Hear}
 use Rattle.event_orders.specs.State.{State}
-use Rattle.event_orders.specs.Schedule.{with_value, after, IsSchedule}
+use Rattle.event_orders.specs.Schedule.{with_value_at, state_after_event, IsSchedule}
 use Rattle.event_orders.specs.Orders.{LooksNeverFall}
 use Rattle.event_orders.proofs.Between.{at_place, state_with}
 
@@ -18,7 +18,7 @@ module _ (config : ConfigValues) (events : List ScheduleEvent) where
 
   -- a look or a note leaves each observer at least where it was
   with_seen_kept : (seen : ℕ → ℕ) (observer number o : ℕ)
-      → seen o ≤ with_value seen observer (max (seen observer) number) o
+      → seen o ≤ with_value_at seen observer (max (seen observer) number) o
   with_seen_kept seen observer number o = by (o == observer) (eqb-true o observer)
     where
       by : (b : Bool) → (b ≡ true → o ≡ observer)
@@ -27,7 +27,8 @@ module _ (config : ConfigValues) (events : List ScheduleEvent) where
       by false e = omega arith
 
   -- what an observer has seen never falls
-  seen_kept : (s : State) (e : ScheduleEvent) (o : ℕ) → s.seen o ≤ (after config s e).seen o
+  seen_kept : (s : State) (e : ScheduleEvent) (o : ℕ)
+      → s.seen o ≤ (state_after_event config s e).seen o
   seen_kept s (Run cell) o = omega arith
   seen_kept s (Intern seat cell nth) o = omega arith
   seen_kept s (Gather seat) o = omega arith
@@ -42,7 +43,8 @@ module _ (config : ConfigValues) (events : List ScheduleEvent) where
       let within : m + d < length events = omega arith in
       let e = get_or events (m + d) Publish in
       let more = seen_kept (at_place config events (m + d)) e o in
-      let same : seen_at (m + d + 1) o ≡ (after config (at_place config events (m + d)) e).seen o =
+      let same : seen_at (m + d + 1) o
+      ≡ (state_after_event config (at_place config events (m + d)) e).seen o =
       ap (λ (t : State). t.seen o) (state_with config events (m + d) e
       (slice_get-get_or events (m + d) Publish within)) in
       let place : m + d + 1 ≡ m + suc d = omega arith in
@@ -56,7 +58,7 @@ module _ (config : ConfigValues) (events : List ScheduleEvent) where
       let l : n < length events = slice_get_within events n (Look observer j) later in
       let may = lawful n (Look observer j) later in
       let s = at_place config events m in
-      let looked : with_value s.seen observer (max (s.seen observer) i) observer ≡ max
+      let looked : with_value_at s.seen observer (max (s.seen observer) i) observer ≡ max
       (s.seen observer) i
       =
       ap (λ b. if b then max (s.seen observer) i else s.seen observer)

@@ -20,6 +20,7 @@ module _ (config : ConfigValues) where
   unfolding picture_of
   picture_update n = refl
 
+  -- what holds of the pictures holds of that of update 0 alone
   pub first_shown : AreShown config (picture_of config 0 ∷ [])
   first_shown = record { some = omega arith; each = only }
     where

@@ -11,7 +11,7 @@ use Rattle.world_config.specs.Values.{ConfigValues}
 use Rattle.world_rules.specs.World.{World}
 use Rattle.world_rules.specs.Lives.{CellLife, no_life}
 use Rattle.event_orders.specs.State.{State, life_in, newborn_genomes, results_of}
-use Rattle.event_orders.specs.Schedule.{with_value}
+use Rattle.event_orders.specs.Schedule.{with_value_at}
 use Rattle.event_orders.proofs.Members.{Contains-flat_map, Contains-flat_map_cases, Contains-from_fn, Contains-from_fn_cases}
 
 -- the lives of all cells of a world
@@ -36,7 +36,7 @@ module _ (config : ConfigValues) where
   -- a cell has lived
   pub result_kept : (world : World) (results : ℕ → Option CellLife) (cell : ℕ)
       → cell < length world.cells → AreLives config world results
-      → AreLives config world (with_value results cell (Some (life_in config world cell)))
+      → AreLives config world (with_value_at results cell (Some (life_in config world cell)))
   result_kept world results cell within had c = by (c == cell) (eqb-true c cell)
     where
       by : (b : Bool) → (b ≡ true → c ≡ cell) → IsSome

@@ -13,7 +13,7 @@ use Rattle.world_rules.specs.Picture.{PictureValue, picture_of}
 use Rattle.event_orders.specs.declared.schedule.ScheduleEvent.{ScheduleEvent}
 use Rattle.event_orders.specs.declared.schedule.ScheduleEvent.TheVariants.{Run, Intern, Gather, Publish, Look, Hear}
 use Rattle.event_orders.specs.State.{State, opening, life_in, newborn_genomes, result_of, results_of}
-use Rattle.event_orders.specs.Schedule.{MayPublish, MayLook, with_value, after}
+use Rattle.event_orders.specs.Schedule.{MayPublish, MayLook, with_value_at, state_after_event}
 use Rattle.event_orders.specs.Orders.{IsScheduleFor}
 use Rattle.event_orders.proofs.Members.{last_pushed}
 use Rattle.event_orders.proofs.Everyone.{update_after, update_next}
@@ -55,9 +55,9 @@ module _ (config : ConfigValues) (seat_of : ℕ → ℕ) where
     pub none : (c k : ℕ) → a + 1 ≤ c → s.interned c k ≡ false
 
   -- a cell lives
-  ran_next : (a : ℕ) (s : State) → Done a s → Doing a 0 (after config s (Run a))
+  ran_next : (a : ℕ) (s : State) → Done a s → Doing a 0 (state_after_event config s (Run a))
   ran_next a s h = record {
-    ran = below_more (λ c. IsSome (with_value s.results a (Some (life_in config s.world a)) c)) a
+    ran = below_more (λ c. IsSome (with_value_at s.results a (Some (life_in config s.world a)) c)) a
         (λ c l. rw (at_other s.results a c (Some (life_in config s.world a)) (λ e. omega arith))
         (h.ran c l))
         (rw (at_same s.results a a (Some (life_in config s.world a)) refl) refl);
@@ -75,26 +75,26 @@ module _ (config : ConfigValues) (seat_of : ℕ → ℕ) where
 
   -- a newborn is interned
   interned_next : (seat a m : ℕ) (s : State) → Doing a m s
-      → Doing a (m + 1) (after config s (Intern seat a m))
+      → Doing a (m + 1) (state_after_event config s (Intern seat a m))
   interned_next seat a m s h = record {
     ran = h.ran;
     interned =
         λ c k l n. ap (λ (f : ℕ → Bool). f k) (at_other s.interned a c
-        (with_value (s.interned a) m true) (λ e. omega arith)) ∙ h.interned c k l n;
+        (with_value_at (s.interned a) m true) (λ e. omega arith)) ∙ h.interned c k l n;
     first =
         λ k l. ap (λ (f : ℕ → Bool). f k) (at_same s.interned a a
-        (with_value (s.interned a) m true) refl)
-        ∙ below_more (λ k. with_value (s.interned a) m true k ≡ true) m
+        (with_value_at (s.interned a) m true) refl)
+        ∙ below_more (λ k. with_value_at (s.interned a) m true k ≡ true) m
         (λ k l. at_other (s.interned a) m k true (λ e. omega arith) ∙ h.first k l)
         (at_same (s.interned a) m m true refl) k l;
     rest =
         λ k l. ap (λ (f : ℕ → Bool). f k) (at_same s.interned a a
-        (with_value (s.interned a) m true) refl)
+        (with_value_at (s.interned a) m true) refl)
         ∙ (at_other (s.interned a) m k true (λ e. omega arith) ∙ h.rest k (omega arith));
     idle = h.idle;
     none =
         λ c k l. ap (λ (f : ℕ → Bool). f k) (at_other s.interned a c
-        (with_value (s.interned a) m true) (λ e. omega arith)) ∙ h.none c k l;
+        (with_value_at (s.interned a) m true) (λ e. omega arith)) ∙ h.none c k l;
   }
 
   -- nothing is published or seen between two states of an update
@@ -121,11 +121,11 @@ module _ (config : ConfigValues) (seat_of : ℕ → ℕ) where
         is_new =
             h.rest m (omega arith);
       }) refl in
-      let rest = interns d a (m + 1) (after config s (Intern (seat_of a) a m))
+      let rest = interns d a (m + 1) (state_after_event config s (Intern (seat_of a) a m))
       (interned_next (seat_of a) a m s h) (omega arith) in (
         rest.0,
         goes_on config (IsOfSeat seat_of) s
-            (after config s (Intern (seat_of a) a m)) rest.0 0 0 one rest.1,
+            (state_after_event config s (Intern (seat_of a) a m)) rest.0 0 0 one rest.1,
         rest.2,
         record
             { world = rest.3.world; pictures = rest.3.pictures; seen = rest.3.seen },
@@ -153,7 +153,7 @@ module _ (config : ConfigValues) (seat_of : ℕ → ℕ) where
     record { world = refl; pictures = refl; seen = refl },
   )
   lives (suc d) a s h e =
-      let s1 = after config s (Run a) in
+      let s1 = state_after_event config s (Run a) in
       let one = goes_one config (IsOfSeat seat_of) s (Run a)
       (record { is_cell = omega arith; has_no_result = h.idle a (omega arith) }) tt in
       let all = interns (born s1 a) a 0 s1 (ran_next a s h) (zero-add (born s1 a)) in
@@ -190,6 +190,7 @@ module _ (config : ConfigValues) (seat_of : ℕ → ℕ) where
     pub last : (p : PictureValue) → last_of s.pictures ≡ Some p → p.update ≡ n
     pub seen : s.seen 0 ≡ n
 
+  -- so it is at the opening, after no update
   shown_first : Shown 0 (opening config)
   shown_first = record {
     update = update_after config 0;
@@ -203,18 +204,23 @@ module _ (config : ConfigValues) (seat_of : ℕ → ℕ) where
   -- once the cells have lived, the update ends, its picture is published, and the first observer
   -- looks at it
   module _ (n : ℕ) (s : State) (done : Done (length s.world.cells) s) (shown : Shown n s) where
+    -- the state once the update has ended
     abbrev ended : State
-    ended = after config s (Gather 0)
+    ended = state_after_event config s (Gather 0)
 
+    -- the state once its picture is published
     abbrev published : State
-    published = after config ended Publish
+    published = state_after_event config ended Publish
 
+    -- the state once the first observer has looked at it
     abbrev looked : State
-    looked = after config published (Look 0 (n + 1))
+    looked = state_after_event config published (Look 0 (n + 1))
 
+    -- the world is then one update further
     ended_update : ended.world.update ≡ n + 1
     ended_update = update_next config s.world (results_of s) ∙ ap (λ u. u + 1) shown.update
 
+    -- its picture may be published
     may_publish : MayPublish config ended
     may_publish = record {
       rises =
@@ -223,6 +229,7 @@ module _ (config : ConfigValues) (seat_of : ℕ → ℕ) where
       same = λ first at. refl;
     }
 
+    -- the first observer may look at it
     may_look : MayLook published 0 (n + 1)
     may_look = record {
       is_published =
@@ -236,6 +243,7 @@ module _ (config : ConfigValues) (seat_of : ℕ → ℕ) where
       is_not_older = let seen = shown.seen in omega (arith, seen);
     }
 
+    -- these three events lead there, and end one update
     update_ends : Leads s 1 looked
     update_ends =
         goes_on config (IsOfSeat seat_of) s ended looked 1 0
@@ -245,6 +253,7 @@ module _ (config : ConfigValues) (seat_of : ℕ → ℕ) where
         (goes_one config (IsOfSeat seat_of) ended Publish may_publish tt)
         (goes_one config (IsOfSeat seat_of) published (Look 0 (n + 1)) may_look tt))
 
+    -- again all pictures are published, and the first observer has seen the last one
     shown_next : Shown (n + 1) looked
     shown_next = record {
       update = ended_update;

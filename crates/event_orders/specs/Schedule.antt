@@ -52,18 +52,18 @@ IsLawful config s (Look observer number) = MayLook s observer number
 IsLawful config s (Hear observer number) = IsPublished s number
 
 -- the function with another value at one place
-abbrev pub with_value : {X : Type 0} → (ℕ → X) → ℕ → X → ℕ → X
-with_value values place value other = if other == place then value else values other
+abbrev pub with_value_at : {X : Type 0} → (ℕ → X) → ℕ → X → ℕ → X
+with_value_at values place value other = if other == place then value else values other
 
 -- a cell has lived
 abbrev pub with_result : ConfigValues → State → ℕ → State
 with_result config s cell =
-    record s { results = with_value s.results cell (Some (life_in config s.world cell)) }
+    record s { results = with_value_at s.results cell (Some (life_in config s.world cell)) }
 
 -- a seat has interned a newborn of a cell
 abbrev pub with_interned : State → ℕ → ℕ → ℕ → State
 with_interned s seat cell nth = record s {
-  interned = with_value s.interned cell (with_value (s.interned cell) nth true);
+  interned = with_value_at s.interned cell (with_value_at (s.interned cell) nth true);
   history = s.history
       ++ genome_entry seat (slice_index_or (newborn_genomes (result_of s cell)) nth []) ∷ [];
 }
@@ -80,20 +80,21 @@ with_update config s seat = record s {
 -- an observer has seen this number, or heard of it
 abbrev pub with_seen : State → ℕ → ℕ → State
 with_seen s observer number =
-    record s { seen = with_value s.seen observer (max (s.seen observer) number) }
+    record s { seen = with_value_at s.seen observer (max (s.seen observer) number) }
 
 -- the run after the event
-abbrev pub after : ConfigValues → State → ScheduleEvent → State
-after config s (Run cell) = with_result config s cell
-after config s (Intern seat cell nth) = with_interned s seat cell nth
-after config s (Gather seat) = with_update config s seat
-after config s Publish = record s { pictures = s.pictures ++ picture_of config s.world.update ∷ [] }
-after config s (Look observer number) = with_seen s observer number
-after config s (Hear observer number) = with_seen s observer number
+abbrev pub state_after_event : ConfigValues → State → ScheduleEvent → State
+state_after_event config s (Run cell) = with_result config s cell
+state_after_event config s (Intern seat cell nth) = with_interned s seat cell nth
+state_after_event config s (Gather seat) = with_update config s seat
+state_after_event config s Publish =
+    record s { pictures = s.pictures ++ picture_of config s.world.update ∷ [] }
+state_after_event config s (Look observer number) = with_seen s observer number
+state_after_event config s (Hear observer number) = with_seen s observer number
 
 -- the run after these events
 abbrev pub state_after : ConfigValues → List ScheduleEvent → State
-state_after config events = fold (after config) (opening config) events
+state_after config events = fold (state_after_event config) (opening config) events
 
 -- each event is lawful after those before it
 abbrev pub IsSchedule : ConfigValues → List ScheduleEvent → Type 0

@@ -1,2 +1,3 @@
+pub mod EqualLemmas
 pub mod ListLemmas
 pub mod TextLemmas

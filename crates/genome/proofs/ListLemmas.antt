@@ -33,6 +33,7 @@ pub ruleset filter_map_steps = (filter_map-kept, filter_map-left_out)
 pub before_first-at : {A : Type 0} (p : A → Bool) (items : List A) (at : ℕ)
     → position p items ≡ Some at → take at items ≡ before_first p items
 before_first-at p items at is = by (nat_lt (position_or_len p items) (length items)) is where
+  -- where a place was found, the items up to it are those before the first that passes
   by : (b : Bool) → cond b (Some (position_or_len p items)) None ≡ Some at
       → take at items ≡ before_first p items
   by true is = let same : position_or_len p items ≡ at = cc in ap (λ n. take n items) (sym same)
@@ -82,6 +83,7 @@ pub position_from-one : {A : Type 0} (p : A → Bool) (items : List A) (at : ℕ
     → position_from p 0 items ≡ Some at → position_from p 1 items ≡ Some (at + 1)
 position_from-one p items at is = position_from-next p 0 items at is
 
+-- counted from 1, there is none where there was none
 pub position_from-one_none : {A : Type 0} (p : A → Bool) (items : List A)
     → position_from p 0 items ≡ None → position_from p 1 items ≡ None
 position_from-one_none p items is = position_from-none p 0 items is

@@ -58,18 +58,19 @@ abbrev pub name_lines : List ℕ → List (List ℕ)
 name_lines bytes = slice_split (λ byte. byte == 10) bytes
 
 -- the word of a line: what stands before a comment, without the blanks around it
-unfoldable pub word_of : List ℕ → List ℕ
-word_of line = between_blanks (before_first (λ byte. byte == 35) line)
+unfoldable pub word_of_line : List ℕ → List ℕ
+word_of_line line = between_blanks (before_first (λ byte. byte == 35) line)
 
 -- a line has a word that is no name
 unfoldable pub is_bad_line : List ℕ → Bool
-is_bad_line line = not (length (word_of line) == 0) && is_none (letter_named (word_of line))
+is_bad_line line = not (length (word_of_line line) == 0)
+    && is_none (letter_named (word_of_line line))
 
 -- the letters of a text by names, or the number, from 1, of its first line that has none
 abbrev pub names_of : List ℕ → Result (List Letter) ℕ
 names_of bytes =
     unless_faulty (position_from is_bad_line 1 (name_lines bytes))
-    (filter_map (λ line. letter_named (word_of line)) (name_lines bytes))
+    (filter_map (λ line. letter_named (word_of_line line)) (name_lines bytes))
 
 -- the genome of a reading by names, or what refuses it
 abbrev pub genome_by_names : Result (List Letter) ℕ → Result (List Letter) GenomeStop

@@ -4,7 +4,7 @@ ghost use Rattle.std.specs.List.{position_from, before_first};
 ghost use Rattle.instruction_set.specs.Letter.{letter_named, name_of};
 ghost use Rattle.genome.specs.Genome.{letters};
 ghost use Rattle.genome.specs.GenomeText.{after_blanks, between_blanks, is_bad_line, is_blank, name_lines};
-ghost use Rattle.genome.specs.GenomeText.{names_of, names_text_of, spelled_by_names, word_of};
+ghost use Rattle.genome.specs.GenomeText.{names_of, names_text_of, spelled_by_names, word_of_line};
 
 use crate::genome::Genome;
 use crate::stop::GenomeStop;
@@ -47,7 +47,7 @@ fn first_bad_line(bytes: &[u8]) -> Option<usize>
 /// The letters that the lines name.
 fn letters_named(alloc: Global, bytes: &[u8]) -> Result<Vec<Letter>, AllocError>
     ensures { IfOk result (λ made. made.items ≡
-        filter_map (λ line. letter_named (word_of line)) (name_lines bytes.now)) }
+        filter_map (λ line. letter_named (word_of_line line)) (name_lines bytes.now)) }
 {
     bytes
         .split(|byte| *byte == b'\n')
@@ -63,9 +63,9 @@ fn is_bad_line(line: &[u8]) -> bool
     !word.is_empty() && Letter::from_name(word).is_none()
 }
 
-#[tactic(auto, unfolding(crate::specs::GenomeText::word_of))]
+#[tactic(auto, unfolding(crate::specs::GenomeText::word_of_line))]
 fn word_of(line: &[u8]) -> &[u8]
-    ensures { result.now ≡ word_of line.now }
+    ensures { result.now ≡ word_of_line line.now }
 {
     between_blanks(before_comment(line))
 }

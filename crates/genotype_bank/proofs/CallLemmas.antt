@@ -12,12 +12,12 @@ use Rattle.genotype_bank.specs.BankHistory.{entry, is_among, calls_under, genoty
 use Rattle.atomic_table.specs.Seated.{TableId}
 use Rattle.genotype_bank.specs.Seats.{MakesCall, SeatValue, all_shares}
 use Rattle.genotype_bank.specs.Views.{idle_view}
-use Rattle.genotype_bank.specs.BankSteps.{with_ticket, at_turn, number_of}
+use Rattle.genotype_bank.specs.BankSteps.{with_ticket, at_turn, last_drawn_number}
 use Rattle.genotype_bank.specs.Catalog.{genomes_in, last_call}
 use Rattle.genotype_bank.specs.BankTable.{seat_of, Seated}
-use Rattle.genotype_bank.proofs.DifferentLemmas.{genotypes_of_push}
-use Rattle.genotype_bank.proofs.GenomeLemmas.{OneList}
+use Rattle.genotype_bank.proofs.DifferentLemmas.{OneList, genotypes_of_push}
 
+-- a call under one of some numbers at the end of a history is the last under them
 pub own_end : (c : List ℕ) (h : List Entry) (e : Entry) → is_among e.seat c ≡ true
     → calls_under c (h ++ e ∷ []) ≡ calls_under c h ++ e ∷ []
 own_end c [] e is = ap (λ b. own_if b e []) is
@@ -29,10 +29,12 @@ own_end c (x ∷ h) e is =
     out true = refl
     out false = refl
 
+-- a seat has seen a longer history that ends with this call, and it is the seat's one call more
 abbrev pub Grows : View → View → Call → Type 0
 Grows v w call = (n : ℕ) × (h : List Entry) × IsPrefix v.seen h × (w.seen ≡ h ++ entry n call ∷ [])
     × (calls_under w.carried w.seen ≡ calls_under v.carried v.seen ++ entry n call ∷ [])
 
+-- so it is of a seat that drew under a number, then saw the history and added its call
 grown : (v : View) (j t : ℕ) (history : List Entry) (call : Call)
     → calls_under (j ∷ v.carried) v.seen ≡ calls_under v.carried v.seen
     → IsPrefix v.seen history
@@ -48,20 +50,25 @@ grown v j t history call first pre same = (
       ∙ ap (λ l. l ++ entry j call ∷ []) (same ∙ first),
 )
 
+-- so it is of a seat after a draw, a turn and a release
 pub grows : (v : View) (j t : ℕ) (history : List Entry) (call : Call)
     (c0 c1 : List (ℕ × Option Catalog)) (a b d : Seated) → a ≡ (with_ticket v j t, c0)
     → b ≡ (at_turn a.0 history, c1)
-    → d ≡ (idle_view b.0.share b.0.carried (b.0.seen ++ entry (number_of b.0) call ∷ []), [])
+    → d ≡ (
+      idle_view b.0.share b.0.carried
+          (b.0.seen ++ entry (last_drawn_number b.0) call ∷ []),
+      [],
+    )
     → calls_under (j ∷ v.carried) v.seen ≡ calls_under v.carried v.seen → IsPrefix a.0.seen history
     → calls_under a.0.carried history ≡ calls_under a.0.carried a.0.seen → Grows v d.0 call
 grows v j t history call c0 c1 a b d e1 e2 e3 first pre same =
     subst (λ (m : Seated). Grows v m.0 call) (sym e3)
     (subst (λ (m : Seated). Grows v
-    (idle_view m.0.share m.0.carried (m.0.seen ++ entry (number_of m.0) call ∷ [])) call)
+    (idle_view m.0.share m.0.carried (m.0.seen ++ entry (last_drawn_number m.0) call ∷ [])) call)
     (sym e2)
     (subst (λ (m : Seated). IsPrefix m.0.seen history
     → calls_under m.0.carried history ≡ calls_under m.0.carried m.0.seen
-    → Grows v (idle_view m.0.share m.0.carried (history ++ entry (number_of m.0) call ∷ []))
+    → Grows v (idle_view m.0.share m.0.carried (history ++ entry (last_drawn_number m.0) call ∷ []))
     call) (sym e1)
     (λ p s. grown v j t history call first p s) pre same))
 
@@ -108,11 +115,12 @@ makes_call bank then v w call g before after = record {
 pub known_after : OneList → (before after : Catalog) (m : Seated) (history : List Entry)
     → genomes_in after ≡ with_call (genomes_in before) (last_call after)
     → genomes_in before ≡ genotypes_of history → m.0.seen ≡ history
-    → genomes_in after ≡ genotypes_of (m.0.seen ++ entry (number_of m.0) (last_call after) ∷ [])
+    → genomes_in after ≡ genotypes_of
+    (m.0.seen ++ entry (last_drawn_number m.0) (last_call after) ∷ [])
 known_after one_list before after m history served known seen =
     served ∙ (ap (λ genomes. with_call genomes (last_call after))
     (known ∙ ap genotypes_of (sym seen))
-    ∙ sym (genotypes_of_push one_list m.0.seen (entry (number_of m.0) (last_call after))))
+    ∙ sym (genotypes_of_push one_list m.0.seen (entry (last_drawn_number m.0) (last_call after))))
 
 -- a history begins with what was seen before a call
 pub MakesCall-begins : (before after : SeatValue) (call : Call) → MakesCall before after call

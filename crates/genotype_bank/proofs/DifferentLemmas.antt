@@ -6,6 +6,7 @@ use Rattle.std.specs.Cmp.{IsEquivalence}
 use mathlib.Core.Logic.{dite}
 use native.Mathlib.Decide.{dec_lt}
 use Rattle.std.specs.List.{filter, find, list_any, cons_option}
+use Rattle.std.specs.Bool.{Decides}
 use Rattle.std.proofs.lemmas.Bool.Decides.{same_from_decides}
 use Rattle.std.proofs.lemmas.List.{map_push}
 use Rattle.std.proofs.lemmas.Map.Views.{Contains-from_any, list_any-from_Contains}
@@ -20,13 +21,17 @@ use Rattle.instruction_set.specs.Letter.{same_letters}
 use Rattle.genotype_bank.specs.declared.view.Entry.{Entry}
 use Rattle.genotype_bank.specs.declared.view.Call.{Call}
 use Rattle.genotype_bank.specs.declared.view.Call.TheVariants.{Interned, Refused}
-use Rattle.genotype_bank.specs.BankHistory.{HasEachOnce, different_of, genome_of, genomes_of, genotypes_of, with_call, with_genome}
+use Rattle.genotype_bank.specs.BankHistory.{HasEachOnce, different_of, genomes_of, genotypes_of, interned_genome, with_call, with_genome}
 use Rattle.genotype_bank.specs.Seats.{NumbersAgree}
-use Rattle.genotype_bank.proofs.GenomeLemmas.{OneList}
 use Rattle.genotype_bank.proofs.MemberLemmas.{Contains-filter_map_permuted}
 
+-- the letters of a genome
 abbrev Letters : Type 0
 Letters = List Letter
+
+-- the test of two lists of letters tells which are one list
+abbrev pub OneList : Type 0
+OneList = (one other : List Letter) → Decides (same_letters one other) (one ≡ other)
 
 -- a test of what is seen of the members
 list_any-map : {A B : Type 0} (eq : A → Bool) (same : B → Bool) (see : A → B)
@@ -80,6 +85,7 @@ module _ (one_list : OneList) where
   abbrev others_of : Letters → List Letters → List Letters
   others_of x xs = filter (λ y. not (same_letters x y)) xs
 
+  -- the test of two lists of letters says the same in either order
   same-comm : (x y : Letters) → same_letters x y ≡ same_letters y x
   same-comm x y =
       same_from_decides {P = x ≡ y} (same_letters x y) (same_letters y x) (one_list x y)
@@ -97,6 +103,7 @@ module _ (one_list : OneList) where
       others ∙ ap (λ b. b || list_any (same_letters x) zs) (sym other)
   list_any-step x y z zs differ others false is = ap (λ b. same_letters x z || b) others
 
+  -- who differs from a member is among the others where it is among all
   list_any-others_of : (x y : Letters) → same_letters x y ≡ false → (zs : List Letters)
       → list_any (same_letters x) (others_of y zs) ≡ list_any (same_letters x) zs
   list_any-others_of x y differ [] = refl
@@ -128,6 +135,7 @@ module _ (one_list : OneList) where
       (filter-append (λ z. not (same_letters y z)) zs (x ∷ [])
       ∙ ap (λ ys. others_of y zs ++ ys) one))
 
+  -- the different ones of some genomes with one more, which may be one of them
   different_of_push : (xs : List Letters) (x : Letters)
       → different_of (xs ++ x ∷ []) ≡ with_genome (different_of xs) x
   different_of_push [] x = refl
@@ -140,14 +148,17 @@ module _ (one_list : OneList) where
   pub genotypes_of_push : (history : List Entry) (last : Entry)
       → genotypes_of (history ++ last ∷ []) ≡ with_call (genotypes_of history) last.call
   genotypes_of_push history last =
-      ap different_of (filter_map-append (λ (one : Entry). genome_of one.call) history (last ∷ []))
+      ap different_of (filter_map-append (λ (one : Entry). interned_genome one.call) history
+      (last ∷ []))
       ∙ by last.call
     where
-      by : (call : Call) → different_of (genomes_of history ++ cons_option (genome_of call) [])
+      by : (call : Call) → different_of
+          (genomes_of history ++ cons_option (interned_genome call) [])
           ≡ with_call (genotypes_of history) call
       by (Interned genome) = different_of_push (genomes_of history) genome
       by Refused = ap different_of (append-nil (genomes_of history))
 
+  -- genotypes with one genome more begin with these genotypes
   with_genome-begins : (genotypes : List Letters) (genome : Letters)
       → IsPrefix genotypes (with_genome genotypes genome)
   with_genome-begins genotypes genome = by (list_any (same_letters genome) genotypes)
@@ -156,10 +167,12 @@ module _ (one_list : OneList) where
       by true = ([], append-nil genotypes)
       by false = (genome ∷ [], refl)
 
+  -- a prefix of a prefix is a prefix
   IsPrefix-trans : (xs ys zs : List Letters) → IsPrefix xs ys → IsPrefix ys zs → IsPrefix xs zs
   IsPrefix-trans xs ys zs a b =
       (a.0 ++ b.0, sym (append_assoc xs a.0 b.0) ∙ (ap (λ l. l ++ b.0) a.1 ∙ b.1))
 
+  -- the different ones of some genomes come first where more genomes come behind
   different_of-longer : (xs ys : List Letters)
       → IsPrefix (different_of xs) (different_of (xs ++ ys))
   different_of-longer xs [] =
@@ -186,10 +199,11 @@ module _ (one_list : OneList) where
   genotypes_of-begins early history p =
       different_of-begins (genomes_of early) (genomes_of history) (
         genomes_of p.0,
-        sym (filter_map-append (λ (one : Entry). genome_of one.call) early p.0)
+        sym (filter_map-append (λ (one : Entry). interned_genome one.call) early p.0)
             ∙ ap genomes_of p.1,
       )
 
+  -- the test of two lists of letters is an equivalence
   same_letters-equivalence : IsEquivalence same_letters
   same_letters-equivalence = record {
     refl = λ x. (one_list x x).1 refl;
@@ -201,6 +215,7 @@ module _ (one_list : OneList) where
   abbrev AreApart : List Letters → Type 0
   AreApart xs = AllPairs (λ one other. one ≢ other) xs
 
+  -- genotypes of which no two are equal have no two equal with one genome more
   AreApart-with_genome : (known : List Letters) (new : Letters) → AreApart known
       → AreApart (with_genome known new)
   AreApart-with_genome known new apart = by (list_any (same_letters new) known) refl
@@ -212,6 +227,7 @@ module _ (one_list : OneList) where
           true≢false (sym (list_any-from_Contains same_letters-equivalence new known
           (subst (Contains known) is (Contains-get_or known k d l))) ∙ e))
 
+  -- the different ones of some genomes are apart still where more genomes come behind
   AreApart-longer : (xs ys : List Letters) → AreApart (different_of xs)
       → AreApart (different_of (xs ++ ys))
   AreApart-longer xs [] apart = subst (λ l. AreApart (different_of l)) (sym (append-nil xs)) apart
@@ -221,9 +237,11 @@ module _ (one_list : OneList) where
       (subst AreApart (sym (different_of_push xs y))
       (AreApart-with_genome (different_of xs) y apart)))
 
+  -- no two of the different ones of some genomes are equal
   AreApart-different_of : (xs : List Letters) → AreApart (different_of xs)
   AreApart-different_of xs = AreApart-longer [] xs (λ i j d below within. absurd (omega arith))
 
+  -- a genome is among the different ones of some where it is among these
   list_any-different_of : (x : Letters) (ys : List Letters)
       → list_any (same_letters x) (different_of ys) ≡ list_any (same_letters x) ys
   list_any-different_of x [] = refl
@@ -235,6 +253,7 @@ module _ (one_list : OneList) where
       by rest true e = refl
       by rest false e = list_any-others_of x y e (different_of ys) ∙ rest
 
+  -- a member of one list is a member of another, if the test finds it in both or in neither
   Contains-by : (xs ys : List Letters) (x : Letters)
       → list_any (same_letters x) xs ≡ list_any (same_letters x) ys → Contains xs x → Contains ys x
   Contains-by xs ys x e h =
@@ -253,6 +272,7 @@ module _ (one_list : OneList) where
     once = AreApart-different_of genomes;
   }
 
+  -- what is known or new is among what is known with the new one
   Contains-with_genome : (known : List Letters) (new x : Letters) → Contains known x ⊎ (new ≡ x)
       → Contains (with_genome known new) x
   Contains-with_genome known new x h = by (list_any (same_letters new) known) refl
@@ -265,6 +285,7 @@ module _ (one_list : OneList) where
       by false e = ⊎_elim (λ (k : Contains known x). Contains-append_left known (new ∷ []) x k)
           (λ (is : new ≡ x). subst (Contains (known ++ new ∷ [])) is (Contains-push known new)) h
 
+  -- what is among what is known with the new one is known or new
   Contains-with_genome_cases : (known : List Letters) (new x : Letters)
       → Contains (with_genome known new) x → Contains known x ⊎ (new ≡ x)
   Contains-with_genome_cases known new x = by (list_any (same_letters new) known)
@@ -298,7 +319,7 @@ module _ (one_list : OneList) where
       → HasEachOnce (genotypes_of history) (genomes_of calls)
   HasEachOnce-genotypes_of history calls same =
       let each = HasEachOnce-different_of (genomes_of history) in
-      let genome_in : Entry → Option Letters = λ one. genome_of one.call in record {
+      let genome_in : Entry → Option Letters = λ one. interned_genome one.call in record {
         members = λ x. (
           (λ (h : Contains (genotypes_of history) x). Contains-filter_map_permuted genome_in history
               calls x same ((each.members x).0 h)),
@@ -309,6 +330,7 @@ module _ (one_list : OneList) where
         once = each.once;
       }
 
+  -- what has a place in a prefix has the same place in the whole
   slice_get-begins : (xs ys : List Letters) (i : ℕ) (x : Letters) → IsPrefix xs ys
       → slice_get xs i ≡ Some x → slice_get ys i ≡ Some x
   slice_get-begins xs ys i x p e = subst (λ l. slice_get l i ≡ Some x) p.1 (front xs i e)
@@ -352,6 +374,7 @@ module _ (one_list : OneList) where
           front at lt = get_or_from_slice_get known number new new
               (sym (slice_get-front known number lt) ∙ at)
 
+  -- where no two genomes are equal, each has one place
   one_place : (xs : List Letters) → AreApart xs → (i j : ℕ) (x : Letters) → slice_get xs i ≡ Some x
       → slice_get xs j ≡ Some x → i ≡ j
   one_place xs apart i j x a b = dite (dec_lt i j)
@@ -362,6 +385,7 @@ module _ (one_list : OneList) where
       (get_or_from_slice_get xs j x x b ∙ sym (get_or_from_slice_get xs i x x a))))
       (λ le. omega arith))
 
+  -- two prefixes of one history number genomes alike
   pub numbers_agree : NumbersAgree
   numbers_agree early late history number other genome twin p q a b =
       let x = slice_get-begins (genotypes_of early) (genotypes_of history) number genome

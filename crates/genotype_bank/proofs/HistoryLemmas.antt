@@ -17,27 +17,33 @@ use Rattle.genotype_bank.specs.BankSteps.{longer}
 abbrev pub own_if : Bool → Entry → List Entry → List Entry
 own_if b e es = cond b (e ∷ es) es
 
+-- 0 isn't 1
 pub zero_one : ◌≡◌ {A = ℕ} 0 1 → ⊥
 zero_one h = omega arith
 
+-- nothing isn't something
 pub none_some : (t : ℕ) → None ≡ Some t → ⊥
 none_some t e = zero_one (ap one_if e)
 
+-- the number, or 0 where there is none
 abbrev pub value : Option ℕ → ℕ
 value None = 0
 value (Some t) = t
 
+-- a test that does not hold is false
 pub not_so : (b : Bool) → (b ≡ true → ⊥) → b ≡ false
 not_so true nay = absurd (nay refl)
 not_so false nay = refl
 
+-- false isn't true
 pub off : false ≡ true → ⊥
 off e = true≢false (sym e)
 
+-- an empty list has nothing at any place
 pub nothing_there : {A : Type 0} (k : ℕ) (a : A) → get_elem? [] k ≡ some a → ⊥
 nothing_there k a e = some-ne-none a (sym e)
 
--- the calls stay the same where a number is added that none of the others is_among
+-- the calls stay the same where a number is added that none of the others has
 pub has_more : (id n : ℕ) (c : List ℕ) → (n ≡ id → is_among id c ≡ true)
     → is_among n (id ∷ c) ≡ is_among n c
 has_more id n c known = dite (ℕ_discrete n id)
@@ -45,6 +51,7 @@ has_more id n c known = dite (ℕ_discrete n id)
     (ap (λ b. b || is_among id c) (eq-eqb id id refl) ∙ sym (known is)))
     (λ ne. ap (λ b. b || is_among n c) (ne_eqb n id ne))
 
+-- one number more adds no calls, if it is one of the others where a call has it
 pub own_more : (id : ℕ) (c : List ℕ) (h : List Entry)
     → ((i : ℕ) (e : Entry) → get_elem? h i ≡ some e → e.seat ≡ id → is_among id c ≡ true)
     → calls_under (id ∷ c) h ≡ calls_under c h
@@ -53,20 +60,23 @@ own_more id c (e ∷ es) known =
     (λ i. own_if (has_more id e.seat c (known 0 e refl) i) e
     (own_more id c es (λ k x at is. known (suc k) x at is) i))
 
--- what stands in a beginning stands in the all_shares
+-- what stands in a beginning stands in the whole
 pub in_front : {A : Type 0} (h history : List A) (i : ℕ) (e : A) → IsPrefix h history
     → get_elem? h i ≡ some e → get_elem? history i ≡ some e
 in_front h history i e pre at = subst (λ l. get_elem? l i ≡ some e) pre.1 (at_longer h pre.0 i e at)
 
+-- a number among these and one more is among these, or is that one
 pub has_back : (id n : ℕ) (c : List ℕ) → is_among n (id ∷ c) ≡ true → (is_among n c ≡ true)
     ⊎ (n ≡ id)
 has_back id n c h = dite (ℕ_discrete n id) (λ is. inr is)
     (λ ne. inl (sym (ap (λ b. b || is_among n c) (ne_eqb n id ne)) ∙ h))
 
+-- a number among these is among these and one more
 pub has_front : (id n : ℕ) (c : List ℕ) → is_among n c ≡ true → is_among n (id ∷ c) ≡ true
 has_front id n c h = dite (ℕ_discrete n id) (λ is. ap (λ b. b || is_among n c) (eq-eqb n id is))
     (λ ne. ap (λ b. b || is_among n c) (ne_eqb n id ne) ∙ h)
 
+-- no call is under numbers that no call has
 pub drop_none : (c : List ℕ) (h : List Entry)
     → ((i : ℕ) (e : Entry) → get_elem? h i ≡ some e → is_among e.seat c ≡ true → ⊥)
     → calls_under c h ≡ []
@@ -75,6 +85,7 @@ drop_none c (e ∷ es) nay =
     ap (λ b. own_if b e (calls_under c es)) (not_so (is_among e.seat c) (nay 0 e refl))
     ∙ drop_none c es (λ i x at. nay (suc i) x at)
 
+-- if what was seen has all calls under some numbers, what comes behind has none
 pub own_front : (c : List ℕ) (h r : List Entry) → SawOwn c h (h ++ r)
     → calls_under c (h ++ r) ≡ calls_under c h
 own_front c [] r saw = drop_none c r (λ i e at b. let z : i < 0 = saw i e at b in omega arith)
@@ -83,14 +94,17 @@ own_front c (x ∷ h) r saw =
     (own_front c h r (λ i e at b. let z : suc i < suc (length h) = saw (suc i) e at b in
     omega arith))
 
+-- a prefix that has all calls under some numbers has the same of them as the history
 pub own_seen : (c : List ℕ) (h history : List Entry) → IsPrefix h history → SawOwn c h history
     → calls_under c history ≡ calls_under c h
 own_seen c h history pre saw =
     ap (calls_under c) (sym pre.1) ∙ own_front c h pre.0 (subst (SawOwn c h) (sym pre.1) saw)
 
+-- a prefix of a prefix is a prefix
 pub pre_trans : (xs ys zs : List Entry) → IsPrefix xs ys → IsPrefix ys zs → IsPrefix xs zs
 pre_trans xs ys zs a b = (a.0 ++ b.0, sym (append_assoc xs a.0 b.0) ∙ ap (λ l. l ++ b.0) a.1 ∙ b.1)
 
+-- all calls are under numbers that each call has one of
 pub own_all : (c : List ℕ) (h : List Entry)
     → ((i : ℕ) (e : Entry) → get_elem? h i ≡ some e → is_among e.seat c ≡ true)
     → calls_under c h ≡ h
@@ -98,15 +112,17 @@ own_all c [] all = refl
 own_all c (e ∷ es) all =
     λ i. own_if (all 0 e refl i) e (own_all c es (λ j x at. all (suc j) x at) i)
 
--- two beginnings of one history
+-- a history without its first entry
 abbrev pub cut : List Entry → List Entry
 cut [] = []
 cut (x ∷ xs) = xs
 
+-- the first entry, or this one where there is none
 abbrev pub head_or : Entry → List Entry → Entry
 head_or e [] = e
 head_or e (x ∷ xs) = x
 
+-- of two beginnings of one history, one that is not longer is a beginning of the other
 pub pre_two : (xs ys history : List Entry) → IsPrefix xs history → IsPrefix ys history
     → length xs ≤ length ys → IsPrefix xs ys
 pre_two [] ys history a b le = (ys, refl)
@@ -116,10 +132,12 @@ pre_two (x ∷ xs) (y ∷ ys) history a b le =
     let t = pre_two xs ys (cut history) (a.0, ap cut a.1) (b.0, ap cut b.1) (omega arith) in
     (t.0, λ i. ap (head_or x) e i ∷ t.1 i)
 
+-- a beginning is not longer than the history
 pub pre_length : (xs ys : List Entry) → IsPrefix xs ys → length xs ≤ length ys
 pre_length xs ys p =
     let a = length-append xs p.0 in let b = ap (λ (l : List Entry). length l) p.1 in omega arith
 
+-- a beginning that is not shorter than the history is the history
 pub pre_whole : (xs history : List Entry) → IsPrefix xs history → length history ≤ length xs
     → xs ≡ history
 pre_whole xs history p le =
@@ -140,6 +158,7 @@ pick P xs ys a b = by (nat_lt (length xs) (length ys))
     by true = b
     by false = a
 
+-- the longer of two histories is not shorter than either
 pub longer_least : (xs ys : List Entry) → (length xs ≤ length (longer xs ys))
     × (length ys ≤ length (longer xs ys))
 longer_least xs ys = dite (dec_lt (length xs) (length ys))
@@ -150,6 +169,7 @@ longer_least xs ys = dite (dec_lt (length xs) (length ys))
     × (length ys ≤ length (if b then ys else xs)))
     (sym (le-ltb (length xs) (length ys) (omega arith))) (omega arith, omega arith))
 
+-- a number is among two lists put together where it is among one of them
 pub has_app : (n : ℕ) (c d : List ℕ) → is_among n (c ++ d) ≡ (is_among n c || is_among n d)
 has_app n [] d = refl
 has_app n (x ∷ c) d =
@@ -159,6 +179,7 @@ has_app n (x ∷ c) d =
     or_assoc true b c = refl
     or_assoc false b c = refl
 
+-- a number among two lists put together is among the first or the second
 pub either_has : (n : ℕ) (c d : List ℕ) → is_among n (c ++ d) ≡ true → (is_among n c ≡ true)
     ⊎ (is_among n d ≡ true)
 either_has n c d h = by (is_among n c) refl (sym (has_app n c d) ∙ h)
@@ -168,9 +189,11 @@ either_has n c d h = by (is_among n c) refl (sym (has_app n c d) ∙ h)
     by true is e = inl is
     by false is e = inr e
 
+-- a number of the first list is among both put together
 pub has_left : (n : ℕ) (c d : List ℕ) → is_among n c ≡ true → is_among n (c ++ d) ≡ true
 has_left n c d h = has_app n c d ∙ ap (λ b. b || is_among n d) h
 
+-- a number of the second list is among both put together
 pub has_right : (n : ℕ) (c d : List ℕ) → is_among n d ≡ true → is_among n (c ++ d) ≡ true
 has_right n c d h = has_app n c d ∙ (ap (λ b. is_among n c || b) h ∙ or_true (is_among n c))
   where

@@ -1,5 +1,4 @@
 pub mod DifferentLemmas
-pub mod GenomeLemmas
 pub mod MemberLemmas
 pub mod ViewLemmas
 pub mod HistoryLemmas

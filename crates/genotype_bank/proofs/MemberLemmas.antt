@@ -10,6 +10,7 @@ module _ {X : Type 0} where
   Contains-nil : (x : X) → Contains [] x → ⊥
   Contains-nil x h = let l : h.0 < 0 = h.1 in absurd (omega arith)
 
+  -- a member of a list is its first item or a member of the rest
   Contains-cons_cases : (y : X) (xs : List X) (x : X) → Contains (y ∷ xs) x
       → (y ≡ x) ⊎ Contains xs x
   Contains-cons_cases y xs x h = by h.0 h.1 h.2
@@ -18,13 +19,16 @@ module _ {X : Type 0} where
       by zero l e = inl e
       by (suc k) l e = inr (k, (omega arith), e)
 
+  -- a member of the rest is a member of the list
   Contains-cons : (y : X) (xs : List X) (x : X) → Contains xs x → Contains (y ∷ xs) x
   Contains-cons y xs x h = Contains-append_right (y ∷ []) xs x h
 
+  -- the first item is a member
   Contains-here : (y : X) (xs : List X) (x : X) → y ≡ x → Contains (y ∷ xs) x
   Contains-here y xs x e = subst (Contains (y ∷ xs)) e (Contains-get_or (y ∷ xs) 0 y (omega arith))
 
 module _ {X Y : Type 0} (f : X → Option Y) where
+  -- the value that a member has is kept
   Contains-filter_map : (xs : List X) (x : X) (y : Y) → Contains xs x → f x ≡ Some y
       → Contains (filter_map f xs) y
   Contains-filter_map [] x y h e = absurd (Contains-nil x h)
@@ -39,6 +43,7 @@ module _ {X Y : Type 0} (f : X → Option Y) where
       by None k = k
       by (Some w) k = Contains-cons w (filter_map f xs) y k
 
+  -- a value that is kept is that of a member
   Contains-filter_map_cases : (xs : List X) (y : Y) → Contains (filter_map f xs) y
       → (x : X) × Contains xs x × (f x ≡ Some y)
   Contains-filter_map_cases [] y h = absurd (Contains-nil y h)

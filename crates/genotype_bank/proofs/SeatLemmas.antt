@@ -13,14 +13,15 @@ use Rattle.genotype_bank.specs.declared.view.Memo.{Memo}
 use Rattle.genotype_bank.specs.declared.view.Entry.{Entry}
 use Rattle.genotype_bank.specs.BankHistory.{genotypes_of, is_among}
 use Rattle.genotype_bank.specs.Seats.{all_shares}
-use Rattle.genotype_bank.specs.Views.{idle_view, first_view, spent_view, total, share_of, draws_of, one_if, Carries, FitsHistory, SomeSeat, NumbersArePlaces, SawOwn}
+use Rattle.genotype_bank.specs.Views.{idle_view, first_view, spent_view, total, seat_share, draws_of, one_if, Carries, FitsHistory, SomeSeat, NumbersArePlaces, SawOwn}
 use Rattle.genotype_bank.specs.Catalog.{genomes_in}
 use Rattle.genotype_bank.specs.BankTable.{IsBankTable, Seated}
 use Rattle.genotype_bank.specs.BankSteps.{kept_half, new_half, joined_view, longer, memo_of, HasRecalled}
-use Rattle.genotype_bank.proofs.ViewLemmas.{within, one_there, total_set, total_snoc, each_set, each_snoc, only_set, only_keep, only_snoc, some_set, some_snoc, placed_set, placed_keep, placed_snoc, total_ge, set_swap}
+use Rattle.genotype_bank.proofs.ViewLemmas.{within, one_there, total_set, total_snoc, each_set, each_snoc, only_set, only_keep, only_snoc, seats_kept, some_set, some_snoc, placed_set, placed_keep, placed_snoc, total_ge, set_swap}
 use Rattle.genotype_bank.proofs.HistoryLemmas.{none_some, off, nothing_there, in_front, own_seen, own_all, pre_two, pre_whole, pick, longer_least, either_has, has_left, has_right}
 use Rattle.genotype_bank.proofs.TableLemmas.{fits_idle, fits_new, others_spent, carried_all, whole_seen}
 
+-- a bank begins with an empty catalog and one whole seat, by the rule
 pub begins : (d : Catalog) → genomes_in d ≡ []
     → IsBankTable (opening (0 ∷ 0 ∷ []) (Some d ∷ []) first_view)
 begins d empty = record {
@@ -61,6 +62,7 @@ begins d empty = record {
         absurd (off (subst (λ (u : View). Carries u n) (sym (some-injective first_view v e)) c))
     none_carried (suc j) v n e c = absurd (nothing_there j v e)
 
+-- a seat that keeps all but a share of 1, which a new seat gets, keeps the rule
 pub splits : (id : ℕ) (v : View) → 2 ≤ v.share → v.ticket ≡ None → v.holding ≡ false
     → Splits IsBankTable id v (kept_half v) (new_half v)
 splits id v two free idle' s k at =
@@ -82,10 +84,10 @@ splits id v two free idle' s k at =
           (only_keep (λ (u : View). u.ticket ≡ Some t) s.views id v left at (k.turn t)
           (λ e. absurd (none_some t e))) (λ e. absurd (none_some t e));
       seats = record {
-        shares = (let x : total share_of a + v.share ≡ total share_of s.views + (v.share - 1) =
-            total_set share_of s.views id v left at in
-            let y : total share_of (a ++ right ∷ []) ≡ total share_of a + 1 =
-            total_snoc share_of a right in let z = k.seats.shares in omega arith);
+        shares = (let x : total seat_share a + v.share ≡ total seat_share s.views + (v.share - 1) =
+            total_set seat_share s.views id v left at in
+            let y : total seat_share (a ++ right ∷ []) ≡ total seat_share a + 1 =
+            total_snoc seat_share a right in let z = k.seats.shares in omega arith);
         apart = λ n. only_snoc (λ (u : View). Carries u n) a right
             (only_keep (λ (u : View). Carries u n) s.views id v left at (k.seats.apart n) (λ c. c))
             (λ c. absurd (off c));
@@ -111,6 +113,7 @@ splits id v two free idle' s k at =
           )) k.state;
     }
 
+-- joining a seat into another, which leaves it spent, keeps the rule
 pub joins : (id : ℕ) (v : View) (other : ℕ) (w : View) → 0 < v.share → v.ticket ≡ None
     → w.ticket ≡ None → v.holding ≡ false → w.holding ≡ false
     → Joins IsBankTable id v other w (joined_view v w) spent_view
@@ -126,7 +129,7 @@ joins id v other w pos free free' idle' idle'' s k at apart there =
     let least = longer_least v.seen w.seen in
     let pre = pick (λ l. IsPrefix l k.history) v.seen w.seen f.begins g.begins in
     let mine = set_here one id b (within one id v at1) in
-    -- a fact that some view is_among: the joined seat is_among it, or another does
+    -- a fact that some view has: the joined seat has it, or another does
     let move : (P : View → Type 0) → (P v → P b) → (P w → P b) → SomeSeat P s.views
     → SomeSeat P (set one id b) = λ P from_v from_w c.
     dite (ℕ_discrete c.0 other)
@@ -157,10 +160,10 @@ joins id v other w pos free free' idle' idle'' s k at apart there =
           (only_keep (λ (u : View). u.ticket ≡ Some t) s.views other w spent_view there' (k.turn t)
           (λ e. absurd (none_some t e))) (λ e. absurd (none_some t e));
       seats = record {
-        shares = (let x : total share_of one + w.share ≡ total share_of s.views + 0 =
-            total_set share_of s.views other w spent_view there' in
-            let y : total share_of (set one id b) + v.share
-            ≡ total share_of one + (v.share + w.share) = total_set share_of one id v b at1 in
+        shares = (let x : total seat_share one + w.share ≡ total seat_share s.views + 0 =
+            total_set seat_share s.views other w spent_view there' in
+            let y : total seat_share (set one id b) + v.share
+            ≡ total seat_share one + (v.share + w.share) = total_set seat_share one id v b at1 in
             let z = k.seats.shares in omega arith);
         apart = λ n. only_set (λ (u : View). Carries u n) one id b
             (only_keep (λ (u : View). Carries u n) s.views other w spent_view there'
@@ -279,6 +282,7 @@ joins id v other w pos free free' idle' idle'' s k at apart there =
     two v w no' zero (suc (suc j)) x y n a b c d = absurd (nothing_there j y b)
     two v w no' (suc zero) (suc (suc j)) x y n a b c d = absurd (nothing_there j y b)
 
+-- a joined seat learns of the seats that it was joined from, and keeps the rule
 pub recalls : (slots id : ℕ) (m : Seated) → 0 < m.0.share → m.0.ticket ≡ None → m.0.holding ≡ false
     → Allows IsBankTable slots id m 0 (λ n. n) (HasRecalled (step slots 0 0 0 none) m)
 recalls slots id m pos free idle' s k wide at small =
@@ -299,18 +303,10 @@ recalls slots id m pos free idle' s k wide at small =
             let o = k.out in omega arith);
         turn = λ n. only_keep (λ (u : View). u.ticket ≡ Some n) s.views id v w at (k.turn n)
             (λ is. absurd (none_some n is));
-        seats = record {
-          shares = (let x : total share_of (set s.views id w) + v.share
-              ≡ total share_of s.views + v.share = total_set share_of s.views id v w at in let z =
-              k.seats.shares in omega arith);
-          apart = λ n. only_keep (λ (u : View). Carries u n) s.views id v w at (k.seats.apart n)
-              (λ c. c);
-          placed = placed_keep s.views id v w at (λ p. p) (λ n c. c) k.seats.placed;
-          called = λ i x there. some_set (λ (u : View). Carries u x.seat) s.views id v w at (λ c. c)
-              (k.seats.called i x there);
-          known =
-              some_set (λ (u : View). u.seen ≡ k.history) s.views id v w at (λ c. c) k.seats.known;
-        };
+        seats = seats_kept k.history k.history s.views id v w at refl refl k.seats
+            (λ i x there. some_set (λ (u : View). Carries u x.seat) s.views id v w at (λ c. c)
+            (k.seats.called i x there))
+            (some_set (λ (u : View). u.seen ≡ k.history) s.views id v w at (λ c. c) k.seats.known);
         each = each_set (λ j u. FitsHistory k.history k.drawn u) s.views id w
             (λ j u _ e. k.each j u e) (fits_idle k.history k.drawn v v.share f pos);
         state = ⊎_elim inl (λ o.
@@ -328,13 +324,14 @@ recalls slots id m pos free idle' s k wide at small =
               (λ i e at' b. q.1 i e (in_front v.seen k.history i e f.begins at') b),
         )),
         f.once,
-        (let a = total_ge share_of s.views id v at in let z = k.seats.shares in omega arith),
+        (let a = total_ge seat_share s.views id v at in let z = k.seats.shares in omega arith),
         λ all. own_all v.carried v.seen
             (λ i e there. carried_all s k id v at all i e
             (in_front v.seen k.history i e f.begins there)),
       ),
     )
 
+-- when a whole seat closes a bank, the catalog has the genotypes of all that it has seen
 pub closes : (id : ℕ) (v : View) (ws : List ℕ) (xs : List (Option Catalog)) → v.share ≡ all_shares
     → v.holding ≡ false → Final (Seen IsBankTable id v) ws xs
     → (d : Catalog) × (get_elem? xs 0 ≡ some (Some d)) × (genomes_in d ≡ genotypes_of v.seen)

@@ -10,7 +10,7 @@ use Rattle.genotype_bank.specs.declared.catalog.Catalog.{Catalog}
 use Rattle.genotype_bank.specs.declared.view.View.{View}
 use Rattle.genotype_bank.specs.declared.view.Entry.{Entry}
 use Rattle.genotype_bank.specs.Seats.{all_shares}
-use Rattle.genotype_bank.specs.Views.{idle_view, spent_view, total, share_of, draws_of, one_if, Carries, FitsHistory}
+use Rattle.genotype_bank.specs.Views.{idle_view, spent_view, total, seat_share, draws_of, one_if, Carries, FitsHistory}
 use Rattle.genotype_bank.specs.BankTable.{IsBankTable}
 use Rattle.genotype_bank.proofs.ViewLemmas.{one_there, total_set, total_le, total_ge}
 use Rattle.genotype_bank.proofs.HistoryLemmas.{none_some, off, nothing_there, pre_whole}
@@ -29,6 +29,7 @@ fits_idle history drawn v share f pos = record {
   once = λ k l m o n at _ _ _. absurd (nothing_there k m at);
 }
 
+-- a new seat without calls, which has seen the same
 pub fits_new : (history : List Entry) (drawn : ℕ) (v : View) → FitsHistory history drawn v
     → FitsHistory history drawn (idle_view 1 [] v.seen)
 fits_new history drawn v f = record {
@@ -41,7 +42,7 @@ fits_new history drawn v f = record {
   once = λ k l m o n at _ _ _. absurd (nothing_there k m at);
 }
 
--- an entry with the seat's calls_under number is one of those that it Carries
+-- an entry under the seat's number is one of those that it carries
 pub own_number : (s : State (Option Catalog) View) (k : IsBankTable s) (id : ℕ) (v : View)
     → get_elem? s.views id ≡ some v → 0 < v.share → (i : ℕ) (e : Entry)
     → get_elem? k.history i ≡ some e → e.seat ≡ id → Carries v id
@@ -55,12 +56,13 @@ own_number s k id v at pos i e there is =
     one_there s.views id c.1 v (subst (λ n. get_elem? s.views n ≡ some c.1) j_is c.2) at in
     subst (λ (y : View × ℕ). Carries y.0 y.1) (λ i. (w_is i, is i)) c.3
 
+-- no more than 4294967296 tickets are out
 pub draws_below : (s : State (Option Catalog) View) (k : IsBankTable s)
     → total draws_of s.views ≤ 4294967296
-draws_below s k = let h = total_le draws_of share_of s.views one in
-    let z : total share_of s.views ≡ 4294967296 = k.seats.shares in omega arith
+draws_below s k = let h = total_le draws_of seat_share s.views one in
+    let z : total seat_share s.views ≡ 4294967296 = k.seats.shares in omega arith
   where
-    one : (j : ℕ) (v : View) → get_elem? s.views j ≡ some v → draws_of v ≤ share_of v
+    one : (j : ℕ) (v : View) → get_elem? s.views j ≡ some v → draws_of v ≤ seat_share v
     one j v at = dite (ℕ_discrete v.share 0)
         (λ e. let f = k.each j v at in let z : draws_of v ≡ 0 = ap draws_of (f.spent e) in
         omega arith)
@@ -78,19 +80,20 @@ drawn_lives history drawn v t f is =
     (λ e. absurd (none_some t (sym (ap (λ (u : View). u.ticket) (f.spent e)) ∙ is)))
     (λ ne. omega arith)
 
--- Where a seat is all_shares, the others are spent
+-- where a seat has all shares, the others are spent
 pub others_spent : (s : State (Option Catalog) View) (k : IsBankTable s) (id : ℕ) (w : View)
     → get_elem? s.views id ≡ some w → w.share ≡ all_shares → (j : ℕ) (u : View)
     → get_elem? s.views j ≡ some u → j ≢ id → u ≡ spent_view
 others_spent s k id w at all j u there ne =
-    let a : total share_of (set s.views id spent_view) + w.share ≡ total share_of s.views + 0 =
-    total_set share_of s.views id w spent_view at in
-    let b : u.share ≤ total share_of (set s.views id spent_view) =
-    total_ge share_of (set s.views id spent_view) j u
+    let a : total seat_share (set s.views id spent_view) + w.share ≡ total seat_share s.views + 0 =
+    total_set seat_share s.views id w spent_view at in
+    let b : u.share ≤ total seat_share (set s.views id spent_view) =
+    total_ge seat_share (set s.views id spent_view) j u
     (set_else s.views id j spent_view ne ∙ there) in
     let c = k.seats.shares in
     (k.each j u there).spent (omega arith)
 
+-- a whole seat carries the number of each call
 pub carried_all : (s : State (Option Catalog) View) (k : IsBankTable s) (id : ℕ) (w : View)
     → get_elem? s.views id ≡ some w → w.share ≡ all_shares → (i : ℕ) (e : Entry)
     → get_elem? k.history i ≡ some e → Carries w e.seat
@@ -100,6 +103,7 @@ carried_all s k id w at all i e there = let c = k.seats.called i e there in dite
     (λ ne. absurd (off (subst (λ (u : View). Carries u e.seat)
     (others_spent s k id w at all c.0 c.1 c.2 ne) c.3)))
 
+-- a whole seat has seen the whole history
 pub whole_seen : (s : State (Option Catalog) View) (k : IsBankTable s) (id : ℕ) (v : View)
     → get_elem? s.views id ≡ some v → v.share ≡ all_shares → v.seen ≡ k.history
 whole_seen s k id v at all = let c = k.seats.known in dite (ℕ_discrete c.0 id)

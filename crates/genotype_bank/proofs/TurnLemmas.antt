@@ -12,14 +12,15 @@ use Rattle.genotype_bank.specs.declared.catalog.Catalog.{Catalog}
 use Rattle.genotype_bank.specs.declared.view.View.{View}
 use Rattle.genotype_bank.specs.declared.view.Entry.{Entry}
 use Rattle.genotype_bank.specs.BankHistory.{entry, genotypes_of, is_among}
-use Rattle.genotype_bank.specs.Views.{idle_view, total, share_of, draws_of, one_if, Carries, FitsHistory, SawOwn}
+use Rattle.genotype_bank.specs.Views.{idle_view, total, seat_share, draws_of, one_if, Carries, FitsHistory, SawOwn}
 use Rattle.genotype_bank.specs.Catalog.{genomes_in, call_in}
 use Rattle.genotype_bank.specs.BankTable.{IsBankTable, Seated}
-use Rattle.genotype_bank.specs.BankSteps.{with_ticket, HasDrawn, at_turn, HasLooked, number_of, after_turn, HasReleased}
-use Rattle.genotype_bank.proofs.ViewLemmas.{within, one_there, total_set, each_set, at_end, only_set, only_keep, some_set, placed_set, placed_keep}
+use Rattle.genotype_bank.specs.BankSteps.{with_ticket, HasDrawn, at_turn, HasLooked, last_drawn_number, after_turn, HasReleased}
+use Rattle.genotype_bank.proofs.ViewLemmas.{within, one_there, total_set, each_set, at_end, only_set, only_keep, seats_kept, some_set, placed_set}
 use Rattle.genotype_bank.proofs.HistoryLemmas.{none_some, value, off, nothing_there, own_more, in_front, has_back, has_front, own_seen, pre_trans, own_all}
 use Rattle.genotype_bank.proofs.TableLemmas.{own_number, draws_below, drawn_lives, carried_all}
 
+-- an idle seat draws a ticket and a number of its own, and keeps the rule
 pub draws : (slots id : ℕ) (m : Seated) → 0 < m.0.share → m.0.ticket ≡ None → m.0.holding ≡ false
     → Allows IsBankTable slots id m 0 (λ n. (n + 1) % 2 ^ 64) (HasDrawn (step slots 0 1 0 none) m)
 draws slots id m pos free idle' s k wide at small =
@@ -56,8 +57,9 @@ draws slots id m pos free idle' s k wide at small =
             (λ is j y _ e other. let same : t ≡ n = ap value is in let b : n < t =
             ((k.each j y e).waits n other).1 in omega arith);
         seats = record {
-          shares = (let x : total share_of (set s.views id w) + v.share
-              ≡ total share_of s.views + v.share = total_set share_of s.views id v w at in let z =
+          shares = (let x : total seat_share (set s.views id w) + v.share
+              ≡ total seat_share s.views + v.share =
+              total_set seat_share s.views id v w at in let z =
               k.seats.shares in omega arith);
           apart =
               λ n. only_set (λ (u : View). Carries u n) s.views id w (k.seats.apart n) (apart' n);
@@ -106,6 +108,7 @@ draws slots id m pos free idle' s k wide at small =
       (id, t, ap (λ ws. get_or ws 0 0) k.words, refl, front),
     )
 
+-- a seat with a ticket gets the catalog in its own turn alone, and keeps the rule
 pub serves : (slots id : ℕ) (m : Seated) (t : ℕ) → m.0.ticket ≡ Some t → m.0.holding ≡ false
     → m.1 ≡ [] → Allows IsBankTable slots id m 1 (λ n. n) (HasLooked (step slots 1 0 0 none) m)
 serves slots id m t mine idle' nothing s k wide at small =
@@ -139,17 +142,10 @@ serves slots id m t mine idle' nothing s k wide at small =
             k.out in omega arith);
         turn =
             λ n. only_keep (λ (u : View). u.ticket ≡ Some n) s.views id v w at (k.turn n) (λ e. e);
-        seats = record {
-          shares = (let x : total share_of (set s.views id w) + v.share
-              ≡ total share_of s.views + v.share = total_set share_of s.views id v w at in let z =
-              k.seats.shares in omega arith);
-          apart = λ n. only_keep (λ (u : View). Carries u n) s.views id v w at (k.seats.apart n)
-              (λ c. c);
-          placed = placed_keep s.views id v w at (λ p. p) (λ n c. c) k.seats.placed;
-          called = λ i e there. some_set (λ (u : View). Carries u e.seat) s.views id v w at (λ c. c)
-              (k.seats.called i e there);
-          known = (id, w, set_here s.views id w (within s.views id v at), refl);
-        };
+        seats = seats_kept k.history k.history s.views id v w at refl refl k.seats
+            (λ i e there. some_set (λ (u : View). Carries u e.seat) s.views id v w at (λ c. c)
+            (k.seats.called i e there))
+            (id, w, set_here s.views id w (within s.views id v at), refl);
         each =
             each_set (λ j u. FitsHistory k.history k.drawn u) s.views id w (λ j u _ e. k.each j u e)
             record {
@@ -199,8 +195,10 @@ serves slots id m t mine idle' nothing s k wide at small =
       (λ t' is. inr ((λ e. miss (e ∙ ap (λ n. n % 2 ^ 64) (ap value (sym is ∙ mine)))), refl)),
     ))
 
+-- a seat ends its turn with its call behind the history, and keeps the rule
 pub releases : (slots id : ℕ) (m : Seated) (d : Catalog) → m.1 ≡ (0, Some d) ∷ []
-    → m.0.holding ≡ true → Carries m.0 (number_of m.0) → genomes_in d ≡ genotypes_of (after_turn m)
+    → m.0.holding ≡ true → Carries m.0 (last_drawn_number m.0)
+    → genomes_in d ≡ genotypes_of (after_turn m)
     → Allows IsBankTable slots id m 1 (λ n. (n + 1) % 2 ^ 64)
     (HasReleased (step slots 1 1 0 none) m)
 releases slots id m d has_d held mine known s k wide at small =
@@ -209,7 +207,7 @@ releases slots id m d has_d held mine known s k wide at small =
     let f = k.each id v at in
     let hold = f.holds held in
     let pos = drawn_lives k.history k.drawn v len f hold.0 in
-    let e = entry (number_of v) (call_in m.1) in
+    let e = entry (last_drawn_number v) (call_in m.1) in
     let history' = k.history ++ e ∷ [] in
     let seen_is : after_turn m ≡ history' = ap (λ l. l ++ e ∷ []) hold.1 in
     let w = idle_view v.share v.carried (after_turn m) in
@@ -223,8 +221,9 @@ releases slots id m d has_d held mine known s k wide at small =
     → SawOwn c h history' = λ j u ne there c sub h saw i x at' b.
     ⊎_elim (λ (a : get_elem? k.history i ≡ some x). saw i x a b)
     (λ (a : (i ≡ len) × (e ≡ x)).
-    absurd (ne (k.seats.apart (number_of v) j id u v there at
-    (sub (number_of v) (subst (λ (y : Entry). is_among y.seat c ≡ true) (sym a.1) b)) mine)))
+    absurd (ne (k.seats.apart (last_drawn_number v) j id u v there at
+    (sub (last_drawn_number v)
+    (subst (λ (y : Entry). is_among y.seat c ≡ true) (sym a.1) b)) mine)))
     (at_end k.history e x i at') in
     let k' : IsBankTable (stepped s 1 ((get_or s.words 1 0 + 1) % 2 ^ 64) id m.1 w gives) = record {
       history = history';
@@ -238,21 +237,14 @@ releases slots id m d has_d held mine known s k wide at small =
           let o = k.out in omega arith);
       turn = λ n. only_keep (λ (u : View). u.ticket ≡ Some n) s.views id v w at (k.turn n)
           (λ is. absurd (none_some n is));
-      seats = record {
-        shares = (let x : total share_of (set s.views id w) + v.share
-            ≡ total share_of s.views + v.share = total_set share_of s.views id v w at in let z =
-            k.seats.shares in omega arith);
-        apart =
-            λ n. only_keep (λ (u : View). Carries u n) s.views id v w at (k.seats.apart n) (λ c. c);
-        placed = placed_keep s.views id v w at (λ p. p) (λ n c. c) k.seats.placed;
-        called = λ i x there. ⊎_elim
-            (λ (a : get_elem? k.history i ≡ some x). some_set (λ (u : View). Carries u x.seat)
-            s.views id v w at (λ c. c) (k.seats.called i x a))
-            (λ (a : (i ≡ len) × (e ≡ x)).
-            (id, w, here, subst (λ (y : Entry). Carries w y.seat) a.1 mine))
-            (at_end k.history e x i there);
-        known = (id, w, here, seen_is);
-      };
+      seats = seats_kept k.history history' s.views id v w at refl refl k.seats
+          (λ i x there. ⊎_elim
+          (λ (a : get_elem? k.history i ≡ some x). some_set (λ (u : View). Carries u x.seat)
+          s.views id v w at (λ c. c) (k.seats.called i x a))
+          (λ (a : (i ≡ len) × (e ≡ x)).
+          (id, w, here, subst (λ (y : Entry). Carries w y.seat) a.1 mine))
+          (at_end k.history e x i there))
+          (id, w, here, seen_is);
       each = each_set (λ j u. FitsHistory history' k.drawn u) s.views id w
           (λ j u ne there. let g = k.each j u there in record {
             begins = longer_pre u.seen g.begins;

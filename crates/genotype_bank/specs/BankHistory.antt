@@ -17,13 +17,13 @@ call_of true genome = Interned genome
 call_of false genome = Refused
 
 -- the genome that a call interned
-abbrev pub genome_of : Call → Option (List Letter)
-genome_of (Interned genome) = Some genome
-genome_of Refused = None
+abbrev pub interned_genome : Call → Option (List Letter)
+interned_genome (Interned genome) = Some genome
+interned_genome Refused = None
 
 -- the genomes that a history interned, in the order of its calls
 abbrev pub genomes_of : List Entry → List (List Letter)
-genomes_of history = filter_map (λ one. genome_of one.call) history
+genomes_of history = filter_map (λ one. interned_genome one.call) history
 
 -- the different ones of some genomes, in order of their first place
 abbrev pub different_of : List (List Letter) → List (List Letter)

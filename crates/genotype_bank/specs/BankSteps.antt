@@ -86,12 +86,12 @@ joined_view v w =
     }
 
 -- the number under which a seat drew last
-abbrev pub number_of : View → ℕ
-number_of v = slice_index v.carried 0
+abbrev pub last_drawn_number : View → ℕ
+last_drawn_number v = slice_index v.carried 0
 
 -- the history with the call of this turn
 abbrev pub after_turn : Seated → List Entry
-after_turn m = m.0.seen ++ entry (number_of m.0) (call_in m.1) ∷ []
+after_turn m = m.0.seen ++ entry (last_drawn_number m.0) (call_in m.1) ∷ []
 
 -- the release of a turn: the call is the last of the history, and a whole seat made all calls
 abbrev pub HasReleased : Step (Option Catalog) → Seated → ℕ → Seated → Type 0

@@ -35,8 +35,8 @@ total f [] = 0
 total f (v ∷ vs) = f v + total f vs
 
 -- a seat's share
-abbrev pub share_of : View → ℕ
-share_of v = v.share
+abbrev pub seat_share : View → ℕ
+seat_share v = v.share
 
 -- 1 for a ticket
 abbrev pub one_if : Option ℕ → ℕ
@@ -97,7 +97,7 @@ NumbersArePlaces views =
 -- the seats of a bank with this history
 pub record AreSeats (history : List Entry) (views : List View) : Type 0 where
   -- their shares sum up to all
-  pub shares : total share_of views ≡ all_shares
+  pub shares : total seat_share views ≡ all_shares
   -- no two carry one number
   pub apart : (n : ℕ) → AtMostOne (λ v. Carries v n) views
   pub placed : NumbersArePlaces views

@@ -7,6 +7,7 @@ ghost use Rattle.genotype_bank.specs.Letters.{letters_in};
 use crate::handle::Handle;
 use avida_port::Memory;
 use genome::Genome;
+use genome::laws::equal_by_letters;
 use indexmap::IndexSet;
 use instruction_set::laws::one_index;
 use std::alloc::Global;
@@ -57,6 +58,7 @@ fn place(
     ensures small { IfOk result (λ handle. handle.number < 2 ^ 63) }
 {
     one_index();
+    equal_by_letters();
     let _before = genomes.len();
     if let Some((place, known)) = genomes.get_full(&genome) {
         return Ok(Handle {

@@ -3,7 +3,7 @@ ghost use Rattle.std.specs.Prelude.{◌≡◌, ℕ, ◌+◌, ◌-◌, ◌%◌, �
 ghost use mathlib.Core.List.{IsPrefix};
 ghost use Rattle.genotype_bank.specs.BankHistory.{entry, genotypes_of, calls_under};
 ghost use Rattle.genotype_bank.specs.Views.{idle_view, Carries};
-ghost use Rattle.genotype_bank.specs.BankSteps.{with_ticket, at_turn, number_of};
+ghost use Rattle.genotype_bank.specs.BankSteps.{with_ticket, at_turn, last_drawn_number};
 ghost use Rattle.genotype_bank.specs.Catalog.{genomes_in, last_call};
 ghost use Rattle.genotype_bank.specs.Seats.{all_shares};
 ghost use Rattle.genotype_bank.specs.declared.catalog.Catalog.{Catalog};
@@ -96,16 +96,16 @@ impl Bank {
     pub(crate) fn release(&self, pass: &mut Pass)
         requires bank { pass.old.table_id ≡ self.now }
         requires turn { (pass.old.me.0.holding ≡ true)
-            × Carries pass.old.me.0 (number_of pass.old.me.0) }
+            × Carries pass.old.me.0 (last_drawn_number pass.old.me.0) }
         requires back { (catalog : Catalog) × (pass.old.me.1 ≡ (0, Some catalog) ∷ [])
             × (genomes_in catalog ≡ genotypes_of (pass.old.me.0.seen
-            ++ entry (number_of pass.old.me.0) (last_call catalog) ∷ [])) }
+            ++ entry (last_drawn_number pass.old.me.0) (last_call catalog) ∷ [])) }
         ensures same { (pass.new.table_id ≡ pass.old.table_id) × (pass.new.id ≡ pass.old.id) }
         ensures released { (catalog : Catalog) → pass.old.me.1 ≡ (0, Some catalog) ∷ [] →
             pass.new.me ≡ (
               idle_view pass.old.me.0.share pass.old.me.0.carried
                   (pass.old.me.0.seen
-                  ++ entry (number_of pass.old.me.0) (last_call catalog) ∷ []),
+                  ++ entry (last_drawn_number pass.old.me.0) (last_call catalog) ∷ []),
               [],
             ) }
         ensures whole { pass.old.me.0.share ≡ all_shares →
@@ -118,14 +118,14 @@ impl Bank {
     pub(crate) fn end_turn(&self, pass: &mut Pass, catalog: Catalog)
         requires bank { pass.old.table_id ≡ self.now }
         requires turn { (pass.old.me.1 ≡ (0, None) ∷ []) × (pass.old.me.0.holding ≡ true)
-            × Carries pass.old.me.0 (number_of pass.old.me.0) }
+            × Carries pass.old.me.0 (last_drawn_number pass.old.me.0) }
         requires known { genomes_in catalog ≡ genotypes_of (pass.old.me.0.seen
-            ++ entry (number_of pass.old.me.0) (last_call catalog) ∷ []) }
+            ++ entry (last_drawn_number pass.old.me.0) (last_call catalog) ∷ []) }
         ensures same { (pass.new.table_id ≡ pass.old.table_id) × (pass.new.id ≡ pass.old.id) }
         ensures ended { pass.new.me ≡ (
           idle_view pass.old.me.0.share pass.old.me.0.carried
               (pass.old.me.0.seen
-              ++ entry (number_of pass.old.me.0) (last_call catalog) ∷ []),
+              ++ entry (last_drawn_number pass.old.me.0) (last_call catalog) ∷ []),
           [],
         ) }
         ensures whole { pass.old.me.0.share ≡ all_shares →

@@ -8,7 +8,7 @@ use Rattle.std.proofs.lemmas.Bool.Decides.{Decides-eqb}
 use Rattle.std.proofs.lemmas.Slice.Eq.{bytes_eq-Decides, slice_eq-Decides}
 use Rattle.instruction_set.specs.declared.letter.Letter.{Letter}
 use Rattle.instruction_set.specs.declared.letter.Letter.TheVariants.{NopA, NopB, NopC, IfNEqu, IfLess, IfLabel, MovHead, JmpHead, GetHead, SetFlow, ShiftR, ShiftL, Inc, Dec, Push, Pop, SwapStk, Swap, Add, Sub, Nand, HCopy, HAlloc, HDivide, Io, HSearch}
-use Rattle.instruction_set.specs.Letter.{letters, index_of, byte_of, name_of, letter_at, letter_of_byte, letter_named, same_letter, same_letters}
+use Rattle.instruction_set.specs.Letter.{letter_table, index_of, byte_of, name_of, letter_at, letter_of_byte, letter_named, same_letter, same_letters}
 
 -- the keys of these letters count on from a number
 abbrev pub Counts : (Letter → ℕ) → ℕ → List Letter → Type 0
@@ -45,36 +45,157 @@ pub find-passes : {X : Type 0} (test : X → Bool) (items : List X) (item : X)
     → find test items ≡ Some item → test item ≡ true
 find-passes test [] item is = cc
 find-passes test (first ∷ rest) item is = by (test first) refl is (find-passes test rest item) where
+  -- the item is the first, which passes, or is found among the rest
   by : (b : Bool) → test first ≡ b → cond b (Some first) (find test rest) ≡ Some item
       → (find test rest ≡ Some item → test item ≡ true) → test item ≡ true
   by true here found _ = let same : first ≡ item = cc in subst (λ x. test x ≡ true) same here
   by false _ found passes = passes found
 
 -- the indexes of the table
-letters-index_of : Counts index_of 0 letters
-letters-index_of = (refl, (refl, (refl, (refl, (refl, (refl, (refl, (refl, (refl, (refl, (refl, (refl, (refl, (refl, (refl, (refl, (refl, (refl, (refl, (refl, (refl, (refl, (refl, (refl, (refl, (refl, tt))))))))))))))))))))))))))
+letters-index_of : Counts index_of 0 letter_table
+letters-index_of = (
+  refl,
+  (
+    refl,
+    (
+      refl,
+      (
+        refl,
+        (
+          refl,
+          (
+            refl,
+            (
+              refl,
+              (
+                refl,
+                (
+                  refl,
+                  (
+                    refl,
+                    (
+                      refl,
+                      (
+                        refl,
+                        (
+                          refl,
+                          (
+                            refl,
+                            (
+                              refl,
+                              (
+                                refl,
+                                (
+                                  refl,
+                                  (
+                                    refl,
+                                    (
+                                      refl,
+                                      (
+                                        refl,
+                                        (refl, (refl, (refl, (refl, (refl, (refl, tt)))))),
+                                      ),
+                                    ),
+                                  ),
+                                ),
+                              ),
+                            ),
+                          ),
+                        ),
+                      ),
+                    ),
+                  ),
+                ),
+              ),
+            ),
+          ),
+        ),
+      ),
+    ),
+  ),
+)
 
 -- the bytes of the table
-letters-byte_of : Counts byte_of 97 letters
-letters-byte_of = (refl, (refl, (refl, (refl, (refl, (refl, (refl, (refl, (refl, (refl, (refl, (refl, (refl, (refl, (refl, (refl, (refl, (refl, (refl, (refl, (refl, (refl, (refl, (refl, (refl, (refl, tt))))))))))))))))))))))))))
+letters-byte_of : Counts byte_of 97 letter_table
+letters-byte_of = (
+  refl,
+  (
+    refl,
+    (
+      refl,
+      (
+        refl,
+        (
+          refl,
+          (
+            refl,
+            (
+              refl,
+              (
+                refl,
+                (
+                  refl,
+                  (
+                    refl,
+                    (
+                      refl,
+                      (
+                        refl,
+                        (
+                          refl,
+                          (
+                            refl,
+                            (
+                              refl,
+                              (
+                                refl,
+                                (
+                                  refl,
+                                  (
+                                    refl,
+                                    (
+                                      refl,
+                                      (
+                                        refl,
+                                        (refl, (refl, (refl, (refl, (refl, (refl, tt)))))),
+                                      ),
+                                    ),
+                                  ),
+                                ),
+                              ),
+                            ),
+                          ),
+                        ),
+                      ),
+                    ),
+                  ),
+                ),
+              ),
+            ),
+          ),
+        ),
+      ),
+    ),
+  ),
+)
 
 -- the letter of an index stands at that place of the table
-pub letter_at_place : (index : ℕ) → slice_get letters index ≡ letter_at index
+pub letter_at_place : (index : ℕ) → slice_get letter_table index ≡ letter_at index
 unfolding letter_at
 letter_at_place index =
-    sym (find-Counts index_of 0 letters index index letters-index_of (omega arith))
+    sym (find-Counts index_of 0 letter_table index index letters-index_of (omega arith))
 
 -- the letter of a byte has the index that the byte counts from `a`
 pub letter_of_byte_at : (byte : ℕ) → 97 ≤ byte → letter_at (byte - 97) ≡ letter_of_byte byte
 unfolding letter_of_byte
 letter_of_byte_at byte within =
-    sym (find-Counts byte_of 97 letters (byte - 97) byte letters-byte_of (omega arith)
+    sym (find-Counts byte_of 97 letter_table (byte - 97) byte letters-byte_of (omega arith)
     ∙ letter_at_place (byte - 97))
 
 -- no letter has a byte below `a`
 pub letter_of_byte-below : (byte : ℕ) → byte < 97 → letter_of_byte byte ≡ None
 unfolding letter_of_byte
-letter_of_byte-below byte below = find-below byte_of 97 letters byte letters-byte_of below
+letter_of_byte-below byte below = find-below byte_of 97 letter_table byte letters-byte_of below
 
 -- the look-ups of what a letter has
 pub record FoundAgain (letter : Letter) : Type 0 where
@@ -118,12 +239,13 @@ pub letter_named-name_of : (name : List ℕ) (letter : Letter) → letter_named 
 unfolding letter_named
 letter_named-name_of name letter found =
     (bytes_eq-Decides (name_of letter) name).0
-    (find-passes (λ other. bytes_eq (name_of other) name) letters letter found)
+    (find-passes (λ other. bytes_eq (name_of other) name) letter_table letter found)
 
 -- a name that is not found is no letter's
 pub letter_named-None : (name : List ℕ) → IsNone (letter_named name)
     ↔ ((letter : Letter) → name_of letter ≢ name)
 letter_named-None name = by (letter_named name) refl where
+  -- what was found is none just where no letter has the name
   by : (found : Option Letter) → letter_named name ≡ found
       → IsNone found ↔ ((letter : Letter) → name_of letter ≢ name)
   by None is = (

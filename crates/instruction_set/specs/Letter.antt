@@ -8,8 +8,9 @@ use Rattle.instruction_set.specs.declared.letter.Class.{Class}
 use Rattle.instruction_set.specs.declared.letter.Class.TheVariants.{Nop, Register, Head, Template, Plain}
 
 -- every letter, in the order of the table
-abbrev pub letters : List Letter
-letters = NopA ∷ NopB ∷ NopC ∷ IfNEqu ∷ IfLess ∷ IfLabel ∷ MovHead ∷ JmpHead ∷ GetHead ∷ SetFlow
+abbrev pub letter_table : List Letter
+letter_table = NopA ∷ NopB ∷ NopC ∷ IfNEqu ∷ IfLess ∷ IfLabel ∷ MovHead ∷ JmpHead ∷ GetHead
+    ∷ SetFlow
     ∷ ShiftR ∷ ShiftL ∷ Inc ∷ Dec ∷ Push ∷ Pop ∷ SwapStk ∷ Swap ∷ Add ∷ Sub ∷ Nand ∷ HCopy ∷ HAlloc
     ∷ HDivide ∷ Io ∷ HSearch ∷ []
 
@@ -121,12 +122,12 @@ name_of HSearch = codes "h-search"
 
 -- the letter of an index
 unfoldable pub letter_at : ℕ → Option Letter
-letter_at index = find (λ letter. index_of letter == index) letters
+letter_at index = find (λ letter. index_of letter == index) letter_table
 
 -- the letter that has this byte
 unfoldable pub letter_of_byte : ℕ → Option Letter
-letter_of_byte byte = find (λ letter. byte_of letter == byte) letters
+letter_of_byte byte = find (λ letter. byte_of letter == byte) letter_table
 
 -- the letter that has this name
 unfoldable pub letter_named : List ℕ → Option Letter
-letter_named name = find (λ letter. bytes_eq (name_of letter) name) letters
+letter_named name = find (λ letter. bytes_eq (name_of letter) name) letter_table

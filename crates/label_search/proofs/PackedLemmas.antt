@@ -10,7 +10,7 @@ use Rattle.std.proofs.Math.Nat.{div-div-eq-div-mul}
 use Rattle.instruction_set.specs.declared.letter.Letter.{Letter}
 use Rattle.instruction_set.specs.declared.letter.Letter.TheVariants.{NopA, NopB, NopC}
 use Rattle.label_search.specs.Template.{IsTemplate, is_nop, last_ten, nops_read}
-use Rattle.label_search.specs.PackedTemplate.{digit_of, nop_of, newest_first, packed_of, packed_after}
+use Rattle.label_search.specs.PackedTemplate.{digit_of_nop, nop_of, newest_first, packed_of, packed_after}
 
 -- each letter is a nop
 abbrev pub AreNops : List Letter → Type 0
@@ -20,43 +20,50 @@ AreNops (letter ∷ letters) = (is_nop letter ≡ true) × AreNops letters
 -- a digit is that of a nop
 pub nop-nop_of : (digit : ℕ) → is_nop (nop_of digit) ≡ true
 nop-nop_of digit = go (digit == 1) (digit == 2) where
+  -- whichever letter two tests pick, it is a nop
   go : (a b : Bool) → is_nop (cond a NopA (cond b NopB NopC)) ≡ true
   go true b = refl
   go false true = refl
   go false false = refl
 
-pub digit-small : (letter : Letter) → digit_of letter < 4
+-- the digit of each letter is below 4
+pub digit-small : (letter : Letter) → digit_of_nop letter < 4
 digit-small NopA = omega arith
 digit-small NopB = omega arith
 digit-small NopC = omega arith
 digit-small _ = omega arith
 
-digit-some : (letter : Letter) → is_nop letter ≡ true → 0 < digit_of letter
+-- the digit of a nop isn't 0
+digit-some : (letter : Letter) → is_nop letter ≡ true → 0 < digit_of_nop letter
 digit-some NopA nop = omega arith
 digit-some NopB nop = omega arith
 digit-some NopC nop = omega arith
 digit-some _ nop = absurd cc
 
-pub nop_of-digit : (letter : Letter) → is_nop letter ≡ true → nop_of (digit_of letter) ≡ letter
+-- the nop of a nop's digit is that nop
+pub nop_of-digit : (letter : Letter) → is_nop letter ≡ true → nop_of (digit_of_nop letter) ≡ letter
 nop_of-digit NopA nop = refl
 nop_of-digit NopB nop = refl
 nop_of-digit NopC nop = refl
 nop_of-digit _ nop = absurd cc
 
--- what is packed are nops, at most so many
+-- what is packed are nops
 pub newest-nops : (most packed : ℕ) → AreNops (newest_first most packed)
 unfolding newest_first
 newest-nops zero packed = tt
 newest-nops (suc most) packed = go (packed == 0) (newest-nops most (packed / 4)) where
+  -- nothing is packed, or one nop more stands before other nops
   go : (none : Bool) → AreNops (newest_first most (packed / 4))
       → AreNops (cond none [] (nop_of (packed % 4) ∷ newest_first most (packed / 4)))
   go true rest = tt
   go false rest = (nop-nop_of (packed % 4), rest)
 
+-- at most as many nops are read from a number as are asked for
 pub newest-few : (most packed : ℕ) → length (newest_first most packed) ≤ most
 unfolding newest_first
 newest-few zero packed = omega arith
 newest-few (suc most) packed = go (packed == 0) (newest-few most (packed / 4)) where
+  -- nothing is packed, or one nop more before at most so many others
   go : (none : Bool) → length (newest_first most (packed / 4)) ≤ most
       → length (cond none [] (nop_of (packed % 4) ∷ newest_first most (packed / 4))) ≤ suc most
   go true few = omega arith
@@ -72,9 +79,9 @@ newest-packed zero (nop ∷ nops) are few = absurd (omega arith)
 newest-packed (suc most) (nop ∷ nops) are few =
     let some = digit-some nop are.0 in
     let small = digit-small nop in
-    let packed : ℕ = packed_of nops * 4 + digit_of nop in
+    let packed : ℕ = packed_of nops * 4 + digit_of_nop nop in
     let none : (packed == 0) ≡ false = grind (arith, common_steps) in
-    let low : packed % 4 ≡ digit_of nop = omega arith in
+    let low : packed % 4 ≡ digit_of_nop nop = omega arith in
     let high : packed / 4 ≡ packed_of nops = omega arith in
     rw (none, low, high, nop_of-digit nop are.0, newest-packed most nops are.1 (omega arith)) refl
 
@@ -85,31 +92,32 @@ packed-take zero nops = omega arith
 packed-take (suc k) [] = omega arith
 packed-take (suc k) (nop ∷ nops) =
     let small = digit-small nop in
-    let packed : ℕ = packed_of nops * 4 + digit_of nop in
-    let low : packed % 4 ≡ digit_of nop = omega arith in
+    let packed : ℕ = packed_of nops * 4 + digit_of_nop nop in
+    let low : packed % 4 ≡ digit_of_nop nop = omega arith in
     let high : packed / 4 ≡ packed_of nops = omega arith in
     let width : 2 * suc k ≡ 2 * k + 2 = omega arith in
     let split : packed % 2 ^ (2 * k + 2) ≡ packed / 4 % 2 ^ (2 * k) * 4 + packed % 4 =
     mod-pow-add packed (2 * k) 2 in
-    rw width (ap (λ n. n * 4 + digit_of nop) (packed-take k nops) ∙ sym (rw (low, high) at split))
+    rw width (ap (λ n. n * 4 + digit_of_nop nop) (packed-take k nops)
+    ∙ sym (rw (low, high) at split))
 
--- the nops after a further nop
-with_nop : ℕ → Letter → List Letter
-with_nop packed letter = letter ∷ take 9 (newest_first 10 packed)
-
+-- the first of some nops are nops
 are-take : (k : ℕ) (nops : List Letter) → AreNops nops → AreNops (take k nops)
 are-take zero nops are = tt
 are-take (suc k) [] are = tt
 are-take (suc k) (nop ∷ nops) are = (are.0, are-take k nops are.1)
 
+-- the number after a further nop is that of this nop and the nine newest before it
 packed-nop : (packed : ℕ) (letter : Letter) → packed ≡ packed_of (newest_first 10 packed)
-    → packed % 2 ^ 18 * 4 + digit_of letter ≡ packed_of (letter ∷ take 9 (newest_first 10 packed))
+    → packed % 2 ^ 18 * 4 + digit_of_nop letter
+    ≡ packed_of (letter ∷ take 9 (newest_first 10 packed))
 packed-nop packed letter is =
-    ap (λ n. n * 4 + digit_of letter)
+    ap (λ n. n * 4 + digit_of_nop letter)
     (ap (λ n. n % 2 ^ 18) is ∙ sym (packed-take 9 (newest_first 10 packed)))
 
+-- this nop and the nine newest before it are found in that number
 found-nop : (packed : ℕ) (letter : Letter) → packed ≡ packed_of (newest_first 10 packed)
-    → is_nop letter ≡ true → newest_first 10 (packed % 2 ^ 18 * 4 + digit_of letter)
+    → is_nop letter ≡ true → newest_first 10 (packed % 2 ^ 18 * 4 + digit_of_nop letter)
     ≡ letter ∷ take 9 (newest_first 10 packed)
 found-nop packed letter is nop =
     let nops = newest_first 10 packed in
@@ -117,6 +125,7 @@ found-nop packed letter is nop =
     (newest-packed 10 (letter ∷ take 9 nops) (nop, are-take 9 nops (newest-nops 10 packed))
     (omega (arith, length-take 9 nops)))
 
+-- the last k of a reversed list are the first k of the list, reversed
 last-reversed : (k : ℕ) (nops : List Letter)
     → drop (length nops - k) (reverse nops) ≡ reverse (take k nops)
 last-reversed k nops =
@@ -131,22 +140,26 @@ pub packed-read : (packed : ℕ) (letter : Letter) → packed ≡ packed_of (new
     → packed_after packed letter ≡ packed_of (newest_first 10 (packed_after packed letter))
 unfolding newest_first
 packed-read packed letter is = go (is_nop letter) refl where
+  -- the number after a nop is packed, and so is 0, the number after another letter
   go : (nop : Bool) → is_nop letter ≡ nop
-      → cond nop (packed % 2 ^ 18 * 4 + digit_of letter) 0
-      ≡ packed_of (newest_first 10 (cond nop (packed % 2 ^ 18 * 4 + digit_of letter) 0))
+      → cond nop (packed % 2 ^ 18 * 4 + digit_of_nop letter) 0
+      ≡ packed_of (newest_first 10 (cond nop (packed % 2 ^ 18 * 4 + digit_of_nop letter) 0))
   go true nop = packed-nop packed letter is ∙ sym (ap packed_of (found-nop packed letter is nop))
   go false nop = refl
 
+-- the number after a letter stands for the nops that are read last then
 pub nops-read : (packed : ℕ) (letter : Letter) → packed ≡ packed_of (newest_first 10 packed)
     → reverse (newest_first 10 (packed_after packed letter))
     ≡ nops_read (reverse (newest_first 10 packed)) letter
 unfolding newest_first
 nops-read packed letter is = go (is_nop letter) refl where
+  -- the nops that were packed, the newest first
   nops : List Letter
   nops = newest_first 10 packed
 
+  -- after a nop they are the last ten of all, and after another letter there are none
   go : (nop : Bool) → is_nop letter ≡ nop
-      → reverse (newest_first 10 (cond nop (packed % 2 ^ 18 * 4 + digit_of letter) 0))
+      → reverse (newest_first 10 (cond nop (packed % 2 ^ 18 * 4 + digit_of_nop letter) 0))
       ≡ cond nop (last_ten (reverse (newest_first 10 packed) ++ letter ∷ [])) []
   go true nop =
       let onto : reverse (letter ∷ newest_first 10 packed) ≡ reverse (newest_first 10 packed)
@@ -186,6 +199,7 @@ packed-once a b one other same =
     ∙ ap reverse same ∙ reverse-reverse (newest_first 10 b) in
     one ∙ ap packed_of nops ∙ sym other
 
+-- two numbers pass the test just where their templates are the same
 pub packed-same : (a b : ℕ) (self other : List Letter) → a ≡ packed_of (newest_first 10 a)
     → b ≡ packed_of (newest_first 10 b) → reverse (newest_first 10 a) ≡ self
     → reverse (newest_first 10 b) ≡ other → Decides (a == b) (self ≡ other)
@@ -201,9 +215,11 @@ pub newest-at : (most packed i : ℕ) (d : Letter) → i < length (newest_first 
 unfolding newest_first
 newest-at zero packed i d h = absurd (omega arith)
 newest-at (suc most) packed zero d h = go (packed == 0) h where
+  -- a number divided by 1 is that number
   whole : packed / 1 ≡ packed
   whole = omega arith
 
+  -- where a nop is packed, the newest is that of the lowest digit
   go : (none : Bool) → 0 < length
       (cond none [] (nop_of (packed % 4) ∷ newest_first most (packed / 4)))
       → get_or (cond none [] (nop_of (packed % 4) ∷ newest_first most (packed / 4))) 0 d
@@ -211,11 +227,13 @@ newest-at (suc most) packed zero d h = go (packed == 0) h where
   go true h = absurd (omega arith)
   go false h = rw whole refl
 newest-at (suc most) packed (suc i) d h = go (packed == 0) h (newest-at most (packed / 4) i d) where
+  -- one digit dropped, and then i more, are i + 1 digits dropped
   further : packed / 4 / 2 ^ (2 * i) ≡ packed / 2 ^ (2 * suc i)
   further = let width : 2 * suc i ≡ 2 + 2 * i = omega arith in
       let power : 2 ^ (2 + 2 * i) ≡ 4 * 2 ^ (2 * i) = pow-add 2 2 (2 * i) in
       rw (width, power) (div-div-eq-div-mul packed 4 (2 ^ (2 * i)))
 
+  -- a nop behind the newest is that of its own digit, as it is without the lowest one
   go : (none : Bool) → suc i
       < length (cond none [] (nop_of (packed % 4) ∷ newest_first most (packed / 4)))
       → (i < length (newest_first most (packed / 4))
@@ -231,10 +249,12 @@ unfolding newest_first
 count-none zero = refl
 count-none (suc most) = refl
 
+-- where no nop may be read, none is
 pub none-left : (packed : ℕ) → length (newest_first 0 packed) ≡ 0
 unfolding newest_first
 none-left packed = refl
 
+-- a number above 0 has one nop more than it has without its lowest digit
 pub count-more : (count packed : ℕ) → count < 10 → 0 < packed
     → length (newest_first (10 - count) packed)
     ≡ suc (length (newest_first (10 - (count + 1)) (packed / 4)))

@@ -26,19 +26,19 @@ pub nops_read-room : (nops : List Letter) (letter : Letter) → is_nop letter �
     → length nops < 10 → nops_read nops letter ≡ nops ++ letter ∷ []
 nops_read-room nops letter nop room = grind (arith, common_steps)
 
--- one step further, across the end
-pub mod-next : (ip counter n : ℕ) → ((ip + counter) % n + 1) % n ≡ (ip + (counter + 1)) % n
-mod-next ip counter n = mod-add-mod (ip + counter) n 1 ∙ ap (λ k. k % n) (omega arith)
+-- the next place is one step further, across the end
+pub next-place : (ip counter n place next : ℕ) → place ≡ (ip + counter) % n
+    → next ≡ (place + 1) % n → next ≡ (ip + (counter + 1)) % n
+next-place ip counter n place next here further = further ∙ ap (λ k. (k + 1) % n) here
+    ∙ mod-add-mod (ip + counter) n 1 ∙ ap (λ k. k % n) (omega arith)
 
 -- the letters from a step on, the first apart
 pub letters_from-next : (memory : List Letter) (ip counter left : ℕ) → 10 - counter ≡ left + 1
-    → map (letter_after memory ip) (range_with_len (1 + counter) (10 - counter))
-    ≡ letter_after memory ip (1 + counter) ∷ map (letter_after memory ip)
-    (range_with_len (1 + (counter + 1)) left)
+    → map (letter_after memory ip) (range_with_len (counter + 1) (10 - counter))
+    ≡ letter_after memory ip (counter + 1) ∷ map (letter_after memory ip)
+    (range_with_len (counter + 1 + 1) left)
 letters_from-next memory ip counter left e =
-    let more : 10 - counter ≡ suc left = omega arith in
-    let further : 1 + counter + 1 ≡ 1 + (counter + 1) = omega arith in
-    rw (more, further) refl
+    let more : 10 - counter ≡ suc left = omega arith in rw more refl
 
 -- the first item passes
 pub take_while-yes : {A : Type 0} (p : A → Bool) (x : A) (xs : List A) → p x ≡ true
@@ -48,18 +48,18 @@ take_while-yes p x xs passes =
 
 -- the nops among the letters from a step on start with a nop
 pub nops-next : (memory : List Letter) (ip counter left : ℕ) → 10 - counter ≡ left + 1
-    → is_nop (letter_after memory ip (1 + counter)) ≡ true
-    → take_while is_nop (map (letter_after memory ip) (range_with_len (1 + counter) (10 - counter)))
-    ≡ letter_after memory ip (1 + counter) ∷ take_while is_nop
-    (map (letter_after memory ip) (range_with_len (1 + (counter + 1)) left))
+    → is_nop (letter_after memory ip (counter + 1)) ≡ true
+    → take_while is_nop (map (letter_after memory ip) (range_with_len (counter + 1) (10 - counter)))
+    ≡ letter_after memory ip (counter + 1) ∷ take_while is_nop
+    (map (letter_after memory ip) (range_with_len (counter + 1 + 1) left))
 nops-next memory ip counter left e nop =
     rw (letters_from-next memory ip counter left e) (take_while-yes is_nop _ _ nop)
 
 -- they start with another letter
 pub nops-end : (memory : List Letter) (ip counter : ℕ) → counter < 10
-    → is_nop (letter_after memory ip (1 + counter)) ≡ false → (nops : List Letter)
+    → is_nop (letter_after memory ip (counter + 1)) ≡ false → (nops : List Letter)
     → nops ++ take_while is_nop
-    (map (letter_after memory ip) (range_with_len (1 + counter) (10 - counter))) ≡ nops
+    (map (letter_after memory ip) (range_with_len (counter + 1) (10 - counter))) ≡ nops
 nops-end memory ip counter h other nops =
     rw (letters_from-next memory ip counter (10 - (counter + 1)) (omega arith), other)
     (append-nil nops)
@@ -71,13 +71,3 @@ is_nop-complement NopA nop = refl
 is_nop-complement NopB nop = refl
 is_nop-complement NopC nop = refl
 is_nop-complement _ nop = nop
-
--- the complements of a template are one
-pub IsTemplate-complements : (nops : List Letter) → IsTemplate nops
-    → IsTemplate (complements_of nops)
-IsTemplate-complements nops template = record {
-  few = rw length-map template.few;
-  nops = All-map (λ letter. is_nop letter ≡ true)
-      (λ letter. unwrap_or (complement_of letter) letter) nops
-      (λ k d h. is_nop-complement _ (template.nops k d h));
-}

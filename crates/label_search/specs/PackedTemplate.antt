@@ -6,11 +6,11 @@ use Rattle.label_search.specs.Template.{is_nop}
 use Rattle.label_search.specs.declared.template.Template.TheInside.{Inside}
 
 -- a nop as a digit; 0 stands for no nop
-abbrev pub digit_of : Letter → ℕ
-digit_of NopA = 1
-digit_of NopB = 2
-digit_of NopC = 3
-digit_of _ = 0
+abbrev pub digit_of_nop : Letter → ℕ
+digit_of_nop NopA = 1
+digit_of_nop NopB = 2
+digit_of_nop NopC = 3
+digit_of_nop _ = 0
 
 -- the nop of a digit
 abbrev pub nop_of : ℕ → Letter
@@ -25,7 +25,7 @@ newest_first (suc most) packed =
 -- the number of some nops, the first in the lowest digit
 abbrev pub packed_of : List Letter → ℕ
 packed_of [] = 0
-packed_of (nop ∷ nops) = packed_of nops * 4 + digit_of nop
+packed_of (nop ∷ nops) = packed_of nops * 4 + digit_of_nop nop
 
 -- the nops that are packed, the oldest first
 abbrev pub nops_of : Inside → List Letter
@@ -38,4 +38,4 @@ IsPacked template = template.packed ≡ packed_of (newest_first 10 template.pack
 -- the number once a further letter was read
 abbrev pub packed_after : ℕ → Letter → ℕ
 packed_after packed letter =
-    if is_nop letter then packed % 2 ^ 18 * 4 + digit_of letter else 0
+    if is_nop letter then packed % 2 ^ 18 * 4 + digit_of_nop letter else 0

@@ -14,19 +14,24 @@ abbrev pub changes_left : ℕ → Letter → ℕ → List Change
 changes_left at letter index =
     map (λ other. record { at = at; letter = other }) (others_from letter index (26 - index))
 
+-- a first number that fails the test is left out
 filter_out : (p : ℕ → Bool) (x : ℕ) (xs : List ℕ) → p x ≡ false → filter p (x ∷ xs) ≡ filter p xs
 filter_out p x xs out = rw out refl
 
+-- a first number that passes the test is kept
 filter_in : (p : ℕ → Bool) (x : ℕ) (xs : List ℕ) → p x ≡ true → filter p (x ∷ xs) ≡ x ∷ filter p xs
 filter_in p x xs within = rw within refl
 
+-- two numbers that differ pass the test for a difference
 not_equal : (a b : ℕ) → a ≢ b → not (eqb a b) ≡ true
 not_equal a b apart = let e : eqb a b ≡ false = grind (arith, nat_tests) in ap not e
 
+-- equal numbers fail the test for a difference
 equal : (a b : ℕ) → a ≡ b → not (eqb a b) ≡ false
 equal a b same = let e : eqb a b ≡ true = grind (arith, nat_tests) in ap not e
 
 module _ (letter : Letter) (index : ℕ) (within : index < 26) where
+  -- whether an index is not the letter's
   abbrev test : ℕ → Bool
   test i = not (eqb i (index_of letter))
 
@@ -40,6 +45,7 @@ module _ (letter : Letter) (index : ℕ) (within : index < 26) where
       (filter_out test index (range_with_len (index + 1) (26 - (index + 1)))
       (equal index (index_of letter) same))
 
+  -- at any other index stands its letter, if it has one
   others_else : index ≢ index_of letter
       → others_from letter index (26 - index)
       ≡ cons_option (letter_at index) (others_from letter (index + 1) (26 - (index + 1)))
@@ -58,6 +64,7 @@ module _ (letter : Letter) (index : ℕ) (within : index < 26) where
       ∙ ap (λ (o : Option Letter).
       cons_option o (others_from letter (index + 1) (26 - (index + 1)))) (sym is)
 
+  -- an index that has no letter adds none
   pub others_none : index ≢ index_of letter → None ≡ letter_at index
       → others_from letter index (26 - index) ≡ others_from letter (index + 1) (26 - (index + 1))
   others_none apart is = others_else apart
@@ -77,6 +84,7 @@ change_more at letter other index old new all within apart is more so_far =
     (others_other letter index within other apart is))
     ∙ so_far
 
+-- no change more: where an index adds no letter, those made and those left are still all
 pub same_left : (at : ℕ) (letter : Letter) (index : ℕ) (old all : List Change)
     → others_from letter index (26 - index) ≡ others_from letter (index + 1) (26 - (index + 1))
     → old ++ changes_left at letter index ≡ all → old ++ changes_left at letter (index + 1) ≡ all
@@ -84,10 +92,12 @@ same_left at letter index old all same so_far =
     sym (ap (λ (ls : List Letter). old ++ map (λ l. record { at = at; letter = l }) ls) same)
     ∙ so_far
 
+-- where no indexes are left, there are no letters
 no_letter_left : (letter : Letter) (index : ℕ) → others_from letter index 0 ≡ []
 unfolding others_from
 no_letter_left letter index = refl
 
+-- past the last index no change of a place is left
 pub no_change_left : (at : ℕ) (letter : Letter) (index : ℕ) → 26 ≤ index
     → changes_left at letter index ≡ []
 no_change_left at letter index past =
@@ -99,6 +109,7 @@ no_change_left at letter index past =
 abbrev pub places_left : List Letter → ℕ → List Change
 places_left genome at = flat_map (changes_at genome) (range_with_len at (length genome - at))
 
+-- one place more: the changes made and those of the places left are still all
 pub place_more : (genome : List Letter) (at : ℕ) (old new all : List Change) → at < length genome
     → new ≡ old ++ changes_at genome at → old ++ places_left genome at ≡ all
     → new ++ places_left genome (at + 1) ≡ all
@@ -108,15 +119,3 @@ place_more genome at old new all within more so_far =
     ∙ sym (ap (λ (ns : List ℕ). old ++ flat_map (changes_at genome) ns)
     (range_next at (length genome) within))
     ∙ so_far
-
-pub no_place_left : (genome : List Letter) (at : ℕ) → length genome ≤ at
-    → places_left genome at ≡ []
-no_place_left genome at past =
-    let e : length genome - at ≡ 0 = omega arith in
-    ap (λ (n : ℕ). flat_map (changes_at genome) (range_with_len at n)) e
-
-pub places_start : (genome : List Letter) → places_left genome 0 ≡ changes_of genome
-unfolding changes_of
-places_start genome =
-    let e : length genome - 0 ≡ length genome = omega arith in
-    ap (λ (n : ℕ). flat_map (changes_at genome) (range_with_len 0 n)) e

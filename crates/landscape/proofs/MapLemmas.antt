@@ -8,6 +8,7 @@ module _ {X Y : Type 0} (E : Type 0) (f : X → Y) where
   abbrev pub IsResult : X → Result Y E → Type 0
   IsResult x r = IfOk r (λ y. y ≡ f x)
 
+  -- values that are all there are those of the items
   all_there : (xs : List X) (ys : List Y) → AllZip IsResult xs (map Ok ys) → ys ≡ map f xs
   all_there [] [] each = refl
   all_there [] (y ∷ ys) each = absurd each

@@ -14,16 +14,19 @@ use Rattle.landscape.proofs.RangeLemmas.{range_next}
 abbrev pub first_from : List Letter → ℕ → ℕ → Option Trial
 first_from genome from steps = slice_get (trials_from genome from (steps - from)) 0
 
+-- a trial that is shown is the first
 first_of : (shown : Option Trial) (others : List Trial) (trial : Trial) → shown ≡ Some trial
     → slice_get (cons_option shown others) 0 ≡ Some trial
 first_of None others trial is = absurd cc
 first_of (Some t) others trial is = is
 
+-- where none is shown, the first is the first of the others
 none_of : (shown : Option Trial) (others : List Trial) → shown ≡ None
     → slice_get (cons_option shown others) 0 ≡ slice_get others 0
 none_of None others is = refl
 none_of (Some t) others is = absurd cc
 
+-- the first trial of the steps left is that of the next step, or the first after it
 step_left : (genome : List Letter) (from steps : ℕ) → from < steps
     → first_from genome from steps
     ≡ slice_get (cons_option (trial_after genome from)
@@ -41,6 +44,7 @@ shown_after genome n number o step shown at same so is =
     at ∙ (λ i. trial_at genome (same i + 1) (is i).remark)
     ∙ (λ i. trial_at genome (n + 1) (trace_step_of (so i)).1.remark)
 
+-- a trial that the next step shows is the first of the steps left
 first_shown : (genome : List Letter) (from steps : ℕ) (trial : Trial) → from < steps
     → trial_after genome from ≡ Some trial → first_from genome from steps ≡ Some trial
 first_shown genome from steps trial within shows =
@@ -48,6 +52,7 @@ first_shown genome from steps trial within shows =
     ∙ first_of (trial_after genome from) (trials_from genome (from + 1) (steps - (from + 1)))
     trial shows
 
+-- where the next step shows none, the first is that of the steps after it
 none_shown : (genome : List Letter) (from steps : ℕ) → from < steps → trial_after genome from ≡ None
     → first_from genome from steps ≡ first_from genome (from + 1) steps
 none_shown genome from steps within shows =
@@ -69,12 +74,9 @@ pub missed : (genome : List Letter) (from steps : ℕ) (shown : Option Trial) �
 missed genome from steps None within is none = none_shown genome from steps within (sym is)
 missed genome from steps (Some trial) within is none = absurd cc
 
+-- with all steps left, the first trial is the trial of the genome
 pub first_start : (genome : List Letter) (steps : ℕ)
     → first_from genome 0 steps ≡ trial_of genome steps
 unfolding trial_of
 first_start genome steps = let e : steps - 0 ≡ steps = omega arith in
     ap (λ (n : ℕ). slice_get (trials_from genome 0 n) 0) e
-
-pub first_end : (genome : List Letter) (from steps : ℕ) → steps - from ≡ 0
-    → first_from genome from steps ≡ None
-first_end genome from steps past = ap (λ (n : ℕ). slice_get (trials_from genome from n) 0) past

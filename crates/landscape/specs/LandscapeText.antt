@@ -10,12 +10,12 @@ use Rattle.landscape.specs.Landscape.{Landscape, survey_of}
 use Rattle.landscape.specs.Totals.{totals_of}
 
 -- numbers, each behind a space
-abbrev pub numbers_text : List ℕ → List ℕ
-numbers_text numbers = flat_map (λ number. codes " " ++ decimal number) numbers
+abbrev pub spaced_numbers : List ℕ → List ℕ
+spaced_numbers numbers = flat_map (λ number. codes " " ++ decimal number) numbers
 
 -- the step, the merit, and 1 where the child is the tested genome, else 0
 abbrev pub trial_text : Trial → List ℕ
-trial_text t = numbers_text (t.step ∷ t.merit ∷ cond t.same 1 0 ∷ [])
+trial_text t = spaced_numbers (t.step ∷ t.merit ∷ cond t.same 1 0 ∷ [])
 
 -- the line of the base
 abbrev pub base_line : Option Trial → List ℕ
@@ -34,7 +34,7 @@ entry_line entry = option_map_or (neighbour_line entry.at entry.letter) entry.tr
 -- the last line
 abbrev pub totals_line : Totals → List ℕ
 totals_line t =
-    codes "T" ++ numbers_text (t.entries ∷ t.trials ∷ t.same ∷ t.better ∷ []) ++ codes "\n"
+    codes "T" ++ spaced_numbers (t.entries ∷ t.trials ∷ t.same ∷ t.better ∷ []) ++ codes "\n"
 
 -- the text of a survey
 abbrev pub survey_text : Landscape → List ℕ

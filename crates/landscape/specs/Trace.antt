@@ -1,22 +1,20 @@
 -- An organism alone, as a trace runs it (docs/FORMATS.md, "Trace lines").
-use Rattle.std.specs.Prelude.{ℕ, zero, suc, List, [], ◌∷◌, length, nat_le, if◌then◌else◌}
+use Rattle.std.specs.Prelude.{ℕ, zero, suc, List, [], ◌∷◌, length}
 use Rattle.instruction_set.specs.declared.letter.Letter.{Letter}
 use Rattle.logic_tasks.specs.TaskSet.{no_tasks}
 use Rattle.organism.specs.OrganismState.{OrganismState, new_organism}
+use Rattle.organism.specs.TraceRules.{trace_greatest}
 use Rattle.organism.specs.TracedStep.{TracedStep, trace_step_of}
-
--- the memory limit of a trace, by the length of its genome
-abbrev pub trace_limit : ℕ → ℕ
-trace_limit letters = if nat_le letters 2048 then 2048 else 8192
 
 -- the inputs of a trace
 abbrev pub trace_inputs : List ℕ
 trace_inputs = 0x0F0F0F0F ∷ 0x33333333 ∷ 0x55555555 ∷ []
 
--- the organism that a trace begins with: it has done no task, and its merit is its length
+-- the organism that a trace begins with: it has done no task, its merit is its length, and its
+-- memory may grow to the greatest length in the trace
 abbrev pub traced_organism : List Letter → OrganismState
 traced_organism letters =
-    new_organism letters trace_inputs (length letters) no_tasks (trace_limit (length letters))
+    new_organism letters trace_inputs (length letters) no_tasks (trace_greatest (length letters))
 
 -- the organism after so many of its steps
 abbrev pub organism_after : OrganismState → ℕ → OrganismState

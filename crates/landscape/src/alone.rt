@@ -1,7 +1,8 @@
 // An organism alone, as a trace runs it.
 ghost use Rattle.std.specs.Prelude.{◌≡◌, IfOk, length};
 ghost use Rattle.genome.specs.Genome.{letters};
-ghost use Rattle.landscape.specs.Trace.{trace_limit, traced_organism};
+ghost use Rattle.organism.specs.TraceRules.{trace_greatest};
+ghost use Rattle.landscape.specs.Trace.{traced_organism};
 
 use avida_port::Memory;
 use genome::{GREATEST_LENGTH, Genome};
@@ -10,9 +11,9 @@ use organism::{Organism, TRACE_LENGTH};
 use std::alloc::Global;
 use std::sync::Arc;
 
-/// The memory limit of a trace, by the length of its genome.
+/// The memory limit of a trace, which is the greatest length in it, by the length of its genome.
 fn trace_limit(genome_length: u32) -> u32
-    ensures { result ≡ trace_limit genome_length }
+    ensures { result ≡ trace_greatest genome_length }
 {
     if genome_length <= TRACE_LENGTH {
         TRACE_LENGTH

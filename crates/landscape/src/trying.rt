@@ -12,8 +12,8 @@ use crate::first_divide::Trial;
 use crate::surveyed::Survey;
 use avida_port::Memory;
 use genome::Genome;
+use genome::laws::equal_by_letters;
 use instruction_set::Letter;
-use instruction_set::laws::one_index;
 use organism::Remark;
 use rayon::current_num_threads;
 use rayon::prelude::*;
@@ -41,7 +41,7 @@ pub fn trial(alloc: Global, genome: &Genome, steps: u32) -> Result<Option<Trial>
 fn trial_at(genome: &Genome, number: u64, remark: &Remark) -> Option<Trial>
     ensures { result ≡ trial_at (letters genome.now) number (remark_value remark.now) }
 {
-    one_index();
+    equal_by_letters();
     match remark {
         Remark::Divide { merit, child, .. } => Some(Trial {
             step: number,

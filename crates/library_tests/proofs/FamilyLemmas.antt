@@ -6,7 +6,7 @@ use Rattle.instruction_set.specs.declared.letter.Letter.{Letter}
 use Rattle.mutations.specs.BirthRecord.{BirthRecord, child_of}
 use Rattle.lineage_log.specs.Links.{Link}
 use Rattle.lineage_log.specs.Ancestry.{kept_of, link_of}
-use Rattle.lineage_log.specs.Trees.{TreeValue, CanCome, founded_by, genome_in, with_death, with_newcomer}
+use Rattle.lineage_log.specs.Trees.{TreeValue, CanCome, founded_by, genome_in_tree, tree_with_death, tree_with_newcomer}
 
 -- a child with its parent's genome
 abbrev pub child_in : TreeValue → ℕ → ℕ → ℕ → BirthRecord → Link
@@ -17,7 +17,7 @@ child_in t id parent update origin =
       update = update;
       cell = update;
       origin = Some origin;
-      genome = genome_in t parent;
+      genome = genome_in_tree t parent;
     }
 
 -- a record that changes nothing
@@ -36,14 +36,15 @@ applies letters origin is = ap is_ok (same_child letters origin is)
 
 -- the families
 abbrev pub two : TreeValue → BirthRecord → TreeValue
-two t origin = with_newcomer t (child_in t 1 0 1 origin)
+two t origin = tree_with_newcomer t (child_in t 1 0 1 origin)
 
 -- with the grandchild
 abbrev pub three : TreeValue → BirthRecord → BirthRecord → TreeValue
-three t origin other = with_newcomer (two t origin) (child_in (two t origin) 2 1 2 other)
+three t origin other = tree_with_newcomer (two t origin) (child_in (two t origin) 2 1 2 other)
 
 module _ (founder : Link) (id : founder.id ≡ 0) (t : TreeValue) (is : t ≡ founded_by founder)
     (origin other : BirthRecord) where
+  -- the founder, the child and the grandchild live, in this order
   pub living_three : (three t origin other).living ≡ 0 ∷ 1 ∷ 2 ∷ []
   living_three =
       ap (λ (t : TreeValue). (three t origin other).living) is ∙ ap (λ n. n ∷ 1 ∷ 2 ∷ []) id
@@ -68,38 +69,41 @@ module _ (founder : Link) (id : founder.id ≡ 0) (t : TreeValue) (is : t ≡ fo
 -- the tree as it is told of a child that came with its parent's genome
 abbrev BornAs : TreeValue → TreeValue → ℕ → ℕ → BirthRecord → Type 0
 BornAs t later id parent origin =
-    (genome : List Letter) → child_of (genome_in t parent) origin ≡ Ok genome
-    → later ≡ with_newcomer t (record (child_in t id parent id origin) { genome = genome })
+    (genome : List Letter) → child_of (genome_in_tree t parent) origin ≡ Ok genome
+    → later ≡ tree_with_newcomer t (record (child_in t id parent id origin) { genome = genome })
 
 -- a child and a grandchild came
 pub family_of : (t one all : TreeValue) (origin other : BirthRecord) → origin ≡ unchanged
     → other ≡ unchanged → BornAs t one 1 0 origin → BornAs one all 2 1 other
     → all ≡ three t origin other
 family_of t one all origin other first second child grandchild =
-    grandchild (genome_in one 1) (same_child (genome_in one 1) other second)
-    ∙ ap (λ (t : TreeValue). with_newcomer t (child_in t 2 1 2 other))
-    (child (genome_in t 0) (same_child (genome_in t 0) origin first))
+    grandchild (genome_in_tree one 1) (same_child (genome_in_tree one 1) other second)
+    ∙ ap (λ (t : TreeValue). tree_with_newcomer t (child_in t 2 1 2 other))
+    (child (genome_in_tree t 0) (same_child (genome_in_tree t 0) origin first))
 
 -- who lives after the deaths
 pub lives_first : (t : TreeValue) → t.living ≡ 0 ∷ 1 ∷ 2 ∷ [] → Contains t.living 0
 lives_first t is = subst (λ ids. Contains ids 0) (sym is) (0, omega arith, refl)
 
 -- who lives after the first death
-pub lives_last : (t dead : TreeValue) → t.living ≡ 0 ∷ 1 ∷ 2 ∷ [] → dead ≡ with_death t 0
+pub lives_last : (t dead : TreeValue) → t.living ≡ 0 ∷ 1 ∷ 2 ∷ [] → dead ≡ tree_with_death t 0
     → Contains dead.living 2
 lives_last t dead is e =
     subst (λ ids. Contains ids 2)
     (sym (ap (λ (d : TreeValue). d.living) e
-    ∙ ap (λ ids. (with_death (record { links = t.links; living = ids }) 0).living) is))
+    ∙ ap (λ ids. (tree_with_death (record { links = t.links; living = ids }) 0).living) is))
     (1, omega arith, refl)
 
 -- who lives after the second
-pub lives_middle : (t dead last : TreeValue) → t.living ≡ 0 ∷ 1 ∷ 2 ∷ [] → dead ≡ with_death t 0
-    → last ≡ with_death dead 2 → Contains last.living 1
+pub lives_middle : (t dead last : TreeValue) → t.living ≡ 0 ∷ 1 ∷ 2 ∷ []
+    → dead ≡ tree_with_death t 0
+    → last ≡ tree_with_death dead 2 → Contains last.living 1
 lives_middle t dead last is e f =
     subst (λ ids. Contains ids 1)
-    (sym (ap (λ (d : TreeValue). d.living) f ∙ ap (λ (d : TreeValue). (with_death d 2).living) e
-    ∙ ap (λ ids. (with_death (with_death (record { links = t.links; living = ids }) 0) 2).living)
+    (sym (ap (λ (d : TreeValue). d.living) f
+    ∙ ap (λ (d : TreeValue). (tree_with_death d 2).living) e
+    ∙ ap (λ ids. (tree_with_death
+    (tree_with_death (record { links = t.links; living = ids }) 0) 2).living)
     is)) (0, omega arith, refl)
 
 -- the middle one stays when the others die
@@ -112,11 +116,12 @@ pub middle_stays : (letters : List Letter) (t later dead last : TreeValue)
       cell = 0;
       origin = None;
       genome = letters;
-    }) → later ≡ three t origin other → dead ≡ with_death later 0 → last ≡ with_death dead 2
+    }) → later ≡ three t origin other → dead ≡ tree_with_death later 0
+    → last ≡ tree_with_death dead 2
     → IsSome (link_of last.links 1)
 unfolding kept_of
 middle_stays letters t later dead last origin other is born first second =
-    let all = second ∙ ap (λ (d : TreeValue). with_death d 2)
-    (first ∙ ap (λ (d : TreeValue). with_death d 0)
+    let all = second ∙ ap (λ (d : TreeValue). tree_with_death d 2)
+    (first ∙ ap (λ (d : TreeValue). tree_with_death d 0)
     (born ∙ ap (λ (t : TreeValue). three t origin other) is)) in
     subst (λ (l : TreeValue). IsSome (link_of l.links 1)) (sym all) refl

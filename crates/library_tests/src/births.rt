@@ -154,6 +154,51 @@ struct Birth {
     words: u64,
 }
 
+/// Eight letters, without an error.
+const EIGHT_LETTERS: Birth = Birth {
+    stream: (0, 1, 0),
+    rates: [0, 0, 0, 0, 0],
+    limits: (8, 8192),
+    parent: b"aaaaaaaa",
+    clean: b"aaaaaaaa",
+    written: b"aaaaaaaa",
+    child: b"aaaaaaaa",
+    from_parent: true,
+    changes: &[],
+    words: 2,
+};
+
+/// Twenty letters, of which one was copied with an error, and many errors at the divide.
+const TWENTY_LETTERS: Birth = Birth {
+    stream: (1, 2, 3),
+    rates: [900000, 900000, 200000, 150000, 150000],
+    limits: (8, 8192),
+    parent: b"abcdefghijklmnopqrst",
+    clean: b"abcdefghijklmnopqrst",
+    written: b"abcdzfghijklmnopqrst",
+    child: b"fczfgijflgnopqhbt",
+    from_parent: true,
+    changes: &[
+        (b'p', 0, b'f'),
+        (b'p', 1, b'z'),
+        (b'p', 4, b'z'),
+        (b'p', 12, b'g'),
+        (b'p', 17, b'b'),
+        (b'i', 5, b'o'),
+        (b'i', 11, b'f'),
+        (b'i', 19, b'o'),
+        (b'i', 19, b'h'),
+        (b'd', 1, 0),
+        (b'd', 2, 0),
+        (b'd', 3, 0),
+        (b'd', 5, 0),
+        (b'd', 8, 0),
+        (b'd', 15, 0),
+        (b'd', 16, 0),
+    ],
+    words: 76,
+};
+
 fn limits(least: u32, greatest: u32) -> Option<Limits> {
     if LEAST_LENGTH <= least && least <= greatest && greatest <= GREATEST_LENGTH {
         Some(Limits { least, greatest })
@@ -168,103 +213,42 @@ fn limits(least: u32, greatest: u32) -> Option<Limits> {
 fn the_words_of_a_stream_give_a_birth_its_changes(rt: HostRuntime) {
     for birth in [
         Birth {
-            stream: (0, 1, 0),
-            rates: [0, 0, 0, 0, 0],
-            limits: (8, 8192),
-            parent: b"aaaaaaaa",
-            clean: b"aaaaaaaa",
             written: b"aaabaaaa",
             child: b"aaabaaaa",
-            from_parent: true,
             changes: &[(b'p', 3, b'b')],
-            words: 2,
+            ..EIGHT_LETTERS
         },
         Birth {
-            stream: (0, 1, 0),
-            rates: [0, 0, 0, 0, 0],
-            limits: (8, 8192),
-            parent: b"aaaaaaaa",
             clean: b"bbbbbbbb",
             written: b"bbbbbbbb",
             child: b"bbbbbbbb",
             from_parent: false,
-            changes: &[],
-            words: 2,
+            ..EIGHT_LETTERS
         },
         Birth {
-            stream: (0, 1, 0),
             rates: [0, 1000000, 0, 0, 0],
-            limits: (8, 8192),
-            parent: b"aaaaaaaa",
-            clean: b"aaaaaaaa",
-            written: b"aaaaaaaa",
-            child: b"aaaaaaaa",
-            from_parent: true,
-            changes: &[],
-            words: 2,
+            ..EIGHT_LETTERS
         },
         Birth {
-            stream: (0, 1, 0),
             rates: [0, 0, 0, 0, 1000000],
-            limits: (8, 8192),
             parent: b"aaaaaaaabb",
             clean: b"aaaaaaaabb",
             written: b"aaaaaaaabb",
             child: b"aaaaaabb",
-            from_parent: true,
             changes: &[(b'd', 0, 0), (b'd', 0, 0)],
             words: 12,
+            ..EIGHT_LETTERS
         },
         Birth {
-            stream: (0, 1, 0),
             rates: [0, 0, 0, 1000000, 0],
             limits: (8, 8),
-            parent: b"aaaaaaaa",
-            clean: b"aaaaaaaa",
-            written: b"aaaaaaaa",
-            child: b"aaaaaaaa",
-            from_parent: true,
-            changes: &[],
             words: 10,
+            ..EIGHT_LETTERS
         },
-        Birth {
-            stream: (1, 2, 3),
-            rates: [900000, 900000, 200000, 150000, 150000],
-            limits: (8, 8192),
-            parent: b"abcdefghijklmnopqrst",
-            clean: b"abcdefghijklmnopqrst",
-            written: b"abcdzfghijklmnopqrst",
-            child: b"fczfgijflgnopqhbt",
-            from_parent: true,
-            changes: &[
-                (b'p', 0, b'f'),
-                (b'p', 1, b'z'),
-                (b'p', 4, b'z'),
-                (b'p', 12, b'g'),
-                (b'p', 17, b'b'),
-                (b'i', 5, b'o'),
-                (b'i', 11, b'f'),
-                (b'i', 19, b'o'),
-                (b'i', 19, b'h'),
-                (b'd', 1, 0),
-                (b'd', 2, 0),
-                (b'd', 3, 0),
-                (b'd', 5, 0),
-                (b'd', 8, 0),
-                (b'd', 15, 0),
-                (b'd', 16, 0),
-            ],
-            words: 76,
-        },
+        TWENTY_LETTERS,
         Birth {
             stream: (4, 2, 3),
-            rates: [900000, 900000, 200000, 150000, 150000],
-            limits: (8, 8192),
-            parent: b"abcdefghijklmnopqrst",
-            clean: b"abcdefghijklmnopqrst",
-            written: b"abcdzfghijklmnopqrst",
             child: b"aibdfghikywnpqrk",
-            from_parent: true,
             changes: &[
                 (b'p', 2, b'b'),
                 (b'p', 4, b'f'),
@@ -282,14 +266,11 @@ fn the_words_of_a_stream_give_a_birth_its_changes(rt: HostRuntime) {
                 (b'd', 10, 0),
             ],
             words: 75,
+            ..TWENTY_LETTERS
         },
         Birth {
-            stream: (1, 2, 3),
-            rates: [900000, 900000, 200000, 150000, 150000],
             limits: (19, 21),
             parent: b"abcdefghijklmnopqrsz",
-            clean: b"abcdefghijklmnopqrst",
-            written: b"abcdzfghijklmnopqrst",
             child: b"fzcdzfhijklgnopqbst",
             from_parent: false,
             changes: &[
@@ -303,18 +284,16 @@ fn the_words_of_a_stream_give_a_birth_its_changes(rt: HostRuntime) {
                 (b'd', 6, 0),
             ],
             words: 68,
+            ..TWENTY_LETTERS
         },
         Birth {
             stream: (5, 9, 1),
             rates: [500000, 500000, 0, 0, 0],
-            limits: (8, 8192),
-            parent: b"abcdefghijklmnopqrst",
-            clean: b"abcdefghijklmnopqrst",
             written: b"abcdefghijklmnopqrst",
             child: b"abcdefghijzklmnoprst",
-            from_parent: true,
             changes: &[(b'i', 10, b'z'), (b'd', 17, 0)],
             words: 5,
+            ..TWENTY_LETTERS
         },
     ] {
         let (seed, update, cell) = birth.stream;

@@ -1,5 +1,5 @@
 // Where newborns are placed.
-use birth_board::{Occupants, Parents, Season, Torus, gather, neighbours, place};
+use birth_board::{Occupants, Parents, PlacingRound, Torus, gather, neighbours, place};
 use std::test::Fail;
 
 #[test]
@@ -35,7 +35,7 @@ fn each_cell_stands_as_often_as_it_is_counted(rt: HostRuntime) -> Result<(), Fai
     Ok(())
 }
 
-const SEASON: Season = Season {
+const SEASON: PlacingRound = PlacingRound {
     seed: 1,
     update: 7,
     prefer_empty: true,

@@ -2,6 +2,8 @@
 #![tactic(auto)]
 
 #[cfg(test)]
+mod ancestor;
+#[cfg(test)]
 mod births;
 #[cfg(test)]
 mod boards;

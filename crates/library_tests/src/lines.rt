@@ -1,7 +1,7 @@
 // Lines of a log, read and written.
 use genome::read_letters;
 use instruction_set::Letter;
-use log_lines::{LogLine, Stats, read_line, write_line};
+use log_lines::{LogLine, Stats, read_line, write_birth, write_injection, write_line};
 use mutations::{Base, Change, Changes, Origin, RateName};
 use std::alloc::Global;
 use std::process::Abort;
@@ -175,4 +175,20 @@ fn a_birth_has_its_text(rt: HostRuntime) -> Result<(), Fail> {
         },
     };
     check(&rt, alloc, &written, "B 2 0 1 1 - aaaaaaaa p3b,i0c,d8\n")
+}
+
+#[test]
+fn a_birth_and_an_injection_are_written_from_their_parts(rt: HostRuntime) -> Result<(), Fail> {
+    let alloc = rt.alloc();
+    let mut out = Vec::new(alloc);
+    let origin = Origin {
+        base: Base::Parent,
+        changes: Changes::from_vec(Vec::new(alloc)),
+    };
+    write_birth(1, 0, 13, 0, Some(0), &origin, &mut out)?;
+    let genome = read_letters(alloc, b"aaaaaaaa")?;
+    write_injection(2, 14, 3, None, &genome, &mut out)?;
+    let wanted = "B 1 0 13 0 0 = -\nI 2 14 3 - aaaaaaaa\n";
+    assert_eq!(rt; out.as_slice(), wanted.as_bytes());
+    Ok(())
 }

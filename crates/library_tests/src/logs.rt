@@ -1,4 +1,5 @@
 // Logs, read and replayed.
+use crate::ancestor::ANCESTOR;
 use genome::letters_text;
 use lineage_log::{Livings, LogLine, LogStop, living_at_end, read_log, replay, write_line};
 use log_lines::Stats;
@@ -7,11 +8,9 @@ use std::test::Fail;
 
 fn start_of_log(alloc: Global, first: &str) -> Result<Vec<u8>, AllocError> {
     let mut out = Vec::from_slice(alloc, first.as_bytes())?;
-    out.extend_from_slice(b" 1 1 0 wzcag")?;
-    for _ in 0..86 {
-        out.push(b'c')?;
-    }
-    out.extend_from_slice(b"zvfcaxgab\n")?;
+    out.extend_from_slice(b" 1 1 0 ")?;
+    out.extend_from_slice(ANCESTOR.as_bytes())?;
+    out.push(b'\n')?;
     for update in 1..13 {
         let stats = Stats {
             update,

@@ -1,17 +1,14 @@
 // Steps of a machine.
+use crate::ancestor::ANCESTOR;
 use divide_rules::DivideAsk;
 use genome::{GREATEST_LENGTH, read_letters};
 use std::alloc::Global;
 use std::process::Abort;
 use std::test::Fail;
-use virtual_cpu::{Cpu, Cut, Did};
+use virtual_cpu::{Cpu, Cut, StepAnswer};
 
 /// The input that every IO takes.
 const INPUT: i32 = 0x0F0F0F0F;
-
-/// The default ancestor.
-const ANCESTOR: &str =
-    "wzcagcccccccccccccccccccccccccccccccccccccccccccccccccccccccccccccccccccccccccccccccccccccczvfcaxgab";
 
 /// A machine on a program.
 fn machine(alloc: Global, program: &str) -> Result<Cpu, Fail> {
@@ -137,9 +134,9 @@ fn the_ancestor_divides_at_step_389(rt: HostRuntime) -> Result<(), Fail> {
         let _ = cpu.step(INPUT, None);
     }
     let ask = match cpu.step(INPUT, None) {
-        Did::Asks(ask) => ask,
+        StepAnswer::Asks(ask) => ask,
         did => {
-            assert_eq!(rt; did, Did::Plain);
+            assert_eq!(rt; did, StepAnswer::Plain);
             return Err("no divide".into());
         }
     };
@@ -164,7 +161,7 @@ fn a_reset_begins_anew_on_the_kept_letters(rt: HostRuntime) -> Result<(), Fail> 
     let ancestor = read_letters(rt.alloc(), ANCESTOR.as_bytes())?;
     assert_eq!(rt; ancestor.len(), 100);
     let mut cpu = Cpu::new(rt.alloc(), &ancestor, GREATEST_LENGTH)?;
-    assert_eq!(rt; cpu.step(INPUT, None), Did::Allocated);
+    assert_eq!(rt; cpu.step(INPUT, None), StepAnswer::Allocated);
     assert_eq!(rt; cpu.length(), 300);
     assert_eq!(rt; cpu.registers(), [100, 0, 0]);
     cpu.reset(60);

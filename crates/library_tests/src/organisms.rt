@@ -1,4 +1,5 @@
 // Lives of an organism, and its traced steps.
+use crate::ancestor::ANCESTOR;
 use crate::births::NO_ERRORS;
 use divide_rules::{DivideRules, Rule};
 use genome::{GREATEST_LENGTH, Genome, read_letters};
@@ -10,10 +11,6 @@ use std::alloc::Global;
 use std::process::Abort;
 use std::sync::Arc;
 use std::test::Fail;
-
-/// The default ancestor.
-const ANCESTOR: &str =
-    "wzcagcccccccccccccccccccccccccccccccccccccccccccccccccccccccccccccccccccccccccccccccccccccczvfcaxgab";
 
 /// The organism of a genome, with the inputs of a trace and this memory limit.
 fn organism(alloc: Global, genome: Genome, limit: u32) -> Result<Organism, Fail> {

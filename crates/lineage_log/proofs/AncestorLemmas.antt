@@ -36,6 +36,7 @@ pub any_found : (p : ℕ → Bool) (ids : List ℕ) (id : ℕ) → Contains ids 
 any_found p ids id is passes = list_any_at p ids is.0 id is.1 (ap p is.2 ∙ passes)
 
 module _ (parent_of : ℕ → Option ℕ) (older : Older parent_of) where
+  -- the least id has no parent
   no_parent : (id : ℕ) → id ≤ 0 → parent_of id ≡ None
   no_parent id least = (elim (parent_of id) as (λ o. parent_of id ≡ o → parent_of id ≡ None) [
     | None ↦ λ is. is

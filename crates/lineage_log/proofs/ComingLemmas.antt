@@ -9,8 +9,8 @@ use Rattle.std.specs.Option.{option_map, unwrap_or}
 use Rattle.std.proofs.lemmas.Map.Entries.{sum_by-insert_entry}
 use Rattle.std.proofs.lemmas.Bool.{cases_lt, cond-true, cond-false}
 use Rattle.lineage_log.specs.Links.{Link}
-use Rattle.lineage_log.specs.Trees.{CanCome, with_newcomer}
-use Rattle.lineage_log.specs.Nodes.{NodeValue, AreFamilies, AreNodes, IsInFamily, as_child, children_of, links_of, living_of, node_at, node_link, tree_of}
+use Rattle.lineage_log.specs.Trees.{CanCome, tree_with_newcomer}
+use Rattle.lineage_log.specs.Nodes.{NodeValue, AreFamilies, AreNodes, IsInFamily, as_child, children_of, links_of, living_ids_of, node_at, node_link, tree_of}
 use Rattle.lineage_log.proofs.NodeLemmas.{by_key, child_apart, child_exists, child_is, children_few, founder_is, is_some_link, some_of}
 use Rattle.lineage_log.proofs.LivingLemmas.{insert_last, links_newcomer, links_set, living_newcomer, living_set, newest_above, none_newest}
 use Rattle.lineage_log.proofs.TreeLemmas.{IsSet, is_there, one_node, set_from, set_is, set_still}
@@ -125,6 +125,7 @@ module _ (before mid : List (ℕ × NodeValue)) (id : ℕ) (new : NodeValue) (ar
       (above_is : node_at before above ≡ Some parent)
       (raised : more ≡ record parent { children = parent.children + 1 })
       (set : IsSet mid after above more) where
+    -- the newcomer is not its parent
     differs : id ≢ above
     differs same = omega (arith, same, older)
 
@@ -212,11 +213,11 @@ module _ (before mid : List (ℕ × NodeValue)) (id : ℕ) (new : NodeValue) (ar
 pub tree_come : (before after : List (ℕ × NodeValue)) (id : ℕ) (new : NodeValue)
     → All (λ (link : Link). link.id < id) (links_of before) → new.lives ≡ true
     → after ≡ insert_entry nat_cmp before id new
-    → tree_of after ≡ with_newcomer (tree_of before) (node_link id new)
+    → tree_of after ≡ tree_with_newcomer (tree_of before) (node_link id new)
 tree_come before after id new newest lives e =
     let last = e ∙ insert_last before id new newest in
     let links = ap links_of last ∙ links_newcomer before id new in
-    let living = ap living_of last ∙ living_newcomer before id new lives in
+    let living = ap living_ids_of last ∙ living_newcomer before id new lives in
     λ i. record { links = links i; living = living i }
 
 -- a node has another number of children
@@ -228,7 +229,7 @@ tree_set before after id children old is e =
     let links = ap links_of e
     ∙ links_set before id old (record old { children = children }) is (λ key. refl) in
     let living =
-    ap living_of e ∙ living_set before id old (record old { children = children }) is refl in
+    ap living_ids_of e ∙ living_set before id old (record old { children = children }) is refl in
     λ i. record { links = links i; living = living i }
 
 -- what a newcomer does to the nodes before its parent has another child
@@ -238,7 +239,7 @@ pub record Comes (before mid : List (ℕ × NodeValue)) (link : Link) (new : Nod
   pub lives : new.lives ≡ true
   pub parent : new.parent ≡ link.parent
   pub come : HasCome before mid link.id new
-  pub tree : tree_of mid ≡ with_newcomer (tree_of before) link
+  pub tree : tree_of mid ≡ tree_with_newcomer (tree_of before) link
 
 -- the node of a newcomer
 abbrev pub new_node : Link → NodeValue
@@ -268,7 +269,7 @@ comes before mid link new are can is rising e at =
       parent = ap (λ (n : NodeValue). n.parent) is;
       come = has_come before mid link.id new are.families.rising rising none e at;
       tree = tree_come before mid link.id new can.newest lives e
-          ∙ ap (λ (n : NodeValue). with_newcomer (tree_of before) (node_link link.id n)) is;
+          ∙ ap (λ (n : NodeValue). tree_with_newcomer (tree_of before) (node_link link.id n)) is;
     }
 
 -- there is room for one child more
@@ -288,7 +289,7 @@ pub child_enters : (before mid after : List (ℕ × NodeValue)) (link : Link) (n
     → Comes before mid link new → link.parent ≡ Some above
     → ((node : NodeValue) → node_at mid above ≡ Some node
     → after ≡ set_value (is_at (nat_cmp above)) mid (record node { children = node.children + 1 }))
-    → AreNodes after × (tree_of after ≡ with_newcomer (tree_of before) link)
+    → AreNodes after × (tree_of after ≡ tree_with_newcomer (tree_of before) link)
 child_enters before mid after link new above are can is child raise =
     let found =
     some_of (node_at before above) (sym (is_some_link before above) ∙ can.there above child) in

@@ -8,7 +8,7 @@ use Rattle.std.proofs.lemmas.List.{reverse-append}
 use Rattle.std.proofs.lemmas.List.Elements.{filter-append}
 use Rattle.std.proofs.lemmas.List.Folds.{list_any-append}
 use Rattle.lineage_log.specs.Links.{Link}
-use Rattle.lineage_log.specs.Ancestry.{AreOlder, ancestors_of, ancestors_within, is_in_line, is_kept, kept_of, line_of, link_of, parent_of}
+use Rattle.lineage_log.specs.Ancestry.{AreOlder, ancestor_ids_of, ancestors_within, is_in_line, is_kept, kept_of, line_of_descent, link_of, parent_of}
 use Rattle.lineage_log.proofs.AncestorLemmas.{AreLeft, any_found, found_any, kept_parent, kept_living, line_is, same_ancestors}
 use Rattle.lineage_log.proofs.KeptLemmas.{filter_alike, find_left}
 
@@ -35,7 +35,7 @@ module _ (everyone : List Link) (living : List ℕ) (older : AreOlder everyone) 
 
   -- who is kept has the ancestors that it had
   ancestors_kept : (id : ℕ) → is_kept everyone living id ≡ true
-      → ancestors_of (kept_of everyone living) id ≡ ancestors_of everyone id
+      → ancestor_ids_of (kept_of everyone living) id ≡ ancestor_ids_of everyone id
   ancestors_kept id is = same_ancestors (parent_of everyone) (parent_of (kept_of everyone living))
       kept_id older left_kept id id is
 
@@ -125,8 +125,8 @@ module _ (everyone : List Link) (living : List ℕ) (older : AreOlder everyone) 
 
   -- so do the lines of the living
   pub line_kept : (id : ℕ) → Contains living id
-      → line_of (kept_of everyone living) id ≡ line_of everyone id
-  unfolding line_of
+      → line_of_descent (kept_of everyone living) id ≡ line_of_descent everyone id
+  unfolding line_of_descent
   line_kept id lives =
       let is = kept_living (parent_of everyone) older living id lives in
       ap (λ ids. reverse (filter_map (link_of (kept_of everyone living)) ids))
@@ -157,6 +157,7 @@ module _ (everyone : List Link) (living : List ℕ) (link : Link) (older : AreOl
     (newest : All (λ (other : Link). other.id < link.id) everyone)
     (below : All (λ id. id < link.id) living)
     (parent : (above : ℕ) → link.parent ≡ Some above → Contains living above) where
+  -- the links of all organisms ever, with the newcomer's behind them
   abbrev more : List Link
   more = everyone ++ link ∷ []
 
@@ -272,25 +273,26 @@ module _ (everyone : List Link) (living : List ℕ) (link : Link) (older : AreOl
 
 -- the line of an organism is that of its parent, and itself
 pub line_step : (links : List Link) (id : ℕ) (link : Link) → AreOlder links
-    → link_of links id ≡ Some link → line_of links id ≡ option_map_or (line_of links) link.parent []
+    → link_of links id ≡ Some link
+    → line_of_descent links id ≡ option_map_or (line_of_descent links) link.parent []
     ++ link ∷ []
-unfolding line_of
+unfolding line_of_descent
 line_step links id link older is =
     let parent : parent_of links id ≡ link.parent =
     ap (option_and_then (λ (l : Link). l.parent)) is in
     let line = line_is (parent_of links) older id
-    ∙ ap (λ (o : Option ℕ). id ∷ option_map_or (ancestors_of links) o []) parent in
+    ∙ ap (λ (o : Option ℕ). id ∷ option_map_or (ancestor_ids_of links) o []) parent in
     ap (λ ids. reverse (filter_map (link_of links) ids)) line
     ∙ ap (λ (found : Option Link).
     reverse (cons_option found
-    (filter_map (link_of links) (option_map_or (ancestors_of links) link.parent [])))) is
+    (filter_map (link_of links) (option_map_or (ancestor_ids_of links) link.parent [])))) is
     ∙ reverse-append (link ∷ [])
-    (filter_map (link_of links) (option_map_or (ancestors_of links) link.parent []))
+    (filter_map (link_of links) (option_map_or (ancestor_ids_of links) link.parent []))
     ∙ ap (λ (front : List Link). front ++ link ∷ []) (by link.parent)
   where
     by : (o : Option ℕ) → reverse
-        (filter_map (link_of links) (option_map_or (ancestors_of links) o []))
-        ≡ option_map_or (λ id. reverse (filter_map (link_of links) (ancestors_of links id))) o []
+        (filter_map (link_of links) (option_map_or (ancestor_ids_of links) o []))
+        ≡ option_map_or (λ id. reverse (filter_map (link_of links) (ancestor_ids_of links id))) o []
     by None = refl
     by (Some above) = refl
 

@@ -8,9 +8,9 @@ use Rattle.std.specs.Map.{set_value}
 use Rattle.std.specs.Option.{option_map, option_map_or}
 use Rattle.std.proofs.lemmas.Bool.{cases_Bool, cond-true, cond-false, false_from_ne_true}
 use Rattle.lineage_log.specs.Links.{Link}
-use Rattle.lineage_log.specs.Ancestry.{ancestors_of, is_kept, kept_of, link_of, parent_of}
-use Rattle.lineage_log.specs.Trees.{IsKept, genome_in, with_death, without}
-use Rattle.lineage_log.specs.Nodes.{NodeValue, AreFamilies, AreFewer, AreNeededBut, AreNodes, IsInFamily, children_of, links_of, living_of, node_at, node_link, tree_of}
+use Rattle.lineage_log.specs.Ancestry.{ancestor_ids_of, is_kept, kept_of, link_of, parent_of}
+use Rattle.lineage_log.specs.Trees.{IsPruned, genome_in_tree, tree_with_death, without_id}
+use Rattle.lineage_log.specs.Nodes.{NodeValue, AreFamilies, AreFewer, AreNeededBut, AreNodes, IsInFamily, children_of, links_of, living_ids_of, node_at, node_link, tree_of}
 use Rattle.lineage_log.proofs.AncestorLemmas.{AreLeft, AreWanted, Older, kept_left, line_is, wanted_kept}
 use Rattle.lineage_log.proofs.NodeLemmas.{below_top, child_exists, is_some_link, link_there, node_told, parent_there, some_of, top_of}
 use Rattle.lineage_log.proofs.LivingLemmas.{links_set, lives_there, living_dead, there_lives}
@@ -21,6 +21,7 @@ pub find_left : (left : ℕ → Bool) (id : ℕ) (links : List Link)
     → link_of (filter (λ (link : Link). left link.id) links) id
     ≡ cond (left id) (link_of links id) None
 find_left left id [] = none (left id) where
+  -- where there is no link, none is left, whatever the test says
   none : (b : Bool) → ◌≡◌ {A = Option Link} None (cond b None None)
   none true = refl
   none false = refl
@@ -74,6 +75,7 @@ none_some id same = true≢false (sym (ap is_some same))
 
 module _ (before after : List (ℕ × NodeValue)) (old : AreFamilies before) (new : AreNodes after)
     (fewer : AreFewer before after) where
+  -- an id has a node then
   abbrev has : ℕ → Bool
   has id = is_some (node_at after id)
 
@@ -120,7 +122,7 @@ module _ (before after : List (ℕ × NodeValue)) (old : AreFamilies before) (ne
   }
 
   -- each of them lives or has a child among them
-  wanted : AreWanted (parent_of (links_of before)) has (living_of after)
+  wanted : AreWanted (parent_of (links_of before)) has (living_ids_of after)
   wanted id h =
       let found = some_of (node_at after id) h in
       ⊎_elim
@@ -144,30 +146,31 @@ module _ (before after : List (ℕ × NodeValue)) (old : AreFamilies before) (ne
       (cases_Bool found.0.lives)
 
   -- who is kept is who is left
-  pub kept_is : (id : ℕ) → is_kept (links_of before) (living_of after) id
+  pub kept_is : (id : ℕ) → is_kept (links_of before) (living_ids_of after) id
       ≡ is_some (node_at after id)
   kept_is id = ⊎_elim
       (λ (inside : is_some (node_at after id) ≡ true). wanted_kept (parent_of (links_of before)) has
-      (living_of after) older_before wanted (top_of after) (top_of after) id (below_top after)
+      (living_ids_of after) older_before wanted (top_of after) (top_of after) id (below_top after)
       (omega arith) inside ∙ sym inside)
       (λ (out : is_some (node_at after id) ≡ false).
-      false_from_ne_true (is_kept (links_of before) (living_of after) id)
+      false_from_ne_true (is_kept (links_of before) (living_ids_of after) id)
       (λ h. true≢false (sym (kept_left (parent_of (links_of before))
-      (parent_of (links_of after)) has older_before are_left (living_of after) id lives_left h)
+      (parent_of (links_of after)) has older_before are_left (living_ids_of after) id lives_left h)
       ∙ out)) ∙ sym out)
       (cases_Bool (is_some (node_at after id)))
     where
-      lives_left : (one : ℕ) → Contains (living_of after) one → is_some (node_at after one) ≡ true
+      lives_left : (one : ℕ) → Contains (living_ids_of after) one
+          → is_some (node_at after one) ≡ true
       lives_left one lives =
           let found = lives_there after one new.families.rising lives in
           is_there (node_at after one) found.0 found.1
 
   -- the links that are left are those of the living and of their ancestors
-  pub links_kept : links_of after ≡ kept_of (links_of before) (living_of after)
+  pub links_kept : links_of after ≡ kept_of (links_of before) (living_ids_of after)
   unfolding kept_of
   links_kept = fewer.links
       ∙ filter_alike (λ (link : Link). fewer.left link.id)
-      (λ (link : Link). is_kept (links_of before) (living_of after) link.id) (links_of before)
+      (λ (link : Link). is_kept (links_of before) (living_ids_of after) link.id) (links_of before)
       (λ k d low. all (link_of (links_of before) (get_or (links_of before) k d).id)
       (fewer.left (get_or (links_of before) k d).id) (found_at (links_of before) k d low)
       ∙ sym (has_is (get_or (links_of before) k d).id)
@@ -179,7 +182,7 @@ module _ (before after : List (ℕ × NodeValue)) (old : AreFamilies before) (ne
       all found false some = refl
 
 -- the links of nodes are kept
-pub nodes_kept : (nodes : List (ℕ × NodeValue)) → AreNodes nodes → IsKept (tree_of nodes)
+pub nodes_kept : (nodes : List (ℕ × NodeValue)) → AreNodes nodes → IsPruned (tree_of nodes)
 nodes_kept nodes are = sym (links_kept nodes nodes are.families are (fewer_same nodes))
 
 -- ---- an organism dies
@@ -190,11 +193,11 @@ pub record IsLaid (before after : List (ℕ × NodeValue)) (id : ℕ) : Type 0 w
   pub needed : AreNeededBut (Some id) after
   pub there : IsSome (node_at after id)
   pub links : links_of after ≡ links_of before
-  pub living : living_of after ≡ without id (living_of before)
+  pub living : living_ids_of after ≡ without_id id (living_ids_of before)
 
 -- so it is where its node was set to that
 pub laid : (before after : List (ℕ × NodeValue)) (id : ℕ) → AreNodes before
-    → Contains (living_of before) id
+    → Contains (living_ids_of before) id
     → ((node : NodeValue) → node_at before id ≡ Some node
     → after ≡ set_value (is_at (nat_cmp id)) before (record node { lives = false }))
     → IsLaid before after id
@@ -229,15 +232,15 @@ laid before after id are lives change =
           (set_from before after id new other node set has);
       there = set_still before after id new id set (is_there (node_at before id) old is);
       links = ap links_of e ∙ links_set before id old new is (λ key. refl);
-      living = ap living_of e ∙ living_dead before id old new are.families.rising is refl;
+      living = ap living_ids_of e ∙ living_dead before id old new are.families.rising is refl;
     }
 
 -- what is left then
 pub buried : (before mid after : List (ℕ × NodeValue)) (id : ℕ) → IsLaid before mid id
-    → AreNodes after → AreFewer mid after → tree_of after ≡ with_death (tree_of before) id
+    → AreNodes after → AreFewer mid after → tree_of after ≡ tree_with_death (tree_of before) id
 buried before mid after id lays are fewer =
     let living = fewer.living ∙ lays.living in
-    let links : links_of after ≡ kept_of (links_of before) (without id (living_of before)) =
+    let links : links_of after ≡ kept_of (links_of before) (without_id id (living_ids_of before)) =
     links_kept mid after lays.families are fewer ∙ (λ i. kept_of (lays.links i) (living i)) in
     λ i. record { links = links i; living = living i }
 
@@ -252,7 +255,7 @@ nodes_older nodes are id above is =
 
 -- the genome of an organism of a tree is that of its node
 pub genome_there : (nodes : List (ℕ × NodeValue)) (id : ℕ) (node : NodeValue)
-    → node_at nodes id ≡ Some node → genome_in (tree_of nodes) id ≡ node.genome
+    → node_at nodes id ≡ Some node → genome_in_tree (tree_of nodes) id ≡ node.genome
 genome_there nodes id node is =
     ap (λ (found : Option Link). option_map_or (λ (link : Link). link.genome) found [])
     (link_there nodes id ∙ ap (option_map (node_link id)) is)
@@ -260,7 +263,7 @@ genome_there nodes id node is =
 -- the links of an id's ancestors, the id first
 abbrev pub links_back : List (ℕ × NodeValue) → Option ℕ → List Link
 links_back nodes next =
-    filter_map (link_of (links_of nodes)) (option_map_or (ancestors_of (links_of nodes)) next [])
+    filter_map (link_of (links_of nodes)) (option_map_or (ancestor_ids_of (links_of nodes)) next [])
 
 -- one step back
 pub back_once : (nodes : List (ℕ × NodeValue)) (front links : List Link) (id : ℕ) (node : NodeValue)
@@ -268,7 +271,7 @@ pub back_once : (nodes : List (ℕ × NodeValue)) (front links : List Link) (id 
     → (front ++ node_link id node ∷ []) ++ links_back nodes node.parent ≡ links
 back_once nodes front links id node are is all =
     let line = line_is (parent_of (links_of nodes)) (nodes_older nodes are) id
-    ∙ ap (λ (parent : Option ℕ). id ∷ option_map_or (ancestors_of (links_of nodes)) parent [])
+    ∙ ap (λ (parent : Option ℕ). id ∷ option_map_or (ancestor_ids_of (links_of nodes)) parent [])
     (parent_there nodes id node is) in
     let here : links_back nodes (Some id) ≡ node_link id node ∷ links_back nodes node.parent =
     ap (filter_map (link_of (links_of nodes))) line

@@ -1,53 +1,57 @@
 -- What was given of a log, beside what is left.
 use Rattle.std.proofs.Common.{◌≡◌, ℕ, List, [], ◌∷◌, ◌++◌, Option, Some, Result, Ok, Err, subst, sym, ap, ◌∙◌, append-nil}
-use Rattle.log_lines.specs.Line.{Line, values_of}
+use Rattle.log_lines.specs.Line.{Line, line_values}
 use Rattle.log_lines.specs.declared.log_line.LogLine.{LogLine}
 use Rattle.lineage_log.specs.declared.reason.Reason.{Reason}
 use Rattle.lineage_log.specs.declared.log_reader.LogReader.{LogReader}
 use Rattle.lineage_log.specs.declared.log_stop.LogStop.{LogStop}
-use Rattle.lineage_log.specs.Order.{Place, Before, told, told_all, and_on}
+use Rattle.lineage_log.specs.Order.{LogPlace, Before, told, told_all, and_on}
 use Rattle.lineage_log.specs.LogGrammar.{Fault, log_of, pieces_log, with_line}
 use Rattle.lineage_log.specs.LogReading.{GivesNext, IsAtStart, left_of}
 use Rattle.lineage_log.specs.LogValues.{answer_of, with_front}
 use Rattle.lineage_log.specs.Places.{place_of}
-use Rattle.lineage_log.proofs.LogLaws.{went_on, place_is}
-use Rattle.lineage_log.proofs.ReadLemmas.{cut, front_none, front_more}
+use Rattle.lineage_log.proofs.LogLaws.{cut, went_on, place_is}
+use Rattle.lineage_log.proofs.ReadLemmas.{front_none, front_more}
 
 -- the lines that were given are before those that are left, and lead to this place
-pub record HasGiven (read : Result (List Line) Fault) (place : Place)
+pub record HasGiven (read : Result (List Line) Fault) (place : LogPlace)
     (left : Result (List Line) Fault) : Type 0 where
   pub front : List Line
   pub so_far : with_front front left ≡ read
   pub told : told_all Before front ≡ Ok place
 
+-- at the start what is left is the whole log
 pub left_at_start : (bytes : List ℕ) (reader : LogReader) → IsAtStart bytes reader
     → left_of reader ≡ log_of bytes
 unfolding log_of
 left_at_start bytes reader start =
     ap (λ (n : ℕ). pieces_log n (place_of reader.place) (cut reader.rest.now)) start.number
-    ∙ ap (λ (p : Place). pieces_log 1 p (cut reader.rest.now)) start.place
+    ∙ ap (λ (p : LogPlace). pieces_log 1 p (cut reader.rest.now)) start.place
     ∙ ap (λ (l : List ℕ). pieces_log 1 Before (cut l)) start.rest
 
+-- at the start no line was given
 pub given_none : (bytes : List ℕ) (reader : LogReader) → IsAtStart bytes reader
     → HasGiven (log_of bytes) (place_of reader.place) (left_of reader)
 given_none bytes reader start = record {
   front = [];
   so_far = front_none (left_of reader) ∙ left_at_start bytes reader start;
-  told = ap (λ (p : Place). Ok p) (sym start.place);
+  told = ap (λ (p : LogPlace). Ok p) (sym start.place);
 }
 
-told_more : (place before after : Place) (front : List Line) (line : Line)
+-- where lines lead to a place and one more from there to another, all lead to that other
+told_more : (place before after : LogPlace) (front : List Line) (line : Line)
     → told_all place front ≡ Ok before → told before line ≡ Ok after
     → told_all place (front ++ line ∷ []) ≡ Ok after
 told_more place before after [] line so next =
-    ap (λ (p : Place). and_on (told p line) (λ q. told_all q [])) (place_is place before so)
-    ∙ ap (λ (t : Result Place Reason). and_on t (λ q. told_all q [])) next
+    ap (λ (p : LogPlace). and_on (told p line) (λ q. told_all q [])) (place_is place before so)
+    ∙ ap (λ (t : Result LogPlace Reason). and_on t (λ q. told_all q [])) next
 told_more place before after (first ∷ front) line so next =
     let step = went_on (told place first) (λ p. told_all p front) before so in
-    ap (λ (t : Result Place Reason). and_on t (λ p. told_all p (front ++ line ∷ []))) step.1
+    ap (λ (t : Result LogPlace Reason). and_on t (λ p. told_all p (front ++ line ∷ []))) step.1
     ∙ told_more step.0 before after front line step.2 next
 
-pub given_more : (read : Result (List Line) Fault) (before after : Place)
+-- where what is left begins with a line that is told, it is given, and the others are left
+pub given_more : (read : Result (List Line) Fault) (before after : LogPlace)
     (left behind : Result (List Line) Fault) (line : Line) → HasGiven read before left
     → left ≡ with_line line behind → told before line ≡ Ok after → HasGiven read after behind
 given_more read before after left behind line given is next = record {
@@ -57,18 +61,6 @@ given_more read before after left behind line given is next = record {
   told = told_more Before before after given.front line given.told next;
 }
 
--- what was given is the whole log
-pub given_all : (read : Result (List Line) Fault) (place : Place) (left : Result (List Line) Fault)
-    (given : HasGiven read place left) → left ≡ Ok [] → read ≡ Ok given.front
-given_all read place left given is = sym given.so_far ∙ ap (with_front given.front) is
-    ∙ ap (λ (l : List Line). Ok l) (append-nil given.front)
-
--- a fault of what is left is the fault of the whole
-pub fault_left : (front : List Line) (left : Result (List Line) Fault) (stop : LogStop)
-    → answer_of left ≡ Err stop → answer_of (with_front front left) ≡ Err stop
-fault_left front (Ok lines) stop is = absurd cc
-fault_left front (Err e) stop is = is
-
 -- one line more was given
 pub given_line : (read : Result (List Line) Fault) (before after : LogReader)
     (found : Option LogLine) (line : LogLine)
@@ -77,4 +69,4 @@ pub given_line : (read : Result (List Line) Fault) (before after : LogReader)
 given_line read before after found line given gives is =
     let one = subst (λ (o : Option LogLine). GivesNext (Ok o) before after) is gives in
     given_more read (place_of before.place) (place_of after.place) (left_of before) (left_of after)
-    (values_of line) given one.left one.told
+    (line_values line) given one.left one.told

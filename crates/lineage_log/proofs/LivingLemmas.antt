@@ -10,8 +10,8 @@ use Rattle.std.proofs.lemmas.List.{map_push}
 use Rattle.std.proofs.lemmas.List.Elements.{filter-append}
 use Rattle.std.proofs.lemmas.Map.Keys.{sorted_tail}
 use Rattle.lineage_log.specs.Links.{Link}
-use Rattle.lineage_log.specs.Trees.{without}
-use Rattle.lineage_log.specs.Nodes.{NodeValue, links_of, living_of, node_at, node_link}
+use Rattle.lineage_log.specs.Trees.{without_id}
+use Rattle.lineage_log.specs.Nodes.{NodeValue, links_of, living_ids_of, node_at, node_link}
 use Rattle.lineage_log.proofs.NodeLemmas.{Rises, by_key, first_node, other_node, none_behind, behind_first}
 
 -- ---- who lives
@@ -22,7 +22,7 @@ contains_more x y xs is = (suc is.0, omega (arith, is.1), is.2)
 
 -- a node that lives is among the living
 pub there_lives : (nodes : List (ℕ × NodeValue)) (id : ℕ) (node : NodeValue)
-    → node_at nodes id ≡ Some node → node.lives ≡ true → Contains (living_of nodes) id
+    → node_at nodes id ≡ Some node → node.lives ≡ true → Contains (living_ids_of nodes) id
 there_lives [] id node is lives = absurd cc
 there_lives (e ∷ es) id node is lives = ⊎_elim
     (λ (here : (id ≡ e.0) × (is_at (nat_cmp id) e.0 ≡ true)).
@@ -36,14 +36,14 @@ there_lives (e ∷ es) id node is lives = ⊎_elim
     (elim e.1.lives as (λ b.
     Contains (keys_of (cond b (e ∷ filter (λ (e : ℕ × NodeValue). e.1.lives) es)
     (filter (λ (e : ℕ × NodeValue). e.1.lives) es))) id) [
-      | true ↦ contains_more id e.0 (living_of es) rest
+      | true ↦ contains_more id e.0 (living_ids_of es) rest
       | false ↦ rest
     ]))
     (by_key id e.0)
 
 -- who is among the living has a node that lives
 pub lives_there : (nodes : List (ℕ × NodeValue)) (id : ℕ) → Rises nodes
-    → Contains (living_of nodes) id → (node : NodeValue) × (node_at nodes id ≡ Some node)
+    → Contains (living_ids_of nodes) id → (node : NodeValue) × (node_at nodes id ≡ Some node)
     × (node.lives ≡ true)
 lives_there [] id rising is = absurd (omega (arith, is.1))
 lives_there (e ∷ es) id rising is =
@@ -53,9 +53,10 @@ lives_there (e ∷ es) id rising is =
           → (node : NodeValue) × (node_at (e ∷ es) id ≡ Some node) × (node.lives ≡ true)
       deeper rest = (rest.0, behind_first e es id rest.0 rising rest.1, rest.2)
 
-      first : (Contains (living_of es) id → (node : NodeValue) × (node_at (e ∷ es) id ≡ Some node)
-          × (node.lives ≡ true)) → e.1.lives ≡ true → (k : ℕ) → k < length (e.0 ∷ living_of es)
-          → get_or (e.0 ∷ living_of es) k id ≡ id → (node : NodeValue)
+      first : (Contains (living_ids_of es) id
+          → (node : NodeValue) × (node_at (e ∷ es) id ≡ Some node)
+          × (node.lives ≡ true)) → e.1.lives ≡ true → (k : ℕ) → k < length (e.0 ∷ living_ids_of es)
+          → get_or (e.0 ∷ living_ids_of es) k id ≡ id → (node : NodeValue)
           × (node_at (e ∷ es) id ≡ Some node) × (node.lives ≡ true)
       first rest lives zero low at = (
         e.1,
@@ -65,7 +66,7 @@ lives_there (e ∷ es) id rising is =
       )
       first rest lives (suc k) low at = rest (k, omega (arith, low), at)
 
-      by : (Contains (living_of es) id → (node : NodeValue) × (node_at (e ∷ es) id ≡ Some node)
+      by : (Contains (living_ids_of es) id → (node : NodeValue) × (node_at (e ∷ es) id ≡ Some node)
           × (node.lives ≡ true)) → (b : Bool) → e.1.lives ≡ b
           → Contains (keys_of (cond b (e ∷ filter (λ (e : ℕ × NodeValue). e.1.lives) es)
           (filter (λ (e : ℕ × NodeValue). e.1.lives) es))) id → (node : NodeValue)
@@ -102,6 +103,7 @@ newest_above (e ∷ es) id other node newest is = ⊎_elim
 pub none_newest : (nodes : List (ℕ × NodeValue)) (id : ℕ)
     → All (λ (link : Link). link.id < id) (links_of nodes) → node_at nodes id ≡ None
 none_newest nodes id newest = by (node_at nodes id) refl where
+  -- whatever is found under the id, no node has it
   by : (found : Option NodeValue) → node_at nodes id ≡ found → node_at nodes id ≡ None
   by None e = e
   by (Some node) e = absurd (omega (arith, newest_above nodes id id node newest e))
@@ -113,7 +115,7 @@ links_newcomer nodes id node = map_push (λ (e : ℕ × NodeValue). node_link e.
 
 -- the living with it
 pub living_newcomer : (nodes : List (ℕ × NodeValue)) (id : ℕ) (node : NodeValue) → node.lives ≡ true
-    → living_of (nodes ++ (id, node) ∷ []) ≡ living_of nodes ++ id ∷ []
+    → living_ids_of (nodes ++ (id, node) ∷ []) ≡ living_ids_of nodes ++ id ∷ []
 living_newcomer nodes id node lives =
     let lives_at : (ℕ × NodeValue) → Bool = λ (e : ℕ × NodeValue). e.1.lives in
     ap keys_of (filter-append lives_at nodes ((id, node) ∷ [])
@@ -148,28 +150,28 @@ live_more id lives others = cond lives (id ∷ others) others
 
 -- the living of a first node and of the others
 living_first : (e : ℕ × NodeValue) (es : List (ℕ × NodeValue))
-    → living_of (e ∷ es) ≡ live_more e.0 e.1.lives (living_of es)
+    → living_ids_of (e ∷ es) ≡ live_more e.0 e.1.lives (living_ids_of es)
 living_first e es = elim e.1.lives as
     (λ b. keys_of (cond b (e ∷ filter (λ (e : ℕ × NodeValue). e.1.lives) es)
-    (filter (λ (e : ℕ × NodeValue). e.1.lives) es)) ≡ live_more e.0 b (living_of es))
+    (filter (λ (e : ℕ × NodeValue). e.1.lives) es)) ≡ live_more e.0 b (living_ids_of es))
     [ true ↦ refl | false ↦ refl ]
 
 -- who lives stays where it lives as before
 pub living_set : (nodes : List (ℕ × NodeValue)) (id : ℕ) (old new : NodeValue)
     → node_at nodes id ≡ Some old → new.lives ≡ old.lives
-    → living_of (set_value (is_at (nat_cmp id)) nodes new) ≡ living_of nodes
+    → living_ids_of (set_value (is_at (nat_cmp id)) nodes new) ≡ living_ids_of nodes
 living_set [] id old new is same = refl
 living_set (e ∷ es) id old new is same = ⊎_elim
     (λ here.
     let was : Some e.1 ≡ Some old = sym (first_node e es id here.1) ∙ is in
     let first : e.1.lives ≡ old.lives = cc in
-    ap living_of (cond-true (is_at (nat_cmp id) e.0) ((e.0, new) ∷ es)
+    ap living_ids_of (cond-true (is_at (nat_cmp id) e.0) ((e.0, new) ∷ es)
     (e ∷ set_value (is_at (nat_cmp id)) es new) here.1)
     ∙ living_first (e.0, new) es
-    ∙ ap (λ b. live_more e.0 b (living_of es)) (same ∙ sym first)
+    ∙ ap (λ b. live_more e.0 b (living_ids_of es)) (same ∙ sym first)
     ∙ sym (living_first e es))
     (λ apart.
-    ap living_of (cond-false (is_at (nat_cmp id) e.0) ((e.0, new) ∷ es)
+    ap living_ids_of (cond-false (is_at (nat_cmp id) e.0) ((e.0, new) ∷ es)
     (e ∷ set_value (is_at (nat_cmp id)) es new) apart.1)
     ∙ living_first e (set_value (is_at (nat_cmp id)) es new)
     ∙ ap (live_more e.0 e.1.lives)
@@ -179,17 +181,18 @@ living_set (e ∷ es) id old new is same = ⊎_elim
 
 -- an id that is no node's isn't left out
 without_none : (nodes : List (ℕ × NodeValue)) (id : ℕ) → node_at nodes id ≡ None
-    → without id (living_of nodes) ≡ living_of nodes
+    → without_id id (living_ids_of nodes) ≡ living_ids_of nodes
 without_none [] id none = refl
 without_none (e ∷ es) id none = ⊎_elim
     (λ (here : (id ≡ e.0) × (is_at (nat_cmp id) e.0 ≡ true)).
     absurd (let some = first_node e es id here.1 in cc))
     (λ (apart : (id ≢ e.0) × (is_at (nat_cmp id) e.0 ≡ false)).
     let rest = without_none es id (sym (other_node e es id apart.1) ∙ none) in
-    ap (without id) (living_first e es)
-    ∙ (elim e.1.lives as (λ b. without id (live_more e.0 b (living_of es))
-    ≡ live_more e.0 b (living_of es)) [
-      | true ↦ ap (λ b. cond (not b) (e.0 ∷ without id (living_of es)) (without id (living_of es)))
+    ap (without_id id) (living_first e es)
+    ∙ (elim e.1.lives as (λ b. without_id id (live_more e.0 b (living_ids_of es))
+    ≡ live_more e.0 b (living_ids_of es)) [
+      | true ↦ ap (λ b. cond (not b) (e.0 ∷ without_id id (living_ids_of es))
+          (without_id id (living_ids_of es)))
           (ne_eqb e.0 id (λ same. apart.0 (sym same))) ∙ ap (λ others. e.0 ∷ others) rest
       | false ↦ rest
     ])
@@ -199,36 +202,36 @@ without_none (e ∷ es) id none = ⊎_elim
 -- one that dies is left out of the living
 pub living_dead : (nodes : List (ℕ × NodeValue)) (id : ℕ) (old new : NodeValue) → Rises nodes
     → node_at nodes id ≡ Some old → new.lives ≡ false
-    → living_of (set_value (is_at (nat_cmp id)) nodes new) ≡ without id (living_of nodes)
+    → living_ids_of (set_value (is_at (nat_cmp id)) nodes new) ≡ without_id id (living_ids_of nodes)
 living_dead [] id old new rising is dead = refl
 living_dead (e ∷ es) id old new rising is dead = ⊎_elim
     (λ (here : (id ≡ e.0) × (is_at (nat_cmp id) e.0 ≡ true)).
-    ap living_of (cond-true (is_at (nat_cmp id) e.0) ((e.0, new) ∷ es)
+    ap living_ids_of (cond-true (is_at (nat_cmp id) e.0) ((e.0, new) ∷ es)
     (e ∷ set_value (is_at (nat_cmp id)) es new) here.1)
     ∙ living_first (e.0, new) es
-    ∙ ap (λ b. live_more e.0 b (living_of es)) dead
+    ∙ ap (λ b. live_more e.0 b (living_ids_of es)) dead
     ∙ sym (without_none es id (none_behind e es id rising here.1))
-    ∙ (elim e.1.lives as (λ b. without id (living_of es)
-    ≡ without id (live_more e.0 b (living_of es))) [
-      | true ↦ sym (ap (λ b. cond (not b) (e.0 ∷ without id (living_of es))
-          (without id (living_of es))) (eq-eqb e.0 id (sym here.0)))
+    ∙ (elim e.1.lives as (λ b. without_id id (living_ids_of es)
+    ≡ without_id id (live_more e.0 b (living_ids_of es))) [
+      | true ↦ sym (ap (λ b. cond (not b) (e.0 ∷ without_id id (living_ids_of es))
+          (without_id id (living_ids_of es))) (eq-eqb e.0 id (sym here.0)))
       | false ↦ refl
     ])
-    ∙ ap (without id) (sym (living_first e es)))
+    ∙ ap (without_id id) (sym (living_first e es)))
     (λ (apart : (id ≢ e.0) × (is_at (nat_cmp id) e.0 ≡ false)).
-    ap living_of (cond-false (is_at (nat_cmp id) e.0) ((e.0, new) ∷ es)
+    ap living_ids_of (cond-false (is_at (nat_cmp id) e.0) ((e.0, new) ∷ es)
     (e ∷ set_value (is_at (nat_cmp id)) es new) apart.1)
     ∙ living_first e (set_value (is_at (nat_cmp id)) es new)
     ∙ ap (live_more e.0 e.1.lives)
     (living_dead es id old new (sorted_tail nat_cmp e.0 (keys_of es) rising)
     (sym (other_node e es id apart.1) ∙ is) dead)
-    ∙ (elim e.1.lives as (λ b. live_more e.0 b (without id (living_of es))
-    ≡ without id (live_more e.0 b (living_of es))) [
-      | true ↦ sym (ap (λ b. cond (not b) (e.0 ∷ without id (living_of es))
-          (without id (living_of es))) (ne_eqb e.0 id (λ same. apart.0 (sym same))))
+    ∙ (elim e.1.lives as (λ b. live_more e.0 b (without_id id (living_ids_of es))
+    ≡ without_id id (live_more e.0 b (living_ids_of es))) [
+      | true ↦ sym (ap (λ b. cond (not b) (e.0 ∷ without_id id (living_ids_of es))
+          (without_id id (living_ids_of es))) (ne_eqb e.0 id (λ same. apart.0 (sym same))))
       | false ↦ refl
     ])
-    ∙ ap (without id) (sym (living_first e es)))
+    ∙ ap (without_id id) (sym (living_first e es)))
     (by_key id e.0)
 
 -- ---- a node that goes
@@ -236,18 +239,20 @@ living_dead (e ∷ es) id old new rising is dead = ⊎_elim
 -- who lives stays where it did not live
 pub living_gone : (nodes : List (ℕ × NodeValue)) (id : ℕ) (old : NodeValue)
     → node_at nodes id ≡ Some old → old.lives ≡ false
-    → living_of (remove_entry (is_at (nat_cmp id)) nodes) ≡ living_of nodes
+    → living_ids_of (remove_entry (is_at (nat_cmp id)) nodes) ≡ living_ids_of nodes
 living_gone [] id old is dead = refl
 living_gone (e ∷ es) id old is dead = ⊎_elim
     (λ here.
     let was : Some e.1 ≡ Some old = sym (first_node e es id here.1) ∙ is in
     let first : e.1.lives ≡ false = cc in
-    ap living_of (cond-true (is_at (nat_cmp id) e.0) es (e ∷ remove_entry (is_at (nat_cmp id)) es)
+    ap living_ids_of (cond-true (is_at (nat_cmp id) e.0) es
+    (e ∷ remove_entry (is_at (nat_cmp id)) es)
     here.1)
-    ∙ ap (λ b. live_more e.0 b (living_of es)) (sym first)
+    ∙ ap (λ b. live_more e.0 b (living_ids_of es)) (sym first)
     ∙ sym (living_first e es))
     (λ apart.
-    ap living_of (cond-false (is_at (nat_cmp id) e.0) es (e ∷ remove_entry (is_at (nat_cmp id)) es)
+    ap living_ids_of (cond-false (is_at (nat_cmp id) e.0) es
+    (e ∷ remove_entry (is_at (nat_cmp id)) es)
     apart.1)
     ∙ living_first e (remove_entry (is_at (nat_cmp id)) es)
     ∙ ap (live_more e.0 e.1.lives)

@@ -11,7 +11,7 @@ use Rattle.log_lines.specs.LineText.{HasForm, row_text}
 use Rattle.log_lines.specs.LineReading.{line_of}
 use Rattle.lineage_log.specs.declared.reason.Reason.{Reason}
 use Rattle.lineage_log.specs.Reader.{Reader}
-use Rattle.lineage_log.specs.Order.{Place, Before, Within, After, told, and_on, told_all, IsWhole}
+use Rattle.lineage_log.specs.Order.{LogPlace, Before, Within, After, told, and_on, told_all, IsWhole}
 use Rattle.lineage_log.specs.LogGrammar.{Fault, log_end, with_line, after_told, one_piece, pieces_log, log_of, lines_text, IsGoodLog}
 
 -- what is used of the lines' texts
@@ -21,9 +21,11 @@ pub record OneSpelling : Type 0 where
       × HasForm line
   pub one_line : (line : Line) → HasForm line → AllByRecursion (λ b. 10 < b) (row_text line)
 
-abbrev cut : List ℕ → List (List ℕ)
+-- the pieces between newlines
+abbrev pub cut : List ℕ → List (List ℕ)
 cut bytes = slice_split (λ b. b == 10) bytes
 
+-- a text of bytes above 10 is the first piece, if a newline comes behind it
 cut_first : (text rest : List ℕ) → AllByRecursion (λ b. 10 < b) text
     → cut (text ++ 10 ∷ rest) ≡ text ∷ cut rest
 cut_first [] rest all = refl
@@ -31,11 +33,13 @@ cut_first (b ∷ bs) rest all =
     let other : (b == 10) ≡ false = grind (arith, nat_tests, all.0) in
     rw (other, cut_first bs rest all.1) refl
 
+-- a byte put onto the first of some pieces leaves at least one piece
 onto_some : (b : ℕ) (parts : List (List ℕ)) → (next : List ℕ) × (others : List (List ℕ))
     × (onto_first b parts ≡ next ∷ others)
 onto_some b [] = (b ∷ [], [], refl)
 onto_some b (part ∷ parts) = (b ∷ part, parts, refl)
 
+-- any bytes have at least one piece
 cut_some : (bytes : List ℕ) → (next : List ℕ) × (others : List (List ℕ))
     × (cut bytes ≡ next ∷ others)
 cut_some [] = ([], [], refl)
@@ -44,18 +48,23 @@ cut_some (b ∷ bs) = elim (cases_Bool (b == 10)) [
   | inr not ↦ let r = onto_some b (cut bs) in (r.0, r.1, rw not r.2)
 ]
 
-pub went_on : (r : Result Place Reason) (next : Place → Result Place Reason) (q : Place)
-    → and_on r next ≡ Ok q → (p : Place) × (r ≡ Ok p) × (next p ≡ Ok q)
+-- where a line and what follows it are told, the line leads to a place from which that is told
+pub went_on : (r : Result LogPlace Reason) (next : LogPlace → Result LogPlace Reason) (q : LogPlace)
+    → and_on r next ≡ Ok q → (p : LogPlace) × (r ≡ Ok p) × (next p ≡ Ok q)
 went_on (Ok p) next q e = (p, refl, e)
 went_on (Err reason) next q e = absurd cc
 
-at_end : (number : ℕ) (place : Place) (r : Reader) → place ≡ After r → log_end number place ≡ Ok []
+-- bytes may end after the last line
+at_end : (number : ℕ) (place : LogPlace) (r : Reader) → place ≡ After r
+    → log_end number place ≡ Ok []
 at_end number place r is = rw is refl
 
-pub place_is : (p q : Place) → ◌≡◌ {A = Result Place Reason} (Ok p) (Ok q) → p ≡ q
+-- two equal answers have one place
+pub place_is : (p q : LogPlace) → ◌≡◌ {A = Result LogPlace Reason} (Ok p) (Ok q) → p ≡ q
 place_is p q e = cc
 
-pub pieces_again : (spell : OneSpelling) (number : ℕ) (place : Place) (lines : List Line)
+-- the pieces of a text of lines that lead to the end are read as these lines
+pub pieces_again : (spell : OneSpelling) (number : ℕ) (place : LogPlace) (lines : List Line)
     (r : Reader) → told_all place lines ≡ Ok (After r) → AllByRecursion HasForm lines
     → pieces_log number place (cut (lines_text lines)) ≡ Ok lines
 pieces_again spell number place [] r told fits =
@@ -69,15 +78,16 @@ pieces_again spell number place (line ∷ lines) r good fits =
     let parts : cut (lines_text (line ∷ lines)) ≡ row_text line ∷ some.0 ∷ some.1 =
     ap cut text ∙ cut_first (row_text line) rest (spell.one_line line fits.0)
     ∙ ap (λ (l : List (List ℕ)). row_text line ∷ l) some.2 in
-    let others = λ (p : Place). pieces_log (number + 1) p (some.0 ∷ some.1) in
+    let others = λ (p : LogPlace). pieces_log (number + 1) p (some.0 ∷ some.1) in
     let deep : others step.0 ≡ Ok lines =
     ap (λ (l : List (List ℕ)). pieces_log (number + 1) step.0 l) (sym some.2)
     ∙ pieces_again spell (number + 1) step.0 lines r step.2 fits.1 in
     ap (λ (l : List (List ℕ)). pieces_log number place l) parts
     ∙ ap (λ (o : Option Line). one_piece number place o others) (spell.again line fits.0)
-    ∙ ap (λ (t : Result Place Reason). after_told number line t others) step.1
+    ∙ ap (λ (t : Result LogPlace Reason). after_told number line t others) step.1
     ∙ ap (λ (l : Result (List Line) Fault). with_line line l) deep
 
+-- the text of the lines of a whole log is read as these lines
 pub log_again : (spell : OneSpelling) (lines : List Line) (r : Reader)
     → told_all Before lines ≡ Ok (After r) → AllByRecursion HasForm lines
     → log_of (lines_text lines) ≡ Ok lines
@@ -86,12 +96,14 @@ log_again spell lines r good fits = pieces_again spell 1 Before lines r good fit
 
 -- ---- and back
 
-record IsRead (place : Place) (pieces : List (List ℕ)) (lines : List Line) : Type 0 where
+-- lines that were read of some pieces: they have their text and forms, and lead to the end
+record IsRead (place : LogPlace) (pieces : List (List ℕ)) (lines : List Line) : Type 0 where
   text : lines_text lines ≡ join_with_byte 10 pieces
   fits : AllByRecursion HasForm lines
   whole : IsWhole (told_all place lines)
 
-end_read : (number : ℕ) (place : Place) (lines : List Line) → log_end number place ≡ Ok lines
+-- so it is of what is read of the empty piece at the end
+end_read : (number : ℕ) (place : LogPlace) (lines : List Line) → log_end number place ≡ Ok lines
     → IsRead place ([] ∷ []) lines
 end_read number Before lines is = absurd cc
 end_read number (Within r) lines is = absurd cc
@@ -99,33 +111,37 @@ end_read number (After r) lines is = let e : [] ≡ lines = cc in
     subst (λ (l : List Line). IsRead (After r) ([] ∷ []) l) e
     (record { text = refl; fits = tt; whole = tt })
 
+-- lines that are read with a line in front are that line and the others that are read
 with_is : (line : Line) (others : Result (List Line) Fault) (lines : List Line)
     → with_line line others ≡ Ok lines → (rest : List Line) × (others ≡ Ok rest)
     × (line ∷ rest ≡ lines)
 with_is line (Ok rest) lines is = (rest, refl, cc)
 with_is line (Err e) lines is = absurd cc
 
-told_is : (number : ℕ) (line : Line) (t : Result Place Reason)
-    (others : Place → Result (List Line) Fault) (lines : List Line)
-    → after_told number line t others ≡ Ok lines → (p : Place) × (t ≡ Ok p)
+-- where a line and the others were read, the line was told, and they were read from there
+told_is : (number : ℕ) (line : Line) (t : Result LogPlace Reason)
+    (others : LogPlace → Result (List Line) Fault) (lines : List Line)
+    → after_told number line t others ≡ Ok lines → (p : LogPlace) × (t ≡ Ok p)
     × (with_line line (others p) ≡ Ok lines)
 told_is number line (Ok p) others lines is = (p, refl, is)
 told_is number line (Err e) others lines is = absurd cc
 
-piece_is : (number : ℕ) (place : Place) (o : Option Line)
-    (others : Place → Result (List Line) Fault) (lines : List Line)
+-- where a piece and the others were read, the piece is the text of a line
+piece_is : (number : ℕ) (place : LogPlace) (o : Option Line)
+    (others : LogPlace → Result (List Line) Fault) (lines : List Line)
     → one_piece number place o others ≡ Ok lines → (line : Line) × (o ≡ Some line)
     × (after_told number line (told place line) others ≡ Ok lines)
 piece_is number place None others lines is = absurd cc
 piece_is number place (Some line) others lines is = (line, refl, is)
 
-pieces_read : (spell : OneSpelling) (number : ℕ) (place : Place) (pieces : List (List ℕ))
+-- so it is of what is read of any pieces
+pieces_read : (spell : OneSpelling) (number : ℕ) (place : LogPlace) (pieces : List (List ℕ))
     (lines : List Line) → pieces_log number place pieces ≡ Ok lines → IsRead place pieces lines
 pieces_read spell number place [] lines is = absurd cc
 pieces_read spell number place ([] ∷ []) lines is = end_read number place lines is
 pieces_read spell number place ((b ∷ bs) ∷ []) lines is = absurd cc
 pieces_read spell number place (piece ∷ next ∷ pieces) lines is =
-    let others = λ (p : Place). pieces_log (number + 1) p (next ∷ pieces) in
+    let others = λ (p : LogPlace). pieces_log (number + 1) p (next ∷ pieces) in
     let a = piece_is number place (line_of piece) others lines is in
     let b = told_is number a.0 (told place a.0) others lines a.2 in
     let c = with_is a.0 (others b.0) lines b.2 in
@@ -136,10 +152,11 @@ pieces_read spell number place (piece ∷ next ∷ pieces) lines is =
           ∙ ap (λ (w : List ℕ). w ++ 10 ∷ lines_text c.0) t.0
           ∙ ap (λ (w : List ℕ). piece ++ 10 ∷ w) deep.text;
       fits = (t.1, deep.fits);
-      whole = subst (λ (t : Result Place Reason). IsWhole (and_on t (λ p. told_all p c.0)))
+      whole = subst (λ (t : Result LogPlace Reason). IsWhole (and_on t (λ p. told_all p c.0)))
           (sym b.1) deep.whole;
     })
 
+-- bytes that are read as lines are their text, and the lines are a good log
 pub log_takes : (spell : OneSpelling) (bytes : List ℕ) (lines : List Line) → log_of bytes ≡ Ok lines
     → (lines_text lines ≡ bytes) × IsGoodLog lines
 unfolding log_of
@@ -147,12 +164,14 @@ log_takes spell bytes lines is =
     let r = pieces_read spell 1 Before (cut bytes) lines is in
     (r.text ∙ join_with_byte-slice_split 10 bytes, record { forms = r.fits; order = r.whole })
 
-pub whole_is : (t : Result Place Reason) → IsWhole t → (r : Reader) × (t ≡ Ok (After r))
+-- where the last line has come, there is a reader after it
+pub whole_is : (t : Result LogPlace Reason) → IsWhole t → (r : Reader) × (t ≡ Ok (After r))
 whole_is (Ok Before) w = absurd w
 whole_is (Ok (Within r)) w = absurd w
 whole_is (Ok (After r)) w = (r, refl)
 whole_is (Err e) w = absurd w
 
+-- the text of a good log is read as this log
 pub read_back : (spell : OneSpelling) (bytes : List ℕ) (lines : List Line)
     → lines_text lines ≡ bytes → IsGoodLog lines → log_of bytes ≡ Ok lines
 read_back spell bytes lines text good =

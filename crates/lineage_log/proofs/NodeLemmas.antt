@@ -86,6 +86,7 @@ pub node_told : (nodes : List (ℕ × NodeValue)) (id above : ℕ)
     → parent_of (links_of nodes) id ≡ Some above → (node : NodeValue)
     × (node_at nodes id ≡ Some node) × (node.parent ≡ Some above)
 node_told nodes id above is = by (node_at nodes id) refl where
+  -- whatever is found, there is a node with the parent that is told
   by : (found : Option NodeValue) → node_at nodes id ≡ found → (node : NodeValue)
       × (node_at nodes id ≡ Some node) × (node.parent ≡ Some above)
   by None e = absurd (let none : parent_of (links_of nodes) id ≡ None =
@@ -143,6 +144,7 @@ one_if b = cond b 1 0
 -- who is counted as a child is one
 is_child : (id : ℕ) (node : NodeValue) → 0 < as_child id node → node.parent ≡ Some id
 is_child id node h = by node.parent h where
+  -- a parent for whom one is counted is this id
   by : (parent : Option ℕ) → 0 < one_for id parent → parent ≡ Some id
   by None h = absurd (omega (arith, h))
   by (Some above) h = ⊎_elim

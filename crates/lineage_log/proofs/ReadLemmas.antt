@@ -1,7 +1,7 @@
 -- The loop over the pieces of a log.
 use Rattle.std.proofs.Common.{◌≡◌, ℕ, ◌+◌, List, [], ◌∷◌, ◌++◌, Option, Some, None, Result, Ok, Err, Bor, refl, sym, ap, ◌∙◌, append_assoc, inl, inr}
 use Rattle.std.specs.Prelude.{◌==◌, ◌≢◌, ◌↔◌, option_copied}
-use Rattle.std.specs.List.{slice_split, onto_first}
+use Rattle.std.specs.List.{onto_first}
 use Rattle.std.proofs.lemmas.Bool.{cases_Bool}
 use Rattle.log_lines.specs.Line.{Line}
 use Rattle.log_lines.specs.LineReading.{line_of}
@@ -11,26 +11,27 @@ use Rattle.lineage_log.specs.declared.refusal.Refusal.{Refusal}
 use Rattle.lineage_log.specs.declared.refusal.Refusal.TheVariants.{Memory, Faulty}
 use Rattle.lineage_log.specs.declared.log_stop.LogStop.{LogStop}
 use Rattle.lineage_log.specs.declared.log_stop.LogStop.TheVariants as wanting
-use Rattle.lineage_log.specs.Order.{Place, told}
+use Rattle.lineage_log.specs.Order.{LogPlace, told}
 use Rattle.lineage_log.specs.Places.{TellsPlace}
 use Rattle.lineage_log.specs.LogGrammar.{Fault, BadLine, OutOfOrder, with_line, one_piece, after_told, pieces_log, log_of, lines_text, Reads, IsGoodLog}
 use Rattle.lineage_log.specs.LogValues.{stop_of, answer_of, with_front}
+use Rattle.lineage_log.proofs.LogLaws.{cut}
 
+-- no lines in front of what is read leave it as it is
 pub front_none : (r : Result (List Line) Fault) → with_front [] r ≡ r
 front_none (Ok lines) = refl
 front_none (Err fault) = refl
 
+-- a line in front of what is read is the last of the lines in front
 pub front_more : (front : List Line) (one : Line) (r : Result (List Line) Fault)
     → with_front front (with_line one r) ≡ with_front (front ++ one ∷ []) r
 front_more front one (Ok lines) =
     ap (λ (l : List Line). Ok l) (sym (append_assoc front (one ∷ []) lines))
 front_more front one (Err fault) = refl
 
-abbrev pub cut : List ℕ → List (List ℕ)
-cut bytes = slice_split (λ b. b == 10) bytes
-
 -- what is left of the bytes begins with a piece before a newline
-pub next_piece : (number : ℕ) (place : Place) (left piece : List ℕ) (others : Option (Bor (List ℕ)))
+pub next_piece : (number : ℕ) (place : LogPlace) (left piece : List ℕ)
+    (others : Option (Bor (List ℕ)))
     (behind : Bor (List ℕ)) → cut left ≡ piece ∷ pieces_of 10 (option_copied others)
     → others ≡ Some behind → pieces_log number place (cut left)
     ≡ pieces_log number place (piece ∷ cut behind.now)
@@ -39,13 +40,15 @@ next_piece number place left piece others behind split is =
     split ∙ ap (λ (o : Option (Bor (List ℕ))). piece ∷ pieces_of 10 (option_copied o)) is in
     ap (λ (ps : List (List ℕ)). pieces_log number place ps) pieces
 
-more_onto : (number : ℕ) (place : Place) (piece : List ℕ) (b : ℕ) (parts : List (List ℕ))
+-- a piece before others, the first of which has a byte put onto it, is read as one line
+more_onto : (number : ℕ) (place : LogPlace) (piece : List ℕ) (b : ℕ) (parts : List (List ℕ))
     → pieces_log number place (piece ∷ onto_first b parts) ≡ one_piece number place (line_of piece)
     (λ p. pieces_log (number + 1) p (onto_first b parts))
 more_onto number place piece b [] = refl
 more_onto number place piece b (part ∷ parts) = refl
 
-more_pieces : (number : ℕ) (place : Place) (piece rest : List ℕ)
+-- a piece before those of further bytes is read as one line
+more_pieces : (number : ℕ) (place : LogPlace) (piece rest : List ℕ)
     → pieces_log number place (piece ∷ cut rest) ≡ one_piece number place (line_of piece)
     (λ p. pieces_log (number + 1) p (cut rest))
 more_pieces number place piece [] = refl
@@ -54,42 +57,50 @@ more_pieces number place piece (b ∷ bs) = elim (cases_Bool (b == 10)) [
   | inr not ↦ rw not (more_onto number place piece b (cut bs))
 ]
 
-module _ (number : ℕ) (place : Place) (piece rest : List ℕ) where
+module _ (number : ℕ) (place : LogPlace) (piece rest : List ℕ) where
+  -- a piece that is no line is the fault
   pub bad_line : line_of piece ≡ None
       → pieces_log number place (piece ∷ cut rest) ≡ Err (record { line = number; cause = BadLine })
   bad_line none = more_pieces number place piece rest
       ∙ ap (λ (o : Option Line). one_piece number place o
       (λ p. pieces_log (number + 1) p (cut rest))) none
 
+  -- a line that is out of order is the fault, for the same reason
   pub bad_order : (one : Line) (reason : Reason) → line_of piece ≡ Some one
       → told place one ≡ Err reason
       → pieces_log number place (piece ∷ cut rest)
       ≡ Err (record { line = number; cause = OutOfOrder reason })
   bad_order one reason is bad =
-      let others = λ (p : Place). pieces_log (number + 1) p (cut rest) in
+      let others = λ (p : LogPlace). pieces_log (number + 1) p (cut rest) in
       more_pieces number place piece rest
       ∙ ap (λ (o : Option Line). one_piece number place o others) is
-      ∙ ap (λ (t : Result Place Reason). after_told number one t others) bad
+      ∙ ap (λ (t : Result LogPlace Reason). after_told number one t others) bad
 
-  pub good_line : (one : Line) (next : Place) (after : ℕ) → line_of piece ≡ Some one
+  -- a line that is told is read, and the others from the place that it leads to
+  pub good_line : (one : Line) (next : LogPlace) (after : ℕ) → line_of piece ≡ Some one
       → told place one ≡ Ok next → after ≡ number + 1
       → pieces_log number place (piece ∷ cut rest)
       ≡ with_line one (pieces_log after next (cut rest))
   good_line one next after is good more =
-      let others = λ (p : Place). pieces_log (number + 1) p (cut rest) in
+      let others = λ (p : LogPlace). pieces_log (number + 1) p (cut rest) in
       more_pieces number place piece rest
       ∙ ap (λ (o : Option Line). one_piece number place o others) is
-      ∙ ap (λ (t : Result Place Reason). after_told number one t others) good
+      ∙ ap (λ (t : Result LogPlace Reason). after_told number one t others) good
       ∙ ap (λ (n : ℕ). with_line one (pieces_log n next (cut rest))) (sym more)
 
-pub good_read : ((bytes : List ℕ) (lines : List Line) → Reads bytes lines
-    ↔ ((lines_text lines ≡ bytes) × IsGoodLog lines)) → (bytes : List ℕ) (lines : List Line)
-    → log_of bytes ≡ Ok lines → IsGoodLog lines
+-- what is read of bytes is a good log that has them as its text
+abbrev pub ReadsExactly : Type 0
+ReadsExactly = (bytes : List ℕ) (lines : List Line) → Reads bytes lines
+    ↔ ((lines_text lines ≡ bytes) × IsGoodLog lines)
+
+-- what is read is a good log, if exactly the texts of good logs are read
+pub good_read : ReadsExactly → (bytes : List ℕ) (lines : List Line) → log_of bytes ≡ Ok lines
+    → IsGoodLog lines
 good_read law bytes lines is = ((law bytes lines).0 is).1
 
 -- the answer for a line that was not taken
-pub refused : (refusal : Refusal) (number : ℕ) (stop : LogStop) (next : Place)
-    (t : Result Place Reason) (read : Result (List Line) Fault) → stop ≡ stop_of number refusal
+pub refused : (refusal : Refusal) (number : ℕ) (stop : LogStop) (next : LogPlace)
+    (t : Result LogPlace Reason) (read : Result (List Line) Fault) → stop ≡ stop_of number refusal
     → (stop ≢ wanting.Memory) → TellsPlace (Err refusal) next t
     → ((reason : Reason) → t ≡ Err reason
     → read ≡ Err (record { line = number; cause = OutOfOrder reason })) → answer_of read ≡ Err stop

@@ -14,8 +14,8 @@ use Rattle.lineage_log.specs.declared.reason.Reason.TheVariants.{BadOrder}
 use Rattle.lineage_log.specs.declared.stage.Stage.{Stage}
 use Rattle.lineage_log.specs.declared.stage.Stage.TheVariants.{Dying, Placing, Happening}
 use Rattle.lineage_log.specs.Slots.{holds, taken}
-use Rattle.lineage_log.specs.Reader.{Reader, may_die, may_be_born, is_quiet, parent_in, with_newcomer, with_death}
-use Rattle.lineage_log.specs.Order.{Place, Before, Within, After, within_if, opened, renewed, may_happen, with_child, with_parent, told_start, told_death, told_birth, told_injected, told_cleared, told_rate, told_count, told_end, told_within, told_all}
+use Rattle.lineage_log.specs.Reader.{Reader, may_die, may_be_born, is_quiet, parent_in, reader_with_newcomer, reader_with_death}
+use Rattle.lineage_log.specs.Order.{LogPlace, Before, Within, After, within_if, opened, at_next_update, may_happen, with_child, with_parent, told_start, told_death, told_birth, told_injected, told_cleared, told_rate, told_count, told_end, told_within, told_all}
 use Rattle.lineage_log.specs.LogGrammar.{IsGoodLog}
 use Rattle.lineage_log.specs.Replay.{Seen, born_in, seen_on, seen_all, Resident, residents_from, replay_of}
 use Rattle.lineage_log.specs.Residents.{EachIsKept, kept_genomes}
@@ -33,11 +33,13 @@ record Agrees (r : Reader) (s : Seen) : Type 0 where
   tidy : IsTidy r.standing r.people r.leaving
   few : length r.standing ≤ 65536
 
-abbrev AgreesAt : Place → Seen → Type 0
+-- the same of the reader of a place, which is not before the first line
+abbrev AgreesAt : LogPlace → Seen → Type 0
 AgreesAt Before s = ⊥
 AgreesAt (Within r) s = Agrees r s
 AgreesAt (After r) s = Agrees r s
 
+-- a cell that holds something is found with exactly that
 holds_is : (found : Option (Option ℕ)) (slot : Option ℕ) → holds found slot ≡ true
     → found ≡ Some slot
 holds_is None slot is = absurd cc
@@ -46,19 +48,23 @@ holds_is (Some None) (Some b) is = absurd cc
 holds_is (Some (Some a)) None is = absurd cc
 holds_is (Some (Some a)) (Some b) is = ap (λ (n : ℕ). Some (Some n)) (eqb-true a b is)
 
-within_gives : (test : Bool) (r : Reader) (p : Place) (s : Seen) → within_if test r ≡ Ok p
+-- a place that a line's test gives agrees, if its reader agrees where the test holds
+within_gives : (test : Bool) (r : Reader) (p : LogPlace) (s : Seen) → within_if test r ≡ Ok p
     → (test ≡ true → Agrees r s) → AgreesAt p s
 within_gives true r p s is good =
-    subst (λ (q : Place). AgreesAt q s) (place_is (Within r) p is) (good refl)
+    subst (λ (q : LogPlace). AgreesAt q s) (place_is (Within r) p is) (good refl)
 within_gives false r p s is good = absurd cc
 
+-- there are no more than 65536 cells still once one is set
 few_still : (standing : List (Option ℕ)) (cell : ℕ) (slot : Option ℕ) → length standing ≤ 65536
     → length (slice_set standing cell slot) ≤ 65536
 few_still standing cell slot few = omega (arith, length-set standing cell slot)
 
+-- the two agree still once who stands in a cell has died
 death_agrees : (r : Reader) (s : Seen) (stage : Stage) (cell id : ℕ) → Agrees r s
     → holds (slice_get r.standing cell) (Some id) ≡ true
-    → Agrees (with_death r stage cell id) (record s { standing = slice_set s.standing cell None })
+    → Agrees (reader_with_death r stage cell id)
+    (record s { standing = slice_set s.standing cell None })
 death_agrees r s stage cell id agrees stood = record {
   same = ap (λ (slots : List (Option ℕ)). slice_set slots cell None) agrees.same;
   as_many = agrees.as_many;
@@ -68,6 +74,7 @@ death_agrees r s stage cell id agrees stood = record {
   few = few_still r.standing cell None agrees.few;
 }
 
+-- with a newcomer's genome in both, what is kept is still what is seen
 newcomer_kept : (r : Reader) (s : Seen) (genome : List Letter) → Agrees r s
     → (id : ℕ) (letters : List Letter)
     → slice_get (r.people ++ Some genome ∷ []) id ≡ Some (Some letters)
@@ -82,10 +89,11 @@ newcomer_kept r s genome agrees id letters is =
           (get_last s.genomes genome ∙ ap (λ (l : List Letter). Some l) one)
     ]
 
+-- the two agree still once a newcomer with the next id stands in a cell
 newcomer_agrees : (r : Reader) (s : Seen) (stage : Stage) (id cell : ℕ) (over : Option ℕ)
     (genome : List Letter) (births : ℕ) → Agrees r s → (id == length r.people) ≡ true
     → holds (slice_get r.standing cell) over ≡ true
-    → Agrees (with_newcomer r stage cell over genome births)
+    → Agrees (reader_with_newcomer r stage cell over genome births)
     (record { standing = slice_set s.standing cell (Some id); genomes = s.genomes ++ genome ∷ [] })
 newcomer_agrees r s stage id cell over genome births agrees next stood = record {
   same = ap (λ (n : ℕ). slice_set r.standing cell (Some n))
@@ -99,7 +107,8 @@ newcomer_agrees r s stage id cell over genome births agrees next stood = record 
   few = few_still r.standing cell (Some (length r.people)) agrees.few;
 }
 
-count_agrees : (r : Reader) (s : Seen) → Agrees r s → Agrees (renewed r) s
+-- the two agree still once the next update is due
+count_agrees : (r : Reader) (s : Seen) → Agrees r s → Agrees (at_next_update r) s
 count_agrees r s agrees = record {
   same = agrees.same;
   as_many = length_without r.leaving r.people ∙ agrees.as_many;
@@ -108,6 +117,7 @@ count_agrees r s agrees = record {
   few = agrees.few;
 }
 
+-- the two agree still after a rate
 rate_agrees : (r : Reader) (s : Seen) → Agrees r s → Agrees (record r { stage = Happening }) s
 rate_agrees r s agrees =
     record {
@@ -120,11 +130,13 @@ rate_agrees r s agrees =
 
 -- ---- a birth
 
+-- a genome that is found under an id is kept there
 found_is : (found : Option (Option (List Letter))) (letters : List Letter)
     → option_and_then (λ f. f) found ≡ Some letters → found ≡ Some (Some letters)
 found_is None letters is = absurd cc
 found_is (Some f) letters is = ap (λ (o : Option (List Letter)). Some o) is
 
+-- so is a parent's genome that is found only where the parent is old enough
 parent_is : (older : Bool) (found : Option (Option (List Letter))) (letters : List Letter)
     → (if older then option_and_then (λ f. f) found else None) ≡ Some letters
     → found ≡ Some (Some letters)
@@ -140,26 +152,29 @@ born_is genomes parent birth letters child there made =
     unwrap_or (option_and_then (λ l. result_ok (child_of l birth)) o) []) there
     ∙ ap (λ (c : Result (List Letter) ApplyStop). unwrap_or (result_ok c) []) made
 
+-- the two agree still once the child of a parent that is seen has come
 child_agrees : (r : Reader) (s : Seen) (id parent cell : ℕ) (over : Option ℕ) (birth : BirthRecord)
-    (letters : List Letter) (child : Result (List Letter) ApplyStop) (p : Place)
+    (letters : List Letter) (child : Result (List Letter) ApplyStop) (p : LogPlace)
     → child_of letters birth ≡ child → slice_get s.genomes parent ≡ Some letters
     → with_child r cell over child ≡ Ok p → Agrees r s → (id == length r.people) ≡ true
     → holds (slice_get r.standing cell) over ≡ true
     → AgreesAt p (seen_on s (Birth id parent 0 cell over birth))
 child_agrees r s id parent cell over birth letters (Ok child) p made there is agrees next stood =
     let after = newcomer_agrees r s Placing id cell over child (r.births + 1) agrees next stood in
-    let seen : Agrees (with_newcomer r Placing cell over child (r.births + 1))
+    let seen : Agrees (reader_with_newcomer r Placing cell over child (r.births + 1))
     (seen_on s (Birth id parent 0 cell over birth)) =
-    subst (λ (g : List Letter). Agrees (with_newcomer r Placing cell over child (r.births + 1))
+    subst (λ (g : List Letter). Agrees
+    (reader_with_newcomer r Placing cell over child (r.births + 1))
     (record { standing = slice_set s.standing cell (Some id); genomes = s.genomes ++ g ∷ [] }))
     (sym (born_is s.genomes parent birth letters child there made)) after in
-    subst (λ (q : Place). AgreesAt q (seen_on s (Birth id parent 0 cell over birth)))
-    (place_is (Within (with_newcomer r Placing cell over child (r.births + 1))) p is) seen
+    subst (λ (q : LogPlace). AgreesAt q (seen_on s (Birth id parent 0 cell over birth)))
+    (place_is (Within (reader_with_newcomer r Placing cell over child (r.births + 1))) p is) seen
 child_agrees r s id parent cell over birth letters (Err stop) p made there is agrees next stood =
     absurd cc
 
+-- the two agree still once a birth has come, by the parent that is found
 parent_agrees : (r : Reader) (s : Seen) (id parent cell : ℕ) (over : Option ℕ) (birth : BirthRecord)
-    (found : Option (List Letter)) (p : Place) → parent_in r parent ≡ found
+    (found : Option (List Letter)) (p : LogPlace) → parent_in r parent ≡ found
     → with_parent r cell over birth found ≡ Ok p → Agrees r s → (id == length r.people) ≡ true
     → holds (slice_get r.standing cell) over ≡ true
     → AgreesAt p (seen_on s (Birth id parent 0 cell over birth))
@@ -170,8 +185,9 @@ parent_agrees r s id parent cell over birth (Some letters) p from is agrees next
     child_agrees r s id parent cell over birth letters (child_of letters birth) p refl there is
     agrees next stood
 
+-- the two agree still after a birth, where its test says that its id and cell are right
 birth_agrees : (test : Bool) (r : Reader) (s : Seen) (id parent cell : ℕ) (over : Option ℕ)
-    (birth : BirthRecord) (p : Place)
+    (birth : BirthRecord) (p : LogPlace)
     → (if test then with_parent r cell over birth (parent_in r parent) else Err BadOrder) ≡ Ok p
     → Agrees r s → (test ≡ true → ((id == length r.people) ≡ true)
     × (holds (slice_get r.standing cell) over ≡ true))
@@ -183,28 +199,32 @@ birth_agrees false r s id parent cell over birth p is agrees tests = absurd cc
 
 -- ---- the lines
 
-end_agrees : (test : Bool) (r : Reader) (s : Seen) (p : Place)
-    → ◌≡◌ {A = Result Place Reason} (if test then Ok (After r) else Err BadOrder) (Ok p)
+-- the two agree still after the last line
+end_agrees : (test : Bool) (r : Reader) (s : Seen) (p : LogPlace)
+    → ◌≡◌ {A = Result LogPlace Reason} (if test then Ok (After r) else Err BadOrder) (Ok p)
     → Agrees r s → AgreesAt p s
 end_agrees true r s p is agrees =
-    subst (λ (q : Place). AgreesAt q s) (place_is (After r) p is) agrees
+    subst (λ (q : LogPlace). AgreesAt q s) (place_is (After r) p is) agrees
 end_agrees false r s p is agrees = absurd cc
 
+-- where three tests hold, the last does
 last_test : (a b c : Bool) → ((a && b) && c) ≡ true → c ≡ true
 last_test a b c is = (and_parts (a && b) c is).1
 
+-- where four tests hold, the last two do
 last_tests : (a b c d : Bool) → (((a && b) && c) && d) ≡ true → (c ≡ true) × (d ≡ true)
 last_tests a b c d is =
     let both = and_parts ((a && b) && c) d is in ((and_parts (a && b) c both.0).1, both.1)
 
-line_agrees : (r : Reader) (s : Seen) (line : Line) (p : Place) → Agrees r s
+-- the two agree still after a line within the log
+line_agrees : (r : Reader) (s : Seen) (line : Line) (p : LogPlace) → Agrees r s
     → told_within r line ≡ Ok p → AgreesAt p (seen_on s line)
 unfolding told_death told_birth told_injected told_cleared told_rate told_count told_end
 line_agrees r s (Start version width height cell genome) p agrees is = absurd cc
 line_agrees r s (Death id update cell) p agrees is =
     let stands = holds (slice_get r.standing cell) (Some id) in
     within_gives ((update == r.due) && may_die r.stage cell && stands)
-    (with_death r (Dying cell) cell id) p (seen_on s (Death id update cell)) is
+    (reader_with_death r (Dying cell) cell id) p (seen_on s (Death id update cell)) is
     (λ t. death_agrees r s (Dying cell) cell id agrees
     (last_test (update == r.due) (may_die r.stage cell) stands t))
 line_agrees r s (Birth id parent update cell over birth) p agrees is =
@@ -217,13 +237,13 @@ line_agrees r s (Injected id update cell over genome) p agrees is =
     let next = id == length r.people in
     let stands = holds (slice_get r.standing cell) over in
     within_gives (may_happen r update && next && stands)
-    (with_newcomer r Happening cell over genome r.births) p
+    (reader_with_newcomer r Happening cell over genome r.births) p
     (seen_on s (Injected id update cell over genome)) is
     (λ t. let tests = last_tests (r.version == 2) (update == r.due) next stands t in
     newcomer_agrees r s Happening id cell over genome r.births agrees tests.0 tests.1)
 line_agrees r s (Cleared id update cell) p agrees is =
     let stands = holds (slice_get r.standing cell) (Some id) in
-    within_gives (may_happen r update && stands) (with_death r Happening cell id) p
+    within_gives (may_happen r update && stands) (reader_with_death r Happening cell id) p
     (seen_on s (Cleared id update cell)) is
     (λ t. death_agrees r s Happening cell id agrees
     (last_test (r.version == 2) (update == r.due) stands t))
@@ -232,13 +252,15 @@ line_agrees r s (Rate update name ppm) p agrees is =
     (λ t. rate_agrees r s agrees)
 line_agrees r s (Count c) p agrees is =
     within_gives ((c.update == r.due) && (c.living == taken r.standing) && (c.births == r.births)
-    && (c.deaths == length r.leaving)) (renewed r) p s is (λ t. count_agrees r s agrees)
+    && (c.deaths == length r.leaving)) (at_next_update r) p s is (λ t. count_agrees r s agrees)
 line_agrees r s (End updates) p agrees is =
     end_agrees (is_quiet r.stage && (updates + 1 == r.due)) r s p is agrees
 
-all_agree : (p : Place) (s : Seen) (lines : List Line) (q : Reader) → AgreesAt p s
+-- the two agree still after all lines up to the last
+all_agree : (p : LogPlace) (s : Seen) (lines : List Line) (q : Reader) → AgreesAt p s
     → told_all p lines ≡ Ok (After q) → Agrees q (seen_all s lines)
-all_agree p s [] q agrees is = subst (λ (x : Place). AgreesAt x s) (place_is p (After q) is) agrees
+all_agree p s [] q agrees is =
+    subst (λ (x : LogPlace). AgreesAt x s) (place_is p (After q) is) agrees
 all_agree Before s (line ∷ lines) q agrees is = absurd agrees
 all_agree (Within r) s (line ∷ lines) q agrees is =
     let step = went_on (told_within r line) (λ p. told_all p lines) (After q) is in
@@ -247,9 +269,11 @@ all_agree (After r) s (line ∷ lines) q agrees is = absurd cc
 
 -- ---- the first line
 
+-- the cells after the first line, with the founder in one of them
 abbrev first_cells : ℕ → ℕ → List (Option ℕ)
 first_cells cells cell = slice_set (empty cells) cell (Some 0)
 
+-- who stands in one of them is the founder, in its cell
 first_there : (cells cell c i : ℕ) → slice_get (first_cells cells cell) c ≡ Some (Some i)
     → (cell ≡ c) × (0 ≡ i)
 first_there cells cell c i is = elim (get_written (empty cells) cell c (Some 0) i is) [
@@ -257,12 +281,14 @@ first_there cells cell c i is = elim (get_written (empty cells) cell c (Some 0) 
   | inr there ↦ absurd (none_there cells c i there.1)
 ]
 
+-- a genome that is kept after the first line is seen there too
 first_kept : (genome : List Letter) (id : ℕ) (letters : List Letter)
     → slice_get (Some genome ∷ []) id ≡ Some (Some letters)
     → slice_get (genome ∷ []) id ≡ Some letters
 first_kept genome zero letters is = cc
 first_kept genome (suc id) letters is = absurd cc
 
+-- after the first line who stands in a cell stands there alone, is kept and has not died
 first_tidy : (cells cell : ℕ) (genome : List Letter)
     → IsTidy (first_cells cells cell) (Some genome ∷ []) []
 first_tidy cells cell genome = record {
@@ -277,6 +303,7 @@ first_tidy cells cell genome = record {
   gone = tt;
 }
 
+-- the two agree after the first line
 first_agrees : (version cells cell : ℕ) (genome : List Letter) → cells ≤ 65536
     → Agrees (opened version cells cell genome)
     (record { standing = first_cells cells cell; genomes = genome ∷ [] })
@@ -294,6 +321,7 @@ nobody = record { standing = []; genomes = [] }
 
 -- ---- who lives at the end
 
+-- an id whose genome is kept and seen has the same genome in both lists
 genome_is : (people : People) (genomes : List (List Letter)) (id : ℕ) (letters : List Letter)
     → slice_get people id ≡ Some (Some letters) → slice_get genomes id ≡ Some letters
     → unwrap_or (slice_get (kept_genomes people) id) [] ≡ unwrap_or (slice_get genomes id) []
@@ -304,6 +332,7 @@ genome_is people genomes id letters kept seen =
     unwrap_or (option_map (λ (found : Option (List Letter)). unwrap_or found []) o) []) kept
     ∙ sym (ap (λ (o : Option (List Letter)). unwrap_or o []) seen)
 
+-- who resides has the same genome in both lists, if each one's is kept and seen
 residents_same : (cell : ℕ) (slots : List (Option ℕ)) (people : People)
     (genomes : List (List Letter))
     → ((k id : ℕ) → slice_get slots k ≡ Some (Some id) → (letters : List Letter)
@@ -323,6 +352,7 @@ residents_same cell (Some id ∷ slots) people genomes each =
 
 -- ---- a whole log
 
+-- at most 256 by 256 cells are at most 65536
 area_few : (width height : ℕ) → width ≤ 256 → height ≤ 256 → width * height ≤ 65536
 area_few width height w h = mul-le-mul w h
 
@@ -332,10 +362,12 @@ pub record Leaves (lines : List Line) (r : Reader) : Type 0 where
   pub few : length r.standing ≤ 65536
   pub living : residents_from 0 r.standing (kept_genomes r.people) ≡ replay_of lines
 
+-- a genome that is kept is found
 kept_is : (found : Option (Option (List Letter))) (letters : List Letter)
     → found ≡ Some (Some letters) → IsSome (option_and_then (λ f. f) found)
 kept_is found letters is = rw is refl
 
+-- a reader that agrees at the end is what a whole log leaves
 agreed : (lines : List Line) (r : Reader) → Agrees r (seen_all nobody lines) → Leaves lines r
 unfolding replay_of
 agreed lines r agrees =
@@ -351,6 +383,7 @@ agreed lines r agrees =
           each ∙ ap (λ (slots : List (Option ℕ)). residents_from 0 slots s.genomes) agrees.same;
     }
 
+-- so is the reader of a whole log that begins with a world of at most 256 by 256 cells
 start_leaves : (version width height cell : ℕ) (genome : List Letter) (lines : List Line)
     (r : Reader) → width ≤ 256 → height ≤ 256
     → told_all Before (Start version width height cell genome ∷ lines) ≡ Ok (After r)
@@ -367,6 +400,7 @@ start_leaves version width height cell genome lines r w h is =
     agreed (Start version width height cell genome ∷ lines) r
     (all_agree step.0 s lines r first step.2)
 
+-- so is the reader of a good log that is told to its end
 pub leaves : (lines : List Line) (r : Reader) → IsGoodLog lines
     → told_all Before lines ≡ Ok (After r) → Leaves lines r
 leaves [] r good is = absurd cc

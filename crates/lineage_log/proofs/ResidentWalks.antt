@@ -6,17 +6,20 @@ use Rattle.std.proofs.lemmas.Option.{slice_get_within, get_or_from_slice_get}
 use Rattle.instruction_set.specs.declared.letter.Letter.{Letter}
 use Rattle.lineage_log.specs.Replay.{Resident, resident_at, residents_from}
 
+-- what is left begins with the item at this place
 drop_is : {A : Type 0} (xs : List A) (i : ℕ) (x : A) → slice_get xs i ≡ Some x
     → drop i xs ≡ x ∷ drop (i + 1) xs
 drop_is xs i x is = drop_more xs i x (slice_get_within xs i x is)
     ∙ ap (λ y. y ∷ drop (i + 1) xs) (get_or_from_slice_get xs i x x is)
 
+-- the organism of a cell before others stands alone in front of them
 resident_front : (cell : ℕ) (slot : Option ℕ) (genomes : List (List Letter))
     (others : List Resident)
     → resident_at cell slot genomes others ≡ resident_at cell slot genomes [] ++ others
 resident_front cell None genomes others = refl
 resident_front cell (Some id) genomes others = refl
 
+-- who resides from a cell on is who does in the cell, and then from the next cell on
 cell_more : (slots : List (Option ℕ)) (genomes : List (List Letter)) (cell : ℕ) (slot : Option ℕ)
     → slice_get slots cell ≡ Some slot
     → residents_from cell (drop cell slots) genomes ≡ resident_at cell slot genomes []

@@ -23,6 +23,7 @@ get_written (y ∷ ys) (suc i) (suc j) slot x is = elim (get_written ys i j slot
   | inr there ↦ inr (λ e. there.0 (omega arith), there.1)
 ]
 
+-- a write leaves all other places as they are
 get_other : {A : Type 0} (xs : List A) (i j : ℕ) (x : A) → (i ≢ j)
     → slice_get (slice_set xs i x) j ≡ slice_get xs j
 get_other [] i j x other = refl
@@ -31,6 +32,7 @@ get_other (y ∷ ys) zero (suc j) x other = refl
 get_other (y ∷ ys) (suc i) zero x other = refl
 get_other (y ∷ ys) (suc i) (suc j) x other = get_other ys i j x (λ e. other (ap suc e))
 
+-- a list with one item more has at a place what it had there, or at its end that item
 pub get_pushed : {A : Type 0} (xs : List A) (y z : A) (i : ℕ) → slice_get (xs ++ y ∷ []) i ≡ Some z
     → (slice_get xs i ≡ Some z) ⊎ ((i ≡ length xs) × (y ≡ z))
 get_pushed [] y z zero is = inr (refl, cc)
@@ -41,16 +43,19 @@ get_pushed (x ∷ xs) y z (suc i) is = elim (get_pushed xs y z i is) [
   | inr new ↦ inr (ap suc new.0, new.1)
 ]
 
+-- what a list has at a place it has there still with more behind it
 pub get_before : {A : Type 0} (xs ys : List A) (z : A) (i : ℕ) → slice_get xs i ≡ Some z
     → slice_get (xs ++ ys) i ≡ Some z
 get_before [] ys z i is = absurd cc
 get_before (x ∷ xs) ys z zero is = is
 get_before (x ∷ xs) ys z (suc i) is = get_before xs ys z i is
 
+-- the item at the end stands at the place that is the number of those before it
 pub get_last : {A : Type 0} (xs : List A) (y : A) → slice_get (xs ++ y ∷ []) (length xs) ≡ Some y
 get_last [] y = refl
 get_last (x ∷ xs) y = get_last xs y
 
+-- a list with one item more at its end is longer by 1
 pub length_pushed : {A : Type 0} (xs : List A) (y : A) → length (xs ++ y ∷ []) ≡ suc (length xs)
 length_pushed [] y = refl
 length_pushed (x ∷ xs) y = ap suc (length_pushed xs y)
@@ -59,26 +64,31 @@ length_pushed (x ∷ xs) y = ap suc (length_pushed xs y)
 abbrev pub empty : ℕ → List (Option ℕ)
 empty cells = replicate cells None
 
+-- nobody stands in any of them
 pub none_there : (cells cell id : ℕ) → slice_get (empty cells) cell ≡ Some (Some id) → ⊥
 none_there zero cell id is = absurd cc
 none_there (suc cells) zero id is = absurd cc
 none_there (suc cells) (suc cell) id is = none_there cells cell id is
 
+-- there are so many of them
 pub length_replicate : (cells : ℕ) → length (empty cells) ≡ cells
 length_replicate zero = refl
 length_replicate (suc cells) = ap suc (length_replicate cells)
 
+-- what holds of each id and of one more holds of all with that one at the end
 all_pushed : (P : ℕ → Type 0) (xs : List ℕ) (y : ℕ) → AllByRecursion P xs → P y
     → AllByRecursion P (xs ++ y ∷ [])
 all_pushed P [] y all here = (here, tt)
 all_pushed P (x ∷ xs) y all here = (all.0, all_pushed P xs y all.1 here)
 
+-- what holds of each id and of one more, if there is one, holds of all with it
 all_with : (P : ℕ → Type 0) (xs : List ℕ) (o : Option ℕ) → AllByRecursion P xs
     → ((y : ℕ) → o ≡ Some y → P y) → AllByRecursion P (xs ++ option_to_list o)
 all_with P [] None all here = tt
 all_with P (x ∷ xs) None all here = (all.0, all_with P xs None all.1 here)
 all_with P xs (Some y) all here = all_pushed P xs y all (here y refl)
 
+-- what follows from what holds of each id holds of each id
 all_else : (P Q : ℕ → Type 0) → ((x : ℕ) → P x → Q x) → (xs : List ℕ) → AllByRecursion P xs
     → AllByRecursion Q xs
 all_else P Q gives [] all = tt
@@ -86,14 +96,17 @@ all_else P Q gives (x ∷ xs) all = (gives x all.0, all_else P Q gives xs all.1)
 
 -- ---- the people that are kept
 
+-- by id the genomes of who is kept
 abbrev pub People : Type 0
 People = List (Option (List Letter))
 
+-- the people without some ids have as many places
 pub length_without : (ids : List ℕ) (people : People) → length (without ids people) ≡ length people
 length_without [] people = refl
 length_without (id ∷ ids) people =
     length_without ids (slice_set people id None) ∙ length-set people id None
 
+-- a genome that is kept once some ids are left out was kept before
 pub kept_before : (ids : List ℕ) (people : People) (id : ℕ) (letters : List Letter)
     → slice_get (without ids people) id ≡ Some (Some letters)
     → slice_get people id ≡ Some (Some letters)
@@ -105,6 +118,7 @@ kept_before (d ∷ ids) people id letters is =
       | inr there ↦ there.1
     ]
 
+-- leaving out other ids leaves what is kept of this one
 kept_still : (ids : List ℕ) (people : People) (id : ℕ) → AllByRecursion (λ d. d ≢ id) ids
     → slice_get (without ids people) id ≡ slice_get people id
 kept_still [] people id apart = refl
@@ -130,6 +144,7 @@ below_next people id found = slice_get_within people id (Some found.0) found.1
 
 module _ (standing : List (Option ℕ)) (people : People) (leaving : List ℕ)
     (tidy : IsTidy standing people leaving) where
+  -- who stands once a cell is empty stands in another cell, as before
   left_standing : (cell c i : ℕ) → slice_get (slice_set standing cell None) c ≡ Some (Some i)
       → (cell ≢ c) × (slice_get standing c ≡ Some (Some i))
   left_standing cell c i is = elim (get_written standing cell c None i is) [
@@ -137,6 +152,7 @@ module _ (standing : List (Option ℕ)) (people : People) (leaving : List ℕ)
     | inr there ↦ there
   ]
 
+  -- the cells are tidy still once who stands in one of them has died
   pub tidy_death : (cell id : ℕ) → slice_get standing cell ≡ Some (Some id)
       → IsTidy (slice_set standing cell None) people (leaving ++ id ∷ [])
   tidy_death cell id stood = record {
@@ -152,9 +168,11 @@ module _ (standing : List (Option ℕ)) (people : People) (leaving : List ℕ)
         (below_next people id (tidy.present cell id stood));
   }
 
+  -- the cells with a newcomer of the next id in one of them
   abbrev new_standing : ℕ → List (Option ℕ)
   new_standing cell = slice_set standing cell (Some (length people))
 
+  -- the people with the newcomer's genome
   abbrev new_people : List Letter → People
   new_people genome = people ++ Some genome ∷ []
 
@@ -166,6 +184,7 @@ module _ (standing : List (Option ℕ)) (people : People) (leaving : List ℕ)
     | inr there ↦ inr there
   ]
 
+  -- who stands after somebody came is kept
   new_present : (cell : ℕ) (genome : List Letter) (c i : ℕ)
       → slice_get (new_standing cell) c ≡ Some (Some i) → (letters : List Letter)
       × (slice_get (new_people genome) i ≡ Some (Some letters))
@@ -179,6 +198,7 @@ module _ (standing : List (Option ℕ)) (people : People) (leaving : List ℕ)
         (found.0, get_before people (Some genome ∷ []) (Some found.0) i found.1)
   ]
 
+  -- who stands after somebody came is none of those who died, nor who stood in the cell
   new_staying : (cell : ℕ) (over : Option ℕ) → slice_get standing cell ≡ Some over → (c i : ℕ)
       → slice_get (new_standing cell) c ≡ Some (Some i)
       → AllByRecursion (λ d. d ≢ i) (leaving ++ option_to_list over)
@@ -194,6 +214,7 @@ module _ (standing : List (Option ℕ)) (people : People) (leaving : List ℕ)
         (stood ∙ ap (λ (s : Option ℕ). Some s) (o ∙ ap (λ (n : ℕ). Some n) same)) there.1))
   ]
 
+  -- who stands after somebody came stands in one cell
   new_once : (cell a b i : ℕ) → slice_get (new_standing cell) a ≡ Some (Some i)
       → slice_get (new_standing cell) b ≡ Some (Some i) → a ≡ b
   new_once cell a b i at_a at_b = elim (stands_now cell a i at_a) [
@@ -209,6 +230,7 @@ module _ (standing : List (Option ℕ)) (people : People) (leaving : List ℕ)
     ]
   ]
 
+  -- the cells are tidy still once a newcomer stands in one of them
   pub tidy_newcomer : (cell : ℕ) (over : Option ℕ) (genome : List Letter)
       → slice_get standing cell ≡ Some over
       → IsTidy (new_standing cell) (new_people genome) (leaving ++ option_to_list over)
@@ -225,6 +247,7 @@ module _ (standing : List (Option ℕ)) (people : People) (leaving : List ℕ)
         (tidy.present cell d (stood ∙ ap (λ (s : Option ℕ). Some s) o)) in omega (arith, more));
   }
 
+  -- the cells are tidy still once those who died are left out of the people
   pub tidy_renewed : IsTidy standing (without leaving people) []
   tidy_renewed = record {
     present = λ c i is. let found = tidy.present c i is in

@@ -13,7 +13,7 @@ use Rattle.std.proofs.lemmas.Map.{lookup-remove_entry, lookup-set_value, keys-se
 use Rattle.std.proofs.lemmas.Map.Entries.{sum_by-remove_entry, sum_by-set_value}
 use Rattle.std.proofs.lemmas.Map.Keys.{IsDistinct-from_sorted}
 use Rattle.lineage_log.specs.Links.{Link}
-use Rattle.lineage_log.specs.Nodes.{NodeValue, AreFamilies, AreFewer, AreNeededBut, IsInFamily, as_child, children_of, links_of, living_of, node_at}
+use Rattle.lineage_log.specs.Nodes.{NodeValue, AreFamilies, AreFewer, AreNeededBut, IsInFamily, as_child, children_of, links_of, living_ids_of, node_at}
 use Rattle.lineage_log.proofs.NodeLemmas.{Rises, by_key, child_apart, child_counts, child_is, founder_is, one_for, some_of}
 use Rattle.lineage_log.proofs.LivingLemmas.{links_gone, links_set, living_gone, living_set}
 
@@ -205,6 +205,7 @@ module _ (before mid : List (ℕ × NodeValue)) (id : ℕ) (old : NodeValue)
         (child : old.parent ≡ Some above) (above_is : node_at mid above ≡ Some parent)
         (fewer : new ≡ record parent { children = parent.children - 1 })
         (set : IsSet mid after above new) where
+      -- the parent, with one child fewer, stays as it should be
       fit_parent : IsInFamily after above new
       fit_parent =
           let was = gone_from before mid id old above parent gone above_is in
@@ -269,6 +270,7 @@ module _ (before mid : List (ℕ × NodeValue)) (id : ℕ) (old : NodeValue)
 -- none fewer
 pub fewer_same : (nodes : List (ℕ × NodeValue)) → AreFewer nodes nodes
 fewer_same nodes = record { left = λ id. true; links = all (links_of nodes); living = refl } where
+  -- a filter that lets all links pass leaves them all
   all : (links : List Link) → links ≡ filter (λ (link : Link). true) links
   all [] = refl
   all (link ∷ links) = ap (λ (others : List Link). link ∷ others) (all links)
@@ -307,7 +309,7 @@ pub fewer_gone : (before after : List (ℕ × NodeValue)) (id : ℕ) (old : Node
 fewer_gone before after id old rising is dead e = record {
   left = λ other. not (eqb other id);
   links = ap links_of e ∙ links_gone before id rising;
-  living = ap living_of e ∙ living_gone before id old is dead;
+  living = ap living_ids_of e ∙ living_gone before id old is dead;
 }
 
 -- none fewer where a node has another number of children
@@ -322,7 +324,8 @@ fewer_set before after id children old is e =
       links = ap links_of e ∙ links_set before id old (record old { children = children }) is
           (λ key. refl) ∙ same.links;
       living =
-          ap living_of e ∙ living_set before id old (record old { children = children }) is refl;
+          ap living_ids_of e ∙ living_set before id old
+          (record old { children = children }) is refl;
     }
 
 -- ---- a child goes

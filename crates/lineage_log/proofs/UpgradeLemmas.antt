@@ -10,8 +10,8 @@ use Rattle.lineage_log.specs.declared.reason.Reason.{Reason}
 use Rattle.lineage_log.specs.declared.reason.Reason.TheVariants.{BadOrder}
 use Rattle.lineage_log.specs.declared.stage.Stage.TheVariants.{Dying, Placing, Happening}
 use Rattle.lineage_log.specs.Slots.{holds, taken}
-use Rattle.lineage_log.specs.Reader.{Reader, may_die, may_be_born, is_quiet, parent_in, with_newcomer, with_death}
-use Rattle.lineage_log.specs.Order.{Place, Before, Within, After, within_if, opened, renewed, with_child, with_parent, told_start, told_death, told_birth, told_injected, told_cleared, told_rate, told_count, told_end, told_within, and_on, told_all, IsWhole}
+use Rattle.lineage_log.specs.Reader.{Reader, may_die, may_be_born, is_quiet, parent_in, reader_with_newcomer, reader_with_death}
+use Rattle.lineage_log.specs.Order.{LogPlace, Before, Within, After, within_if, opened, at_next_update, with_child, with_parent, told_start, told_death, told_birth, told_injected, told_cleared, told_rate, told_count, told_end, told_within, and_on, told_all, IsWhole}
 use Rattle.lineage_log.specs.LogGrammar.{IsGoodLog}
 use Rattle.lineage_log.specs.Upgrade.{newer, upgraded}
 use Rattle.lineage_log.proofs.LogLaws.{went_on, whole_is, place_is}
@@ -20,95 +20,110 @@ use Rattle.lineage_log.proofs.LogLaws.{went_on, whole_is, place_is}
 abbrev up_reader : Reader → Reader
 up_reader r = record r { version = 2 }
 
-abbrev up : Place → Place
+-- a place with such a reader
+abbrev up : LogPlace → LogPlace
 up Before = Before
 up (Within r) = Within (up_reader r)
 up (After r) = After (up_reader r)
 
-within_is : (r : Reader) (q : Place) → ◌≡◌ {A = Result Place Reason} (Ok (Within r)) (Ok q)
-    → ◌≡◌ {A = Result Place Reason} (Ok (Within (up_reader r))) (Ok (up q))
-within_is r q is = ap (λ (p : Place). Ok (up p)) (place_is (Within r) q is)
+-- a place within a log is the place of its reader, in the last version too
+within_is : (r : Reader) (q : LogPlace) → ◌≡◌ {A = Result LogPlace Reason} (Ok (Within r)) (Ok q)
+    → ◌≡◌ {A = Result LogPlace Reason} (Ok (Within (up_reader r))) (Ok (up q))
+within_is r q is = ap (λ (p : LogPlace). Ok (up p)) (place_is (Within r) q is)
 
-if_still : (test : Bool) (r : Reader) (q : Place) → within_if test r ≡ Ok q
+-- a test leads to the same place in the last version
+if_still : (test : Bool) (r : Reader) (q : LogPlace) → within_if test r ≡ Ok q
     → within_if test (up_reader r) ≡ Ok (up q)
 if_still true r q is = within_is r q is
 if_still false r q is = absurd cc
 
-event_still : (same due other : Bool) (r : Reader) (q : Place)
+-- so does an event's test, whose version is right there
+event_still : (same due other : Bool) (r : Reader) (q : LogPlace)
     → within_if ((same && due) && other) r ≡ Ok q
     → within_if ((true && due) && other) (up_reader r) ≡ Ok (up q)
 event_still true due other r q is = if_still ((true && due) && other) r q is
 event_still false due other r q is = absurd cc
 
-newcomer_still : (same due next other : Bool) (r : Reader) (q : Place)
+-- so does the test of an injected organism, whose version is right there
+newcomer_still : (same due next other : Bool) (r : Reader) (q : LogPlace)
     → within_if (((same && due) && next) && other) r ≡ Ok q
     → within_if (((true && due) && next) && other) (up_reader r) ≡ Ok (up q)
 newcomer_still true due next other r q is = if_still (((true && due) && next) && other) r q is
 newcomer_still false due next other r q is = absurd cc
 
-rate_still : (same due : Bool) (r : Reader) (q : Place) → within_if (same && due) r ≡ Ok q
+-- so does a rate's test, whose version is right there
+rate_still : (same due : Bool) (r : Reader) (q : LogPlace) → within_if (same && due) r ≡ Ok q
     → within_if (true && due) (up_reader r) ≡ Ok (up q)
 rate_still true due r q is = if_still (true && due) r q is
 rate_still false due r q is = absurd cc
 
+-- the child of a birth leads to the same place in the last version
 child_still : (r : Reader) (cell : ℕ) (over : Option ℕ) (child : Result (List Letter) ApplyStop)
-    (q : Place) → with_child r cell over child ≡ Ok q
+    (q : LogPlace) → with_child r cell over child ≡ Ok q
     → with_child (up_reader r) cell over child ≡ Ok (up q)
 child_still r cell over (Ok child) q is =
-    within_is (with_newcomer r Placing cell over child (r.births + 1)) q is
+    within_is (reader_with_newcomer r Placing cell over child (r.births + 1)) q is
 child_still r cell over (Err stop) q is = absurd cc
 
+-- so does a birth, by the parent that is found
 parent_still : (r : Reader) (cell : ℕ) (over : Option ℕ) (birth : BirthRecord)
-    (parent : Option (List Letter)) (q : Place) → with_parent r cell over birth parent ≡ Ok q
+    (parent : Option (List Letter)) (q : LogPlace) → with_parent r cell over birth parent ≡ Ok q
     → with_parent (up_reader r) cell over birth parent ≡ Ok (up q)
 parent_still r cell over birth None q is = absurd cc
 parent_still r cell over birth (Some letters) q is =
     child_still r cell over (child_of letters birth) q is
 
+-- so does a birth with its test
 birth_still : (test : Bool) (r : Reader) (cell : ℕ) (over : Option ℕ) (birth : BirthRecord)
-    (parent : Option (List Letter)) (q : Place)
+    (parent : Option (List Letter)) (q : LogPlace)
     → (if test then with_parent r cell over birth parent else Err BadOrder) ≡ Ok q
     → (if test then with_parent (up_reader r) cell over birth parent else Err BadOrder) ≡ Ok (up q)
 birth_still true r cell over birth parent q is = parent_still r cell over birth parent q is
 birth_still false r cell over birth parent q is = absurd cc
 
-end_still : (test : Bool) (r : Reader) (q : Place)
-    → ◌≡◌ {A = Result Place Reason} (if test then Ok (After r) else Err BadOrder) (Ok q)
-    → ◌≡◌ {A = Result Place Reason} (if test then Ok (After (up_reader r)) else Err BadOrder)
+-- so does the last line with its test
+end_still : (test : Bool) (r : Reader) (q : LogPlace)
+    → ◌≡◌ {A = Result LogPlace Reason} (if test then Ok (After r) else Err BadOrder) (Ok q)
+    → ◌≡◌ {A = Result LogPlace Reason} (if test then Ok (After (up_reader r)) else Err BadOrder)
     (Ok (up q))
-end_still true r q is = ap (λ (p : Place). Ok (up p)) (place_is (After r) q is)
+end_still true r q is = ap (λ (p : LogPlace). Ok (up p)) (place_is (After r) q is)
 end_still false r q is = absurd cc
 
-told_still : (r : Reader) (line : Line) (q : Place) → told_within r line ≡ Ok q
+-- so does each line within a log
+told_still : (r : Reader) (line : Line) (q : LogPlace) → told_within r line ≡ Ok q
     → told_within (up_reader r) line ≡ Ok (up q)
 unfolding told_death told_birth told_injected told_cleared told_rate told_count told_end
 told_still r (Start version width height cell genome) q is = absurd cc
 told_still r (Death id update cell) q is =
     if_still ((update == r.due) && may_die r.stage cell
-    && holds (slice_get r.standing cell) (Some id)) (with_death r (Dying cell) cell id) q is
+    && holds (slice_get r.standing cell) (Some id)) (reader_with_death r (Dying cell) cell id) q is
 told_still r (Birth id parent update cell over birth) q is =
     birth_still ((update == r.due) && may_be_born r.stage && (id == length r.people)
     && holds (slice_get r.standing cell) over) r cell over birth (parent_in r parent) q is
 told_still r (Injected id update cell over genome) q is =
     newcomer_still (r.version == 2) (update == r.due) (id == length r.people)
-    (holds (slice_get r.standing cell) over) (with_newcomer r Happening cell over genome r.births) q
+    (holds (slice_get r.standing cell) over)
+    (reader_with_newcomer r Happening cell over genome r.births) q
     is
 told_still r (Cleared id update cell) q is =
     event_still (r.version == 2) (update == r.due) (holds (slice_get r.standing cell) (Some id))
-    (with_death r Happening cell id) q is
+    (reader_with_death r Happening cell id) q is
 told_still r (Rate update name ppm) q is =
     rate_still (r.version == 2) (update == r.due) (record r { stage = Happening }) q is
 told_still r (Count s) q is =
     if_still ((s.update == r.due) && (s.living == taken r.standing) && (s.births == r.births)
-    && (s.deaths == length r.leaving)) (renewed r) q is
+    && (s.deaths == length r.leaving)) (at_next_update r) q is
 told_still r (End updates) q is = end_still (is_quiet r.stage && (updates + 1 == r.due)) r q is
 
-whole_step : (t s : Result Place Reason) (p : Place) (next : Place → Result Place Reason) → s ≡ Ok p
+-- a line that is told before lines that lead to the end leads to the end with them
+whole_step : (t s : Result LogPlace Reason) (p : LogPlace)
+    (next : LogPlace → Result LogPlace Reason) → s ≡ Ok p
     → IsWhole (next p) → IsWhole (and_on s next)
 whole_step t s p next is whole =
-    subst (λ (o : Result Place Reason). IsWhole (and_on o next)) (sym is) whole
+    subst (λ (o : Result LogPlace Reason). IsWhole (and_on o next)) (sym is) whole
 
-whole_still : (p : Place) (lines : List Line) → IsWhole (told_all p lines)
+-- lines that lead to the end do so in the last version
+whole_still : (p : LogPlace) (lines : List Line) → IsWhole (told_all p lines)
     → IsWhole (told_all (up p) lines)
 whole_still Before lines w = w
 whole_still (Within r) [] w = absurd w
@@ -122,6 +137,7 @@ whole_still (Within r) (line ∷ lines) w =
 whole_still (After r) [] w = tt
 whole_still (After r) (line ∷ lines) w = absurd w
 
+-- a line that has a form has one with version 2
 form_still : (line : Line) → HasForm line → HasForm (newer line)
 form_still (Start version width height cell genome) fits = ((omega arith, omega arith), fits.1)
 form_still (Death id update cell) fits = fits
@@ -132,6 +148,7 @@ form_still (Rate update name ppm) fits = fits
 form_still (Count stats) fits = fits
 form_still (End updates) fits = fits
 
+-- a whole log that begins with a first line is whole with version 2 in it
 first_still : (version width height cell : ℕ) (genome : List Letter) (lines : List Line)
     → IsWhole (told_all Before (Start version width height cell genome ∷ lines))
     → IsWhole (told_all Before (Start 2 width height cell genome ∷ lines))
@@ -148,6 +165,7 @@ first_still version width height cell genome lines w =
     whole_step (told_start version width height cell genome) (told_start 2 width height cell genome)
     (up step.0) (λ p. told_all p lines) is deep
 
+-- a whole log is whole with version 2 in its first line
 order_still : (line : Line) (lines : List Line) → IsWhole (told_all Before (line ∷ lines))
     → IsWhole (told_all Before (newer line ∷ lines))
 order_still (Start version width height cell genome) lines w =
@@ -160,6 +178,7 @@ order_still (Rate update name ppm) lines w = w
 order_still (Count stats) lines w = w
 order_still (End updates) lines w = w
 
+-- a good log with version 2 in its first line is a good log
 pub upgraded_good : (lines : List Line) → IsGoodLog lines → IsGoodLog (upgraded lines)
 upgraded_good [] good = good
 upgraded_good (line ∷ lines) good =

@@ -25,16 +25,16 @@ ancestors_within (suc generations) parent_of id =
 
 -- an id, its parent, and so on to a founder; a parent's id is lower than its child's, so there are
 -- at most `id` generations
-abbrev pub ancestors_of : List Link → ℕ → List ℕ
-ancestors_of links id = ancestors_within id (parent_of links) id
+abbrev pub ancestor_ids_of : List Link → ℕ → List ℕ
+ancestor_ids_of links id = ancestors_within id (parent_of links) id
 
 -- the line of descent of an organism, its founder first
-unfoldable pub line_of : List Link → ℕ → List Link
-line_of links id = reverse (filter_map (link_of links) (ancestors_of links id))
+unfoldable pub line_of_descent : List Link → ℕ → List Link
+line_of_descent links id = reverse (filter_map (link_of links) (ancestor_ids_of links id))
 
 -- an organism is the other one, or an ancestor of it
 abbrev pub is_in_line : List Link → ℕ → ℕ → Bool
-is_in_line links id other = list_any (λ ancestor. ancestor == id) (ancestors_of links other)
+is_in_line links id other = list_any (λ ancestor. ancestor == id) (ancestor_ids_of links other)
 
 -- an organism lives, or is an ancestor of one that lives
 abbrev pub is_kept : List Link → List ℕ → ℕ → Bool

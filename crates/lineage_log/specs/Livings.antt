@@ -11,9 +11,9 @@ use Rattle.lineage_log.specs.Readings.{reader_of}
 use Rattle.lineage_log.specs.Replay.{Resident, replay_of}
 
 -- who lives at the end of what was read, or why it was not read
-abbrev pub living_of : Result (List Line) Fault → Result (List Resident) LogStop
-living_of (Ok lines) = Ok (replay_of lines)
-living_of (Err e) = Err (stop_at e.line e.cause)
+abbrev pub living_residents_of : Result (List Line) Fault → Result (List Resident) LogStop
+living_residents_of (Ok lines) = Ok (replay_of lines)
+living_residents_of (Err e) = Err (stop_at e.line e.cause)
 
 -- these lines were read, and all of them were told to this reader
 pub record HasTold (lines : List Line) (reader : code.Reader)

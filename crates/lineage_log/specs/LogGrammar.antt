@@ -5,7 +5,7 @@ use Rattle.log_lines.specs.Line.{Line}
 use Rattle.log_lines.specs.LineText.{line_text, HasForm}
 use Rattle.log_lines.specs.LineReading.{line_of}
 use Rattle.lineage_log.specs.declared.reason.Reason.{Reason}
-use Rattle.lineage_log.specs.Order.{Place, Before, Within, After, told, told_all, IsWhole}
+use Rattle.lineage_log.specs.Order.{LogPlace, Before, Within, After, told, told_all, IsWhole}
 
 -- why a line is faulty
 pub data Cause : Type 0 where
@@ -23,13 +23,13 @@ abbrev pub fault : ℕ → Cause → Result (List Line) Fault
 fault number cause = Err (record { line = number; cause = cause })
 
 -- the end of the bytes, behind the last newline
-abbrev pub log_end : ℕ → Place → Result (List Line) Fault
+abbrev pub log_end : ℕ → LogPlace → Result (List Line) Fault
 log_end number Before = fault number Unended
 log_end number (Within r) = fault number Unended
 log_end number (After r) = Ok []
 
 -- the last piece, which has no newline
-abbrev pub last_piece : ℕ → Place → List ℕ → Result (List Line) Fault
+abbrev pub last_piece : ℕ → LogPlace → List ℕ → Result (List Line) Fault
 last_piece number place [] = log_end number place
 last_piece number place (b ∷ bs) = fault number BadLine
 
@@ -40,18 +40,19 @@ with_line line (Err e) = Err e
 
 -- a line that was told, and the others
 abbrev pub after_told :
-    ℕ → Line → Result Place Reason → (Place → Result (List Line) Fault) → Result (List Line) Fault
+    ℕ → Line → Result LogPlace Reason → (LogPlace → Result (List Line) Fault)
+    → Result (List Line) Fault
 after_told number line (Ok place) others = with_line line (others place)
 after_told number line (Err reason) others = fault number (OutOfOrder reason)
 
 -- a piece with its line or none, and the others
 abbrev pub one_piece :
-    ℕ → Place → Option Line → (Place → Result (List Line) Fault) → Result (List Line) Fault
+    ℕ → LogPlace → Option Line → (LogPlace → Result (List Line) Fault) → Result (List Line) Fault
 one_piece number place None others = fault number BadLine
 one_piece number place (Some line) others = after_told number line (told place line) others
 
 -- the lines of the pieces, each but the last a line
-abbrev pub pieces_log : ℕ → Place → List (List ℕ) → Result (List Line) Fault
+abbrev pub pieces_log : ℕ → LogPlace → List (List ℕ) → Result (List Line) Fault
 pieces_log number place [] = fault number Unended
 pieces_log number place (piece ∷ []) = last_piece number place piece
 pieces_log number place (piece ∷ next ∷ pieces) =

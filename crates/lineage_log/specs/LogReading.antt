@@ -1,12 +1,12 @@
 -- Reading a log line by line (docs/FORMATS.md, "The log").
 use Rattle.std.specs.Prelude.{◌≡◌, ◌≢◌, ℕ, ◌<◌, List, [], length, Option, Some, None, Result, Ok, Err, ◌==◌}
 use Rattle.std.specs.List.{slice_split}
-use Rattle.log_lines.specs.Line.{Line, values_of}
+use Rattle.log_lines.specs.Line.{Line, line_values}
 use Rattle.log_lines.specs.declared.log_line.LogLine.{LogLine}
 use Rattle.lineage_log.specs.declared.log_stop.LogStop.{LogStop}
 use Rattle.lineage_log.specs.declared.log_stop.LogStop.TheVariants as stop
 use Rattle.lineage_log.specs.declared.log_reader.LogReader.{LogReader}
-use Rattle.lineage_log.specs.Order.{Place, Before, told}
+use Rattle.lineage_log.specs.Order.{LogPlace, Before, told}
 use Rattle.lineage_log.specs.LogGrammar.{Fault, pieces_log, with_line}
 use Rattle.lineage_log.specs.LogValues.{answer_of}
 use Rattle.lineage_log.specs.Places.{IsAfter, place_of}
@@ -38,11 +38,11 @@ pub record IsRead (before after : LogReader) : Type 0 where
 -- what the next line gives: the line, the end, or why the first faulty line is; running out of
 -- memory says nothing of it
 abbrev pub GivesNext : Result (Option LogLine) LogStop → LogReader → LogReader → Type 0
-GivesNext (Ok (Some line)) before after = ReadsLine (values_of line) before after
+GivesNext (Ok (Some line)) before after = ReadsLine (line_values line) before after
 GivesNext (Ok None) before after = IsRead before after
 GivesNext (Err e) before after = e ≢ stop.Memory → answer_of (left_of before) ≡ Err e
 
 -- the bytes end here: a whole log ends, or why it doesn't
-abbrev pub EndsAt : Result (Unit {0}) LogStop → Place → Result (List Line) Fault → Type 0
+abbrev pub EndsAt : Result (Unit {0}) LogStop → LogPlace → Result (List Line) Fault → Type 0
 EndsAt (Ok done) place left = (left ≡ Ok []) × IsAfter place
 EndsAt (Err e) place left = answer_of left ≡ Err e

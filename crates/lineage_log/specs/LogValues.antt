@@ -1,7 +1,7 @@
 -- What the reader of a log answers, as the definitions see it.
 use Rattle.std.specs.Prelude.{◌≡◌, ◌≢◌, ℕ, List, ◌++◌, map, Result, Ok, Err, Vec}
 use Rattle.std.proofs.Common.{Global}
-use Rattle.log_lines.specs.Line.{Line, values_of}
+use Rattle.log_lines.specs.Line.{Line, line_values}
 use Rattle.log_lines.specs.declared.log_line.LogLine.{LogLine}
 use Rattle.lineage_log.specs.declared.reason.Reason.TheVariants as reason
 use Rattle.lineage_log.specs.declared.refusal.Refusal.{Refusal}
@@ -12,7 +12,7 @@ use Rattle.lineage_log.specs.LogGrammar.{Cause, BadLine, OutOfOrder, Unended, Fa
 
 -- the values of the lines
 abbrev pub lines_of : List LogLine → List Line
-lines_of lines = map values_of lines
+lines_of lines = map line_values lines
 
 -- the answer for a faulty line
 abbrev pub stop_at : ℕ → Cause → LogStop

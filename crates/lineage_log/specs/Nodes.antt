@@ -42,12 +42,12 @@ abbrev pub links_of : List (ℕ × NodeValue) → List Link
 links_of nodes = map (λ (e : ℕ × NodeValue). node_link e.0 e.1) nodes
 
 -- the ids of those that live
-abbrev pub living_of : List (ℕ × NodeValue) → List ℕ
-living_of nodes = keys_of (filter (λ (e : ℕ × NodeValue). e.1.lives) nodes)
+abbrev pub living_ids_of : List (ℕ × NodeValue) → List ℕ
+living_ids_of nodes = keys_of (filter (λ (e : ℕ × NodeValue). e.1.lives) nodes)
 
 -- the tree of the nodes
 abbrev pub tree_of : List (ℕ × NodeValue) → TreeValue
-tree_of nodes = record { links = links_of nodes; living = living_of nodes }
+tree_of nodes = record { links = links_of nodes; living = living_ids_of nodes }
 
 -- one for a child of this id
 abbrev pub as_child : ℕ → NodeValue → ℕ
@@ -85,4 +85,4 @@ pub record AreNodes (nodes : List (ℕ × NodeValue)) : Type 0 where
 pub record AreFewer (before after : List (ℕ × NodeValue)) : Type 0 where
   pub left : ℕ → Bool
   pub links : links_of after ≡ filter (λ (link : Link). left link.id) (links_of before)
-  pub living : living_of after ≡ living_of before
+  pub living : living_ids_of after ≡ living_ids_of before

@@ -10,16 +10,16 @@ use Rattle.lineage_log.specs.declared.reason.Reason.TheVariants.{BadOrder, Unkno
 use Rattle.lineage_log.specs.declared.stage.Stage.TheVariants.{Quiet, Dying, Placing, Happening}
 use Rattle.lineage_log.specs.People.{without}
 use Rattle.lineage_log.specs.Slots.{holds, taken}
-use Rattle.lineage_log.specs.Reader.{Reader, may_die, may_be_born, is_quiet, parent_in, with_newcomer, with_death}
+use Rattle.lineage_log.specs.Reader.{Reader, may_die, may_be_born, is_quiet, parent_in, reader_with_newcomer, reader_with_death}
 
 -- before the first line, within the log, or after the last line
-pub data Place : Type 0 where
-  Before : Place
-  Within : Reader → Place
-  After : Reader → Place
+pub data LogPlace : Type 0 where
+  Before : LogPlace
+  Within : Reader → LogPlace
+  After : Reader → LogPlace
 
 -- the reader where the test holds
-abbrev pub within_if : Bool → Reader → Result Place Reason
+abbrev pub within_if : Bool → Reader → Result LogPlace Reason
 within_if test r = if test then Ok (Within r) else Err BadOrder
 
 -- the reader after the first line
@@ -36,31 +36,32 @@ opened version cells cell genome = record {
 }
 
 -- the first line: the founder's cell is in the world
-unfoldable pub told_start : ℕ → ℕ → ℕ → ℕ → List Letter → Result Place Reason
+unfoldable pub told_start : ℕ → ℕ → ℕ → ℕ → List Letter → Result LogPlace Reason
 told_start version width height cell genome =
     within_if (nat_lt cell (width * height)) (opened version (width * height) cell genome)
 
 -- a death: in the due update, before births and events, in rising cells, of who stands there
-unfoldable pub told_death : Reader → ℕ → ℕ → ℕ → Result Place Reason
+unfoldable pub told_death : Reader → ℕ → ℕ → ℕ → Result LogPlace Reason
 told_death r id update cell =
     within_if
     ((update == r.due) && may_die r.stage cell && holds (slice_get r.standing cell) (Some id))
-    (with_death r (Dying cell) cell id)
+    (reader_with_death r (Dying cell) cell id)
 
 -- the child where its record applies
-abbrev pub with_child : Reader → ℕ → Option ℕ → Result (List Letter) ApplyStop → Result Place Reason
+abbrev pub with_child : Reader → ℕ → Option ℕ → Result (List Letter) ApplyStop
+    → Result LogPlace Reason
 with_child r cell over (Ok child) =
-    Ok (Within (with_newcomer r Placing cell over child (r.births + 1)))
+    Ok (Within (reader_with_newcomer r Placing cell over child (r.births + 1)))
 with_child r cell over (Err stop) = Err BadChange
 
 -- the child of a parent that lived when the update began
 abbrev pub with_parent :
-    Reader → ℕ → Option ℕ → BirthRecord → Option (List Letter) → Result Place Reason
+    Reader → ℕ → Option ℕ → BirthRecord → Option (List Letter) → Result LogPlace Reason
 with_parent r cell over birth None = Err UnknownParent
 with_parent r cell over birth (Some letters) = with_child r cell over (child_of letters birth)
 
 -- a birth: in the due update, before events, with the next id, over who stands in the cell
-unfoldable pub told_birth : Reader → ℕ → ℕ → ℕ → ℕ → Option ℕ → BirthRecord → Result Place Reason
+unfoldable pub told_birth : Reader → ℕ → ℕ → ℕ → ℕ → Option ℕ → BirthRecord → Result LogPlace Reason
 told_birth r id parent update cell over birth =
     if (update == r.due) && may_be_born r.stage && (id == length r.people)
     && holds (slice_get r.standing cell) over
@@ -72,25 +73,25 @@ abbrev pub may_happen : Reader → ℕ → Bool
 may_happen r update = (r.version == 2) && (update == r.due)
 
 -- an injected organism, with the next id, over who stands in the cell
-unfoldable pub told_injected : Reader → ℕ → ℕ → ℕ → Option ℕ → List Letter → Result Place Reason
+unfoldable pub told_injected : Reader → ℕ → ℕ → ℕ → Option ℕ → List Letter → Result LogPlace Reason
 told_injected r id update cell over genome =
     within_if
     (may_happen r update && (id == length r.people) && holds (slice_get r.standing cell) over)
-    (with_newcomer r Happening cell over genome r.births)
+    (reader_with_newcomer r Happening cell over genome r.births)
 
 -- a cleared organism, which stands in the cell
-unfoldable pub told_cleared : Reader → ℕ → ℕ → ℕ → Result Place Reason
+unfoldable pub told_cleared : Reader → ℕ → ℕ → ℕ → Result LogPlace Reason
 told_cleared r id update cell =
     within_if (may_happen r update && holds (slice_get r.standing cell) (Some id))
-    (with_death r Happening cell id)
+    (reader_with_death r Happening cell id)
 
 -- a rate
-unfoldable pub told_rate : Reader → ℕ → Result Place Reason
+unfoldable pub told_rate : Reader → ℕ → Result LogPlace Reason
 told_rate r update = within_if (may_happen r update) (record r { stage = Happening })
 
 -- the reader when the next update is due
-abbrev pub renewed : Reader → Reader
-renewed r = record r {
+abbrev pub at_next_update : Reader → Reader
+at_next_update r = record r {
   due = r.due + 1;
   stage = Quiet;
   people = without r.leaving r.people;
@@ -100,20 +101,20 @@ renewed r = record r {
 }
 
 -- the end of the due update, with the counts that its lines give
-unfoldable pub told_count : Reader → Stats → Result Place Reason
+unfoldable pub told_count : Reader → Stats → Result LogPlace Reason
 told_count r s =
     within_if
     ((s.update == r.due) && (s.living == taken r.standing) && (s.births == r.births)
     && (s.deaths == length r.leaving))
-    (renewed r)
+    (at_next_update r)
 
 -- the last line: the last update has its end, and this number
-unfoldable pub told_end : Reader → ℕ → Result Place Reason
+unfoldable pub told_end : Reader → ℕ → Result LogPlace Reason
 told_end r updates =
     if is_quiet r.stage && (updates + 1 == r.due) then Ok (After r) else Err BadOrder
 
 -- one line within the log
-abbrev pub told_within : Reader → Line → Result Place Reason
+abbrev pub told_within : Reader → Line → Result LogPlace Reason
 told_within r (Start version width height cell genome) = Err BadOrder
 told_within r (Death id update cell) = told_death r id update cell
 told_within r (Birth id parent update cell over birth) =
@@ -125,28 +126,29 @@ told_within r (Count stats) = told_count r stats
 told_within r (End updates) = told_end r updates
 
 -- the first line
-abbrev pub told_first : Line → Result Place Reason
+abbrev pub told_first : Line → Result LogPlace Reason
 told_first (Start version width height cell genome) = told_start version width height cell genome
 told_first _ = Err BadOrder
 
 -- one line
-abbrev pub told : Place → Line → Result Place Reason
+abbrev pub told : LogPlace → Line → Result LogPlace Reason
 told Before line = told_first line
 told (Within r) line = told_within r line
 told (After r) line = Err BadOrder
 
 -- what follows a line, unless it is faulty
-abbrev pub and_on : Result Place Reason → (Place → Result Place Reason) → Result Place Reason
+abbrev pub and_on : Result LogPlace Reason → (LogPlace → Result LogPlace Reason)
+    → Result LogPlace Reason
 and_on (Ok place) next = next place
 and_on (Err reason) next = Err reason
 
 -- all lines, up to the first that is faulty
-abbrev pub told_all : Place → List Line → Result Place Reason
+abbrev pub told_all : LogPlace → List Line → Result LogPlace Reason
 told_all place [] = Ok place
 told_all place (line ∷ lines) = and_on (told place line) (λ next. told_all next lines)
 
 -- the last line has come
-abbrev pub IsWhole : Result Place Reason → Type 0
+abbrev pub IsWhole : Result LogPlace Reason → Type 0
 IsWhole (Ok Before) = ⊥
 IsWhole (Ok (Within r)) = ⊥
 IsWhole (Ok (After r)) = Unit {0}

@@ -46,8 +46,8 @@ parent_in r parent =
     else None
 
 -- somebody new with the next id stands in the cell, and who stood there dies
-abbrev pub with_newcomer : Reader → Stage → ℕ → Option ℕ → List Letter → ℕ → Reader
-with_newcomer r stage cell over genome births = record r {
+abbrev pub reader_with_newcomer : Reader → Stage → ℕ → Option ℕ → List Letter → ℕ → Reader
+reader_with_newcomer r stage cell over genome births = record r {
   stage = stage;
   standing = slice_set r.standing cell (Some (length r.people));
   people = r.people ++ Some genome ∷ [];
@@ -56,8 +56,8 @@ with_newcomer r stage cell over genome births = record r {
 }
 
 -- who stands in the cell dies
-abbrev pub with_death : Reader → Stage → ℕ → ℕ → Reader
-with_death r stage cell id =
+abbrev pub reader_with_death : Reader → Stage → ℕ → ℕ → Reader
+reader_with_death r stage cell id =
     record r {
       stage = stage;
       standing = slice_set r.standing cell None;

@@ -11,31 +11,31 @@ pub record TreeValue : Type 0 where
   pub living : List ℕ
 
 -- its links are those of the living and of their ancestors
-abbrev pub IsKept : TreeValue → Type 0
-IsKept t = kept_of t.links t.living ≡ t.links
+abbrev pub IsPruned : TreeValue → Type 0
+IsPruned t = kept_of t.links t.living ≡ t.links
 
 -- the genome of an organism of a tree
-abbrev pub genome_in : TreeValue → ℕ → List Letter
-genome_in t id = option_map_or (λ (link : Link). link.genome) (link_of t.links id) []
+abbrev pub genome_in_tree : TreeValue → ℕ → List Letter
+genome_in_tree t id = option_map_or (λ (link : Link). link.genome) (link_of t.links id) []
 
 -- the tree of a founder alone
 abbrev pub founded_by : Link → TreeValue
 founded_by link = record { links = link ∷ []; living = link.id ∷ [] }
 
 -- an organism comes
-abbrev pub with_newcomer : TreeValue → Link → TreeValue
-with_newcomer t link =
+abbrev pub tree_with_newcomer : TreeValue → Link → TreeValue
+tree_with_newcomer t link =
     record { links = t.links ++ link ∷ []; living = t.living ++ link.id ∷ [] }
 
 -- the ids without this one
-abbrev pub without : ℕ → List ℕ → List ℕ
-without id ids = filter (λ other. not (other == id)) ids
+abbrev pub without_id : ℕ → List ℕ → List ℕ
+without_id id ids = filter (λ other. not (other == id)) ids
 
 -- an organism dies: of the links those are left whose organism lives or is an ancestor of one that
 -- does
-abbrev pub with_death : TreeValue → ℕ → TreeValue
-with_death t id =
-    record { links = kept_of t.links (without id t.living); living = without id t.living }
+abbrev pub tree_with_death : TreeValue → ℕ → TreeValue
+tree_with_death t id =
+    record { links = kept_of t.links (without_id id t.living); living = without_id id t.living }
 
 -- an organism can come: its id is above all ids, and its parent is there
 pub record CanCome (t : TreeValue) (id : ℕ) (parent : Option ℕ) : Type 0 where

@@ -1,7 +1,7 @@
 ghost use Rattle.std.specs.Prelude.{ℕ, ◌≡◌, ◌<◌, ◌↔◌, ◌++◌, ◌∷◌, [], All, Contains, List, Some};
 ghost use Rattle.log_lines.specs.Line.{Line};
 ghost use Rattle.std.specs.Option.{option_map_or};
-ghost use Rattle.lineage_log.specs.Ancestry.{AreOlder, kept_of, line_of, link_of};
+ghost use Rattle.lineage_log.specs.Ancestry.{AreOlder, kept_of, line_of_descent, link_of};
 ghost use Rattle.lineage_log.specs.Links.{Link};
 ghost use Rattle.lineage_log.specs.LogGrammar.{IsGoodLog, Reads, lines_text};
 
@@ -18,7 +18,8 @@ pub fn lines_come_from_parents()
     ensures { (links : List Link) (id : ℕ) (link : Link)
         → AreOlder links
         → link_of links id ≡ Some link
-        → line_of links id ≡ option_map_or (line_of links) link.parent [] ++ link ∷ [] }
+        → line_of_descent links id ≡ option_map_or (line_of_descent links) link.parent [] ++ link
+        ∷ [] }
 {}
 
 /// What is kept of all organisms ever: with a newcomer, whose parent lives, it is kept too; once
@@ -46,5 +47,5 @@ pub fn keeping_goes_on()
     ensures lines { (everyone : List Link) (living : List ℕ) (id : ℕ)
         → AreOlder everyone
         → Contains living id
-        → line_of (kept_of everyone living) id ≡ line_of everyone id }
+        → line_of_descent (kept_of everyone living) id ≡ line_of_descent everyone id }
 {}

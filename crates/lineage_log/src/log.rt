@@ -1,6 +1,6 @@
 // A good log.
 ghost use Rattle.std.specs.Prelude.{◌≡◌, length, option_map, slice_get};
-ghost use Rattle.log_lines.specs.Line.{values_of};
+ghost use Rattle.log_lines.specs.Line.{line_values};
 ghost use Rattle.lineage_log.specs.LogGrammar.{IsGoodLog};
 ghost use Rattle.lineage_log.specs.LogValues.{lines_of};
 ghost use Rattle.lineage_log.specs.Upgrade.{newer, upgraded};
@@ -65,7 +65,7 @@ impl Log {
 
     /// The line at a place, counted from 0. None exactly where the place is not below `len`.
     pub fn get(&self, at: usize) -> Option<&LogLine>
-        ensures { option_map (λ line. values_of line.now) result ≡ slice_get self.now at }
+        ensures { option_map (λ line. line_values line.now) result ≡ slice_get self.now at }
     {
         self.lines.get(at)
     }
@@ -88,7 +88,7 @@ fn renew_first(lines: &mut Vec<LogLine>)
 }
 
 fn renew(line: &mut LogLine)
-    ensures { values_of line.new ≡ newer (values_of line.old) }
+    ensures { line_values line.new ≡ newer (line_values line.old) }
 {
     if let LogLine::Start { version, .. } = line {
         *version = LAST_VERSION;

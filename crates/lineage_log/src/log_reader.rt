@@ -6,7 +6,7 @@ ghost use Rattle.lineage_log.specs.LogValues.{stop_of};
 ghost use Rattle.lineage_log.specs.LogReading.{EndsAt, GivesNext, IsAtStart};
 
 use crate::log_stop::LogStop;
-use crate::place::{Place, tell};
+use crate::place::{LogPlace, tell};
 use crate::reason::Reason;
 use crate::refusal::Refusal;
 use log_lines::{LogLine, read_line, split_at};
@@ -20,7 +20,7 @@ pub struct LogReader<'a> {
     /// The number of the next line, from 1.
     pub number: u64,
     /// Where the log stands.
-    pub place: Place,
+    pub place: LogPlace,
 }
 
 /// A log at its start.
@@ -30,7 +30,7 @@ pub fn reader_of_bytes(bytes: &[u8]) -> LogReader<'_>
     LogReader {
         rest: bytes,
         number: 1,
-        place: Place::Before,
+        place: LogPlace::Before,
     }
 }
 
@@ -46,7 +46,7 @@ fn stop_for(refusal: Refusal, line: u64) -> LogStop
 }
 
 /// The end of the bytes, behind the last newline.
-fn end_at(number: u64, place: &Place, piece: &[u8]) -> Result<(), LogStop>
+fn end_at(number: u64, place: &LogPlace, piece: &[u8]) -> Result<(), LogStop>
     ensures { EndsAt result (place_of place.now)
         (last_piece number (place_of place.now) piece.now) }
 {
@@ -54,7 +54,7 @@ fn end_at(number: u64, place: &Place, piece: &[u8]) -> Result<(), LogStop>
         return Err(LogStop::BadLine { line: number });
     }
     match place {
-        Place::After(_) => Ok(()),
+        LogPlace::After(_) => Ok(()),
         _ => Err(LogStop::Unended { line: number }),
     }
 }

@@ -3,8 +3,8 @@ ghost use Rattle.std.specs.Prelude.{◌≡◌, ◌+◌, ◌-◌, ◌<◌, ◌^�
 ghost use Rattle.std.specs.BTreeMap.{is_at};
 ghost use Rattle.std.specs.Map.{set_value};
 ghost use Rattle.std.specs.Ordering.{nat_cmp};
-ghost use Rattle.lineage_log.specs.Nodes.{NodeValue, AreFamilies, AreFewer, AreNeededBut, AreNodes, living_of, node_at, tree_of};
-ghost use Rattle.lineage_log.specs.Trees.{CanCome, with_death, with_newcomer};
+ghost use Rattle.lineage_log.specs.Nodes.{NodeValue, AreFamilies, AreFewer, AreNeededBut, AreNodes, living_ids_of, node_at, tree_of};
+ghost use Rattle.lineage_log.specs.Trees.{CanCome, tree_with_death, tree_with_newcomer};
 
 use crate::ancestor::Ancestor;
 use crate::node::Node;
@@ -18,7 +18,7 @@ pub(crate) fn enter(nodes: &mut Nodes, newcomer: Ancestor) -> Result<(), Memory>
     requires nodes { AreNodes nodes.old.entries }
     requires can_come { CanCome (tree_of nodes.old.entries) newcomer.id newcomer.parent }
     ensures ok { OnOk result (tree_of nodes.new.entries
-        ≡ with_newcomer (tree_of nodes.old.entries) newcomer) }
+        ≡ tree_with_newcomer (tree_of nodes.old.entries) newcomer) }
     ensures err { OnErr result (nodes.new.entries ≡ nodes.old.entries) }
     ensures nodes { AreNodes nodes.new.entries }
 {
@@ -35,8 +35,8 @@ pub(crate) fn enter(nodes: &mut Nodes, newcomer: Ancestor) -> Result<(), Memory>
 /// An organism dies, and no node stays in vain. It takes no memory.
 pub(crate) fn bury(nodes: &mut Nodes, id: u64)
     requires nodes { AreNodes nodes.old.entries }
-    requires lives { Contains (living_of nodes.old.entries) id }
-    ensures tree { tree_of nodes.new.entries ≡ with_death (tree_of nodes.old.entries) id }
+    requires lives { Contains (living_ids_of nodes.old.entries) id }
+    ensures tree { tree_of nodes.new.entries ≡ tree_with_death (tree_of nodes.old.entries) id }
     ensures nodes { AreNodes nodes.new.entries }
 {
     lay_down(nodes, id);

@@ -22,7 +22,8 @@ impl Model for People {
 
     ghost Value = { List (Option (List Letter)) };
 
-    ghost view = { λ p. map (λ found. option_map (λ shared. letters shared.value) found) p.genomes.items };
+    ghost view = { λ p.
+        map (λ found. option_map (λ shared. letters shared.value) found) p.genomes.items };
 }
 
 impl People {

@@ -1,6 +1,6 @@
 // Where a log stands between two lines.
 ghost use Rattle.std.specs.Prelude.{◌≡◌};
-ghost use Rattle.log_lines.specs.Line.{End, values_of};
+ghost use Rattle.log_lines.specs.Line.{End, line_values};
 ghost use Rattle.lineage_log.specs.Order.{After, told, told_first};
 ghost use Rattle.lineage_log.specs.Readings.{TellsReader, reader_of};
 ghost use Rattle.lineage_log.specs.Places.{IsAfter, TellsPlace, place_of};
@@ -12,7 +12,7 @@ use std::alloc::Global;
 use std::mem;
 
 #[derive(Drop)]
-pub enum Place {
+pub enum LogPlace {
     /// Before the first line.
     Before,
     /// Behind the first line.
@@ -22,25 +22,25 @@ pub enum Place {
 }
 
 /// One line more. After an error the place is not used again.
-pub fn tell(alloc: Global, place: &mut Place, line: &LogLine) -> Result<(), Refusal>
+pub fn tell(alloc: Global, place: &mut LogPlace, line: &LogLine) -> Result<(), Refusal>
     ensures { TellsPlace result (place_of place.new)
-        (told (place_of place.old) (values_of line.now)) }
+        (told (place_of place.old) (line_values line.now)) }
 {
     if let LogLine::End { updates } = line {
         return tell_last(place, *updates);
     }
     match place {
-        Place::Before => {
-            *place = Place::Within(tell_first(alloc, line)?);
+        LogPlace::Before => {
+            *place = LogPlace::Within(tell_first(alloc, line)?);
             Ok(())
         }
-        Place::Within(reader) => reader.tell(alloc, line),
-        Place::After(_) => Err(OUT_OF_ORDER),
+        LogPlace::Within(reader) => reader.tell(alloc, line),
+        LogPlace::After(_) => Err(OUT_OF_ORDER),
     }
 }
 
 fn tell_first(alloc: Global, line: &LogLine) -> Result<Reader, Refusal>
-    ensures { TellsReader result (told_first (values_of line.now)) }
+    ensures { TellsReader result (told_first (line_values line.now)) }
 {
     match line {
         LogLine::Start {
@@ -57,30 +57,30 @@ fn tell_first(alloc: Global, line: &LogLine) -> Result<Reader, Refusal>
     }
 }
 
-fn tell_last(place: &mut Place, updates: u32) -> Result<(), Refusal>
+fn tell_last(place: &mut LogPlace, updates: u32) -> Result<(), Refusal>
     ensures { TellsPlace result (place_of place.new) (told (place_of place.old) (End updates)) }
 {
-    match mem::replace(place, Place::Before) {
-        Place::Within(reader) => {
+    match mem::replace(place, LogPlace::Before) {
+        LogPlace::Within(reader) => {
             if reader.ends(updates) {
-                *place = Place::After(reader);
+                *place = LogPlace::After(reader);
                 Ok(())
             } else {
                 Err(OUT_OF_ORDER)
             }
         }
-        Place::Before | Place::After(_) => Err(OUT_OF_ORDER),
+        LogPlace::Before | LogPlace::After(_) => Err(OUT_OF_ORDER),
     }
 }
 
 /// The reader behind the last line.
-pub fn into_reader(place: Place) -> Reader
+pub fn into_reader(place: LogPlace) -> Reader
     requires { IsAfter (place_of place) }
     ensures { place_of place ≡ After (reader_of result) }
 {
     match place {
-        Place::After(reader) => reader,
-        Place::Within(_reader) => unreachable!(),
-        Place::Before => unreachable!(),
+        LogPlace::After(reader) => reader,
+        LogPlace::Within(_reader) => unreachable!(),
+        LogPlace::Before => unreachable!(),
     }
 }

@@ -2,10 +2,10 @@
 ghost use Rattle.std.specs.Prelude.{◌≡◌, ◌≢◌, ℕ, ◌+◌, ◌<◌, ◌≤◌, ◌&&◌, ◌==◌, OnOk, IsTrue, ◌*◌, ◌^◌, ◌-◌, [], option_map, Ok, Err, if◌then◌else◌, length, slice_get, Some};
 ghost use Rattle.genome.specs.Genome.{letters};
 ghost use Rattle.mutations.specs.BirthRecord.{record_of};
-ghost use Rattle.log_lines.specs.Line.{End, values_of};
+ghost use Rattle.log_lines.specs.Line.{End, line_values};
 ghost use Rattle.lineage_log.specs.Slots.{holds, taken};
-ghost use Rattle.lineage_log.specs.Reader.{is_quiet, may_be_born, may_die, parent_in, with_death, with_newcomer};
-ghost use Rattle.lineage_log.specs.Order.{told_birth, told_cleared, told_count, told_death, told_end, told_injected, told_rate, told_start, may_happen, renewed, told_within, After};
+ghost use Rattle.lineage_log.specs.Reader.{is_quiet, may_be_born, may_die, parent_in, reader_with_death, reader_with_newcomer};
+ghost use Rattle.lineage_log.specs.Order.{told_birth, told_cleared, told_count, told_death, told_end, told_injected, told_rate, told_start, may_happen, at_next_update, told_within, After};
 
 use crate::child::child_of_shared;
 use crate::people::People;
@@ -117,7 +117,8 @@ impl Reader {
     /// Who stands in the cell dies.
     fn remove(&mut self, stage: Stage, cell: u32, id: u64) -> Result<(), Memory>
         requires { cell < length self.old.standing }
-        ensures { OnOk result (reader_of self.new ≡ with_death (reader_of self.old) stage cell id) }
+        ensures { OnOk result (reader_of self.new
+            ≡ reader_with_death (reader_of self.old) stage cell id) }
     {
         self.leaving.push(id)?;
         self.standing.set(cell, None);
@@ -137,7 +138,8 @@ impl Reader {
         requires within { cell < length self.old.standing }
         requires few { births ≤ length self.old.people + 1 }
         ensures { OnOk result (reader_of self.new
-            ≡ with_newcomer (reader_of self.old) stage cell over (letters genome.value) births) }
+            ≡ reader_with_newcomer (reader_of self.old) stage cell over
+            (letters genome.value) births) }
     {
         if let Some(id) = over {
             self.leaving.push(id)?;
@@ -283,7 +285,7 @@ impl Reader {
     /// The next update is due.
     fn renew(&mut self)
         requires { self.old.due < 2 ^ 64 - 1 }
-        ensures { reader_of self.new ≡ renewed (reader_of self.old) }
+        ensures { reader_of self.new ≡ at_next_update (reader_of self.old) }
     {
         self.newest = self.people.len() as u64;
         self.people.forget_all(&self.leaving);
@@ -315,9 +317,9 @@ impl Reader {
 
     /// One line more that is not the last line.
     pub fn tell(&mut self, alloc: Global, line: &LogLine) -> Result<(), Refusal>
-        requires { (updates : ℕ) → values_of line.now ≢ End updates }
+        requires { (updates : ℕ) → line_values line.now ≢ End updates }
         ensures { Tells result (reader_of self.new)
-            (told_within (reader_of self.old) (values_of line.now)) }
+            (told_within (reader_of self.old) (line_values line.now)) }
     {
         match line {
             LogLine::Start { .. } => Err(OUT_OF_ORDER),

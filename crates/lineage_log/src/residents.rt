@@ -4,7 +4,7 @@ ghost use Rattle.lineage_log.specs.LogGrammar.{IsGoodLog, log_of};
 ghost use Rattle.lineage_log.specs.LogValues.{lines_of};
 ghost use Rattle.lineage_log.specs.Order.{After, Before, told_all};
 ghost use Rattle.lineage_log.specs.Readings.{reader_of};
-ghost use Rattle.lineage_log.specs.Livings.{LeavesReader, living_of};
+ghost use Rattle.lineage_log.specs.Livings.{LeavesReader, living_residents_of};
 ghost use Rattle.lineage_log.specs.Replay.{replay_of, resident_at, residents_from};
 ghost use Rattle.lineage_log.specs.Residents.{EachIsKept, kept_genomes};
 
@@ -13,7 +13,7 @@ use crate::living::{Living, Livings};
 use crate::log::Log;
 use crate::log_reader::{next_line, reader_of_bytes};
 use crate::log_stop::LogStop;
-use crate::place::{Place, into_reader, tell};
+use crate::place::{LogPlace, into_reader, tell};
 use crate::reader::Reader;
 use crate::refusal::Refusal;
 use avida_port::Memory;
@@ -33,7 +33,7 @@ fn reader_after(alloc: Global, lines: &[LogLine]) -> Result<Reader, Memory>
     ensures { IfOk result
         (λ reader. told_all Before (lines_of lines.now) ≡ Ok (After (reader_of reader))) }
 {
-    let mut place = Place::Before;
+    let mut place = LogPlace::Before;
     for line in lines {
         match tell(alloc, &mut place, line) {
             Ok(()) => {}
@@ -47,7 +47,7 @@ fn reader_after(alloc: Global, lines: &[LogLine]) -> Result<Reader, Memory>
 /// Replays the bytes of a log, or tells its first faulty line: as `read_log` and then `replay`, but
 /// no line is kept.
 pub fn living_at_end(alloc: Global, bytes: &[u8]) -> Result<Livings, LogStop>
-    ensures { result ≢ Err LogStop.Memory → result ≡ living_of (log_of bytes.now) }
+    ensures { result ≢ Err LogStop.Memory → result ≡ living_residents_of (log_of bytes.now) }
 {
     read_exactly();
     let reader = reader_at_end(alloc, bytes)?;

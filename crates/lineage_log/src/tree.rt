@@ -3,8 +3,8 @@ ghost use Rattle.std.specs.Prelude.{◌≡◌, ℕ, [], Contains, IfOk, IsOk, Is
 ghost use Rattle.instruction_set.specs.declared.letter.Letter.{Letter};
 ghost use Rattle.genome.specs.Genome.{letters};
 ghost use Rattle.mutations.specs.BirthRecord.{child_of, record_of};
-ghost use Rattle.lineage_log.specs.Ancestry.{line_of, link_of};
-ghost use Rattle.lineage_log.specs.Trees.{CanCome, IsKept, founded_by, genome_in, with_death, with_newcomer};
+ghost use Rattle.lineage_log.specs.Ancestry.{line_of_descent, link_of};
+ghost use Rattle.lineage_log.specs.Trees.{CanCome, IsPruned, founded_by, genome_in_tree, tree_with_death, tree_with_newcomer};
 
 use crate::ancestor::Ancestor;
 use crate::link::{Link, Path};
@@ -56,7 +56,7 @@ impl Tree {
     /// An organism comes, and lives. If memory runs out, nothing changes.
     pub fn enter(&mut self, newcomer: Ancestor) -> Result<(), Memory>
         requires { CanCome self.old newcomer.id newcomer.parent }
-        ensures ok { OnOk result (self.new ≡ with_newcomer self.old newcomer) }
+        ensures ok { OnOk result (self.new ≡ tree_with_newcomer self.old newcomer) }
         ensures err { OnErr result (self.new ≡ self.old) }
     {
         enter(&mut self.nodes, newcomer)
@@ -74,10 +74,10 @@ impl Tree {
         origin: Origin,
     ) -> Result<(), Memory>
         requires can_come { CanCome self.old id (Some parent) }
-        requires applies { IsOk (child_of (genome_in self.old parent) (record_of origin)) }
+        requires applies { IsOk (child_of (genome_in_tree self.old parent) (record_of origin)) }
         ensures ok { OnOk result ((child : List Letter)
-            → child_of (genome_in self.old parent) (record_of origin) ≡ Ok child
-            → self.new ≡ with_newcomer self.old (record {
+            → child_of (genome_in_tree self.old parent) (record_of origin) ≡ Ok child
+            → self.new ≡ tree_with_newcomer self.old (record {
               id = id;
               parent = Some parent;
               update = update;
@@ -107,7 +107,7 @@ impl Tree {
         genome: Arc<Genome, Global>,
     ) -> Result<(), Memory>
         requires { CanCome self.old id None }
-        ensures ok { OnOk result (self.new ≡ with_newcomer self.old (record {
+        ensures ok { OnOk result (self.new ≡ tree_with_newcomer self.old (record {
           id = id;
           parent = None;
           update = update;
@@ -131,7 +131,7 @@ impl Tree {
     /// the tree. It takes no memory.
     pub fn died(&mut self, id: u64)
         requires { Contains self.old.living id }
-        ensures { self.new ≡ with_death self.old id }
+        ensures { self.new ≡ tree_with_death self.old id }
     {
         bury(&mut self.nodes, id);
     }
@@ -139,7 +139,7 @@ impl Tree {
     /// The line of descent of an organism of the tree, its founder first.
     pub fn path(&self, alloc: Global, id: u64) -> Result<Path, Memory>
         requires { IsSome (link_of self.now.links id) }
-        ensures { IfOk result (λ path. path ≡ line_of self.now.links id) }
+        ensures { IfOk result (λ path. path ≡ line_of_descent self.now.links id) }
     {
         let mut links = Vec::new(alloc);
         let mut next = Some(id);
@@ -157,7 +157,7 @@ impl Tree {
     /// How many organisms live or are an ancestor of one that lives.
     pub fn nodes(&self) -> u64
         ensures count { result ≡ length self.now.links }
-        ensures kept { IsKept self.now }
+        ensures kept { IsPruned self.now }
         ensures living { (id : ℕ) → Contains self.now.living id
             → IsSome (link_of self.now.links id) }
     {
@@ -167,8 +167,9 @@ impl Tree {
     /// The genome that a record makes of that of an organism of the tree.
     fn child(&self, alloc: Global, parent: u64, origin: &Origin) -> Result<Genome, Memory>
         requires there { IsSome (link_of self.now.links parent) }
-        requires applies { IsOk (child_of (genome_in self.now parent) (record_of origin.now)) }
-        ensures { IfOk result (λ child. child_of (genome_in self.now parent) (record_of origin.now)
+        requires applies { IsOk (child_of (genome_in_tree self.now parent) (record_of origin.now)) }
+        ensures { IfOk result (λ child. child_of (genome_in_tree self.now parent)
+            (record_of origin.now)
             ≡ Ok (letters child)) }
     {
         let Some(node) = self.nodes.get(&parent) else {

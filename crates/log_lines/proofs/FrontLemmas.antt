@@ -8,7 +8,7 @@ use Rattle.std.proofs.lemmas.Bool.{cases_Bool}
 use Rattle.std.proofs.lemmas.Bool.Decides.{nat_tests}
 use Rattle.std.proofs.lemmas.List.{take_all}
 use Rattle.log_lines.specs.Line.{Line}
-use Rattle.log_lines.specs.Forms.{Form, forms}
+use Rattle.log_lines.specs.Forms.{LineForm, forms}
 use Rattle.numerals.specs.Numeral.{digits_len, is_numeral, leading_digits, number_of}
 use Rattle.log_lines.specs.Kinds.{over_field}
 use Rattle.log_lines.specs.LineReading.{line_of, read_by, read_words}
@@ -253,29 +253,10 @@ word_other word words isnt =
     some_read words read ∙ ap (option_map (λ a. (a, words)))
     (sym (ap (λ (v : Bool). cond v (Some None) (option_map Some read)) isnt))
 
--- a text that begins with no dash
-pub other_first : (bytes : List ℕ) → (get_or bytes 0 0 ≡ 45 → ⊥)
-    → as_some (read_first (number_of 0 18446744073709551615) (cut bytes))
-    ≡ read_first over_field.read (cut bytes)
-other_first [] apart = word_other [] [] refl
-other_first (b ∷ bs) apart = elim (cases_Bool (b == 32)) [
-  | inl is ↦
-      let same = cut_here b bs is in
-      ap (λ (words : List (List ℕ)). as_some (read_first (number_of 0 18446744073709551615) words))
-      same ∙ word_other [] (cut bs) refl ∙ ap (read_first over_field.read) (sym same)
-  | inr isnt ↦
-      let some = onto_some b (cut bs) in
-      let same = cut_on b bs isnt ∙ some.2 in
-      let other : (b == 45) ≡ false = grind (arith, nat_tests, apart) in
-      ap (λ (words : List (List ℕ)). as_some (read_first (number_of 0 18446744073709551615) words))
-      same ∙ word_other (b ∷ some.0) some.1 (ap (λ (v : Bool). v && bytes_eq some.0 []) other)
-      ∙ ap (read_first over_field.read) (sym same)
-]
-
 -- ---- the mark of a line
 
 -- each form of a table has at least a word behind its mark
-abbrev need_words : List Form → Bool
+abbrev need_words : List LineForm → Bool
 need_words [] = true
 need_words (form ∷ others) = cond (is_some (form.row.read [])) false (need_words others)
 
@@ -288,7 +269,7 @@ none_given make None false others rest need behind = behind need
 none_given make (Some a) here others rest need behind = absurd cc
 
 -- a mark alone is no line
-bare_mark : (table : List Form) → need_words table ≡ true → (mark : List ℕ)
+bare_mark : (table : List LineForm) → need_words table ≡ true → (mark : List ℕ)
     → read_by table mark [] ≡ None
 bare_mark [] need mark = refl
 bare_mark (form ∷ others) need mark =
@@ -301,7 +282,7 @@ cond_skip true x o is = is
 cond_skip false x o is = is
 
 -- a mark of two bytes is that of no form
-long_mark : (table : List Form) (b c : ℕ) (word : List ℕ) (words : List (List ℕ))
+long_mark : (table : List LineForm) (b c : ℕ) (word : List ℕ) (words : List (List ℕ))
     → read_by table (b ∷ c ∷ word) words ≡ None
 long_mark [] b c word words = refl
 long_mark (form ∷ others) b c word words =

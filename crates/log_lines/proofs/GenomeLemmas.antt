@@ -1,43 +1,47 @@
 -- What letters read one by one say of a genome.
-use Rattle.std.proofs.Common.{◌≡◌, ℕ, false, cond, List, length, Option, Some, None, refl, sym, ap, ◌∙◌}
+use Rattle.std.proofs.Common.{◌≡◌, ℕ, Bool, true, false, cond, List, length, Option, Some, None, refl, sym, ap, ◌∙◌}
 use Rattle.std.specs.Prelude.{option_and_then}
-use Rattle.std.proofs.lemmas.List.{length-map}
 use Rattle.instruction_set.specs.declared.letter.Letter.{Letter}
-use Rattle.instruction_set.specs.Letter.{byte_of, letter_of_byte}
+use Rattle.instruction_set.specs.Letter.{letter_of_byte}
 use Rattle.mutations.specs.Change.{is_genome_length}
-use Rattle.log_lines.specs.Fields.{given, each, genome_of}
-use Rattle.log_lines.proofs.FieldLaws.{letters_taken}
+use Rattle.log_lines.specs.Fields.{given, each, genome_of_word}
+use Rattle.log_lines.proofs.FieldLaws.{letters_law}
+use Rattle.log_lines.proofs.ListLaws.{each_length}
 
--- each letter has a byte
-each_length : (word : List ℕ) (ls : List Letter) → each letter_of_byte word ≡ Some ls
-    → length ls ≡ length word
-each_length word ls is =
-    sym (length-map ls byte_of) ∙ ap (λ (l : List ℕ). length l) (letters_taken word ls is)
+-- nothing is given either way
+nothing : (b : Bool) → ◌≡◌ {A = Option (List Letter)} (cond b None None) None
+nothing true = refl
+nothing false = refl
 
--- letters that are read are a genome where they have its length
-pub genome_some : (word : List ℕ) (ls : List Letter) → Some ls ≡ each letter_of_byte word
-    → cond (is_genome_length (length ls)) (Some ls) None ≡ genome_of word
-unfolding genome_of
-genome_some word ls is =
-    ap (λ (o : Option (List Letter)). option_and_then (λ l. given (is_genome_length (length l)) l)
-    o) is
+-- letters of a known length are a genome, or not, by this length
+by_length : (n : ℕ) (o : Option (List Letter)) → ((ls : List Letter) → o ≡ Some ls → length ls ≡ n)
+    → cond (is_genome_length n) o None
+    ≡ option_and_then (λ ls. given (is_genome_length (length ls)) ls) o
+by_length n None long = nothing (is_genome_length n)
+by_length n (Some ls) long = rw (long ls refl) refl
 
--- without letters there is no genome
-pub genome_none : (word : List ℕ) → None ≡ each letter_of_byte word → None ≡ genome_of word
-unfolding genome_of
-genome_none word is = ap
-    (λ (o : Option (List Letter)). option_and_then (λ l. given (is_genome_length (length l)) l) o)
-    is
+-- the letters of a word are a genome, or not, by the word's length
+genome_by_length : (word : List ℕ)
+    → cond (is_genome_length (length word)) (each letter_of_byte word) None ≡ genome_of_word word
+unfolding genome_of_word
+genome_by_length word =
+    by_length (length word) (each letter_of_byte word)
+    (λ ls is. each_length letter_of_byte word ls is)
 
--- letters of another length are no genome
-other_length : (n : ℕ) (o : Option (List Letter)) → is_genome_length n ≡ false
-    → ((ls : List Letter) → o ≡ Some ls → length ls ≡ n)
-    → None ≡ option_and_then (λ l. given (is_genome_length (length l)) l) o
-other_length n None bad long = refl
-other_length n (Some ls) bad long = rw (long ls refl, bad) refl
+-- a word of a genome's length is a genome where each byte is a letter
+pub genome_each : (word : List ℕ) → is_genome_length (length word) ≡ true
+    → each letter_of_byte word ≡ genome_of_word word
+genome_each word fits = sym (ap (λ (b : Bool). cond b (each letter_of_byte word) None) fits)
+    ∙ genome_by_length word
 
 -- a word of another length is no genome
-pub genome_other : (word : List ℕ) → is_genome_length (length word) ≡ false → None ≡ genome_of word
-unfolding genome_of
-genome_other word bad =
-    other_length (length word) (each letter_of_byte word) bad (λ ls is. each_length word ls is)
+pub genome_other : (word : List ℕ) → is_genome_length (length word) ≡ false
+    → None ≡ genome_of_word word
+genome_other word bad = sym (ap (λ (b : Bool). cond b (each letter_of_byte word) None) bad)
+    ∙ genome_by_length word
+
+-- letters that were read as a genome have its length
+pub genome_given : (word : List ℕ) (ls : List Letter) → Some ls ≡ genome_of_word word
+    → cond (is_genome_length (length ls)) (Some ls) None ≡ genome_of_word word
+genome_given word ls is =
+    ap (λ (b : Bool). cond b (Some ls) None) (letters_law.takes word ls (sym is)).1 ∙ is

@@ -13,11 +13,12 @@ use Rattle.mutations.specs.declared.rate_name.RateName.TheVariants as rate
 use Rattle.mutations.specs.RecordForm.{FitsChange, in_order}
 use Rattle.mutations.specs.RateNames.{name_of_rate, rate_named, rate_names}
 use Rattle.numerals.specs.Numeral.{number_of}
-use Rattle.log_lines.specs.Fields.{Field, genome_of}
-use Rattle.log_lines.specs.Kinds.{small, large, rate_name, change_text, read_lettered, read_change, change, over_field, base_field, changes_field}
+use Rattle.log_lines.specs.Fields.{Field, genome_of_word}
+use Rattle.log_lines.specs.Kinds.{small, large, rate_name, change_text, read_lettered, read_change, change_field, over_field, base_field, changes_field}
 use Rattle.log_lines.specs.Words.{ToChange}
 use Rattle.log_lines.proofs.LetterLemmas.{byte_of_letter, letter_of_byte-byte_of, letter_above, found_passes}
-use Rattle.log_lines.proofs.FieldLaws.{Above, IsField, OneNumber, above_append, same_bytes, chosen, number_law, letters_law, or_sign_law, where_law, list_law, field_lower, some_map, some_then}
+use Rattle.log_lines.proofs.FieldLaws.{Above, IsField, OneNumber, above_append, same_bytes, chosen, number_law, letters_law, or_sign_law, where_law, field_lower, some_map, some_then}
+use Rattle.log_lines.proofs.ListLaws.{list_law}
 
 -- the word is the text of the change, which can be written
 abbrev ChangeIs : List ℕ → Change → Type 0
@@ -130,7 +131,7 @@ module _ (numbers : OneNumber) where
   change_plain (Delete at) fits = (omega arith, small_law.plain at fits)
 
   -- a change
-  change_law : IsField 44 change
+  change_law : IsField 44 change_field
   change_law = record { again = change_again; takes = change_takes; plain = change_plain }
 
   -- ---- rates
@@ -177,8 +178,8 @@ module _ (numbers : OneNumber) where
   none_number = numbers.no_minus 0 18446744073709551615 []
 
   -- an equality sign is no genome
-  none_genome : genome_of (61 ∷ []) ≡ None
-  unfolding genome_of letter_of_byte
+  none_genome : genome_of_word (61 ∷ []) ≡ None
+  unfolding genome_of_word letter_of_byte
   none_genome = refl
 
   -- who stood there

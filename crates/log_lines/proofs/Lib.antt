@@ -2,6 +2,8 @@ pub mod TextLemmas
 pub mod KeptLemmas
 pub mod LetterLemmas
 pub mod FieldLaws
+pub mod ListLaws
+pub mod RowLaws
 pub mod KindLaws
 pub mod LineLaws
 pub mod WordLemmas

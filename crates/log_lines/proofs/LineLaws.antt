@@ -1,83 +1,50 @@
 -- A line that is written is read again, and a line that is read was written so: each form of the
 -- table has the laws of `IsForm`, and the rest is said once for all forms.
-use Rattle.std.proofs.Common.{◌≡◌, ℕ, ◌<◌, true, List, [], ◌∷◌, ◌++◌, Some, refl, sym, ap, subst, ◌∙◌, arith, inl, inr, append-nil}
-use Rattle.std.specs.Prelude.{option_map, ◌==◌}
+use Rattle.std.proofs.Common.{◌≡◌, ℕ, ◌<◌, true, List, [], ◌∷◌, ◌++◌, Some, refl, sym, ap, subst, ◌∙◌, arith, inl, inr}
+use Rattle.std.specs.Prelude.{option_map}
 use Rattle.std.specs.Str.{bytes_eq}
-use Rattle.std.specs.List.{slice_split, join_with_byte, AllByRecursion}
+use Rattle.std.specs.List.{join_with_byte}
 use Rattle.std.proofs.lemmas.List.Splits.{join_with_byte-slice_split}
-use Rattle.log_lines.specs.Fields.{Field, number}
+use Rattle.random_streams.specs.RandomStream.{greatest_side, million}
+use Rattle.log_lines.specs.Fields.{Field}
 use Rattle.log_lines.specs.Rows.{Row, ◌◂◌}
 use Rattle.log_lines.specs.Line.{Line, Start, Death, Birth, Injected, Cleared, Rate, Count, End}
-use Rattle.log_lines.specs.Kinds.{small, large, death_row, arrival_then, record_row}
-use Rattle.log_lines.specs.Forms.{Form, FilledForm, forms, filled_form, start_form, death_form, birth_form, injected_form, cleared_form, rate_form, count_form, end_form}
+use Rattle.log_lines.specs.Kinds.{small, large, side, death_row, arrival_then, record_row}
+use Rattle.log_lines.specs.Forms.{LineForm, FilledForm, forms, filled_form, start_form, death_form, birth_form, injected_form, cleared_form, rate_form, count_form, end_form}
 use Rattle.log_lines.specs.LineText.{words_text, filled_text, FitsForm, row_text, HasForm}
 use Rattle.log_lines.specs.LineReading.{read_as, read_by, read_words, line_of}
-use Rattle.log_lines.proofs.FieldLaws.{Above, IsField, IsRow, OneNumber, above_lower, above_append, same_bytes, split_first, split_one, chosen, some_map, number_law, letters_law, last_law, times_law, row_law}
+use Rattle.log_lines.proofs.FieldLaws.{Above, IsField, IsRow, OneNumber, chosen, some_map, number_law, letters_law, last_law, row_law}
+use Rattle.log_lines.proofs.ListLaws.{times_law}
+use Rattle.log_lines.proofs.RowLaws.{words_in, joined_words, row_words, row_plain, row_takes}
 use Rattle.log_lines.proofs.KindLaws.{low, small_law, large_law, rate_law, over_law, base_law, changes_law}
 
 -- a form with these fields
-abbrev filled : (form : Form) → form.Fields → FilledForm
+abbrev filled : (form : LineForm) → form.Fields → FilledForm
 filled form fields = record { form = form; fields = fields }
 
 -- what is proved of a form: its mark is above a space, its words are read as they were written, the
 -- line of some fields has the form with these fields, and the table gives the form at its mark
-record IsForm (form : Form) : Type 1 where
+record IsForm (form : LineForm) : Type 1 where
   high : 32 < form.mark
   words : IsRow 32 form.row
   fills : (fields : form.Fields) → filled_form (form.line fields) ≡ filled form fields
   found : (ws : List (List ℕ)) → read_by forms (form.mark ∷ []) ws ≡ read_as form ws
 
 -- each of the forms has the laws
-AreForms : List Form → Type 1
+AreForms : List LineForm → Type 1
 AreForms [] = Unit {1}
 AreForms (form ∷ others) = IsForm form × AreForms others
 
--- ---- words
-
--- the words of a text
-abbrev words_in : List ℕ → List (List ℕ)
-words_in bytes = slice_split (λ b. b == 32) bytes
-
--- a word and the words behind it are parted again
-split_words : (word : List ℕ) (words : List (List ℕ)) → Above 32 word
-    → AllByRecursion (Above 32) words → words_in (word ++ words_text words) ≡ word ∷ words
-split_words word [] first others = ap words_in (append-nil word) ∙ split_one 32 word first
-split_words word (next ∷ words) first others =
-    split_first 32 word (next ++ words_text words) first
-    ∙ ap (λ (l : List (List ℕ)). word ∷ l) (split_words next words others.0 others.1)
-
--- words joined by spaces are the first one, and the others each behind a space
-joined_words : (word : List ℕ) (words : List (List ℕ))
-    → join_with_byte 32 (word ∷ words) ≡ word ++ words_text words
-joined_words word [] = sym (append-nil word)
-joined_words word (next ∷ words) = ap (λ (l : List ℕ). word ++ 32 ∷ l) (joined_words next words)
-
--- words without a byte up to a space have no newline
-words_plain : (words : List (List ℕ)) → AllByRecursion (Above 32) words
-    → Above 10 (words_text words)
-words_plain [] all = tt
-words_plain (word ∷ words) all = (
-  omega arith,
-  above_append 10 word (words_text words)
-      (above_lower 10 32 word (omega arith) all.0) (words_plain words all.1),
-)
-
 -- ---- a form
 
-module _ (form : Form) (law : IsForm form) where
-  -- its mark and its words are the words of its text
-  form_words : (fields : form.Fields) → form.row.Fits fields
-      → words_in (filled_text (filled form fields)) ≡ (form.mark ∷ []) ∷ form.row.texts fields
-  form_words fields fits =
-      split_words (form.mark ∷ []) (form.row.texts fields) (law.high, tt)
-      (law.words.plain fields fits)
-
+module _ (form : LineForm) (law : IsForm form) where
   -- its text is read again
   form_again : (fields : form.Fields) → form.row.Fits fields
       → line_of (filled_text (filled form fields)) ≡ Some (form.line fields)
   unfolding line_of
   form_again fields fits =
-      ap read_words (form_words fields fits) ∙ law.found (form.row.texts fields)
+      ap read_words (row_words law.words form.mark fields law.high fits)
+      ∙ law.found (form.row.texts fields)
       ∙ ap (option_map form.line) (law.words.again fields fits)
 
   -- a line that is read by it has it, and this text
@@ -86,24 +53,13 @@ module _ (form : Form) (law : IsForm form) where
       → (row_text line ≡ word ++ words_text words) × HasForm line
   form_takes word words line same is =
       let some = some_map form.line (form.row.read words) line is in
-      let t = law.words.takes words some.0 some.1 in
-      let first : word ≡ form.mark ∷ [] = same_bytes word (form.mark ∷ []) same in
-      let text : filled_text (filled form some.0) ≡ word ++ words_text words =
-      ap (λ (ws : List (List ℕ)). form.mark ∷ words_text ws) t.0
-      ∙ ap (λ (w : List ℕ). w ++ words_text words) (sym first) in
       let has : filled_form line ≡ filled form some.0 =
       ap filled_form (sym some.2) ∙ law.fills some.0 in
       subst (λ (f : FilledForm). (filled_text f ≡ word ++ words_text words) × FitsForm f) (sym has)
-      (text, t.1)
-
-  -- its text has no newline
-  form_plain : (fields : form.Fields) → form.row.Fits fields
-      → Above 10 (filled_text (filled form fields))
-  form_plain fields fits =
-      (omega (arith, law.high), words_plain (form.row.texts fields) (law.words.plain fields fits))
+      (row_takes law.words form.mark word words some.0 same some.1)
 
 -- a line that a table reads has this text
-table_takes : (table : List Form) → AreForms table → (word : List ℕ) (words : List (List ℕ))
+table_takes : (table : List LineForm) → AreForms table → (word : List ℕ) (words : List (List ℕ))
     (line : Line) → read_by table word words ≡ Some line
     → (row_text line ≡ word ++ words_text words) × HasForm line
 unfolding AreForms
@@ -131,8 +87,8 @@ module _ (numbers : OneNumber) where
   large32 = low (large_law numbers)
 
   -- sides of a world
-  side32 : IsField 32 (number 1 256)
-  side32 = low (number_law numbers 1 256 (omega arith))
+  side32 : IsField 32 side
+  side32 = low (number_law numbers 1 greatest_side (omega arith))
 
   -- the words of a death
   death_words : IsRow 32 death_row
@@ -194,7 +150,7 @@ module _ (numbers : OneNumber) where
       record {
         high = omega arith;
         words = small32 ▸ low (rate_law numbers)
-            ▸ last_law (low (number_law numbers 0 1000000 (omega arith)));
+            ▸ last_law (low (number_law numbers 0 million (omega arith)));
         fills = λ fields. refl;
         found = λ ws. refl;
       }
@@ -265,4 +221,6 @@ module _ (numbers : OneNumber) where
   -- a line has no newline in it
   pub line_plain : (line : Line) → HasForm line → Above 10 (row_text line)
   line_plain line fits =
-      let has = filled_form line in form_plain has.form (line_law line).0 has.fields fits
+      let has = filled_form line in
+      let law = (line_law line).0 in
+      row_plain law.words has.form.mark has.fields law.high fits

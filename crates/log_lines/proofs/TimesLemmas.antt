@@ -1,7 +1,8 @@
 -- Reading as many numbers as end a line, one by one.
-use Rattle.std.proofs.Common.{◌≡◌, ℕ, suc, ◌+◌, ◌<◌, Bool, true, false, cond, List, [], ◌∷◌, ◌++◌, length, Option, Some, None, refl, sym, ap, ◌∙◌, arith, inl, inr, ◌⊎◌, append_assoc, append-nil, length-append, eq-eqb}
+use Rattle.std.proofs.Common.{◌≡◌, ℕ, suc, ◌+◌, ◌<◌, Bool, true, false, cond, List, [], ◌∷◌, ◌++◌, length, get_or, take, set, Option, Some, None, refl, sym, ap, ◌∙◌, arith, inl, inr, ◌⊎◌, append_assoc, append-nil, length-append, length-set, eq-eqb}
 use Rattle.std.specs.Prelude.{option_and_then, option_map, ◌==◌}
 use Rattle.std.proofs.lemmas.Bool.Decides.{nat_tests}
+use Rattle.std.proofs.lemmas.List.{take_more, take-set-le, get_or-set_same}
 use Rattle.log_lines.specs.Fields.{each}
 use Rattle.log_lines.specs.Rows.{read_last}
 use Rattle.log_lines.specs.Words.{read_first}
@@ -21,16 +22,22 @@ same_map : (o : Option (List ℕ)) → o ≡ option_map (λ others. [] ++ others
 same_map None = refl
 same_map (Some l) = refl
 
--- no words were read yet
-pub read_none : (read : List ℕ → Option ℕ) (words : List (List ℕ)) → HasRead read words words []
-read_none read words = record { count = omega arith; values = same_map (each read words) }
+-- one item more in front
+pub map_more : {A : Type 0} (front : List A) (a : A) (o : Option (List A))
+    → option_map (λ others. front ++ others) (option_map (λ others. a ∷ others) o)
+    ≡ option_map (λ others. (front ++ a ∷ []) ++ others) o
+map_more front a None = refl
+map_more front a (Some l) = ap Some (sym (append_assoc front (a ∷ []) l))
 
--- one number more in front
-map_more : (front : List ℕ) (n : ℕ) (o : Option (List ℕ))
-    → option_map (λ others. front ++ others) (option_map (λ others. n ∷ others) o)
-    ≡ option_map (λ others. (front ++ n ∷ []) ++ others) o
-map_more front n None = refl
-map_more front n (Some l) = ap Some (sym (append_assoc front (n ∷ []) l))
+-- the front of a list, an item of which was set
+pub front_more : {A : Type 0} (items : List A) (k : ℕ) (item : A) → k < length items
+    → take (k + 1) (set items k item) ≡ take k items ++ item ∷ []
+front_more {A = A} items k item low =
+    let within : k < length (set items k item) = omega (arith, low, length-set items k item) in
+    take_more (set items k item) k item within
+    ∙ ap (λ (l : List A). l ++ get_or (set items k item) k item ∷ [])
+    (take-set-le k items k item (omega arith))
+    ∙ ap (λ (a : A). take k items ++ a ∷ []) (get_or-set_same items k item item low)
 
 -- something is not nothing
 some_none : (n : ℕ) (behind : List (List ℕ))
@@ -95,21 +102,6 @@ each_fails read (word ∷ words) is =
 either_none : (b : Bool) → ◌≡◌ {A = Option (List ℕ)} None (cond b None None)
 either_none true = refl
 either_none false = refl
-
--- too few words, or one that is not read
-pub read_fails : (read : List ℕ → Option ℕ) (n : ℕ) (words left : List (List ℕ)) (front : List ℕ)
-    → HasRead read words left front → length front < n → None ≡ read_first read left
-    → None ≡ read_times read n words
-read_fails read n words left front has short is = elim (each_fails read left is) [
-  | inl empty ↦
-      let none : length left ≡ 0 = ap (λ (l : List (List ℕ)). length l) empty in
-      let other : (length words == n) ≡ false = grind (arith, nat_tests, has.count) in
-      rw other refl
-  | inr fails ↦
-      let all : each read words ≡ None = has.values
-      ∙ ap (λ (o : Option (List ℕ)). option_map (λ others. front ++ others) o) fails in
-      rw all (either_none (length words == n))
-]
 
 -- as many words as are wanted
 pub read_all : (read : List ℕ → Option ℕ) (n : ℕ) (words : List (List ℕ)) (front : List ℕ)

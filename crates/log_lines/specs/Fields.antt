@@ -34,16 +34,16 @@ each read (x ∷ xs) =
     option_and_then (λ a. option_map (λ others. a ∷ others) (each read xs)) (read x)
 
 -- the genome that a word spells, a byte a letter
-unfoldable pub genome_of : List ℕ → Option (List Letter)
-genome_of word =
+unfoldable pub genome_of_word : List ℕ → Option (List Letter)
+genome_of_word word =
     option_and_then (λ ls. given (is_genome_length (length ls)) ls) (each letter_of_byte word)
 
 -- the letters of a genome
-abbrev pub letters : Field (List Letter)
-letters =
+abbrev pub genome_field : Field (List Letter)
+genome_field =
     record {
       text = map byte_of;
-      read = λ word. genome_of word;
+      read = λ word. genome_of_word word;
       Fits = λ ls. is_genome_length (length ls) ≡ true;
     }
 

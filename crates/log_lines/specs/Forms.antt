@@ -2,15 +2,16 @@
 use Prim.Native.Char.{code}
 use Rattle.std.specs.Prelude.{ℕ, List, [], ◌∷◌, Option}
 use Rattle.instruction_set.specs.declared.letter.Letter.{Letter}
+use Rattle.random_streams.specs.RandomStream.{million}
 use Rattle.mutations.specs.declared.change.Change.{Change}
 use Rattle.mutations.specs.declared.rate_name.RateName.{RateName}
 use Rattle.log_lines.specs.Line.{Line, Start, Death, Birth, Injected, Cleared, Rate, Count, End}
-use Rattle.log_lines.specs.Fields.{number, letters}
+use Rattle.log_lines.specs.Fields.{number, genome_field}
 use Rattle.log_lines.specs.Rows.{Row, last, times, ◌◂◌}
-use Rattle.log_lines.specs.Kinds.{small, large, rate_name, death_row, arrival_then, record_row}
+use Rattle.log_lines.specs.Kinds.{small, large, side, rate_name, death_row, arrival_then, record_row}
 
 -- a form of lines: the mark in front, the words of the fields, and the line that the fields tell
-pub record Form : Type 1 where
+pub record LineForm : Type 1 where
   pub Fields : Type 0
   pub mark : ℕ
   pub row : Row Fields
@@ -18,21 +19,21 @@ pub record Form : Type 1 where
 
 -- a form whose fields are filled in
 pub record FilledForm : Type 1 where
-  pub form : Form
+  pub form : LineForm
   pub fields : form.Fields
 
 -- the first line: the version, the width, the height, the founder's cell and its letters
-abbrev pub start_form : Form
+abbrev pub start_form : LineForm
 start_form =
     record {
       Fields = ℕ × (ℕ × (ℕ × (ℕ × List Letter)));
       mark = code "L";
-      row = number 1 2 ◂ number 1 256 ◂ number 1 256 ◂ small ◂ last letters;
+      row = number 1 2 ◂ side ◂ side ◂ small ◂ last genome_field;
       line = λ (version, (width, (height, (cell, genome)))). Start version width height cell genome;
     }
 
 -- a death of age: the id, the update and the cell
-abbrev pub death_form : Form
+abbrev pub death_form : LineForm
 death_form =
     record {
       Fields = ℕ × (ℕ × ℕ);
@@ -42,7 +43,7 @@ death_form =
     }
 
 -- a birth: the id, the parent, the update, the cell, who stood there, the base and the changes
-abbrev pub birth_form : Form
+abbrev pub birth_form : LineForm
 birth_form =
     record {
       Fields = ℕ × (ℕ × (ℕ × (ℕ × (Option ℕ × (Option (List Letter) × List Change)))));
@@ -53,17 +54,17 @@ birth_form =
     }
 
 -- an injected organism: the id, the update, the cell, who stood there and the letters
-abbrev pub injected_form : Form
+abbrev pub injected_form : LineForm
 injected_form =
     record {
       Fields = ℕ × (ℕ × (ℕ × (Option ℕ × List Letter)));
       mark = code "I";
-      row = large ◂ arrival_then (last letters);
+      row = large ◂ arrival_then (last genome_field);
       line = λ (id, (update, (cell, (over, genome)))). Injected id update cell over genome;
     }
 
 -- an organism cleared by an event: the id, the update and the cell
-abbrev pub cleared_form : Form
+abbrev pub cleared_form : LineForm
 cleared_form =
     record {
       Fields = ℕ × (ℕ × ℕ);
@@ -73,17 +74,17 @@ cleared_form =
     }
 
 -- a rate: the update, the name and the parts per million
-abbrev pub rate_form : Form
+abbrev pub rate_form : LineForm
 rate_form =
     record {
       Fields = ℕ × (RateName × ℕ);
       mark = code "R";
-      row = small ◂ rate_name ◂ last (number 0 1000000);
+      row = small ◂ rate_name ◂ last (number 0 million);
       line = λ (update, (name, ppm)). Rate update name ppm;
     }
 
 -- the end of an update: it, living, births, deaths, genotypes, merit and the nine task counts
-abbrev pub count_form : Form
+abbrev pub count_form : LineForm
 count_form =
     record {
       Fields = ℕ × (ℕ × (ℕ × (ℕ × (ℕ × (ℕ × List ℕ)))));
@@ -102,11 +103,11 @@ count_form =
     }
 
 -- the last line: the number of updates
-abbrev pub end_form : Form
+abbrev pub end_form : LineForm
 end_form = record { Fields = ℕ; mark = code "E"; row = last small; line = End }
 
 -- the table of the forms
-abbrev pub forms : List Form
+abbrev pub forms : List LineForm
 forms =
     start_form
     ∷ death_form

@@ -3,13 +3,13 @@ use Prim.Native.Char.{code}
 use Rattle.std.specs.Prelude.{ℕ, ◌-◌, List, [], ◌∷◌, ◌++◌, length, take, Option, None, ◌==◌, if◌then◌else◌, option_and_then, option_map, decimal, slice_index}
 use Rattle.instruction_set.specs.declared.letter.Letter.{Letter}
 use Rattle.instruction_set.specs.Letter.{byte_of, letter_of_byte}
+use Rattle.random_streams.specs.RandomStream.{greatest_side}
 use Rattle.mutations.specs.declared.change.Change.{Change}
 use Rattle.mutations.specs.declared.change.Change.TheVariants.{Point, Insert, Delete}
 use Rattle.mutations.specs.declared.rate_name.RateName.{RateName}
 use Rattle.mutations.specs.RateNames.{name_of_rate, rate_named}
 use Rattle.mutations.specs.RecordForm.{FitsChange, in_order}
-use Rattle.numerals.specs.Numeral.{number_of}
-use Rattle.log_lines.specs.Fields.{Field, number, letters, or_sign, list_of, where_true}
+use Rattle.log_lines.specs.Fields.{Field, number, genome_field, or_sign, list_of, where_true}
 use Rattle.log_lines.specs.Rows.{Row, last, ◌◂◌}
 
 -- a number below 2 ^ 32
@@ -19,6 +19,10 @@ small = number 0 4294967295
 -- a number below 2 ^ 64
 abbrev pub large : Field ℕ
 large = number 0 18446744073709551615
+
+-- a side of a world
+abbrev pub side : Field ℕ
+side = number 1 greatest_side
 
 -- a rate by its name
 abbrev pub rate_name : Field RateName
@@ -36,7 +40,7 @@ read_lettered make rest =
     option_and_then
     (λ at. option_map (λ letter. make at letter)
     (letter_of_byte (slice_index rest (length rest - 1))))
-    (number_of 0 4294967295 (take (length rest - 1) rest))
+    (small.read (take (length rest - 1) rest))
 
 -- the change that a word writes
 abbrev pub read_change : List ℕ → Option Change
@@ -44,12 +48,12 @@ read_change [] = None
 read_change (mark ∷ rest) =
     if mark == code "p" then read_lettered Point rest
     else if mark == code "i" then read_lettered Insert rest
-    else if mark == code "d" then option_map Delete (number_of 0 4294967295 rest)
+    else if mark == code "d" then option_map Delete (small.read rest)
     else None
 
 -- one change of a birth's record
-abbrev pub change : Field Change
-change = record { text = change_text; read = read_change; Fits = FitsChange }
+abbrev pub change_field : Field Change
+change_field = record { text = change_text; read = read_change; Fits = FitsChange }
 
 -- who stood in a cell
 abbrev pub over_field : Field (Option ℕ)
@@ -57,11 +61,11 @@ over_field = or_sign (code "-") large
 
 -- `=` for the parent's letters, or written ones
 abbrev pub base_field : Field (Option (List Letter))
-base_field = or_sign (code "=") letters
+base_field = or_sign (code "=") genome_field
 
 -- the changes of a birth, in their order
 abbrev pub changes_field : Field (List Change)
-changes_field = where_true in_order (list_of change)
+changes_field = where_true in_order (list_of change_field)
 
 -- an id, the update and the cell
 abbrev pub death_row : Row (ℕ × (ℕ × ℕ))

@@ -20,15 +20,15 @@ pub data Line : Type 0 where
   End : (updates : ℕ) → Line
 
 -- the values of a line
-abbrev pub values_of : LogLine → Line
-values_of (log_line.Start version width height cell genome) =
+abbrev pub line_values : LogLine → Line
+line_values (log_line.Start version width height cell genome) =
     Start version width height cell (letters genome)
-values_of (log_line.Death id update cell) = Death id update cell
-values_of (log_line.Birth id parent update cell over origin) =
+line_values (log_line.Death id update cell) = Death id update cell
+line_values (log_line.Birth id parent update cell over origin) =
     Birth id parent update cell over (record_of origin)
-values_of (log_line.Injected id update cell over genome) =
+line_values (log_line.Injected id update cell over genome) =
     Injected id update cell over (letters genome)
-values_of (log_line.Cleared id update cell) = Cleared id update cell
-values_of (log_line.Rate update name ppm) = Rate update name ppm
-values_of (log_line.Count stats) = Count stats
-values_of (log_line.End updates) = End updates
+line_values (log_line.Cleared id update cell) = Cleared id update cell
+line_values (log_line.Rate update name ppm) = Rate update name ppm
+line_values (log_line.Count stats) = Count stats
+line_values (log_line.End updates) = End updates

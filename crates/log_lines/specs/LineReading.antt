@@ -4,14 +4,14 @@ use Rattle.std.specs.Prelude.{ℕ, List, [], ◌∷◌, Option, None, ◌==◌, 
 use Rattle.std.specs.Str.{bytes_eq}
 use Rattle.std.specs.List.{slice_split}
 use Rattle.log_lines.specs.Line.{Line}
-use Rattle.log_lines.specs.Forms.{Form, forms}
+use Rattle.log_lines.specs.Forms.{LineForm, forms}
 
 -- the line of a form that has these words behind its mark
-abbrev pub read_as : Form → List (List ℕ) → Option Line
+abbrev pub read_as : LineForm → List (List ℕ) → Option Line
 read_as form words = option_map form.line (form.row.read words)
 
 -- the line with this mark and these words, by the first form of a table that has the mark
-abbrev pub read_by : List Form → List ℕ → List (List ℕ) → Option Line
+abbrev pub read_by : List LineForm → List ℕ → List (List ℕ) → Option Line
 read_by [] mark words = None
 read_by (form ∷ others) mark words =
     if bytes_eq mark (form.mark ∷ []) then read_as form words else read_by others mark words

@@ -1,18 +1,22 @@
 -- The text of a line (docs/FORMATS.md, "The log").
 use Prim.Native.Char.{code}
-use Rattle.std.specs.Prelude.{ℕ, List, [], ◌∷◌, ◌++◌}
+use Rattle.std.specs.Prelude.{ℕ, List, [], ◌∷◌, ◌++◌, map, decimal}
 use Rattle.log_lines.specs.Rows.{Row}
 use Rattle.log_lines.specs.Line.{Line}
 use Rattle.log_lines.specs.Forms.{FilledForm, filled_form}
 
 -- a word behind a space
-abbrev pub spaced : List ℕ → List ℕ
-spaced word = code " " ∷ word
+abbrev pub spaced_word : List ℕ → List ℕ
+spaced_word word = code " " ∷ word
 
 -- words, each behind a space
 abbrev pub words_text : List (List ℕ) → List ℕ
 words_text [] = []
-words_text (word ∷ words) = spaced word ++ words_text words
+words_text (word ∷ words) = spaced_word word ++ words_text words
+
+-- numbers in decimal digits, each behind a space
+abbrev pub numbers_text : List ℕ → List ℕ
+numbers_text numbers = words_text (map (λ n. decimal n) numbers)
 
 -- the mark and the words of a row, parted by spaces
 abbrev pub form_text : {A : Type 0} → ℕ → Row A → A → List ℕ

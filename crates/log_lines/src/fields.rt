@@ -4,9 +4,9 @@ ghost use Rattle.instruction_set.specs.Letter.{letter_of_byte};
 ghost use Rattle.genome.specs.Genome as genome_spec;
 ghost use Rattle.mutations.specs.BirthRecord.{written_in};
 ghost use Rattle.mutations.specs.Change.{is_genome_length};
-ghost use Rattle.log_lines.specs.Fields.{each, genome_of, list_of, or_sign};
-ghost use Rattle.mutations.specs.RecordForm.{in_order, may_follow};
-ghost use Rattle.log_lines.specs.Kinds.{base_field, change, changes_field, read_change, read_lettered};
+ghost use Rattle.log_lines.specs.Fields.{each, genome_of_word, list_of, or_sign};
+ghost use Rattle.mutations.specs.RecordForm.{change_may_follow, in_order};
+ghost use Rattle.log_lines.specs.Kinds.{base_field, change_field, changes_field, read_change, read_lettered};
 ghost use Rattle.log_lines.specs.Words.{ToChange, pieces_of};
 
 use crate::words::split_at;
@@ -18,14 +18,11 @@ use numerals::small_number;
 use std::alloc::Global;
 
 /// The letters of a word, where each byte is one.
-fn letters(alloc: Global, word: &[u8]) -> Result<Option<Vec<Letter>>, Memory>
+fn letters_of(alloc: Global, word: &[u8]) -> Result<Option<Vec<Letter>>, Memory>
     ensures { IfOk result (λ found. option_map (λ v. v.items) found
         ≡ each letter_of_byte word.now) }
 {
-    let mut letters = match Vec::with_capacity(alloc, word.len()) {
-        Ok(letters) => letters,
-        Err(_) => return Err(Memory),
-    };
+    let mut letters = Vec::with_capacity(alloc, word.len())?;
     for byte in word {
         match Letter::from_byte(*byte) {
             Some(letter) => letters.push_reserved(letter),
@@ -41,14 +38,22 @@ fn is_genome_length(len: usize) -> bool
     LEAST_LENGTH as usize <= len && len <= GREATEST_LENGTH as usize
 }
 
-/// The genome that a word spells.
-pub fn genome(alloc: Global, word: &[u8]) -> Result<Option<Genome>, Memory>
-    ensures { IfOk result (λ found. option_map genome_spec.letters found ≡ genome_of word.now) }
+/// The letters of the genome that a word spells, a byte each. None exactly where it spells none.
+pub fn genome_letters(alloc: Global, word: &[u8]) -> Result<Option<Vec<Letter>>, Memory>
+    ensures { IfOk result (λ found. option_map (λ v. v.items) found ≡ genome_of_word word.now) }
 {
     if !is_genome_length(word.len()) {
         return Ok(None);
     }
-    match letters(alloc, word)? {
+    letters_of(alloc, word)
+}
+
+/// The genome that a word spells.
+pub fn genome(alloc: Global, word: &[u8]) -> Result<Option<Genome>, Memory>
+    ensures { IfOk result (λ found. option_map genome_spec.letters found
+        ≡ genome_of_word word.now) }
+{
+    match genome_letters(alloc, word)? {
         Some(letters) => genome_from(alloc, &letters),
         None => Ok(None),
     }
@@ -119,7 +124,7 @@ fn item(word: &[u8]) -> Option<Change>
 /// The changes in any order, or a dash for none.
 fn items(alloc: Global, word: &[u8]) -> Result<Option<Vec<Change>>, Memory>
     ensures { IfOk result (λ found. option_map (λ v. v.items) found
-        ≡ (list_of change).read word.now) }
+        ≡ (list_of change_field).read word.now) }
 {
     let mut found: Vec<Change> = Vec::new(alloc);
     match word {
@@ -146,7 +151,7 @@ fn items(alloc: Global, word: &[u8]) -> Result<Option<Vec<Change>>, Memory>
 }
 
 fn may_follow(first: &Change, next: &Change) -> bool
-    ensures { result ≡ may_follow first.now next.now }
+    ensures { result ≡ change_may_follow first.now next.now }
 {
     match (first, next) {
         (Change::Point { at, .. }, Change::Point { at: behind, .. }) => at < behind,

@@ -9,8 +9,11 @@ mod stats;
 mod words;
 mod writing;
 
+pub use fields::genome_letters;
 pub use log_line::{LAST_VERSION, LogLine};
-pub use reading::read_line;
+pub use reading::{genome_last, read_line};
 pub use stats::Stats;
-pub use words::split_at;
-pub use writing::{write_line, write_number, write_record};
+pub use words::{last_word, split_at};
+pub use writing::{
+    write_birth, write_injection, write_line, write_number, write_numbers, write_record,
+};

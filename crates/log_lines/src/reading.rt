@@ -7,7 +7,7 @@ ghost use Rattle.mutations.specs.RateNames.{rate_named};
 ghost use Rattle.log_lines.specs.Kinds.{base_field, changes_field, death_row, large, over_field, record_row};
 ghost use Rattle.log_lines.specs.Rows.{read_last, times};
 ghost use Rattle.log_lines.specs.Words.{read_arrival, read_first, words_of};
-ghost use Rattle.log_lines.specs.Line.{Count, values_of};
+ghost use Rattle.log_lines.specs.Line.{Count, line_values};
 ghost use Rattle.log_lines.specs.Forms.{birth_form, count_form, forms, injected_form, rate_form, start_form};
 ghost use Rattle.log_lines.specs.LineReading.{line_of, read_as, read_by};
 
@@ -21,10 +21,10 @@ use mutations::{Base, Changes, Origin, RateName};
 use random_streams::{GREATEST_SIDE, MILLION};
 use std::alloc::Global;
 
-/// The genome that ends the line.
-fn genome_last(alloc: Global, rest: Option<&[u8]>) -> Result<Option<Genome>, Memory>
+/// The genome that ends the line. None where other words follow it, or the last word spells none.
+pub fn genome_last(alloc: Global, rest: Option<&[u8]>) -> Result<Option<Genome>, Memory>
     ensures { IfOk result (λ found. option_map genome_spec.letters found
-        ≡ read_last fields_spec.genome_of (words_of (option_copied rest.entry))) }
+        ≡ read_last fields_spec.genome_of_word (words_of (option_copied rest.entry))) }
 {
     match last_word(rest) {
         Some(word) => genome(alloc, word),
@@ -111,7 +111,7 @@ fn rate_first<'a>(rest: Option<&'a [u8]>) -> Option<(RateName, Option<&'a [u8]>)
 
 #[inline(never)]
 fn read_start(alloc: Global, rest: Option<&[u8]>) -> Result<Option<LogLine>, Memory>
-    ensures { IfOk result (λ found. option_map values_of found
+    ensures { IfOk result (λ found. option_map line_values found
         ≡ read_as start_form (words_of (option_copied rest.entry))) }
 {
     let Some((version, rest)) = small_first(rest, 1, LAST_VERSION) else {
@@ -194,7 +194,7 @@ fn origin_last(alloc: Global, rest: Option<&[u8]>) -> Result<Option<Origin>, Mem
 
 #[inline(never)]
 fn read_birth(alloc: Global, rest: Option<&[u8]>) -> Result<Option<LogLine>, Memory>
-    ensures { IfOk result (λ found. option_map values_of found
+    ensures { IfOk result (λ found. option_map line_values found
         ≡ read_as birth_form (words_of (option_copied rest.entry))) }
 {
     let Some((id, rest)) = large_first(rest) else {
@@ -221,7 +221,7 @@ fn read_birth(alloc: Global, rest: Option<&[u8]>) -> Result<Option<LogLine>, Mem
 
 #[inline(never)]
 fn read_injected(alloc: Global, rest: Option<&[u8]>) -> Result<Option<LogLine>, Memory>
-    ensures { IfOk result (λ found. option_map values_of found
+    ensures { IfOk result (λ found. option_map line_values found
         ≡ read_as injected_form (words_of (option_copied rest.entry))) }
 {
     let Some((id, rest)) = large_first(rest) else {
@@ -244,7 +244,7 @@ fn read_injected(alloc: Global, rest: Option<&[u8]>) -> Result<Option<LogLine>, 
 
 #[inline(never)]
 fn read_rate(rest: Option<&[u8]>) -> Option<LogLine>
-    ensures { option_map values_of result
+    ensures { option_map line_values result
         ≡ read_as rate_form (words_of (option_copied rest.entry)) }
 {
     let (update, rest) = small_first(rest, 0, u32::MAX)?;
@@ -294,7 +294,7 @@ fn read_stats(rest: Option<&[u8]>) -> Option<Stats>
 }
 
 fn read_form(alloc: Global, mark: u8, rest: Option<&[u8]>) -> Result<Option<LogLine>, Memory>
-    ensures { IfOk result (λ found. option_map values_of found
+    ensures { IfOk result (λ found. option_map line_values found
         ≡ read_by forms (mark ∷ []) (words_of (option_copied rest.entry))) }
 {
     match mark {
@@ -325,7 +325,7 @@ fn read_form(alloc: Global, mark: u8, rest: Option<&[u8]>) -> Result<Option<LogL
 /// Reads the text of a line, which stands before its newline. None exactly where the text has none
 /// of the eight forms.
 pub fn read_line(alloc: Global, text: &[u8]) -> Result<Option<LogLine>, Memory>
-    ensures { IfOk result (λ found. option_map values_of found ≡ line_of text.now) }
+    ensures { IfOk result (λ found. option_map line_values found ≡ line_of text.now) }
 {
     match text {
         [mark, part, rest @ ..] => {

@@ -75,7 +75,7 @@ pub fn small_first<'a>(
     }
 }
 
-/// The word that ends the line.
+/// The word that ends the line. None where other words follow it, or nothing is left.
 pub fn last_word<'a>(rest: Option<&'a [u8]>) -> Option<&'a [u8]>
     ensures { option_copied result
         ≡ read_last (λ word. Some word) (words_of (option_copied rest.entry)) }

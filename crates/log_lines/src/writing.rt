@@ -1,11 +1,11 @@
 // Writes the lines of a log, each into the bytes that it is given.
-ghost use Rattle.std.specs.Prelude.{ℕ, ◌≡◌, ◌++◌, ◌∷◌, [], List, Option, map, decimal, OnOk, OnErr};
+ghost use Rattle.std.specs.Prelude.{ℕ, ◌≡◌, ◌++◌, ◌∷◌, [], List, Option, decimal, codes, take, Ok, OnOk, OnErr};
 ghost use Rattle.genome.specs.Genome as genome_spec;
 ghost use Rattle.mutations.specs.BirthRecord.{record_of, written_in};
-ghost use Rattle.log_lines.specs.Fields.{letters, list_text};
-ghost use Rattle.log_lines.specs.Kinds.{base_field, change, change_text, changes_field, death_row, over_field};
-ghost use Rattle.log_lines.specs.Line.{Birth, Count, End, Injected, Rate, Start, values_of};
-ghost use Rattle.log_lines.specs.LineText.{form_text, line_text, row_text, spaced, words_text};
+ghost use Rattle.log_lines.specs.Fields.{genome_field, list_text};
+ghost use Rattle.log_lines.specs.Kinds.{base_field, change_field, change_text, changes_field, death_row, over_field};
+ghost use Rattle.log_lines.specs.Line.{Birth, Count, End, Injected, Rate, Start, line_values};
+ghost use Rattle.log_lines.specs.LineText.{form_text, line_text, numbers_text, row_text, spaced_word, words_text};
 ghost use Rattle.log_lines.specs.Kept.{Keeps};
 
 use crate::log_line::LogLine;
@@ -55,7 +55,7 @@ pub fn write_number(before: u8, value: u64, out: &mut Vec<u8>) -> Result<(), Mem
 /// A space, and the letters of a genome.
 fn letters(out: &mut Vec<u8>, genome: &Genome) -> Result<(), Memory>
     ensures ok { OnOk result (out.new.items ≡ out.old.items
-        ++ spaced (letters.text (genome_spec.letters genome.now))) }
+        ++ spaced_word (genome_field.text (genome_spec.letters genome.now))) }
     ensures err { OnErr result (Keeps out.old.items out.new.items) }
 {
     byte(out, b' ')?;
@@ -63,7 +63,7 @@ fn letters(out: &mut Vec<u8>, genome: &Genome) -> Result<(), Memory>
 }
 
 fn over(out: &mut Vec<u8>, over: Option<u64>) -> Result<(), Memory>
-    ensures ok { OnOk result (out.new.items ≡ out.old.items ++ spaced (over_field.text over)) }
+    ensures ok { OnOk result (out.new.items ≡ out.old.items ++ spaced_word (over_field.text over)) }
     ensures err { OnErr result (out.new.items ≡ out.old.items) }
 {
     match over {
@@ -74,7 +74,7 @@ fn over(out: &mut Vec<u8>, over: Option<u64>) -> Result<(), Memory>
 
 fn base(out: &mut Vec<u8>, base: &Base) -> Result<(), Memory>
     ensures ok { OnOk result (out.new.items ≡ out.old.items
-        ++ spaced (base_field.text (written_in base.now))) }
+        ++ spaced_word (base_field.text (written_in base.now))) }
     ensures err { OnErr result (Keeps out.old.items out.new.items) }
 {
     match base {
@@ -106,7 +106,7 @@ fn change(out: &mut Vec<u8>, before: u8, change: Change) -> Result<(), Memory>
 #[tactic(auto, using(crate::proofs::KeptLemmas::keeps_front))]
 fn changes(out: &mut Vec<u8>, changes: &Changes) -> Result<(), Memory>
     ensures ok { OnOk result (out.new.items ≡ out.old.items
-        ++ spaced (list_text change changes.now)) }
+        ++ spaced_word (list_text change_field changes.now)) }
     ensures err { OnErr result (Keeps out.old.items out.new.items) }
 {
     if changes.len() == 0 {
@@ -121,15 +121,15 @@ fn changes(out: &mut Vec<u8>, changes: &Changes) -> Result<(), Memory>
     Ok(())
 }
 
-/// The nine counts.
+/// Appends numbers in decimal digits, each behind a space. When memory runs out `out` begins with
+/// what it held before.
 #[tactic(auto, using(crate::proofs::KeptLemmas::keeps_front))]
-fn tasks(out: &mut Vec<u8>, tasks: &[u64; 9]) -> Result<(), Memory>
-    ensures ok { OnOk result (out.new.items ≡ out.old.items
-        ++ words_text (map (λ n. decimal n) tasks.now)) }
+pub fn write_numbers(numbers: &[u64], out: &mut Vec<u8>) -> Result<(), Memory>
+    ensures ok { OnOk result (out.new.items ≡ out.old.items ++ numbers_text numbers.now) }
     ensures err { OnErr result (Keeps out.old.items out.new.items) }
 {
-    for count in tasks {
-        write_number(b' ', *count, out)?;
+    for number in numbers {
+        write_number(b' ', *number, out)?;
     }
     Ok(())
 }
@@ -275,7 +275,7 @@ fn count(out: &mut Vec<u8>, stats: &Stats) -> Result<(), Memory>
     turnover(out, stats.living, stats.births, stats.deaths)?;
     write_number(b' ', stats.genotypes, out)?;
     write_number(b' ', stats.merit, out)?;
-    tasks(out, &stats.tasks)
+    write_numbers(&stats.tasks, out)
 }
 
 fn end(out: &mut Vec<u8>, updates: u32) -> Result<(), Memory>
@@ -288,7 +288,7 @@ fn end(out: &mut Vec<u8>, updates: u32) -> Result<(), Memory>
 
 /// The line without its newline.
 fn row(line: &LogLine, out: &mut Vec<u8>) -> Result<(), Memory>
-    ensures ok { OnOk result (out.new.items ≡ out.old.items ++ row_text (values_of line.now)) }
+    ensures ok { OnOk result (out.new.items ≡ out.old.items ++ row_text (line_values line.now)) }
     ensures err { OnErr result (Keeps out.old.items out.new.items) }
 {
     match line {
@@ -322,26 +322,64 @@ fn row(line: &LogLine, out: &mut Vec<u8>) -> Result<(), Memory>
     }
 }
 
-#[tactic(auto, using(crate::proofs::KeptLemmas::keeps_front))]
-fn row_and_newline(line: &LogLine, out: &mut Vec<u8>) -> Result<(), Memory>
-    ensures ok { OnOk result (out.new.items ≡ out.old.items ++ line_text (values_of line.now)) }
-    ensures err { OnErr result (Keeps out.old.items out.new.items) }
+/// Ends a row that begins at this place, or takes back what was written of it.
+fn finish(row: Result<(), Memory>, start: usize, out: &mut Vec<u8>) -> Result<(), Memory>
+    ensures row { OnOk result (row ≡ Ok tt) }
+    ensures ok { OnOk result (out.new.items ≡ out.old.items ++ codes "\n") }
+    ensures err { OnErr result (out.new.items ≡ take start out.old.items) }
 {
-    row(line, out)?;
-    byte(out, b'\n')
+    if row.is_ok() && byte(out, b'\n').is_ok() {
+        return Ok(());
+    }
+    out.truncate(start);
+    Err(Memory)
 }
 
 /// Appends the text of a line, with its newline. When memory runs out `out` stays as it was.
 pub fn write_line(line: &LogLine, out: &mut Vec<u8>) -> Result<(), Memory>
-    ensures ok { OnOk result (out.new.items ≡ out.old.items ++ line_text (values_of line.now)) }
+    ensures ok { OnOk result (out.new.items ≡ out.old.items ++ line_text (line_values line.now)) }
     ensures err { OnErr result (out.new.items ≡ out.old.items) }
 {
     let start = out.len();
-    match row_and_newline(line, out) {
-        Ok(()) => Ok(()),
-        Err(stop) => {
-            out.truncate(start);
-            Err(stop)
-        }
-    }
+    let row = row(line, out);
+    finish(row, start, out)
+}
+
+/// Appends the text of a birth's line, with its newline. When memory runs out `out` stays as it
+/// was.
+pub fn write_birth(
+    id: u64,
+    parent: u64,
+    update: u32,
+    cell: u32,
+    over: Option<u64>,
+    origin: &Origin,
+    out: &mut Vec<u8>,
+) -> Result<(), Memory>
+    ensures ok { OnOk result (out.new.items ≡ out.old.items
+        ++ line_text (Birth id parent update cell over (record_of origin.now))) }
+    ensures err { OnErr result (out.new.items ≡ out.old.items) }
+{
+    let start = out.len();
+    let row = birth(out, id, parent, update, cell, over, origin);
+    finish(row, start, out)
+}
+
+/// Appends the text of an injection's line, with its newline. When memory runs out `out` stays as
+/// it was.
+pub fn write_injection(
+    id: u64,
+    update: u32,
+    cell: u32,
+    over: Option<u64>,
+    genome: &Genome,
+    out: &mut Vec<u8>,
+) -> Result<(), Memory>
+    ensures ok { OnOk result (out.new.items ≡ out.old.items
+        ++ line_text (Injected id update cell over (genome_spec.letters genome.now))) }
+    ensures err { OnErr result (out.new.items ≡ out.old.items) }
+{
+    let start = out.len();
+    let row = injected(out, id, update, cell, over, genome);
+    finish(row, start, out)
 }

@@ -12,8 +12,8 @@ use Rattle.logged_run.specs.Watching.{WritesLooks, news}
 use Rattle.logged_run.specs.WatchText.{GainedPictures, pictures_text}
 use Rattle.logged_run.proofs.WatchLemmas.{all_watched, last_stopped, runner_stopped, watcher_stopped}
 
-module _ {T : Type 0} (looks : ℕ) (config other : ConfigValues) (a b c d : SinkState)
-    (ran : Result T WriteStop) (watched : Result (Option ℕ) WriteStop)
+module _ {T : Type 0} {looks : ℕ} {config other : ConfigValues} {a b c d : SinkState}
+    {ran : Result T WriteStop} {watched : Result (Option ℕ) WriteStop}
     (same : config ≡ other) (log : WritesLog config a b ran)
     (lines : WritesLooks looks config c d watched) where
   -- the log where the runner came to its end

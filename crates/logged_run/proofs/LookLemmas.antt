@@ -51,6 +51,7 @@ newer : (newest : Option ℕ) (last update : ℕ) → is_news newest last update
 newer None last update e = tt
 newer (Some written) last update e = grind (arith, nat_tests)
 
+-- news is of an update that the run comes to
 in_run : (newest : Option ℕ) (last update : ℕ) → is_news newest last update ≡ true → update ≤ last
 in_run None last update e = grind (arith, nat_tests)
 in_run (Some written) last update e = grind (arith, nat_tests)
@@ -109,6 +110,7 @@ seen_same looks last newest updates so =
       few = omega (arith, so.few);
     })
 
+-- a look more, by whether it has news
 seen_by : (test : Bool) (looks last : ℕ) (newest : Option ℕ) (updates : List ℕ) (update : ℕ)
     → AreSeen looks last newest updates
     → is_news newest last update ≡ test
@@ -137,6 +139,7 @@ seen_within looks more last newest updates so le = record {
   few = omega (arith, so.few, le);
 }
 
+-- the updates with the run's last one, if it is news, are those of a watcher
 watched_by : (test : Bool) (looks last : ℕ) (newest : Option ℕ) (updates : List ℕ)
     → AreSeen looks last newest updates
     → is_news newest last last ≡ test → AreWatched looks last (updates ++ news newest last last)

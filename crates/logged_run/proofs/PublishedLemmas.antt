@@ -81,6 +81,7 @@ pub begun : (config : ConfigValues) (history : List WorldPicture) → BeginsAs c
     → 0 < length history
 begun config history begins = slice_get_within history 0 begins.first begins.is_first
 
+-- the longer of what was seen and what a note tells, by which of the two it is
 longer_by : (test : Bool) (config : ConfigValues) (update : ℕ) (history told : List WorldPicture)
     → BeginsAs config history → ArePictures config (update + 1) told
     → nat_lt (length history) (length told) ≡ test → BeginsAs config (longer history told)

@@ -94,15 +94,15 @@ updates_stopped {T = T} config here there updates p same q other =
     (writes_short {T = T} (end_text updates)
     (updates_written config here there updates p same q other))
 
--- the last line is written, or stopped
-pub last_written : {T U V : Type 0} {a b c d : SinkState} {u : U} {v : V} {r : Result T WriteStop}
-    (config here there : ConfigValues) (updates at : ℕ)
-    → WritesAll {T = U} a b (head_text here) (Ok u) → here ≡ config
-    → WritesAll {T = V} b c (updates_text there updates) (Ok v) → there ≡ config
-    → WritesAll c d (end_text at) r → at ≡ updates → WritesAll a d (log_text config updates) r
-last_written {T = T} {c = c} {d = d} {r = r} config here there updates at p same q other l now =
-    let ended : WritesAll {T = T} c d (end_text updates) r =
-    subst (λ n. WritesAll {T = T} c d (end_text n) r) now l in
-    rw (log_parts config updates)
-    (writes_then (end_text updates) (updates_written config here there updates p same q other)
-    ended)
+module _ {config here there : ConfigValues} (same : here ≡ config) (other : there ≡ config) where
+  -- the last line is written, or stopped
+  pub last_written : {T U V : Type 0} {a b c d : SinkState} {u : U} {v : V}
+      {r : Result T WriteStop} (updates at : ℕ) → WritesAll {T = U} a b (head_text here) (Ok u)
+      → WritesAll {T = V} b c (updates_text there updates) (Ok v)
+      → WritesAll c d (end_text at) r → at ≡ updates → WritesAll a d (log_text config updates) r
+  last_written {T = T} {c = c} {d = d} {r = r} updates at p q l now =
+      let ended : WritesAll {T = T} c d (end_text updates) r =
+      subst (λ n. WritesAll {T = T} c d (end_text n) r) now l in
+      rw (log_parts config updates)
+      (writes_then (end_text updates)
+      (updates_written config here there updates p same q other) ended)

@@ -24,29 +24,6 @@ pub record HasLooked (looks : ℕ) (config : ConfigValues) (history : List World
   pub seen : AreSeen looks config.updates newest updates
   pub written : WritesAll {T = Unit {0}} before after (pictures_text config updates) (Ok tt)
 
--- no look was made
-pub not_looked : (config : ConfigValues) (history : List WorldPicture) (a : SinkState)
-    → BeginsAs config history → HasLooked 0 config history None a a
-not_looked config history a begins = record {
-  begins = begins;
-  updates = [];
-  seen = seen_nothing config.updates;
-  written = writes_nothing a;
-}
-
--- memory ran out at a look
-pub look_wanted : (k looks : ℕ) (config : ConfigValues) (history : List WorldPicture)
-    (newest : Option ℕ) (a b : SinkState)
-    → HasLooked k config history newest a b → k ≤ looks
-    → WritesLooks looks config a b (Err stop.Memory)
-look_wanted k looks config history newest a b so le = record {
-  updates = so.updates;
-  newest = newest;
-  seen = seen_within k looks config.updates newest so.updates so.seen le;
-  answer = tt;
-  writes = wanting_after so.written;
-}
-
 -- the lines of more pictures come behind those of the first ones
 pub pictures_more : (config : ConfigValues) (xs ys : List ℕ)
     → pictures_text config (xs ++ ys) ≡ pictures_text config xs ++ pictures_text config ys

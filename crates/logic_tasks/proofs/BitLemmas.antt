@@ -10,7 +10,7 @@ use Rattle.std.specs.List.{list_all, range_with_len}
 use Rattle.std.proofs.lemmas.Bool.Decides.{Decides-eqb, Decides-like, same_from_decides}
 use Rattle.std.proofs.lemmas.Nat.Bits.{bit_at_and, bit_at_or, bit_at_xor, bit_at_not, bit_at-lt, same_from_bits_below}
 use Rattle.logic_tasks.specs.declared.task.Task.{Task}
-use Rattle.logic_tasks.specs.LogicTasks.{has_bit, bit_of, computes}
+use Rattle.logic_tasks.specs.LogicTasks.{has_bit, output_bit, computes}
 
 -- a bit is 0 or 1
 pub bit-not : (b : ℕ) → b < 2 → (1 - b == 1) ≡ not (b == 1)
@@ -18,6 +18,7 @@ bit-not zero h = refl
 bit-not (suc zero) h = refl
 bit-not (suc (suc b)) h = absurd (omega arith)
 
+-- the lesser of two bits is 1 just where both are
 pub bit-and : (a b : ℕ) → a < 2 → b < 2 → (min a b == 1) ≡ ((a == 1) && (b == 1))
 bit-and zero zero h k = refl
 bit-and zero (suc zero) h k = refl
@@ -27,6 +28,7 @@ bit-and zero (suc (suc b)) h k = absurd (omega arith)
 bit-and (suc zero) (suc (suc b)) h k = absurd (omega arith)
 bit-and (suc (suc a)) b h k = absurd (omega arith)
 
+-- the greater of two bits is 1 just where one of them is, or both
 pub bit-or : (a b : ℕ) → a < 2 → b < 2 → (max a b == 1) ≡ ((a == 1) || (b == 1))
 bit-or zero zero h k = refl
 bit-or zero (suc zero) h k = refl
@@ -36,6 +38,7 @@ bit-or zero (suc (suc b)) h k = absurd (omega arith)
 bit-or (suc zero) (suc (suc b)) h k = absurd (omega arith)
 bit-or (suc (suc a)) b h k = absurd (omega arith)
 
+-- the sum of two bits is odd just where one of them is 1, and not both
 pub bit-xor : (a b : ℕ) → a < 2 → b < 2 → ((a + b) % 2 == 1) ≡ xor (a == 1) (b == 1)
 unfolding xor
 bit-xor zero zero h k = refl
@@ -52,14 +55,17 @@ pub has_bit-not : (n k : ℕ) → n < 4294967296 → k < 32
 has_bit-not n k fits within =
     ap (λ b. b == 1) (bit_at_not w32 n k fits within) ∙ bit-not (bit_at n k) (bit_at-lt n k)
 
+-- a bit of `and` is set just where both words have it
 pub has_bit-and : (x y k : ℕ) → has_bit (bit_and x y) k ≡ (has_bit x k && has_bit y k)
 has_bit-and x y k = ap (λ b. b == 1) (bit_at_and x y k)
     ∙ bit-and (bit_at x k) (bit_at y k) (bit_at-lt x k) (bit_at-lt y k)
 
+-- a bit of `or` is set just where one of the words has it, or both
 pub has_bit-or : (x y k : ℕ) → has_bit (bit_or x y) k ≡ (has_bit x k || has_bit y k)
 has_bit-or x y k = ap (λ b. b == 1) (bit_at_or x y k)
     ∙ bit-or (bit_at x k) (bit_at y k) (bit_at-lt x k) (bit_at-lt y k)
 
+-- a bit of `xor` is set just where one of the words has it, and not both
 pub has_bit-xor : (x y k : ℕ) → has_bit (bit_xor x y) k ≡ xor (has_bit x k) (has_bit y k)
 has_bit-xor x y k = ap (λ b. b == 1) (bit_at_xor x y k)
     ∙ bit-xor (bit_at x k) (bit_at y k) (bit_at-lt x k) (bit_at-lt y k)
@@ -97,12 +103,13 @@ list_all-range test P decides (suc n) start end e =
 -- the equations of a task hold at each bit
 pub computes-Decides : (task : Task) (output x y : ℕ)
     → Decides (computes task output x y)
-    ((k : ℕ) → k < 32 → has_bit output k ≡ bit_of task (has_bit x k) (has_bit y k))
+    ((k : ℕ) → k < 32 → has_bit output k ≡ output_bit task (has_bit x k) (has_bit y k))
 unfolding computes
 computes-Decides task output x y =
-    let all = list_all-range (λ k. beq (has_bit output k) (bit_of task (has_bit x k) (has_bit y k)))
-    (λ k. has_bit output k ≡ bit_of task (has_bit x k) (has_bit y k))
-    (λ k. booleans_Decides (has_bit output k) (bit_of task (has_bit x k) (has_bit y k))) 32 0 32
+    let all = list_all-range (λ k. beq (has_bit output k)
+    (output_bit task (has_bit x k) (has_bit y k)))
+    (λ k. has_bit output k ≡ output_bit task (has_bit x k) (has_bit y k))
+    (λ k. booleans_Decides (has_bit output k) (output_bit task (has_bit x k) (has_bit y k))) 32 0 32
     refl in (
       λ passes k within. all.0 passes k (omega arith) within,
       λ equations. all.1 (λ k low within. equations k within),
@@ -110,13 +117,13 @@ computes-Decides task output x y =
 
 -- a word with the bits of the task is the output exactly where the equations hold
 pub computes-word : (task : Task) (output x y word : ℕ) → output < 4294967296 → word < 4294967296
-    → ((k : ℕ) → k < 32 → has_bit word k ≡ bit_of task (has_bit x k) (has_bit y k))
+    → ((k : ℕ) → k < 32 → has_bit word k ≡ output_bit task (has_bit x k) (has_bit y k))
     → (word == output) ≡ computes task output x y
 computes-word task output x y word fits word_fits equations =
     let forth = λ (e : word ≡ output) (k : ℕ) (within : k < 32). ap (λ n. has_bit n k) (sym e)
     ∙ equations k within in
     let back = λ (others : (k : ℕ) → k < 32
-    → has_bit output k ≡ bit_of task (has_bit x k) (has_bit y k)).
+    → has_bit output k ≡ output_bit task (has_bit x k) (has_bit y k)).
     same_from_bits_below 32 word output word_fits fits
     (λ k within. bit_at-same (bit_at word k) (bit_at output k) (bit_at-lt word k)
     (bit_at-lt output k) (equations k within ∙ sym (others k within))) in

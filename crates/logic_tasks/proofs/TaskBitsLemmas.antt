@@ -10,12 +10,12 @@ use Rattle.std.proofs.lemmas.Nat.{or_lt}
 use Rattle.std.proofs.lemmas.Nat.Bits.{bit_at_set_same, bit_at_set_other}
 use Rattle.logic_tasks.specs.declared.task.Task.{Task}
 use Rattle.logic_tasks.specs.declared.task.Task.TheVariants.{Not, Nand, And, Orn, Or, Andn, Nor, Xor, Equ}
-use Rattle.logic_tasks.specs.LogicTasks.{has_bit, place_of}
+use Rattle.logic_tasks.specs.LogicTasks.{has_bit, task_place}
 use Rattle.logic_tasks.specs.TaskBits.{tasks_of}
 use Rattle.logic_tasks.specs.TaskBitsLaws.{length-tasks_of, get_or-tasks_of, number_of-tasks_of}
 
 -- a task's place is in the table
-pub place_of-small : (task : Task) → place_of task < 9
+pub place_of-small : (task : Task) → task_place task < 9
 place_of-small Not = omega arith
 place_of-small Nand = omega arith
 place_of-small And = omega arith
@@ -27,7 +27,7 @@ place_of-small Xor = omega arith
 place_of-small Equ = omega arith
 
 -- so is its bit
-pub bit_of-small : (task : Task) → 1 * 2 ^ place_of task % 65536 < 512
+pub bit_of-small : (task : Task) → 1 * 2 ^ task_place task % 65536 < 512
 bit_of-small Not = omega arith
 bit_of-small Nand = omega arith
 bit_of-small And = omega arith
@@ -40,9 +40,9 @@ bit_of-small Equ = omega arith
 
 -- a number with one more bit stays small
 pub with_bit-small : (bits : ℕ) (task : Task) → bits < 512
-    → bit_or bits (1 * 2 ^ place_of task % 65536) < 512
+    → bit_or bits (1 * 2 ^ task_place task % 65536) < 512
 with_bit-small bits task small =
-    or_lt 9 bits (1 * 2 ^ place_of task % 65536) small (bit_of-small task)
+    or_lt 9 bits (1 * 2 ^ task_place task % 65536) small (bit_of-small task)
 
 -- the bits of a number with one more are those of the set with one task more
 pub has_bit-with : (bits place k : ℕ) → place < 9 → k < 9

@@ -9,17 +9,13 @@ top_bytes = 0x0F ∷ 0x33 ∷ 0x55 ∷ []
 abbrev pub HasTopBytes : List ℕ → Type 0
 HasTopBytes words = map (λ word. word / 2 ^ 24) words ≡ top_bytes
 
--- a top byte over the low 24 bits of a word
-abbrev pub input_of : ℕ → ℕ → ℕ
-input_of top word = top * 2 ^ 24 + word % 2 ^ 24
+-- the input at a place: its top byte over the low 24 bits of the word there
+abbrev pub input_at : List ℕ → ℕ → ℕ
+input_at words k = slice_index_or top_bytes k 0 * 2 ^ 24 + slice_index_or words k 0 % 2 ^ 24
 
 -- the inputs that are made of three words
 abbrev pub inputs_of : List ℕ → List ℕ
-inputs_of words =
-    input_of 0x0F (slice_index_or words 0 0)
-    ∷ input_of 0x33 (slice_index_or words 1 0)
-    ∷ input_of 0x55 (slice_index_or words 2 0)
-    ∷ []
+inputs_of words = input_at words 0 ∷ input_at words 1 ∷ input_at words 2 ∷ []
 
 -- the low 24 bits of each input
 abbrev pub low_of : List ℕ → List ℕ

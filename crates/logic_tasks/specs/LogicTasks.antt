@@ -12,40 +12,40 @@ abbrev pub all_tasks : List Task
 all_tasks = Not ∷ Nand ∷ And ∷ Orn ∷ Or ∷ Andn ∷ Nor ∷ Xor ∷ Equ ∷ []
 
 -- the place of a task in the table, from 0
-abbrev pub place_of : Task → ℕ
-place_of Not = 0
-place_of Nand = 1
-place_of And = 2
-place_of Orn = 3
-place_of Or = 4
-place_of Andn = 5
-place_of Nor = 6
-place_of Xor = 7
-place_of Equ = 8
+abbrev pub task_place : Task → ℕ
+task_place Not = 0
+task_place Nand = 1
+task_place And = 2
+task_place Orn = 3
+task_place Or = 4
+task_place Andn = 5
+task_place Nor = 6
+task_place Xor = 7
+task_place Equ = 8
 
 -- the printed name of a task
-abbrev pub name_of : Task → List ℕ
-name_of Not = codes "NOT"
-name_of Nand = codes "NAND"
-name_of And = codes "AND"
-name_of Orn = codes "ORN"
-name_of Or = codes "OR"
-name_of Andn = codes "ANDN"
-name_of Nor = codes "NOR"
-name_of Xor = codes "XOR"
-name_of Equ = codes "EQU"
+abbrev pub task_name : Task → List ℕ
+task_name Not = codes "NOT"
+task_name Nand = codes "NAND"
+task_name And = codes "AND"
+task_name Orn = codes "ORN"
+task_name Or = codes "OR"
+task_name Andn = codes "ANDN"
+task_name Nor = codes "NOR"
+task_name Xor = codes "XOR"
+task_name Equ = codes "EQU"
 
 -- the equation of a task at one bit: what the output has where the inputs have x and y
-abbrev pub bit_of : Task → Bool → Bool → Bool
-bit_of Not x y = not x
-bit_of Nand x y = not (x && y)
-bit_of And x y = x && y
-bit_of Orn x y = x || not y
-bit_of Or x y = x || y
-bit_of Andn x y = x && not y
-bit_of Nor x y = not (x || y)
-bit_of Xor x y = xor x y
-bit_of Equ x y = not (xor x y)
+abbrev pub output_bit : Task → Bool → Bool → Bool
+output_bit Not x y = not x
+output_bit Nand x y = not (x && y)
+output_bit And x y = x && y
+output_bit Orn x y = x || not y
+output_bit Or x y = x || y
+output_bit Andn x y = x && not y
+output_bit Nor x y = not (x || y)
+output_bit Xor x y = xor x y
+output_bit Equ x y = not (xor x y)
 
 -- whether a task needs one input alone
 abbrev pub needs_one : Task → Bool
@@ -59,7 +59,7 @@ has_bit n k = bit_at n k == 1
 -- the equation of the task holds at each of the 32 bits
 unfoldable pub computes : Task → ℕ → ℕ → ℕ → Bool
 computes task output x y =
-    list_all (λ k. beq (has_bit output k) (bit_of task (has_bit x k) (has_bit y k)))
+    list_all (λ k. beq (has_bit output k) (output_bit task (has_bit x k) (has_bit y k)))
     (range_with_len 0 32)
 
 -- the task is done with the inputs at two places, which differ unless it needs one input alone

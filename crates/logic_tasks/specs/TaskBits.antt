@@ -9,6 +9,6 @@ unfoldable pub tasks_of : ℕ → List Bool
 tasks_of bits = map (has_bit bits) (range_with_len 0 9)
 
 -- the number of a set
-abbrev pub number_of : List Bool → ℕ
-number_of [] = 0
-number_of (task ∷ tasks) = (if task then 1 else 0) + 2 * number_of tasks
+abbrev pub bits_of_tasks : List Bool → ℕ
+bits_of_tasks [] = 0
+bits_of_tasks (task ∷ tasks) = (if task then 1 else 0) + 2 * bits_of_tasks tasks

@@ -1,6 +1,6 @@
 // The nine tasks, and the word that each computes.
 ghost use Rattle.std.specs.Prelude.{◌≡◌, ◌<◌, ℕ};
-ghost use Rattle.logic_tasks.specs.LogicTasks.{has_bit, place_of, name_of, bit_of};
+ghost use Rattle.logic_tasks.specs.LogicTasks.{has_bit, task_place, task_name, output_bit};
 
 /// How many tasks there are.
 pub const TASK_COUNT: usize = 9;
@@ -35,13 +35,13 @@ pub const TASKS: [Task; TASK_COUNT] = [
 impl Task {
     /// The place in the table, from 0.
     pub fn place(self) -> usize
-        ensures { result ≡ place_of self }
+        ensures { result ≡ task_place self }
     {
         self as usize
     }
 
     pub fn name(self) -> &'static str
-        ensures { result.now ≡ name_of self }
+        ensures { result.now ≡ task_name self }
     {
         match self {
             Task::Not => "NOT",
@@ -58,7 +58,8 @@ impl Task {
 
     /// What the task makes of two inputs; NOT looks at the first alone.
     pub(crate) fn word(self, x: u32, y: u32) -> u32
-        ensures { (k : ℕ) → k < 32 → has_bit result k ≡ bit_of self (has_bit x k) (has_bit y k) }
+        ensures { (k : ℕ) → k < 32
+            → has_bit result k ≡ output_bit self (has_bit x k) (has_bit y k) }
     {
         match self {
             Task::Not => !x,

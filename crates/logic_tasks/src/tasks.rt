@@ -2,7 +2,7 @@
 ghost use Rattle.std.specs.Prelude.{◌≡◌, ◌<◌, ◌==◌};
 ghost use Rattle.std.specs.Cmp.Rules.{comparing};
 ghost use Rattle.std.proofs.Common.{rules};
-ghost use Rattle.logic_tasks.specs.TaskBits.{number_of, tasks_of};
+ghost use Rattle.logic_tasks.specs.TaskBits.{bits_of_tasks, tasks_of};
 ghost use Rattle.logic_tasks.specs.TaskSet.{no_tasks, has_task, with_task};
 
 use crate::Task;
@@ -17,7 +17,7 @@ pub struct Tasks {
 impl Model for Tasks {
     ghost use Rattle.std.specs.Prelude.{◌<◌, List, Bool};
     ghost use Rattle.std.proofs.Common.{ap};
-    ghost use Rattle.logic_tasks.specs.TaskBits.{tasks_of, number_of};
+    ghost use Rattle.logic_tasks.specs.TaskBits.{tasks_of, bits_of_tasks};
     ghost use Rattle.logic_tasks.specs.TaskBitsLaws.{number_of-tasks_of};
 
     ghost Value = { List Bool };
@@ -26,7 +26,7 @@ impl Model for Tasks {
 
     ghost invariant = { λ tasks. tasks.bits < 512 };
 
-    ghost inverse = { λ tasks. record { bits = number_of tasks } };
+    ghost inverse = { λ tasks. record { bits = bits_of_tasks tasks } };
 
     ghost inverse_ok = { λ tasks small. ap (λ bits. record { bits = bits })
         (number_of-tasks_of tasks.bits small) };
@@ -50,7 +50,7 @@ impl Tasks {
     /// The number of the set: task number p of the table, from 1, has the value 2^(p - 1).
     #[tactic(auto, using(crate::proofs::TaskBitsLemmas::set_numbers))]
     pub fn number(self) -> u16
-        ensures number { result ≡ number_of self }
+        ensures number { result ≡ bits_of_tasks self }
         ensures below { result < 512 }
     {
         self.bits
@@ -72,7 +72,7 @@ impl Tasks {
 }
 
 impl PartialEq for Tasks {
-    ghost eq = { λ a b. number_of a == number_of b };
+    ghost eq = { λ a b. bits_of_tasks a == bits_of_tasks b };
 
     ghost laws = { Prim.search (comparing, rules) };
 

@@ -1,7 +1,6 @@
 -- The record of a birth and the child that it makes.
-use Rattle.std.proofs.Common.{◌≡◌, refl, sym, ◌∙◌, ap, subst, ℕ, Bool, true, false, cond, ◌&&◌, List, [], ◌∷◌, ◌++◌, length, Ok, unwrap_or, Some, None, Option, IsNone, ◌↔◌}
+use Rattle.std.proofs.Common.{◌≡◌, refl, sym, ◌∙◌, ap, subst, ℕ, Bool, true, false, cond, List, [], ◌∷◌, ◌++◌, length, Ok, unwrap_or, Some, None, Option, IsNone, ◌↔◌}
 use Rattle.std.specs.Bool.{Decides}
-use Rattle.std.specs.Cmp.Lexicographic.{pointwise}
 use Rattle.std.proofs.lemmas.Slice.Eq.{slice_eq-Decides}
 use Rattle.instruction_set.specs.declared.letter.Letter.{Letter}
 use Rattle.instruction_set.specs.Letter.{same_letters}
@@ -13,30 +12,21 @@ use Rattle.mutations.specs.declared.indels.Indel.TheVariants.{Insertion, Deletio
 use Rattle.mutations.specs.DivideErrors.{Drawn, in_turn, pointed_text, after_points, points_from}
 use Rattle.mutations.specs.Indels.{Draft, indels, draft_after}
 use Rattle.mutations.specs.BirthRecord.{drawn_by_divide, written_of, child_of}
-use Rattle.mutations.specs.Pass.{Makes, Work, Passed}
+use Rattle.mutations.specs.Pass.{Makes, PassState, Passed}
 use Rattle.mutations.proofs.ChangeLemmas.{Passed-append}
 use Rattle.mutations.proofs.IndelKinds.{indels-kind}
 use Rattle.mutations.proofs.IndelPasses.{draft-passed}
 use Rattle.mutations.proofs.PointLemmas.{OneIndex}
 
--- two tests that agree compare lists alike
-pub pointwise_alike : {A : Type 0} (E F : A → A → Bool) → ((a b : A) → E a b ≡ F a b)
-    → (xs ys : List A) → pointwise E xs ys ≡ pointwise F xs ys
-pointwise_alike E F alike [] [] = refl
-pointwise_alike E F alike [] (y ∷ ys) = refl
-pointwise_alike E F alike (x ∷ xs) [] = refl
-pointwise_alike E F alike (x ∷ xs) (y ∷ ys) = ap (λ b. b && pointwise E xs ys) (alike x y)
-    ∙ ap (λ b. F x y && b) (pointwise_alike E F alike xs ys)
-
 -- what is drawn by a stream and a length goes on with equal ones
-moved : (F : Stream → ℕ → Drawn) (stream there : Stream) (len size : ℕ) (from to : Work)
+moved : (F : Stream → ℕ → Drawn) (stream there : Stream) (len size : ℕ) (from to : PassState)
     → stream ≡ there → len ≡ size → Passed (F stream len) from to → Passed (F there size) from to
 moved F stream there len size from to streams sizes passed =
     subst (λ (n : ℕ). Passed (F there n) from to) sizes
     (subst (λ (s : Stream). Passed (F s len) from to) streams passed)
 
 -- a text that has its site points, and the changes that tell them
-pub record Pointed (rate : ℕ) (clean written : List Letter) (before : Stream) (pointed : Work)
+pub record Pointed (rate : ℕ) (clean written : List Letter) (before : Stream) (pointed : PassState)
     : Type 0 where
   pub text : pointed.text ≡ pointed_text (word_of before) rate before.taken written
   pub taken : pointed.draws
@@ -47,7 +37,7 @@ pub record Pointed (rate : ℕ) (clean written : List Letter) (before : Stream) 
 
 -- the points, then the insertions, then the deletions
 pub drawn_by_divide-passed : (rates : RateNumbers) (range : LengthRange)
-    (clean written : List Letter) (before : Stream) (pointed longer child : Work)
+    (clean written : List Letter) (before : Stream) (pointed longer child : PassState)
     → Pointed rates.site_point clean written before pointed
     → Passed (indels Insertion rates range (word_of pointed.draws)
     (record { size = length pointed.text; word = pointed.draws.taken })) pointed longer
@@ -58,7 +48,7 @@ pub drawn_by_divide-passed : (rates : RateNumbers) (range : LengthRange)
 unfolding drawn_by_divide
 drawn_by_divide-passed rates range clean written before pointed longer child points inserts
     deletes =
-    let start : Work = record { text = clean; changes = []; draws = before } in
+    let start : PassState = record { text = clean; changes = []; draws = before } in
     let next : ℕ = after_points (word_of before) rates.site_point before.taken written in
     let there : Stream = record before { taken = next } in
     let first : Drawn = record { changes = points_from 0 clean pointed.text; next = next } in

@@ -8,7 +8,7 @@ use Rattle.mutations.specs.declared.stop.ApplyStop.TheVariants.{Place, Length}
 use Rattle.mutations.specs.Change.{text_after, with_change, has_place, is_genome_length}
 use Rattle.random_streams.specs.RandomStream.{Stream}
 use Rattle.mutations.specs.DivideErrors.{Drawn, none_by, in_turn}
-use Rattle.mutations.specs.Pass.{Makes, Work, Passed}
+use Rattle.mutations.specs.Pass.{Makes, PassState, Passed}
 
 -- a step that gave a text took neither refusal
 pub step-made : (placed fits : Bool) (rest : Result (List Letter) ApplyStop)
@@ -54,7 +54,7 @@ pub Makes-one : (change : Change) (from : List Letter) → has_place change (len
 Makes-one change from placed fits = record { made = λ nth. rw (placed, fits) refl }
 
 -- what is left of a walk over a text: its changes, after those noted, are the whole walk's
-pub record Left (others whole : Drawn) (start now : Work) : Type 0 where
+pub record Left (others whole : Drawn) (start now : PassState) : Type 0 where
   pub changes : now.changes ++ others.changes ≡ start.changes ++ whole.changes
   pub next : others.next ≡ whole.next
   pub made : (to : List Letter) → Makes others.changes now.text to
@@ -62,7 +62,7 @@ pub record Left (others whole : Drawn) (start now : Work) : Type 0 where
   pub stream : now.draws ≡ record start.draws { taken = now.draws.taken }
 
 -- one step of the walk
-pub Left-next : (here others whole : Drawn) (start now next : Work) → Passed here now next
+pub Left-next : (here others whole : Drawn) (start now next : PassState) → Passed here now next
     → Left (in_turn here others) whole start now → Left others whole start next
 Left-next here others whole start now next passed left = record {
   changes = ap (λ l. l ++ others.changes) passed.noted
@@ -76,7 +76,8 @@ Left-next here others whole start now next passed left = record {
 }
 
 -- the walk after its last step
-pub Left-none : (whole : Drawn) (start now : Work) → Left (none_by now.draws.taken) whole start now
+pub Left-none : (whole : Drawn) (start now : PassState)
+    → Left (none_by now.draws.taken) whole start now
     → Passed whole start now
 Left-none whole start now left = record {
   made = left.made now.text (Makes-none now.text);
@@ -90,7 +91,7 @@ pub drop-here : (text : List Letter) (at : ℕ) → at < length text
 drop-here text at inside = rw (add-one, drop-cons text at NopA) refl
 
 -- what drew some changes, and then more
-pub Passed-append : (first more : Drawn) (before between after : Work)
+pub Passed-append : (first more : Drawn) (before between after : PassState)
     → Passed first before between → Passed more between after
     → Passed (in_turn first more) before after
 Passed-append first more before between after one two = record {

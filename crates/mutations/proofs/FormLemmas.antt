@@ -8,12 +8,13 @@ use Rattle.mutations.specs.declared.change.Change.{Change}
 use Rattle.mutations.specs.declared.change.Change.TheVariants.{Point, Insert, Delete}
 use Rattle.mutations.specs.declared.stop.ApplyStop.TheVariants.{Place, Length}
 use Rattle.mutations.specs.Change.{text_after, with_change, has_place, is_genome_length}
+use Rattle.mutations.specs.ChildTexts.{AreTextsOfChild}
 use Rattle.mutations.specs.Rates.{RateNumbers, LengthRange}
 use Rattle.mutations.specs.declared.indels.Indel.TheVariants.{Insertion, Deletion}
 use Rattle.mutations.specs.DivideErrors.{Drawn, pointed_text, after_points, points_from}
 use Rattle.mutations.specs.Indels.{Draft, indels, draft_after}
 use Rattle.mutations.specs.BirthRecord.{drawn_by_divide, origin_of}
-use Rattle.mutations.specs.RecordForm.{FitsBase, FitsPlace, FitsChange, may_follow, in_order, HasRecordForm}
+use Rattle.mutations.specs.RecordForm.{FitsBase, FitsPlace, FitsChange, change_may_follow, in_order, HasRecordForm}
 use Rattle.mutations.proofs.ChangeLemmas.{step-made}
 use Rattle.mutations.proofs.IndelLemmas.{IsIndel}
 use Rattle.mutations.proofs.IndelKinds.{indels-kind}
@@ -24,6 +25,7 @@ use Rattle.mutations.proofs.LawLemmas.{Child, drawn_by_divide-child}
 length-fits : (len : ℕ) → is_genome_length len ≡ true → len ≤ 8192
 length-fits len fits = grind (arith, nat_tests)
 
+-- a length from 8 to 8192 is a genome's
 genome-length : (len : ℕ) → 8 ≤ len → len ≤ 8192 → is_genome_length len ≡ true
 genome-length len least most = grind (arith, nat_tests)
 
@@ -59,7 +61,7 @@ fits-changes nth (change ∷ changes) text made longest applies =
 -- whether the first of some changes may follow this one
 abbrev leads : Change → List Change → Bool
 leads change [] = true
-leads change (next ∷ changes) = may_follow change next
+leads change (next ∷ changes) = change_may_follow change next
 
 -- a change before others
 order-cons : (change : Change) (changes : List Change) → leads change changes ≡ true
@@ -94,6 +96,7 @@ pub record IsTail (changes : List Change) : Type 0 where
   pub after_insert : (at : ℕ) (letter : Letter) → leads (Insert at letter) changes ≡ true
   pub after_point : (at : ℕ) (letter : Letter) → leads (Point at letter) changes ≡ true
 
+-- insertions with deletions behind them may come behind points
 tail : (longer shorter : List Change) → AllByRecursion (IsIndel Insertion) longer
     → AllByRecursion (IsIndel Deletion) shorter → IsTail (longer ++ shorter)
 tail [] shorter inserts deletes = record {
@@ -171,14 +174,16 @@ fits-base false clean genome = genome
 -- the record of a birth has the form
 pub origin_of-form : OneIndex → (words : ℕ → ℕ) → ((n : ℕ) → words n < 2 ^ 32)
     → (k : ℕ) (rates : RateNumbers) (limits : LengthRange) (clean written parent : List Letter)
-    → 8 ≤ limits.least → limits.greatest ≤ 8192 → length clean ≡ length written
-    → limits.least ≤ length written → length written ≤ limits.greatest
+    → 8 ≤ limits.least → limits.greatest ≤ 8192 → AreTextsOfChild limits clean written
     → HasRecordForm (origin_of words k rates limits clean written parent)
-origin_of-form one_index words fits k rates limits clean written parent least most one_length
-    shortest longest =
+origin_of-form one_index words fits k rates limits clean written parent least most texts =
+    let shortest : limits.least ≤ length clean =
+    omega (arith, texts.one_length, texts.within.least) in
+    let longest : length clean ≤ limits.greatest =
+    omega (arith, texts.one_length, texts.within.greatest) in
     let child : Child (drawn_by_divide words k rates limits clean written) clean limits =
     drawn_by_divide-child one_index words fits k rates limits clean written least most
-    one_length shortest longest in
+    texts.one_length texts.within.least texts.within.greatest in
     let genome : is_genome_length (length clean) ≡ true =
     genome-length (length clean) (omega arith) (omega arith) in
     record {

@@ -162,12 +162,13 @@ abbrev pub front_after : Indel → Letter → List Letter → Letter → List Le
 front_after Insertion drawn front letter = front ++ drawn ∷ letter ∷ []
 front_after Deletion drawn front letter = front
 
--- an insertion into the middle of a text, and a deletion from it
+-- an insertion into the middle of a text
 insert-middle : {A : Type 0} (front rest : List A) (x : A)
     → insert (front ++ rest) (length front) x ≡ front ++ x ∷ rest
 insert-middle [] rest x = refl
 insert-middle (y ∷ front) rest x = ap (λ l. y ∷ l) (insert-middle front rest x)
 
+-- a deletion from the middle of a text leaves what stands on both sides
 remove-middle : {A : Type 0} (front rest : List A) (x : A)
     → remove (front ++ x ∷ rest) (length front) ≡ front ++ rest
 remove-middle [] rest x = refl

@@ -9,24 +9,24 @@ use Rattle.mutations.specs.CopyError.{letter_of_word}
 use Rattle.mutations.specs.Rates.{RateNumbers, LengthRange}
 use Rattle.mutations.specs.DivideErrors.{Drawn, none_by}
 use Rattle.mutations.specs.Indels.{Draft, Spot, has_room, indel_at, length_after, draft_after, test_range, test_at, site_rate, single_rate, site_indel, indels_from, site_indels, single_indel, indels}
-use Rattle.mutations.specs.Pass.{Makes, Work, Passed, Fits}
+use Rattle.mutations.specs.Pass.{Makes, PassState, Passed, Fits}
 use Rattle.mutations.proofs.ChangeLemmas.{Left, Left-next, Left-none, Passed-append, drop-here}
 use Rattle.mutations.proofs.IndelLemmas.{changes-resize, length_after-is, place-after, second-passes, Room, with_indel, Makes-indel, front_after, with_indel-middle, Room-middle}
 use Rattle.mutations.proofs.IndelKinds.{AreOfKind, site_indel-kind, site_indels-kind}
 
 -- work whose text goes on
-abbrev pub with_rest : Work → List Letter → Work
+abbrev pub with_rest : PassState → List Letter → PassState
 with_rest work rest = record work { text = work.text ++ rest }
 
 -- what is written down of an indel at a spot
-pub record Notes (kind : Indel) (spot : Spot) (before after : Work) : Type 0 where
+pub record Notes (kind : Indel) (spot : Spot) (before after : PassState) : Type 0 where
   pub changes : after.changes
       ≡ before.changes ++ (indel_at kind (word_of before.draws) spot).changes
   pub draws : after.draws
       ≡ record before.draws { taken = (indel_at kind (word_of before.draws) spot).next }
 
 -- an indel that was drawn of a text
-Passed-indel : (kind : Indel) (range : LengthRange) (spot : Spot) (before after : Work)
+Passed-indel : (kind : Indel) (range : LengthRange) (spot : Spot) (before after : PassState)
     → Room kind range spot.place before.text
     → with_indel kind spot.place (letter_of_word (word_of before.draws spot.word)) before.text
     ≡ after.text → Notes kind spot before after
@@ -41,7 +41,7 @@ Passed-indel kind range spot before after room made notes = record {
 
 -- a test that hit
 drawn-of : (kind same : Indel) → same ≡ kind → (hit : Bool) → hit ≡ true → (spot : Spot)
-    (none : Drawn) (before after : Work)
+    (none : Drawn) (before after : PassState)
     → Passed (indel_at kind (word_of before.draws) spot) before after
     → Passed (cond hit (indel_at same (word_of before.draws) spot) none) before after
 drawn-of kind same is hit true_hit spot none before after passed =
@@ -51,7 +51,7 @@ drawn-of kind same is hit true_hit spot none before after passed =
     passed)
 
 -- the test of a letter drew an indel
-pub Passed-site : (test : IndelTest) (kind : Indel) (done next : Work) (letter : Letter)
+pub Passed-site : (test : IndelTest) (kind : Indel) (done next : PassState) (letter : Letter)
     (rest : List Letter) (len : ℕ) → test.kind ≡ kind
     → length done.text + suc (length rest) ≡ len → Fits (test_range test) len
     → (hits (next_word done.draws) test.rate && has_room test.kind (test_range test) len) ≡ true
@@ -86,14 +86,14 @@ Passed-site test kind done next letter rest len is size fits hit text notes =
     (record { changes = notes.changes; draws = notes.draws }))
 
 -- what is left of the tests of a text, the rest of it being `rest`
-abbrev pub IndelsLeft : IndelTest → Drawn → Work → Work → List Letter → Type 0
+abbrev pub IndelsLeft : IndelTest → Drawn → PassState → PassState → List Letter → Type 0
 IndelsLeft test whole start done rest =
     Left (indels_from test (word_of start.draws) (length rest)
     (record { place = length done.text; word = done.draws.taken })) whole start
     (with_rest done rest)
 
 -- one letter further
-IndelsLeft-next : (test : IndelTest) (whole : Drawn) (start done next : Work) (letter : Letter)
+IndelsLeft-next : (test : IndelTest) (whole : Drawn) (start done next : PassState) (letter : Letter)
     (rest : List Letter)
     → Passed (site_indel test (word_of done.draws) (length done.text + suc (length rest))
     (record { place = length done.text; word = done.draws.taken }))
@@ -104,8 +104,8 @@ IndelsLeft-next test whole start done next letter rest passed left =
     let len : ℕ = length done.text + suc (length rest) in
     let spot : Spot = record { place = length done.text; word = done.draws.taken } in
     let here : Drawn = site_indel test words len spot in
-    let from : Work = with_rest done (letter ∷ rest) in
-    let to : Work = with_rest next rest in
+    let from : PassState = with_rest done (letter ∷ rest) in
+    let to : PassState = with_rest next rest in
     let p : Passed here from to = subst (λ (w : ℕ → ℕ). Passed (site_indel test w len spot) from to)
     (ap word_of left.stream) passed in
     let place : length_after test.kind here.changes (length done.text + 1) ≡ length next.text =
@@ -123,7 +123,7 @@ IndelsLeft-next test whole start done next letter rest passed left =
     whole start from to p left)
 
 -- one step of the loop over a text
-pub IndelsLeft-step : (test : IndelTest) (whole : Drawn) (start done next : Work)
+pub IndelsLeft-step : (test : IndelTest) (whole : Drawn) (start done next : PassState)
     (text : List Letter) (at : ℕ) → at < length text
     → Passed (site_indel test (word_of done.draws) (length done.text + (length text - at))
     (record { place = length done.text; word = done.draws.taken }))
@@ -146,7 +146,8 @@ IndelsLeft-step test whole start done next text at inside passed left =
     left)
 
 -- no letter is left
-pub IndelsLeft-end : (test : IndelTest) (whole : Drawn) (start done : Work) (rest : List Letter)
+pub IndelsLeft-end : (test : IndelTest) (whole : Drawn) (start done : PassState)
+    (rest : List Letter)
     → rest ≡ [] → IndelsLeft test whole start done rest → Passed whole start done
 IndelsLeft-end test whole start done rest none left =
     let ended : Left (none_by done.draws.taken) whole start (with_rest done []) =
@@ -157,7 +158,7 @@ IndelsLeft-end test whole start done rest none left =
     (append-nil done.text) ended)
 
 -- the length after drawn indels
-pub size-after : (kind : Indel) (drawn : Drawn) (before after : Work) → AreOfKind kind drawn
+pub size-after : (kind : Indel) (drawn : Drawn) (before after : PassState) → AreOfKind kind drawn
     → Passed drawn before after
     → length_after kind drawn.changes (length before.text) ≡ length after.text
 size-after kind drawn before after kinds passed =
@@ -166,7 +167,7 @@ size-after kind drawn before after kinds passed =
 
 -- what is drawn next, after indels were
 pub draft-passed : (kind : Indel) (f : (ℕ → ℕ) → Draft → Drawn) (drawn : Drawn)
-    (before between after : Work) → AreOfKind kind drawn → Passed drawn before between
+    (before between after : PassState) → AreOfKind kind drawn → Passed drawn before between
     → Passed (f (word_of between.draws)
     (record { size = length between.text; word = between.draws.taken })) between after
     → Passed (f (word_of before.draws) (draft_after kind drawn
@@ -182,7 +183,7 @@ draft-passed kind f drawn before between after kinds first second =
 
 -- the tests of all letters, and then that of the whole text
 pub indels-passed : (kind : Indel) (rates : RateNumbers) (range : LengthRange)
-    (each single : IndelTest) (before between after : Work)
+    (each single : IndelTest) (before between after : PassState)
     → each ≡ test_at kind (site_rate kind rates) range
     → single ≡ test_at kind (single_rate kind rates) range
     → Passed (site_indels each (word_of before.draws)
@@ -204,7 +205,7 @@ indels-passed kind rates range each single before between after is_each is_singl
     subst (λ (t : IndelTest). Passed (single_indel t (word_of between.draws)
     (record { size = length between.text; word = between.draws.taken })) between after) is_single
     second in
-    Passed-append sites (single_indel b (word_of before.draws) (draft_after kind sites draft)) before
-    between after one
+    Passed-append sites (single_indel b (word_of before.draws) (draft_after kind sites draft))
+    before between after one
     (draft-passed kind (single_indel b) sites before between after
     (site_indels-kind a (word_of before.draws) draft) one two)

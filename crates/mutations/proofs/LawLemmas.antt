@@ -11,6 +11,7 @@ use Rattle.mutations.specs.declared.indels.IndelTest.{IndelTest}
 use Rattle.mutations.specs.declared.stop.ApplyStop.{ApplyStop}
 use Rattle.mutations.specs.Change.{text_after}
 use Rattle.mutations.specs.CopyError.{letter_of_word, after_error}
+use Rattle.mutations.specs.ChildTexts.{AreTextsOfChild, IsLengthWithin}
 use Rattle.mutations.specs.Rates.{RateNumbers, LengthRange}
 use Rattle.mutations.specs.DivideErrors.{Drawn, none_by, in_turn, site_text, pointed_text, after_points, points_from}
 use Rattle.mutations.specs.Indels.{Draft, Spot, has_room, place_count, indel_at, length_after, test_range, test_at, site_rate, single_rate, site_indel, indels_from, site_indels, single_indel, indels}
@@ -29,6 +30,7 @@ length-site_text words rate k [] = refl
 length-site_text words rate k (letter ∷ text) =
     ap suc (length-site_text words rate (after_error words rate k) text)
 
+-- site points leave the length, whether they are drawn at all or not
 pub length-pointed_text : (words : ℕ → ℕ) (rate k : ℕ) (text : List Letter)
     → length (pointed_text words rate k text) ≡ length text
 length-pointed_text words rate k text = grind (arith, length-site_text words rate k text)
@@ -268,20 +270,16 @@ module _ (one_index : OneIndex) where
   -- the record of a birth applies
   pub origin_of-applies : (words : ℕ → ℕ) → ((n : ℕ) → words n < 2 ^ 32)
       → (k : ℕ) (rates : RateNumbers) (limits : LengthRange) (clean written parent : List Letter)
-      → 8 ≤ limits.least → limits.greatest ≤ 8192 → length clean ≡ length written
-      → limits.least ≤ length written → length written ≤ limits.greatest
+      → 8 ≤ limits.least → limits.greatest ≤ 8192 → AreTextsOfChild limits clean written
       → IsOkAnd (child_of parent (origin_of words k rates limits clean written parent))
-      (λ child. (limits.least ≤ length child) × (length child ≤ limits.greatest))
-  origin_of-applies words fits k rates limits clean written parent least most one_length shortest
-      longest =
+      (IsLengthWithin limits)
+  origin_of-applies words fits k rates limits clean written parent least most texts =
       let child : Child (drawn_by_divide words k rates limits clean written) clean limits =
-      drawn_by_divide-child words fits k rates limits clean written least most one_length
-      shortest longest in
+      drawn_by_divide-child words fits k rates limits clean written least most texts.one_length
+      texts.within.least texts.within.greatest in
       let changes : List Change = (drawn_by_divide words k rates limits clean written).changes in
       let made : child_of parent (origin_of words k rates limits clean written parent)
       ≡ Ok child.to = ap (λ (base : List Letter). text_after 1 changes base)
       (written_of-clean one_index clean parent) ∙ child.makes.made 1 in
-      let P : Result (List Letter) ApplyStop → Type 0 =
-      λ r. IsOkAnd r (λ child. (limits.least ≤ length child) × (length child ≤ limits.greatest))
-      in
-      subst P (sym made) (child.least, child.greatest)
+      let P : Result (List Letter) ApplyStop → Type 0 = λ r. IsOkAnd r (IsLengthWithin limits) in
+      subst P (sym made) (record { least = child.least; greatest = child.greatest })

@@ -17,10 +17,12 @@ abbrev pub letter_words : Indel → ℕ → ℕ
 letter_words Insertion count = count
 letter_words Deletion count = 0
 
+-- the letters of no indels take no words
 letter_words-none : (kind : Indel) → letter_words kind 0 ≡ 0
 letter_words-none Insertion = refl
 letter_words-none Deletion = refl
 
+-- the words of the letters of some indels and of others add up
 letter_words-both : (kind : Indel) (one two : ℕ)
     → letter_words kind (one + two) ≡ letter_words kind one + letter_words kind two
 letter_words-both Insertion one two = refl
@@ -115,6 +117,7 @@ record Single (kind : Indel) (k : ℕ) (drawn : Drawn) : Type 0 where
   pub most : drawn.next ≤ k + 2 + letter_words kind (length drawn.changes)
   pub few : length drawn.changes ≤ 1
 
+-- the tests of all letters take at most a word each, and one for each letter put in
 site_indels-words : (test : IndelTest) (words : ℕ → ℕ) (draft : Draft)
     → Sites test.kind draft (site_indels test words draft)
 site_indels-words test words draft =
@@ -133,6 +136,7 @@ site_indels-words test words draft =
       few = omega (arith, tests.few);
     })
 
+-- the test of a whole text takes a word or two, and one for a letter put in
 single_indel-words : (test : IndelTest) (words : ℕ → ℕ) (draft : Draft)
     → Single test.kind draft.word (single_indel test words draft)
 single_indel-words test words draft =
@@ -157,6 +161,7 @@ single_indel-words test words draft =
       few = omega arith;
     })
 
+-- the words that all indels of one kind take, and how many indels these are at most
 indels-words : (kind : Indel) (rates : RateNumbers) (range : LengthRange) (words : ℕ → ℕ)
     (draft : Draft) → Indels kind draft (indels kind rates range words draft)
 indels-words kind rates range words draft =
@@ -195,6 +200,7 @@ after_sites-words words rate k (letter ∷ text) =
     let others = after_sites-words words rate next text in
     (omega (arith, others.0, least), omega (arith, others.1, most))
 
+-- site points take at most two words a letter, and none where they aren't drawn
 after_points-words : (none : Bool) (k next size : ℕ) → k ≤ next → next ≤ k + 2 * size
     → (k ≤ cond none k next) × (cond none k next ≤ k + 2 * size)
 after_points-words true k next size least most = (omega arith, omega arith)

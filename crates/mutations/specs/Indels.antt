@@ -85,11 +85,12 @@ abbrev pub draft_after : Indel → Drawn → Draft → Draft
 draft_after kind drawn draft =
     record { size = length_after kind drawn.changes draft.size; word = drawn.next }
 
--- the rate of an indel at each letter, and in a whole text
+-- the rate of an indel at each letter
 abbrev pub site_rate : Indel → RateNumbers → ℕ
 site_rate Insertion rates = rates.site_insert
 site_rate Deletion rates = rates.site_delete
 
+-- the rate of an indel in a whole text
 abbrev pub single_rate : Indel → RateNumbers → ℕ
 single_rate Insertion rates = rates.insert
 single_rate Deletion rates = rates.delete

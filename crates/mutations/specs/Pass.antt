@@ -13,13 +13,13 @@ pub record Makes (changes : List Change) (from to : List Letter) : Type 0 where
   pub made : (nth : ℕ) → text_after nth changes from ≡ Ok to
 
 -- a text that is being changed, the changes noted so far, and the stream of words
-pub record Work : Type 0 where
+pub record PassState : Type 0 where
   pub text : List Letter
   pub changes : List Change
   pub draws : Stream
 
 -- it made the changes drawn, noted them, and left the stream before the word after theirs
-pub record Passed (drawn : Drawn) (before after : Work) : Type 0 where
+pub record Passed (drawn : Drawn) (before after : PassState) : Type 0 where
   pub made : Makes drawn.changes before.text after.text
   pub noted : after.changes ≡ before.changes ++ drawn.changes
   pub taken : after.draws ≡ record before.draws { taken = drawn.next }

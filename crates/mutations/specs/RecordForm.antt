@@ -23,19 +23,19 @@ FitsChange (Insert at letter) = FitsPlace at
 FitsChange (Delete at) = FitsPlace at
 
 -- points with rising places come first, then insertions, then deletions
-abbrev pub may_follow : Change → Change → Bool
-may_follow (Point at letter) (Point next _) = nat_lt at next
-may_follow (Point at letter) _ = true
-may_follow (Insert at letter) (Point next _) = false
-may_follow (Insert at letter) _ = true
-may_follow (Delete at) (Delete next) = true
-may_follow (Delete at) _ = false
+abbrev pub change_may_follow : Change → Change → Bool
+change_may_follow (Point at letter) (Point next _) = nat_lt at next
+change_may_follow (Point at letter) _ = true
+change_may_follow (Insert at letter) (Point next _) = false
+change_may_follow (Insert at letter) _ = true
+change_may_follow (Delete at) (Delete next) = true
+change_may_follow (Delete at) _ = false
 
 -- each change may follow the one before it
 abbrev pub in_order : List Change → Bool
 in_order [] = true
 in_order (a ∷ []) = true
-in_order (a ∷ b ∷ changes) = may_follow a b && in_order (b ∷ changes)
+in_order (a ∷ b ∷ changes) = change_may_follow a b && in_order (b ∷ changes)
 
 -- a record that a log can write
 pub record HasRecordForm (birth : BirthRecord) : Type 0 where

@@ -14,6 +14,7 @@ use crate::site_points::{pointed_text, points};
 use crate::{Base, Born, Change, Changes, Limits, Origin, Rates};
 use avida_port::Memory;
 use genome::Genome;
+use genome::laws::equal_by_letters;
 use instruction_set::Letter;
 use instruction_set::laws::one_index;
 use random_streams::Draws;
@@ -82,17 +83,18 @@ fn base_of(alloc: Global, clean: &Genome, parent: &Genome) -> Result<Base, Memor
     ensures { IfOk result (λ base. written_in base
         ≡ written_of (letters clean.now) (letters parent.now)) }
 {
-    if are_equal(clean.letters(), parent.letters()) {
+    if are_equal(clean, parent) {
         Ok(Base::Parent)
     } else {
         Ok(Base::Written(clean.copy(alloc)?))
     }
 }
 
-fn are_equal(letters: &[Letter], others: &[Letter]) -> bool
-    ensures { result ≡ same_letters letters.now others.now }
+fn are_equal(genome: &Genome, other: &Genome) -> bool
+    ensures { result ≡ same_letters (letters genome.now) (letters other.now) }
 {
-    letters == others
+    equal_by_letters();
+    *genome == *other
 }
 
 /// The child's letters, and the changes that make them of the clean text.

@@ -1,6 +1,7 @@
-ghost use Rattle.std.specs.Prelude.{◌≡◌, ℕ, ◌<◌, ◌≤◌, ◌^◌, List, length, IsOkAnd};
+ghost use Rattle.std.specs.Prelude.{◌≡◌, ℕ, ◌<◌, ◌≤◌, ◌^◌, List, IsOkAnd};
 ghost use Rattle.instruction_set.specs.declared.letter.Letter.{Letter};
 ghost use Rattle.genome.specs.Lengths.{shortest_genome, longest_genome};
+ghost use Rattle.mutations.specs.ChildTexts.{AreTextsOfChild, IsLengthWithin};
 ghost use Rattle.mutations.specs.DivideErrors.{birth_words};
 ghost use Rattle.mutations.specs.Rates.{RateNumbers, LengthRange};
 ghost use Rattle.mutations.specs.BirthRecord.{child_of, origin_of};
@@ -20,11 +21,9 @@ pub fn drawn_records_apply()
         → ((n : ℕ) → words n < 2 ^ 32)
         → shortest_genome ≤ limits.least
         → limits.greatest ≤ longest_genome
-        → length clean ≡ length written
-        → limits.least ≤ length written
-        → length written ≤ limits.greatest
+        → AreTextsOfChild limits clean written
         → IsOkAnd (child_of parent (origin_of words k rates limits clean written parent))
-        (λ child. (limits.least ≤ length child) × (length child ≤ limits.greatest)) }
+        (IsLengthWithin limits) }
 {
     instruction_set::laws::one_index();
 }
@@ -36,9 +35,7 @@ pub fn drawn_records_have_form()
         → ((n : ℕ) → words n < 2 ^ 32)
         → shortest_genome ≤ limits.least
         → limits.greatest ≤ longest_genome
-        → length clean ≡ length written
-        → limits.least ≤ length written
-        → length written ≤ limits.greatest
+        → AreTextsOfChild limits clean written
         → HasRecordForm (origin_of words k rates limits clean written parent) }
 {
     instruction_set::laws::one_index();

@@ -14,6 +14,7 @@ use Rattle.std.proofs.lemmas.Str.{digit_value_digit}
 
 -- ---- the digits in front of a text
 
+-- a digit that follows digits in front is one of them too
 pub digits_more : (text : List ℕ) (i : ℕ) → i ≤ digits_len text → i < length text
     → 48 ≤ get_or text i 0 → get_or text i 0 ≤ 57 → i + 1 ≤ digits_len text
 digits_more text i far h low high =
@@ -30,6 +31,7 @@ digits_more text i far h low high =
           absurd cc
     ]
 
+-- digits that no digit follows are all the digits in front
 pub digits_stop : (text : List ℕ) (i : ℕ) → i ≤ digits_len text
     → is_ascii_digit (get_or text i 0) ≡ false → digits_len text ≡ i
 digits_stop text i far not =
@@ -39,26 +41,31 @@ digits_stop text i far not =
       | inr stop ↦ omega arith
     ]
 
+-- the value of as many bytes as there are digits in front is the value of these
 pub front_value : (text : List ℕ) (i value : ℕ) → digits_len text ≡ i
     → value ≡ digits_value 10 (take i text) → value ≡ digits_value 10 (leading_digits text)
 front_value text i value is value_is =
     value_is ∙ ap (λ (k : ℕ). digits_value 10 (take k text)) (sym is)
 
+-- with one digit more, the value is ten times what it was, and the digit
 pub value_on : (text : List ℕ) (i value : ℕ) → i < length text
     → value ≡ digits_value 10 (take i text) → 48 ≤ get_or text i 0 → get_or text i 0 ≤ 57
     → digits_value 10 (take (i + 1) text) ≡ value * 10 + (get_or text i 0 - 48)
 value_on text i value h is low high =
     omega (arith, digits_value_more 10 text i h, digit_value_digit (get_or text i 0) (low, high))
 
+-- further digits never make a value less
 after_more : (n : ℕ) (ds : List ℕ) → n ≤ digits_value_after 10 n ds
 after_more n [] = omega arith
 after_more n (c ∷ ds) = omega (arith, after_more (n * 10 + digit_value c) ds)
 
+-- two texts in a row: the second goes on from the value after the first
 after_append : (n : ℕ) (a b : List ℕ)
     → digits_value_after 10 n (a ++ b) ≡ digits_value_after 10 (digits_value_after 10 n a) b
 after_append n [] b = refl
 after_append n (c ∷ a) b = after_append (n * 10 + digit_value c) a b
 
+-- the first bytes of a text have no greater value than the whole
 pub value_grows : (text : List ℕ) (i : ℕ) → digits_value 10 (take i text) ≤ digits_value 10 text
 value_grows text i =
     let parts : digits_value 10 text ≡ digits_value_after 10 (digits_value 10 (take i text))
@@ -67,6 +74,7 @@ value_grows text i =
     ∙ after_append 0 (take i text) (drop i text) in
     omega (arith, parts, after_more (digits_value 10 (take i text)) (drop i text))
 
+-- the first ones of the digits in front have no greater value than all of them
 pub front_grows : (text : List ℕ) (i : ℕ) → i ≤ digits_len text
     → digits_value 10 (take i text) ≤ digits_value 10 (leading_digits text)
 front_grows text i far =
@@ -76,11 +84,13 @@ front_grows text i far =
 
 -- ---- numbers with one spelling
 
+-- a numeral has digits alone
 digits_of_numeral : (text : List ℕ) → is_numeral text ≡ true → all_ascii_digits text ≡ true
 digits_of_numeral [] is = absurd cc
 digits_of_numeral (d ∷ []) is = is
 digits_of_numeral (d ∷ e ∷ ds) is = (and_parts (not (d == 48)) (all_ascii_digits (d ∷ e ∷ ds)) is).1
 
+-- a numeral whose value is from least to greatest writes that value
 pub number_is : (least greatest value : ℕ) (text : List ℕ) → is_numeral text ≡ true
     → value ≡ digits_value 10 text → least ≤ value → value ≤ greatest
     → Some value ≡ number_of least greatest text
@@ -90,6 +100,7 @@ number_is least greatest value text numeral is low high =
     let h : nat_le (digits_value 10 text) greatest ≡ true = grind (arith, nat_tests, is) in
     rw (numeral, h, l, is) refl
 
+-- a text that can't be a numeral from least to greatest writes no number
 pub number_not : (least greatest : ℕ) (text : List ℕ)
     → (all_ascii_digits text ≡ true → is_numeral text ≡ true → least ≤ digits_value 10 text
     → digits_value 10 text ≤ greatest → ⊥) → None ≡ number_of least greatest text
@@ -109,27 +120,33 @@ number_not least greatest text never =
 
 -- ---- the number in front of a text
 
+-- the first 1 + n bytes are the first byte and n of the others
 take_one : (n c : ℕ) (cs : List ℕ) → take (1 + n) (c ∷ cs) ≡ c ∷ take n cs
 take_one n c cs = let e : 1 + n ≡ suc n = omega arith in ap (λ (k : ℕ). take k (c ∷ cs)) e
 
+-- a digit and digits behind it are digits alone, and so is the empty text
 all_front : (b : Bool) (n c : ℕ) (cs : List ℕ) → is_ascii_digit c ≡ b
     → all_ascii_digits (take n cs) ≡ true
     → all_ascii_digits (take (cond b (1 + n) 0) (c ∷ cs)) ≡ true
 all_front true n c cs is all = rw (take_one n c cs, is, all) refl
 all_front false n c cs is all = refl
 
+-- the digits in front of a text are digits alone
 all_leading : (text : List ℕ) → all_ascii_digits (leading_digits text) ≡ true
 all_leading [] = refl
 all_leading (c ∷ cs) = all_front (is_ascii_digit c) (digits_len cs) c cs refl (all_leading cs)
 
+-- a test beside one that holds is that test
 and_true : (b : Bool) → b ≡ (b && true)
 and_true true = refl
 and_true false = refl
 
+-- two digits or more are a numeral just where the first isn't 0
 plain_from : (c d k : ℕ) (cs : List ℕ) → all_ascii_digits (take (suc (suc k)) (c ∷ d ∷ cs)) ≡ true
     → not (c == 48) ≡ is_numeral (take (suc (suc k)) (c ∷ d ∷ cs))
 plain_from c d k cs all = and_true (not (c == 48)) ∙ ap (λ (b : Bool). not (c == 48) && b) (sym all)
 
+-- two digits or more in front of a text are a numeral just where the first isn't 0
 pub plain_is : (text : List ℕ) → 1 < digits_len text
     → not (get_or text 0 0 == 48) ≡ is_numeral (leading_digits text)
 plain_is [] more = absurd (omega (arith, more))
@@ -143,6 +160,7 @@ plain_is (c ∷ d ∷ cs) more =
 
 -- ---- the number that is a whole text
 
+-- a text of digits alone has as many digits in front as bytes
 whole_length : (text : List ℕ) → all_ascii_digits text ≡ true → digits_len text ≡ length text
 whole_length [] all = refl
 whole_length (c ∷ cs) all =
@@ -150,6 +168,7 @@ whole_length (c ∷ cs) all =
     let e = whole_length cs both.1 in
     ap (λ (b : Bool). cond b (1 + digits_len cs) 0) both.0 ∙ omega (arith, e)
 
+-- where there are as many digits in front as bytes, they are the whole text
 all_whole : (text : List ℕ) → digits_len text ≡ length text → leading_digits text ≡ text
 all_whole text is = ap (λ (n : ℕ). take n text) is ∙ take_all (length text) text (omega arith)
 
@@ -159,11 +178,13 @@ pub whole_number : (least greatest : ℕ) (text : List ℕ) → digits_len text 
 whole_number least greatest text is =
     ap (λ (l : List ℕ). number_of least greatest l) (all_whole text is)
 
+-- a text that isn't digits to its end writes no number
 pub part_number : (least greatest : ℕ) (text : List ℕ) → (digits_len text ≡ length text → ⊥)
     → None ≡ number_of least greatest text
 part_number least greatest text part =
     number_not least greatest text (λ all numeral low high. part (whole_length text all))
 
+-- where the digits in front write no number, the text writes none
 pub no_number : (least greatest : ℕ) (text : List ℕ)
     → None ≡ number_of least greatest (leading_digits text) → None ≡ number_of least greatest text
 no_number least greatest text none = elim (cases_lt (digits_len text) (length text)) [

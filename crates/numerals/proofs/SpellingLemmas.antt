@@ -11,12 +11,15 @@ use Rattle.std.proofs.lemmas.Str.Parse.{IsNumeralModel, numerals_by_value, tells
 use Rattle.std.proofs.lemmas.Fmt.{digits_decimal, digits_value-decimal, decimal-digits_value, decimal_nonempty, first_decimal, decimal_digit}
 use Rattle.numerals.specs.Numeral.{is_numeral, number_of}
 
+-- the test for digits alone, and their value, mean what the library's words do
 own : IsNumeralModel (λ ds. all_ascii_digits ds ≡ true) (λ ds. digits_value 10 ds)
 own = numerals_by_value (λ ds. all_ascii_digits ds ≡ true) tells_all_ascii_digits
 
+-- a text that begins with the digit 0 has no other byte
 abbrev OneZero : List ℕ → Type 0
 OneZero ds = get_or ds 0 0 ≡ 48 → length ds ≡ 1
 
+-- digits, at least one, without a leading zero are a numeral
 numeral_from : (ds : List ℕ) → all_ascii_digits ds ≡ true → 0 < length ds → OneZero ds
     → is_numeral ds ≡ true
 numeral_from [] digits some zero_alone = absurd (omega (arith, some))
@@ -26,6 +29,7 @@ numeral_from (d ∷ e ∷ ds) digits some zero_alone = elim (cases_eq d 48) [
   | inr other ↦ let t : (d == 48) ≡ false = grind (arith, nat_tests) in rw (t, digits) refl
 ]
 
+-- a numeral is digits, at least one, without a leading zero
 numeral_to : (ds : List ℕ) → is_numeral ds ≡ true → (all_ascii_digits ds ≡ true) × (0 < length ds)
     × OneZero ds
 numeral_to [] is = absurd cc
@@ -38,6 +42,7 @@ numeral_to (d ∷ e ∷ ds) is =
           let f : not (d == 48) ≡ false = rw t refl in absurd cc,
     )
 
+-- the decimal text of a number below 2 ^ 64 is a numeral
 decimal_numeral : (n : ℕ) → n < 2 ^ 64 → is_numeral (decimal n) ≡ true
 decimal_numeral n small =
     numeral_from (decimal n) (digits_decimal own n small) (decimal_nonempty n small) (λ z.
@@ -46,6 +51,7 @@ decimal_numeral n small =
       | inr other ↦ absurd (omega (arith, z, first_decimal n (omega (arith, other)) small))
     ])
 
+-- the decimal text of a number from least to greatest writes that number
 pub spelled : (least greatest n : ℕ) → greatest < 2 ^ 64 → least ≤ n → n ≤ greatest
     → number_of least greatest (decimal n) ≡ Some n
 unfolding number_of
@@ -56,6 +62,7 @@ spelled least greatest n wide from_least to_greatest =
     let high : nat_le n greatest ≡ true = grind (arith, nat_tests, to_greatest) in
     rw (decimal_numeral n small, value, low, high) refl
 
+-- a text that writes a number is its decimal text, and the number is from least to greatest
 pub taken : (least greatest n : ℕ) (text : List ℕ) → greatest < 2 ^ 64
     → number_of least greatest text ≡ Some n → (decimal n ≡ text) × (least ≤ n) × (n ≤ greatest)
 unfolding number_of
@@ -72,6 +79,7 @@ taken least greatest n text wide is =
     decimal-digits_value own text numeral.0 numeral.1 numeral.2 (omega (arith, high, wide)) in
     (ap (λ k. decimal k) (sym got.1) ∙ back, omega (arith, low, got.1), omega (arith, high, got.1))
 
+-- each byte of digits alone is from 48 to 57
 are_digits : (ds : List ℕ) → all_ascii_digits ds ≡ true
     → AllByRecursion (λ b. (48 ≤ b) × (b ≤ 57)) ds
 are_digits [] all = tt
@@ -79,13 +87,16 @@ are_digits (d ∷ ds) all =
     let parts = and_parts _ (all_ascii_digits ds) all in
     ((grind (arith, nat_tests, parts.0), grind (arith, nat_tests, parts.0)), are_digits ds parts.1)
 
+-- each byte of a decimal text is from 48 to 57
 pub decimal_digits : (n : ℕ) → n < 2 ^ 64 → AllByRecursion (λ b. (48 ≤ b) × (b ≤ 57)) (decimal n)
 decimal_digits n small = are_digits (decimal n) (digits_decimal own n small)
 
+-- the empty text writes no number
 pub empty_is_none : (least greatest : ℕ) → number_of least greatest [] ≡ None
 unfolding number_of
 empty_is_none least greatest = refl
 
+-- a text that begins with a minus sign writes no number
 pub minus_is_none : (least greatest : ℕ) (text : List ℕ)
     → number_of least greatest (45 ∷ text) ≡ None
 unfolding number_of

@@ -31,6 +31,7 @@ pub OnOk-then : {A : Type 0} {E : Type 0} (P Q : Type 0) (r : Result A E) → On
     → OnOk r Q
 OnOk-then P Q r h f = OnOk-map P Q f r h
 
+-- what follows for each value, where the fact comes first
 pub IfOk-then : {A : Type 0} {E : Type 0} (P Q : A → Type 0) (r : Result A E) → IfOk r P
     → ((a : A) → P a → Q a) → IfOk r Q
 IfOk-then P Q r h f = IfOk-map P Q f r h

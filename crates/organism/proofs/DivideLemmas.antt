@@ -8,16 +8,18 @@ use Rattle.virtual_cpu.specs.Divide.{end_of, divide_question}
 use Rattle.organism.specs.OrganismState.{OrganismState}
 use Rattle.organism.specs.Life.{IsDivide}
 
--- where the parts of a question end
+-- the question of a divide has the place of READ
 pub question-read : (m : Machine) (ask : DivideAsk) → ask ≡ divide_question m
     → ask.read ≡ m.heads.read
 unfolding divide_question
 question-read m ask is = ap (λ (a : DivideAsk). a.read) is
 
+-- the end in a question is the end of the child's part
 pub question-end : (m : Machine) (ask : DivideAsk) → ask ≡ divide_question m → ask.end ≡ end_of m
 unfolding divide_question
 question-end m ask is = ap (λ (a : DivideAsk). a.end) is
 
+-- of two numbers within a bound, the one that a test picks is within it
 either-le : (test : Bool) (one other most : ℕ) → one ≤ most → other ≤ most
     → cond test one other ≤ most
 either-le true one other most first second = first

@@ -42,9 +42,11 @@ goes_on-after settings old next new age merit genome words births goes = record 
 pub old-at : (settings : SettingNumbers) (start now : OrganismState) → now.genome ≡ start.genome
     → now.age < 2 ^ 64 - 1 → (now.age == age_of_death settings start) ≡ is_old settings now
 old-at settings start now genome young = go settings.death where
+  -- this age is not the one that stands for no death
   never : (now.age == 2 ^ 64 - 1) ≡ false
   never = grind (arith, common_steps)
 
+  -- with death on or off, it has the age of death just where it is old
   go : (death : Bool) → (now.age == cond death (settings.age_limit * length start.genome)
       (2 ^ 64 - 1)) ≡ (death && (now.age == settings.age_limit * length now.genome))
   go true = rw genome refl

@@ -6,8 +6,9 @@ use Rattle.virtual_cpu.specs.Machine.{Machine, IsMachine}
 
 -- it is the machine that the image was taken of
 pub machine-again : (again : (m : Machine) → IsMachine m
-    → machine_of_image (image_of m) m.made m.limit ≡ m) (m : Machine) (cpu : CpuImage)
-    (made limit : ℕ) → IsMachine m → cpu ≡ image_of m → made ≡ m.made → limit ≡ m.limit
-    → machine_of_image cpu made limit ≡ m
-machine-again again m cpu made limit is taken same_made same_limit =
-    rw (taken, same_made, same_limit) (again m is)
+    → machine_of_image (image_of m) m.birth_length m.limit ≡ m) (m : Machine) (cpu : CpuImage)
+    (birth_length limit : ℕ) → IsMachine m → cpu ≡ image_of m → birth_length ≡ m.birth_length
+    → limit ≡ m.limit
+    → machine_of_image cpu birth_length limit ≡ m
+machine-again again m cpu birth_length limit is taken same_length same_limit =
+    rw (taken, same_length, same_limit) (again m is)

@@ -3,19 +3,19 @@ use Rattle.std.proofs.Common.{◌≡◌, ℕ, suc, ◌+◌, ◌-◌, ◌<◌, Bo
 use Rattle.std.specs.List.{find, range_with_len}
 use Rattle.organism.specs.SettingNumbers.{SettingNumbers}
 use Rattle.organism.specs.declared.ran.Ran.TheVariants.{Lives, Died}
-use Rattle.organism.specs.UpdateLife.{LifeState, state_after, after_step, is_old, dies_at, death_in, ended, life}
+use Rattle.organism.specs.UpdateLife.{LifeState, life_state_after, after_step, is_old, dies_at, death_in, ended, life}
 
 -- before any step
 pub state_after-zero : (settings : SettingNumbers) (words : ℕ → ℕ) (start : LifeState)
-    → state_after settings words start 0 ≡ start
-unfolding state_after
+    → life_state_after settings words start 0 ≡ start
+unfolding life_state_after
 state_after-zero settings words start = refl
 
 -- after one more step
 pub state_after-next : (settings : SettingNumbers) (words : ℕ → ℕ) (start : LifeState) (steps : ℕ)
-    → state_after settings words start (steps + 1)
-    ≡ after_step settings words (state_after settings words start steps)
-unfolding state_after
+    → life_state_after settings words start (steps + 1)
+    ≡ after_step settings words (life_state_after settings words start steps)
+unfolding life_state_after
 state_after-next settings words start steps = rw add-one refl
 
 -- the search among the steps from one on
@@ -24,22 +24,11 @@ pub find-next : (test : ℕ → Bool) (step n : ℕ) → step < n
     ≡ cond (test step) (Some step) (find test (range_with_len (step + 1) (n - (step + 1))))
 find-next test step n h = let more : n - step ≡ suc (n - (step + 1)) = omega arith in rw more refl
 
--- no step is left
-pub find-end : (test : ℕ → Bool) (n : ℕ) → find test (range_with_len n (n - n)) ≡ None
-find-end test n = let none : n - n ≡ 0 = omega arith in rw none refl
-
--- a life without a death
-pub life-lives : (settings : SettingNumbers) (words : ℕ → ℕ) (start : LifeState) (steps : ℕ)
-    → death_in settings words start steps ≡ None
-    → life settings words start steps ≡ (state_after settings words start steps, Lives)
-unfolding life
-life-lives settings words start steps none = ap (ended settings words start steps) none
-
 -- a life that ends with a step
 pub life-dies : (settings : SettingNumbers) (words : ℕ → ℕ) (start : LifeState) (steps step : ℕ)
     → death_in settings words start steps ≡ Some step
     → life settings words start steps
-    ≡ (state_after settings words start (step + 1), Died (step + 1))
+    ≡ (life_state_after settings words start (step + 1), Died (step + 1))
 unfolding life
 life-dies settings words start steps step some = ap (ended settings words start steps) some
 
@@ -65,15 +54,15 @@ search-here test step n first h left passes =
 
 -- the state after one more step, by words that are the same
 pub state-next : (settings : SettingNumbers) (words same : ℕ → ℕ) (start now next : LifeState)
-    (step : ℕ) → now ≡ state_after settings words start step → same ≡ words
-    → next ≡ after_step settings same now → next ≡ state_after settings words start (step + 1)
+    (step : ℕ) → now ≡ life_state_after settings words start step → same ≡ words
+    → next ≡ after_step settings same now → next ≡ life_state_after settings words start (step + 1)
 state-next settings words same start now next step here alike stepped =
     stepped ∙ ap (λ w. after_step settings w now) alike ∙ ap (after_step settings words) here
     ∙ sym (state_after-next settings words start step)
 
 -- whether this state is a death
 pub dies-now : (settings : SettingNumbers) (words : ℕ → ℕ) (start next : LifeState) (step : ℕ)
-    (old : Bool) → next ≡ state_after settings words start (step + 1)
+    (old : Bool) → next ≡ life_state_after settings words start (step + 1)
     → old ≡ is_old settings next.organism → dies_at settings words start step ≡ old
 dies-now settings words start next step old here is =
     sym (is ∙ ap (λ (s : LifeState). is_old settings s.organism) here)

@@ -12,8 +12,8 @@ use Rattle.divide_rules.specs.Rules.{RuleNumbers}
 use Rattle.divide_rules.specs.declared.verdict.Verdict.{Verdict}
 use Rattle.divide_rules.specs.declared.verdict.Verdict.TheVariants as verdict
 use Rattle.divide_rules.specs.Viability.{verdict_of}
-use Rattle.virtual_cpu.specs.declared.did.Did.{Did}
-use Rattle.virtual_cpu.specs.declared.did.Did.TheVariants.{Output, Asks}
+use Rattle.virtual_cpu.specs.declared.step_answer.StepAnswer.{StepAnswer}
+use Rattle.virtual_cpu.specs.declared.step_answer.StepAnswer.TheVariants.{Output, Asks}
 use Rattle.virtual_cpu.specs.Machine.{Machine, fresh_machine}
 use Rattle.virtual_cpu.specs.Divide.{parent_part}
 use Rattle.virtual_cpu.specs.Effects.{effect_of}
@@ -27,7 +27,7 @@ abbrev pub next_input : OrganismState → ℤ
 next_input o = cast_signed w32 (slice_index_or o.inputs (o.read % 3) 0)
 
 -- the machine's step, with the letter of a copy error
-abbrev pub machine_step : OrganismState → Option Letter → Machine × Did
+abbrev pub machine_step : OrganismState → Option Letter → Machine × StepAnswer
 machine_step o copy = step o.machine (next_input o) copy
 
 -- the machine is another, and the age is one more
@@ -54,16 +54,16 @@ unfoldable pub after_output : OrganismState → ℤ → OrganismState × Outcome
 after_output o output = with_done (record o { read = o.read + 1 }) (newly_done o output)
 
 -- what a verdict on a divide comes to
-abbrev pub outcome_of : Verdict → DivideAsk → Outcome
-outcome_of verdict.Viable ask = outcome.Viable ask
-outcome_of (verdict.Broken rule found bound) ask = outcome.Refused rule found bound
+abbrev pub divide_outcome : Verdict → DivideAsk → Outcome
+divide_outcome verdict.Viable ask = outcome.Viable ask
+divide_outcome (verdict.Broken rule found bound) ask = outcome.Refused rule found bound
 
 -- after h-divide the rules are tried
 abbrev pub after_question : OrganismState → RuleNumbers → DivideAsk → Outcome
-after_question o rules ask = outcome_of (verdict_of ask (length o.genome) rules) ask
+after_question o rules ask = divide_outcome (verdict_of ask (length o.genome) rules) ask
 
 -- what follows from what the machine tells
-abbrev pub after_did : OrganismState → RuleNumbers → Did → OrganismState × Outcome
+abbrev pub after_did : OrganismState → RuleNumbers → StepAnswer → OrganismState × Outcome
 after_did o rules (Output value) = after_output o value
 after_did o rules (Asks ask) = (o, after_question o rules ask)
 after_did o rules _ = (o, outcome.Nothing)
@@ -91,7 +91,8 @@ renewed o ask = record o {
   age = 0;
   read = 0;
   gestation = no_tasks;
-  machine = fresh_machine (parent_part o.machine.memory ask.read) o.machine.made o.machine.limit;
+  machine = fresh_machine (parent_part o.machine.memory ask.read) o.machine.birth_length
+      o.machine.limit;
 }
 
 -- a divide whose two parts are long enough for genomes and lie in memory, the parent's at most
@@ -105,7 +106,7 @@ pub record IsDivide (o : OrganismState) (ask : DivideAsk) : Type 0 where
   pub twice_genome : ask.read ≤ 2 * length o.genome
 
 -- the child of a divide has a length that the rules allow
-pub record IsChildOf (rules : RuleNumbers) (ask : DivideAsk) : Type 0 where
+pub record HasAllowedLength (rules : RuleNumbers) (ask : DivideAsk) : Type 0 where
   pub least : rules.least ≤ ask.end - ask.read
   pub greatest : ask.end - ask.read ≤ rules.greatest
 

@@ -34,5 +34,5 @@ new_organism letters inputs merit credited limit = record {
 
 -- what holds of every organism
 pub record IsOrganism (o : OrganismState) : Type 0 where
-  pub made : o.machine.made ≡ length o.genome
+  pub birth_length : o.machine.birth_length ≡ length o.genome
   pub read : o.read ≤ o.age

@@ -69,8 +69,8 @@ remarked o =
     remark_on stepped.0 stepped.1
 
 -- the three registers
-abbrev pub registers_of : Machine → List ℤ
-registers_of m = m.registers.ax ∷ m.registers.bx ∷ m.registers.cx ∷ []
+abbrev pub traced_registers : Machine → List ℤ
+traced_registers m = m.registers.ax ∷ m.registers.bx ∷ m.registers.cx ∷ []
 
 -- a step of a trace
 unfoldable pub trace_step_of : OrganismState → OrganismState × TracedStep
@@ -79,7 +79,7 @@ trace_step_of o = (
   record {
     place = o.machine.heads.ip;
     letter = letter_under_ip o.machine;
-    registers = registers_of (remarked o).0.machine;
+    registers = traced_registers (remarked o).0.machine;
     remark = (remarked o).1;
   },
 )

@@ -120,10 +120,10 @@ after_step settings words s =
     after_outcome settings words (record s { organism = stepped.0; next = next }) stepped.1
 
 -- the state after so many steps
-unfoldable pub state_after : SettingNumbers → (ℕ → ℕ) → LifeState → ℕ → LifeState
-state_after settings words start zero = start
-state_after settings words start (suc steps) =
-    after_step settings words (state_after settings words start steps)
+unfoldable pub life_state_after : SettingNumbers → (ℕ → ℕ) → LifeState → ℕ → LifeState
+life_state_after settings words start zero = start
+life_state_after settings words start (suc steps) =
+    after_step settings words (life_state_after settings words start steps)
 
 -- whether death is on and the age is at its limit
 abbrev pub is_old : SettingNumbers → OrganismState → Bool
@@ -137,7 +137,7 @@ age_of_death settings o =
 -- whether it is so after the step with this number from 0
 abbrev pub dies_at : SettingNumbers → (ℕ → ℕ) → LifeState → ℕ → Bool
 dies_at settings words start step =
-    is_old settings (state_after settings words start (step + 1)).organism
+    is_old settings (life_state_after settings words start (step + 1)).organism
 
 -- the first of so many steps with which the organism dies
 unfoldable pub death_in : SettingNumbers → (ℕ → ℕ) → LifeState → ℕ → Option ℕ
@@ -145,9 +145,14 @@ death_in settings words start steps = find (dies_at settings words start) (range
 
 -- a life ends with the step of its death, or with all steps
 abbrev pub ended : SettingNumbers → (ℕ → ℕ) → LifeState → ℕ → Option ℕ → LifeState × Ran
-ended settings words start steps None = (state_after settings words start steps, Lives)
+ended settings words start steps None = (life_state_after settings words start steps, Lives)
 ended settings words start steps (Some step) =
-    (state_after settings words start (step + 1), Died (step + 1))
+    (life_state_after settings words start (step + 1), Died (step + 1))
+
+-- whether a life ended by age
+abbrev pub is_death : Ran → Bool
+is_death Lives = false
+is_death (Died after) = true
 
 -- the life of one update, of at most so many steps
 unfoldable pub life : SettingNumbers → (ℕ → ℕ) → LifeState → ℕ → LifeState × Ran

@@ -4,8 +4,8 @@ use Rattle.organism.specs.OrganismState.{OrganismState, IsOrganism}
 use Rattle.organism.specs.declared.organism.Organism.TheInside.{Inside}
 
 -- the organism that an `Organism` is
-abbrev pub organism_of : Inside → OrganismState
-organism_of o = record {
+abbrev pub organism_view : Inside → OrganismState
+organism_view o = record {
   genome = letters o.genome.value;
   inputs = o.inputs;
   merit = o.merit;
@@ -18,4 +18,4 @@ organism_of o = record {
 
 -- what holds of every `Organism`
 abbrev pub IsOrganismOf : Inside → Type 0
-IsOrganismOf o = IsOrganism (organism_of o)
+IsOrganismOf o = IsOrganism (organism_view o)

@@ -10,7 +10,7 @@ ghost use Rattle.virtual_cpu.specs.Step.{AsksOf};
 ghost use Rattle.virtual_cpu.specs.Divide.{divide_question};
 ghost use Rattle.organism.specs.OrganismState.{new_organism, IsOrganism};
 ghost use Rattle.organism.specs.Image.{organism_of_image};
-ghost use Rattle.organism.specs.Life.{newly_done, after_output, after_question, after_did, after_letter, life_step, renewed, IsDivide, IsChildOf, OnViable};
+ghost use Rattle.organism.specs.Life.{newly_done, after_output, after_question, after_did, after_letter, life_step, renewed, IsDivide, HasAllowedLength, OnViable};
 ghost use Rattle.organism.specs.TracedStep.{remark_value, traced_value, remark_on, trace_step_of};
 
 use crate::outcome::Outcome;
@@ -26,7 +26,7 @@ use std::alloc::Global;
 use std::marker::Model;
 use std::sync::Arc;
 use virtual_cpu::laws::{few_letters_tell, images_are_whole, only_io_takes_an_input};
-use virtual_cpu::{Cpu, Did};
+use virtual_cpu::{Cpu, StepAnswer};
 
 /// An organism, which lives by the steps of its machine.
 #[derive(Drop)]
@@ -46,9 +46,9 @@ impl Model for Organism {
 
     ghost Value = { OrganismState };
 
-    ghost use Rattle.organism.specs.View.{organism_of, IsOrganismOf};
+    ghost use Rattle.organism.specs.View.{organism_view, IsOrganismOf};
 
-    ghost view = { organism_of };
+    ghost view = { organism_view };
 
     ghost invariant = { IsOrganismOf };
 }
@@ -238,7 +238,7 @@ impl Organism {
         ensures step { (self.new, result)
             ≡ after_letter self.old letter copy (rule_numbers rules.now) }
         ensures divide { OnViable result (IsDivide self.new) }
-        ensures child { OnViable result (IsChildOf (rule_numbers rules.now)) }
+        ensures child { OnViable result (HasAllowedLength (rule_numbers rules.now)) }
         ensures age { self.new.age ≡ self.old.age + 1 }
         ensures merit { self.new.merit ≡ self.old.merit }
         ensures genome { self.new.genome ≡ self.old.genome }
@@ -254,7 +254,7 @@ impl Organism {
 
     /// The letter that was taken has its effect, and nothing follows from it.
     #[inline(always)]
-    #[tactic(auto, unfolding(crate::specs::Life::after_letter), using(crate::proofs::DidLemmas::nothing_follows))]
+    #[tactic(auto, unfolding(crate::specs::Life::after_letter), using(crate::proofs::AnswerLemmas::nothing_follows))]
     fn perform_quietly(&mut self, letter: Letter, copy: Option<Letter>)
         requires age { self.old.age < 2 ^ 63 }
         requires quiet { (letter ≢ Io) × (letter ≢ HDivide) }
@@ -284,7 +284,7 @@ impl Organism {
         ensures step { (self.new, result)
             ≡ after_letter self.old letter copy (rule_numbers rules.now) }
         ensures divide { OnViable result (IsDivide self.new) }
-        ensures child { OnViable result (IsChildOf (rule_numbers rules.now)) }
+        ensures child { OnViable result (HasAllowedLength (rule_numbers rules.now)) }
         ensures age { self.new.age ≡ self.old.age + 1 }
         ensures merit { self.new.merit ≡ self.old.merit }
         ensures genome { self.new.genome ≡ self.old.genome }
@@ -296,22 +296,22 @@ impl Organism {
     }
 
     /// What follows from the answer of the machine's step.
-    fn after_did(&mut self, did: Did, rules: &DivideRules) -> Outcome
+    fn after_did(&mut self, did: StepAnswer, rules: &DivideRules) -> Outcome
         requires read { self.old.read < self.old.age }
         requires question { AsksOf self.old.machine did }
         ensures step { (self.new, result) ≡ after_did self.old (rule_numbers rules.now) did }
         ensures divide { OnViable result (IsDivide self.new) }
-        ensures child { OnViable result (IsChildOf (rule_numbers rules.now)) }
+        ensures child { OnViable result (HasAllowedLength (rule_numbers rules.now)) }
         ensures age { self.new.age ≡ self.old.age }
         ensures merit { self.new.merit ≡ self.old.merit }
         ensures genome { self.new.genome ≡ self.old.genome }
     {
         match did {
-            Did::Plain => Outcome::Nothing,
-            Did::Copied => Outcome::Nothing,
-            Did::Output { value } => self.after_output(value),
-            Did::Asks(ask) => self.after_question(&ask, rules),
-            Did::Allocated => Outcome::Nothing,
+            StepAnswer::Plain => Outcome::Nothing,
+            StepAnswer::Copied => Outcome::Nothing,
+            StepAnswer::Output { value } => self.after_output(value),
+            StepAnswer::Asks(ask) => self.after_question(&ask, rules),
+            StepAnswer::Allocated => Outcome::Nothing,
         }
     }
 
@@ -321,7 +321,7 @@ impl Organism {
         requires { self.old.read < self.old.age }
         ensures step { (self.new, result) ≡ after_output self.old value }
         ensures divide { OnViable result (IsDivide self.new) }
-        ensures child { (rules : RuleNumbers) → OnViable result (IsChildOf rules) }
+        ensures child { (rules : RuleNumbers) → OnViable result (HasAllowedLength rules) }
         ensures age { self.new.age ≡ self.old.age }
         ensures merit { self.new.merit ≡ self.old.merit }
         ensures genome { self.new.genome ≡ self.old.genome }
@@ -353,7 +353,7 @@ impl Organism {
         requires { ask.now ≡ divide_question self.now.machine }
         ensures outcome { result ≡ after_question self.now (rule_numbers rules.now) ask.now }
         ensures divide { OnViable result (IsDivide self.now) }
-        ensures child { OnViable result (IsChildOf (rule_numbers rules.now)) }
+        ensures child { OnViable result (HasAllowedLength (rule_numbers rules.now)) }
     {
         let _ = self.machine.length();
         match judge(ask, self.genome.len(), rules) {

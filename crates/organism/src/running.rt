@@ -4,7 +4,7 @@ ghost use Rattle.divide_rules.specs.Rules.{rule_numbers};
 ghost use Rattle.genome.specs.Genome.{letters};
 ghost use Rattle.mutations.specs.BirthRecord.{record_of};
 ghost use Rattle.random_streams.specs.RandomStream.{word_of};
-ghost use Rattle.organism.specs.Life.{IsDivide, IsChildOf, OnViable};
+ghost use Rattle.organism.specs.Life.{IsDivide, HasAllowedLength, OnViable};
 ghost use Rattle.organism.specs.GoingOn.{GoesOn, life_now};
 ghost use Rattle.organism.specs.SettingNumbers.{setting_numbers};
 ghost use Rattle.organism.specs.UpdateLife.{life_state, copy_of, after_copy_of, birth_record, child_letters, after_child, after_outcome, after_step, age_of_death, life};
@@ -111,7 +111,7 @@ impl Organism {
         births: &mut Births,
     ) -> Result<(), Memory>
         requires divide { OnViable outcome (IsDivide self.old) }
-        requires child { OnViable outcome (IsChildOf (rule_numbers settings.now.rules)) }
+        requires child { OnViable outcome (HasAllowedLength (rule_numbers settings.now.rules)) }
         requires room { draws.old.taken < 2 ^ 45 }
         requires few_births { length births.old < 2 ^ 27 }
         ensures state { OnOk result (life_state self.new births.new draws.new
@@ -142,7 +142,7 @@ impl Organism {
         births: &mut Births,
     ) -> Result<(), Memory>
         requires divide { IsDivide self.old ask.now }
-        requires child { IsChildOf (rule_numbers settings.now.rules) ask.now }
+        requires child { HasAllowedLength (rule_numbers settings.now.rules) ask.now }
         requires room { draws.old.taken < 2 ^ 45 }
         requires few_births { length births.old < 2 ^ 27 }
         ensures state { OnOk result (life_state self.new births.new draws.new
@@ -176,7 +176,7 @@ impl Organism {
         draws: &mut Draws,
     ) -> Result<Born, Memory>
         requires divide { IsDivide self.now ask.now }
-        requires child { IsChildOf (rule_numbers settings.now.rules) ask.now }
+        requires child { HasAllowedLength (rule_numbers settings.now.rules) ask.now }
         requires room { draws.old.taken < 2 ^ 45 }
         ensures origin { IfOk result (λ born. record_of born.origin
             ≡ birth_record (setting_numbers settings.now) (word_of draws.old) draws.old.taken
@@ -187,7 +187,8 @@ impl Organism {
         ensures longest { IfOk result
             (λ born. length (letters born.genome) ≤ settings.now.rules.greatest) }
         ensures stream { OnOk result (draws.new ≡ record draws.old {
-          taken = after_child (setting_numbers settings.now) (word_of draws.old) draws.old.taken self.now ask.now;
+          taken = after_child (setting_numbers settings.now) (word_of draws.old) draws.old.taken
+              self.now ask.now;
         }) }
         ensures taken { OnOk result (draws.new.taken ≤ draws.old.taken + 65534) }
     {

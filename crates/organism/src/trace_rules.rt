@@ -3,7 +3,8 @@ ghost use Rattle.std.specs.Prelude.{◌≡◌};
 ghost use Rattle.divide_rules.specs.Rules.{rule_numbers};
 ghost use Rattle.organism.specs.TraceRules.{trace_rules};
 
-use divide_rules::{DivideRules, GREATEST_LENGTH, LEAST_LENGTH};
+use divide_rules::DivideRules;
+use genome::{GREATEST_LENGTH, LEAST_LENGTH};
 
 /// The greatest length in a trace, unless the genome itself is longer.
 pub const TRACE_LENGTH: u32 = 2048;

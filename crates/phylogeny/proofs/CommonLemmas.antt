@@ -9,7 +9,7 @@ use Rattle.std.proofs.lemmas.List.Elements.{All-contains, Contains-get_or}
 use Rattle.std.proofs.lemmas.List.Sums.{AllPass-from_list_all, list_all-from_AllPass}
 use Rattle.lineage_log.specs.Ancestry.{ancestors_within}
 use Rattle.phylogeny.specs.Pedigree.{Dweller, Pedigree}
-use Rattle.phylogeny.specs.CommonAncestor.{descends_from, founder_of, is_common, is_kept, most_recent_common_ancestor}
+use Rattle.phylogeny.specs.CommonAncestor.{descends_from, founding_ancestor_of, is_common, is_kept_id, most_recent_common_ancestor}
 use Rattle.phylogeny.specs.LatestCommon.{HaveTwoFounders, IsLatestCommon, TellsLatestCommon}
 use Rattle.phylogeny.specs.Slots.{AreBelow, IsPedigree, living_from, parent_at}
 use Rattle.lineage_log.proofs.AncestorLemmas.{Older, line}
@@ -19,23 +19,29 @@ use Rattle.phylogeny.proofs.WalkLemmas.{everybody, kept_from, kept_is_all, tree}
 
 -- ---- lists of numbers
 
+-- a number is equal to itself, by the test
 eqb_itself : (a : ℕ) → eqb a a ≡ true
 eqb_itself a = grind (arith, nat_tests)
 
+-- two numbers that the test calls equal are equal
 eqb_same : (a b : ℕ) → eqb a b ≡ true → a ≡ b
 eqb_same a b is = grind (arith, nat_tests)
 
+-- two equal numbers pass the test
 eqb_equal : (a b : ℕ) → a ≡ b → eqb a b ≡ true
 eqb_equal a b same = grind (arith, nat_tests)
 
+-- one of two tests holds where the first does
 or_first : (a b : Bool) → a ≡ true → (a || b) ≡ true
 or_first true b is = refl
 or_first false b is = absurd cc
 
+-- one of two tests holds where the second does
 or_second : (a b : Bool) → b ≡ true → (a || b) ≡ true
 or_second true b is = refl
 or_second false b is = is
 
+-- the first number of a list is among its numbers
 among_here : (x : ℕ) (xs : List ℕ) → is_among x (x ∷ xs) ≡ true
 among_here x xs = or_first (eqb x x) (is_among x xs) (eqb_itself x)
 
@@ -88,6 +94,7 @@ fold_greatest x (z ∷ zs) =
           (let t : eqb x m ≡ true = grind (arith, nat_tests) in t)
     ]
 
+-- what is found as the greatest of a list is among its numbers, and none of them is greater
 greatest_is : (xs : List ℕ) (m : ℕ) → reduce max xs ≡ Some m → (is_among m xs ≡ true)
     × ((y : ℕ) → is_among y xs ≡ true → y ≤ m)
 greatest_is [] m is = absurd cc
@@ -96,6 +103,7 @@ greatest_is (x ∷ xs) m is =
     subst (λ (n : ℕ). (is_among n (x ∷ xs) ≡ true) × ((y : ℕ) → is_among y (x ∷ xs) ≡ true → y ≤ n))
     e (fold_greatest x xs)
 
+-- only an empty list has no greatest number
 no_greatest : (xs : List ℕ) → reduce max xs ≡ None → xs ≡ []
 no_greatest [] is = refl
 no_greatest (x ∷ xs) is = absurd cc
@@ -119,6 +127,7 @@ filter_holds p (y ∷ ys) x is =
           filter_holds p ys x there in (so.0, or_second (eqb y x) (is_among x ys) so.1)
     ]) refl is
 
+-- a number of a list that passes a test is left by the filter
 filter_keeps : (p : ℕ → Bool) (xs : List ℕ) (x : ℕ) → is_among x xs ≡ true → p x ≡ true
     → is_among x (filter p xs) ≡ true
 filter_keeps p [] x is passes = absurd cc
@@ -135,6 +144,7 @@ filter_keeps p (y ∷ ys) x is passes =
       ]
     ]) refl
 
+-- a range has each number from its first up to before its end
 range_has : (from len x : ℕ) → from ≤ x → x < from + len
     → is_among x (range_with_len from len) ≡ true
 range_has from zero x above below = absurd (omega arith)
@@ -147,6 +157,7 @@ range_has from (suc len) x above below = elim (eqb_tells from x) [
       (range_has (from + 1) len x more (omega arith))
 ]
 
+-- the last number of a list that is not empty is among its numbers
 last_among : (x : ℕ) (xs : List ℕ) → is_among (unwrap_or (last_or (Some x) xs) 0) (x ∷ xs) ≡ true
 last_among x [] = among_here x []
 last_among x (y ∷ ys) = or_second (eqb x (unwrap_or (last_or (Some y) ys) 0))
@@ -154,10 +165,12 @@ last_among x (y ∷ ys) = or_second (eqb x (unwrap_or (last_or (Some y) ys) 0))
 
 -- ---- lists of those who live
 
+-- a member of a list is a member with one item more in front
 contains_later : {X : Type 0} (x y : X) (xs : List X) → Contains xs x → Contains (y ∷ xs) x
 contains_later x y xs there =
     (suc there.0, (let within : there.0 < length xs = there.1 in omega arith), there.2)
 
+-- where not all members pass a test, there is one that fails
 first_fails : {X : Type 0} (p : X → Bool) (xs : List X) → list_all p xs ≡ false
     → (x : X) × Contains xs x × (p x ≡ false)
 first_fails p [] is = absurd cc
@@ -169,6 +182,7 @@ first_fails {X} p (x ∷ xs) is = elim (cases_Bool (p x)) [
   | inr fails ↦ (x, (0, omega arith, refl), fails)
 ]
 
+-- where the test says that some member passes, there is one that does
 some_passes : {X : Type 0} (p : X → Bool) (xs : List X) → list_any p xs ≡ true
     → (x : X) × Contains xs x × (p x ≡ true)
 some_passes p [] is = absurd cc
@@ -177,6 +191,7 @@ some_passes p (x ∷ xs) is = elim (or_cases (p x) (list_any p xs) is) [
   | inr later ↦ let so = some_passes p xs later in (so.0, contains_later so.0 x xs so.1, so.2)
 ]
 
+-- where a member passes, the test says that some do
 any_passes : {X : Type 0} (p : X → Bool) (xs : List X) (x : X) → Contains xs x → p x ≡ true
     → list_any p xs ≡ true
 any_passes p [] x there passes = absurd (omega (arith, there.1))
@@ -185,11 +200,13 @@ any_passes p (y ∷ ys) x (zero, within, is) passes =
 any_passes p (y ∷ ys) x (suc k, within, is) passes =
     or_second (p y) (list_any p ys) (any_passes p ys x (k, omega arith, is) passes)
 
+-- where the test says that all pass, each member does
 each_passes : {X : Type 0} (p : X → Bool) (xs : List X) → list_all p xs ≡ true → (x : X)
     → Contains xs x → p x ≡ true
 each_passes p xs all x there =
     All-contains (λ y. p y ≡ true) xs x (AllPass-from_list_all p xs all) there
 
+-- what holds of each member of a list holds of all its items
 All-from_contained : {X : Type 0} (P : X → Type 0) (xs : List X) → ((x : X) → Contains xs x → P x)
     → All P xs
 All-from_contained P xs each = λ k d within. each (get_or xs k d) (Contains-get_or xs k d within)
@@ -209,6 +226,7 @@ living_below bound cell (Some id ∷ slots) below who (suc k, within, is) =
 -- ---- lines
 
 module _ (parent_of : ℕ → Option ℕ) (older : Older parent_of) where
+  -- no id in the line of an id is greater than this one
   line_below : (n id at : ℕ) → is_among at (ancestors_within n parent_of id) ≡ true → at ≤ id
   line_below n id at is = elim (cases_lt id at) [
     | inl below ↦ let none = none_above parent_of older n id at below in absurd cc
@@ -236,6 +254,7 @@ module _ (parent_of : ℕ → Option ℕ) (older : Older parent_of) where
             ]) refl later
       ]
 
+  -- the founder of a line stands in it
   founder_among : (id : ℕ) → is_among (founder_in (line parent_of id)) (line parent_of id) ≡ true
   founder_among id =
       let h = line_head parent_of id id in
@@ -244,13 +263,16 @@ module _ (parent_of : ℕ → Option ℕ) (older : Older parent_of) where
 -- ---- a pedigree
 
 module _ (parents standing : List (Option ℕ)) (sound : IsPedigree parents standing) where
+  -- the pedigree of these lists
   abbrev here : Pedigree
   here = tree parents standing
 
+  -- who lives has an id below the number of ids
   lives_below : (who : Dweller) → Contains (everybody parents standing) who
       → who.id < length parents
   lives_below who there = living_below (length parents) 0 standing sound.among who there
 
+  -- each id below the number of ids is among the ids of everyone
   everyone_has : (id : ℕ) → id < length parents
       → is_among id (range_with_len 0 (length parents - 0)) ≡ true
   everyone_has id within = range_has 0 (length parents - 0) id (omega arith) (omega arith)
@@ -266,46 +288,53 @@ module _ (parents standing : List (Option ℕ)) (sound : IsPedigree parents stan
       let below = line_below (parent_at parents) sound.older who.id who.id id descends in
       let kept =
       any_passes (descends_from here id) (everybody parents standing) who lives descends in
-      let in_kept = filter_keeps (is_kept here) (range_with_len 0 (length parents - 0)) id
+      let in_kept = filter_keeps (is_kept_id here) (range_with_len 0 (length parents - 0)) id
       (everyone_has id (omega (arith, bound, below))) kept in
       filter_keeps (is_common here) (kept_from parents standing 0) id in_kept common
 
+  -- the greatest common id of the kept ones is the latest common ancestor
   some_is_latest : (id : ℕ) → reduce max (filter (is_common here) (kept_from parents standing 0))
       ≡ Some id → IsLatestCommon here id
   some_is_latest id is =
       let greatest = greatest_is (filter (is_common here) (kept_from parents standing 0)) id is in
       let among = filter_holds (is_common here) (kept_from parents standing 0) id greatest.0 in
-      let kept = filter_holds (is_kept here) (range_with_len 0 (length parents - 0)) id among.1 in
+      let kept = filter_holds (is_kept_id here) (range_with_len 0 (length parents - 0))
+      id among.1 in
       let someone = some_passes (descends_from here id) (everybody parents standing) kept.0 in
       record {
         shared = among.0;
         latest =
             λ other shared. greatest.1 other (common_is_found other someone.0 someone.1 shared);
-        one_founder = All-from_contained (λ who. founder_of here who.id ≡ founder_of here id)
+        one_founder = All-from_contained
+            (λ who. founding_ancestor_of here who.id ≡ founding_ancestor_of here id)
             (everybody parents standing) (λ who lives.
             founder_same (parent_at parents) sound.older who.id who.id id (omega arith)
             (each_passes (descends_from here id) (everybody parents standing) among.0 who
             lives));
       }
 
+  -- the second has the same founder as the first
   abbrev same_founder : Dweller → Dweller → Bool
-  same_founder one other = eqb (founder_of here other.id) (founder_of here one.id)
+  same_founder one other = eqb (founding_ancestor_of here other.id)
+      (founding_ancestor_of here one.id)
 
   -- where all have one founder, it is common
   founder_is_common : (who : Dweller)
       → list_all (same_founder who) (everybody parents standing) ≡ true
-      → is_common here (founder_of here who.id) ≡ true
+      → is_common here (founding_ancestor_of here who.id) ≡ true
   founder_is_common who all =
-      list_all-from_AllPass (descends_from here (founder_of here who.id))
+      list_all-from_AllPass (descends_from here (founding_ancestor_of here who.id))
       (everybody parents standing)
-      (All-from_contained (λ other. descends_from here (founder_of here who.id) other ≡ true)
+      (All-from_contained (λ other. descends_from here (founding_ancestor_of here who.id) other
+      ≡ true)
       (everybody parents standing) (λ other lives.
-      let one : founder_of here other.id ≡ founder_of here who.id =
-      eqb_same (founder_of here other.id) (founder_of here who.id)
+      let one : founding_ancestor_of here other.id ≡ founding_ancestor_of here who.id =
+      eqb_same (founding_ancestor_of here other.id) (founding_ancestor_of here who.id)
       (each_passes (same_founder who) (everybody parents standing) all other lives) in
       subst (λ (f : ℕ). is_among f (line (parent_at parents) other.id) ≡ true) one
       (founder_among (parent_at parents) sound.older other.id)))
 
+  -- where no kept id is common, nobody lives, or two who live have different founders
   none_by : (living : List Dweller) → everybody parents standing ≡ living
       → filter (is_common here) (kept_from parents standing 0) ≡ []
       → (everybody parents standing ≡ []) ⊎ HaveTwoFounders here
@@ -316,9 +345,11 @@ module _ (parents standing : List (Option ℕ)) (sound : IsPedigree parents stan
       elim (cases_Bool (list_all (same_founder who) (everybody parents standing))) [
         | inl all ↦
             let found =
-            common_is_found (founder_of here who.id) who lives (founder_is_common who all) in
-            let there : is_among (founder_of here who.id) [] ≡ true =
-            subst (λ (ids : List ℕ). is_among (founder_of here who.id) ids ≡ true) none found in
+            common_is_found (founding_ancestor_of here who.id) who lives
+            (founder_is_common who all) in
+            let there : is_among (founding_ancestor_of here who.id) [] ≡ true =
+            subst (λ (ids : List ℕ). is_among (founding_ancestor_of here who.id) ids ≡ true)
+            none found in
             absurd cc
         | inr not_all ↦
             let fails = first_fails (same_founder who) (everybody parents standing) not_all in
@@ -328,10 +359,12 @@ module _ (parents standing : List (Option ℕ)) (sound : IsPedigree parents stan
               one_lives = fails.1;
               other_lives = lives;
               apart = λ same. let t : same_founder who fails.0 ≡ true =
-                  eqb_equal (founder_of here fails.0.id) (founder_of here who.id) same in absurd cc;
+                  eqb_equal (founding_ancestor_of here fails.0.id)
+                  (founding_ancestor_of here who.id) same in absurd cc;
             })
       ]
 
+  -- the greatest common id of the kept ones is the latest common ancestor, or there can be none
   tells_by : (common : Option ℕ)
       → reduce max (filter (is_common here) (kept_from parents standing 0)) ≡ common
       → TellsLatestCommon here common
@@ -339,6 +372,7 @@ module _ (parents standing : List (Option ℕ)) (sound : IsPedigree parents stan
   tells_by None is = none_by (everybody parents standing) refl
       (no_greatest (filter (is_common here) (kept_from parents standing 0)) is)
 
+  -- the most recent common ancestor is the latest common one, or there can be none
   pub tells_latest : TellsLatestCommon here (most_recent_common_ancestor here)
   unfolding most_recent_common_ancestor
   tells_latest = tells_by (most_recent_common_ancestor here)

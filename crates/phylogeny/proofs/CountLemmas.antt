@@ -9,6 +9,7 @@ use Rattle.std.proofs.lemmas.List.Sums.{sum_by-cons, count_by-le-length}
 abbrev pub bit : Bool → ℕ
 bit b = cond b 1 0
 
+-- one item more in front is counted where it passes
 pub count_cons : {X : Type 0} (p : X → Bool) (x : X) (xs : List X)
     → count_by p (x ∷ xs) ≡ bit (p x) + count_by p xs
 count_cons p x xs = sum_by-cons (λ y. cond (p y) 1 0) x xs
@@ -43,6 +44,7 @@ count_handed p q r true each (x ∷ xs) =
 count_handed p q r false each (x ∷ xs) =
     omega (arith, count_cons p x xs, count_cons q x xs, each x, count_handed p q r false each xs)
 
+-- one test more: some pass still exactly where at least one is counted
 some_counted : (b c : Bool) (n m : ℕ) → c ≡ ltb 0 n → m ≡ bit b + n → (b || c) ≡ ltb 0 m
 some_counted true c n m is more = grind (arith, nat_tests)
 some_counted false c n m is more = grind (arith, nat_tests)
@@ -54,6 +56,7 @@ any_counted p (x ∷ xs) =
     some_counted (p x) (list_any p xs) (count_by p xs) (count_by p (x ∷ xs)) (any_counted p xs)
     (count_cons p x xs)
 
+-- one test more: all pass still exactly where as many are counted as there are
 all_counted_more : (b c : Bool) (n l m : ℕ) → c ≡ eqb n l → n ≤ l → m ≡ bit b + n
     → (b && c) ≡ eqb m (l + 1)
 all_counted_more true c n l m is few more = grind (arith, nat_tests)

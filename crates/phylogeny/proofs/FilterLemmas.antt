@@ -5,11 +5,13 @@ use Rattle.std.specs.List.{AllByRecursion, range_with_len, reduce}
 use Rattle.std.specs.Option.{option_or}
 use Rattle.phylogeny.proofs.CountLemmas.{bit}
 
+-- no number of a range is below a bound that its first number is not below
 pub range_above : (least from len : ℕ) → least ≤ from
     → AllByRecursion (λ id. least ≤ id) (range_with_len from len)
 range_above least from zero above = tt
 range_above least from (suc len) above = (above, range_above least (from + 1) len (omega arith))
 
+-- what holds of each id holds of each that a filter leaves
 pub filter_all : (P : ℕ → Type 0) (p : ℕ → Bool) (xs : List ℕ) → AllByRecursion P xs
     → AllByRecursion P (filter p xs)
 filter_all P p [] all = tt
@@ -27,14 +29,17 @@ greatest_more id (other ∷ ids) all =
     let greater : max id other ≡ other = omega (arith, all.0) in
     rw greater refl
 
+-- a first id that passes is left in front of the others
 pub filter_yes : (p : ℕ → Bool) (x : ℕ) (xs : List ℕ) → p x ≡ true
     → filter p (x ∷ xs) ≡ x ∷ filter p xs
 filter_yes p x xs kept = rw kept refl
 
+-- a first id that fails is left out
 pub filter_no : (p : ℕ → Bool) (x : ℕ) (xs : List ℕ) → p x ≡ false
     → filter p (x ∷ xs) ≡ filter p xs
 filter_no p x xs left = rw left refl
 
+-- a filter leaves one id more where the first passes
 pub filter_length : (p : ℕ → Bool) (x : ℕ) (xs : List ℕ)
     → length (filter p (x ∷ xs)) ≡ length (filter p xs) + bit (p x)
 filter_length p x xs = elim (p x) as
@@ -43,10 +48,12 @@ filter_length p x xs = elim (p x) as
       | false ↦ omega arith
     ]
 
+-- a bit is at most 1
 bit_few : (b : Bool) → bit b ≤ 1
 bit_few true = omega arith
 bit_few false = omega arith
 
+-- a filter leaves no more ids of a range than the range has
 pub filter_few : (p : ℕ → Bool) (from len : ℕ) → length (filter p (range_with_len from len)) ≤ len
 filter_few p from zero = omega arith
 filter_few p from (suc len) =
@@ -57,6 +64,7 @@ filter_few p from (suc len) =
       bit_few (p from),
     )
 
+-- the greatest id that passes, with one more in front that is no greater than any
 pub greatest_filtered : (p : ℕ → Bool) (id : ℕ) (ids : List ℕ)
     → AllByRecursion (λ other. id ≤ other) ids
     → reduce max (filter p (id ∷ ids))

@@ -5,12 +5,14 @@ use Rattle.std.proofs.lemmas.Bool.{cases_lt}
 use Rattle.std.proofs.lemmas.List.{drop_more}
 use Rattle.std.proofs.lemmas.Option.{slice_get_within, get_or_from_slice_get}
 
+-- one item more at the end leaves the items before it in their places
 get_before : {A : Type 0} (xs : List A) (y : A) (i : ℕ) → i < length xs
     → slice_get (xs ++ y ∷ []) i ≡ slice_get xs i
 get_before [] y i within = absurd (omega arith)
 get_before (x ∷ xs) y zero within = refl
 get_before (x ∷ xs) y (suc i) within = get_before xs y i (omega arith)
 
+-- the item at the end stands at the place that is the number of those before it
 get_last : {A : Type 0} (xs : List A) (y : A) → slice_get (xs ++ y ∷ []) (length xs) ≡ Some y
 get_last [] y = refl
 get_last (x ∷ xs) y = get_last xs y

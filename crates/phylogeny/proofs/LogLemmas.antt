@@ -10,25 +10,27 @@ use Rattle.log_lines.specs.Line.{Line, Start, Death, Birth, Injected, Cleared, R
 use Rattle.lineage_log.specs.declared.reason.Reason.{Reason}
 use Rattle.lineage_log.specs.declared.stage.Stage.TheVariants.{Dying, Happening}
 use Rattle.lineage_log.specs.LogGrammar.{IsGoodLog}
-use Rattle.lineage_log.specs.Order.{Place, Before, Within, After, IsWhole, may_happen, opened, renewed, told_all, told_birth, told_cleared, told_count, told_death, told_end, told_injected, told_rate, told_start, told_within}
-use Rattle.lineage_log.specs.Reader.{Reader, is_quiet, may_be_born, may_die, with_death, with_newcomer}
+use Rattle.lineage_log.specs.Order.{LogPlace, Before, Within, After, IsWhole, may_happen, opened, at_next_update, told_all, told_birth, told_cleared, told_count, told_death, told_end, told_injected, told_rate, told_start, told_within}
+use Rattle.lineage_log.specs.Reader.{Reader, is_quiet, may_be_born, may_die, reader_with_death, reader_with_newcomer}
 use Rattle.lineage_log.specs.Replay.{Seen, replay_of, residents_from, seen_all, seen_on}
 use Rattle.lineage_log.specs.Slots.{holds, taken}
-use Rattle.phylogeny.specs.LogPedigree.{dweller, newcomer, parent_in, parent_told, pedigree_of}
+use Rattle.phylogeny.specs.LogPedigree.{dweller, newcomer, parent_by_lines, parent_told, pedigree_of}
 use Rattle.phylogeny.specs.Pedigree.{Dweller}
-use Rattle.phylogeny.specs.Slots.{AreBelow, AreOlder, IsPedigree, living_from, newcomer_parent, parent_at, parents_in, pedigree_with, standing_after, standing_on}
+use Rattle.phylogeny.specs.Slots.{AreBelow, HaveLowerIds, IsPedigree, living_from, newcomer_parent, parent_at, parents_in, pedigree_with, standing_after, standing_on}
 use Rattle.phylogeny.proofs.ReaderLemmas.{below_with, nobody, nobody_there, nobody_length, length_without, IsAt, IsPlaceAt, went_on, within_gives, tested, death_at, newcomer_at, next_id, birth_at, end_at}
 
 -- ---- what the lines that are left tell
 
+-- these lines tell of the ids from a count on alone, with older parents, in as many cells
 record Follows (count : ℕ) (standing : List (Option ℕ)) (lines : List Line) : Type 0 where
   older : (i above : ℕ) → parent_at (parents_in lines) i ≡ Some above → above < count + i
-  early : (id : ℕ) → id < count → parent_in lines id ≡ None
-  looked : (i : ℕ) → parent_in lines (count + i) ≡ parent_at (parents_in lines) i
+  early : (id : ℕ) → id < count → parent_by_lines lines id ≡ None
+  looked : (i : ℕ) → parent_by_lines lines (count + i) ≡ parent_at (parents_in lines) i
   ids : flat_map newcomer lines ≡ range_with_len count (length (parents_in lines))
   below : AreBelow (count + length (parents_in lines)) (standing_after standing lines)
   cells : length (standing_after standing lines) ≡ length standing
 
+-- so it is of no lines, where who stands in a cell has an id below the count
 nothing_follows : (count : ℕ) (standing : List (Option ℕ)) → AreBelow count standing
     → Follows count standing []
 nothing_follows count standing below = record {
@@ -40,16 +42,20 @@ nothing_follows count standing below = record {
   cells = refl;
 }
 
+-- the test tells two different numbers apart
 eqb_apart : (a b : ℕ) → a ≢ b → eqb a b ≡ false
 eqb_apart a b apart = grind (arith, nat_tests)
 
+-- a number is equal to itself, by the test
 eqb_itself : (a : ℕ) → eqb a a ≡ true
 eqb_itself a = grind (arith, nat_tests)
 
+-- an option, or else none, is that option
 or_none : (o : Option ℕ) → option_or o None ≡ o
 or_none None = refl
 or_none (Some x) = refl
 
+-- the next id with an older parent before ids with older parents: all parents are older
 older_still : (count : ℕ) (parent : Option ℕ) (parents others : List (Option ℕ))
     → ((i : ℕ) → parent_at parents i ≡ parent_at (parent ∷ others) i)
     → ((above : ℕ) → parent ≡ Some above → above < count)
@@ -60,6 +66,7 @@ older_still count parent parents others at older later zero above is =
 older_still count parent parents others at older later (suc i) above is =
     let b = later i above (sym (at (suc i)) ∙ is) in omega arith
 
+-- a line that tells only the parent of the next id: all parents are told as they are listed
 looked_still : (count : ℕ) (parent : Option ℕ) (parents others : List (Option ℕ))
     (now later : ℕ → Option ℕ) → ((i : ℕ) → parent_at parents i ≡ parent_at (parent ∷ others) i)
     → ((id : ℕ) → count ≢ id → now id ≡ later id) → now count ≡ parent
@@ -72,16 +79,19 @@ looked_still count parent parents others now later at other here looked (suc i) 
     let e : count + suc i ≡ count + 1 + i = omega arith in
     other (count + suc i) (λ same. absurd (omega arith)) ∙ ap later e ∙ looked i ∙ sym (at (suc i))
 
+-- equal slots have ids below an equal number
 below_still : (count : ℕ) (slots : List (Option ℕ)) (now : ℕ) (others : List (Option ℕ))
     → now ≡ count → others ≡ slots → AreBelow count slots → AreBelow now others
 below_still count slots now others same is below cell id at =
     let b = below cell id (sym (ap (λ (l : List (Option ℕ)). get_or l cell None) is) ∙ at) in
     omega (arith, b, same)
 
+-- whatever a test says, a choice between an option and itself is that option
 either_way : (o : Option ℕ) (b : Bool) → o ≡ cond b o o
 either_way o true = refl
 either_way o false = refl
 
+-- a founder before ids whose parents are told as they are listed: all are told so
 founder_looked : (now : ℕ → Option ℕ) (parents : List (Option ℕ)) → now 0 ≡ None
     → ((i : ℕ) → now (1 + i) ≡ parent_at parents i) → (id : ℕ)
     → now id ≡ parent_at (None ∷ parents) id
@@ -89,8 +99,10 @@ founder_looked now parents founder looked zero = founder
 founder_looked now parents founder looked (suc i) =
     let e : suc i ≡ 1 + i = omega arith in ap now e ∙ looked i
 
+-- a founder before ids with older parents: all parents are older
 founder_older : (parents : List (Option ℕ))
-    → ((i above : ℕ) → parent_at parents i ≡ Some above → above < 1 + i) → AreOlder (None ∷ parents)
+    → ((i above : ℕ) → parent_at parents i ≡ Some above → above < 1 + i)
+    → HaveLowerIds (None ∷ parents)
 founder_older parents older zero above is = absurd cc
 founder_older parents older (suc i) above is = let b = older i above is in omega arith
 
@@ -104,8 +116,8 @@ stays count standing next line lines nobody no_parent untold stands cells follow
     ap (λ (ps : List (Option ℕ)). ps ++ parents_in lines) no_parent in
     let after : standing_after standing (line ∷ lines) ≡ standing_after next lines =
     ap (λ (slots : List (Option ℕ)). standing_after slots lines) stands in
-    let told : (id : ℕ) → parent_in (line ∷ lines) id ≡ parent_in lines id =
-    λ id. ap (λ (o : Option ℕ). option_or o (parent_in lines id)) (untold id) in
+    let told : (id : ℕ) → parent_by_lines (line ∷ lines) id ≡ parent_by_lines lines id =
+    λ id. ap (λ (o : Option ℕ). option_or o (parent_by_lines lines id)) (untold id) in
     record {
       older = λ i above is. follows.older i above
           (sym (ap (λ (ps : List (Option ℕ)). parent_at ps i) parents) ∙ is);
@@ -136,17 +148,18 @@ comes count standing next line parent lines somebody its_parent told older stand
     let at : (i : ℕ) → parent_at (parents_in (line ∷ lines)) i
     ≡ parent_at (parent ∷ parents_in lines) i =
     λ i. ap (λ (ps : List (Option ℕ)). parent_at ps i) parents in
-    let other : (id : ℕ) → count ≢ id → parent_in (line ∷ lines) id ≡ parent_in lines id =
+    let other : (id : ℕ) → count ≢ id
+    → parent_by_lines (line ∷ lines) id ≡ parent_by_lines lines id =
     λ id apart.
-    ap (λ (o : Option ℕ). option_or o (parent_in lines id))
+    ap (λ (o : Option ℕ). option_or o (parent_by_lines lines id))
     (told id ∙ ap (λ (b : Bool). cond b parent None) (eqb_apart count id apart)) in
     record {
       older = older_still count parent (parents_in (line ∷ lines)) (parents_in lines) at older
           follows.older;
       early = λ id few. other id (λ e. absurd (omega arith)) ∙ follows.early id (omega arith);
       looked = looked_still count parent (parents_in (line ∷ lines)) (parents_in lines)
-          (parent_in (line ∷ lines)) (parent_in lines) at other
-          (ap (λ (o : Option ℕ). option_or o (parent_in lines count))
+          (parent_by_lines (line ∷ lines)) (parent_by_lines lines) at other
+          (ap (λ (o : Option ℕ). option_or o (parent_by_lines lines count))
           (told count ∙ ap (λ (b : Bool). cond b parent None) (eqb_itself count))
           ∙ ap (option_or parent) (follows.early count (omega arith)) ∙ or_none parent)
           follows.looked;
@@ -159,12 +172,13 @@ comes count standing next line parent lines somebody its_parent told older stand
       cells = ap length after ∙ follows.cells ∙ cells;
     }
 
+-- there are as many cells once one of them is set
 set_cells : (slots : List (Option ℕ)) (cell : ℕ) (slot : Option ℕ)
     → length (set slots cell slot) ≡ length slots
 set_cells slots cell slot = length-set slots cell slot
 
 -- the lines from a place on, up to the end of the log
-follow : (p : Place) (lines : List Line) (q : Reader) (count : ℕ) (standing : List (Option ℕ))
+follow : (p : LogPlace) (lines : List Line) (q : Reader) (count : ℕ) (standing : List (Option ℕ))
     → told_all p lines ≡ Ok (After q) → IsPlaceAt p count standing → Follows count standing lines
 unfolding told_death told_birth told_injected told_cleared told_rate told_count told_end
 follow Before [] q count standing is now = absurd now
@@ -179,7 +193,7 @@ follow (Within r) (Death id update cell ∷ lines) q count standing is now =
     went_on (told_within r (Death id update cell)) (λ p. told_all p lines) (After q) is in
     let test =
     (update == r.due) && may_die r.stage cell && holds (slice_get r.standing cell) (Some id) in
-    let after = within_gives test (with_death r (Dying cell) cell id) step.0 count
+    let after = within_gives test (reader_with_death r (Dying cell) cell id) step.0 count
     (set standing cell None) step.1 (λ _. death_at r (Dying cell) cell id count standing now) in
     stays count standing (set standing cell None) (Death id update cell) lines refl refl
     (λ _. refl) refl (set_cells standing cell None)
@@ -207,8 +221,9 @@ follow (Within r) (Injected id update cell over genome ∷ lines) q count standi
     let d = holds (slice_get r.standing cell) over in
     let test = (a && b) && (id == length r.people) && d in
     let next = next_id a b d id count r.people now.as_many
-    (tested test (with_newcomer r Happening cell over genome r.births) step.0 step.1) in
-    let after = within_gives test (with_newcomer r Happening cell over genome r.births) step.0
+    (tested test (reader_with_newcomer r Happening cell over genome r.births) step.0 step.1) in
+    let after = within_gives test
+    (reader_with_newcomer r Happening cell over genome r.births) step.0
     (count + 1) (set standing cell (Some id)) step.1
     (λ _. newcomer_at r Happening cell id over genome r.births count standing next now) in
     comes count standing (set standing cell (Some id)) (Injected id update cell over genome) None
@@ -221,7 +236,7 @@ follow (Within r) (Cleared id update cell ∷ lines) q count standing is now =
     let step =
     went_on (told_within r (Cleared id update cell)) (λ p. told_all p lines) (After q) is in
     let test = may_happen r update && holds (slice_get r.standing cell) (Some id) in
-    let after = within_gives test (with_death r Happening cell id) step.0 count
+    let after = within_gives test (reader_with_death r Happening cell id) step.0 count
     (set standing cell None) step.1 (λ _. death_at r Happening cell id count standing now) in
     stays count standing (set standing cell None) (Cleared id update cell) lines refl refl
     (λ _. refl) refl (set_cells standing cell None)
@@ -238,7 +253,7 @@ follow (Within r) (Count s ∷ lines) q count standing is now =
     let step = went_on (told_within r (Count s)) (λ p. told_all p lines) (After q) is in
     let test = (s.update == r.due) && (s.living == taken r.standing) && (s.births == r.births)
     && (s.deaths == length r.leaving) in
-    let after = within_gives test (renewed r) step.0 count standing step.1
+    let after = within_gives test (at_next_update r) step.0 count standing step.1
     (λ _. record {
       as_many = length_without r.leaving r.people ∙ now.as_many;
       same = now.same;
@@ -257,10 +272,11 @@ follow (Within r) (End updates ∷ lines) q count standing is now =
 
 -- the lists that the lines of a log make, as a pedigree
 pub record IsToldBy (lines : List Line) : Type 0 where
-  pub looked : (id : ℕ) → parent_in lines id ≡ parent_at (parents_in lines) id
+  pub looked : (id : ℕ) → parent_by_lines lines id ≡ parent_at (parents_in lines) id
   pub ids : flat_map newcomer lines ≡ range_with_len 0 (length (parents_in lines))
   pub sound : IsPedigree (parents_in lines) (standing_after [] lines)
 
+-- after the first line the reader knows one id, and the cells that the line tells
 founded : (version width height cell : ℕ) (genome : List Letter)
     → IsAt (opened version (width * height) cell genome) 1
     (standing_on [] (Start version width height cell genome))
@@ -271,6 +287,7 @@ founded version width height cell genome = record {
       (λ c id is. absurd (nobody_there (width * height) c id is));
 }
 
+-- a whole log that begins with a world of at most 256 by 256 cells tells a pedigree
 start_told : (version width height cell : ℕ) (genome : List Letter) (lines : List Line) (q : Reader)
     → width ≤ 256 → height ≤ 256 → told_all Before (Start version width height cell genome ∷ lines)
     ≡ Ok (After q) → IsToldBy (Start version width height cell genome ∷ lines)
@@ -285,7 +302,8 @@ start_told version width height cell genome lines q w h is =
     let rest = follow step.0 lines q 1 slots step.2 first in
     let few : width * height ≤ 65536 = mul-le-mul w h in
     record {
-      looked = founder_looked (parent_in lines) (parents_in lines) (rest.early 0 (omega arith))
+      looked = founder_looked (parent_by_lines lines) (parents_in lines)
+          (rest.early 0 (omega arith))
           rest.looked;
       ids = ap (λ (ids : List ℕ). 0 ∷ ids) rest.ids;
       sound = record {
@@ -301,12 +319,14 @@ start_told version width height cell genome lines q w h is =
       };
     }
 
-whole_is : (t : Result Place Reason) → IsWhole t → (r : Reader) × (t ≡ Ok (After r))
+-- where the last line has come, there is a reader after it
+whole_is : (t : Result LogPlace Reason) → IsWhole t → (r : Reader) × (t ≡ Ok (After r))
 whole_is (Ok Before) whole = absurd whole
 whole_is (Ok (Within r)) whole = absurd whole
 whole_is (Ok (After r)) whole = (r, refl)
 whole_is (Err reason) whole = absurd whole
 
+-- a good log that leads to a reader after its last line tells a pedigree
 told_by : (lines : List Line) (q : Reader) → IsGoodLog lines → told_all Before lines ≡ Ok (After q)
     → IsToldBy lines
 told_by [] q good is = absurd cc
@@ -320,12 +340,14 @@ told_by (Rate update name ppm ∷ lines) q good is = absurd cc
 told_by (Count stats ∷ lines) q good is = absurd cc
 told_by (End updates ∷ lines) q good is = absurd cc
 
+-- a good log tells a pedigree
 pub good_tells : (lines : List Line) → IsGoodLog lines → IsToldBy lines
 good_tells lines good =
     let whole = whole_is (told_all Before lines) good.order in told_by lines whole.0 good whole.1
 
 -- ---- who lives
 
+-- after a line the replay sees the same in the cells as the pedigree
 seen_standing : (s : Seen) (line : Line) → (seen_on s line).standing ≡ standing_on s.standing line
 seen_standing s (Start version width height cell genome) = refl
 seen_standing s (Death id update cell) = refl
@@ -336,12 +358,14 @@ seen_standing s (Rate update name ppm) = refl
 seen_standing s (Count stats) = refl
 seen_standing s (End updates) = refl
 
+-- so it does after all lines
 seen_after : (s : Seen) (lines : List Line)
     → (seen_all s lines).standing ≡ standing_after s.standing lines
 seen_after s [] = refl
 seen_after s (line ∷ lines) = seen_after (seen_on s line) lines
     ∙ ap (λ (slots : List (Option ℕ)). standing_after slots lines) (seen_standing s line)
 
+-- who lives from a cell on is who resides there, without the genome
 dwellers : (cell : ℕ) (slots : List (Option ℕ)) (genomes : List (List Letter))
     → living_from cell slots ≡ map dweller (residents_from cell slots genomes)
 dwellers cell [] genomes = refl
@@ -350,6 +374,7 @@ dwellers cell (Some id ∷ slots) genomes =
     ap (λ (ds : List Dweller). record { cell = cell; id = id } ∷ ds)
     (dwellers (suc cell) slots genomes)
 
+-- who lives after the lines of a log is who lives by its replay, without the genome
 living_is : (lines : List Line)
     → living_from 0 (standing_after [] lines) ≡ map dweller (replay_of lines)
 unfolding replay_of

@@ -11,14 +11,15 @@ use Rattle.lineage_log.specs.declared.reason.Reason.{Reason}
 use Rattle.lineage_log.specs.declared.reason.Reason.TheVariants.{BadOrder}
 use Rattle.lineage_log.specs.declared.stage.Stage.{Stage}
 use Rattle.lineage_log.specs.declared.stage.Stage.TheVariants.{Placing}
-use Rattle.lineage_log.specs.Order.{Place, Before, Within, After, and_on, with_child, with_parent, within_if}
+use Rattle.lineage_log.specs.Order.{LogPlace, Before, Within, After, and_on, with_child, with_parent, within_if}
 use Rattle.lineage_log.specs.People.{without}
-use Rattle.lineage_log.specs.Reader.{Reader, with_death, with_newcomer}
+use Rattle.lineage_log.specs.Reader.{Reader, reader_with_death, reader_with_newcomer}
 use Rattle.lineage_log.specs.Reader.{parent_in as kept_parent}
 use Rattle.phylogeny.specs.Slots.{AreBelow}
 
 -- ---- who stands in the cells
 
+-- once a cell is set, all ids are below a number that the old ones and the new one are below
 set_below : (n m : ℕ) (slots : List (Option ℕ)) (cell : ℕ) (slot : Option ℕ) → n ≤ m
     → AreBelow n slots → ((id : ℕ) → slot ≡ Some id → id < m) → AreBelow m (set slots cell slot)
 set_below n m [] cell slot few below new c id is = absurd cc
@@ -30,35 +31,42 @@ set_below n m (s ∷ slots) (suc cell) slot few below new zero id is =
 set_below n m (s ∷ slots) (suc cell) slot few below new (suc c) id is =
     set_below n m slots cell slot few (λ k i e. below (suc k) i e) new c id is
 
+-- who stands in a cell is below a number still once a cell is empty
 below_without : (n : ℕ) (slots : List (Option ℕ)) (cell : ℕ) → AreBelow n slots
     → AreBelow n (set slots cell None)
 below_without n slots cell below =
     set_below n n slots cell None (omega arith) below (λ id is. absurd cc)
 
+-- once the next id stands in a cell, all are below the one after it
 pub below_with : (n : ℕ) (slots : List (Option ℕ)) (cell id : ℕ) → id ≡ n → AreBelow n slots
     → AreBelow (n + 1) (set slots cell (Some id))
 below_with n slots cell id next below =
     set_below n (n + 1) slots cell (Some id) (omega arith) below
     (λ x is. let same : id ≡ x = cc in omega arith)
 
+-- so many cells in which nobody stands
 abbrev pub nobody : ℕ → List (Option ℕ)
 nobody cells = replicate cells None
 
+-- nobody stands in any of them
 pub nobody_there : (cells c id : ℕ) → get_or (nobody cells) c None ≡ Some id → ⊥
 nobody_there zero c id is = absurd cc
 nobody_there (suc cells) zero id is = absurd cc
 nobody_there (suc cells) (suc c) id is = nobody_there cells c id is
 
+-- there are so many of them
 pub nobody_length : (cells : ℕ) → length (nobody cells) ≡ cells
 nobody_length zero = refl
 nobody_length (suc cells) = ap suc (nobody_length cells)
 
+-- the people without some ids have as many places
 pub length_without : (ids : List ℕ) (people : List (Option (List Letter)))
     → length (without ids people) ≡ length people
 length_without [] people = refl
 length_without (id ∷ ids) people =
     length_without ids (set people id None) ∙ length-set people id None
 
+-- a list with one item more at its end is longer by 1
 length_pushed : {A : Type 0} (xs : List A) (y : A) → length (xs ++ y ∷ []) ≡ length xs + 1
 length_pushed [] y = omega arith
 length_pushed (x ∷ xs) y = let e = length_pushed xs y in omega arith
@@ -71,47 +79,58 @@ pub record IsAt (r : Reader) (count : ℕ) (standing : List (Option ℕ)) : Type
   pub same : r.standing ≡ standing
   pub below : AreBelow count standing
 
-abbrev pub IsPlaceAt : Place → ℕ → List (Option ℕ) → Type 0
+-- the same of the reader of a place, which is not before the first line
+abbrev pub IsPlaceAt : LogPlace → ℕ → List (Option ℕ) → Type 0
 IsPlaceAt Before count standing = ⊥
 IsPlaceAt (Within r) count standing = IsAt r count standing
 IsPlaceAt (After r) count standing = IsAt r count standing
 
-pub went_on : (t : Result Place Reason) (next : Place → Result Place Reason) (q : Place)
-    → and_on t next ≡ Ok q → (p : Place) × (t ≡ Ok p) × (next p ≡ Ok q)
+-- where a line and what follows it are told, the line leads to a place from which that is told
+pub went_on : (t : Result LogPlace Reason) (next : LogPlace → Result LogPlace Reason) (q : LogPlace)
+    → and_on t next ≡ Ok q → (p : LogPlace) × (t ≡ Ok p) × (next p ≡ Ok q)
 went_on (Ok p) next q is = (p, refl, is)
 went_on (Err reason) next q is = absurd cc
 
-place_is : (p q : Place) → ◌≡◌ {A = Result Place Reason} (Ok p) (Ok q) → p ≡ q
+-- two equal answers have one place
+place_is : (p q : LogPlace) → ◌≡◌ {A = Result LogPlace Reason} (Ok p) (Ok q) → p ≡ q
 place_is p q is = cc
 
-pub within_gives : (test : Bool) (r : Reader) (p : Place) (count : ℕ) (standing : List (Option ℕ))
+-- a place that a line's test gives is so, if its reader is so where the test holds
+pub within_gives : (test : Bool) (r : Reader) (p : LogPlace) (count : ℕ)
+    (standing : List (Option ℕ))
     → within_if test r ≡ Ok p → (test ≡ true → IsAt r count standing) → IsPlaceAt p count standing
 within_gives true r p count standing is gives =
-    subst (λ (q : Place). IsPlaceAt q count standing) (place_is (Within r) p is) (gives refl)
+    subst (λ (q : LogPlace). IsPlaceAt q count standing) (place_is (Within r) p is) (gives refl)
 within_gives false r p count standing is gives = absurd cc
 
 -- the test of a line that tells a newcomer
-pub tested : (test : Bool) (r : Reader) (p : Place) → within_if test r ≡ Ok p → test ≡ true
+pub tested : (test : Bool) (r : Reader) (p : LogPlace) → within_if test r ≡ Ok p → test ≡ true
 tested true r p is = refl
 tested false r p is = absurd cc
 
+-- after a death there are as many ids, and the cell is empty
 pub death_at : (r : Reader) (stage : Stage) (cell id count : ℕ) (standing : List (Option ℕ))
-    → IsAt r count standing → IsAt (with_death r stage cell id) count (set standing cell None)
+    → IsAt r count standing → IsAt (reader_with_death r stage cell id) count
+    (set standing cell None)
 death_at r stage cell id count standing now = record {
   as_many = now.as_many;
   same = ap (λ (slots : List (Option ℕ)). set slots cell None) now.same;
   below = below_without count standing cell now.below;
 }
 
+-- after a newcomer with the next id there is one id more, and it stands in the cell
 pub newcomer_at : (r : Reader) (stage : Stage) (cell id : ℕ) (over : Option ℕ)
-    (genome : List Letter) (births count : ℕ) (standing : List (Option ℕ)) → id ≡ count → IsAt r count standing
-    → IsAt (with_newcomer r stage cell over genome births) (count + 1) (set standing cell (Some id))
+    (genome : List Letter) (births count : ℕ) (standing : List (Option ℕ)) → id ≡ count
+    → IsAt r count standing
+    → IsAt (reader_with_newcomer r stage cell over genome births) (count + 1)
+    (set standing cell (Some id))
 newcomer_at r stage cell id over genome births count standing next now = record {
   as_many = length_pushed r.people (Some genome) ∙ ap (λ n. n + 1) now.as_many;
   same = λ i. set (now.same i) cell (Some ((now.as_many ∙ sym next) i));
   below = below_with count standing cell id next now.below;
 }
 
+-- a newcomer whose line passes its test has the next id
 pub next_id : (a b c : Bool) (id count : ℕ) (people : List (Option (List Letter)))
     → length people ≡ count → (((a && b) && (id == length people)) && c) ≡ true → id ≡ count
 next_id a b c id count people as_many test =
@@ -121,6 +140,7 @@ next_id a b c id count people as_many test =
 
 -- ---- the parent of a birth
 
+-- an id whose genome is found among the people is below their number
 found_within : (people : List (Option (List Letter))) (parent : ℕ) (letters : List Letter)
     (found : Option (Option (List Letter))) → slice_get people parent ≡ found
     → option_and_then (λ f. f) found ≡ Some letters → parent < length people
@@ -128,6 +148,7 @@ found_within people parent letters None there is = absurd cc
 found_within people parent letters (Some found) there is =
     slice_get_within people parent found there
 
+-- so is the id of a parent whose genome is found only where the parent is old enough
 parent_within : (r : Reader) (parent : ℕ) (letters : List Letter) (old : Bool)
     → (if old then option_and_then (λ f. f) (slice_get r.people parent) else None) ≡ Some letters
     → parent < length r.people
@@ -135,18 +156,21 @@ parent_within r parent letters true is =
     found_within r.people parent letters (slice_get r.people parent) refl is
 parent_within r parent letters false is = absurd cc
 
+-- where the child of a birth is made, there is one id more, and it stands in the cell
 child_at : (r : Reader) (cell id : ℕ) (over : Option ℕ) (child : Result (List Letter) ApplyStop)
-    (p : Place) (count : ℕ) (standing : List (Option ℕ)) → id ≡ count
+    (p : LogPlace) (count : ℕ) (standing : List (Option ℕ)) → id ≡ count
     → with_child r cell over child ≡ Ok p → IsAt r count standing
     → IsPlaceAt p (count + 1) (set standing cell (Some id))
 child_at r cell id over (Ok child) p count standing next is now =
-    subst (λ (q : Place). IsPlaceAt q (count + 1) (set standing cell (Some id)))
-    (place_is (Within (with_newcomer r Placing cell over child (r.births + 1))) p is)
+    subst (λ (q : LogPlace). IsPlaceAt q (count + 1) (set standing cell (Some id)))
+    (place_is (Within (reader_with_newcomer r Placing cell over child (r.births + 1))) p is)
     (newcomer_at r Placing cell id over child (r.births + 1) count standing next now)
 child_at r cell id over (Err stop) p count standing next is now = absurd cc
 
+-- where a birth leads to a place, its parent has a lower id, and the child stands in the cell
 born_at : (r : Reader) (cell id parent : ℕ) (over : Option ℕ) (birth : BirthRecord)
-    (found : Option (List Letter)) (p : Place) (count : ℕ) (standing : List (Option ℕ)) → id ≡ count
+    (found : Option (List Letter)) (p : LogPlace) (count : ℕ) (standing : List (Option ℕ))
+    → id ≡ count
     → kept_parent r parent ≡ found → with_parent r cell over birth found ≡ Ok p
     → IsAt r count standing → (parent < count)
     × IsPlaceAt p (count + 1) (set standing cell (Some id))
@@ -157,8 +181,10 @@ born_at r cell id parent over birth (Some letters) p count standing next from is
   child_at r cell id over (child_of letters birth) p count standing next is now,
 )
 
+-- a birth line that is told has the next id and an older parent, and the child stands in the cell
 pub birth_at : (test : Bool) (r : Reader) (cell id parent : ℕ) (over : Option ℕ)
-    (birth : BirthRecord) (p : Place) (count : ℕ) (standing : List (Option ℕ)) → (test ≡ true → id ≡ count)
+    (birth : BirthRecord) (p : LogPlace) (count : ℕ) (standing : List (Option ℕ))
+    → (test ≡ true → id ≡ count)
     → (if test then with_parent r cell over birth (kept_parent r parent) else Err BadOrder) ≡ Ok p
     → IsAt r count standing → (id ≡ count) × (parent < count)
     × IsPlaceAt p (count + 1) (set standing cell (Some id))
@@ -168,9 +194,10 @@ birth_at true r cell id parent over birth p count standing next is now =
     (next refl, born.0, born.1)
 birth_at false r cell id parent over birth p count standing next is now = absurd cc
 
-pub end_at : (test : Bool) (r : Reader) (p : Place) (count : ℕ) (standing : List (Option ℕ))
-    → ◌≡◌ {A = Result Place Reason} (if test then Ok (After r) else Err BadOrder) (Ok p)
+-- after the last line there are as many ids, and all stand as before
+pub end_at : (test : Bool) (r : Reader) (p : LogPlace) (count : ℕ) (standing : List (Option ℕ))
+    → ◌≡◌ {A = Result LogPlace Reason} (if test then Ok (After r) else Err BadOrder) (Ok p)
     → IsAt r count standing → IsPlaceAt p count standing
 end_at true r p count standing is now =
-    subst (λ (q : Place). IsPlaceAt q count standing) (place_is (After r) p is) now
+    subst (λ (q : LogPlace). IsPlaceAt q count standing) (place_is (After r) p is) now
 end_at false r p count standing is now = absurd cc

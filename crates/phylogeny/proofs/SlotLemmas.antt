@@ -14,6 +14,7 @@ use Rattle.phylogeny.proofs.ListLemmas.{drop_is}
 abbrev pub dweller_at : ℕ → ℕ → Dweller
 dweller_at cell id = record { cell = cell; id = id }
 
+-- who lives from a cell on, by what stands in the cell and by the cells behind it
 cells_left : (standing : List (Option ℕ)) (cell : ℕ) (slot : Option ℕ) → cell < length standing
     → get_or standing cell None ≡ slot
     → living_from cell (drop cell standing) ≡ living_from cell (slot ∷ drop (cell + 1) standing)
@@ -50,6 +51,7 @@ mapped_with {B} f old new all standing cell id within is more so_far =
     ∙ sym (ap (λ (ls : List Dweller). old ++ map f ls) (living_with standing cell id within is))
     ∙ so_far
 
+-- nobody more of a walk over the cells, where one is empty
 pub mapped_without : {B : Type 0} (f : Dweller → B) (old all : List B) (standing : List (Option ℕ))
     (cell : ℕ) → cell < length standing → get_or standing cell None ≡ None
     → old ++ map f (living_from cell (drop cell standing)) ≡ all
@@ -71,6 +73,7 @@ living_count cell (Some id ∷ slots) =
 abbrev pub here : ℕ → List Dweller → ℕ
 here id living = count_by (λ who. eqb who.id id) living
 
+-- no id is counted more often than there are cells
 pub here_few : (id : ℕ) (standing : List (Option ℕ))
     → here id (living_from 0 standing) ≤ length standing
 here_few id standing =
@@ -87,6 +90,7 @@ AreCounted counts ids cell standing = (id : ℕ) → id < ids
     → get_or counts id 0 + here id (living_from cell (drop cell standing))
     ≡ here id (living_from 0 standing)
 
+-- an empty cell leaves the counts as they are
 pub counted_without : (counts : List ℕ) (ids cell : ℕ) (standing : List (Option ℕ))
     → cell < length standing → get_or standing cell None ≡ None
     → AreCounted counts ids cell standing → AreCounted counts ids (cell + 1) standing
@@ -94,6 +98,7 @@ counted_without counts ids cell standing within is counted id few =
     ap (λ (ls : List Dweller). get_or counts id 0 + here id ls)
     (sym (living_without standing cell within is)) ∙ counted id few
 
+-- a cell with somebody in it adds one to the count of the id
 pub counted_with : (counts : List ℕ) (ids cell who : ℕ) (standing : List (Option ℕ))
     → length counts ≡ ids → cell < length standing → who < ids
     → get_or standing cell None ≡ Some who → AreCounted counts ids cell standing
@@ -129,6 +134,7 @@ parents_more lines at line old new is more =
     ∙ append_assoc old (newcomer_parent line) (parents_in (drop (at + 1) lines))
     ∙ sym (ap (λ (ls : List Line). old ++ parents_in ls) (drop_is lines at line (sym is)))
 
+-- one line more is told, and what stands in the cells at the end stays
 pub standing_more : (lines : List Line) (at : ℕ) (line : Line) (old new : List (Option ℕ))
     → Some line ≡ slice_get lines at → new ≡ standing_on old line
     → standing_after new (drop (at + 1) lines) ≡ standing_after old (drop at lines)

@@ -19,24 +19,30 @@ stops bound at (id ∷ ids) = cond (ltb id bound) (eqb id at) (stops bound at id
 abbrev pub is_among : ℕ → List ℕ → Bool
 is_among at ids = list_any (λ id. eqb id at) ids
 
+-- a number is equal to itself, by the test
 eqb_same : (a : ℕ) → eqb a a ≡ true
 eqb_same a = grind (arith, nat_tests)
 
+-- the test tells two different numbers apart
 eqb_other : (a b : ℕ) → a ≢ b → eqb a b ≡ false
 eqb_other a b other = grind (arith, nat_tests)
 
+-- a first id below the bound is the one at which the count stops
 pub stops_here : (bound at id : ℕ) (ids : List ℕ) → id < bound
     → stops bound at (id ∷ ids) ≡ eqb id at
 stops_here bound at id ids below =
     let e : ltb id bound ≡ true = grind (arith, nat_tests) in rw e refl
 
+-- a first id that is not below the bound is passed over
 goes_on : (bound at id : ℕ) (ids : List ℕ) → bound ≤ id
     → stops bound at (id ∷ ids) ≡ stops bound at ids
 goes_on bound at id ids above = let e : ltb id bound ≡ false = grind (arith, nat_tests) in rw e refl
 
+-- a first id that is another decides nothing of whether this one is among them
 among_later : (at id : ℕ) (ids : List ℕ) → id ≢ at → is_among at (id ∷ ids) ≡ is_among at ids
 among_later at id ids other = rw (eqb_other id at other) refl
 
+-- the first id below the next bound is this one where it is among them, by those behind
 stops_first : (at id : ℕ) (ids : List ℕ) → (id < at → is_among at ids ≡ false)
     → (at < id → stops (at + 1) at ids ≡ is_among at ids)
     → stops (at + 1) at (id ∷ ids) ≡ is_among at (id ∷ ids)
@@ -54,10 +60,12 @@ stops_first at id ids none later = elim (cases_lt id at) [
   ]
 ]
 
+-- nothing and nothing more is nothing, whatever a test says
 no_more : (t : Bool) → 0 ≡ 0 + cond t 0 0
 no_more true = omega arith
 no_more false = omega arith
 
+-- a number and nothing more is that number, whatever a test says
 pub nothing_more : (n : ℕ) (t : Bool) → n + cond t 0 0 ≡ n
 nothing_more n true = omega arith
 nothing_more n false = omega arith
@@ -131,6 +139,7 @@ module _ (parent_of : ℕ → Option ℕ) (older : Older parent_of) where
   abbrev pub is_parent : ℕ → ℕ → Bool
   is_parent id at = option_map_or (λ above. eqb above at) (parent_of id) false
 
+  -- the first id below this one among its parent and those above is its parent
   parent_next : (n id at : ℕ) → at < id
       → bit (stops id at (option_map_or (ancestors_within n parent_of) (parent_of id) []))
       ≡ bit (is_parent id at)

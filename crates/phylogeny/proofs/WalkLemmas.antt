@@ -9,8 +9,8 @@ use Rattle.std.proofs.lemmas.Bool.Decides.{eqb_tells, nat_tests}
 use Rattle.std.proofs.lemmas.List.Sums.{count_by-le-length, length-filter}
 use Rattle.phylogeny.specs.declared.shape.Shape.{Shape}
 use Rattle.phylogeny.specs.Pedigree.{Dweller, Pedigree, ancestors_of}
-use Rattle.phylogeny.specs.CommonAncestor.{branches_of, descends_from, is_branch, is_child, is_common, is_kept, kept_of, most_recent_common_ancestor}
-use Rattle.phylogeny.specs.Slots.{AreBelow, AreOlder, living_from, parent_at, pedigree_with}
+use Rattle.phylogeny.specs.CommonAncestor.{branches_of, descends_from, is_branch, is_child, is_common, is_kept_id, kept_ids_of, most_recent_common_ancestor}
+use Rattle.phylogeny.specs.Slots.{AreBelow, HaveLowerIds, living_from, parent_at, pedigree_with}
 use Rattle.phylogeny.proofs.AncestorLemmas.{line_head}
 use Rattle.phylogeny.proofs.CountLemmas.{all_counted, any_counted, bit, count_cons, count_handed, count_no, count_same}
 use Rattle.phylogeny.proofs.SlotLemmas.{dweller_at, here}
@@ -24,15 +24,17 @@ pub record Keeps (id children : ℕ) (shared : Bool) (old new : Shape) : Type 0 
   pub common : new.common ≡ cond shared (option_or old.common (Some id)) old.common
 
 module _ (parents standing : List (Option ℕ)) where
+  -- the pedigree of these lists
   abbrev pub tree : Pedigree
   tree = pedigree_with parents standing
 
+  -- who lives, in order of cells
   abbrev pub everybody : List Dweller
   everybody = living_from 0 standing
 
   -- the ids from a bound on that are kept
   abbrev pub kept_from : ℕ → List ℕ
-  kept_from bound = filter (is_kept tree) (range_with_len bound (length parents - bound))
+  kept_from bound = filter (is_kept_id tree) (range_with_len bound (length parents - bound))
 
   -- how many of those who live are counted at an id, when the walk has come to a bound
   abbrev pub stopped : ℕ → ℕ → ℕ
@@ -49,6 +51,7 @@ module _ (parents standing : List (Option ℕ)) where
     pub kept_is : shape.kept ≡ length (kept_from bound)
     pub branches_is : shape.branches ≡ length (filter (is_branch tree) (kept_from bound))
 
+  -- the ids from a bound on are the bound and the ids above it
   range_next : (bound : ℕ) → bound < length parents
       → range_with_len bound (length parents - bound)
       ≡ bound ∷ range_with_len (bound + 1) (length parents - (bound + 1))
@@ -56,50 +59,60 @@ module _ (parents standing : List (Option ℕ)) where
       let e : length parents - bound ≡ suc (length parents - (bound + 1)) = omega arith in
       ap (range_with_len bound) e
 
-  kept_yes : (bound : ℕ) → bound < length parents → is_kept tree bound ≡ true
+  -- a bound that is kept stands before the kept ids above it
+  kept_yes : (bound : ℕ) → bound < length parents → is_kept_id tree bound ≡ true
       → kept_from bound ≡ bound ∷ kept_from (bound + 1)
-  kept_yes bound within kept = ap (filter (is_kept tree)) (range_next bound within)
-      ∙ filter_yes (is_kept tree) bound (range_with_len (bound + 1) (length parents - (bound + 1)))
+  kept_yes bound within kept = ap (filter (is_kept_id tree)) (range_next bound within)
+      ∙ filter_yes (is_kept_id tree) bound
+      (range_with_len (bound + 1) (length parents - (bound + 1)))
       kept
 
-  kept_no : (bound : ℕ) → bound < length parents → is_kept tree bound ≡ false
+  -- where a bound is not kept, the kept ids from it on are those above it
+  kept_no : (bound : ℕ) → bound < length parents → is_kept_id tree bound ≡ false
       → kept_from bound ≡ kept_from (bound + 1)
-  kept_no bound within left = ap (filter (is_kept tree)) (range_next bound within)
-      ∙ filter_no (is_kept tree) bound (range_with_len (bound + 1) (length parents - (bound + 1)))
+  kept_no bound within left = ap (filter (is_kept_id tree)) (range_next bound within)
+      ∙ filter_no (is_kept_id tree) bound
+      (range_with_len (bound + 1) (length parents - (bound + 1)))
       left
 
+  -- no kept id above a bound is below it
   kept_above : (bound : ℕ) → AllByRecursion (λ id. bound ≤ id) (kept_from (bound + 1))
-  kept_above bound = filter_all (λ id. bound ≤ id) (is_kept tree)
+  kept_above bound = filter_all (λ id. bound ≤ id) (is_kept_id tree)
       (range_with_len (bound + 1) (length parents - (bound + 1)))
       (range_above bound (bound + 1) (length parents - (bound + 1)) (omega arith))
 
+  -- there are no more kept ids from a bound on than ids
   pub kept_few : (bound : ℕ) → length (kept_from bound) ≤ length parents - bound
-  kept_few bound = filter_few (is_kept tree) bound (length parents - bound)
+  kept_few bound = filter_few (is_kept_id tree) bound (length parents - bound)
 
   -- no more are counted anywhere than live
   pub stopped_few : (bound id : ℕ) → stopped bound id ≤ length everybody
   stopped_few bound id =
       count_by-le-length (λ who. stops bound id (ancestors_of tree who.id)) everybody
 
-  pub kept_is_all : kept_of tree ≡ kept_from 0
-  unfolding kept_of
-  kept_is_all = ap (λ (n : ℕ). filter (is_kept tree) (range_with_len 0 n)) (omega arith)
+  -- the kept ids of the pedigree are those from 0 on
+  pub kept_is_all : kept_ids_of tree ≡ kept_from 0
+  unfolding kept_ids_of
+  kept_is_all = ap (λ (n : ℕ). filter (is_kept_id tree) (range_with_len 0 n)) (omega arith)
 
-  module _ (older : AreOlder parents) where
+  module _ (older : HaveLowerIds parents) where
     -- all who descend from an id are counted there when the walk comes to it
     pub stopped_here : (id : ℕ) → stopped (id + 1) id ≡ count_by (descends_from tree id) everybody
     stopped_here id = count_same (λ who. stops (id + 1) id (ancestors_of tree who.id))
         (descends_from tree id) (λ who. stops-among (parent_at parents) older who.id who.id id)
         everybody
 
-    kept_test : (id : ℕ) → is_kept tree id ≡ ltb 0 (stopped (id + 1) id)
+    -- an id is kept where somebody is counted at it when the walk comes to it
+    kept_test : (id : ℕ) → is_kept_id tree id ≡ ltb 0 (stopped (id + 1) id)
     kept_test id =
         any_counted (descends_from tree id) everybody ∙ ap (ltb 0) (sym (stopped_here id))
 
+    -- an id is common where all who live are counted at it then
     common_test : (id : ℕ) → is_common tree id ≡ eqb (stopped (id + 1) id) (length everybody)
     common_test id = all_counted (descends_from tree id) everybody
         ∙ ap (λ (n : ℕ). eqb n (length everybody)) (sym (stopped_here id))
 
+    -- when the walk goes on from a bound, those counted there are counted at its parent
     stopped_next : (bound id : ℕ) → id < bound
         → stopped bound id ≡ stopped (bound + 1) id + cond (is_child tree id bound)
         (stopped (bound + 1) bound) 0
@@ -119,12 +132,13 @@ module _ (parents standing : List (Option ℕ)) where
           | Some above ↦ λ is. let lower = older child above is in grind (arith, nat_tests)
         ]) refl
 
+    -- all kept children of an id are among the kept ids from any bound up to the next id
     children_from : (id bound : ℕ) → bound ≤ id + 1 → bound ≤ length parents
         → count_by (is_child tree id) (kept_from 0) ≡ count_by (is_child tree id) (kept_from bound)
     children_from id zero few within = refl
     children_from id (suc bound) few within =
         children_from id bound (omega arith) (omega arith)
-        ∙ elim (cases_Bool (is_kept tree bound)) [
+        ∙ elim (cases_Bool (is_kept_id tree bound)) [
           | inl kept ↦
               ap (count_by (is_child tree id)) (kept_yes bound (omega arith) kept)
               ∙ count_no (is_child tree id) bound (kept_from (bound + 1))
@@ -135,6 +149,7 @@ module _ (parents standing : List (Option ℕ)) where
               ∙ ap (λ (n : ℕ). count_by (is_child tree id) (kept_from n)) (add-one bound)
         ]
 
+    -- an id is a branch where it has at least two children among the kept ids above it
     branch_test : (id : ℕ) → id < length parents
         → is_branch tree id ≡ nat_le 2 (count_by (is_child tree id) (kept_from (id + 1)))
     branch_test id within = ap (nat_le 2)
@@ -148,7 +163,7 @@ module _ (parents standing : List (Option ℕ)) where
     walked_over id descendants children shape within none walked =
         let nobody : stopped (id + 1) id ≡ 0 =
         sym (walked.descendants_at id (omega arith)) ∙ none in
-        let left : is_kept tree id ≡ false = kept_test id ∙ ap (ltb 0) nobody in
+        let left : is_kept_id tree id ≡ false = kept_test id ∙ ap (ltb 0) nobody in
         let same = sym (kept_no id within left) in
         record {
           as_many = walked.as_many;
@@ -172,15 +187,18 @@ module _ (parents standing : List (Option ℕ)) where
         (walked : IsWalked (id + 1) descendants children old)
         (keeps : Keeps id (get_or children id 0) (eqb (get_or descendants id 0) (length everybody))
         old new) where
+      -- the walk's count at the id is how many of those who live are counted at it
       here_is : get_or descendants id 0 ≡ stopped (id + 1) id
       here_is = walked.descendants_at id (omega arith)
 
+      -- the id is kept, in front of those above it
       kept_here : kept_from id ≡ id ∷ kept_from (id + 1)
       kept_here =
           let more : ltb 0 (stopped (id + 1) id) ≡ true =
           ap (ltb 0) (sym here_is) ∙ grind (arith, nat_tests) in
           kept_yes id within (kept_test id ∙ more)
 
+      -- the new common ancestor is the greatest common id of the kept ones from this id on
       common_here : new.common ≡ reduce max (filter (is_common tree) (kept_from id))
       common_here =
           keeps.common
@@ -192,9 +210,11 @@ module _ (parents standing : List (Option ℕ)) where
           ∙ sym (greatest_filtered (is_common tree) id (kept_from (id + 1)) (kept_above id))
           ∙ ap (λ (ids : List ℕ). reduce max (filter (is_common tree) ids)) (sym kept_here)
 
+      -- the new number of kept ids is that of the kept ones from this id on
       length_here : new.kept ≡ length (kept_from id)
       length_here = omega (arith, keeps.kept, walked.kept_is, ap length kept_here)
 
+      -- the new number of branches is that of the kept ids from this id on
       branches_here : new.branches ≡ length (filter (is_branch tree) (kept_from id))
       branches_here =
           keeps.branches
@@ -204,6 +224,7 @@ module _ (parents standing : List (Option ℕ)) where
           ∙ sym (filter_length (is_branch tree) id (kept_from (id + 1)))
           ∙ ap (λ (ids : List ℕ). length (filter (is_branch tree) ids)) (sym kept_here)
 
+      -- at a lower id as many are counted as before, and those of this id where it is a child
       descendants_next : (other : ℕ) → other < id
           → stopped id other ≡ get_or descendants other 0 + cond (is_child tree other id)
           (get_or descendants id 0) 0
@@ -212,6 +233,7 @@ module _ (parents standing : List (Option ℕ)) where
           ∙ (λ i. sym (walked.descendants_at other (omega arith)) i + cond (is_child tree other id)
           (sym here_is i) 0)
 
+      -- a lower id has as many kept children as before, and this id where it is a child
       children_next : (other : ℕ) → other < id
           → count_by (is_child tree other) (kept_from id)
           ≡ get_or children other 0 + bit (is_child tree other id)
@@ -321,6 +343,7 @@ module _ (parents standing : List (Option ℕ)) where
           walked.descendants_at id (omega arith),
         )
 
+    -- a parent of this id has no more children so far than there are ids above this one
     pub children_few : (id above : ℕ) (descendants children : List ℕ) (shape : Shape)
         → parent_at parents id ≡ Some above → IsWalked (id + 1) descendants children shape
         → get_or children above 0 ≤ length parents - (id + 1)
@@ -333,6 +356,7 @@ module _ (parents standing : List (Option ℕ)) where
           kept_few (id + 1),
         )
 
+  -- no more ids are kept than were walked over, and no more are branches than are kept
   pub shape_few : (bound : ℕ) (descendants children : List ℕ) (shape : Shape)
       → IsWalked bound descendants children shape → (shape.kept ≤ length parents - bound)
       × (shape.branches ≤ shape.kept)
@@ -365,10 +389,12 @@ module _ (parents standing : List (Option ℕ)) where
       (λ k w is. below (suc k) w is) i)
       ∙ sym (count_cons (λ w. eqb w.id id) (dweller_at cell who) (living_from (suc cell) slots))
 
+  -- no id is kept from a bound on that is past all ids
   none_kept : (bound : ℕ) → length parents ≤ bound → kept_from bound ≡ []
   none_kept bound past = let e : length parents - bound ≡ 0 = omega arith in
-      ap (λ (n : ℕ). filter (is_kept tree) (range_with_len bound n)) e
+      ap (λ (n : ℕ). filter (is_kept_id tree) (range_with_len bound n)) e
 
+  -- before the walk each who lives is counted at its own id, and nothing else is counted
   pub walked_start : (bound : ℕ) (descendants children : List ℕ) (shape : Shape)
       → bound ≡ length parents → AreBelow (length parents) standing
       → length descendants ≡ length parents → length children ≡ length parents
@@ -391,16 +417,19 @@ module _ (parents standing : List (Option ℕ)) where
         branches_is = branches ∙ ap (λ (ids : List ℕ). length (filter (is_branch tree) ids)) none;
       }
 
+  -- after the walk the common ancestor is the most recent one of the pedigree
   pub walked_common : (descendants children : List ℕ) (shape : Shape)
       → IsWalked 0 descendants children shape → shape.common ≡ most_recent_common_ancestor tree
   unfolding most_recent_common_ancestor
   walked_common descendants children shape walked = walked.common_is
       ∙ ap (λ (ids : List ℕ). reduce max (filter (is_common tree) ids)) (sym kept_is_all)
 
+  -- after the walk as many ids are kept as the pedigree keeps
   pub walked_kept : (descendants children : List ℕ) (shape : Shape)
-      → IsWalked 0 descendants children shape → shape.kept ≡ length (kept_of tree)
+      → IsWalked 0 descendants children shape → shape.kept ≡ length (kept_ids_of tree)
   walked_kept descendants children shape walked = walked.kept_is ∙ ap length (sym kept_is_all)
 
+  -- after the walk there are as many branches as the pedigree has
   pub walked_branches : (descendants children : List ℕ) (shape : Shape)
       → IsWalked 0 descendants children shape → shape.branches ≡ length (branches_of tree)
   unfolding branches_of

@@ -12,9 +12,9 @@ parent_told id (Birth born parent update cell over birth) =
 parent_told id _ = None
 
 -- the parent of an id, by the lines of a log
-abbrev pub parent_in : List Line → ℕ → Option ℕ
-parent_in [] id = None
-parent_in (line ∷ lines) id = option_or (parent_told id line) (parent_in lines id)
+abbrev pub parent_by_lines : List Line → ℕ → Option ℕ
+parent_by_lines [] id = None
+parent_by_lines (line ∷ lines) id = option_or (parent_told id line) (parent_by_lines lines id)
 
 -- the id of the organism that comes by a line
 abbrev pub newcomer : Line → List ℕ
@@ -30,7 +30,7 @@ dweller r = record { cell = r.cell; id = r.id }
 -- the pedigree that a log tells
 unfoldable pub pedigree_of : List Line → Pedigree
 pedigree_of lines = record {
-  parent_of = parent_in lines;
+  parent_of = parent_by_lines lines;
   everyone = flat_map newcomer lines;
   living = map dweller (replay_of lines);
 }

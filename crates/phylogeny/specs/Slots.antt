@@ -24,8 +24,8 @@ pedigree_with parents standing = record {
 }
 
 -- each parent has a lower id than its child
-abbrev pub AreOlder : List (Option ℕ) → Type 0
-AreOlder parents = (id parent : ℕ) → parent_at parents id ≡ Some parent → parent < id
+abbrev pub HaveLowerIds : List (Option ℕ) → Type 0
+HaveLowerIds parents = (id parent : ℕ) → parent_at parents id ≡ Some parent → parent < id
 
 -- each who stands in a cell has an id below this number
 abbrev pub AreBelow : ℕ → List (Option ℕ) → Type 0
@@ -34,7 +34,7 @@ AreBelow count standing =
 
 -- the lists of a pedigree
 pub record IsPedigree (parents standing : List (Option ℕ)) : Type 0 where
-  pub older : AreOlder parents
+  pub older : HaveLowerIds parents
   pub among : AreBelow (length parents) standing
   pub few : length standing ≤ 65536
 

@@ -1,15 +1,11 @@
 -- What the tree of a log looks like as text (docs/FORMATS.md, "Tree lines").
-use Rattle.std.specs.Prelude.{ℕ, ◌++◌, ◌∷◌, [], List, length, flat_map, map, codes, decimal, Option, None, Some}
+use Rattle.std.specs.Prelude.{ℕ, ◌++◌, ◌∷◌, [], List, length, flat_map, codes, Option, None, Some}
 use Rattle.log_lines.specs.Line.{Line}
-use Rattle.log_lines.specs.LineText.{words_text}
+use Rattle.log_lines.specs.LineText.{numbers_text}
 use Rattle.phylogeny.specs.declared.depths.Depth.{Depth}
 use Rattle.phylogeny.specs.Pedigree.{Pedigree}
-use Rattle.phylogeny.specs.CommonAncestor.{branches_of, depths_of, kept_of, most_recent_common_ancestor}
+use Rattle.phylogeny.specs.CommonAncestor.{branches_of, depths_of, kept_ids_of, most_recent_common_ancestor}
 use Rattle.phylogeny.specs.LogPedigree.{pedigree_of}
-
--- numbers, each behind a space
-abbrev pub numbers_text : List ℕ → List ℕ
-numbers_text numbers = words_text (map decimal numbers)
 
 -- the line of one who lives
 abbrev pub depth_line : Depth → List ℕ
@@ -24,7 +20,7 @@ ancestor_line (Some id) = codes "A" ++ numbers_text (id ∷ []) ++ codes "\n"
 -- the last line: how many ids are kept, and how many of these are branches
 abbrev pub shape_line : Pedigree → List ℕ
 shape_line p =
-    codes "K" ++ numbers_text (length (kept_of p) ∷ length (branches_of p) ∷ []) ++ codes "\n"
+    codes "K" ++ numbers_text (length (kept_ids_of p) ∷ length (branches_of p) ∷ []) ++ codes "\n"
 
 -- the tree of a pedigree
 abbrev pub pedigree_text : Pedigree → List ℕ

@@ -1,7 +1,7 @@
 // How far the living are from their founders.
 ghost use Rattle.std.specs.Prelude.{◌≡◌, ℕ, ◌<◌, [], Some, IfOk, length, slice_get};
-ghost use Rattle.phylogeny.specs.CommonAncestor.{depth_of, depths_of, founder_of};
-ghost use Rattle.phylogeny.specs.Slots.{AreOlder, IsPedigree, pedigree_with};
+ghost use Rattle.phylogeny.specs.CommonAncestor.{depth_of, depths_of, founding_ancestor_of};
+ghost use Rattle.phylogeny.specs.Slots.{HaveLowerIds, IsPedigree, pedigree_with};
 
 use avida_port::{Items, Memory};
 use std::alloc::Global;
@@ -51,11 +51,11 @@ pub fn depths_in(
 
 /// The depth and the founder of each id.
 fn roots_of(alloc: Global, parents: &[Option<u64>]) -> Result<Vec<Root>, Memory>
-    requires { AreOlder parents.now }
+    requires { HaveLowerIds parents.now }
     ensures { IfOk result (λ roots. (id : ℕ) → id < length parents.now
         → slice_get roots.items id ≡ Some (record {
           depth = depth_of (pedigree_with parents.now []) id;
-          founder = founder_of (pedigree_with parents.now []) id;
+          founder = founding_ancestor_of (pedigree_with parents.now []) id;
         })) }
 {
     let mut roots: Vec<Root> = Vec::with_capacity(alloc, parents.len())?;

@@ -1,6 +1,6 @@
 // The parents of a log's organisms, and who lives at its end.
 ghost use Rattle.std.specs.Prelude.{◌≡◌, ◌++◌, [], IfOk, OnOk, slice_set};
-ghost use Rattle.log_lines.specs.Line.{values_of};
+ghost use Rattle.log_lines.specs.Line.{line_values};
 ghost use Rattle.phylogeny.specs.LogPedigree.{pedigree_of};
 ghost use Rattle.phylogeny.specs.Slots.{IsPedigree, newcomer_parent, parents_in, pedigree_with, standing_after, standing_on};
 
@@ -45,9 +45,9 @@ impl Pedigree {
     /// One line more.
     fn tell(&mut self, alloc: Global, line: &LogLine) -> Result<(), Memory>
         ensures parents { OnOk result (self.new.parents.items
-            ≡ self.old.parents.items ++ newcomer_parent (values_of line.now)) }
+            ≡ self.old.parents.items ++ newcomer_parent (line_values line.now)) }
         ensures standing { OnOk result (self.new.standing.items
-            ≡ standing_on self.old.standing.items (values_of line.now)) }
+            ≡ standing_on self.old.standing.items (line_values line.now)) }
     {
         match line {
             LogLine::Start {

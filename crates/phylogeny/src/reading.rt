@@ -1,6 +1,6 @@
 // The phylogeny of a log.
 ghost use Rattle.std.specs.Prelude.{◌≡◌, IfOk, length};
-ghost use Rattle.phylogeny.specs.CommonAncestor.{branches_of, depths_of, kept_of, most_recent_common_ancestor};
+ghost use Rattle.phylogeny.specs.CommonAncestor.{branches_of, depths_of, kept_ids_of, most_recent_common_ancestor};
 ghost use Rattle.phylogeny.specs.LogPedigree.{pedigree_of};
 
 use crate::depths::depths_in;
@@ -16,7 +16,7 @@ pub fn phylogeny(alloc: Global, log: &Log) -> Result<Phylogeny, Memory>
     ensures depths { IfOk result (λ tree. tree.depths ≡ depths_of (pedigree_of log.now)) }
     ensures common { IfOk result
         (λ tree. tree.common ≡ most_recent_common_ancestor (pedigree_of log.now)) }
-    ensures kept { IfOk result (λ tree. tree.kept ≡ length (kept_of (pedigree_of log.now))) }
+    ensures kept { IfOk result (λ tree. tree.kept ≡ length (kept_ids_of (pedigree_of log.now))) }
     ensures branches { IfOk result
         (λ tree. tree.branches ≡ length (branches_of (pedigree_of log.now))) }
 {

@@ -1,7 +1,7 @@
 // What the lines of the living have in common.
 ghost use Rattle.std.specs.Prelude.{◌≡◌, ◌+◌, ◌<◌, ◌≤◌, ◌==◌, ◌^◌, ℕ, Some, IfOk, length, count_by, is_some, nat_le, slice_index, if◌then◌else◌};
 ghost use Rattle.std.specs.Option.{option_or};
-ghost use Rattle.phylogeny.specs.CommonAncestor.{branches_of, kept_of, most_recent_common_ancestor};
+ghost use Rattle.phylogeny.specs.CommonAncestor.{branches_of, kept_ids_of, most_recent_common_ancestor};
 ghost use Rattle.phylogeny.specs.Slots.{AreBelow, IsPedigree, living_from, pedigree_with};
 
 use avida_port::Memory;
@@ -27,7 +27,7 @@ pub fn shape_of(
     ensures common { IfOk result (λ shape. shape.common
         ≡ most_recent_common_ancestor (pedigree_with parents.now standing.now)) }
     ensures kept { IfOk result
-        (λ shape. shape.kept ≡ length (kept_of (pedigree_with parents.now standing.now))) }
+        (λ shape. shape.kept ≡ length (kept_ids_of (pedigree_with parents.now standing.now))) }
     ensures branches { IfOk result
         (λ shape. shape.branches ≡ length (branches_of (pedigree_with parents.now standing.now))) }
 {

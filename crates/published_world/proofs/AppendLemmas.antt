@@ -4,7 +4,7 @@ use Rattle.std.proofs.lemmas.List.Sums.{fold-append}
 use Rattle.crossbeam_utils.specs.Register.{TurnsAt}
 use Rattle.published_world.specs.declared.shown.Shown.{Shown}
 use Rattle.published_world.specs.declared.view.View.{View}
-use Rattle.published_world.specs.Shown.{state_of}
+use Rattle.published_world.specs.Shown.{count_and_picture}
 use Rattle.published_world.specs.PublicationHistory.{IsPublication, MayFollow}
 use Rattle.published_world.specs.Rule.{Appends, Keeps, MayWrite}
 use Rattle.published_world.proofs.PublicationLemmas.{publication_of_more}
@@ -13,19 +13,22 @@ use Rattle.published_world.proofs.RuleLemmas.{appends}
 module _ {P : Type 0} where
   -- what both copies hold once the operations are applied
   abbrev pub applied : List (Shown P) → Shown P → ℕ × P
-  applied operations x = fold (λ _ operation. state_of operation) (state_of x) operations
+  applied operations x = fold (λ _ operation. count_and_picture operation)
+      (count_and_picture x) operations
 
   -- the last operation decides
   last_applied : (operations : List (Shown P)) (x operation : Shown P)
-      → applied (operations ++ operation ∷ []) x ≡ state_of operation
+      → applied (operations ++ operation ∷ []) x ≡ count_and_picture operation
   last_applied operations x operation =
-      fold-append (λ (_ : ℕ × P) (z : Shown P). state_of z) (state_of x) operations (operation ∷ [])
+      fold-append (λ (_ : ℕ × P) (z : Shown P). count_and_picture z) (count_and_picture x)
+      operations (operation ∷ [])
 
 module _ {P O : Type 0} (number : P → ℕ) (of : P → O) (v : View P) (x : Shown P)
     (before : List (Shown P)) (next : Shown P) where
   -- the step of the writer keeps the rule
   pub append_turns : (by : ℕ) (y : Shown P) → MayWrite number of x v → next.count ≡ x.count + 1
-      → MayFollow number of v.seen next.picture.value → state_of y ≡ applied (before ++ next ∷ []) x
+      → MayFollow number of v.seen next.picture.value
+      → count_and_picture y ≡ applied (before ++ next ∷ []) x
       → TurnsAt (Keeps number of) by v x y Appends
   append_turns by y writes more may e =
       let same = e ∙ last_applied before x next in
@@ -36,7 +39,7 @@ module _ {P O : Type 0} (number : P → ℕ) (of : P → O) (v : View P) (x : Sh
   pub append_leaves : {A E : Type 0} (r : Result A E) (w : View P) (y : Shown P) (B C : Type 0)
       (operations : List (Shown P)) → operations ≡ before ++ next ∷ [] → MayWrite number of x v
       → next.count ≡ x.count + 1 → MayFollow number of v.seen next.picture.value
-      → MatchResult r (λ _. (state_of y ≡ applied operations x) × B) (λ _. (y ≡ x) × C)
+      → MatchResult r (λ _. (count_and_picture y ≡ applied operations x) × B) (λ _. (y ≡ x) × C)
       → MatchResult r (λ _. Appends v x y w) (λ _. w ≡ v)
       → MayWrite number of y w × OnOk r (w.seen ≡ v.seen ++ next.picture.value ∷ [])
       × OnErr r (w.seen ≡ v.seen)

@@ -4,19 +4,24 @@ use Rattle.std.proofs.lemmas.List.{take-append-le, take-append-drop}
 use mathlib.Core.List.{IsPrefix}
 
 module _ {A : Type 0} where
+  -- a list is a prefix of itself
   pub prefix_self : (xs : List A) → IsPrefix xs xs
   prefix_self xs = ([], append-nil xs)
 
+  -- a prefix of a prefix is a prefix of the whole
   pub prefix_trans : (xs ys zs : List A) → IsPrefix xs ys → IsPrefix ys zs → IsPrefix xs zs
   prefix_trans xs ys zs p q =
       (p.0 ++ q.0, sym (append_assoc xs p.0 q.0) ∙ (ap (λ w. w ++ q.0) p.1 ∙ q.1))
 
+  -- a prefix of a list is one of the list with one element more
   pub prefix_more : (xs ys : List A) (y : A) → IsPrefix xs ys → IsPrefix xs (ys ++ y ∷ [])
   prefix_more xs ys y p = prefix_trans xs ys (ys ++ y ∷ []) p (y ∷ [], refl)
 
+  -- a prefix is no longer than the whole
   pub prefix_length : (xs ys : List A) → IsPrefix xs ys → length xs ≤ length ys
   prefix_length xs ys p = omega (arith, sym (ap length p.1) ∙ length-append xs p.0)
 
+  -- the first elements of a list are a prefix
   pub take_is_prefix : (n : ℕ) (xs : List A) → IsPrefix (take n xs) xs
   take_is_prefix n xs = (drop n xs, take-append-drop n xs)
 
@@ -40,6 +45,7 @@ module _ {A : Type 0} where
   get_in_longer (z ∷ xs) (y ∷ ys) zero x p e = cc (p.1, e)
   get_in_longer (z ∷ xs) (y ∷ ys) (suc place) x p e = get_in_longer xs ys place x (p.0, cc (p.1)) e
 
+  -- one element more stands at the place of the old length
   pub get_last : (xs : List A) (x : A) → slice_get (xs ++ x ∷ []) (length xs) ≡ Some x
   get_last [] x = refl
   get_last (y ∷ xs) x = get_last xs x
@@ -54,6 +60,7 @@ module _ {A : Type 0} where
   get_in_more (z ∷ xs) x (suc place) y e =
       ⊎_elim (λ h. inl h) (λ h. inr (ap suc h.0, h.1)) (get_in_more xs x place y e)
 
+  -- at each place before the end an element stands, the one that is read with a default
   pub get_at : (xs : List A) (place : ℕ) (d : A) → place < length xs
       → slice_get xs place ≡ Some (get_or xs place d)
   get_at [] place d l = absurd (omega arith)

@@ -19,19 +19,11 @@ module _ {P : Type 0} where
   some_are (x ∷ xs) last e = omega arith
 
 module _ {P O : Type 0} (number : P → ℕ) (of : P → O) where
+  -- the empty list is a history
   pub none_published : IsPublication number of []
   none_published = record {
     rises = λ place first picture a b. absurd cc;
     same = λ place first picture a b. absurd cc;
-  }
-
-  pub publication_of_prefix : (pictures whole : List P) → IsPrefix pictures whole
-      → IsPublication number of whole → IsPublication number of pictures
-  publication_of_prefix pictures whole p h = record {
-    rises = λ place first picture a b. h.rises place first picture
-        (get_in_longer pictures whole 0 first p a) (get_in_longer pictures whole place picture p b);
-    same = λ place first picture a b. h.same place first picture
-        (get_in_longer pictures whole 0 first p a) (get_in_longer pictures whole place picture p b);
   }
 
   -- a picture of a history with one more, beside the first one
@@ -59,6 +51,7 @@ module _ {P O : Type 0} (number : P → ℕ) (of : P → O) where
       ))
       (get_in_more (x ∷ xs) next place picture b)
 
+  -- a history with a picture that may come next is a history
   pub publication_of_more : (pictures : List P) (next : P) → IsPublication number of pictures
       → MayFollow number of pictures next → IsPublication number of (pictures ++ next ∷ [])
   publication_of_more pictures next h may = record {
@@ -107,6 +100,7 @@ module _ {P O : Type 0} (number : P → ℕ) (of : P → O) where
       never_older pictures whole (picture_of a) p h e
   look_never_older (Err stop) picture_of pictures whole p e h = tt
 
+  -- where a look answers, all that was seen are pictures of the same as its picture
   pub look_of : {A E : Type 0} (r : Result A E) (picture_of : A → P) (pictures whole : List P)
       → IfOk r (λ _. IsPrefix pictures whole) → IfOk r (λ a. last_of whole ≡ Some (picture_of a))
       → IsPublication number of whole

@@ -33,6 +33,7 @@ module _ {P : Type 0} where
     whole = λ writes. absurd (true≢false (sym writes ∙ reads));
   }
 
+  -- who has seen nothing fits each history at each seat
   fits_new : (writer : ℕ) (log : List P) (seat : ℕ) → Fits writer log seat newcomer
   fits_new writer log seat = fits_reader writer log seat newcomer refl (log, refl)
 
@@ -56,6 +57,7 @@ module _ {P O : Type 0} (number : P → ℕ) (of : P → O) where
       one zero v e = subst (Fits 0 [] 0) (some-injective _ _ e) (fits_new 0 [] 0)
       one (suc seat) v e = absurd (some-ne-none v (sym e))
 
+  -- who has seen nothing may come at any time
   pub admits : Admits (Keeps number of) newcomer
   admits x views h = (
     h.0,
@@ -146,6 +148,7 @@ module _ {P O : Type 0} (number : P → ℕ) (of : P → O) where
         refl,
       )
 
+  -- a reader that has seen as much as a view may come beside it
   pub tells : (by : ℕ) (v : View P) → Forks (Keeps number of) by v v (reader_of v)
   tells by v x views h at =
       let mine = h.2.fits by v at in (
@@ -163,6 +166,7 @@ module _ {P O : Type 0} (number : P → ℕ) (of : P → O) where
         },
       )
 
+  -- a reader takes over what another has seen, who has then seen nothing
   pub learns : (by : ℕ) (v : View P) (other : ℕ) (u : View P) → v.writes ≡ false
       → Merges (Keeps number of) by v other u (told v u) newcomer
   learns by v other u reads x views h at apart there =

@@ -3,7 +3,7 @@ use Rattle.std.proofs.Common.{◌≡◌, ℕ, ◌<◌, ◌≤◌, List, length, 
 use Rattle.std.proofs.lemmas.List.{length-take, take_all}
 use mathlib.Core.List.{IsPrefix}
 use Rattle.published_world.specs.declared.shown.Shown.{Shown}
-use Rattle.published_world.specs.Shown.{state_of}
+use Rattle.published_world.specs.Shown.{count_and_picture}
 use Rattle.published_world.specs.PublicationHistory.{IsPublication, last_of}
 use Rattle.published_world.specs.Rule.{IsSeen, IsWholeSeen, Shows}
 use Rattle.published_world.proofs.PrefixLemmas.{prefix_trans, prefix_length, take_is_prefix, take_of_longer}
@@ -19,6 +19,7 @@ module _ {P O : Type 0} (number : P → ℕ) (of : P → O) where
       → take last.count seen ≡ seen
   seen_whole seen last h = take_all last.count seen (omega (arith, h.length_is))
 
+  -- where all that was seen is a history with this end, so is what was counted
   pub whole_is_seen : (seen : List P) (last : Shown P) → IsWholeSeen number of seen last
       → IsSeen number of seen last
   whole_is_seen seen last h =
@@ -32,14 +33,6 @@ module _ {P O : Type 0} (number : P → ℕ) (of : P → O) where
   pub kept : (seen later : List P) (last : Shown P) → IsSeen number of seen last
       → IsPrefix seen later → take last.count later ≡ take last.count seen
   kept seen later last h p = take_of_longer last.count seen later p (fits_in seen last h)
-
-  pub kept_is_seen : (seen later : List P) (last : Shown P) → IsSeen number of seen last
-      → take last.count later ≡ take last.count seen → IsSeen number of later last
-  kept_is_seen seen later last h same = record {
-    length_is = ap length same ∙ h.length_is;
-    last_is = ap last_of same ∙ h.last_is;
-    publication = subst (IsPublication number of) (sym same) h.publication;
-  }
 
   -- all that the reader has seen was counted
   pub grown_is_whole : (seen later : List P) (last shown : Shown P) → IsSeen number of seen last
@@ -61,6 +54,7 @@ module _ {P O : Type 0} (number : P → ℕ) (of : P → O) where
         publication = publication;
       }
 
+  -- the pictures counted before are a prefix of those counted once all that was seen is
   pub grown : (seen later : List P) (last shown : Shown P) → IsPrefix seen later
       → length later ≡ shown.count → IsPrefix (take last.count seen) (take shown.count later)
   grown seen later last shown p e =
@@ -68,7 +62,9 @@ module _ {P O : Type 0} (number : P → ℕ) (of : P → O) where
       subst (IsPrefix (take last.count seen)) (sym whole)
       (prefix_trans (take last.count seen) seen later (take_is_prefix last.count seen) p)
 
-  same_shows : (log : List P) (x y : Shown P) → state_of y ≡ state_of x → Shows log x → Shows log y
+  -- what has the same count and the same picture shows the same history
+  same_shows : (log : List P) (x y : Shown P) → count_and_picture y ≡ count_and_picture x
+      → Shows log x → Shows log y
   same_shows log x y e h = record {
     length_is = h.length_is ∙ sym (ap (λ t. t.0) e);
     last_is = λ some_of. h.last_is (subst (λ (n : ℕ). 0 < n) (ap (λ t. t.0) e) some_of)
@@ -77,7 +73,7 @@ module _ {P O : Type 0} (number : P → ℕ) (of : P → O) where
 
   -- a copy of what was shown is the end of all that the reader has seen then
   pub read_shown : {E : Type 0} (r : Result (Shown P) E) (seen later : List P) (last x : Shown P)
-      → IfOk r (λ copy. state_of copy ≡ state_of x) → IsSeen number of seen last
+      → IfOk r (λ copy. count_and_picture copy ≡ count_and_picture x) → IsSeen number of seen last
       → IsPrefix seen later → Shows later x → IsPublication number of later
       → IfOk r (λ shown. IsSeen number of later shown)
   read_shown (Ok shown) seen later last x e h p shows publication =
@@ -85,8 +81,10 @@ module _ {P O : Type 0} (number : P → ℕ) (of : P → O) where
       (grown_is_whole seen later last shown h p (same_shows later x shown e shows) publication)
   read_shown (Err stop) seen later last x e h p shows publication = tt
 
+  -- where a read answers, what was counted is a prefix of what is counted then
   pub read_later : {E : Type 0} (r : Result (Shown P) E) (seen later : List P) (last x : Shown P)
-      → IfOk r (λ copy. state_of copy ≡ state_of x) → IsPrefix seen later → Shows later x
+      → IfOk r (λ copy. count_and_picture copy ≡ count_and_picture x) → IsPrefix seen later
+      → Shows later x
       → IfOk r (λ shown. IsPrefix (take last.count seen) (take shown.count later))
   read_later (Ok shown) seen later last x e p shows =
       grown seen later last shown p (same_shows later x shown e shows).length_is

@@ -1,6 +1,6 @@
 // What readers take.
 ghost use Rattle.std.specs.Prelude.{◌≡◌, IfOk};
-ghost use Rattle.published_world.specs.Shown.{state_of};
+ghost use Rattle.published_world.specs.Shown.{count_and_picture};
 
 use left_right::Absorb;
 use std::alloc::AllocError;
@@ -16,7 +16,7 @@ pub struct Shown<P> {
 impl<P: Drop> Shown<P> {
     /// The same picture and count.
     pub fn copy(&self) -> Result<Shown<P>, AllocError>
-        ensures { IfOk result (λ copy. state_of copy ≡ state_of self.now) }
+        ensures { IfOk result (λ copy. count_and_picture copy ≡ count_and_picture self.now) }
     {
         Ok(Shown {
             picture: Arc::try_clone(&self.picture)?,
@@ -27,13 +27,13 @@ impl<P: Drop> Shown<P> {
 
 /// What was shown last takes the place of what was shown before.
 impl<P: Drop> Absorb<Shown<P>> for Shown<P> {
-    ghost use Rattle.published_world.specs.Shown.{state_of};
+    ghost use Rattle.published_world.specs.Shown.{count_and_picture};
 
     type State = (u64, P);
 
-    ghost state = { state_of };
+    ghost state = { count_and_picture };
 
-    ghost applied = { λ _ operation. state_of operation };
+    ghost applied = { λ _ operation. count_and_picture operation };
 
     fn absorb_first(&mut self, operation: &Shown<P>, _other: &Shown<P>) -> Result<(), AllocError> {
         *self = operation.copy()?;

@@ -1,9 +1,9 @@
 -- Items that are read word by word.
-use Rattle.std.proofs.Common.{◌≡◌, ℕ, suc, ◌+◌, ◌-◌, ◌<◌, ◌≤◌, List, [], ◌∷◌, ◌++◌, length, get_or, take, drop, set, Option, Some, None, refl, sym, ap, ◌∙◌, arith, append_assoc, append-nil, drop-cons, add-one, length-set}
+use Rattle.std.proofs.Common.{◌≡◌, ℕ, suc, ◌+◌, ◌-◌, ◌<◌, ◌≤◌, List, [], ◌∷◌, ◌++◌, length, get_or, take, drop, Option, Some, None, refl, sym, ap, ◌∙◌, arith, append_assoc, append-nil, drop-cons, add-one}
 use Rattle.std.specs.Prelude.{option_map, option_and_then}
-use Rattle.std.proofs.lemmas.List.{drop_all, take_more, take-set-le, get_or-set_same, take_all}
+use Rattle.std.proofs.lemmas.List.{drop_all, take_all}
 use Rattle.saved_lines.specs.declared.ranges.Range.{Range}
-use Rattle.saved_lines.specs.SavedReading.{head_line}
+use Rattle.saved_lines.specs.SavedReading.{saved_head_line}
 use Rattle.saved_lines.specs.SavedRows.{AreWithin, if_last, with_item, read_several, read_within}
 use Rattle.saved_lines.proofs.RangeLemmas.{read_are_within}
 
@@ -19,16 +19,6 @@ behind_item front item None = refl
 behind_item {A = A} front item (Some p) =
     ap (λ (l : List A). let q : List A × List (List ℕ) = (l, p.1) in Some q)
     (sym (append_assoc front (item ∷ []) p.0))
-
--- the front of a list, an item of which was set
-pub front_more : {A : Type 0} (items : List A) (k : ℕ) (item : A) → k < length items
-    → take (k + 1) (set items k item) ≡ take k items ++ item ∷ []
-front_more {A = A} items k item low =
-    let within : k < length (set items k item) = omega (arith, low, length-set items k item) in
-    take_more (set items k item) k item within
-    ∙ ap (λ (l : List A). l ++ get_or (set items k item) k item ∷ [])
-    (take-set-le k items k item (omega arith))
-    ∙ ap (λ (a : A). take k items ++ a ∷ []) (get_or-set_same items k item item low)
 
 -- ---- numbers within ranges
 
@@ -80,8 +70,8 @@ all_within ranges ns k words left enough long is =
 -- words are left behind the numbers of a head
 pub more_left : (found : Option (List ℕ × List (List ℕ))) (ns : List ℕ) (words : List (List ℕ))
     → Some (ns, words) ≡ found → 0 < length words
-    → None ≡ option_and_then head_line (option_and_then if_last found)
+    → None ≡ option_and_then saved_head_line (option_and_then if_last found)
 more_left found ns [] is some = absurd (omega (arith, some))
 more_left found ns (word ∷ words) is some =
-    ap (λ (o : Option (List ℕ × List (List ℕ))). option_and_then head_line
+    ap (λ (o : Option (List ℕ × List (List ℕ))). option_and_then saved_head_line
     (option_and_then if_last o)) is

@@ -46,21 +46,30 @@ Texts = List Letter × (List Letter × (List Bool × List Bool))
 abbrev pub Behind : Type 0
 Behind = List ℤ × Texts
 
-module _ (w0 w1 w2 w3 w4 : List (List ℕ)) (registers : List ℤ) (numbers : List ℕ)
-    (ns : List Letter) (first : List ℤ)
-    (a : Some (registers, w1) ≡ read_several signed.read 3 w0)
-    (b : Some (numbers, w2) ≡ read_within machine_ranges w1)
-    (c : Some (ns, w3) ≡ read_first nops.read w2)
-    (d : Some (first, w4) ≡ read_several signed.read 10 w3) where
-  -- what is read of a line whose first fields are these
-  abbrev pub machine_with : Option Behind
-      → Option (List ℤ × (List ℕ × (List Letter × (List ℤ × Behind))))
-  machine_with o =
-      option_map (λ x. (registers, x)) (option_map (λ x. (numbers, x))
-      (option_map (λ x. (ns, x)) (option_map (λ x. (first, x)) o)))
+-- what is read of a line whose first fields are these
+abbrev pub machine_with :
+    List ℤ → List ℕ → List Letter → List ℤ → Option Behind
+    → Option (List ℤ × (List ℕ × (List Letter × (List ℤ × Behind))))
+machine_with registers numbers ns first o =
+    option_map (λ x. (registers, x)) (option_map (λ x. (numbers, x))
+    (option_map (λ x. (ns, x)) (option_map (λ x. (first, x)) o)))
 
+-- the first fields of a line were read of these words, and these are left
+pub record Begins (registers : List ℤ) (numbers : List ℕ) (ns : List Letter) (first : List ℤ)
+    (words left : List (List ℕ)) : Type 0 where
+  pub after_registers : List (List ℕ)
+  pub after_numbers : List (List ℕ)
+  pub after_nops : List (List ℕ)
+  pub registers_read : Some (registers, after_registers) ≡ read_several signed.read 3 words
+  pub numbers_read : Some (numbers, after_numbers) ≡ read_within machine_ranges after_registers
+  pub nops_read : Some (ns, after_nops) ≡ read_first nops.read after_numbers
+  pub first_read : Some (first, left) ≡ read_several signed.read 10 after_nops
+
+module _ {registers : List ℤ} {numbers : List ℕ} {ns : List Letter} {first : List ℤ}
+    {words left : List (List ℕ)} (begins : Begins registers numbers ns first words left) where
   -- the line as its first fields leave it
-  pub machine_begins : machine_with ((several 10 signed ◁ texts_row).read w4) ≡ machine_row.read w0
+  machine_begins : machine_with registers numbers ns first
+      ((several 10 signed ◁ texts_row).read left) ≡ machine_row.read words
   machine_begins =
       let stacks = several 10 signed ◁ texts_row in
       let three = several 10 signed ◁ stacks in
@@ -68,24 +77,30 @@ module _ (w0 w1 w2 w3 w4 : List (List ℕ)) (registers : List ℤ) (numbers : Li
       let one = within machine_ranges ◁ two in
       ap (λ (o : Option (List ℤ × Behind)). option_map (λ x. (registers, x))
       (option_map (λ x. (numbers, x)) (option_map (λ x. (ns, x)) o)))
-      (front_on (several 10 signed) stacks w3 w4 first d)
+      (front_on (several 10 signed) stacks begins.after_nops left first begins.first_read)
       ∙ ap (λ (o : Option (List Letter × (List ℤ × Behind))). option_map (λ x. (registers, x))
-      (option_map (λ x. (numbers, x)) o)) (field_on nops three w2 w3 ns c)
+      (option_map (λ x. (numbers, x)) o))
+      (field_on nops three begins.after_numbers begins.after_nops ns begins.nops_read)
       ∙ ap (λ (o : Option (List ℕ × (List Letter × (List ℤ × Behind)))).
-      option_map (λ x. (registers, x)) o) (front_on (within machine_ranges) two w1 w2 numbers b)
-      ∙ front_on (several 3 signed) one w0 w1 registers a
+      option_map (λ x. (registers, x)) o)
+      (front_on (within machine_ranges) two begins.after_registers begins.after_numbers numbers
+      begins.numbers_read)
+      ∙ front_on (several 3 signed) one words begins.after_registers registers begins.registers_read
 
   -- the second stack is not read
-  pub no_second : None ≡ read_several signed.read 10 w4 → None ≡ machine_row.read w0
+  pub no_second : None ≡ read_several signed.read 10 left → None ≡ machine_row.read words
   no_second is =
-      ap (λ (o : Option (List ℤ × List (List ℕ))). machine_with (option_and_then
-      (λ found. option_map (λ x. (found.0, x)) (texts_row.read found.1)) o)) is
+      ap (λ (o : Option (List ℤ × List (List ℕ))). machine_with registers numbers ns first
+      (option_and_then (λ found. option_map (λ x. (found.0, x)) (texts_row.read found.1)) o)) is
       ∙ machine_begins
 
   -- the second stack and the texts are read, or the texts are not
-  pub machine_read : (w5 : List (List ℕ)) (second : List ℤ) (texts : Option Texts)
-      → Some (second, w5) ≡ read_several signed.read 10 w4 → texts ≡ texts_row.read w5
-      → machine_with (option_map (λ x. (second, x)) texts) ≡ machine_row.read w0
-  machine_read w5 second texts e f =
-      ap (λ (o : Option Texts). machine_with (option_map (λ x. (second, x)) o)) f
-      ∙ ap machine_with (front_on (several 10 signed) texts_row w4 w5 second e) ∙ machine_begins
+  pub machine_read : {second : List ℤ} {end : List (List ℕ)} (texts : Option Texts)
+      → Some (second, end) ≡ read_several signed.read 10 left → texts ≡ texts_row.read end
+      → machine_with registers numbers ns first (option_map (λ x. (second, x)) texts)
+      ≡ machine_row.read words
+  machine_read {second = second} {end = end} texts e f =
+      ap (λ (o : Option Texts). machine_with registers numbers ns first
+      (option_map (λ x. (second, x)) o)) f
+      ∙ ap (machine_with registers numbers ns first)
+      (front_on (several 10 signed) texts_row left end second e) ∙ machine_begins

@@ -1,5 +1,5 @@
 -- Nops that are read letter by letter.
-use Rattle.std.proofs.Common.{◌≡◌, ℕ, ◌+◌, ◌-◌, ◌<◌, ◌⊎◌, Bool, true, false, List, [], ◌∷◌, ◌++◌, length, get_or, drop, Option, Some, None, refl, sym, ap, ◌∙◌, arith, append_assoc, length-append, drop-cons, add-one}
+use Rattle.std.proofs.Common.{◌≡◌, ℕ, ◌+◌, ◌-◌, ◌<◌, ◌⊎◌, Bool, true, false, List, [], ◌∷◌, ◌++◌, length, get_or, drop, Option, Some, None, refl, sym, ap, ◌∙◌, arith, length-append, drop-cons, add-one}
 use Rattle.std.specs.Prelude.{◌&&◌, nat_lt, nat_le, option_and_then, option_map}
 use Rattle.std.specs.List.{list_all}
 use Rattle.std.proofs.lemmas.Bool.{and_parts}
@@ -8,8 +8,9 @@ use Rattle.instruction_set.specs.declared.letter.Letter.{Letter}
 use Rattle.instruction_set.specs.Letter.{letter_of_byte}
 use Rattle.label_search.specs.Template.{is_nop, nops_read}
 use Rattle.log_lines.specs.Fields.{each, given}
+use Rattle.log_lines.proofs.ListLaws.{each_length}
+use Rattle.log_lines.proofs.TimesLemmas.{map_more}
 use Rattle.saved_lines.specs.SavedFields.{are_nops, some_nops}
-use Rattle.saved_lines.proofs.EachLemmas.{each_length}
 
 -- from one to ten nops, or none
 abbrev if_nops : Option (List Letter) → Option (List Letter)
@@ -20,20 +21,13 @@ abbrev pub nops_behind : List Letter → List ℕ → Option (List Letter)
 nops_behind front word =
     if_nops (option_map (λ others. front ++ others) (each letter_of_byte word))
 
--- a letter more in front
-onto : (front : List Letter) (l : Letter) (o : Option (List Letter))
-    → option_map (λ others. front ++ others) (option_map (λ others. l ∷ others) o)
-    ≡ option_map (λ others. (front ++ l ∷ []) ++ others) o
-onto front l None = refl
-onto front l (Some ls) = ap Some (sym (append_assoc front (l ∷ []) ls))
-
 -- one nop more
 nop_more : (front : List Letter) (b : ℕ) (bs : List ℕ) (l : Letter) → letter_of_byte b ≡ Some l
     → nops_behind front (b ∷ bs) ≡ nops_behind (front ++ l ∷ []) bs
 nop_more front b bs l is =
     ap (λ (o : Option Letter). if_nops (option_map (λ others. front ++ others)
     (option_and_then (λ a. option_map (λ others. a ∷ others) (each letter_of_byte bs)) o))) is
-    ∙ ap if_nops (onto front l (each letter_of_byte bs))
+    ∙ ap if_nops (map_more front l (each letter_of_byte bs))
 
 module _ (word : List ℕ) (front : List Letter) (k : ℕ) (low : k < length word) where
   -- the byte whose turn it is

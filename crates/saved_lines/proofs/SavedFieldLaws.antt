@@ -19,9 +19,10 @@ use Rattle.instruction_set.specs.declared.letter.Letter.{Letter}
 use Rattle.instruction_set.specs.Letter.{byte_of, letter_of_byte}
 use Rattle.label_search.specs.Template.{IsTemplate, is_nop}
 use Rattle.log_lines.specs.Fields.{given}
-use Rattle.log_lines.proofs.LetterLemmas.{letter_above, letter_of_byte-byte_of}
-use Rattle.log_lines.proofs.FieldLaws.{letters_taken, not_equal, same_bytes}
+use Rattle.log_lines.proofs.LetterLemmas.{letter_of_byte-byte_of}
+use Rattle.log_lines.proofs.FieldLaws.{above_letters, each_takes, letters_again, letters_taken, not_equal, same_bytes}
 use Rattle.saved_lines.specs.SavedFields.{below_zero, read_signed, signed, digit_of, mark_of, if_any, marks, are_nops, some_nops, read_nops, nops_text, nops}
+use Rattle.saved_lines.proofs.TextLemmas.{nops_text-some}
 
 -- the field writes this word for the number
 abbrev SignedIs : List ℕ → ℤ → Type 0
@@ -123,16 +124,9 @@ mark_takes byte place is = elim (cases_Bool (byte == 49)) [
 -- marks that are read were written so
 marks_taken : (word : List ℕ) (places : List Bool) → each mark_of word ≡ Some places
     → map digit_of places ≡ word
-marks_taken [] places is =
-    let e : [] ≡ places = cc in subst (λ (l : List Bool). map digit_of l ≡ []) e refl
-marks_taken (b ∷ bs) places is =
-    let first = some_then (λ a. option_map (λ others. a ∷ others) (each mark_of bs))
-    (mark_of b) places is in
-    let second = some_map (λ others. first.0 ∷ others) (each mark_of bs) places first.2 in
-    let a = mark_takes b first.0 first.1 in
-    let others = marks_taken bs second.0 second.1 in
-    subst (λ (l : List Bool). map digit_of l ≡ b ∷ bs) second.2
-    (ap (λ (c : ℕ). c ∷ map digit_of second.0) a ∙ ap (λ (l : List ℕ). b ∷ l) others)
+marks_taken word places is =
+    (each_takes digit_of mark_of (λ mark. Unit {0})
+    (λ byte mark found. (mark_takes byte mark found, tt)) word places is).0
 
 -- their bytes
 marks_above : (places : List Bool) → Above 44 (map digit_of places)
@@ -156,16 +150,6 @@ marks_law = record {
 }
 
 -- ---- nops
-
--- letters that are written are read again
-letters_again : (ls : List Letter) → each letter_of_byte (map byte_of ls) ≡ Some ls
-letters_again [] = refl
-letters_again (l ∷ ls) = rw (letter_of_byte-byte_of l, letters_again ls) refl
-
--- their bytes
-above_letters : (ls : List Letter) → Above 44 (map byte_of ls)
-above_letters [] = tt
-above_letters (l ∷ ls) = (letter_above l, above_letters ls)
 
 -- a dash spells no letter
 no_dash : (l : Letter) → letter_of_byte 45 ≡ Some l → ⊥
@@ -199,11 +183,6 @@ nops_again (l ∷ ls) fits =
 abbrev NopsAre : List ℕ → List Letter → Type 0
 NopsAre word ls = (nops_text ls ≡ word) × IsTemplate ls
 
--- the text of nops that there are
-some_text : (ls : List Letter) → 0 < length ls → nops_text ls ≡ map byte_of ls
-some_text [] some = absurd (omega (arith, some))
-some_text (l ∷ ls) some = refl
-
 -- some nops that are read were written so
 some_taken : (word : List ℕ) (ls : List Letter) → some_nops word ≡ Some ls → NopsAre word ls
 some_taken word ls is =
@@ -215,7 +194,7 @@ some_taken word ls is =
     let some : 0 < length got.0 = grind (arith, nat_tests, one.0) in
     let few : length got.0 ≤ 10 = grind (arith, nat_tests, one.1) in
     subst (λ (l : List Letter). NopsAre word l) passed.1 (
-      some_text got.0 some ∙ letters_taken word got.0 got.1,
+      nops_text-some got.0 some ∙ letters_taken word got.0 got.1,
       record { few = few; nops = AllPass-from_list_all is_nop got.0 two.1 },
     )
 

@@ -4,12 +4,12 @@ use Rattle.std.specs.Prelude.{◌==◌}
 use Rattle.std.proofs.lemmas.List.{length-map}
 use Rattle.instruction_set.specs.declared.letter.Letter.{Letter}
 use Rattle.logic_tasks.specs.Inputs.{HasTopBytes, inputs_of, low_of}
-use Rattle.logic_tasks.specs.TaskBits.{number_of, tasks_of}
+use Rattle.logic_tasks.specs.TaskBits.{bits_of_tasks, tasks_of}
 use Rattle.logic_tasks.specs.TaskBitsLaws.{bit_at-number_of, get_or-tasks_of, length-tasks_of, number_of-tasks_of}
 use Rattle.virtual_cpu.specs.declared.cpu_image.CpuImage.{CpuImage}
 use Rattle.saved_lines.specs.declared.ranges.Range.{Range}
 use Rattle.saved_lines.specs.SavedForms.{IsOrganismLine, IsMachineLine}
-use Rattle.saved_lines.specs.SavedReading.{number_at, head_of, organism_of, machine_of, Organism, Machine}
+use Rattle.saved_lines.specs.SavedReading.{saved_number_at, head_of, organism_of, machine_of, Organism, Machine}
 use Rattle.saved_lines.specs.SavedRows.{AreWithin}
 use Rattle.saved_lines.specs.SavedText.{flag_number, head_numbers, head_ranges, organism_numbers, organism_ranges, machine_ranges, machine_fields}
 use Rattle.saved_lines.specs.SavedValues.{HeadValues, OrganismValues}
@@ -58,7 +58,7 @@ head_again head =
     rw (flag_again head.death, flag_again head.prefer_empty, flag_again head.need_alloc) refl
 
 -- the version
-version : (ns : List ℕ) → AreWithin head_ranges ns → 1 ≡ number_at ns 0
+version : (ns : List ℕ) → AreWithin head_ranges ns → 1 ≡ saved_number_at ns 0
 version [] all = absurd all
 version (n ∷ ns) all = omega (arith, all.0, all.1)
 
@@ -67,10 +67,13 @@ pub head_taken : (ns : List ℕ) → AreWithin head_ranges ns → head_numbers (
 head_taken ns all =
     let any : Range = record { least = 0; greatest = 0 } in
     let long : length ns ≡ 22 = within_length head_ranges ns all in
-    let death = flag_taken (number_at ns 7) (bound_at head_ranges ns 7 any all (omega arith)) in
-    let empty = flag_taken (number_at ns 15) (bound_at head_ranges ns 15 any all (omega arith)) in
-    let alloc = flag_taken (number_at ns 16) (bound_at head_ranges ns 16 any all (omega arith)) in
-    let one : 1 ≡ number_at ns 0 = version ns all in
+    let death = flag_taken (saved_number_at ns 7)
+    (bound_at head_ranges ns 7 any all (omega arith)) in
+    let empty = flag_taken (saved_number_at ns 15)
+    (bound_at head_ranges ns 15 any all (omega arith)) in
+    let alloc = flag_taken (saved_number_at ns 16)
+    (bound_at head_ranges ns 16 any all (omega arith)) in
+    let one : 1 ≡ saved_number_at ns 0 = version ns all in
     rw (death, empty, alloc) (ap (λ (n : ℕ). n ∷ from ns 1 21) one ∙ sym (from_is ns 0 22 long))
 
 -- ---- sets of tasks
@@ -92,11 +95,11 @@ same_items (x ∷ a) (y ∷ b) long items =
     in ap (λ (z : Bool). z ∷ a) first ∙ ap (λ (l : List Bool). y ∷ l) others
 
 -- a set of its number
-pub tasks_again : (tasks : List Bool) → length tasks ≡ 9 → tasks_of (number_of tasks) ≡ tasks
+pub tasks_again : (tasks : List Bool) → length tasks ≡ 9 → tasks_of (bits_of_tasks tasks) ≡ tasks
 tasks_again tasks long =
-    same_items (tasks_of (number_of tasks)) tasks
-    (length-tasks_of (number_of tasks) ∙ sym long)
-    (λ i low. get_or-tasks_of (number_of tasks) i (omega (arith, low, long))
+    same_items (tasks_of (bits_of_tasks tasks)) tasks
+    (length-tasks_of (bits_of_tasks tasks) ∙ sym long)
+    (λ i low. get_or-tasks_of (bits_of_tasks tasks) i (omega (arith, low, long))
     ∙ ap (λ (n : ℕ). n == 1) (bit_at-number_of tasks i) ∙ bit_again (get_or tasks i false))
 
 -- ---- inputs
@@ -156,13 +159,13 @@ organism_again o form =
 -- the organism of numbers and a genome
 abbrev pub organism_at : List ℕ → List Letter → OrganismValues
 organism_at ns genome = record {
-  cell = number_at ns 0;
-  id = number_at ns 1;
-  merit = number_at ns 2;
-  credited = tasks_of (number_at ns 3);
-  age = number_at ns 4;
-  read = number_at ns 5;
-  gestation = tasks_of (number_at ns 6);
+  cell = saved_number_at ns 0;
+  id = saved_number_at ns 1;
+  merit = saved_number_at ns 2;
+  credited = tasks_of (saved_number_at ns 3);
+  age = saved_number_at ns 4;
+  read = saved_number_at ns 5;
+  gestation = tasks_of (saved_number_at ns 6);
   inputs = inputs_of (drop 7 ns);
   genome = genome;
 }
@@ -173,15 +176,15 @@ module _ (ns : List ℕ) (genome : List Letter) (all : AreWithin organism_ranges
   organism_taken =
       let any : Range = record { least = 0; greatest = 0 } in
       let long : length ns ≡ 10 = within_length organism_ranges ns all in
-      let credited = number_of-tasks_of (number_at ns 3)
+      let credited = number_of-tasks_of (saved_number_at ns 3)
       (omega (arith, bound_at organism_ranges ns 3 any all (omega arith))) in
-      let gestation = number_of-tasks_of (number_at ns 6)
+      let gestation = number_of-tasks_of (saved_number_at ns 6)
       (omega (arith, bound_at organism_ranges ns 6 any all (omega arith))) in
-      let first = input_taken 15 (number_at ns 7)
+      let first = input_taken 15 (saved_number_at ns 7)
       (bound_at organism_ranges ns 7 any all (omega arith)) in
-      let second = input_taken 51 (number_at ns 8)
+      let second = input_taken 51 (saved_number_at ns 8)
       (bound_at organism_ranges ns 8 any all (omega arith)) in
-      let third = input_taken 85 (number_at ns 9)
+      let third = input_taken 85 (saved_number_at ns 9)
       (bound_at organism_ranges ns 9 any all (omega arith)) in
       rw (credited, gestation, from_is ns 7 3 long, first, second, third)
       (sym (from_is ns 0 10 long))
@@ -196,11 +199,12 @@ machine_again image form =
 
 -- the numbers of their machine
 pub machine_taken : (ns : List ℕ) → AreWithin machine_ranges ns
-    → number_at ns 0 ∷ number_at ns 1 ∷ number_at ns 2 ∷ number_at ns 3 ∷ number_at ns 4
-    ∷ flag_number (number_at ns 5 == 1) ∷ [] ≡ ns
+    → saved_number_at ns 0 ∷ saved_number_at ns 1 ∷ saved_number_at ns 2 ∷ saved_number_at ns 3
+    ∷ saved_number_at ns 4
+    ∷ flag_number (saved_number_at ns 5 == 1) ∷ [] ≡ ns
 machine_taken ns all =
     let any : Range = record { least = 0; greatest = 0 } in
     let long : length ns ≡ 6 = within_length machine_ranges ns all in
     let pending =
-    flag_taken (number_at ns 5) (bound_at machine_ranges ns 5 any all (omega arith)) in
+    flag_taken (saved_number_at ns 5) (bound_at machine_ranges ns 5 any all (omega arith)) in
     rw pending (sym (from_is ns 0 6 long))

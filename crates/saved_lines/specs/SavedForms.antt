@@ -10,11 +10,11 @@ use Rattle.saved_lines.specs.SavedText.{head_row, head_numbers, organism_row, or
 use Rattle.saved_lines.specs.SavedValues.{HeadValues, OrganismValues}
 
 -- a line without its newline
-abbrev pub row_text : SavedLine → List ℕ
-row_text (Head head) = form_text 83 head_row (head_numbers head)
-row_text (Organism o) = form_text 79 organism_row (organism_numbers o, o.genome)
-row_text (Machine image) = form_text 77 machine_row (machine_fields image)
-row_text (Count organisms) = form_text 90 (last large) organisms
+abbrev pub saved_row_text : SavedLine → List ℕ
+saved_row_text (Head head) = form_text 83 head_row (head_numbers head)
+saved_row_text (Organism o) = form_text 79 organism_row (organism_numbers o, o.genome)
+saved_row_text (Machine image) = form_text 77 machine_row (machine_fields image)
+saved_row_text (Count organisms) = form_text 90 (last large) organisms
 
 -- the numbers of a head are in their ranges, and its lengths in order
 pub record IsHeadLine (head : HeadValues) : Type 0 where
@@ -35,8 +35,8 @@ pub record IsMachineLine (image : CpuImage) : Type 0 where
   pub heads : length image.heads ≡ 4
 
 -- a line has one of the four forms
-abbrev pub HasForm : SavedLine → Type 0
-HasForm (Head head) = IsHeadLine head
-HasForm (Organism o) = IsOrganismLine o
-HasForm (Machine image) = IsMachineLine image
-HasForm (Count organisms) = large.Fits organisms
+abbrev pub HasSavedForm : SavedLine → Type 0
+HasSavedForm (Head head) = IsHeadLine head
+HasSavedForm (Organism o) = IsOrganismLine o
+HasSavedForm (Machine image) = IsMachineLine image
+HasSavedForm (Count organisms) = large.Fits organisms

@@ -20,39 +20,39 @@ pub data SavedLine : Type 0 where
   Count : (organisms : ℕ) → SavedLine
 
 -- the number at a place of a line
-abbrev pub number_at : List ℕ → ℕ → ℕ
-number_at numbers at = slice_index_or numbers at 0
+abbrev pub saved_number_at : List ℕ → ℕ → ℕ
+saved_number_at numbers at = slice_index_or numbers at 0
 
 -- whether the number at a place is 1
-abbrev pub flag_at : List ℕ → ℕ → Bool
-flag_at numbers at = number_at numbers at == 1
+abbrev pub saved_flag_at : List ℕ → ℕ → Bool
+saved_flag_at numbers at = saved_number_at numbers at == 1
 
 -- the head of the numbers of its line
 abbrev pub head_of : List ℕ → HeadValues
 head_of numbers = record {
-  width = number_at numbers 1;
-  height = number_at numbers 2;
-  update = number_at numbers 3;
-  next_id = number_at numbers 4;
-  seed = number_at numbers 5;
-  average_slices = number_at numbers 6;
-  death = flag_at numbers 7;
-  age_limit = number_at numbers 8;
+  width = saved_number_at numbers 1;
+  height = saved_number_at numbers 2;
+  update = saved_number_at numbers 3;
+  next_id = saved_number_at numbers 4;
+  seed = saved_number_at numbers 5;
+  average_slices = saved_number_at numbers 6;
+  death = saved_flag_at numbers 7;
+  age_limit = saved_number_at numbers 8;
   rates = record {
-    copy = number_at numbers 9;
-    insert = number_at numbers 10;
-    delete = number_at numbers 11;
-    site_point = number_at numbers 12;
-    site_insert = number_at numbers 13;
-    site_delete = number_at numbers 14;
+    copy = saved_number_at numbers 9;
+    insert = saved_number_at numbers 10;
+    delete = saved_number_at numbers 11;
+    site_point = saved_number_at numbers 12;
+    site_insert = saved_number_at numbers 13;
+    site_delete = saved_number_at numbers 14;
   };
-  prefer_empty = flag_at numbers 15;
-  need_alloc = flag_at numbers 16;
-  executed_percent = number_at numbers 17;
-  copied_percent = number_at numbers 18;
-  least_length = number_at numbers 19;
-  greatest_length = number_at numbers 20;
-  memory_limit = number_at numbers 21;
+  prefer_empty = saved_flag_at numbers 15;
+  need_alloc = saved_flag_at numbers 16;
+  executed_percent = saved_number_at numbers 17;
+  copied_percent = saved_number_at numbers 18;
+  least_length = saved_number_at numbers 19;
+  greatest_length = saved_number_at numbers 20;
+  memory_limit = saved_number_at numbers 21;
 }
 
 -- the least length is not above the greatest, nor that above the limit of memory
@@ -61,19 +61,19 @@ are_ordered head =
     nat_le head.least_length head.greatest_length && nat_le head.greatest_length head.memory_limit
 
 -- the line of a head, where its lengths are in order
-abbrev pub head_line : List ℕ → Option SavedLine
-head_line numbers = given (are_ordered (head_of numbers)) (Head (head_of numbers))
+abbrev pub saved_head_line : List ℕ → Option SavedLine
+saved_head_line numbers = given (are_ordered (head_of numbers)) (Head (head_of numbers))
 
 -- the organism of the fields of its line
 abbrev pub organism_of : List ℕ × List Letter → SavedLine
 organism_of p = Organism (record {
-  cell = number_at p.0 0;
-  id = number_at p.0 1;
-  merit = number_at p.0 2;
-  credited = tasks_of (number_at p.0 3);
-  age = number_at p.0 4;
-  read = number_at p.0 5;
-  gestation = tasks_of (number_at p.0 6);
+  cell = saved_number_at p.0 0;
+  id = saved_number_at p.0 1;
+  merit = saved_number_at p.0 2;
+  credited = tasks_of (saved_number_at p.0 3);
+  age = saved_number_at p.0 4;
+  read = saved_number_at p.0 5;
+  gestation = tasks_of (saved_number_at p.0 6);
   inputs = inputs_of (drop 7 p.0);
   genome = p.1;
 })
@@ -87,13 +87,13 @@ machine_of (registers, (numbers, (nops, (first, (second, (memory, (clean, (execu
     =
     Machine (record {
       registers = registers;
-      active = number_at numbers 0;
-      heads = number_at numbers 1
-          ∷ number_at numbers 2
-          ∷ number_at numbers 3
-          ∷ number_at numbers 4
+      active = saved_number_at numbers 0;
+      heads = saved_number_at numbers 1
+          ∷ saved_number_at numbers 2
+          ∷ saved_number_at numbers 3
+          ∷ saved_number_at numbers 4
           ∷ [];
-      pending = flag_at numbers 5;
+      pending = saved_flag_at numbers 5;
       nops = nops;
       first = first;
       second = second;
@@ -106,17 +106,17 @@ machine_of (registers, (numbers, (nops, (first, (second, (memory, (clean, (execu
 -- the line with this mark and these fields
 abbrev pub read_form : List ℕ → List (List ℕ) → Option SavedLine
 read_form mark words =
-    if bytes_eq mark (83 ∷ []) then option_and_then head_line (head_row.read words)
+    if bytes_eq mark (83 ∷ []) then option_and_then saved_head_line (head_row.read words)
     else if bytes_eq mark (79 ∷ []) then option_map organism_of (organism_row.read words)
     else if bytes_eq mark (77 ∷ []) then option_map machine_of (machine_row.read words)
     else if bytes_eq mark (90 ∷ []) then option_map Count ((last large).read words)
     else None
 
 -- the line of words, the first of which is the mark
-abbrev pub read_words : List (List ℕ) → Option SavedLine
-read_words [] = None
-read_words (mark ∷ words) = read_form mark words
+abbrev pub read_saved_words : List (List ℕ) → Option SavedLine
+read_saved_words [] = None
+read_saved_words (mark ∷ words) = read_form mark words
 
 -- the line that has this text before its newline, or none
 unfoldable pub saved_line_of : List ℕ → Option SavedLine
-saved_line_of bytes = read_words (slice_split (λ b. b == 32) bytes)
+saved_line_of bytes = read_saved_words (slice_split (λ b. b == 32) bytes)

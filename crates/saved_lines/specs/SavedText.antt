@@ -2,8 +2,8 @@
 use Rattle.std.specs.Prelude.{ℕ, ℤ, Bool, List, [], ◌∷◌, ◌++◌, if◌then◌else◌, slice_index_or}
 use Rattle.instruction_set.specs.declared.letter.Letter.{Letter}
 use Rattle.logic_tasks.specs.Inputs.{low_of}
-use Rattle.logic_tasks.specs.TaskBits.{number_of}
-use Rattle.log_lines.specs.Fields.{letters}
+use Rattle.logic_tasks.specs.TaskBits.{bits_of_tasks}
+use Rattle.log_lines.specs.Fields.{genome_field}
 use Rattle.log_lines.specs.Kinds.{large}
 use Rattle.log_lines.specs.LineText.{form_text}
 use Rattle.log_lines.specs.Rows.{Row, last, ◌◂◌}
@@ -120,10 +120,10 @@ organism_numbers o =
     o.cell
     ∷ o.id
     ∷ o.merit
-    ∷ number_of o.credited
+    ∷ bits_of_tasks o.credited
     ∷ o.age
     ∷ o.read
-    ∷ number_of o.gestation
+    ∷ bits_of_tasks o.gestation
     ∷ slice_index_or (low_of o.inputs) 0 0
     ∷ slice_index_or (low_of o.inputs) 1 0
     ∷ slice_index_or (low_of o.inputs) 2 0
@@ -131,7 +131,7 @@ organism_numbers o =
 
 -- the line of an organism: numbers, and its genome
 abbrev pub organism_row : Row (List ℕ × List Letter)
-organism_row = within organism_ranges ◁ last letters
+organism_row = within organism_ranges ◁ last genome_field
 
 -- active stack, IP, READ, WRITE, FLOW, and whether an allocation is pending
 abbrev pub machine_ranges : List Range
@@ -151,7 +151,7 @@ machine_numbers image =
 
 -- memory, clean text, and the places that are marked executed and copied
 abbrev pub texts_row : Row (List Letter × (List Letter × (List Bool × List Bool)))
-texts_row = letters ◂ (letters ◂ (marks ◂ last marks))
+texts_row = genome_field ◂ (genome_field ◂ (marks ◂ last marks))
 
 -- the four texts of a machine
 abbrev pub texts_of : CpuImage → List Letter × (List Letter × (List Bool × List Bool))
@@ -188,8 +188,8 @@ machine_fields image = (
 )
 
 -- the line of a head
-unfoldable pub head_text : HeadValues → List ℕ
-head_text head = form_text 83 head_row (head_numbers head) ++ 10 ∷ []
+unfoldable pub saved_head_text : HeadValues → List ℕ
+saved_head_text head = form_text 83 head_row (head_numbers head) ++ 10 ∷ []
 
 -- the line of an organism
 unfoldable pub organism_text : OrganismValues → List ℕ

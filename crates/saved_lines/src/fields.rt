@@ -1,17 +1,14 @@
 // Reads the fields of a line that are more than a number.
 ghost use Rattle.std.specs.Prelude.{◌≡◌, IfOk, option_map, pos};
-ghost use Rattle.instruction_set.specs.Letter.{letter_of_byte};
-ghost use Rattle.genome.specs.Genome as genome_spec;
 ghost use Rattle.label_search.specs.Template.{is_nop};
 ghost use Rattle.log_lines.specs.Fields as fields_spec;
-ghost use Rattle.mutations.specs.Change.{is_genome_length};
 ghost use Rattle.numerals.specs.Numeral.{number_of};
 ghost use Rattle.saved_lines.specs.SavedFields as saved_fields;
 
 use avida_port::Memory;
-use genome::{GREATEST_LENGTH, Genome, GenomeStop, LEAST_LENGTH, read_letters};
 use instruction_set::Letter;
 use label_search::{LONGEST_TEMPLATE, Template};
+use log_lines::genome_letters;
 use numerals::small_number;
 use std::alloc::Global;
 use virtual_cpu::{Letters, Marks};
@@ -48,52 +45,13 @@ pub fn signed(word: &[u8]) -> Option<i32>
     }
 }
 
-/// The letters of a word, where each byte is one.
-fn letters_of(alloc: Global, word: &[u8]) -> Result<Option<Vec<Letter>>, Memory>
-    ensures { IfOk result (λ found. option_map (λ v. v.items) found
-        ≡ fields_spec.each letter_of_byte word.now) }
-{
-    let mut letters = Vec::with_capacity(alloc, word.len())?;
-    for byte in word {
-        match Letter::from_byte(*byte) {
-            Some(letter) => letters.push_reserved(letter),
-            None => return Ok(None),
-        }
-    }
-    Ok(Some(letters))
-}
-
-fn is_genome_length(len: usize) -> bool
-    ensures { result ≡ is_genome_length len }
-{
-    LEAST_LENGTH as usize <= len && len <= GREATEST_LENGTH as usize
-}
-
 /// The letters of a word, as many as a genome may have.
 pub fn letters(alloc: Global, word: &[u8]) -> Result<Option<Letters>, Memory>
-    ensures { IfOk result (λ found. found ≡ fields_spec.genome_of word.now) }
+    ensures { IfOk result (λ found. found ≡ fields_spec.genome_of_word word.now) }
 {
-    if !is_genome_length(word.len()) {
-        return Ok(None);
-    }
-    match letters_of(alloc, word)? {
+    match genome_letters(alloc, word)? {
         Some(letters) => Ok(Some(Letters::from_vec(letters))),
         None => Ok(None),
-    }
-}
-
-/// The genome that a word spells.
-pub fn genome(alloc: Global, word: &[u8]) -> Result<Option<Genome>, Memory>
-    ensures { IfOk result (λ found. option_map genome_spec.letters found
-        ≡ fields_spec.genome_of word.now) }
-{
-    if word.ends_with(b"\n") {
-        return Ok(None);
-    }
-    match read_letters(alloc, word) {
-        Ok(genome) => Ok(Some(genome)),
-        Err(GenomeStop::Memory) => Err(Memory),
-        Err(_) => Ok(None),
     }
 }
 

@@ -1,7 +1,7 @@
 // Reads the line of a saved world that a text has.
 ghost use Rattle.std.specs.Prelude.{◌≡◌, ◌∷◌, [], Some, IfOk, IfSome, option_and_then, option_copied, option_map};
 ghost use Rattle.genome.specs.Genome as genome_spec;
-ghost use Rattle.log_lines.specs.Fields.{given, letters};
+ghost use Rattle.log_lines.specs.Fields.{genome_field, given};
 ghost use Rattle.log_lines.specs.Kinds as kinds;
 ghost use Rattle.log_lines.specs.Rows as rows;
 ghost use Rattle.log_lines.specs.Words.{read_first, words_of};
@@ -19,7 +19,7 @@ use crate::state_head::StateHead;
 use avida_port::Memory;
 use genome::Genome;
 use label_search::Template;
-use log_lines::split_at;
+use log_lines::{genome_last, last_word, split_at};
 use logic_tasks::{Inputs, Tasks};
 use mutations::Rates;
 use numerals::number;
@@ -77,7 +77,7 @@ fn letters_first<'a>(
 ) -> Result<Option<(Letters, Option<&'a [u8]>)>, Memory>
     ensures { IfOk result (λ found.
         option_map (λ p. (p.0, words_of (option_copied p.1))) found
-        ≡ read_first letters.read (words_of (option_copied rest.entry))) }
+        ≡ read_first genome_field.read (words_of (option_copied rest.entry))) }
 {
     match rest {
         Some(bytes) => {
@@ -112,20 +112,6 @@ fn marks_first<'a>(
     }
 }
 
-/// The word that ends the line.
-fn last_word<'a>(rest: Option<&'a [u8]>) -> Option<&'a [u8]>
-    ensures { option_copied result
-        ≡ rows.read_last (λ word. Some word) (words_of (option_copied rest.entry)) }
-{
-    match rest {
-        Some(bytes) => match split_at(bytes, b' ') {
-            (word, None) => Some(word),
-            (_, Some(_)) => None,
-        },
-        None => None,
-    }
-}
-
 /// The marks that end the line.
 fn marks_last(alloc: Global, rest: Option<&[u8]>) -> Result<Option<Marks>, Memory>
     ensures { IfOk result (λ found. found
@@ -133,17 +119,6 @@ fn marks_last(alloc: Global, rest: Option<&[u8]>) -> Result<Option<Marks>, Memor
 {
     match last_word(rest) {
         Some(word) => fields::marks(alloc, word),
-        None => Ok(None),
-    }
-}
-
-/// The genome that ends the line.
-fn genome_last(alloc: Global, rest: Option<&[u8]>) -> Result<Option<Genome>, Memory>
-    ensures { IfOk result (λ found. option_map genome_spec.letters found
-        ≡ rows.read_last letters.read (words_of (option_copied rest.entry))) }
-{
-    match last_word(rest) {
-        Some(word) => fields::genome(alloc, word),
         None => Ok(None),
     }
 }
@@ -198,7 +173,7 @@ fn ordered(head: StateHead) -> Option<StateHead>
 #[inline(never)]
 fn read_head(rest: Option<&[u8]>) -> Option<StateHead>
     ensures { option_map (λ head. reading.Head (head_values head)) result
-        ≡ option_and_then reading.head_line
+        ≡ option_and_then reading.saved_head_line
         (head_row.read (words_of (option_copied rest.entry))) }
 {
     let (numbers, rest) = numbers_first(rest, &HEAD_RANGES)?;
@@ -281,7 +256,7 @@ fn read_texts(alloc: Global, rest: Option<&[u8]>) -> Result<Option<Texts>, Memor
 /// The place of the active stack.
 fn active_of(numbers: &[u64; 6]) -> u8
     requires { AreWithin machine_ranges numbers.now }
-    ensures { result ≡ reading.number_at numbers.now 0 }
+    ensures { result ≡ reading.saved_number_at numbers.now 0 }
 {
     numbers[0] as u8
 }
@@ -289,10 +264,10 @@ fn active_of(numbers: &[u64; 6]) -> u8
 /// The places of the heads.
 fn heads_of(numbers: &[u64; 6]) -> [u32; 4]
     requires { AreWithin machine_ranges numbers.now }
-    ensures { result ≡ reading.number_at numbers.now 1
-        ∷ reading.number_at numbers.now 2
-        ∷ reading.number_at numbers.now 3
-        ∷ reading.number_at numbers.now 4
+    ensures { result ≡ reading.saved_number_at numbers.now 1
+        ∷ reading.saved_number_at numbers.now 2
+        ∷ reading.saved_number_at numbers.now 3
+        ∷ reading.saved_number_at numbers.now 4
         ∷ [] }
 {
     [

@@ -5,7 +5,7 @@ ghost use Rattle.instruction_set.specs.Letter.{byte_of};
 ghost use Rattle.log_lines.specs.Kept.{Keeps};
 ghost use Rattle.log_lines.specs.LineText.{words_text};
 ghost use Rattle.saved_lines.specs.SavedFields.{digit_of, marks, nops_text, signed};
-ghost use Rattle.saved_lines.specs.SavedText.{count_text, flag_number, head_numbers, head_text, machine_numbers, machine_text, organism_numbers, organism_text, resident_text, texts_of, texts_row};
+ghost use Rattle.saved_lines.specs.SavedText.{count_text, flag_number, head_numbers, machine_numbers, machine_text, organism_numbers, organism_text, resident_text, saved_head_text, texts_of, texts_row};
 ghost use Rattle.saved_lines.specs.SavedValues.{head_values, organism_values};
 
 use crate::resident::Resident;
@@ -13,7 +13,7 @@ use crate::state_head::StateHead;
 use avida_port::Memory;
 use instruction_set::Letter;
 use label_search::Template;
-use log_lines::write_number;
+use log_lines::{write_number, write_numbers};
 use virtual_cpu::CpuImage;
 
 /// 1 for true, and 0 for false.
@@ -21,19 +21,6 @@ fn flag_number(is_set: bool) -> u64
     ensures { result ≡ flag_number is_set }
 {
     if is_set { 1 } else { 0 }
-}
-
-/// Numbers, each behind a space.
-#[tactic(auto, using(crate::proofs::TextLemmas::words_grow))]
-fn numbers(out: &mut Vec<u8>, numbers: &[u64]) -> Result<(), Memory>
-    ensures ok { OnOk result (out.new.items
-        ≡ out.old.items ++ words_text (map (λ n. decimal n) numbers.now)) }
-    ensures err { OnErr result (Keeps out.old.items out.new.items) }
-{
-    for number in numbers {
-        write_number(b' ', *number, out)?;
-    }
-    Ok(())
 }
 
 /// A signed number, behind a space.
@@ -205,11 +192,11 @@ fn machine_numbers(image: &CpuImage) -> [u64; 6]
 #[tactic(auto, using(crate::proofs::TextLemmas::fronts_stay))]
 fn head(head: &StateHead, out: &mut Vec<u8>) -> Result<(), Memory>
     ensures ok { OnOk result (out.new.items
-        ≡ out.old.items ++ head_text (head_values head.now)) }
+        ≡ out.old.items ++ saved_head_text (head_values head.now)) }
     ensures err { OnErr result (Keeps out.old.items out.new.items) }
 {
     out.push(b'S')?;
-    numbers(out, &head_numbers(head))?;
+    write_numbers(&head_numbers(head), out)?;
     out.push(b'\n')?;
     Ok(())
 }
@@ -222,7 +209,7 @@ fn organism(resident: &Resident, out: &mut Vec<u8>) -> Result<(), Memory>
     ensures err { OnErr result (Keeps out.old.items out.new.items) }
 {
     out.push(b'O')?;
-    numbers(out, &organism_numbers(resident))?;
+    write_numbers(&organism_numbers(resident), out)?;
     text(out, resident.image.genome.letters())?;
     out.push(b'\n')?;
     Ok(())
@@ -262,7 +249,7 @@ fn machine(image: &CpuImage, out: &mut Vec<u8>) -> Result<(), Memory>
 {
     out.push(b'M')?;
     integers(out, &image.registers)?;
-    numbers(out, &machine_numbers(image))?;
+    write_numbers(&machine_numbers(image), out)?;
     nops_and_stacks(image, out)?;
     texts(image, out)?;
     out.push(b'\n')?;
@@ -309,7 +296,7 @@ fn whole_or_nothing(
 /// Appends the first line of a saved world. When memory runs out `out` stays as it was.
 pub fn write_head(state: &StateHead, out: &mut Vec<u8>) -> Result<(), Memory>
     ensures ok { OnOk result (out.new.items
-        ≡ out.old.items ++ head_text (head_values state.now)) }
+        ≡ out.old.items ++ saved_head_text (head_values state.now)) }
     ensures err { OnErr result (out.new.items ≡ out.old.items) }
 {
     let start = out.len();

@@ -11,14 +11,14 @@ use Rattle.log_lines.specs.declared.stats.Stats.{Stats}
 use Rattle.log_lines.specs.Line.{Line, Death, Birth}
 use Rattle.world_config.specs.Values.{ConfigValues}
 use Rattle.world_rules.specs.World.{Occupant, id_at, ids_of}
-use Rattle.world_rules.specs.Settings.{torus_of, season_at}
+use Rattle.world_rules.specs.Settings.{torus_of, placing_round_at}
 use Rattle.world_rules.specs.Lives.{CellLife}
 use Rattle.world_rules.specs.Scene.{Scene, next_id, with_death, with_deaths, with_newcomer}
 use Rattle.world_rules.specs.Statistics.{stats_in, scene_stats}
 use Rattle.world_rules.specs.Update.{Delivery, deaths_of, after_burials, birth_link, child_of_birth, placings_of, with_newborn, turns_of, after_births}
 use Rattle.world_rules.specs.LogText.{death_line, death_lines, birth_line, birth_lines}
 use Rattle.saved_worlds.specs.SavedState.{head_at}
-use Rattle.saved_worlds.specs.Resuming.{config_of}
+use Rattle.saved_worlds.specs.Resuming.{config_of_head}
 
 -- both are of this update, and agree in cells, in those that died, and in how many ever were
 pub record Alike (update : ℕ) (a b : Scene) : Type 0 where
@@ -68,6 +68,7 @@ module _ (u : ℕ) where
       λ update cells. option_map (λ id. Death id update cell) (id_at cells cell) in
       ap (λ k. line k a.cells) (same_update a b h) ∙ ap (line b.update) h.cells
 
+  -- at each of these cells the same line, or none
   death_lines_scan : (cells : List ℕ) (a b : Scene) → Alike u a b
       → scan with_death death_line a cells ≡ scan with_death death_line b cells
   death_lines_scan [] a b h = refl
@@ -77,6 +78,7 @@ module _ (u : ℕ) where
       ∙ ap (λ (lines : List (Option Line)). death_line b cell ∷ lines)
       (death_lines_scan cells (with_death a cell) (with_death b cell) (death_alike a b cell h))
 
+  -- the same lines of deaths
   pub death_lines_same : (cells : List ℕ) (a b : Scene) → Alike u a b
       → death_lines a cells ≡ death_lines b cells
   death_lines_same cells a b h =
@@ -106,7 +108,7 @@ module _ (u : ℕ) where
   module _ (config : ConfigValues) (update id : ℕ) where
     -- the head of the configuration, as a configuration
     abbrev headed : ConfigValues
-    headed = config_of (head_at config update id)
+    headed = config_of_head (head_at config update id)
 
     -- the same newborn
     link_same : (a b : Scene) (d : Delivery) (cell : ℕ) → Alike u a b
@@ -115,6 +117,7 @@ module _ (u : ℕ) where
         ap (λ k. birth_link k a.update d cell) h.count
         ∙ ap (λ k. birth_link (next_id b) k d cell) (same_update a b h)
 
+    -- the same birth
     newborn_alike : (a b : Scene) (turn : Delivery × Placing) → Alike u a b
         → Alike u (with_newborn headed a turn) (with_newborn config b turn)
     unfolding with_newborn
@@ -124,6 +127,7 @@ module _ (u : ℕ) where
         subst (λ (l : Link). Alike u (with_newcomer a l o) (with_newcomer b link o))
         (sym (link_same a b turn.0 turn.1.cell h)) (newcomer_alike a b link o h)
 
+    -- the same births with given placings
     newborns_alike : (turns : List (Delivery × Placing)) (a b : Scene) → Alike u a b
         → Alike u (fold (with_newborn headed) a turns) (fold (with_newborn config) b turns)
     newborns_alike [] a b h = h
@@ -139,10 +143,11 @@ module _ (u : ℕ) where
         let placed : ℕ → ℕ → List (Option Occupant) → List Placing =
         λ now first cells. (placements_of (torus_of config)
         (map (λ (d : Delivery). d.cell) births) (ids_of cells)
-        (season_at config now first)).placings in
+        (placing_round_at config now first)).placings in
         ap (λ k. placed k (next_id a) a.cells) (same_update a b h)
         ∙ ap (λ k. placed b.update k a.cells) h.count ∙ ap (placed b.update (next_id b)) h.cells
 
+    -- the same newborns with their placings
     turns_same : (births : List Delivery) (a b : Scene) → Alike u a b
         → turns_of headed a births ≡ turns_of config b births
     turns_same births a b h =
@@ -168,6 +173,7 @@ module _ (u : ℕ) where
         ∙ ap (λ k. line (next_id b) k a.cells) (same_update a b h)
         ∙ ap (line (next_id b) b.update) h.cells
 
+    -- the same line of each newborn with its placing
     birth_lines_scan : (turns : List (Delivery × Placing)) (a b : Scene) → Alike u a b
         → scan (with_newborn headed) birth_line a turns
         ≡ scan (with_newborn config) birth_line b turns
@@ -179,6 +185,7 @@ module _ (u : ℕ) where
         (birth_lines_scan turns (with_newborn headed a turn) (with_newborn config b turn)
         (newborn_alike a b turn h))
 
+    -- the same lines of births
     pub birth_lines_same : (births : List Delivery) (a b : Scene) → Alike u a b
         → birth_lines headed a births ≡ birth_lines config b births
     birth_lines_same births a b h =

@@ -22,7 +22,7 @@ use Rattle.random_streams.specs.RandomStream.{draw}
 use Rattle.world_rules.specs.Lives.{cell_life, life_of, slices_at, slice_at, lives_of}
 use Rattle.world_rules.specs.Update.{events_at}
 use Rattle.saved_worlds.specs.SavedState.{head_at}
-use Rattle.saved_worlds.specs.Resuming.{config_of}
+use Rattle.saved_worlds.specs.Resuming.{config_of_head}
 
 -- each event is of one of the run's updates
 abbrev pub HappensInTime : ConfigValues → Type 0
@@ -100,14 +100,14 @@ module _ (config : ConfigValues) (over : HappensInTime config) where
 
   module _ (update id : ℕ) (ended : config.updates ≤ update) where
     -- the rates of its head hold in every update
-    own_rates : (u : ℕ) → rates_at (config_of (head_at config update id)) u
+    own_rates : (u : ℕ) → rates_at (config_of_head (head_at config update id)) u
         ≡ rates_at config (update + 1)
     unfolding rates_at
     own_rates u = rates_whole (rates_at config (update + 1))
 
     -- a life's settings are the same
     pub settings_same : (u : ℕ) → config.updates < u
-        → settings_at (config_of (head_at config update id)) u ≡ settings_at config u
+        → settings_at (config_of_head (head_at config update id)) u ≡ settings_at config u
     unfolding settings_at
     settings_same u later =
         let rates = own_rates u ∙ rates_stay (update + 1) u (omega (arith, ended)) later in
@@ -123,7 +123,7 @@ module _ (config : ConfigValues) (over : HappensInTime config) where
 
     -- the life of a cell is the same
     life_same : (u cell steps : ℕ) (slot : Option Occupant) → config.updates < u
-        → life_of (config_of (head_at config update id)) u cell steps slot
+        → life_of (config_of_head (head_at config update id)) u cell steps slot
         ≡ life_of config u cell steps slot
     unfolding life_of
     life_same u cell steps None later = refl
@@ -134,7 +134,7 @@ module _ (config : ConfigValues) (over : HappensInTime config) where
 
     -- and so are all lives
     pub lives_same : (u : ℕ) (cells : List (Option Occupant)) → config.updates < u
-        → lives_of (config_of (head_at config update id)) u cells ≡ lives_of config u cells
+        → lives_of (config_of_head (head_at config update id)) u cells ≡ lives_of config u cells
     unfolding lives_of slices_at
     lives_same u cells later =
         map_same _ _ (λ cell. life_same u cell (slice_at config cells cell) _ later)

@@ -18,22 +18,26 @@ use Rattle.world_rules.specs.Update.{after_lives, deaths_of, after_burials, birt
 use Rattle.world_rules.specs.WorldRun.{world_after}
 use Rattle.world_rules.specs.LogText.{death_lines, birth_lines, event_lines, lines_of_event, lines_of_lives, update_lines, head_text, update_text, updates_text, end_text, log_text}
 use Rattle.saved_worlds.specs.SavedState.{SavedState, head_at, state_of_world, state_of}
-use Rattle.saved_worlds.specs.Resuming.{config_of, forgotten, world_of_state, with_world, next_state, state_after, next_text, later_texts, continued_text}
+use Rattle.saved_worlds.specs.Resuming.{config_of_head, forgotten, world_of_state, with_world, next_state, saved_state_after, next_text, later_texts, continued_text}
 use Rattle.saved_worlds.proofs.Updates.{update_of}
 use Rattle.saved_worlds.proofs.Quiet.{HappensInTime, no_events, rates_stay, lives_same}
 use Rattle.saved_worlds.proofs.Alike.{Alike, death_lines_same, burials_alike, births_alike, birth_lines_same, stats_same}
 
 module _ (config : ConfigValues) (over : HappensInTime config) (w : World)
     (ended : config.updates ≤ w.update) where
+  -- what the head of the world's state goes on with, as a configuration
   abbrev headed : ConfigValues
-  headed = config_of (head_at config w.update (length w.everyone))
+  headed = config_of_head (head_at config w.update (length w.everyone))
 
+  -- the world that the state goes on from
   abbrev saved : World
   saved = world_of_state (state_of_world config w)
 
+  -- the update after it
   abbrev next : ℕ
   next = w.update + 1
 
+  -- it comes after the last update of the run
   later : config.updates < next
   later = omega (arith, ended)
 
@@ -58,6 +62,7 @@ module _ (config : ConfigValues) (over : HappensInTime config) (w : World)
   unfolding after_events
   quiet c s none = ap (fold (after_event c) s) none
 
+  -- nor do they write lines
   quiet_lines : (c : ConfigValues) (s : Scene) → events_at c s.update ≡ [] → event_lines c s ≡ []
   quiet_lines c s none = ap
       (λ (events : List (ℕ × EventValue)). flat_map (λ lines. lines)
@@ -93,6 +98,7 @@ module _ (config : ConfigValues) (over : HappensInTime config) (w : World)
   lives_alike : lives_after headed saved ≡ lives_after config w
   lives_alike = lives_same config over w.update (length w.everyone) ended next w.cells later
 
+  -- the scene after the saved world is like that after the run's
   scene_alike : Alike next (next_scene headed saved) (next_scene config w)
   unfolding next_scene scene_of_lives
   scene_alike =
@@ -122,6 +128,7 @@ module _ (config : ConfigValues) (over : HappensInTime config) (w : World)
       ∙ ap (λ (cells : List (Option Occupant)). made b.update (length b.everyone)
       (rates_at config (b.update + 1)) cells) h.cells
 
+  -- the state after the state of a world is that of the next world
   pub next_state_is : next_state (state_of_world config w)
       ≡ state_of_world config (next_world config w)
   unfolding next_state next_world
@@ -132,6 +139,7 @@ module _ (config : ConfigValues) (over : HappensInTime config) (w : World)
   abbrev glued : List Line → List Line → List Line → Stats → List Line
   glued deaths births events stats = deaths ++ births ++ events ++ Count stats ∷ []
 
+  -- of the same lives the update writes the same lines after both worlds
   lines_alike : (lives : List CellLife)
       → lines_of_lives headed (after_lives next saved.everyone lives) lives
       ≡ lines_of_lives config (after_lives next w.everyone lives) lives
@@ -164,6 +172,7 @@ module _ (config : ConfigValues) (over : HappensInTime config) (w : World)
       ∙ ap (λ (l : List Line). glued dead born' l counted) (none ∙ sym nothing)
       ∙ ap (λ (s : Stats). glued dead born' happened' s) stats
 
+  -- the update writes the same lines after both worlds
   update_lines_same : update_lines headed saved ≡ update_lines config w
   unfolding update_lines
   update_lines_same =
@@ -182,14 +191,15 @@ module _ (config : ConfigValues) (over : HappensInTime config) where
   past : (more : ℕ) → config.updates ≤ (world_after config (config.updates + more)).update
   past more = omega (arith, update_of config (config.updates + more))
 
+  -- one more update added makes one more in all
   one_more : (more : ℕ) → config.updates + suc more ≡ suc (config.updates + more)
   one_more more = omega arith
 
   -- the state after so many more updates
   pub state_goes_on : (more : ℕ)
-      → state_after (state_of config) more
+      → saved_state_after (state_of config) more
       ≡ state_of_world config (world_after config (config.updates + more))
-  unfolding state_after state_of world_after
+  unfolding saved_state_after state_of world_after
   state_goes_on zero =
       let same : config.updates + zero ≡ config.updates = omega arith in
       ap (λ k. state_of_world config (world_after config k)) (sym same)
@@ -200,7 +210,7 @@ module _ (config : ConfigValues) (over : HappensInTime config) where
 
   -- the text of one more update
   text_goes_on : (more : ℕ)
-      → next_text (state_after (state_of config) more)
+      → next_text (saved_state_after (state_of config) more)
       ≡ update_text config (suc (config.updates + more))
   unfolding update_text
   text_goes_on more =
@@ -217,7 +227,7 @@ module _ (config : ConfigValues) (over : HappensInTime config) where
   texts_go_on (suc more) =
       let front = updates_text config config.updates in
       let others = later_texts (state_of config) more in
-      let text = next_text (state_after (state_of config) more) in
+      let text = next_text (saved_state_after (state_of config) more) in
       sym (append_assoc front others text)
       ∙ ap (λ (l : List ℕ). l ++ text) (texts_go_on more)
       ∙ ap (λ (l : List ℕ). updates_text config (config.updates + more) ++ l) (text_goes_on more)

@@ -37,6 +37,7 @@ what_keeps config s nth (clear first last) =
     fold_keeps with_death death_keeps s (cells_from first last)
 what_keeps config s nth (rate name ppm) = refl
 
+-- an event, given with its place
 event_keeps : (config : ConfigValues) (s : Scene) (event : ℕ × EventValue)
     → (after_event config s event).update ≡ s.update
 unfolding after_event

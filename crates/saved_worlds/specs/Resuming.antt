@@ -12,8 +12,8 @@ use Rattle.saved_worlds.specs.SavedState.{SavedState}
 
 -- what a head goes on with, as a configuration without events; of its ancestor a saved world tells
 -- nothing
-abbrev pub config_of : HeadValues → ConfigValues
-config_of head = record {
+abbrev pub config_of_head : HeadValues → ConfigValues
+config_of_head head = record {
   width = head.width;
   height = head.height;
   updates = 0;
@@ -61,21 +61,21 @@ with_world state w = record {
 
 -- the state after one more update
 unfoldable pub next_state : SavedState → SavedState
-next_state state = with_world state (next_world (config_of state.head) (world_of_state state))
+next_state state = with_world state (next_world (config_of_head state.head) (world_of_state state))
 
 -- the state after so many more updates
-unfoldable pub state_after : SavedState → ℕ → SavedState
-state_after state zero = state
-state_after state (suc n) = next_state (state_after state n)
+unfoldable pub saved_state_after : SavedState → ℕ → SavedState
+saved_state_after state zero = state
+saved_state_after state (suc n) = next_state (saved_state_after state n)
 
 -- the text of the update that follows a state
 unfoldable pub next_text : SavedState → List ℕ
-next_text state = lines_text (update_lines (config_of state.head) (world_of_state state))
+next_text state = lines_text (update_lines (config_of_head state.head) (world_of_state state))
 
 -- the texts of so many more updates
 abbrev pub later_texts : SavedState → ℕ → List ℕ
 later_texts state zero = []
-later_texts state (suc n) = later_texts state n ++ next_text (state_after state n)
+later_texts state (suc n) = later_texts state n ++ next_text (saved_state_after state n)
 
 -- what a resumed world writes: the texts of so many more updates, and the last line of a log
 unfoldable pub continued_text : SavedState → ℕ → List ℕ

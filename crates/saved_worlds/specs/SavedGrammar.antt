@@ -15,11 +15,11 @@ pub record Placed : Type 0 where
   pub occupant : Occupant
 
 -- before the first line, between organisms, behind the line of an organism, or after the last line
-pub data Place : Type 0 where
-  Before : Place
-  Among : HeadValues → List Placed → Place
-  Halfway : HeadValues → List Placed → OrganismValues → Place
-  After : SavedState → Place
+pub data SavedPlace : Type 0 where
+  Before : SavedPlace
+  Among : HeadValues → List Placed → SavedPlace
+  Halfway : HeadValues → List Placed → OrganismValues → SavedPlace
+  After : SavedState → SavedPlace
 
 -- the cell is above those that came before
 abbrev pub is_above : ℕ → List Placed → Bool
@@ -95,11 +95,11 @@ state_of_lines head placed = record {
 }
 
 -- the place where the test holds
-abbrev pub place_if : Bool → Place → Option Place
+abbrev pub place_if : Bool → SavedPlace → Option SavedPlace
 place_if test place = if test then Some place else None
 
 -- the place after a line between organisms
-abbrev pub told_among : HeadValues → List Placed → SavedLine → Option Place
+abbrev pub told_among : HeadValues → List Placed → SavedLine → Option SavedPlace
 told_among head placed (Head other) = None
 told_among head placed (Organism o) = place_if (may_stand head placed o) (Halfway head placed o)
 told_among head placed (MachineLine image) = None
@@ -107,7 +107,7 @@ told_among head placed (Count organisms) =
     place_if (organisms == length placed) (After (state_of_lines head placed))
 
 -- the place after the line behind that of an organism
-abbrev pub told_halfway : HeadValues → List Placed → OrganismValues → SavedLine → Option Place
+abbrev pub told_halfway : HeadValues → List Placed → OrganismValues → SavedLine → Option SavedPlace
 told_halfway head placed o (Head other) = None
 told_halfway head placed o (Organism other) = None
 told_halfway head placed o (MachineLine image) =
@@ -115,18 +115,18 @@ told_halfway head placed o (MachineLine image) =
 told_halfway head placed o (Count organisms) = None
 
 -- the place after the first line
-abbrev pub told_first : SavedLine → Option Place
-told_first (Head head) = Some (Among head [])
-told_first (Organism o) = None
-told_first (MachineLine image) = None
-told_first (Count organisms) = None
+abbrev pub told_head : SavedLine → Option SavedPlace
+told_head (Head head) = Some (Among head [])
+told_head (Organism o) = None
+told_head (MachineLine image) = None
+told_head (Count organisms) = None
 
 -- the place after a line; none where the line doesn't fit
-abbrev pub told : Place → SavedLine → Option Place
-told Before line = told_first line
-told (Among head placed) line = told_among head placed line
-told (Halfway head placed o) line = told_halfway head placed o line
-told (After state) line = None
+abbrev pub told_saved_line : SavedPlace → SavedLine → Option SavedPlace
+told_saved_line Before line = told_head line
+told_saved_line (Among head placed) line = told_among head placed line
+told_saved_line (Halfway head placed o) line = told_halfway head placed o line
+told_saved_line (After state) line = None
 
 -- why a line is faulty
 pub data SavedCause : Type 0 where
@@ -140,40 +140,43 @@ pub record SavedFault : Type 0 where
   pub cause : SavedCause
 
 -- a fault at a line
-abbrev pub fault : ℕ → SavedCause → Result SavedState SavedFault
-fault number cause = Err (record { line = number; cause = cause })
+abbrev pub fault_at_line : ℕ → SavedCause → Result SavedState SavedFault
+fault_at_line number cause = Err (record { line = number; cause = cause })
 
 -- the end of the bytes, behind the last newline
-abbrev pub saved_end : ℕ → Place → Result SavedState SavedFault
+abbrev pub saved_end : ℕ → SavedPlace → Result SavedState SavedFault
 saved_end number (After state) = Ok state
-saved_end number Before = fault number Unended
-saved_end number (Among head placed) = fault number Unended
-saved_end number (Halfway head placed o) = fault number Unended
+saved_end number Before = fault_at_line number Unended
+saved_end number (Among head placed) = fault_at_line number Unended
+saved_end number (Halfway head placed o) = fault_at_line number Unended
 
 -- the last piece, which has no newline
-abbrev pub last_piece : ℕ → Place → List ℕ → Result SavedState SavedFault
-last_piece number place [] = saved_end number place
-last_piece number place (b ∷ bs) = fault number BadLine
+abbrev pub last_saved_piece : ℕ → SavedPlace → List ℕ → Result SavedState SavedFault
+last_saved_piece number place [] = saved_end number place
+last_saved_piece number place (b ∷ bs) = fault_at_line number BadLine
 
 -- a place or none, and what follows
-abbrev pub after_told :
-    ℕ → Option Place → (Place → Result SavedState SavedFault) → Result SavedState SavedFault
-after_told number None others = fault number BadState
-after_told number (Some place) others = others place
+abbrev pub after_saved_line :
+    ℕ → Option SavedPlace → (SavedPlace → Result SavedState SavedFault)
+    → Result SavedState SavedFault
+after_saved_line number None others = fault_at_line number BadState
+after_saved_line number (Some place) others = others place
 
 -- a piece with its line or none, and what follows
-abbrev pub one_piece :
-    ℕ → Place → Option SavedLine → (Place → Result SavedState SavedFault)
+abbrev pub one_saved_piece :
+    ℕ → SavedPlace → Option SavedLine → (SavedPlace → Result SavedState SavedFault)
     → Result SavedState SavedFault
-one_piece number place None others = fault number BadLine
-one_piece number place (Some line) others = after_told number (told place line) others
+one_saved_piece number place None others = fault_at_line number BadLine
+one_saved_piece number place (Some line) others =
+    after_saved_line number (told_saved_line place line) others
 
 -- the state of the pieces, each but the last a line
-abbrev pub pieces_state : ℕ → Place → List (List ℕ) → Result SavedState SavedFault
-pieces_state number place [] = fault number Unended
-pieces_state number place (piece ∷ []) = last_piece number place piece
+abbrev pub pieces_state : ℕ → SavedPlace → List (List ℕ) → Result SavedState SavedFault
+pieces_state number place [] = fault_at_line number Unended
+pieces_state number place (piece ∷ []) = last_saved_piece number place piece
 pieces_state number place (piece ∷ next ∷ pieces) =
-    one_piece number place (saved_line_of piece) (λ p. pieces_state (number + 1) p (next ∷ pieces))
+    one_saved_piece number place (saved_line_of piece)
+    (λ p. pieces_state (number + 1) p (next ∷ pieces))
 
 -- the state whose text the bytes are, or the first faulty line
 unfoldable pub saved_of : List ℕ → Result SavedState SavedFault

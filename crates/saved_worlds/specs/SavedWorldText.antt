@@ -5,7 +5,7 @@ use Rattle.lineage_log.specs.Slots.{taken}
 use Rattle.virtual_cpu.specs.Image.{image_of}
 use Rattle.world_rules.specs.World.{Occupant, ids_of}
 use Rattle.saved_lines.specs.SavedValues.{OrganismValues}
-use Rattle.saved_lines.specs.SavedText.{head_text, resident_text, count_text}
+use Rattle.saved_lines.specs.SavedText.{saved_head_text, resident_text, count_text}
 use Rattle.saved_worlds.specs.SavedState.{SavedState}
 
 -- the values of the line of who stands in a cell
@@ -35,6 +35,6 @@ cell_text place = slot_text place.0 place.1
 -- are
 unfoldable pub saved_text : SavedState → List ℕ
 saved_text state =
-    head_text state.head
+    saved_head_text state.head
     ++ flat_map cell_text (enumerate_from 0 state.cells)
     ++ count_text (taken (ids_of state.cells))

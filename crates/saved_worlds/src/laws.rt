@@ -7,7 +7,7 @@ ghost use Rattle.world_rules.specs.Update.{next_world};
 ghost use Rattle.world_rules.specs.World.{World};
 ghost use Rattle.world_rules.specs.WorldRun.{world_after};
 ghost use Rattle.saved_worlds.specs.SavedState.{state_of, state_of_world};
-ghost use Rattle.saved_worlds.specs.Resuming.{continued_text, next_state, next_text, state_after};
+ghost use Rattle.saved_worlds.specs.Resuming.{continued_text, next_state, next_text, saved_state_after};
 
 use world_config::Config;
 
@@ -15,7 +15,7 @@ use world_config::Config;
 /// log without its last line, and then what the resumed world writes, are the log of that run.
 pub fn resumed_runs_go_on(config: &Config, more: u32)
     ensures state { let run = values_of config.now in
-        state_after (state_of run) more
+        saved_state_after (state_of run) more
         ≡ state_of_world run (world_after run (run.updates + more)) }
     ensures log { let run = values_of config.now in
         (head_text run ++ updates_text run run.updates) ++ continued_text (state_of run) more

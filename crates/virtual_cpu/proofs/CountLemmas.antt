@@ -15,14 +15,17 @@ use Rattle.virtual_cpu.specs.Divide.{count_of}
 use Rattle.virtual_cpu.proofs.MarksLemmas.{length-marks_in, bit_of-cleared, marks_in-none, marks_in-longer}
 use Rattle.virtual_cpu.proofs.OnesLemmas.{ones_below}
 
+-- the first k of the marks of more places are the marks of k places
 pub take-marks_in : (words : List ℕ) (n k : ℕ) → k ≤ n
     → take k (marks_in words n) ≡ marks_in words k
 take-marks_in words n k h = take-map-range_with_len (bit_of words) 0 n k h
 
+-- a one shifted by less than 64 places loses nothing in a word of 64 bits
 one_shifted_fits : (k : ℕ) → k < 64 → 1 * 2 ^ k % 2 ^ 64 ≡ 2 ^ k
 one_shifted_fits k h =
     let once : 1 * 2 ^ k ≡ 2 ^ k = omega arith in rw once (mod-eq_of_lt (pow_below k 64 h))
 
+-- the first marks in two parts: those before a place, and those from there on
 take-parts : (marks : List Bool) (i n m : ℕ) → m ≡ i + n
     → take m marks ≡ take i marks ++ take n (drop i marks)
 take-parts marks i n m e =
@@ -31,6 +34,7 @@ take-parts marks i n m e =
     sym (take-append-drop i (take m marks)) ∙ ap (λ l. l ++ drop i (take m marks)) low
     ∙ ap (λ l. take i marks ++ l) high
 
+-- a mark as a number: 1 where it is set, else 0
 abbrev one : Bool → ℕ
 one mark = cond mark 1 0
 
@@ -98,6 +102,7 @@ count_rest words end =
     ∙ ap (λ m. count_of (marks_in words (64 * (end / 64))) + count_ones
     (get_or words (end / 64) 0 % m)) (sym mask)
 
+-- no more places are marked than there are
 pub count_bound : (words : List ℕ) (n : ℕ) → count_of (marks_in words n) ≤ n
 count_bound words n = let few = count_by-le-length (λ mark. mark) (marks_in words n) in let places =
     length-marks_in words n in omega arith
@@ -106,6 +111,7 @@ count_bound words n = let few = count_by-le-length (λ mark. mark) (marks_in wor
 pub count_of-unmarked : (n : ℕ) → count_of (replicate n false) ≡ 0
 count_of-unmarked n = sum_by-replicate one n false ∙ omega arith
 
+-- further places without a mark leave the count
 pub count_of-longer : (marks : List Bool) (n : ℕ)
     → count_of (marks ++ replicate n false) ≡ count_of marks
 count_of-longer marks n = sum_by-append one marks (replicate n false)

@@ -1,4 +1,5 @@
 pub mod CountLemmas
+pub mod EffectLemmas
 pub mod MachineLemmas
 pub mod MarksLemmas
 pub mod OnesLemmas

@@ -10,6 +10,7 @@ use Rattle.std.proofs.lemmas.List.Sums.{sum_by-set, count_by-le-length}
 use Rattle.virtual_cpu.specs.Marks.{bit_of, marks_in}
 use Rattle.virtual_cpu.specs.Divide.{count_of}
 
+-- a word read among words of 0, or past their end, is 0
 get_or-cleared : (n i : ℕ) → get_or (replicate n zero) i zero ≡ zero
 get_or-cleared zero i = refl
 get_or-cleared (suc n) zero = refl
@@ -30,15 +31,18 @@ bit_of-with_same words p h = let same =
 pub bit_of-with_other : (words : List ℕ) (p k : ℕ) → p / 64 < length words → (k ≡ p → ⊥)
     → bit_of (with_bit words p) k ≡ bit_of words k
 bit_of-with_other words p k h other = go (cases_eq (k / 64) (p / 64)) where
+  -- its bit stays, be it in the word that was changed or in another
   go : (k / 64 ≡ p / 64) ⊎ (k / 64 ≡ p / 64 → ⊥) → bit_of (with_bit words p) k ≡ bit_of words k
   go (inl e) = let differs : k % 64 ≡ p % 64 → ⊥ = λ e'. other (omega arith) in let bits =
       bit_at_set_other w64 (get_or words (p / 64) 0) (p % 64) (omega arith) (k % 64) differs in
       grind (arith, common_steps)
   go (inr f) = grind (arith, common_steps)
 
+-- there are as many marks as places that are asked for
 pub length-marks_in : (words : List ℕ) (n : ℕ) → length (marks_in words n) ≡ n
 length-marks_in words n = length-map-range_with_len (bit_of words) 0 n
 
+-- the mark of a place is the bit of that place
 pub get-marks_in : (words : List ℕ) (n k : ℕ) (d : Bool) → k < n
     → get_or (marks_in words n) k d ≡ bit_of words k
 get-marks_in words n k d h = get_or-map-range_with_len (bit_of words) 0 n k k d h (omega arith)

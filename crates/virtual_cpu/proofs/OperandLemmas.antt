@@ -9,9 +9,9 @@ use Rattle.instruction_set.specs.Letter.{class_of, same_letters}
 use Rattle.instruction_set.specs.Defaults.{default_of}
 use Rattle.label_search.specs.Template.{complements_of}
 use Rattle.virtual_cpu.specs.declared.registers.Register.TheVariants.{Bx, Cx}
-use Rattle.virtual_cpu.specs.declared.did.Did.TheVariants.{Output}
+use Rattle.virtual_cpu.specs.declared.step_answer.StepAnswer.TheVariants.{Output}
 use Rattle.virtual_cpu.specs.Registers.{register_after, value_of}
-use Rattle.virtual_cpu.specs.Heads.{place_of}
+use Rattle.virtual_cpu.specs.Heads.{head_place}
 use Rattle.virtual_cpu.specs.Stack.{pushed, popped, top_of}
 use Rattle.virtual_cpu.specs.Machine.{Machine, place_of_number, with_head_at, with_flow_at, with_value}
 use Rattle.virtual_cpu.specs.RegisterEffects.{skipping_if, active_stack, with_active_stack, nand_of, after_if_n_equ, after_if_less, after_set_flow, after_shift_r, after_shift_l, after_inc, after_dec, after_push, after_pop, after_swap_stk, after_swap, after_add, after_sub, after_nand, after_io, output_of}
@@ -22,12 +22,14 @@ use Rattle.virtual_cpu.specs.Allocation.{can_allocate, with_allocation}
 use Rattle.virtual_cpu.specs.Effects.{telling, going_on, moving, allocating_if}
 use Rattle.virtual_cpu.specs.OperandUse.{TakesOperand}
 
+-- after h-alloc IP is one place further in the memory there is then, grown or not
 allocation-passes : (test : Bool) (m : Machine)
     → (allocating_if test m).0.heads.ip ≡ (m.heads.ip + 1) % length (allocating_if test m).0.memory
 unfolding with_allocation
 allocation-passes true m = refl
 allocation-passes false m = refl
 
+-- each letter takes the operand of its class, with the default of its row
 pub takes_operand : (letter : Letter) → TakesOperand (default_of letter) (class_of letter) letter
 unfolding after_if_n_equ after_if_less after_set_flow after_shift_r after_shift_l after_inc
     after_dec after_push after_pop after_swap_stk after_swap after_add after_sub after_nand after_io
@@ -112,11 +114,11 @@ takes_operand MovHead =
     record { act = λ n h. moving h (with_head_at n h n.heads.flow); is = λ m input copy. refl }
 takes_operand JmpHead = record {
   act = λ n h. going_on (with_head_at n h
-      (place_of_number n (pos (place_of n.heads h) +ℤ value_of n.registers Cx)));
+      (place_of_number n (pos (head_place n.heads h) +ℤ value_of n.registers Cx)));
   is = λ m input copy. refl;
 }
 takes_operand GetHead = record {
-  act = λ n h. going_on (with_value n Cx (pos (place_of n.heads h)));
+  act = λ n h. going_on (with_value n Cx (pos (head_place n.heads h)));
   is = λ m input copy. refl;
 }
 takes_operand IfLabel = record {

@@ -20,6 +20,7 @@ pub record ArePacked (words : List ℕ) (n total : ℕ) : Type 0 where
 abbrev pub seen : List ℕ → ℕ → Marks
 seen words n = record { places = marks_in words n; room = 64 * length words - 1 }
 
+-- the same places and the same room are the same marks
 both : (places others : List Bool) (room space : ℕ) → places ≡ others → room ≡ space
     → ◌≡◌ {A = Marks} (record { places = places; room = room })
     (record { places = others; room = space })
@@ -53,6 +54,7 @@ marked-packed words n marked p old h before off read =
       marked = ap (λ k. k + 1) h.marked ∙ sym one ∙ ap count_of same;
     })
 
+-- once a place is marked in the words, contracts see it marked, and as much room
 pub marked-seen : (words : List ℕ) (n p old : ℕ) (marks : Marks) → seen words n ≡ marks → p < n
     → n < 64 * length words → old ≡ get_or words (p / 64) 0
     → seen (set words (p / 64) (bit_or old (1 * 2 ^ (p % 64) % 2 ^ 64))) n
@@ -80,6 +82,7 @@ cleared-packed words many n are within few =
           ∙ ap count_of (marks_in-cleared many n) ∙ count_of-unmarked n);
     }
 
+-- of words of 0 contracts see places that are all unmarked
 pub cleared-seen : (words : List ℕ) (many n : ℕ) → words ≡ replicate many zero
     → seen words n ≡ record { places = replicate n false; room = 64 * many - 1 }
 cleared-seen words many n are =
@@ -98,6 +101,16 @@ count-between words n from to marks is order within =
     ∙ ap (λ k. k + count_of (take (to - from) (drop from (marks_in words n))))
     (ap count_of (take-marks_in words n from (omega arith))))
 
+-- the counts of the marks before two places, and that between them
+pub counts-apart : (words : List ℕ) (n from to upto before : ℕ) (marks : Marks)
+    → seen words n ≡ marks → from ≤ to → to ≤ length marks.places
+    → upto ≡ count_of (marks_in words to) → before ≡ count_of (marks_in words from)
+    → upto ≡ before + count_of (take (to - from) (drop from marks.places))
+counts-apart words n from to upto before marks is order within last first =
+    let fits : to ≤ n = omega (arith, seen-length words n marks is, within) in
+    last ∙ count-between words n from to marks is order fits
+    ∙ ap (λ k. k + count_of (take (to - from) (drop from marks.places))) (sym first)
+
 -- the count of all is that from place 0 up to the last
 pub count-all : (words : List ℕ) (n total from to : ℕ) (marks : Marks) → seen words n ≡ marks
     → total ≡ count_of (marks_in words n) → from ≡ 0 → to ≡ n
@@ -108,6 +121,7 @@ count-all words n total from to marks is counted first last =
     let none : count_of (marks_in words from) ≡ 0 = rw first refl in
     omega (arith, parts, all, none)
 
+-- from one place up to another there are at most as many marks as places
 pub count-bound : (marks : List Bool) (from to : ℕ)
     → count_of (take (to - from) (drop from marks)) ≤ to - from
 count-bound marks from to =

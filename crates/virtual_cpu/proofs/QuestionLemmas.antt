@@ -16,11 +16,13 @@ asked : (m : Machine) → divide_question m ≡ divide_question (with_ip_advance
 unfolding divide_question
 asked m = refl
 
+-- a move of a head asks nothing, whether IP advances or not
 moving-asks : (head : Head) (m : Machine) → AsksOf (moving head m).0 (moving head m).1
 moving-asks Ip m = tt
 moving-asks Read m = tt
 moving-asks Write m = tt
 
+-- h-alloc asks nothing, whether memory grows or not
 allocating-asks : (test : Bool) (m : Machine)
     → AsksOf (allocating_if test m).0 (allocating_if test m).1
 allocating-asks true m = tt

@@ -19,6 +19,7 @@ pub template-moved : (m : Machine) (executed : List Bool) (last count : ℕ)
     (on_template m)
 unfolding on_template
 template-moved m executed last count many some marked moved = go (template_of m) many where
+  -- the same of any list of as many nops: IP is on the last of them
   go : (nops : List Letter) → count ≡ length nops
       → ◌≡◌ {A = Machine} (record m { executed = executed; heads = record m.heads { ip = last } })
       (on_last_of nops m)

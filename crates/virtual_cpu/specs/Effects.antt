@@ -5,8 +5,8 @@ use Rattle.instruction_set.specs.declared.letter.Letter.{Letter}
 use Rattle.instruction_set.specs.declared.letter.Letter.TheVariants.{NopA, NopB, NopC, IfNEqu, IfLess, IfLabel, MovHead, JmpHead, GetHead, SetFlow, ShiftR, ShiftL, Inc, Dec, Push, Pop, SwapStk, Swap, Add, Sub, Nand, HCopy, HAlloc, HDivide, Io, HSearch}
 use Rattle.virtual_cpu.specs.declared.heads.Head.{Head}
 use Rattle.virtual_cpu.specs.declared.heads.Head.TheVariants.{Ip}
-use Rattle.virtual_cpu.specs.declared.did.Did.{Did}
-use Rattle.virtual_cpu.specs.declared.did.Did.TheVariants.{Plain, Copied, Output, Asks, Allocated}
+use Rattle.virtual_cpu.specs.declared.step_answer.StepAnswer.{StepAnswer}
+use Rattle.virtual_cpu.specs.declared.step_answer.StepAnswer.TheVariants.{Plain, Copied, Output, Asks, Allocated}
 use Rattle.virtual_cpu.specs.Machine.{Machine, with_ip_advanced}
 use Rattle.virtual_cpu.specs.RegisterEffects.{after_if_n_equ, after_if_less, after_set_flow, after_shift_r, after_shift_l, after_inc, after_dec, after_push, after_pop, after_swap_stk, after_swap, after_add, after_sub, after_nand, after_io, output_of}
 use Rattle.virtual_cpu.specs.HeadEffects.{head, after_mov_head, after_jmp_head, after_get_head}
@@ -16,25 +16,25 @@ use Rattle.virtual_cpu.specs.Allocation.{can_allocate, with_allocation}
 use Rattle.virtual_cpu.specs.Divide.{divide_question}
 
 -- IP advances, with an answer
-abbrev pub telling : Did → Machine → Machine × Did
+abbrev pub telling : StepAnswer → Machine → Machine × StepAnswer
 telling did m = (with_ip_advanced m, did)
 
 -- IP advances, and nothing is told
-abbrev pub going_on : Machine → Machine × Did
+abbrev pub going_on : Machine → Machine × StepAnswer
 going_on m = telling Plain m
 
 -- IP advances unless it is the head that was moved
-abbrev pub moving : Head → Machine → Machine × Did
+abbrev pub moving : Head → Machine → Machine × StepAnswer
 moving Ip m = (m, Plain)
 moving _ m = going_on m
 
 -- memory grows where it can
-abbrev pub allocating_if : Bool → Machine → Machine × Did
+abbrev pub allocating_if : Bool → Machine → Machine × StepAnswer
 allocating_if true m = telling Allocated (with_allocation m)
 allocating_if false m = going_on m
 
 -- the row of each letter
-abbrev pub effect_of : Letter → Machine → ℤ → Option Letter → Machine × Did
+abbrev pub effect_of : Letter → Machine → ℤ → Option Letter → Machine × StepAnswer
 effect_of NopA m input copy = going_on m
 effect_of NopB m input copy = going_on m
 effect_of NopC m input copy = going_on m

@@ -5,7 +5,7 @@ use Rattle.virtual_cpu.specs.declared.registers.Register.TheVariants.{Cx}
 use Rattle.virtual_cpu.specs.declared.heads.Head.{Head}
 use Rattle.virtual_cpu.specs.declared.heads.Head.TheVariants.{Ip}
 use Rattle.virtual_cpu.specs.Registers.{value_of}
-use Rattle.virtual_cpu.specs.Heads.{place_of}
+use Rattle.virtual_cpu.specs.Heads.{head_place}
 use Rattle.virtual_cpu.specs.Machine.{Machine, place_of_number, with_head_at, with_value}
 use Rattle.virtual_cpu.specs.Operands.{head_picked, on_modifier}
 
@@ -22,8 +22,8 @@ unfoldable pub after_jmp_head : Machine → Machine
 after_jmp_head m =
     let n = on_modifier m in
     with_head_at n (head m)
-    (place_of_number n (pos (place_of n.heads (head m)) +ℤ value_of n.registers Cx))
+    (place_of_number n (pos (head_place n.heads (head m)) +ℤ value_of n.registers Cx))
 
 -- get-head
 unfoldable pub after_get_head : Machine → Machine
-after_get_head m = let n = on_modifier m in with_value n Cx (pos (place_of n.heads (head m)))
+after_get_head m = let n = on_modifier m in with_value n Cx (pos (head_place n.heads (head m)))

@@ -5,10 +5,10 @@ use Rattle.virtual_cpu.specs.declared.heads.Head.TheVariants.{Ip, Read, Write}
 use Rattle.virtual_cpu.specs.declared.heads.Heads.{Heads}
 
 -- the place of a head
-abbrev pub place_of : Heads → Head → ℕ
-place_of heads Ip = heads.ip
-place_of heads Read = heads.read
-place_of heads Write = heads.write
+abbrev pub head_place : Heads → Head → ℕ
+head_place heads Ip = heads.ip
+head_place heads Read = heads.read
+head_place heads Write = heads.write
 
 -- the heads with one of them at another place
 abbrev pub with_head : Heads → Head → ℕ → Heads

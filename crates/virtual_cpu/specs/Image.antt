@@ -40,7 +40,7 @@ image_of m = record {
 
 -- the machine with these values, made for a genome of a length, under a limit
 abbrev pub machine_of_image : CpuImage → ℕ → ℕ → Machine
-machine_of_image image made limit = record {
+machine_of_image image birth_length limit = record {
   memory = image.memory;
   clean = image.clean;
   executed = image.executed;
@@ -51,6 +51,6 @@ machine_of_image image made limit = record {
   heads = heads_of image.heads;
   nops = image.nops;
   pending = image.pending;
-  made = made;
+  birth_length = birth_length;
   limit = limit;
 }

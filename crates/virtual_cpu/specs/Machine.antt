@@ -29,13 +29,13 @@ pub record Machine : Type 0 where
   -- whether an allocation is pending
   pub pending : Bool
   -- the length of the genome that the machine was made for
-  pub made : ℕ
+  pub birth_length : ℕ
   -- the length above which memory never grows
   pub limit : ℕ
 
 -- the machine at its start on a text
 abbrev pub fresh_machine : List Letter → ℕ → ℕ → Machine
-fresh_machine text made limit = record {
+fresh_machine text birth_length limit = record {
   memory = text;
   clean = text;
   executed = replicate (length text) false;
@@ -46,7 +46,7 @@ fresh_machine text made limit = record {
   heads = record { ip = 0; read = 0; write = 0; flow = 0 };
   nops = [];
   pending = false;
-  made = made;
+  birth_length = birth_length;
   limit = limit;
 }
 
@@ -65,17 +65,17 @@ pub record IsMachine (m : Machine) : Type 0 where
   pub flow : m.heads.flow < length m.memory
   pub least : 8 ≤ length m.memory
   pub greatest : length m.memory ≤ m.limit
-  pub growth : length m.memory ≤ (if m.pending then 6 else 2) * m.made
-  pub made : m.made ≤ m.limit
+  pub growth : length m.memory ≤ (if m.pending then 6 else 2) * m.birth_length
+  pub birth_length : m.birth_length ≤ m.limit
   pub limit : m.limit ≤ 8192
 
 -- the letter at a place; no machine has a place past the end
-abbrev pub letter_at : Machine → ℕ → Letter
-letter_at m place = slice_index_or m.memory place NopA
+abbrev pub letter_in_memory : Machine → ℕ → Letter
+letter_in_memory m place = slice_index_or m.memory place NopA
 
 -- the letter under IP
 abbrev pub letter_under_ip : Machine → Letter
-letter_under_ip m = letter_at m m.heads.ip
+letter_under_ip m = letter_in_memory m m.heads.ip
 
 -- the place after another, across the end to place 0
 abbrev pub place_after : Machine → ℕ → ℕ

@@ -9,26 +9,26 @@ use Rattle.virtual_cpu.specs.declared.registers.Register.{Register}
 use Rattle.virtual_cpu.specs.declared.registers.Register.TheVariants.{Bx, Cx}
 use Rattle.virtual_cpu.specs.declared.heads.Head.{Head}
 use Rattle.virtual_cpu.specs.declared.heads.Head.TheVariants.{Ip}
-use Rattle.virtual_cpu.specs.declared.did.Did.{Did}
+use Rattle.virtual_cpu.specs.declared.step_answer.StepAnswer.{StepAnswer}
 use Rattle.virtual_cpu.specs.Machine.{Machine}
 use Rattle.virtual_cpu.specs.Operands.{register_picked, head_picked, on_modifier, template_of, on_template}
 use Rattle.virtual_cpu.specs.Effects.{effect_of}
 
 -- a letter acts, with IP on the modifier, on the register that the modifier picks, else on this one
 pub record TakesRegister (letter : Letter) (default : Register) : Type 0 where
-  pub act : Machine → Register → ℤ → Machine × Did
+  pub act : Machine → Register → ℤ → Machine × StepAnswer
   pub is : (m : Machine) (input : ℤ) (copy : Option Letter)
       → effect_of letter m input copy ≡ act (on_modifier m) (register_picked m default) input
 
 -- a letter acts, with IP on the modifier, on the head that the modifier picks or else on this one
 pub record TakesHead (letter : Letter) (default : Head) : Type 0 where
-  pub act : Machine → Head → Machine × Did
+  pub act : Machine → Head → Machine × StepAnswer
   pub is : (m : Machine) (input : ℤ) (copy : Option Letter)
       → effect_of letter m input copy ≡ act (on_modifier m) (head_picked m default)
 
 -- a letter acts, with IP on the last nop of the template, by that template
 pub record TakesTemplate (letter : Letter) : Type 0 where
-  pub act : Machine → List Letter → Machine × Did
+  pub act : Machine → List Letter → Machine × StepAnswer
   pub is : (m : Machine) (input : ℤ) (copy : Option Letter)
       → effect_of letter m input copy ≡ act (on_template m) (template_of m)
 

@@ -7,18 +7,18 @@ use Rattle.virtual_cpu.specs.declared.registers.Register.TheVariants.{Ax, Bx, Cx
 use Rattle.virtual_cpu.specs.declared.heads.Head.{Head}
 use Rattle.virtual_cpu.specs.declared.heads.Head.TheVariants.{Ip, Read, Write}
 use Rattle.label_search.specs.Template.{template_after}
-use Rattle.virtual_cpu.specs.Machine.{Machine, letter_at, place_after, with_ip_marked, with_ip_advanced, with_head_at}
+use Rattle.virtual_cpu.specs.Machine.{Machine, letter_in_memory, place_after, with_ip_marked, with_ip_advanced, with_head_at}
 
 -- the letter where it is a nop
-abbrev pub nop_of : Letter → Option Letter
-nop_of NopA = Some NopA
-nop_of NopB = Some NopB
-nop_of NopC = Some NopC
-nop_of _ = None
+abbrev pub as_nop : Letter → Option Letter
+as_nop NopA = Some NopA
+as_nop NopB = Some NopB
+as_nop NopC = Some NopC
+as_nop _ = None
 
 -- the nop at the place after IP, across the end
 abbrev pub modifier_of : Machine → Option Letter
-modifier_of m = nop_of (letter_at m (place_after m m.heads.ip))
+modifier_of m = as_nop (letter_in_memory m (place_after m m.heads.ip))
 
 -- the register that a modifier picks, or the default
 abbrev pub register_by : Option Letter → Register → Register

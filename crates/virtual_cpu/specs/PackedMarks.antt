@@ -11,7 +11,7 @@ marks_of m =
 
 -- the places are within the words, of which there are few, no bit after them is set, and the count
 -- is theirs
-pub record IsPacked (m : Inside) : Type 0 where
+pub record HasPackedMarks (m : Inside) : Type 0 where
   pub within : m.places < 64 * length m.words.items
   pub few : length m.words.items ≤ 129
   pub rest : (place : ℕ) → m.places ≤ place → bit_of m.words.items place ≡ false

@@ -1,23 +1,23 @@
 -- One step of the machine (docs/MACHINE.md, "One step").
 use Rattle.std.specs.Prelude.{◌≡◌, ℤ, Option}
 use Rattle.instruction_set.specs.declared.letter.Letter.{Letter}
-use Rattle.virtual_cpu.specs.declared.did.Did.{Did}
-use Rattle.virtual_cpu.specs.declared.did.Did.TheVariants.{Plain, Copied, Output, Asks, Allocated}
+use Rattle.virtual_cpu.specs.declared.step_answer.StepAnswer.{StepAnswer}
+use Rattle.virtual_cpu.specs.declared.step_answer.StepAnswer.TheVariants.{Plain, Copied, Output, Asks, Allocated}
 use Rattle.virtual_cpu.specs.Machine.{Machine, letter_under_ip, with_ip_marked}
 use Rattle.virtual_cpu.specs.Effects.{effect_of}
 use Rattle.virtual_cpu.specs.Divide.{divide_question}
 
 -- the place of IP is marked, and the letter there has its effect
-unfoldable pub step : Machine → ℤ → Option Letter → Machine × Did
+unfoldable pub step : Machine → ℤ → Option Letter → Machine × StepAnswer
 step m input copy = effect_of (letter_under_ip m) (with_ip_marked m) input copy
 
 -- a question that is told is that of this machine
-abbrev pub AsksOf : Machine → Did → Type 0
+abbrev pub AsksOf : Machine → StepAnswer → Type 0
 AsksOf m (Asks ask) = ask ≡ divide_question m
 AsksOf m _ = Unit {0}
 
 -- nothing is put out and nothing is asked
-abbrev pub TellsNothing : Did → Type 0
+abbrev pub TellsNothing : StepAnswer → Type 0
 TellsNothing Plain = Unit {0}
 TellsNothing Copied = Unit {0}
 TellsNothing Allocated = Unit {0}
@@ -26,5 +26,5 @@ TellsNothing (Asks ask) = ⊥
 
 -- what no step changes
 pub record KeepsLimits (old new : Machine) : Type 0 where
-  pub made : new.made ≡ old.made
+  pub birth_length : new.birth_length ≡ old.birth_length
   pub limit : new.limit ≡ old.limit

@@ -4,8 +4,8 @@ use Rattle.virtual_cpu.specs.Machine.{Machine, IsMachine}
 use Rattle.virtual_cpu.specs.declared.cpu.Cpu.TheInside.{Inside}
 
 -- the machine that a `Cpu` is
-abbrev pub machine_of : Inside → Machine
-machine_of cpu = record {
+abbrev pub machine_view : Inside → Machine
+machine_view cpu = record {
   memory = cpu.memory.items;
   clean = cpu.clean.items;
   executed = cpu.executed.places;
@@ -16,17 +16,17 @@ machine_of cpu = record {
   heads = cpu.heads;
   nops = cpu.nops;
   pending = cpu.pending;
-  made = cpu.made;
+  birth_length = cpu.birth_length;
   limit = cpu.limit;
 }
 
 -- the places that there is room for
 abbrev pub room_of : Inside → ℕ
-room_of cpu = min cpu.limit (6 * cpu.made)
+room_of cpu = min cpu.limit (6 * cpu.birth_length)
 
 -- a machine, and room for all that it may grow to
 pub record IsMachineWithRoom (cpu : Inside) : Type 0 where
-  pub machine : IsMachine (machine_of cpu)
+  pub machine : IsMachine (machine_view cpu)
   pub memory : room_of cpu ≤ vec_capacity cpu.memory
   pub clean : room_of cpu ≤ vec_capacity cpu.clean
   pub executed : room_of cpu ≤ cpu.executed.room

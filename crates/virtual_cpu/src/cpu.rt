@@ -1,16 +1,12 @@
 // The machine: its parts, and the few ways in which an instruction changes them.
-ghost use Rattle.std.specs.Prelude.{◌≡◌, ℕ, ℤ, pos, ◌-◌, ◌*◌, ◌<◌, ◌≤◌, IfOk, List, [], ◌∷◌, length, ◌+◌, ◌++◌, replicate, true, false, vec_capacity, IfSome, IsTrue};
+ghost use Rattle.std.specs.Prelude.{◌≡◌, ℕ, ℤ, pos, ◌-◌, ◌*◌, ◌<◌, ◌≤◌, IfOk, List, [], ◌∷◌, length, ◌+◌, ◌++◌, replicate, true, false, vec_capacity, IsTrue};
 ghost use Rattle.instruction_set.specs.declared.letter.Letter.{Letter};
-ghost use Rattle.instruction_set.specs.Letter.{same_letters};
 ghost use Rattle.genome.specs.Genome.{letters};
-ghost use Rattle.label_search.specs.Search.{first_match};
-ghost use Rattle.label_search.specs.Template.{complements_of};
 ghost use Rattle.virtual_cpu.specs.Registers.{value_of};
-ghost use Rattle.virtual_cpu.specs.Heads.{place_of};
+ghost use Rattle.virtual_cpu.specs.Heads.{head_place};
 ghost use Rattle.virtual_cpu.specs.Stack.{pushed, popped, top_of};
-ghost use Rattle.virtual_cpu.specs.Machine.{IsMachine, fresh_machine, letter_under_ip, letter_at, place_after, place_of_number, with_ip_marked, with_ip_advanced, with_head_at, with_flow_at, with_value};
+ghost use Rattle.virtual_cpu.specs.Machine.{IsMachine, fresh_machine, letter_under_ip, place_after, place_of_number, with_ip_marked, with_ip_advanced, with_head_at, with_flow_at, with_value};
 ghost use Rattle.virtual_cpu.specs.Image.{image_of, machine_of_image};
-ghost use Rattle.virtual_cpu.specs.Operands.{on_modifier, register_picked, head_picked, template_of, on_template};
 ghost use Rattle.virtual_cpu.specs.RegisterEffects.{active_stack, with_active_stack};
 ghost use Rattle.virtual_cpu.specs.Copying.{after_h_copy};
 ghost use Rattle.virtual_cpu.specs.Allocation.{can_allocate, with_allocation};
@@ -28,24 +24,24 @@ use avida_port::Memory;
 use divide_rules::DivideAsk;
 use genome::Genome;
 use instruction_set::Letter;
-use label_search::{Reading, Template, complement_after};
+use label_search::Template;
 use std::alloc::Global;
 use std::marker::Model;
 
 /// A machine that steps through its own memory.
 #[derive(Drop)]
 pub struct Cpu {
-    memory: Vec<Letter>,
+    pub(crate) memory: Vec<Letter>,
     clean: Vec<Letter>,
-    executed: PackedMarks,
+    pub(crate) executed: PackedMarks,
     copied: PackedMarks,
     registers: Registers,
     stacks: [Stack; 2],
     active: usize,
-    heads: Heads,
-    nops: Template,
+    pub(crate) heads: Heads,
+    pub(crate) nops: Template,
     pending: bool,
-    made: usize,
+    birth_length: usize,
     limit: usize,
 }
 
@@ -54,9 +50,9 @@ impl Model for Cpu {
 
     ghost Value = { Machine };
 
-    ghost use Rattle.virtual_cpu.specs.View.{machine_of, IsMachineWithRoom};
+    ghost use Rattle.virtual_cpu.specs.View.{machine_view, IsMachineWithRoom};
 
-    ghost view = { machine_of };
+    ghost view = { machine_view };
 
     ghost invariant = { IsMachineWithRoom };
 }
@@ -70,13 +66,13 @@ impl Cpu {
         ensures { IfOk result (λ cpu. let text = letters genome.now in
             cpu ≡ fresh_machine text (length text) memory_limit) }
     {
-        let made = genome.len() as usize;
+        let birth_length = genome.len() as usize;
         let limit = memory_limit as usize;
-        let room = (6 * made).min(limit);
+        let room = (6 * birth_length).min(limit);
         let memory = letters_with_room(alloc, genome.letters(), room)?;
         let clean = letters_with_room(alloc, genome.letters(), room)?;
-        let executed = PackedMarks::unmarked(alloc, made, room)?;
-        let copied = PackedMarks::unmarked(alloc, made, room)?;
+        let executed = PackedMarks::unmarked(alloc, birth_length, room)?;
+        let copied = PackedMarks::unmarked(alloc, birth_length, room)?;
         Ok(Cpu {
             memory,
             clean,
@@ -88,7 +84,7 @@ impl Cpu {
             heads: Heads::default(),
             nops: Template::none(),
             pending: false,
-            made,
+            birth_length,
             limit,
         })
     }
@@ -105,9 +101,9 @@ impl Cpu {
         ensures { IfOk result (λ cpu. cpu ≡
             machine_of_image image.now (length (letters genome.now)) memory_limit) }
     {
-        let made = genome.len() as usize;
+        let birth_length = genome.len() as usize;
         let limit = memory_limit as usize;
-        let room = (6 * made).min(limit);
+        let room = (6 * birth_length).min(limit);
         let memory = letters_with_room(alloc, image.memory.as_slice(), room)?;
         let clean = letters_with_room(alloc, image.clean.as_slice(), room)?;
         let executed = PackedMarks::packed(alloc, image.executed.as_slice(), room)?;
@@ -123,7 +119,7 @@ impl Cpu {
             heads: Heads::of(image.heads),
             nops: image.nops.copy(),
             pending: image.pending,
-            made,
+            birth_length,
             limit,
         })
     }
@@ -156,9 +152,9 @@ impl Cpu {
     pub fn reset(&mut self, keep: u32)
         requires least { 8 ≤ keep }
         requires within { keep ≤ length self.old.memory }
-        requires twice_made { keep ≤ 2 * self.old.made }
+        requires twice_birth { keep ≤ 2 * self.old.birth_length }
         ensures { let kept = parent_part self.old.memory keep in
-            self.new ≡ fresh_machine kept self.old.made self.old.limit }
+            self.new ≡ fresh_machine kept self.old.birth_length self.old.limit }
     {
         let keep = keep as usize;
         self.memory.truncate(keep);
@@ -233,67 +229,8 @@ impl Cpu {
         self.heads.ip = place_after(self.heads.ip, self.memory.len());
     }
 
-    /// The letter after IP, across the end.
-    pub(crate) fn letter_after_ip(&self) -> Letter
-        ensures { result ≡ letter_at self.now (place_after self.now self.now.heads.ip) }
-    {
-        self.memory[place_after(self.heads.ip, self.memory.len())]
-    }
-
-    /// Moves IP onto a modifier, and gives the register that it picks.
-    #[tactic(auto, unfolding(crate::specs::Operands::on_modifier))]
-    pub(crate) fn pick_register(&mut self, default: Register) -> Register
-        ensures picked { result ≡ register_picked self.old default }
-        ensures moved { self.new ≡ on_modifier self.old }
-    {
-        let picked = match self.letter_after_ip() {
-            Letter::NopA => Register::Ax,
-            Letter::NopB => Register::Bx,
-            Letter::NopC => Register::Cx,
-            _ => return default,
-        };
-        self.advance();
-        self.mark_executed();
-        picked
-    }
-
-    /// Moves IP onto a modifier, and gives the head that it picks.
-    #[tactic(auto, unfolding(crate::specs::Operands::on_modifier))]
-    pub(crate) fn pick_head(&mut self, default: Head) -> Head
-        ensures picked { result ≡ head_picked self.old default }
-        ensures moved { self.new ≡ on_modifier self.old }
-    {
-        let picked = match self.letter_after_ip() {
-            Letter::NopA => Head::Ip,
-            Letter::NopB => Head::Read,
-            Letter::NopC => Head::Write,
-            _ => return default,
-        };
-        self.advance();
-        self.mark_executed();
-        picked
-    }
-
-    /// Moves IP onto the last nop of the template after it, marks the first, and gives the
-    /// complement.
-    #[inline(always)]
-    #[tactic(auto, unfolding(crate::specs::Operands::template_of, crate::specs::Operands::on_template))]
-    pub(crate) fn read_complement(&mut self) -> Template
-        ensures read { result ≡ complements_of (template_of self.old) }
-        ensures moved { self.new ≡ on_template self.old }
-        ensures few { length result ≤ 10 }
-    {
-        let Reading { complement, last } = complement_after(self.memory.as_slice(), self.heads.ip);
-        if !complement.is_empty() {
-            let first = self.place_after_ip();
-            self.executed.mark(first);
-            self.heads.ip = last;
-        }
-        complement
-    }
-
     pub(crate) fn head(&self, head: Head) -> usize
-        ensures place { result ≡ place_of self.now.heads head }
+        ensures place { result ≡ head_place self.now.heads head }
         ensures within { result < 8192 }
     {
         self.heads.get(head)
@@ -374,21 +311,6 @@ impl Cpu {
         ensures { self.new ≡ record self.old { active = 1 - self.old.active } }
     {
         self.active = 1 - self.active;
-    }
-
-    /// Whether the nops read last are these.
-    pub(crate) fn nops_are(&self, template: &Template) -> bool
-        ensures { result ≡ same_letters self.now.nops template.now }
-    {
-        self.nops.equals(template)
-    }
-
-    pub(crate) fn find(&self, what: &Template) -> Option<usize>
-        requires { 0 < length what.now }
-        ensures first { result ≡ first_match self.now.memory what.now }
-        ensures within { IfSome result (λ place. place + length what.now ≤ length self.now.memory) }
-    {
-        label_search::find(self.memory.as_slice(), what)
     }
 
     /// Copies the letter at READ, or the letter of a copy error, to WRITE.

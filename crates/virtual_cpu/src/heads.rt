@@ -1,6 +1,6 @@
 ghost use Rattle.std.specs.Prelude.{◌≡◌};
 ghost use Rattle.virtual_cpu.specs.Image.{heads_of};
-ghost use Rattle.virtual_cpu.specs.Heads.{ArePlaces, place_of, with_head};
+ghost use Rattle.virtual_cpu.specs.Heads.{ArePlaces, head_place, with_head};
 
 /// One of the heads that a modifier picks.
 #[derive(Clone, Copy)]
@@ -47,7 +47,7 @@ impl Heads {
     }
 
     pub(crate) fn get(&self, head: Head) -> usize
-        ensures { result ≡ place_of self.now head }
+        ensures { result ≡ head_place self.now head }
     {
         match head {
             Head::Ip => self.ip,

@@ -9,24 +9,24 @@ ghost use Rattle.virtual_cpu.specs.HeadEffects.{head, after_mov_head, after_jmp_
 ghost use Rattle.virtual_cpu.specs.RegisterEffects.{after_if_n_equ, after_if_less, after_set_flow, after_shift_r, after_shift_l, after_inc, after_dec, after_push, after_pop, after_swap_stk, after_swap, after_add, after_sub, after_nand, after_io, output_of};
 ghost use Rattle.virtual_cpu.specs.Step.{step, AsksOf, KeepsLimits};
 ghost use Rattle.virtual_cpu.specs.TemplateEffects.{after_if_label, after_h_search, with_search};
-ghost use Rattle.virtual_cpu.specs.declared.did.Did.TheVariants.{Copied, Output, Asks};
+ghost use Rattle.virtual_cpu.specs.declared.step_answer.StepAnswer.TheVariants.{Copied, Output, Asks};
 
 use crate::cpu::Cpu;
-use crate::did::Did;
 use crate::heads::Head;
 use crate::registers::Register;
+use crate::step_answer::StepAnswer;
 use instruction_set::Letter;
 
 impl Cpu {
-    fn go_on(&mut self) -> Did
+    fn go_on(&mut self) -> StepAnswer
         ensures { (self.new, result) ≡ going_on self.old }
     {
         self.advance();
-        Did::Plain
+        StepAnswer::Plain
     }
 
     #[tactic(auto, unfolding(crate::specs::RegisterEffects::after_if_n_equ))]
-    fn if_n_equ(&mut self) -> Did
+    fn if_n_equ(&mut self) -> StepAnswer
         ensures { (self.new, result) ≡ going_on (after_if_n_equ self.old) }
     {
         let register = self.pick_register(Register::Bx);
@@ -37,7 +37,7 @@ impl Cpu {
     }
 
     #[tactic(auto, unfolding(crate::specs::RegisterEffects::after_if_less))]
-    fn if_less(&mut self) -> Did
+    fn if_less(&mut self) -> StepAnswer
         ensures { (self.new, result) ≡ going_on (after_if_less self.old) }
     {
         let register = self.pick_register(Register::Bx);
@@ -60,19 +60,19 @@ impl Cpu {
     }
 
     #[tactic(auto, unfolding(crate::specs::HeadEffects::after_mov_head))]
-    fn mov_head(&mut self) -> Did
+    fn mov_head(&mut self) -> StepAnswer
         ensures { (self.new, result) ≡ moving (head self.old) (after_mov_head self.old) }
     {
         let head = self.pick_head(Head::Ip);
         self.move_head_to_flow(head);
         match head {
-            Head::Ip => Did::Plain,
+            Head::Ip => StepAnswer::Plain,
             _ => self.go_on(),
         }
     }
 
     #[tactic(auto, unfolding(crate::specs::HeadEffects::after_jmp_head))]
-    fn jmp_head(&mut self) -> Did
+    fn jmp_head(&mut self) -> StepAnswer
         ensures { (self.new, result) ≡ going_on (after_jmp_head self.old) }
     {
         let head = self.pick_head(Head::Ip);
@@ -82,7 +82,7 @@ impl Cpu {
     }
 
     #[tactic(auto, unfolding(crate::specs::HeadEffects::after_get_head))]
-    fn get_head(&mut self) -> Did
+    fn get_head(&mut self) -> StepAnswer
         ensures { (self.new, result) ≡ going_on (after_get_head self.old) }
     {
         let head = self.pick_head(Head::Ip);
@@ -92,7 +92,7 @@ impl Cpu {
     }
 
     #[tactic(auto, unfolding(crate::specs::RegisterEffects::after_set_flow))]
-    fn set_flow(&mut self) -> Did
+    fn set_flow(&mut self) -> StepAnswer
         ensures { (self.new, result) ≡ going_on (after_set_flow self.old) }
     {
         let register = self.pick_register(Register::Cx);
@@ -102,7 +102,7 @@ impl Cpu {
     }
 
     #[tactic(auto, unfolding(crate::specs::RegisterEffects::after_shift_r))]
-    fn shift_r(&mut self) -> Did
+    fn shift_r(&mut self) -> StepAnswer
         ensures { (self.new, result) ≡ going_on (after_shift_r self.old) }
     {
         let register = self.pick_register(Register::Bx);
@@ -112,7 +112,7 @@ impl Cpu {
     }
 
     #[tactic(auto, unfolding(crate::specs::RegisterEffects::after_shift_l))]
-    fn shift_l(&mut self) -> Did
+    fn shift_l(&mut self) -> StepAnswer
         ensures { (self.new, result) ≡ going_on (after_shift_l self.old) }
     {
         let register = self.pick_register(Register::Bx);
@@ -122,7 +122,7 @@ impl Cpu {
     }
 
     #[tactic(auto, unfolding(crate::specs::RegisterEffects::after_inc))]
-    fn inc(&mut self) -> Did
+    fn inc(&mut self) -> StepAnswer
         ensures { (self.new, result) ≡ going_on (after_inc self.old) }
     {
         let register = self.pick_register(Register::Bx);
@@ -132,7 +132,7 @@ impl Cpu {
     }
 
     #[tactic(auto, unfolding(crate::specs::RegisterEffects::after_dec))]
-    fn dec(&mut self) -> Did
+    fn dec(&mut self) -> StepAnswer
         ensures { (self.new, result) ≡ going_on (after_dec self.old) }
     {
         let register = self.pick_register(Register::Bx);
@@ -142,7 +142,7 @@ impl Cpu {
     }
 
     #[tactic(auto, unfolding(crate::specs::RegisterEffects::after_push))]
-    fn push(&mut self) -> Did
+    fn push(&mut self) -> StepAnswer
         ensures { (self.new, result) ≡ going_on (after_push self.old) }
     {
         let register = self.pick_register(Register::Bx);
@@ -152,7 +152,7 @@ impl Cpu {
     }
 
     #[tactic(auto, unfolding(crate::specs::RegisterEffects::after_pop))]
-    fn pop(&mut self) -> Did
+    fn pop(&mut self) -> StepAnswer
         ensures { (self.new, result) ≡ going_on (after_pop self.old) }
     {
         let register = self.pick_register(Register::Bx);
@@ -162,7 +162,7 @@ impl Cpu {
     }
 
     #[tactic(auto, unfolding(crate::specs::RegisterEffects::after_swap_stk))]
-    fn swap_stk(&mut self) -> Did
+    fn swap_stk(&mut self) -> StepAnswer
         ensures { (self.new, result) ≡ going_on (after_swap_stk self.old) }
     {
         self.swap_stacks();
@@ -170,7 +170,7 @@ impl Cpu {
     }
 
     #[tactic(auto, unfolding(crate::specs::RegisterEffects::after_swap))]
-    fn swap(&mut self) -> Did
+    fn swap(&mut self) -> StepAnswer
         ensures { (self.new, result) ≡ going_on (after_swap self.old) }
     {
         let register = self.pick_register(Register::Bx);
@@ -183,7 +183,7 @@ impl Cpu {
     }
 
     #[tactic(auto, unfolding(crate::specs::RegisterEffects::after_add))]
-    fn add(&mut self) -> Did
+    fn add(&mut self) -> StepAnswer
         ensures { (self.new, result) ≡ going_on (after_add self.old) }
     {
         let register = self.pick_register(Register::Bx);
@@ -195,7 +195,7 @@ impl Cpu {
     }
 
     #[tactic(auto, unfolding(crate::specs::RegisterEffects::after_sub))]
-    fn sub(&mut self) -> Did
+    fn sub(&mut self) -> StepAnswer
         ensures { (self.new, result) ≡ going_on (after_sub self.old) }
     {
         let register = self.pick_register(Register::Bx);
@@ -207,7 +207,7 @@ impl Cpu {
     }
 
     #[tactic(auto, unfolding(crate::specs::RegisterEffects::after_nand))]
-    fn nand(&mut self) -> Did
+    fn nand(&mut self) -> StepAnswer
         ensures { (self.new, result) ≡ going_on (after_nand self.old) }
     {
         let register = self.pick_register(Register::Bx);
@@ -216,15 +216,15 @@ impl Cpu {
         self.go_on()
     }
 
-    fn h_copy(&mut self, copy: Option<Letter>) -> Did
+    fn h_copy(&mut self, copy: Option<Letter>) -> StepAnswer
         ensures { (self.new, result) ≡ telling Copied (after_h_copy self.old copy) }
     {
         self.copy_letter(copy);
         self.advance();
-        Did::Copied
+        StepAnswer::Copied
     }
 
-    fn h_alloc(&mut self) -> Did
+    fn h_alloc(&mut self) -> StepAnswer
         ensures { (self.new, result) ≡ allocating_if (can_allocate self.old) self.old }
     {
         if !self.can_allocate() {
@@ -232,22 +232,22 @@ impl Cpu {
         }
         self.allocate();
         self.advance();
-        Did::Allocated
+        StepAnswer::Allocated
     }
 
     #[tactic(auto, unfolding(crate::specs::Divide::divide_question))]
-    fn h_divide(&mut self) -> Did
+    fn h_divide(&mut self) -> StepAnswer
         ensures told { (self.new, result) ≡ telling (Asks (divide_question self.old)) self.old }
         ensures question { AsksOf self.new result }
     {
         let ask = self.question();
         self.advance();
-        Did::Asks(ask)
+        StepAnswer::Asks(ask)
     }
 
     /// Puts the register out, and takes the input into it.
     #[tactic(auto, unfolding(crate::specs::RegisterEffects::after_io, crate::specs::RegisterEffects::output_of))]
-    fn io(&mut self, input: i32) -> Did
+    fn io(&mut self, input: i32) -> StepAnswer
         ensures { (self.new, result)
             ≡ telling (Output (output_of self.old)) (after_io self.old input) }
     {
@@ -255,7 +255,7 @@ impl Cpu {
         let value = self.register(register);
         self.set_register(register, input);
         self.advance();
-        Did::Output { value }
+        StepAnswer::Output { value }
     }
 
     #[inline(never)]
@@ -295,7 +295,7 @@ impl Cpu {
 
     /// One instruction. `input` is taken only by IO, `copy` only by h-copy.
     #[tactic(auto, unfolding(crate::specs::Step::step))]
-    pub fn step(&mut self, input: i32, copy: Option<Letter>) -> Did
+    pub fn step(&mut self, input: i32, copy: Option<Letter>) -> StepAnswer
         ensures step { (self.new, result) ≡ step self.old input copy }
         ensures question { AsksOf self.new result }
         ensures kept { KeepsLimits self.old self.new }
@@ -317,7 +317,7 @@ impl Cpu {
 
     /// The second half: the letter that was taken has its effect.
     #[inline(always)]
-    pub fn perform(&mut self, letter: Letter, input: i32, copy: Option<Letter>) -> Did
+    pub fn perform(&mut self, letter: Letter, input: i32, copy: Option<Letter>) -> StepAnswer
         ensures effect { (self.new, result) ≡ effect_of letter self.old input copy }
         ensures question { AsksOf self.new result }
         ensures kept { KeepsLimits self.old self.new }
@@ -326,7 +326,7 @@ impl Cpu {
     }
 
     #[inline(always)]
-    fn act(&mut self, letter: Letter, input: i32, copy: Option<Letter>) -> Did
+    fn act(&mut self, letter: Letter, input: i32, copy: Option<Letter>) -> StepAnswer
         ensures effect { (self.new, result) ≡ effect_of letter self.old input copy }
         ensures question { AsksOf self.new result }
     {
@@ -338,7 +338,7 @@ impl Cpu {
             Letter::IfLess => self.if_less(),
             Letter::IfLabel => {
                 self.if_label();
-                Did::Plain
+                StepAnswer::Plain
             }
             Letter::MovHead => self.mov_head(),
             Letter::JmpHead => self.jmp_head(),
@@ -361,7 +361,7 @@ impl Cpu {
             Letter::Io => self.io(input),
             Letter::HSearch => {
                 self.h_search();
-                Did::Plain
+                StepAnswer::Plain
             }
         }
     }

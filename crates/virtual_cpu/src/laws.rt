@@ -25,26 +25,26 @@ pub fn steps_leave_machines()
 
 /// A text that is not too long for its genome and its limit starts a machine.
 pub fn texts_start_machines()
-    ensures { (text : List Letter) (made limit : ℕ)
+    ensures { (text : List Letter) (birth_length limit : ℕ)
         → 8 ≤ length text
         → length text ≤ limit
-        → length text ≤ 2 * made
-        → made ≤ limit
+        → length text ≤ 2 * birth_length
+        → birth_length ≤ limit
         → limit ≤ 8192
-        → IsMachine (fresh_machine text made limit) }
+        → IsMachine (fresh_machine text birth_length limit) }
 {}
 
 /// A machine is the machine of its image.
 pub fn images_are_whole()
     ensures { (m : Machine) → IsMachine m
-        → machine_of_image (image_of m) m.made m.limit ≡ m }
+        → machine_of_image (image_of m) m.birth_length m.limit ≡ m }
 {}
 
 /// The registers and the stacks hold numbers of 32 bits at the start and after each step that takes
 /// such an input.
 pub fn machines_hold_words()
-    ensures start { (text : List Letter) (made limit : ℕ)
-        → HoldsWords (fresh_machine text made limit) }
+    ensures start { (text : List Letter) (birth_length limit : ℕ)
+        → HoldsWords (fresh_machine text birth_length limit) }
     ensures step { (m : Machine) (input : ℤ) (copy : Option Letter)
         → IsMachine m
         → HoldsWords m

@@ -4,17 +4,18 @@
 mod cpu;
 mod cpu_image;
 mod cut;
-mod did;
 mod heads;
 mod instructions;
 pub mod laws;
+mod operands;
 mod packed_marks;
 mod places;
 mod registers;
 mod reserved;
 mod stack;
+mod step_answer;
 
 pub use cpu::Cpu;
 pub use cpu_image::{CpuImage, Letters, Marks};
 pub use cut::Cut;
-pub use did::Did;
+pub use step_answer::StepAnswer;

@@ -21,11 +21,11 @@ impl Model for PackedMarks {
 
     ghost Value = { Marks };
 
-    ghost use Rattle.virtual_cpu.specs.PackedMarks.{marks_of, IsPacked};
+    ghost use Rattle.virtual_cpu.specs.PackedMarks.{marks_of, HasPackedMarks};
 
     ghost view = { marks_of };
 
-    ghost invariant = { IsPacked };
+    ghost invariant = { HasPackedMarks };
 }
 
 impl PackedMarks {

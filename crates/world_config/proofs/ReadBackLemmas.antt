@@ -20,7 +20,7 @@ use Rattle.world_config.specs.Refusal.{earlier, first_refusal, is_known, least_u
 use Rattle.world_config.specs.Refusal.{refusal_at, refusal_of, unknown_refusal}
 use Rattle.world_config.specs.Events.{event_values}
 use Rattle.world_config.specs.EventForms.{events_of}
-use Rattle.world_config.specs.Values.{ConfigValues, values_in, values_of}
+use Rattle.world_config.specs.Values.{ConfigValues, values_in_table, values_of}
 use Rattle.world_config.specs.Config.{config_in, unless_refused, values_with}
 use Rattle.world_config.specs.EventTables.{insert_member, items_for}
 use Rattle.world_config.specs.Groups.{printed_at}
@@ -57,7 +57,7 @@ genome_at-members v = refl
 
 -- the table has the values, where it has their ancestor
 values_in-members : (v : ConfigValues) → genome_at code.Ancestor (members_for v) ≡ v.ancestor
-    → values_in (members_for v) v.event ≡ v
+    → values_in_table (members_for v) v.event ≡ v
 unfolding number_at flag_at
 values_in-members v h = ap (λ (ls : List Letter). record v { ancestor = ls }) h
 

@@ -16,7 +16,7 @@ use Rattle.world_config.specs.Lookup.{letters_of_value, number_at, value_or}
 use Rattle.world_config.specs.Refusal.{earlier, first_refusal, refusal_at, refusal_of}
 use Rattle.world_config.specs.Events.{EventValue}
 use Rattle.world_config.specs.EventForms.{events_of}
-use Rattle.world_config.specs.Values.{ConfigValues, values_in}
+use Rattle.world_config.specs.Values.{ConfigValues, values_in_table}
 use Rattle.world_config.specs.Config.{unless_refused, values_with}
 use Rattle.world_config.specs.Members.{event_refusal}
 use Rattle.world_config.specs.Groups.{AreNumbers, numbers_frame}
@@ -184,7 +184,7 @@ module _ (ms : Members) (numbers : Numbers) (are : AreNumbers ms numbers)
       → events_of (numbers_frame numbers) (items_view members) ≡ Ok happening
       → unless_refused (first_refusal keys ms)
       (values_with ms (events_of (frame_in ms) (items_at code.Event ms)))
-      ≡ Ok (values_in ms happening)
+      ≡ Ok (values_in_table ms happening)
   accepted_values members happening good few same h =
       ap (λ o. unless_refused o (values_with ms (events_of (frame_in ms) (items_at code.Event ms))))
       (all_accepted good few)

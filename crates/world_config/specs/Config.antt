@@ -11,11 +11,11 @@ use Rattle.world_config.specs.Refusal.{refusal_in}
 use Rattle.world_config.specs.Events.{EventValue}
 use Rattle.world_config.specs.EventForms.{events_of}
 use Rattle.world_config.specs.Values.{ConfigValues}
-pub use Rattle.world_config.specs.Values.{values_in}
+pub use Rattle.world_config.specs.Values.{values_in_table}
 
 -- what the members say, where their events have forms
 abbrev pub values_with : Members → Result (List EventValue) ℕ → Result ConfigValues ConfigStop
-values_with ms (Ok happening) = Ok (values_in ms happening)
+values_with ms (Ok happening) = Ok (values_in_table ms happening)
 values_with ms (Err nth) = Err (BadEvent nth)
 
 -- these values, unless there is a refusal

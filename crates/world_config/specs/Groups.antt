@@ -5,11 +5,11 @@ use Rattle.toml.specs.Data.{Data, string, integer, boolean, array, Members}
 use Rattle.genome.specs.GenomeText.{letters_text_of}
 use Rattle.world_config.specs.declared.key.Key.{Key}
 use Rattle.world_config.specs.declared.key.Key.TheVariants as code
-use Rattle.world_config.specs.declared.groups.Place.{Place}
-use Rattle.world_config.specs.declared.groups.Life.{Life}
-use Rattle.world_config.specs.declared.groups.Errors.{Errors}
-use Rattle.world_config.specs.declared.groups.Divide.{Divide}
-use Rattle.world_config.specs.declared.groups.Lengths.{Lengths}
+use Rattle.world_config.specs.declared.groups.PlaceKeys.{PlaceKeys}
+use Rattle.world_config.specs.declared.groups.LifeKeys.{LifeKeys}
+use Rattle.world_config.specs.declared.groups.ErrorKeys.{ErrorKeys}
+use Rattle.world_config.specs.declared.groups.DivideKeys.{DivideKeys}
+use Rattle.world_config.specs.declared.groups.LengthKeys.{LengthKeys}
 use Rattle.world_config.specs.declared.numbers.Numbers.{Numbers}
 use Rattle.world_config.specs.KeyTable.{Frame}
 use Rattle.world_config.specs.Bounds.{frame_of}
@@ -18,7 +18,7 @@ use Rattle.world_config.specs.Values.{ConfigValues}
 use Rattle.world_config.specs.EventTables.{items_for}
 
 -- these are the members' values at the keys of where and how long a run goes
-pub record ArePlace (ms : Members) (place : Place) : Type 0 where
+pub record ArePlace (ms : Members) (place : PlaceKeys) : Type 0 where
   pub width : number_at (frame_in ms) code.Width ms ≡ place.width
   pub height : number_at (frame_in ms) code.Height ms ≡ place.height
   pub updates : number_at (frame_in ms) code.Updates ms ≡ place.updates
@@ -26,13 +26,13 @@ pub record ArePlace (ms : Members) (place : Place) : Type 0 where
   pub founder_cell : number_at (frame_in ms) code.FounderCell ms ≡ place.founder_cell
 
 -- these are the members' values at the keys of how long an organism runs and lives
-pub record AreLife (ms : Members) (life : Life) : Type 0 where
+pub record AreLife (ms : Members) (life : LifeKeys) : Type 0 where
   pub average_slices : number_at (frame_in ms) code.AverageSlices ms ≡ life.average_slices
   pub death : flag_at code.Death ms ≡ life.death
   pub age_limit : number_at (frame_in ms) code.AgeLimit ms ≡ life.age_limit
 
 -- these are the members' values at the keys of the six rates
-pub record AreErrors (ms : Members) (errors : Errors) : Type 0 where
+pub record AreErrors (ms : Members) (errors : ErrorKeys) : Type 0 where
   pub copy_error : number_at (frame_in ms) code.CopyError ms ≡ errors.copy_error
   pub divide_insert : number_at (frame_in ms) code.DivideInsert ms ≡ errors.divide_insert
   pub divide_delete : number_at (frame_in ms) code.DivideDelete ms ≡ errors.divide_delete
@@ -41,14 +41,14 @@ pub record AreErrors (ms : Members) (errors : Errors) : Type 0 where
   pub site_delete : number_at (frame_in ms) code.SiteDelete ms ≡ errors.site_delete
 
 -- these are the members' values at the keys of what a birth asks
-pub record AreDivide (ms : Members) (divide : Divide) : Type 0 where
+pub record AreDivide (ms : Members) (divide : DivideKeys) : Type 0 where
   pub prefer_empty : flag_at code.PreferEmpty ms ≡ divide.prefer_empty
   pub need_alloc : flag_at code.NeedAlloc ms ≡ divide.need_alloc
   pub executed_percent : number_at (frame_in ms) code.ExecutedPercent ms ≡ divide.executed_percent
   pub copied_percent : number_at (frame_in ms) code.CopiedPercent ms ≡ divide.copied_percent
 
 -- these are the members' values at the keys of the lengths
-pub record AreLengths (ms : Members) (lengths : Lengths) : Type 0 where
+pub record AreLengths (ms : Members) (lengths : LengthKeys) : Type 0 where
   pub least_length : number_at (frame_in ms) code.LeastLength ms ≡ lengths.least_length
   pub greatest_length : number_at (frame_in ms) code.GreatestLength ms ≡ lengths.greatest_length
   pub memory_limit : number_at (frame_in ms) code.MemoryLimit ms ≡ lengths.memory_limit

@@ -36,8 +36,8 @@ pub record ConfigValues : Type 0 where
   pub event : List EventValue
 
 -- what a table says at its keys, with these events
-abbrev pub values_in : Members → List EventValue → ConfigValues
-values_in ms happening = record {
+abbrev pub values_in_table : Members → List EventValue → ConfigValues
+values_in_table ms happening = record {
   width = number_at (frame_in ms) code.Width ms;
   height = number_at (frame_in ms) code.Height ms;
   updates = number_at (frame_in ms) code.Updates ms;

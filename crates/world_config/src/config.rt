@@ -69,7 +69,7 @@ impl Config {
     ghost use Rattle.toml.specs.Data.{Members, no_members};
     ghost use Rattle.toml.specs.View.{view};
     ghost use Rattle.world_config.specs.Lookup.{genome_at};
-    ghost use Rattle.world_config.specs.Config.{config_in, values_in};
+    ghost use Rattle.world_config.specs.Config.{config_in, values_in_table};
     ghost use Rattle.world_config.specs.Groups.{AreNumbers, numbers_frame, printed_at};
     ghost use Rattle.world_config.specs.Shown.{values_of};
 
@@ -80,7 +80,7 @@ impl Config {
         requires event_bounds { AreEvents (numbers_frame numbers.now) (event_values event) }
         ensures { (ms : Members) → AreNumbers ms numbers.now
             → genome_at Key.Ancestor ms ≡ letters ancestor
-            → values_in ms (event_values event) ≡ values_of result }
+            → values_in_table ms (event_values event) ≡ values_of result }
     {
         let Numbers {
             place,

@@ -15,7 +15,7 @@ use toml::Table;
 
 /// Where and how long a run goes.
 #[derive(Clone, Copy)]
-pub(crate) struct Place {
+pub(crate) struct PlaceKeys {
     pub width: u32,
     pub height: u32,
     pub updates: u32,
@@ -30,7 +30,7 @@ pub(crate) struct Place {
 
 /// How long an organism runs and lives.
 #[derive(Clone, Copy)]
-pub(crate) struct Life {
+pub(crate) struct LifeKeys {
     pub average_slices: u32,
     pub death: bool,
     pub age_limit: u32,
@@ -40,7 +40,7 @@ pub(crate) struct Life {
 
 /// The six rates of errors.
 #[derive(Clone, Copy)]
-pub(crate) struct Errors {
+pub(crate) struct ErrorKeys {
     pub copy_error: u32,
     pub divide_insert: u32,
     pub divide_delete: u32,
@@ -57,7 +57,7 @@ pub(crate) struct Errors {
 
 /// What a birth asks.
 #[derive(Clone, Copy)]
-pub(crate) struct Divide {
+pub(crate) struct DivideKeys {
     pub prefer_empty: bool,
     pub need_alloc: bool,
     pub executed_percent: u32,
@@ -68,7 +68,7 @@ pub(crate) struct Divide {
 
 /// The lengths of genomes and of memory.
 #[derive(Clone, Copy)]
-pub(crate) struct Lengths {
+pub(crate) struct LengthKeys {
     pub least_length: u32,
     pub greatest_length: u32,
     pub memory_limit: u32,
@@ -77,13 +77,13 @@ pub(crate) struct Lengths {
     ghost memory_limit_bounds: { IsWithin greatest_length 8192 memory_limit },
 }
 
-impl Place {
+impl PlaceKeys {
     ghost use Rattle.world_config.specs.Refusal.{first_refusal};
     ghost use Rattle.world_config.specs.KeyTable.{place_keys};
     ghost use Rattle.world_config.specs.Groups.{ArePlace};
 
     #[tactic(auto, unfolding(crate::specs::Refusal::refusal_at, crate::specs::Lookup::number_at))]
-    pub(crate) fn read(table: &Table) -> Result<Place, ConfigStop>
+    pub(crate) fn read(table: &Table) -> Result<PlaceKeys, ConfigStop>
         ensures value { IfOk result (ArePlace (table_view table.now)) }
         ensures accepted { OnOk result (first_refusal place_keys (table_view table.now) ≡ None) }
         ensures refused { IfErr result (λ stop. first_refusal place_keys (table_view table.now)
@@ -94,7 +94,7 @@ impl Place {
         let updates = number(table, Key::Updates, 100, 0, GREATEST_UPDATES)?;
         let seed = long_number(table, Key::Seed, 1, 0, GREATEST_SEED)?;
         let founder_cell = number(table, Key::FounderCell, 0, 0, width * height - 1)?;
-        Ok(Place {
+        Ok(PlaceKeys {
             width,
             height,
             updates,
@@ -104,19 +104,19 @@ impl Place {
     }
 }
 
-impl Life {
+impl LifeKeys {
     ghost use Rattle.world_config.specs.Refusal.{first_refusal};
     ghost use Rattle.world_config.specs.KeyTable.{life_keys};
     ghost use Rattle.world_config.specs.Groups.{AreLife};
 
     #[tactic(auto, unfolding(crate::specs::Refusal::refusal_at, crate::specs::Lookup::number_at, crate::specs::Lookup::flag_at))]
-    pub(crate) fn read(table: &Table) -> Result<Life, ConfigStop>
+    pub(crate) fn read(table: &Table) -> Result<LifeKeys, ConfigStop>
         ensures value { IfOk result (AreLife (table_view table.now)) }
         ensures accepted { OnOk result (first_refusal life_keys (table_view table.now) ≡ None) }
         ensures refused { IfErr result (λ stop. first_refusal life_keys (table_view table.now)
             ≡ Some stop) }
     {
-        Ok(Life {
+        Ok(LifeKeys {
             average_slices: number(table, Key::AverageSlices, 30, 1, GREATEST_AVERAGE)?,
             death: flag(table, Key::Death, true)?,
             age_limit: number(table, Key::AgeLimit, 20, 1, GREATEST_AGE)?,
@@ -124,19 +124,19 @@ impl Life {
     }
 }
 
-impl Errors {
+impl ErrorKeys {
     ghost use Rattle.world_config.specs.Refusal.{first_refusal};
     ghost use Rattle.world_config.specs.KeyTable.{error_keys};
     ghost use Rattle.world_config.specs.Groups.{AreErrors};
 
     #[tactic(auto, unfolding(crate::specs::Refusal::refusal_at, crate::specs::Lookup::number_at))]
-    pub(crate) fn read(table: &Table) -> Result<Errors, ConfigStop>
+    pub(crate) fn read(table: &Table) -> Result<ErrorKeys, ConfigStop>
         ensures value { IfOk result (AreErrors (table_view table.now)) }
         ensures accepted { OnOk result (first_refusal error_keys (table_view table.now) ≡ None) }
         ensures refused { IfErr result (λ stop. first_refusal error_keys (table_view table.now)
             ≡ Some stop) }
     {
-        Ok(Errors {
+        Ok(ErrorKeys {
             copy_error: number(table, Key::CopyError, 7500, 0, MILLION)?,
             divide_insert: number(table, Key::DivideInsert, 50000, 0, MILLION)?,
             divide_delete: number(table, Key::DivideDelete, 50000, 0, MILLION)?,
@@ -147,19 +147,19 @@ impl Errors {
     }
 }
 
-impl Divide {
+impl DivideKeys {
     ghost use Rattle.world_config.specs.Refusal.{first_refusal};
     ghost use Rattle.world_config.specs.KeyTable.{divide_keys};
     ghost use Rattle.world_config.specs.Groups.{AreDivide};
 
     #[tactic(auto, unfolding(crate::specs::Refusal::refusal_at, crate::specs::Lookup::number_at, crate::specs::Lookup::flag_at))]
-    pub(crate) fn read(table: &Table) -> Result<Divide, ConfigStop>
+    pub(crate) fn read(table: &Table) -> Result<DivideKeys, ConfigStop>
         ensures value { IfOk result (AreDivide (table_view table.now)) }
         ensures accepted { OnOk result (first_refusal divide_keys (table_view table.now) ≡ None) }
         ensures refused { IfErr result (λ stop. first_refusal divide_keys (table_view table.now)
             ≡ Some stop) }
     {
-        Ok(Divide {
+        Ok(DivideKeys {
             prefer_empty: flag(table, Key::PreferEmpty, true)?,
             need_alloc: flag(table, Key::NeedAlloc, true)?,
             executed_percent: number(table, Key::ExecutedPercent, 50, 1, GREATEST_PERCENT)?,
@@ -168,13 +168,13 @@ impl Divide {
     }
 }
 
-impl Lengths {
+impl LengthKeys {
     ghost use Rattle.world_config.specs.Refusal.{first_refusal};
     ghost use Rattle.world_config.specs.KeyTable.{length_keys};
     ghost use Rattle.world_config.specs.Groups.{AreLengths};
 
     #[tactic(auto, unfolding(crate::specs::Refusal::refusal_at, crate::specs::Lookup::number_at))]
-    pub(crate) fn read(table: &Table) -> Result<Lengths, ConfigStop>
+    pub(crate) fn read(table: &Table) -> Result<LengthKeys, ConfigStop>
         ensures value { IfOk result (AreLengths (table_view table.now)) }
         ensures accepted { OnOk result (first_refusal length_keys (table_view table.now) ≡ None) }
         ensures refused { IfErr result (λ stop. first_refusal length_keys (table_view table.now)
@@ -196,7 +196,7 @@ impl Lengths {
             greatest_length,
             GREATEST_LENGTH,
         )?;
-        Ok(Lengths {
+        Ok(LengthKeys {
             least_length,
             greatest_length,
             memory_limit,

@@ -3,18 +3,18 @@ ghost use Rattle.std.specs.Prelude.{◌≡◌, None, Some, IfOk, IfErr, OnOk};
 ghost use Rattle.toml.specs.View.{table_view};
 
 use crate::event_forms::Frame;
-use crate::groups::{Divide, Errors, Lengths, Life, Place};
+use crate::groups::{DivideKeys, ErrorKeys, LengthKeys, LifeKeys, PlaceKeys};
 use crate::stop::ConfigStop;
 use toml::Table;
 
 /// The values of the keys before the ancestor.
 #[derive(Clone, Copy)]
 pub(crate) struct Numbers {
-    pub place: Place,
-    pub life: Life,
-    pub errors: Errors,
-    pub divide: Divide,
-    pub lengths: Lengths,
+    pub place: PlaceKeys,
+    pub life: LifeKeys,
+    pub errors: ErrorKeys,
+    pub divide: DivideKeys,
+    pub lengths: LengthKeys,
 }
 
 impl Numbers {
@@ -30,11 +30,11 @@ impl Numbers {
             ≡ Some stop) }
     {
         Ok(Numbers {
-            place: Place::read(table)?,
-            life: Life::read(table)?,
-            errors: Errors::read(table)?,
-            divide: Divide::read(table)?,
-            lengths: Lengths::read(table)?,
+            place: PlaceKeys::read(table)?,
+            life: LifeKeys::read(table)?,
+            errors: ErrorKeys::read(table)?,
+            divide: DivideKeys::read(table)?,
+            lengths: LengthKeys::read(table)?,
         })
     }
 

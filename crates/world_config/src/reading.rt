@@ -16,7 +16,7 @@ ghost use Rattle.world_config.specs.Shown.{values_of};
 
 use crate::config::Config;
 use crate::event_forms::events;
-use crate::groups::Lengths;
+use crate::groups::LengthKeys;
 use crate::key::Key;
 use crate::key_text::KeyText;
 use crate::limits::MOST_EVENTS;
@@ -46,7 +46,7 @@ fn genome_in(alloc: Global, text: &str) -> Result<Genome, ConfigStop>
 }
 
 /// The ancestor, within the two lengths.
-fn ancestor_in(alloc: Global, table: &Table, lengths: &Lengths) -> Result<Genome, ConfigStop>
+fn ancestor_in(alloc: Global, table: &Table, lengths: &LengthKeys) -> Result<Genome, ConfigStop>
     ensures value { IfOk result (λ genome.
         letters_of_value (value_or Key.Ancestor (string default_ancestor) (table_view table.now))
         ≡ letters genome) }

@@ -18,7 +18,7 @@ use Rattle.world_rules.specs.Update.{births_of}
 use Rattle.world_rules.specs.World.{Occupant}
 use Rattle.world_laws.specs.Keeping.{LiveOn}
 use Rattle.world_core.specs.Lived.{staying_in}
-use Rattle.world_core.specs.Population.{genome_of}
+use Rattle.world_core.specs.Population.{occupant_genome}
 use Rattle.world_core.specs.Soundness.{AreBounded, AreBoundedLives, IsBoundedIn}
 use Rattle.world_core.proofs.LifeLemmas.{greatest_of}
 use Rattle.world_core.proofs.LivesLemmas.{FitsMachine, births_of-few, births_of-fit, births_of-rise}
@@ -27,7 +27,7 @@ use Rattle.world_core.proofs.LivesLemmas.{FitsMachine, births_of-few, births_of-
 pub record KeepsBounds (config : ConfigValues) (update steps : ℕ) (slot : Option Occupant)
     (l : CellLife) : Type 0 where
   pub cell : IsBoundedIn (update + 1) l.occupant
-  pub genome : genome_of l.occupant ≡ genome_of slot
+  pub genome : occupant_genome l.occupant ≡ occupant_genome slot
   pub few : length l.newborns ≤ steps
   pub newborns : All (FitsMachine config) l.newborns
 
@@ -41,6 +41,7 @@ module _ (config : ConfigValues) (update : ℕ) (cells : List (Option Occupant))
     (sound : AreBounded update cells)
     (lasting : LiveOn config (record { update = update; cells = cells; everyone = [] }))
     (few : (cell : ℕ) → slice_at config cells cell < 2 ^ 27) where
+  -- the life of a cell keeps the bounds of who stands there, if somebody does
   life-keeps : (cell : ℕ) → cell < length cells → (slot : Option Occupant)
       → get_or cells cell None ≡ slot
       → KeepsBounds config update (slice_at config cells cell) slot

@@ -9,7 +9,7 @@ use Rattle.logic_tasks.specs.TaskSet.{has_task}
 use Rattle.organism.specs.OrganismState.{OrganismState}
 use Rattle.world_rules.specs.Lives.{merit_in}
 use Rattle.world_rules.specs.World.{Occupant}
-use Rattle.world_core.specs.Population.{CanCountAgain, CountsAgain, IsKeptOf, genome_of, genomes_of, is_credited, merit_of}
+use Rattle.world_core.specs.Population.{CanCountAgain, CountsAgain, IsKeptOf, is_credited, merit_or_zero, occupant_genome, occupant_genomes}
 use Rattle.world_core.specs.Residents.{with_id}
 use Rattle.world_core.proofs.KeptOfLemmas.{IsKeptOf-empty, IsKeptOf-lived, IsKeptOf-removed, can-remove}
 use Rattle.world_core.proofs.StandingLemmas.{OneList}
@@ -26,7 +26,7 @@ module _ (one_list : OneList) (cells : List (Option Occupant)) (genomes : List (
     (kept : IsKeptOf cells genomes keys before) where
   -- who stood in the cell may be counted again
   pub can-count : (was now : Option OrganismState) → get_or cells cell None ≡ with_id id was
-      → GoesOn was now → CanCountAgain before (get_or keys cell 0) (merit_of was)
+      → GoesOn was now → CanCountAgain before (get_or keys cell 0) (merit_or_zero was)
       (option_map (λ o. o.credited) was) now
   can-count None now here goes = tt
   can-count (Some o) None here goes =
@@ -40,7 +40,7 @@ module _ (one_list : OneList) (cells : List (Option Occupant)) (genomes : List (
 
   -- and what is kept is that of who stands there now
   pub counted-again : (was now : Option OrganismState) → get_or cells cell None ≡ with_id id was
-      → GoesOn was now → CountsAgain before after (get_or keys cell 0) (merit_of was)
+      → GoesOn was now → CountsAgain before after (get_or keys cell 0) (merit_or_zero was)
       (option_map (λ o. o.credited) was) now
       → IsKeptOf (set cells cell (with_id id now)) genomes keys after
   counted-again None None here goes counted =
@@ -55,9 +55,9 @@ module _ (one_list : OneList) (cells : List (Option Occupant)) (genomes : List (
   counted-again (Some o) (Some next) here goes counted =
       let first : Occupant = record { id = id; organism = o } in
       let last : Occupant = record { id = id; organism = next } in
-      let standing : genomes_of (set cells cell (Some last)) ≡ genomes_of cells =
-      map-set_same genome_of cells cell (Some last) None
-      (ap Some (goes.genome o next refl refl) ∙ sym (ap genome_of here)) in
+      let standing : occupant_genomes (set cells cell (Some last)) ≡ occupant_genomes cells =
+      map-set_same occupant_genome cells cell (Some last) None
+      (ap Some (goes.genome o next refl refl) ∙ sym (ap occupant_genome here)) in
       elim counted [
         | inl is ↦
             IsKeptOf-lived cells (set cells cell (Some last)) genomes keys before after kept

@@ -20,22 +20,6 @@ pub record HaveCut (seat : SeatValue) (cells : List (Option OrganismState)) (sli
   pub seat_is : now ≡ seat_without seat (length jobs)
   pub seats : All (λ job. job.seat ≡ seat_from seat) (reverse jobs)
 
--- none were cut off
-pub cut-none : (seat : SeatValue) (cells : List (Option OrganismState)) (slices : List ℕ)
-    (jobs : List Job) → jobs ≡ [] → length slices ≡ length cells
-    → HaveCut seat cells slices jobs cells slices seat
-cut-none seat cells slices jobs none long =
-    subst (λ jobs. HaveCut seat cells slices jobs cells slices seat) (sym none) (record {
-      beside = tt;
-      cells_are = append-nil cells;
-      slices_are = append-nil slices;
-      long = long;
-      seat_is =
-          (let same : seat.share ≡ seat.share - 0 = omega arith in
-          λ i. record seat { share = same i });
-      seats = All-nil (λ (job : Job). job.seat ≡ seat_from seat);
-    })
-
 -- the jobs in order, with one more in front
 jobs-push : (jobs : List Job) (job : Job) → reverse (jobs ++ job ∷ []) ≡ job ∷ reverse jobs
 jobs-push jobs job = reverse-append jobs (job ∷ [])
@@ -88,23 +72,3 @@ module _ (seat : SeatValue) (cells : List (Option OrganismState)) (slices : List
             (All-cons (λ (job : Job). job.seat ≡ seat_from seat) job (reverse jobs)
             (seat_is ∙ ap seat_from cut.seat_is) cut.seats);
       }
-
-  -- the first job has what is left
-  pub cut-all : (next all : List Job) → job.first ≡ 0 → job.cells ≡ left → job.slices ≡ steps
-      → job.seat ≡ now → next ≡ jobs ++ job ∷ [] → all ≡ reverse next → PartCells all cells slices
-      × ShareSeat seat all
-  cut-all next all first_is cells_is slices_is seat_is next_is all_is =
-      let ordered : all ≡ job ∷ reverse jobs = all_is ∙ ap reverse next_is ∙ jobs-push jobs job in
-      let end : length left ≡ 0 + length job.cells = omega (arith, ap length cells_is) in (
-        subst (λ js. PartCells js cells slices) (sym ordered) (record {
-          beside = (
-            first_is,
-            omega (arith, ap length slices_is, ap length cells_is, cut.long),
-            subst (λ n. LieSideBySide n (reverse jobs)) end cut.beside,
-          );
-          cells_are = ap (λ front. front ++ cells_in (reverse jobs)) cells_is ∙ cut.cells_are;
-          slices_are = ap (λ front. front ++ slices_in (reverse jobs)) slices_is ∙ cut.slices_are;
-        }),
-        subst (ShareSeat seat) (sym ordered)
-            (seat_is ∙ cut.seat_is ∙ ap (seat_without seat) (sym (length-reverse jobs)), cut.seats),
-      )

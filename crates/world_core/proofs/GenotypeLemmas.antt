@@ -52,6 +52,7 @@ next_len n birth = cond (nat_lt birth.handle.number n) n (birth.handle.number + 
 next-above : (n : ℕ) (birth : Delivered) → (n ≤ next_len n birth)
     × (birth.handle.number < next_len n birth)
 next-above n birth = by (nat_lt birth.handle.number n) refl where
+  -- for a number below n, or one that isn't
   by : (b : Bool) → nat_lt birth.handle.number n ≡ b → (n ≤ cond b n (birth.handle.number + 1))
       × (birth.handle.number < cond b n (birth.handle.number + 1))
   by true is = (omega arith, ltb-true birth.handle.number n is)
@@ -61,6 +62,7 @@ next-above n birth = by (nat_lt birth.handle.number n) refl where
 next-within : (n most : ℕ) (birth : Delivered) → n ≤ most → birth.handle.number < most
     → next_len n birth ≤ most
 next-within n most birth few below = by (nat_lt birth.handle.number n) where
+  -- for a number below n, or one that isn't
   by : (b : Bool) → cond b n (birth.handle.number + 1) ≤ most
   by true = few
   by false = omega (arith, below)
@@ -113,15 +115,18 @@ newborn-of P (birth ∷ births) genome all (suc k, within, is) =
 pub len-taken : (old new : List (List Letter)) (births : List Delivered) → TakesIn old new births
     → AreDifferent new → fold next_len (length old) births ≡ length new
 len-taken old new births takes different = by (cases_lt most (length new)) where
+  -- how many genotypes have a number once all newborns have theirs
   most : ℕ
   most = fold next_len (length old) births
 
+  -- they are no more than the genomes taken in
   within : most ≤ length new
   within =
       len-within (length old) (length new) births
       (omega (arith, length-append old takes.stays.0, ap length takes.stays.1))
       (λ k d inside. number-within new _ _ (takes.numbers k d inside))
 
+  -- whether they are taken for fewer or not, they are as many
   by : (most < length new) ⊎ (length new ≤ most) → most ≡ length new
   by (inr above) = omega (arith, above, within)
   by (inl below) =

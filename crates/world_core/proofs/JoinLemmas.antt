@@ -8,12 +8,12 @@ use Rattle.std.proofs.lemmas.List.Elements.{All-cons, All-head, All-nil, All-tai
 use Rattle.std.proofs.lemmas.List.Sorted.{IsPermutation-refl, IsPermutation-sym}
 use Rattle.std.proofs.lemmas.List.Sums.{sum_by-cons}
 use mathlib.Core.List.{IsPrefix}
-use Rattle.cell_shards.specs.CellLives.{CellLife, IsYoung, RoundNumbers, births_from, deaths_from, left_in, lives_of, part_from}
+use Rattle.cell_shards.specs.CellLives.{IsYoung, RoundNumbers, ShardLife, births_from, deaths_from, left_in, part_from, shard_lives_of}
 use Rattle.cell_shards.specs.Finishing.{AreFinished, CanRun, IsFinished, IsNumbered, birth_of, call_for, genome_in, part_of}
 use Rattle.cell_shards.specs.declared.delivered.Delivered.{Delivered}
 use Rattle.cell_shards.specs.declared.finished.Finished.{Finished}
 use Rattle.cell_shards.specs.declared.job.Job.{Job}
-use Rattle.genotype_bank.specs.BankHistory.{HasEachOnce, calls_under, genome_of, genomes_of, genotypes_of}
+use Rattle.genotype_bank.specs.BankHistory.{HasEachOnce, calls_under, genomes_of, genotypes_of, interned_genome}
 use Rattle.genotype_bank.specs.Seats.{SeatValue, own_calls_of}
 use Rattle.genotype_bank.specs.declared.view.Entry.{Entry}
 use Rattle.instruction_set.specs.declared.letter.Letter.{Letter}
@@ -24,19 +24,24 @@ use Rattle.world_core.specs.Sharding.{IsJoined, LieSideBySide, PartCells, ShareS
 -- what the crate of shards says of parts that lie side by side, in its own words
 abbrev pub PartsLaws : Type 0
 PartsLaws = record {
+  -- the lives of cells side by side are those of the first ones, then those of the others
   lives : (round : RoundNumbers) (first : ℕ) (cells others : List (Option OrganismState))
       (slices more : List ℕ) → length slices ≡ length cells
-      → lives_of round (part_from first (cells ++ others) (slices ++ more))
-      ≡ lives_of round (part_from first cells slices)
-      ++ lives_of round (part_from (first + length cells) others more);
-  births : (first : ℕ) (lives more : List CellLife)
+      → shard_lives_of round (part_from first (cells ++ others) (slices ++ more))
+      ≡ shard_lives_of round (part_from first cells slices)
+      ++ shard_lives_of round (part_from (first + length cells) others more);
+  -- so are the newborns of lives side by side
+  births : (first : ℕ) (lives more : List ShardLife)
       → births_from first (lives ++ more) ≡ births_from first lives
       ++ births_from (first + length lives) more;
-  deaths : (first : ℕ) (lives more : List CellLife)
+  -- so are the cells of those that died in them
+  deaths : (first : ℕ) (lives more : List ShardLife)
       → deaths_from first (lives ++ more) ≡ deaths_from first lives
       ++ deaths_from (first + length lives) more;
+  -- there are as many lives as cells
   count : (round : RoundNumbers) (first : ℕ) (cells : List (Option OrganismState))
-      (slices : List ℕ) → length (lives_of round (part_from first cells slices)) ≡ length cells;
+      (slices : List ℕ) → length (shard_lives_of round (part_from first cells slices))
+      ≡ length cells;
 }
 
 -- the cells of some jobs
@@ -105,16 +110,17 @@ no-calls (one ∷ seen) = no-calls seen
 -- the genomes of calls that interned newborns
 calls-genomes : (calls : List Entry) (births : List Delivered)
     → map (λ call. call.call) calls ≡ map call_for births → genomes_of calls ≡ map genome_in births
-calls-genomes calls births same = alone calls ∙ ap (filter_map genome_of) same ∙ called births where
-  alone : (calls : List Entry)
-      → genomes_of calls ≡ filter_map genome_of (map (λ call. call.call) calls)
-  alone [] = refl
-  alone (call ∷ calls) = ap (cons_option (genome_of call.call)) (alone calls)
+calls-genomes calls births same =
+    alone calls ∙ ap (filter_map interned_genome) same ∙ called births where
+      alone : (calls : List Entry)
+          → genomes_of calls ≡ filter_map interned_genome (map (λ call. call.call) calls)
+      alone [] = refl
+      alone (call ∷ calls) = ap (cons_option (interned_genome call.call)) (alone calls)
 
-  called : (births : List Delivered)
-      → filter_map genome_of (map call_for births) ≡ map genome_in births
-  called [] = refl
-  called (birth ∷ births) = ap (λ rest. genome_in birth ∷ rest) (called births)
+      called : (births : List Delivered)
+          → filter_map interned_genome (map call_for births) ≡ map genome_in births
+      called [] = refl
+      called (birth ∷ births) = ap (λ rest. genome_in birth ∷ rest) (called births)
 
 -- the own calls of shards
 abbrev pub calls_in : List Finished → List Entry
@@ -122,17 +128,17 @@ calls_in all = flat_map (λ one. own_calls_of one.seat) all
 
 module _ (laws : PartsLaws) (round : RoundNumbers) where
   -- the lives of some jobs, one job after another
-  abbrev pub lives_in : List Job → List CellLife
-  lives_in jobs = flat_map (λ job. lives_of round (part_of job)) jobs
+  abbrev pub lives_in : List Job → List ShardLife
+  lives_in jobs = flat_map (λ job. shard_lives_of round (part_of job)) jobs
 
   -- they are the lives of all cells
   jobs-live : (first : ℕ) (jobs : List Job) → LieSideBySide first jobs
-      → lives_of round (part_from first (cells_in jobs) (slices_in jobs)) ≡ lives_in jobs
-  unfolding lives_of
+      → shard_lives_of round (part_from first (cells_in jobs) (slices_in jobs)) ≡ lives_in jobs
+  unfolding shard_lives_of
   jobs-live first [] beside = refl
   jobs-live first (job ∷ jobs) beside =
       laws.lives round first job.cells (cells_in jobs) job.slices (slices_in jobs) beside.1
-      ∙ (λ i. lives_of round (part_from (sym beside.0 i) job.cells job.slices)
+      ∙ (λ i. shard_lives_of round (part_from (sym beside.0 i) job.cells job.slices)
       ++ jobs-live (first + length job.cells) jobs beside.2 i)
 
   -- what the shards leave in the cells is what those lives leave
@@ -143,7 +149,7 @@ module _ (laws : PartsLaws) (round : RoundNumbers) where
   cells-joined (job ∷ jobs) [] are = absurd are
   cells-joined (job ∷ jobs) (one ∷ all) are =
       (λ i. are.0.cells i ++ cells-joined jobs all are.1 i)
-      ∙ sym (map-append left_in (lives_of round (part_of job)) (lives_in jobs))
+      ∙ sym (map-append left_in (shard_lives_of round (part_of job)) (lives_in jobs))
 
   -- so are the newborns
   births-joined : (first : ℕ) (jobs : List Job) (all : List Finished) → LieSideBySide first jobs
@@ -154,13 +160,14 @@ module _ (laws : PartsLaws) (round : RoundNumbers) where
   births-joined first [] (one ∷ all) beside are = absurd are
   births-joined first (job ∷ jobs) [] beside are = absurd are
   births-joined first (job ∷ jobs) (one ∷ all) beside are =
-      let many : first + length job.cells ≡ first + length (lives_of round (part_of job)) =
+      let many : first + length job.cells ≡ first + length (shard_lives_of round (part_of job)) =
       omega (arith, laws.count round job.first job.cells job.slices) in
       map-append birth_of one.births (flat_map (λ one. one.births) all)
-      ∙ (λ i. (are.0.births ∙ ap (λ n. births_from n (lives_of round (part_of job))) beside.0) i
+      ∙ (λ i. (are.0.births ∙ ap (λ n. births_from n (shard_lives_of round (part_of job)))
+      beside.0) i
       ++ (births-joined (first + length job.cells) jobs all beside.2 are.1
       ∙ ap (λ n. births_from n (lives_in jobs)) many) i)
-      ∙ sym (laws.births first (lives_of round (part_of job)) (lives_in jobs))
+      ∙ sym (laws.births first (shard_lives_of round (part_of job)) (lives_in jobs))
 
   -- and the dead
   dead-joined : (first : ℕ) (jobs : List Job) (all : List Finished) → LieSideBySide first jobs
@@ -171,12 +178,12 @@ module _ (laws : PartsLaws) (round : RoundNumbers) where
   dead-joined first [] (one ∷ all) beside are = absurd are
   dead-joined first (job ∷ jobs) [] beside are = absurd are
   dead-joined first (job ∷ jobs) (one ∷ all) beside are =
-      let many : first + length job.cells ≡ first + length (lives_of round (part_of job)) =
+      let many : first + length job.cells ≡ first + length (shard_lives_of round (part_of job)) =
       omega (arith, laws.count round job.first job.cells job.slices) in
-      (λ i. (are.0.dead ∙ ap (λ n. deaths_from n (lives_of round (part_of job))) beside.0) i
+      (λ i. (are.0.dead ∙ ap (λ n. deaths_from n (shard_lives_of round (part_of job))) beside.0) i
       ++ (dead-joined (first + length job.cells) jobs all beside.2 are.1
       ∙ ap (λ n. deaths_from n (lives_in jobs)) many) i)
-      ∙ sym (laws.deaths first (lives_of round (part_of job)) (lives_in jobs))
+      ∙ sym (laws.deaths first (shard_lives_of round (part_of job)) (lives_in jobs))
 
   module _ (seat : SeatValue) where
     -- the shards behind the first give their shares back
@@ -208,7 +215,7 @@ module _ (laws : PartsLaws) (round : RoundNumbers) where
         let interned = are.0.seat in
         let own : own_calls_of one.seat ≡ interned.calls = interned.own
         ∙ ap (λ calls. calls ++ interned.calls) (ap own_calls_of here ∙ no-calls seat.seen) in
-        filter_map-append (λ (one : Entry). genome_of one.call) (own_calls_of one.seat)
+        filter_map-append (λ (one : Entry). interned_genome one.call) (own_calls_of one.seat)
         (calls_in all)
         ∙ (λ i. (ap genomes_of own ∙ calls-genomes interned.calls one.births interned.interned) i
         ++ genomes-joined jobs all (All-tail (λ job. job.seat ≡ seat_from seat) job jobs new)
@@ -218,9 +225,10 @@ module _ (laws : PartsLaws) (round : RoundNumbers) where
 -- what the shards of some cells come to, as one
 pub record EndsAs (round : RoundNumbers) (seat : SeatValue) (cells : List (Option OrganismState))
     (slices : List ℕ) (whole : Finished) : Type 0 where
-  pub left : whole.cells ≡ map left_in (lives_of round (part_from 0 cells slices))
-  pub births : map birth_of whole.births ≡ births_from 0 (lives_of round (part_from 0 cells slices))
-  pub dead : whole.dead ≡ deaths_from 0 (lives_of round (part_from 0 cells slices))
+  pub left : whole.cells ≡ map left_in (shard_lives_of round (part_from 0 cells slices))
+  pub births : map birth_of whole.births
+      ≡ births_from 0 (shard_lives_of round (part_from 0 cells slices))
+  pub dead : whole.dead ≡ deaths_from 0 (shard_lives_of round (part_from 0 cells slices))
   pub bank : whole.seat.bank ≡ seat.bank
   pub share : whole.seat.share ≡ seat.share
   pub seen : IsPrefix seat.seen whole.seat.seen
@@ -249,8 +257,9 @@ ends-as laws round seat cells slices (job ∷ jobs) (first ∷ others) whole par
     joined =
     let are = each-finished round (job ∷ jobs) (first ∷ others) finished in
     let is = joined first others refl in
-    let whole_lives : lives_of round (part_from 0 cells slices) ≡ lives_in laws round (job ∷ jobs) =
-    (λ i. lives_of round (part_from 0 (sym parts.cells_are i) (sym parts.slices_are i)))
+    let whole_lives : shard_lives_of round (part_from 0 cells slices)
+    ≡ lives_in laws round (job ∷ jobs) =
+    (λ i. shard_lives_of round (part_from 0 (sym parts.cells_are i) (sym parts.slices_are i)))
     ∙ jobs-live laws round 0 (job ∷ jobs) parts.beside in
     let interned = are.0.seat in
     let kept : own_calls_of job.seat ≡ own_calls_of seat = ap own_calls_of shares.0 in
@@ -276,10 +285,11 @@ ends-as laws round seat cells slices (job ∷ jobs) (first ∷ others) whole par
           is.seen;
       calls = own_calls_of first.seat ++ calls_in others;
       own = is.own;
-      genomes = filter_map-append (λ (one : Entry). genome_of one.call) (own_calls_of first.seat)
+      genomes = filter_map-append (λ (one : Entry). interned_genome one.call)
+          (own_calls_of first.seat)
           (calls_in others)
           ∙ (λ i. (ap genomes_of interned.own
-          ∙ filter_map-append (λ (one : Entry). genome_of one.call) (own_calls_of job.seat)
+          ∙ filter_map-append (λ (one : Entry). interned_genome one.call) (own_calls_of job.seat)
           interned.calls) i ++ genomes-joined laws round seat jobs others shares.1 are.1 i)
           ∙ (λ i. (genomes_of (kept i)
           ++ calls-genomes interned.calls first.births interned.interned i)

@@ -9,13 +9,13 @@ use Rattle.instruction_set.specs.declared.letter.Letter.{Letter}
 use Rattle.world_rules.specs.World.{Occupant}
 use mathlib.Core.List.{IsPrefix}
 use Rattle.genotype_bank.specs.BankHistory.{with_genome}
-use Rattle.world_core.specs.Population.{IsKeptOf, AreCountedIn, AreDifferent, AreSummedIn, genome_of, genomes_of}
+use Rattle.world_core.specs.Population.{IsKeptOf, AreCountedIn, AreDifferent, AreSummedIn, occupant_genome, occupant_genomes}
 use Rattle.world_core.proofs.ChangeLemmas.{AreCountedIn-put, AreCountedIn-removed}
 use Rattle.world_core.proofs.StandingLemmas.{OneList, AreCountedIn-more, AreCountedIn-none, some-counted, with_genome-prefix}
 use Rattle.world_core.proofs.SumLemmas.{AreSummedIn-none, AreSummedIn-put, AreSummedIn-removed, credited-counted, merit-counted, merit-room, tasks-room}
 
 -- where nobody stands no genome does
-nobody : (n : ℕ) → genomes_of (replicate n None) ≡ replicate n None
+nobody : (n : ℕ) → occupant_genomes (replicate n None) ≡ replicate n None
 nobody zero = refl
 nobody (suc n) = ap (λ slots. None ∷ slots) (nobody n)
 
@@ -25,7 +25,7 @@ pub IsKeptOf-none : (n : ℕ) (cells : List (Option Occupant)) (genomes : List (
     → counts ≡ record { genotypes = []; merit = 0; tasks = replicate 9 0 } → n ≤ 65536
     → IsKeptOf cells genomes keys counts
 IsKeptOf-none n cells genomes keys counts empty unnumbered long nothing few =
-    let standing : genomes_of (replicate n None) ≡ replicate n None = nobody n in
+    let standing : occupant_genomes (replicate n None) ≡ replicate n None = nobody n in
     let start : IsKeptOf (replicate n None) [] keys
     (record { genotypes = []; merit = 0; tasks = replicate 9 0 }) = record {
       different = λ number other genome is has. cc;
@@ -37,9 +37,10 @@ IsKeptOf-none n cells genomes keys counts empty unnumbered long nothing few =
 
 -- the genome in a cell
 standing-at : (cells : List (Option Occupant)) (cell : ℕ) → cell < length cells
-    → get_or (genomes_of cells) cell None ≡ genome_of (get_or cells cell None)
+    → get_or (occupant_genomes cells) cell None ≡ occupant_genome (get_or cells cell None)
 standing-at cells cell within =
-    get_or-map genome_of cells cell None None (omega (arith, within, length-map cells genome_of))
+    get_or-map occupant_genome cells cell None None
+    (omega (arith, within, length-map cells occupant_genome))
 
 -- the key of a cell is the number of the genome that stands there
 pub key-is : (cells : List (Option Occupant)) (genomes : List (List Letter)) (keys : List ℕ)
@@ -47,7 +48,8 @@ pub key-is : (cells : List (Option Occupant)) (genomes : List (List Letter)) (ke
     → get_or cells cell None ≡ Some o → IsKeptOf cells genomes keys counts
     → slice_get genomes (get_or keys cell 0) ≡ Some o.organism.genome
 key-is cells genomes keys counts cell o within here kept =
-    kept.genotypes.keyed cell o.organism.genome (standing-at cells cell within ∙ ap genome_of here)
+    kept.genotypes.keyed cell o.organism.genome
+    (standing-at cells cell within ∙ ap occupant_genome here)
 
 module _ (one_list : OneList) (cells : List (Option Occupant)) (genomes : List (List Letter))
     (keys : List ℕ) (before after : Counts) (cell : ℕ) (within : cell < length cells) where
@@ -61,16 +63,16 @@ module _ (one_list : OneList) (cells : List (Option Occupant)) (genomes : List (
 
   module _ (o : Occupant) (kept : IsKeptOf cells genomes keys before)
       (here : get_or cells cell None ≡ Some o) where
-    stands : get_or (genomes_of cells) cell None ≡ Some o.organism.genome
-    stands = standing-at cells cell within ∙ ap genome_of here
+    stands : get_or (occupant_genomes cells) cell None ≡ Some o.organism.genome
+    stands = standing-at cells cell within ∙ ap occupant_genome here
 
-    wide : cell < length (genomes_of cells)
-    wide = omega (arith, within, length-map cells genome_of)
+    wide : cell < length (occupant_genomes cells)
+    wide = omega (arith, within, length-map cells occupant_genome)
 
     -- an organism that stands in a cell may go
     pub can-remove : CanRemove before (get_or keys cell 0) o.organism.merit o.organism.credited
     can-remove = record {
-      counted = some-counted one_list (genomes_of cells) genomes keys before.genotypes cell
+      counted = some-counted one_list (occupant_genomes cells) genomes keys before.genotypes cell
           o.organism.genome wide stands kept.genotypes;
       merits = merit-counted cells cell o before.merit before.tasks within here kept.sums;
       tasks = credited-counted cells cell o before.merit before.tasks within here kept.sums;
@@ -85,8 +87,9 @@ module _ (one_list : OneList) (cells : List (Option Occupant)) (genomes : List (
     IsKeptOf-removed is under living = record {
       different = kept.different;
       genotypes = subst (λ (s : List (Option (List Letter))).
-          AreCountedIn s genomes keys after.genotypes) (sym (map-set genome_of cells cell None))
-          (AreCountedIn-removed one_list (genomes_of cells) genomes keys before.genotypes
+          AreCountedIn s genomes keys after.genotypes)
+          (sym (map-set occupant_genome cells cell None))
+          (AreCountedIn-removed one_list (occupant_genomes cells) genomes keys before.genotypes
           after.genotypes cell o.organism.genome kept.different wide stands kept.genotypes under
           living);
       sums =
@@ -109,8 +112,8 @@ module _ (one_list : OneList) (cells : List (Option Occupant)) (genomes : List (
         arith,
         kept.genotypes.living,
         kept.sums.few,
-        length-map cells genome_of,
-        count_by-le-length is_some (genomes_of cells),
+        length-map cells occupant_genome,
+        count_by-le-length is_some (occupant_genomes cells),
       );
       merits = omega (arith, fits, merit-room cells before.merit before.tasks kept.sums);
       tasks = tasks-room cells before.merit before.tasks kept.sums;
@@ -126,11 +129,12 @@ module _ (one_list : OneList) (cells : List (Option Occupant)) (genomes : List (
     IsKeptOf-put is under living = record {
       different = kept.different;
       genotypes = subst (λ (s : List (Option (List Letter))). AreCountedIn s genomes
-          (set keys cell number) after.genotypes) (sym (map-set genome_of cells cell (Some o)))
-          (AreCountedIn-put one_list (genomes_of cells) genomes keys before.genotypes
+          (set keys cell number) after.genotypes)
+          (sym (map-set occupant_genome cells cell (Some o)))
+          (AreCountedIn-put one_list (occupant_genomes cells) genomes keys before.genotypes
           after.genotypes cell number o.organism.genome kept.different
-          (omega (arith, within, length-map cells genome_of))
-          (standing-at cells cell within ∙ ap genome_of empty) number_is kept.genotypes under
+          (omega (arith, within, length-map cells occupant_genome))
+          (standing-at cells cell within ∙ ap occupant_genome empty) number_is kept.genotypes under
           living);
       sums = rw is (AreSummedIn-put cells cell o before.merit before.tasks within empty fits
           kept.sums);
@@ -143,7 +147,7 @@ pub IsKeptOf-more : OneList
     → IsKeptOf cells before keys counts → IsKeptOf cells after keys counts
 IsKeptOf-more one_list cells before after keys counts prefix different kept = record {
   different = different;
-  genotypes = AreCountedIn-more one_list (genomes_of cells) before keys counts.genotypes after
+  genotypes = AreCountedIn-more one_list (occupant_genomes cells) before keys counts.genotypes after
       prefix different kept.genotypes;
   sums = kept.sums;
 }
@@ -163,7 +167,7 @@ IsKeptOf-interned one_list cells before after keys counts new (Err error) more s
 -- all have lived
 pub IsKeptOf-lived : (cells next : List (Option Occupant)) (genomes : List (List Letter))
     (keys : List ℕ) (before after : Counts) → IsKeptOf cells genomes keys before
-    → after.genotypes ≡ before.genotypes → genomes_of next ≡ genomes_of cells
+    → after.genotypes ≡ before.genotypes → occupant_genomes next ≡ occupant_genomes cells
     → AreSummedIn next after.merit after.tasks → IsKeptOf next genomes keys after
 IsKeptOf-lived cells next genomes keys before after kept same standing sums = record {
   different = kept.different;

@@ -4,7 +4,7 @@ use Rattle.std.specs.List.{All, enumerate_from}
 use Rattle.std.proofs.lemmas.Bool.{cases_lt}
 use Rattle.std.proofs.lemmas.List.{get_or-map, get_or_past, length-map}
 use Rattle.std.proofs.lemmas.List.Elements.{All-append, All-cons, All-head, All-map, All-nil, All-same, All-tail}
-use Rattle.cell_shards.specs.CellLives.{BirthValue, CellLife as ShardLife, IsYoung, RoundNumbers, birth_in, births_from as shard_births, deaths_from as shard_deaths, has_died, left_in, lives_of as shard_lives_of, part_from}
+use Rattle.cell_shards.specs.CellLives.{BirthValue, IsYoung, RoundNumbers, ShardLife, birth_in, births_from as shard_births, deaths_from as shard_deaths, has_died, left_in, part_from, shard_lives_of}
 use Rattle.cell_shards.specs.Finishing.{birth_of}
 use Rattle.cell_shards.specs.declared.delivered.Delivered.{Delivered}
 use Rattle.merit_slices.specs.Slices.{slices_of}
@@ -15,7 +15,7 @@ use Rattle.world_rules.specs.Statistics.{organism_in}
 use Rattle.world_rules.specs.Update.{births_of}
 use Rattle.world_rules.specs.World.{Occupant}
 use Rattle.world_core.specs.Lived.{delivery_in, departed_from, departed_of, staying_in}
-use Rattle.world_core.specs.Population.{genome_of, merit_of}
+use Rattle.world_core.specs.Population.{merit_or_zero, occupant_genome}
 use Rattle.world_core.specs.Residents.{occupants_of, with_id}
 use Rattle.world_core.specs.Soundness.{AreBounded, IsBoundedIn}
 use Rattle.world_core.specs.declared.lived.Delivery.{Delivery}
@@ -73,7 +73,7 @@ young-are update (o ∷ os) (id ∷ ids) long early sound =
 
 -- nor have they too great merits
 pub merits-fit : (os : List (Option OrganismState)) (ids merits : List ℕ) → length ids ≡ length os
-    → merits ≡ map merit_of os → All (λ slot. merit_in slot ≤ 2 ^ 38) (occupants_of os ids)
+    → merits ≡ map merit_or_zero os → All (λ slot. merit_in slot ≤ 2 ^ 38) (occupants_of os ids)
     → All (λ merit. merit ≤ 2 ^ 38) merits
 merits-fit os ids merits long same fit =
     All-same (λ (merit : ℕ). merit ≤ 2 ^ 38) merits (map merit_in (occupants_of os ids))
@@ -83,7 +83,7 @@ merits-fit os ids merits long same fit =
 -- the steps of the cells
 pub slices-are : (config : ConfigValues) (cells : List (Option Occupant))
     (os : List (Option OrganismState)) (ids merits slices : List ℕ) → length ids ≡ length os
-    → occupants_of os ids ≡ cells → merits ≡ map merit_of os
+    → occupants_of os ids ≡ cells → merits ≡ map merit_or_zero os
     → slices ≡ slices_of merits config.average_slices → slices ≡ slices_at config cells
 unfolding slices_at
 slices-are config cells os ids merits slices long were same bought =
@@ -190,7 +190,8 @@ module _ {config : ConfigValues} {update : ℕ} {cells : List (Option Occupant)}
 
   -- the life of one cell leaves the same organism with a merit that fits, or nobody
   goes-by : (was : Option OrganismState) (id : ℕ) (l : CellLife) → IsBoundedIn update l.occupant
-      → genome_of l.occupant ≡ genome_of (with_id id was) → GoesOn was (left_in (bare l))
+      → occupant_genome l.occupant ≡ occupant_genome (with_id id was)
+      → GoesOn was (left_in (bare l))
   goes-by was id l bounded same = by l.died l.occupant bounded same where
     nobody : GoesOn was None
     nobody = record {
@@ -200,7 +201,7 @@ module _ {config : ConfigValues} {update : ℕ} {cells : List (Option Occupant)}
     }
 
     somebody : (o : Occupant) (was : Option OrganismState) → IsBoundedIn update (Some o)
-        → Some o.organism.genome ≡ genome_of (with_id id was) → GoesOn was (Some o.organism)
+        → Some o.organism.genome ≡ occupant_genome (with_id id was) → GoesOn was (Some o.organism)
     somebody o None bounded same = absurd cc
     somebody o (Some first) bounded same = record {
       nobody = λ none. absurd cc;
@@ -210,7 +211,8 @@ module _ {config : ConfigValues} {update : ℕ} {cells : List (Option Occupant)}
     }
 
     by : (b : Bool) (slot : Option Occupant) → IsBoundedIn update slot
-        → genome_of slot ≡ genome_of (with_id id was) → GoesOn was (cond b None (organism_in slot))
+        → occupant_genome slot ≡ occupant_genome (with_id id was)
+        → GoesOn was (cond b None (organism_in slot))
     by true slot bounded same = nobody
     by false None bounded same = nobody
     by false (Some o) bounded same = somebody o was bounded same
@@ -218,7 +220,8 @@ module _ {config : ConfigValues} {update : ℕ} {cells : List (Option Occupant)}
   -- so do all lives
   pub goes-on : (left : List (Option OrganismState)) → left ≡ map left_in shard_lives
       → ((place : ℕ) → IsBoundedIn update (get_or lives place no_life).occupant
-      × (genome_of (get_or lives place no_life).occupant ≡ genome_of (get_or cells place None)))
+      × (occupant_genome (get_or lives place no_life).occupant
+      ≡ occupant_genome (get_or cells place None)))
       → (place : ℕ)
       → GoesOn (get_or os place None) (get_or left place None)
   goes-on left are keep place =
@@ -227,8 +230,8 @@ module _ {config : ConfigValues} {update : ℕ} {cells : List (Option Occupant)}
       ∙ here (cases_lt place (length lives))))
       (goes-by (get_or os place None) (get_or ids place 0) (get_or lives place no_life)
       (keep place).0 ((keep place).1
-      ∙ ap (λ (cells : List (Option Occupant)). genome_of (get_or cells place None))
-      (sym apart.were) ∙ ap genome_of (occupants_of-at os ids place apart.long)))
+      ∙ ap (λ (cells : List (Option Occupant)). occupant_genome (get_or cells place None))
+      (sym apart.were) ∙ ap occupant_genome (occupants_of-at os ids place apart.long)))
     where
       here : (place < length lives) ⊎ (length lives ≤ place)
           → get_or (map left_in (map bare lives)) place None

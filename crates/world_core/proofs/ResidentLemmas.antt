@@ -9,7 +9,7 @@ use Rattle.virtual_cpu.specs.Image.{image_of}
 use Rattle.world_rules.specs.Lives.{merit_in}
 use Rattle.world_rules.specs.Statistics.{organism_in}
 use Rattle.world_rules.specs.World.{Occupant}
-use Rattle.world_core.specs.Population.{merit_of}
+use Rattle.world_core.specs.Population.{merit_or_zero}
 use Rattle.world_core.specs.Residents.{occupants_of, with_id}
 use Rattle.world_core.specs.Resumed.{IsResident}
 use Rattle.world_core.specs.declared.residents.Residents.TheInside.{Inside}
@@ -96,19 +96,14 @@ module _ (r : Inside) {cells : List (Option Occupant)}
   read-id id found =
       get_or_read r.ids.items cell id (omega (arith, has-id, r.ids.ok.0)) found 0
 
--- an organism with an id is that organism
-pub organism-of : (id : ℕ) (o : Option OrganismState) → organism_in (with_id id o) ≡ o
-organism-of id None = refl
-organism-of id (Some o) = refl
-
 -- its merit counts in the cell
-merit-of : (id : ℕ) (o : Option OrganismState) → merit_in (with_id id o) ≡ merit_of o
+merit-of : (id : ℕ) (o : Option OrganismState) → merit_in (with_id id o) ≡ merit_or_zero o
 merit-of id None = refl
 merit-of id (Some o) = refl
 
 -- the merits in the cells are those of the organisms
 pub merits-of : (os : List (Option OrganismState)) (ids : List ℕ) → length ids ≡ length os
-    → map merit_in (occupants_of os ids) ≡ map merit_of os
+    → map merit_in (occupants_of os ids) ≡ map merit_or_zero os
 merits-of [] ids long = refl
 merits-of (o ∷ os) [] long = absurd (omega (arith, long))
 merits-of (o ∷ os) (id ∷ ids) long = λ i. merit-of id o i ∷ merits-of os ids (omega (arith, long)) i

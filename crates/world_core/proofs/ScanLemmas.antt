@@ -52,32 +52,32 @@ lines-more next out text a xs i d within =
     ∙ flat_map-append text before (here ∷ [])
     ∙ ap (λ l. flat_map text before ++ l) (append-nil (text here))
 
--- one element more of what is told, where the state stands behind the first i
-pub told-step : {S X Y : Type 0} (next : S → X → S) (out : S → X → Option Y) (text : Y → List ℕ)
-    (a s : S) (xs : List X) (i : ℕ) (d : X) (start old new : List ℕ) → i < length xs
-    → s ≡ fold next a (take i xs)
-    → old ≡ start ++ flat_map text (filter_map (λ y. y) (scan next out a (take i xs)))
-    → new ≡ old ++ flat_map text (option_to_list (out s (get_or xs i d)))
-    → new ≡ start ++ flat_map text (filter_map (λ y. y) (scan next out a (take (i + 1) xs)))
-told-step {S = S} next out text a s xs i d start old new within state so_far one =
-    let before = flat_map text (filter_map (λ y. y) (scan next out a (take i xs))) in
-    let here = λ (at : S). flat_map text (option_to_list (out at (get_or xs i d))) in
-    one ∙ ap (λ l. l ++ here s) so_far ∙ append_assoc start before (here s)
-    ∙ ap (λ at. start ++ (before ++ here at)) state
-    ∙ ap (λ l. start ++ l) (sym (told-more next out text a xs i d within))
+module _ {S X Y : Type 0} (next : S → X → S) (text : Y → List ℕ) (a : S) (xs : List X) (i : ℕ)
+    (d : X) (within : i < length xs) where
+  -- one element more of what is told, where the state stands behind the first i
+  pub told-step : {s : S} {old new : List ℕ} (start : List ℕ) (out : S → X → Option Y)
+      → s ≡ fold next a (take i xs)
+      → old ≡ start ++ flat_map text (filter_map (λ y. y) (scan next out a (take i xs)))
+      → new ≡ old ++ flat_map text (option_to_list (out s (get_or xs i d)))
+      → new ≡ start ++ flat_map text (filter_map (λ y. y) (scan next out a (take (i + 1) xs)))
+  told-step {s = s} start out state so_far one =
+      let before = flat_map text (filter_map (λ y. y) (scan next out a (take i xs))) in
+      let here = λ (at : S). flat_map text (option_to_list (out at (get_or xs i d))) in
+      one ∙ ap (λ l. l ++ here s) so_far ∙ append_assoc start before (here s)
+      ∙ ap (λ at. start ++ (before ++ here at)) state
+      ∙ ap (λ l. start ++ l) (sym (told-more next out text a xs i d within))
 
--- one element more of the lines, where the state stands behind the first i
-pub lines-step : {S X Y : Type 0} (next : S → X → S) (out : S → X → Y) (text : Y → List ℕ) (a s : S)
-    (xs : List X) (i : ℕ) (d : X) (start old new : List ℕ) → i < length xs
-    → s ≡ fold next a (take i xs) → old ≡ start ++ flat_map text (scan next out a (take i xs))
-    → new ≡ old ++ text (out s (get_or xs i d))
-    → new ≡ start ++ flat_map text (scan next out a (take (i + 1) xs))
-lines-step {S = S} next out text a s xs i d start old new within state so_far one =
-    let before = flat_map text (scan next out a (take i xs)) in
-    let here = λ (at : S). text (out at (get_or xs i d)) in
-    one ∙ ap (λ l. l ++ here s) so_far ∙ append_assoc start before (here s)
-    ∙ ap (λ at. start ++ (before ++ here at)) state
-    ∙ ap (λ l. start ++ l) (sym (lines-more next out text a xs i d within))
+  -- one element more of the lines, where the state stands behind the first i
+  pub lines-step : {s : S} {old new : List ℕ} (start : List ℕ) (out : S → X → Y)
+      → s ≡ fold next a (take i xs) → old ≡ start ++ flat_map text (scan next out a (take i xs))
+      → new ≡ old ++ text (out s (get_or xs i d))
+      → new ≡ start ++ flat_map text (scan next out a (take (i + 1) xs))
+  lines-step {s = s} start out state so_far one =
+      let before = flat_map text (scan next out a (take i xs)) in
+      let here = λ (at : S). text (out at (get_or xs i d)) in
+      one ∙ ap (λ l. l ++ here s) so_far ∙ append_assoc start before (here s)
+      ∙ ap (λ at. start ++ (before ++ here at)) state
+      ∙ ap (λ l. start ++ l) (sym (lines-more next out text a xs i d within))
 
 -- what is made of the first of each pair
 pub zip-map : {X Y Z : Type 0} (f : X → Y) (xs : List X) (zs : List Z)

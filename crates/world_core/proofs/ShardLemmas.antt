@@ -5,17 +5,11 @@ use Rattle.std.specs.Option.{option_map, option_to_list, unwrap_or}
 use Rattle.std.proofs.lemmas.Bool.{cases_lt}
 use Rattle.std.proofs.lemmas.List.{get_or_past, map-append}
 use Rattle.std.proofs.lemmas.List.FromFn.{get_or-map-range_with_len, length-map-range_with_len}
-use Rattle.cell_shards.specs.CellLives.{BirthValue, CellLife as ShardLife, RoundNumbers, birth_in, births_from as shard_births, deaths_from as shard_deaths, has_died as shard_died, is_death as shard_death, left_in, life_at as shard_life_at, life_of as shard_life_of, lives_of as shard_lives_of, part_from}
+use Rattle.cell_shards.specs.CellLives.{BirthValue, RoundNumbers, ShardLife, birth_in, births_from as shard_births, deaths_from as shard_deaths, has_died as shard_died, left_in, part_from, shard_life_at, shard_life_of, shard_lives_of}
 use Rattle.organism.specs.Newborns.{NewbornValue}
 use Rattle.organism.specs.OrganismState.{OrganismState}
-use Rattle.organism.specs.Lived.{beginning}
-use Rattle.organism.specs.UpdateLife.{LifeState, life}
-use Rattle.organism.specs.declared.ran.Ran.{Ran}
-use Rattle.organism.specs.declared.ran.Ran.TheVariants.{Lives, Died}
-use Rattle.random_streams.specs.declared.purpose.Purpose.TheVariants.{Run}
-use Rattle.random_streams.specs.RandomStream.{draw}
 use Rattle.world_config.specs.Values.{ConfigValues}
-use Rattle.world_rules.specs.Lives.{CellLife, is_death, life_at, life_of, lives_of, no_life, slice_at, slices_at}
+use Rattle.world_rules.specs.Lives.{CellLife, life_at, life_of, lives_of, no_life, slice_at, slices_at}
 use Rattle.world_rules.specs.Settings.{settings_at}
 use Rattle.world_rules.specs.Statistics.{organism_in}
 use Rattle.world_rules.specs.Update.{Delivery, births_by, delivery_of}
@@ -36,25 +30,13 @@ abbrev pub round_of : ConfigValues → ℕ → RoundNumbers
 round_of config update =
     record { seed = config.seed; update = update; settings = settings_at config update }
 
--- a life ends by age or not, as both say
-same-death : (ran : Ran) → shard_death ran ≡ is_death ran
-same-death Lives = refl
-same-death (Died after) = refl
-
 -- one life
 life-bare : (config : ConfigValues) (update cell steps id : ℕ) (slot : Option OrganismState)
     → shard_life_of (round_of config update) cell steps slot
     ≡ bare (life_of config update cell steps (with_id id slot))
 unfolding life_of shard_life_of
 life-bare config update cell steps id None = refl
-life-bare config update cell steps id (Some o) =
-    let ended : LifeState × Ran =
-    life (settings_at config update) (draw config.seed update cell Run) (beginning o) steps in
-    λ i. record {
-      organism = Some ended.0.organism;
-      died = same-death ended.1 i;
-      newborns = ended.0.newborns;
-    }
+life-bare config update cell steps id (Some o) = refl
 
 -- the life of who stands in a cell with this id, or of nobody
 pub record HasId (id : ℕ) (l : CellLife) : Type 0 where
@@ -76,6 +58,7 @@ life-has_id config update cell steps id (Some o) =
 
 module _ (config : ConfigValues) (update : ℕ) (os : List (Option OrganismState)) (ids : List ℕ)
     (long : length ids ≡ length os) where
+  -- the organisms in their cells, with their ids
   abbrev cells : List (Option Occupant)
   cells = occupants_of os ids
 
@@ -212,9 +195,11 @@ departed-of : (ids : List ℕ) (cell : ℕ) (l : CellLife) (rest : List Departed
     → departed_from ids cell ∷ rest
     ≡ option_to_list (option_map (λ o. record { cell = cell; id = o.id }) l.occupant) ++ rest
 departed-of ids cell l rest has died = by l.occupant has.stands has.alive where
+  -- who died doesn't live on
   clash : l.died ≡ false → ⊥
   clash lives = absurd cc
 
+  -- for a cell with somebody, or with nobody
   by : (slot : Option Occupant) → slot ≡ with_id (get_or ids cell 0) (organism_in slot)
       → (slot ≡ None → l.died ≡ false)
       → departed_from ids cell ∷ rest

@@ -10,8 +10,8 @@ pub AreBounded_come : (update : ℕ) (cells : List (Option Occupant)) (cell : �
     → o.organism.age < 2 ^ 48 → o.organism.merit ≤ 2 ^ 38 → AreBounded update cells
     → AreBounded update (set cells cell (Some o))
 AreBounded_come update cells cell o young fits sound =
-    All-set (IsBoundedIn update) cells cell (Some o) (record { age = omega (arith, young); merit = fits })
-    sound
+    All-set (IsBoundedIn update) cells cell (Some o)
+    (record { age = omega (arith, young); merit = fits }) sound
 
 -- so is a cell from which somebody went
 pub AreBounded_gone : (update : ℕ) (cells : List (Option Occupant)) (cell : ℕ)

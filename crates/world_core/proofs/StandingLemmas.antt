@@ -73,6 +73,7 @@ prefix-stays early late number genome prefix is =
 pub with_genome-prefix : (genomes : List (List Letter)) (new : List Letter)
     → IsPrefix genomes (with_genome genomes new)
 with_genome-prefix genomes new = by (list_any (same_letters new) genomes) where
+  -- with the new genome at the end, or with nothing new
   by : (b : Bool) → IsPrefix genomes (cond b genomes (genomes ++ new ∷ []))
   by true = ([], append-nil genomes)
   by false = (new ∷ [], refl)

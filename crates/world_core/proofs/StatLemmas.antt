@@ -27,20 +27,20 @@ use Rattle.logic_tasks.specs.TaskSet.{has_task}
 use Rattle.organism.specs.OrganismState.{OrganismState}
 use Rattle.world_rules.specs.World.{Occupant, ids_of}
 use Rattle.world_rules.specs.Lives.{merit_in}
-use Rattle.world_rules.specs.Statistics.{counted_in, count_of, credited_with, genomes_in, genotypes_of, organisms_in}
-use Rattle.world_core.specs.Population.{AreCountedIn, genomes_of, is_credited, is_genome}
+use Rattle.world_rules.specs.Statistics.{counted_in, genome_count, credited_with, genomes_of_cells, distinct_genomes, organisms_in}
+use Rattle.world_core.specs.Population.{AreCountedIn, is_credited, is_genome, occupant_genomes}
 use Rattle.world_core.proofs.StandingLemmas.{OneList, cells_of}
 use Rattle.world_core.proofs.SumLemmas.{cells_with, one}
 
 -- the cells where somebody stands
 pub living-in : (cells : List (Option Occupant))
-    → count_by is_some (genomes_of cells) ≡ taken (ids_of cells)
+    → count_by is_some (occupant_genomes cells) ≡ taken (ids_of cells)
 living-in [] = refl
 living-in (None ∷ cells) =
     omega (
       arith,
       living-in cells,
-      sum_by-cons (λ (s : Option (List Letter)). one (is_some s)) None (genomes_of cells),
+      sum_by-cons (λ (s : Option (List Letter)). one (is_some s)) None (occupant_genomes cells),
       sum_by-cons (λ (s : Option ℕ). one (is_some s)) None (ids_of cells),
     )
 living-in (Some o ∷ cells) =
@@ -48,7 +48,7 @@ living-in (Some o ∷ cells) =
       arith,
       living-in cells,
       sum_by-cons (λ (s : Option (List Letter)). one (is_some s)) (Some o.organism.genome)
-          (genomes_of cells),
+          (occupant_genomes cells),
       sum_by-cons (λ (s : Option ℕ). one (is_some s)) (Some o.id)
           (ids_of cells),
     )
@@ -87,28 +87,28 @@ credited-in (Some o ∷ cells) task =
 
 -- the living with a genome
 genome-in : (cells : List (Option Occupant)) (genome : List Letter)
-    → cells_of (genomes_of cells) genome ≡ count_of (genomes_in cells) genome
+    → cells_of (occupant_genomes cells) genome ≡ genome_count (genomes_of_cells cells) genome
 genome-in [] genome = refl
 genome-in (None ∷ cells) genome =
     omega (
       arith,
       genome-in cells genome,
-      sum_by-cons (λ slot. one (is_genome genome slot)) None (genomes_of cells),
+      sum_by-cons (λ slot. one (is_genome genome slot)) None (occupant_genomes cells),
     )
 genome-in (Some o ∷ cells) genome =
     omega (
       arith,
       genome-in cells genome,
       sum_by-cons (λ slot. one (is_genome genome slot)) (Some o.organism.genome)
-          (genomes_of cells),
+          (occupant_genomes cells),
       sum_by-cons (λ other. one (same_letters genome other)) o.organism.genome
-          (genomes_in cells),
+          (genomes_of_cells cells),
     )
 
 -- a genome of the living stands in some cell
 place-of : (cells : List (Option Occupant)) (genome : List Letter)
-    → Contains (genomes_in cells) genome
-    → (cell : ℕ) × (get_or (genomes_of cells) cell None ≡ Some genome)
+    → Contains (genomes_of_cells cells) genome
+    → (cell : ℕ) × (get_or (occupant_genomes cells) cell None ≡ Some genome)
 place-of [] genome has = absurd (omega (arith, has.1))
 place-of (None ∷ cells) genome has = let later = place-of cells genome has in (suc later.0, later.1)
 place-of (Some o ∷ cells) genome (zero, within, is) = (0, ap Some is)
@@ -131,22 +131,22 @@ module _ (one_list : OneList) where
 
   -- a genome that is counted is among the genomes
   counted-among : (genomes : List (List Letter)) (genome : List Letter)
-      → 0 < count_of genomes genome → Contains genomes genome
+      → 0 < genome_count genomes genome → Contains genomes genome
   counted-among [] genome some = absurd (omega (arith, some))
   counted-among (g ∷ gs) genome some =
       by (same_letters genome g) refl
       (omega (arith, some, sum_by-cons (λ other. one (same_letters genome other)) g gs))
       (counted-among gs genome) where
         by : (b : Bool) → same_letters genome g ≡ b
-            → 0 < one (same_letters genome g) + count_of gs genome
-            → (0 < count_of gs genome → Contains gs genome) → Contains (g ∷ gs) genome
+            → 0 < one (same_letters genome g) + genome_count gs genome
+            → (0 < genome_count gs genome → Contains gs genome) → Contains (g ∷ gs) genome
         by true same some later = (0, omega arith, sym ((one_list genome g).0 same))
         by false same some later = let rest = later (omega (arith, some, ap one same)) in
             (suc rest.0, omega (arith, rest.1), rest.2)
 
   -- a genome that is among others is counted
   among-counted : (genomes : List (List Letter)) (genome : List Letter) → Contains genomes genome
-      → 0 < count_of genomes genome
+      → 0 < genome_count genomes genome
   among-counted genomes genome has =
       omega (
         arith,
@@ -158,41 +158,41 @@ module _ (one_list : OneList) where
 
   module _ (cells : List (Option Occupant)) (genomes : List (List Letter)) (keys : List ℕ)
       (genotypes : List (ℕ × GenotypeCount)) (are : AreGenotypes genotypes)
-      (kept : AreCountedIn (genomes_of cells) genomes keys genotypes) where
+      (kept : AreCountedIn (occupant_genomes cells) genomes keys genotypes) where
     key-distinct : IsDistinct (eq_by_cmp nat_cmp) (keys_of genotypes)
     key-distinct = IsDistinct-from_sorted nat_cmp (keys_of genotypes) are.in_order
 
     -- what is counted under a key is a genome of the living with its count
     counted-is : (number : ℕ) (genotype : GenotypeCount)
         → genotype_at genotypes number ≡ Some genotype
-        → genotype ≡ counted_in (genomes_in cells) genotype.genome
+        → genotype ≡ counted_in (genomes_of_cells cells) genotype.genome
     counted-is number genotype at =
-        let count : genotype.count ≡ count_of (genomes_in cells) genotype.genome =
+        let count : genotype.count ≡ genome_count (genomes_of_cells cells) genotype.genome =
         ap (λ (found : Option GenotypeCount). unwrap_or (option_map (λ g. g.count) found) 0)
         (sym at) ∙ kept.counted number genotype.genome (kept.named number genotype at)
         ∙ genome-in cells genotype.genome in
         λ i. record { genome = genotype.genome; count = count i }
 
     -- each genome of the living is counted under its number
-    is-counted : (genome : List Letter) → Contains (genomes_in cells) genome
+    is-counted : (genome : List Letter) → Contains (genomes_of_cells cells) genome
         → (number : ℕ) × (genotype_at genotypes number
-        ≡ Some (counted_in (genomes_in cells) genome))
+        ≡ Some (counted_in (genomes_of_cells cells) genome))
     is-counted genome has =
         let place = place-of cells genome has in
         let number : ℕ = get_or keys place.0 0 in
         let named = kept.keyed place.0 genome place.1 in
-        let count : count_under genotypes number ≡ count_of (genomes_in cells) genome =
+        let count : count_under genotypes number ≡ genome_count (genomes_of_cells cells) genome =
         kept.counted number genome named ∙ genome-in cells genome in
         (number, by number named count (genotype_at genotypes number) refl)
       where
         by : (number : ℕ) → slice_get genomes number ≡ Some genome
-            → count_under genotypes number ≡ count_of (genomes_in cells) genome
+            → count_under genotypes number ≡ genome_count (genomes_of_cells cells) genome
             → (found : Option GenotypeCount) → genotype_at genotypes number ≡ found
-            → genotype_at genotypes number ≡ Some (counted_in (genomes_in cells) genome)
+            → genotype_at genotypes number ≡ Some (counted_in (genomes_of_cells cells) genome)
         by number named count None at =
             absurd (omega (
               arith,
-              among-counted (genomes_in cells) genome has,
+              among-counted (genomes_of_cells cells) genome has,
               count,
               ap (λ (found : Option GenotypeCount). unwrap_or (option_map (λ g. g.count) found) 0)
                   at,
@@ -201,17 +201,17 @@ module _ (one_list : OneList) where
             let some : Some g.genome ≡ Some genome = sym (kept.named number g at) ∙ named in
             let same : g.genome ≡ genome = cc in
             at ∙ ap Some (counted-is number g at)
-            ∙ ap (λ g. Some (counted_in (genomes_in cells) g)) same
+            ∙ ap (λ g. Some (counted_in (genomes_of_cells cells) g)) same
 
     -- the genotypes are the genomes of the living with their counts
     pub same-members : HaveSameMembers (values_of genotypes)
-        (map (counted_in (genomes_in cells)) (genomes_in cells))
+        (map (counted_in (genomes_of_cells cells)) (genomes_of_cells cells))
     same-members = record {
       forth = λ genotype has. (let entry = Contains-from_values_of genotypes genotype has in
           let at = lookup-from_Contains (eq_by_cmp_equiv nat_cmp_total) entry.0 genotype genotypes
           key-distinct entry.1 in
           let is = counted-is entry.0 genotype at in
-          let among = counted-among (genomes_in cells) genotype.genome
+          let among = counted-among (genomes_of_cells cells) genotype.genome
           (omega (
             arith,
             are.counted entry.0 genotype at,
@@ -221,18 +221,25 @@ module _ (one_list : OneList) where
             omega (
               arith,
               among.1,
-              length-map (genomes_in cells) (counted_in (genomes_in cells)),
+              length-map (genomes_of_cells cells) (counted_in (genomes_of_cells cells)),
             ),
-            get_or-map (counted_in (genomes_in cells)) (genomes_in cells) among.0 genotype.genome
-                genotype among.1 ∙ ap (counted_in (genomes_in cells)) among.2 ∙ sym is,
+            get_or-map (counted_in (genomes_of_cells cells)) (genomes_of_cells cells) among.0
+                genotype.genome
+                genotype among.1 ∙ ap (counted_in (genomes_of_cells cells)) among.2 ∙ sym is,
           ));
-      back = λ genotype has. (let within : has.0 < length (genomes_in cells) =
-          omega (arith, has.1, length-map (genomes_in cells) (counted_in (genomes_in cells))) in
-          let genome : List Letter = get_or (genomes_in cells) has.0 genotype.genome in
+      back = λ genotype has. (let within : has.0 < length (genomes_of_cells cells) =
+          omega (
+            arith,
+            has.1,
+            length-map (genomes_of_cells cells)
+                (counted_in (genomes_of_cells cells)),
+          ) in
+          let genome : List Letter = get_or (genomes_of_cells cells) has.0 genotype.genome in
           let counted =
-          is-counted genome (Contains-get_or (genomes_in cells) has.0 genotype.genome within) in
-          let is : counted_in (genomes_in cells) genome ≡ genotype =
-          sym (get_or-map (counted_in (genomes_in cells)) (genomes_in cells) has.0
+          is-counted genome (Contains-get_or (genomes_of_cells cells) has.0
+          genotype.genome within) in
+          let is : counted_in (genomes_of_cells cells) genome ≡ genotype =
+          sym (get_or-map (counted_in (genomes_of_cells cells)) (genomes_of_cells cells) has.0
           genotype.genome genotype within) ∙ has.2 in
           Contains-values_of genotypes counted.0 genotype
           (Contains-from_lookup (tells_apart exact_unsigned) counted.0 genotype genotypes
@@ -302,39 +309,44 @@ module _ (one_list : OneList) where
     both false false forth back = refl
 
     -- the genotypes of some genomes are those that differ
-    genotypes_of-is : (gs : List (List Letter)) → genotypes_of gs ≡ different_of gs
+    genotypes_of-is : (gs : List (List Letter)) → distinct_genomes gs ≡ different_of gs
     genotypes_of-is [] = refl
     genotypes_of-is (g ∷ gs) =
         ap (λ rest. g ∷ filter (λ other. not (same_letters g other)) rest) (genotypes_of-is gs)
 
     -- the different genomes of the living stand apart
-    different-distinct : HasEachOnce (different_of (genomes_in cells)) (genomes_in cells)
-        → IsDistinct same_letters (different_of (genomes_in cells))
+    different-distinct : HasEachOnce (different_of (genomes_of_cells cells))
+        (genomes_of_cells cells)
+        → IsDistinct same_letters (different_of (genomes_of_cells cells))
     different-distinct each =
-        IsDistinct-from_apart same_letters (different_of (genomes_in cells))
+        IsDistinct-from_apart same_letters (different_of (genomes_of_cells cells))
         (λ i j d upward within. apart i j d upward within
-        (same_letters (get_or (different_of (genomes_in cells)) i d)
-        (get_or (different_of (genomes_in cells)) j d)) refl)
+        (same_letters (get_or (different_of (genomes_of_cells cells)) i d)
+        (get_or (different_of (genomes_of_cells cells)) j d)) refl)
       where
-        apart : (i j : ℕ) (d : List Letter) → i < j → j < length (different_of (genomes_in cells))
-            → (b : Bool) → same_letters (get_or (different_of (genomes_in cells)) i d)
-            (get_or (different_of (genomes_in cells)) j d) ≡ b → b ≡ false
+        apart : (i j : ℕ) (d : List Letter) → i < j
+            → j < length (different_of (genomes_of_cells cells))
+            → (b : Bool) → same_letters (get_or (different_of (genomes_of_cells cells)) i d)
+            (get_or (different_of (genomes_of_cells cells)) j d) ≡ b → b ≡ false
         apart i j d upward within false is = refl
         apart i j d upward within true is =
             absurd (each.once i j d upward within
-            ((one_list (get_or (different_of (genomes_in cells)) i d)
-            (get_or (different_of (genomes_in cells)) j d)).0 is))
+            ((one_list (get_or (different_of (genomes_of_cells cells)) i d)
+            (get_or (different_of (genomes_of_cells cells)) j d)).0 is))
 
     -- as many keys as there are different genomes
-    pub genotype-number : HasEachOnce (different_of (genomes_in cells)) (genomes_in cells)
-        → length genotypes ≡ length (genotypes_of (genomes_in cells))
+    pub genotype-number : HasEachOnce (different_of (genomes_of_cells cells))
+        (genomes_of_cells cells)
+        → length genotypes ≡ length (distinct_genomes (genomes_of_cells cells))
     genotype-number each =
         let decided : (x y : List Letter) → same_letters x y ≡ true → x ≡ y =
         λ x y. (one_list x y).0 in
         sym shown-long
-        ∙ length-from_same_keys letters-equal shown (different_of (genomes_in cells)) shown-distinct
+        ∙ length-from_same_keys letters-equal shown (different_of (genomes_of_cells cells))
+        shown-distinct
         (different-distinct each)
-        (λ q. both (list_any (same_letters q) shown) (list_any (same_letters q) (genomes_in cells))
+        (λ q. both (list_any (same_letters q) shown)
+        (list_any (same_letters q) (genomes_of_cells cells))
         (λ found. (let has = Contains-from_any decided q shown found in
         let within : has.0 < length genotypes = omega (arith, has.1, shown-long) in
         let e : ℕ × GenotypeCount = (0, record { genome = q; count = 0 }) in
@@ -342,19 +354,19 @@ module _ (one_list : OneList) where
         let same : (get_or genotypes has.0 e).1.genome ≡ q =
         sym (shown-at has.0 q within) ∙ has.2 in
         let is = counted-is (get_or genotypes has.0 e).0 (get_or genotypes has.0 e).1 at in
-        let among = counted-among (genomes_in cells) q
+        let among = counted-among (genomes_of_cells cells) q
         (omega (
           arith,
           are.counted (get_or genotypes has.0 e).0 (get_or genotypes has.0 e).1 at,
           ap (λ (g : GenotypeCount). g.count) is,
-          ap (count_of (genomes_in cells)) same,
+          ap (genome_count (genomes_of_cells cells)) same,
         )) in
-        list_any-from_Contains letters-equal q (genomes_in cells) among))
-        (λ found. (let has = Contains-from_any decided q (genomes_in cells) found in
+        list_any-from_Contains letters-equal q (genomes_of_cells cells) among))
+        (λ found. (let has = Contains-from_any decided q (genomes_of_cells cells) found in
         let counted = is-counted q has in
-        let entry = Contains-values_of genotypes counted.0 (counted_in (genomes_in cells) q)
+        let entry = Contains-values_of genotypes counted.0 (counted_in (genomes_of_cells cells) q)
         (Contains-from_lookup (tells_apart exact_unsigned) counted.0
-        (counted_in (genomes_in cells) q) genotypes counted.1) in
+        (counted_in (genomes_of_cells cells) q) genotypes counted.1) in
         list_any-from_Contains letters-equal q shown (
           entry.0,
           omega (
@@ -363,14 +375,14 @@ module _ (one_list : OneList) where
             length-map (values_of genotypes) (λ (g : GenotypeCount). g.genome),
           ),
           get_or-map (λ (g : GenotypeCount). g.genome) (values_of genotypes) entry.0
-              (counted_in (genomes_in cells) q) q entry.1
+              (counted_in (genomes_of_cells cells) q) q entry.1
               ∙ ap (λ (g : GenotypeCount). g.genome) entry.2,
         )))
-        ∙ both (list_any (same_letters q) (genomes_in cells))
-        (list_any (same_letters q) (different_of (genomes_in cells)))
-        (λ found. list_any-from_Contains letters-equal q (different_of (genomes_in cells))
-        ((each.members q).1 (Contains-from_any decided q (genomes_in cells) found)))
-        (λ found. list_any-from_Contains letters-equal q (genomes_in cells)
-        ((each.members q).0 (Contains-from_any decided q (different_of (genomes_in cells))
+        ∙ both (list_any (same_letters q) (genomes_of_cells cells))
+        (list_any (same_letters q) (different_of (genomes_of_cells cells)))
+        (λ found. list_any-from_Contains letters-equal q (different_of (genomes_of_cells cells))
+        ((each.members q).1 (Contains-from_any decided q (genomes_of_cells cells) found)))
+        (λ found. list_any-from_Contains letters-equal q (genomes_of_cells cells)
+        ((each.members q).0 (Contains-from_any decided q (different_of (genomes_of_cells cells))
         found))))
-        ∙ ap length (sym (genotypes_of-is (genomes_in cells)))
+        ∙ ap length (sym (genotypes_of-is (genomes_of_cells cells)))

@@ -11,7 +11,7 @@ use Rattle.census.specs.Changes.{AreCounted, CanRenew, tasks_with, tasks_without
 use Rattle.census.specs.Counts.{GenotypeCount}
 use Rattle.logic_tasks.specs.declared.task.Task.{Task}
 use Rattle.logic_tasks.specs.declared.task.Task.TheVariants.{Not, Nand, And, Orn, Or, Andn, Nor, Xor, Equ}
-use Rattle.logic_tasks.specs.LogicTasks.{all_tasks, place_of}
+use Rattle.logic_tasks.specs.LogicTasks.{all_tasks, task_place}
 use Rattle.logic_tasks.specs.TaskSet.{has_task}
 use Rattle.world_rules.specs.World.{Occupant}
 use Rattle.world_rules.specs.Lives.{merit_in}
@@ -25,7 +25,8 @@ map_alike f g alike (x ∷ xs) =
     ap (λ y. y ∷ map f xs) (alike x) ∙ ap (λ ys. g x ∷ ys) (map_alike f g alike xs)
 
 -- what stands at the place of a task in a list of one number a task
-pub at_task : (f : Task → ℕ) (task : Task) → slice_index (map f all_tasks) (place_of task) ≡ f task
+pub at_task : (f : Task → ℕ) (task : Task)
+    → slice_index (map f all_tasks) (task_place task) ≡ f task
 at_task f Not = refl
 at_task f Nand = refl
 at_task f And = refl
@@ -52,9 +53,9 @@ cells_with cells task = count_by (is_credited task) cells
 -- how many have one task
 pub task_sum : (cells : List (Option Occupant)) (merit : ℕ) (tasks : List ℕ)
     → AreSummedIn cells merit tasks → (task : Task)
-    → slice_index tasks (place_of task) ≡ cells_with cells task
+    → slice_index tasks (task_place task) ≡ cells_with cells task
 task_sum cells merit tasks are task =
-    ap (λ ts. slice_index ts (place_of task)) are.task_counts ∙ at_task (cells_with cells) task
+    ap (λ ts. slice_index ts (task_place task)) are.task_counts ∙ at_task (cells_with cells) task
 
 -- nobody stands anywhere
 pub AreSummedIn-none : (n : ℕ) → n ≤ 65536 → AreSummedIn (replicate n None) 0 (replicate 9 0)
@@ -154,7 +155,7 @@ pub AreSummedIn-removed : (cells : List (Option Occupant)) (cell : ℕ) (o : Occ
 AreSummedIn-removed cells cell o merit tasks within here are =
     AreSummedIn-set cells cell None merit (merit - o.organism.merit) tasks
     (tasks_without tasks o.organism.credited)
-    (λ task. slice_index tasks (place_of task) - from_bool (has_task o.organism.credited task))
+    (λ task. slice_index tasks (task_place task) - from_bool (has_task o.organism.credited task))
     within (omega arith) are
     (omega (arith, merit-counted cells cell o merit tasks within here are, ap merit_in here)) refl
     (λ task. (let stands = ap (is_credited task) here in
@@ -176,7 +177,7 @@ pub AreSummedIn-put : (cells : List (Option Occupant)) (cell : ℕ) (o : Occupan
 AreSummedIn-put cells cell o merit tasks within here fits are =
     AreSummedIn-set cells cell (Some o) merit (merit + o.organism.merit) tasks
     (tasks_with tasks o.organism.credited)
-    (λ task. slice_index tasks (place_of task) + from_bool (has_task o.organism.credited task))
+    (λ task. slice_index tasks (task_place task) + from_bool (has_task o.organism.credited task))
     within fits are
     (omega (arith, ap merit_in here)) refl
     (λ task. omega (
@@ -194,10 +195,10 @@ pub AreSummedIn-renewed : (cells : List (Option Occupant)) (cell : ℕ) (o next 
     (tasks_with (tasks_without tasks o.organism.credited) next.organism.credited)
 AreSummedIn-renewed cells cell o next merit tasks within here fits are =
     let fewer : Task → ℕ =
-    λ task. slice_index tasks (place_of task) - from_bool (has_task o.organism.credited task) in
+    λ task. slice_index tasks (task_place task) - from_bool (has_task o.organism.credited task) in
     AreSummedIn-set cells cell (Some next) merit (merit - o.organism.merit + next.organism.merit)
     tasks (tasks_with (tasks_without tasks o.organism.credited) next.organism.credited)
-    (λ task. slice_index (tasks_without tasks o.organism.credited) (place_of task) + from_bool
+    (λ task. slice_index (tasks_without tasks o.organism.credited) (task_place task) + from_bool
     (has_task next.organism.credited task)) within fits are
     (omega (arith, merit-counted cells cell o merit tasks within here are, ap merit_in here)) refl
     (λ task. (let stands = ap (is_credited task) here in

@@ -2,13 +2,13 @@
 use Rattle.std.proofs.Common.{◌≡◌, ◌∙◌, sym, ap, subst, ℕ, ◌+◌, ◌<◌, ◌≤◌, Bool, List, length, map, set, get_or, Option, None, arith}
 use Rattle.std.specs.Option.{option_map}
 use Rattle.std.proofs.lemmas.List.{get_or-map, get_or_read, length-map}
-use Rattle.cell_shards.specs.CellLives.{RoundNumbers, left_in, lives_of as shard_lives_of, part_from}
+use Rattle.cell_shards.specs.CellLives.{RoundNumbers, left_in, part_from, shard_lives_of}
 use Rattle.census.specs.Counts.{Counts}
 use Rattle.instruction_set.specs.declared.letter.Letter.{Letter}
 use Rattle.organism.specs.OrganismState.{OrganismState}
 use Rattle.world_config.specs.Values.{ConfigValues}
 use Rattle.world_rules.specs.World.{Occupant}
-use Rattle.world_core.specs.Population.{CanCountAgain, CountsAgain, IsKeptOf, merit_of}
+use Rattle.world_core.specs.Population.{CanCountAgain, CountsAgain, IsKeptOf, merit_or_zero}
 use Rattle.world_core.specs.Residents.{occupants_of, with_id}
 use Rattle.world_core.proofs.CountLemmas.{GoesOn, can-count, counted-again, mixed, mixed-all, mixed-at, mixed-length, mixed-step}
 use Rattle.world_core.proofs.LivedLemmas.{LiveApart, cells-long, lived-length}
@@ -23,7 +23,7 @@ credited_of slot = option_map (λ o. o.credited) slot
 pub record AreRead (os : List (Option OrganismState)) (keys merits : List ℕ)
     (credits : List (Option (List Bool))) : Type 0 where
   pub keyed : length keys ≡ length os
-  pub merits_are : merits ≡ map merit_of os
+  pub merits_are : merits ≡ map merit_or_zero os
   pub credits_are : credits ≡ map credited_of os
 
 -- what is read of one of them
@@ -75,11 +75,13 @@ module _ {config : ConfigValues} {update : ℕ} {cells : List (Option Occupant)}
     key-here : key ≡ get_or keys cell 0
     key-here = get_or_read keys cell key (omega (arith, within, lists.keyed)) read.key_is 0
 
-    merit-here : merit ≡ merit_of (get_or os cell None)
+    merit-here : merit ≡ merit_or_zero (get_or os cell None)
     merit-here =
         get_or_read merits cell merit
-        (omega (arith, within, ap length lists.merits_are, length-map os merit_of)) read.merit_is 0
-        ∙ ap (λ ms. get_or ms cell 0) lists.merits_are ∙ get_or-map merit_of os cell None 0 within
+        (omega (arith, within, ap length lists.merits_are, length-map os merit_or_zero))
+        read.merit_is 0
+        ∙ ap (λ ms. get_or ms cell 0) lists.merits_are
+        ∙ get_or-map merit_or_zero os cell None 0 within
 
     credited-here : credited ≡ credited_of (get_or os cell None)
     credited-here =
@@ -119,9 +121,10 @@ module _ {config : ConfigValues} {update : ℕ} {cells : List (Option Occupant)}
     pub counted-here : CountsAgain before after key merit credited now
         → IsKeptOf (mixed (occupants_of left ids) cells (cell + 1)) genomes keys after
     counted-here counted =
-        let told : CountsAgain before after (get_or keys cell 0) (merit_of (get_or os cell None))
+        let told : CountsAgain before after (get_or keys cell 0)
+        (merit_or_zero (get_or os cell None))
         (credited_of (get_or os cell None)) (get_or left cell None) =
-        subst (λ (key : ℕ). CountsAgain before after key (merit_of (get_or os cell None))
+        subst (λ (key : ℕ). CountsAgain before after key (merit_or_zero (get_or os cell None))
         (credited_of (get_or os cell None)) (get_or left cell None)) key-here
         (subst (λ (merit : ℕ). CountsAgain before after key merit
         (credited_of (get_or os cell None)) (get_or left cell None)) merit-here

@@ -25,12 +25,12 @@ AreDifferent genomes =
     → number ≡ other
 
 -- the genome that stands in a cell
-abbrev pub genome_of : Option Occupant → Option (List Letter)
-genome_of slot = option_map (λ o. o.organism.genome) slot
+abbrev pub occupant_genome : Option Occupant → Option (List Letter)
+occupant_genome slot = option_map (λ o. o.organism.genome) slot
 
 -- the genome that stands in each cell
-abbrev pub genomes_of : List (Option Occupant) → List (Option (List Letter))
-genomes_of cells = map genome_of cells
+abbrev pub occupant_genomes : List (Option Occupant) → List (Option (List Letter))
+occupant_genomes cells = map occupant_genome cells
 
 -- whether this genome stands there
 abbrev pub is_genome : List Letter → Option (List Letter) → Bool
@@ -70,13 +70,13 @@ pub record AreSummedIn (cells : List (Option Occupant)) (merit : ℕ) (tasks : L
 pub record IsKeptOf (cells : List (Option Occupant)) (genomes : List (List Letter))
     (keys : List ℕ) (counts : Counts) : Type 0 where
   pub different : AreDifferent genomes
-  pub genotypes : AreCountedIn (genomes_of cells) genomes keys counts.genotypes
+  pub genotypes : AreCountedIn (occupant_genomes cells) genomes keys counts.genotypes
   pub sums : AreSummedIn cells counts.merit counts.tasks
 
 -- the merit of who stands in a cell, 0 where nobody does
-abbrev pub merit_of : Option OrganismState → ℕ
-merit_of None = 0
-merit_of (Some o) = o.merit
+abbrev pub merit_or_zero : Option OrganismState → ℕ
+merit_or_zero None = 0
+merit_or_zero (Some o) = o.merit
 
 -- who stood in a cell with this key, merit and credited set may be counted again by who stands
 -- there now

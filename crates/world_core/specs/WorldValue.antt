@@ -23,8 +23,8 @@ abbrev pub world_in : WorldValue → World
 world_in v = world_after v.config v.update
 
 -- the genome of who stands in a cell
-abbrev pub genome_in : World → ℕ → Option (List Letter)
-genome_in w cell = option_map (λ o. o.organism.genome) (slice_index_or w.cells cell None)
+abbrev pub genome_in_cell : World → ℕ → Option (List Letter)
+genome_in_cell w cell = option_map (λ o. o.organism.genome) (slice_index_or w.cells cell None)
 
 -- the scene and its statistics are those of the world of this configuration after the scene's
 -- updates, and the scene is settled

@@ -18,12 +18,11 @@ ghost use Rattle.world_core.specs.Soundness.{IsDelivery, AreDeliveries};
 use crate::lived::Delivery;
 use crate::residents::Residents;
 use crate::scene::Scene;
-use crate::settings::{season_at, torus_of};
-use crate::telling::tell;
+use crate::settings::{placing_round_at, torus_of};
 use avida_port::Memory;
 use birth_board::{Occupants, Parents, Placing, Placings, place};
 use cell_shards::{BoxedOrganism, Delivered};
-use log_lines::LogLine;
+use log_lines::write_birth;
 use mutations::Origin;
 use organism::Organism;
 use std::alloc::Global;
@@ -57,7 +56,7 @@ pub(crate) fn place_births(
 {
     let placings = placings_of(alloc, config, scene, &births)?;
     for (birth, placing) in births.into_iter().zip(placings.into_vec()) {
-        settle(alloc, config, scene, birth, &placing, text)?;
+        place_newborn(alloc, config, scene, birth, &placing, text)?;
     }
     Ok(())
 }
@@ -83,8 +82,8 @@ fn placings_of(
     let torus = torus_of(config);
     let parents = parents_of(alloc, births)?;
     let mut board = board_of(alloc, scene.cells.cells())?;
-    let season = season_at(config, scene.update, scene.next_id());
-    place(alloc, &torus, &parents, &mut board, &season)
+    let round = placing_round_at(config, scene.update, scene.next_id());
+    place(alloc, &torus, &parents, &mut board, &round)
 }
 
 /// The cells of the newborns' parents.
@@ -108,7 +107,7 @@ fn board_of(alloc: Global, cells: &Residents) -> Result<Occupants, Memory>
 
 /// A newborn stands in the cell of its placing, with the next id, and has its line.
 #[tactic(auto, unfolding(world_rules::specs::Update::with_newborn, world_rules::specs::Scene::with_newcomer, organism::specs::OrganismState::new_organism))]
-fn settle(
+fn place_newborn(
     alloc: Global,
     config: &Config,
     scene: &mut Scene,
@@ -139,7 +138,7 @@ fn settle(
         ..
     } = newborn;
     let cell = placing.cell;
-    let origin = tell_birth(scene, parent, cell, origin, text)?;
+    tell_birth(scene, parent, cell, &origin, text)?;
     scene.enroll(Some(parent), cell, Some(origin), &handle.genome)?;
     let organism = Organism::found(
         alloc,
@@ -157,31 +156,27 @@ fn settle(
     )
 }
 
-/// Writes the line of a birth, and gives its record back.
+/// The line of a birth.
 fn tell_birth(
     scene: &Scene,
     parent: u64,
     cell: u32,
-    origin: Origin,
+    origin: &Origin,
     text: &mut Vec<u8>,
-) -> Result<Origin, Memory>
+) -> Result<(), Memory>
     requires { cell < length scene.now.cells }
-    ensures text { OnOk result
-        (text.new.items ≡ text.old.items ++ line_text (Birth
+    ensures { OnOk result (text.new.items ≡ text.old.items ++ line_text (Birth
         (next_id (scene_in scene.now)) parent scene.now.update cell
-        (standing_at (scene_in scene.now) cell) (record_of origin))) }
-    ensures origin { IfOk result (λ kept. record_of kept ≡ record_of origin) }
+        (standing_at (scene_in scene.now) cell) (record_of origin.now))) }
 {
-    let line = LogLine::Birth {
-        id: scene.next_id(),
+    let over = scene.standing_at(cell);
+    write_birth(
+        scene.next_id(),
         parent,
-        update: scene.update,
+        scene.update,
         cell,
-        over: scene.standing_at(cell),
+        over,
         origin,
-    };
-    match tell(line, text)? {
-        LogLine::Birth { origin, .. } => Ok(origin),
-        _ => unreachable!(),
-    }
+        text,
+    )
 }

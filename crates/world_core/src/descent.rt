@@ -29,7 +29,7 @@ pub(crate) fn first_tree(
     ensures tree { IfOk result
         (λ tree. IsTreeOf (world_after (values_of config.now.value) 0) tree) }
 {
-    let mut founders = scene.settle(alloc, config)?;
+    let mut founders = scene.take_newcomers(alloc, config)?;
     match founders.pop() {
         Some(founder) => WorldTree::found(alloc, config, founder.genome),
         None => unreachable!(),
@@ -56,6 +56,6 @@ pub(crate) fn grow_tree(
     ensures tree { OnOk result
         (IsTreeOf (world_after (values_of config.now.value) (update + 1)) tree.new) }
 {
-    let newcomers = scene.settle(alloc, config)?;
+    let newcomers = scene.take_newcomers(alloc, config)?;
     tree.grow(config, update, newcomers, &scene.gone)
 }

@@ -1,5 +1,5 @@
 // The events of an update.
-ghost use Rattle.std.specs.Prelude.{◌≡◌, ◌+◌, ◌*◌, ◌++◌, ◌<◌, ◌≤◌, [], ◌∷◌, Some, IfOk, OnOk, length};
+ghost use Rattle.std.specs.Prelude.{◌≡◌, ◌+◌, ◌*◌, ◌++◌, ◌<◌, ◌≤◌, [], ◌∷◌, Some, OnOk, length};
 ghost use Rattle.std.specs.Option.{option_to_list};
 ghost use Rattle.genome.specs.Genome.{letters};
 ghost use Rattle.lineage_log.specs.LogGrammar.{lines_text};
@@ -14,11 +14,10 @@ ghost use Rattle.world_core.specs.Scenes.{Grows, scene_in};
 
 use crate::founding::found_in;
 use crate::scene::Scene;
-use crate::telling::tell;
 use avida_port::Memory;
 use genome::Genome;
 use genotype_bank::laws::genotypes_are_what_was_interned;
-use log_lines::{LogLine, write_line};
+use log_lines::{LogLine, write_injection, write_line};
 use mutations::RateName;
 use random_streams::CELLS;
 use std::alloc::Global;
@@ -112,35 +111,25 @@ fn inject<R: Wait>(
         (Grows scene.old.bank scene.new.bank scene.old.everyone scene.new.everyone) }
 {
     genotypes_are_what_was_interned();
-    let genome = tell_injection(scene, cell, genome.copy(alloc)?, text)?;
-    found_in(rt, alloc, config, scene, nth, cell, genome)?;
+    tell_injection(scene, cell, genome, text)?;
+    found_in(rt, alloc, config, scene, nth, cell, genome.copy(alloc)?)?;
     Ok(())
 }
 
-/// The line of an injection; the genome comes back from it.
+/// The line of an injection.
 fn tell_injection(
     scene: &Scene,
     cell: u32,
-    genome: Genome,
+    genome: &Genome,
     text: &mut Vec<u8>,
-) -> Result<Genome, Memory>
+) -> Result<(), Memory>
     requires { cell < length scene.now.cells }
-    ensures genome { IfOk result (λ same. letters same ≡ letters genome) }
-    ensures text { OnOk result (text.new.items
+    ensures { OnOk result (text.new.items
         ≡ text.old.items ++ lines_text
-        (what_lines (scene_in scene.now) (inject cell (letters genome)))) }
+        (what_lines (scene_in scene.now) (inject cell (letters genome.now)))) }
 {
-    let line = LogLine::Injected {
-        id: scene.next_id(),
-        update: scene.update,
-        cell,
-        over: scene.standing_at(cell),
-        genome,
-    };
-    match tell(line, text)? {
-        LogLine::Injected { genome, .. } => Ok(genome),
-        _ => unreachable!(),
-    }
+    let over = scene.standing_at(cell);
+    write_injection(scene.next_id(), scene.update, cell, over, genome, text)
 }
 
 /// Who stands in these cells dies, with a line for each.

@@ -92,7 +92,7 @@ impl Everyone {
 
     /// All are the past of what comes, and those that came since the last one was settled leave.
     /// After `Memory` drop it.
-    pub(crate) fn settle(
+    pub(crate) fn take_newcomers(
         &mut self,
         alloc: Global,
         config: &Arc<Config, Global>,

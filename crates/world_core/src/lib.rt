@@ -18,7 +18,6 @@ mod scene;
 mod settings;
 mod sharding;
 mod state;
-mod telling;
 mod updating;
 mod world;
 

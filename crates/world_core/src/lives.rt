@@ -6,7 +6,7 @@ ghost use Rattle.merit_slices.specs.Slices.{slices_of};
 ghost use Rattle.world_config.specs.Shown.{values_of};
 ghost use Rattle.world_rules.specs.Settings.{settings_at};
 ghost use Rattle.world_core.specs.Lived.{departed_from};
-ghost use Rattle.world_core.specs.Population.{CanCountAgain, CountsAgain, IsRenewed, merit_of};
+ghost use Rattle.world_core.specs.Population.{CanCountAgain, CountsAgain, IsRenewed, merit_or_zero};
 
 use crate::lived::{Delivery, Departed};
 use crate::settings::settings_at;
@@ -40,7 +40,7 @@ pub(crate) fn merits_of(
     alloc: Global,
     cells: &[Option<BoxedOrganism>],
 ) -> Result<Vec<u64>, AllocError>
-    ensures { IfOk result (λ merits. merits.items ≡ map merit_of cells.now) }
+    ensures { IfOk result (λ merits. merits.items ≡ map merit_or_zero cells.now) }
 {
     let mut merits = Vec::with_capacity(alloc, cells.len())?;
     for slot in cells {
@@ -50,7 +50,7 @@ pub(crate) fn merits_of(
 }
 
 fn merit_in(slot: &Option<BoxedOrganism>) -> u64
-    ensures { result ≡ merit_of slot.now }
+    ensures { result ≡ merit_or_zero slot.now }
 {
     match slot {
         Some(organism) => organism.get().merit(),

@@ -10,7 +10,7 @@ ghost use Rattle.world_rules.specs.Update.{births_of};
 ghost use Rattle.world_laws.specs.Keeping.{LiveOn};
 ghost use Rattle.world_core.specs.Genotypes.{TakesIn};
 ghost use Rattle.world_core.specs.Lived.{delivery_in, departed_of, staying_in};
-ghost use Rattle.world_core.specs.Population.{genome_of};
+ghost use Rattle.world_core.specs.Population.{occupant_genome};
 ghost use Rattle.world_core.specs.Soundness.{AreBounded, AreBoundedLives};
 
 use crate::genotypes::Genotypes;
@@ -93,7 +93,7 @@ impl Population {
         requires { cell < length self.now.cells }
         ensures { option_map (λ number. slice_get self.now.bank number) result
             ≡ option_map (λ genome. Some genome)
-            (genome_of (slice_index_or self.now.cells cell None)) }
+            (occupant_genome (slice_index_or self.now.cells cell None)) }
     {
         match self.cells.organism_at(cell as usize) {
             Some(_) => Some(self.keys[cell as usize]),

@@ -1,5 +1,5 @@
 // A world within an update.
-ghost use Rattle.std.specs.Prelude.{◌≡◌, ◌+◌, ◌++◌, ◌∷◌, [], ◌<◌, ◌≤◌, ◌^◌, Some, IfOk, None, OnOk, drop, length, map, option_map, replicate, slice_get, slice_index_or, slice_set};
+ghost use Rattle.std.specs.Prelude.{◌≡◌, ◌+◌, ◌++◌, ◌∷◌, [], ◌<◌, ◌≤◌, ◌^◌, Some, IfOk, None, OnOk, drop, length, map, option_map, replicate, slice_get, slice_set};
 ghost use Rattle.std.specs.Option.{option_to_list};
 ghost use Rattle.genome.specs.Genome.{letters};
 ghost use Rattle.genotype_bank.specs.BankHistory.{with_genome};
@@ -9,7 +9,6 @@ ghost use Rattle.world_config.specs.Shown.{values_of};
 ghost use Rattle.world_rules.specs.Scene.{next_id, standing_at, with_death};
 ghost use Rattle.world_rules.specs.Statistics.{scene_stats};
 ghost use Rattle.world_rules.specs.WorldRun.{world_after};
-ghost use Rattle.world_core.specs.Population.{genome_of};
 ghost use Rattle.world_core.specs.Scenes.{scene_in};
 
 use crate::everyone::Everyone;
@@ -166,7 +165,7 @@ impl Scene {
 
     /// Who came since the scene was last settled leaves: from now on they are known by the world
     /// after the scene's update. After `Memory` drop the scene.
-    pub(crate) fn settle(
+    pub(crate) fn take_newcomers(
         &mut self,
         alloc: Global,
         config: &Arc<Config, Global>,
@@ -179,7 +178,7 @@ impl Scene {
         ensures newcomers { IfOk result
             (λ newcomers. newcomers.items ≡ drop self.old.first self.old.everyone) }
     {
-        self.everyone.settle(alloc, config, self.update)
+        self.everyone.take_newcomers(alloc, config, self.update)
     }
 
     /// Of all organisms ever in the world nothing but their number is known from now on.
@@ -191,23 +190,6 @@ impl Scene {
         } }
     {
         self.everyone.forget();
-    }
-
-    /// How many different genomes were ever in the world.
-    pub(crate) fn bank_len(&self) -> u64
-        ensures { result ≡ length self.now.bank }
-    {
-        self.cells.bank_len()
-    }
-
-    /// The number of the genome in the cell; None exactly where nobody stands there.
-    pub(crate) fn number_at(&self, cell: u32) -> Option<u64>
-        requires { cell < length self.now.cells }
-        ensures { option_map (λ number. slice_get self.now.bank number) result
-            ≡ option_map (λ genome. Some genome)
-            (genome_of (slice_index_or self.now.cells cell None)) }
-    {
-        self.cells.number_at(cell)
     }
 
     /// What is counted at the end of the update, in which so many were born.

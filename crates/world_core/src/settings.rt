@@ -5,9 +5,9 @@ ghost use Rattle.divide_rules.specs.Rules.{rule_numbers};
 ghost use Rattle.mutations.specs.Rates.{numbers_of};
 ghost use Rattle.organism.specs.SettingNumbers.{setting_numbers};
 ghost use Rattle.world_config.specs.Shown.{values_of};
-ghost use Rattle.world_rules.specs.Settings.{first_rates, with_rate, rates_at, rules_of, settings_at, season_at, torus_of};
+ghost use Rattle.world_rules.specs.Settings.{first_rates, with_rate, rates_at, rules_of, settings_at, placing_round_at, torus_of};
 
-use birth_board::{Season, Torus};
+use birth_board::{PlacingRound, Torus};
 use divide_rules::DivideRules;
 use mutations::{RateName, Rates};
 use organism::Settings;
@@ -94,10 +94,10 @@ pub(crate) fn torus_of(config: &Config) -> Torus
 }
 
 /// What the placing of an update needs besides the cells.
-pub(crate) fn season_at(config: &Config, update: u32, next_id: u64) -> Season
-    ensures { result ≡ season_at (values_of config.now) update next_id }
+pub(crate) fn placing_round_at(config: &Config, update: u32, next_id: u64) -> PlacingRound
+    ensures { result ≡ placing_round_at (values_of config.now) update next_id }
 {
-    Season {
+    PlacingRound {
         seed: config.seed,
         update,
         prefer_empty: config.prefer_empty,

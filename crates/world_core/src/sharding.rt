@@ -2,7 +2,7 @@
 ghost use Rattle.std.specs.Prelude.{◌≡◌, ◌+◌, ◌<◌, ◌≤◌, ◌^◌, ◌++◌, ◌∷◌, List, All, IfOk, length, map};
 ghost use Rattle.std.specs.List.Sorted.{IsPermutation};
 ghost use mathlib.Core.List.{IsPrefix};
-ghost use Rattle.cell_shards.specs.CellLives.{IsYoung, births_from, deaths_from, left_in, lives_of, part_from, round_numbers};
+ghost use Rattle.cell_shards.specs.CellLives.{IsYoung, births_from, deaths_from, left_in, part_from, round_numbers, shard_lives_of};
 ghost use Rattle.cell_shards.specs.Finishing.{IsNumbered, birth_of};
 ghost use Rattle.genotype_bank.specs.Seats.{all_shares, own_calls_of};
 ghost use Rattle.world_core.specs.Genotypes.{TakesIn};
@@ -49,11 +49,11 @@ pub(crate) fn live_in_shards<R: Threads + Wait + Sync, G: Gate + Sync>(
     requires young { All IsYoung cells.items }
     requires workers { (1 ≤ workers) × (workers ≤ 64) }
     ensures cells { IfOk result (λ next. next.1.organisms.items ≡ map left_in
-        (lives_of (round_numbers round.now) (part_from 0 cells.items slices.items))) }
+        (shard_lives_of (round_numbers round.now) (part_from 0 cells.items slices.items))) }
     ensures births { IfOk result (λ next. map birth_of next.1.births.items ≡ births_from 0
-        (lives_of (round_numbers round.now) (part_from 0 cells.items slices.items))) }
+        (shard_lives_of (round_numbers round.now) (part_from 0 cells.items slices.items))) }
     ensures dead { IfOk result (λ next. next.1.dead.items ≡ deaths_from 0
-        (lives_of (round_numbers round.now) (part_from 0 cells.items slices.items))) }
+        (shard_lives_of (round_numbers round.now) (part_from 0 cells.items slices.items))) }
     ensures bank { IfOk result (λ next. TakesIn genotypes next.0 next.1.births.items) }
     ensures different { IfOk result (λ next. AreDifferent next.0) }
 {

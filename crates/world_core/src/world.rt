@@ -12,7 +12,7 @@ ghost use Rattle.world_rules.specs.LogText.{head_text, update_text, end_text};
 ghost use Rattle.world_rules.specs.Statistics.{stats_of};
 ghost use Rattle.world_tree.specs.WorldTrees.{living_and_ancestors};
 ghost use Rattle.world_core.specs.Genotypes.{genomes_ever};
-ghost use Rattle.world_core.specs.WorldValue.{WorldValue, world_in, genome_in};
+ghost use Rattle.world_core.specs.WorldValue.{WorldValue, world_in, genome_in_cell};
 
 use crate::descent::{first_tree, grow_tree};
 use crate::founding::first_scene;
@@ -191,7 +191,7 @@ impl World {
         ensures len { result ≡ length self.now.bank }
         ensures each { HasEachOnce self.now.bank (genomes_ever (world_in self.now).everyone) }
     {
-        self.scene.bank_len()
+        self.scene.cells.bank_len()
     }
 
     /// What is counted after this update.
@@ -224,7 +224,7 @@ impl World {
     pub fn genome_at(&self, cell: u32) -> Option<&Genome>
         requires { cell < self.now.config.width * self.now.config.height }
         ensures { option_map (λ genome. letters genome.now) result
-            ≡ genome_in (world_in self.now) cell }
+            ≡ genome_in_cell (world_in self.now) cell }
     {
         match self.scene.cells.cells().organism_at(cell as usize) {
             Some(organism) => Some(organism.genome()),
@@ -237,9 +237,9 @@ impl World {
     pub fn handle_at(&self, cell: u32) -> Option<u64>
         requires { cell < self.now.config.width * self.now.config.height }
         ensures { option_map (λ number. slice_get self.now.bank number) result
-            ≡ option_map (λ genome. Some genome) (genome_in (world_in self.now) cell) }
+            ≡ option_map (λ genome. Some genome) (genome_in_cell (world_in self.now) cell) }
     {
-        self.scene.number_at(cell)
+        self.scene.cells.number_at(cell)
     }
 
     /// The line of who stands in the cell, its founder first; `Ok(None)` exactly where it is empty.
@@ -265,7 +265,7 @@ impl World {
 
 /// The text of one line.
 fn line_alone(alloc: Global, line: &LogLine) -> Result<Vec<u8>, Memory>
-    ensures { IfOk result (λ text. text.items ≡ line_text (line_spec.values_of line.now)) }
+    ensures { IfOk result (λ text. text.items ≡ line_text (line_spec.line_values line.now)) }
 {
     let mut text = Vec::new(alloc);
     write_line(line, &mut text)?;

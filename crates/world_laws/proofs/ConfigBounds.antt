@@ -18,6 +18,7 @@ abbrev frame : ConfigValues → Frame
 frame config =
     frame_of config.width config.height config.updates config.least_length config.greatest_length
 
+-- what the frame allows an event to do fits the configuration
 what_within : (config : ConfigValues) → 1 ≤ size_of config → (what : WhatValue)
     → what_fits (frame config) what ≡ true → FitsWhat config what
 what_within config some (inject cell letters) h =
@@ -35,6 +36,7 @@ what_within config some (clear first last) h =
     omega arith
 what_within config some (rate name ppm) h = leb-true _ _ h
 
+-- events that fit the frame fit the configuration
 events_within : (config : ConfigValues) → 1 ≤ size_of config → (events : List EventValue)
     → AllByRecursion (λ event. event_fits (frame config) event ≡ true) events
     → AllByRecursion (FitsEvent config) events

@@ -25,6 +25,7 @@ FitsWhat config (inject cell letters) = (cell < size_of config)
 FitsWhat config (clear first last) = last < size_of config
 FitsWhat config (rate name ppm) = ppm ≤ 1000000
 
+-- what an event does fits
 abbrev pub FitsEvent : ConfigValues → EventValue → Type 0
 FitsEvent config event = FitsWhat config event.what
 
@@ -54,6 +55,7 @@ pub record IsConfig (config : ConfigValues) : Type 0 where
   pub few_events : length config.event ≤ 1000
   pub events : AllByRecursion (FitsEvent config) config.event
 
+-- events that fit still do with their places in the list
 all_placed : (config : ConfigValues) (from : ℕ) (events : List EventValue)
     → AllByRecursion (FitsEvent config) events
     → AllByRecursion (FitsPlaced config) (enumerate_from from events)
@@ -71,6 +73,7 @@ module _ (config : ConfigValues) (fit : IsConfig config) where
   events_fit update = all_filtered (FitsPlaced config) _ (enumerate_from 1 config.event)
       (all_placed config 1 config.event fit.events)
 
+  -- an update has at most 1000 events
   pub events_few : (update : ℕ) → length (events_at config update) ≤ 1000
   unfolding events_at
   events_few update =
@@ -98,6 +101,7 @@ module _ (config : ConfigValues) (fit : IsConfig config) where
     copied_is_percent = fit.copied_percent;
   }
 
+  -- letters of a length that the configuration allows are a genome
   pub genome_fits : (letters : List Letter) → config.least_length ≤ length letters
       → length letters ≤ config.greatest_length → IsGenome letters
   genome_fits letters h k =

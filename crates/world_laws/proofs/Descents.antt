@@ -14,14 +14,14 @@ use Rattle.world_rules.specs.Scene.{Scene, next_id, with_death, with_deaths, cel
 use Rattle.world_rules.specs.Update.{Delivery, birth_link, with_newborn, after_what, after_event, after_burials, deaths_of, births_of, turns_of, after_births, events_at, after_events, last_scene, scene_of_lives, lives_after, next_scene, next_world}
 use Rattle.world_rules.specs.WorldRun.{world_after}
 use Rattle.world_laws.specs.Heredity.{ComesFrom, AreDescended}
+use Rattle.world_laws.specs.LowerLaws.{LifeLaws}
 use Rattle.world_laws.proofs.ListLemmas.{get_last, get_more}
 use Rattle.world_laws.proofs.Mirror.{People}
 use Rattle.world_laws.proofs.Scenes.{IsScene}
-use Rattle.world_laws.proofs.Turns.{IsTurn, scene_birth, scene_deaths}
-use Rattle.world_laws.proofs.LivesLemmas.{LifeLaws}
+use Rattle.world_laws.proofs.UpdateLines.{IsTurn, scene_birth, scene_deaths}
 use Rattle.world_laws.proofs.Configs.{IsConfig, size_of}
 use Rattle.world_laws.proofs.Runs.{IsRun, ended, scene_ended, turns_are}
-use Rattle.world_laws.proofs.Wholes.{kept_after, run_after}
+use Rattle.world_laws.proofs.WholeLogs.{kept_after, run_after}
 
 -- who came from somebody did so among more
 comes_more : (everyone : List Link) (new : Link) (parent : Option ℕ) (link : Link)
@@ -30,6 +30,7 @@ comes_more everyone new None link is = is
 comes_more everyone new (Some parent) link is =
     (is.0, get_more everyone (new ∷ []) parent is.0 is.1, is.2)
 
+-- with one more who comes from its parent, each still does
 descended_more : (everyone : List Link) (new : Link) → AreDescended everyone
     → ComesFrom everyone new.parent new → AreDescended (everyone ++ new ∷ [])
 descended_more everyone new are is place link h = elim (get_last everyone new place link h) [
@@ -45,6 +46,7 @@ link_there : (slot : Option Link) (letters : List Letter)
 link_there None letters e = absurd cc
 link_there (Some link) letters e = (link, refl, cc)
 
+-- after a lawful birth each who ever was still comes from its parent
 descended_birth : (size : ℕ) (start : People) (config : ConfigValues) (scene : Scene)
     (turn : Delivery × Placing) → IsScene size start scene → IsTurn size start turn
     → AreDescended scene.everyone → AreDescended (with_newborn config scene turn).everyone
@@ -54,18 +56,19 @@ descended_birth size start config scene turn is lawful are =
     let wrote = sym (slice_get-map (λ (l : Link). l.genome) scene.everyone b.parent)
     ∙ is.agree b.parent lawful.letters lawful.lived in
     let found = link_there (slice_get scene.everyone b.parent) lawful.letters wrote in
-    let made : child_of found.0.genome b.newborn.origin ≡ Ok b.newborn.genome =
-    ap (λ (g : List Letter). child_of g b.newborn.origin) found.2 ∙ lawful.made in
+    let child : child_of found.0.genome b.newborn.origin ≡ Ok b.newborn.genome =
+    ap (λ (g : List Letter). child_of g b.newborn.origin) found.2 ∙ lawful.child in
     descended_more scene.everyone (birth_link (next_id scene) scene.update b turn.1.cell) are (
       found.0,
       found.1,
       record {
         record_of_birth = b.newborn.origin;
         recorded = refl;
-        made = made;
+        child = child;
       },
     )
 
+-- so it is after lawful births, one after another
 descended_births : (size : ℕ) (start : People) (config : ConfigValues) (scene : Scene)
     (turns : List (Delivery × Placing)) → IsScene size start scene
     → AllByRecursion (IsTurn size start) turns → AreDescended scene.everyone
@@ -83,6 +86,7 @@ unfolding with_death
 same_everyone scene [] = refl
 same_everyone scene (cell ∷ cells) = same_everyone (with_death scene cell) cells
 
+-- after what an event does each who ever was still comes from its parent
 descended_what : (config : ConfigValues) (scene : Scene) (nth : ℕ) (what : WhatValue)
     → AreDescended scene.everyone → AreDescended (after_what config scene nth what).everyone
 unfolding with_newcomer
@@ -92,6 +96,7 @@ descended_what config scene nth (clear first last) are =
     subst AreDescended (sym (same_everyone scene (cells_from first last))) are
 descended_what config scene nth (rate name ppm) are = are
 
+-- so it is after events, one after another
 descended_events : (config : ConfigValues) (scene : Scene) (events : List (ℕ × EventValue))
     → AreDescended scene.everyone → AreDescended (fold (after_event config) scene events).everyone
 unfolding after_event
@@ -100,6 +105,7 @@ descended_events config scene (event ∷ events) are =
     descended_events config (after_what config scene event.0 event.1.what) events
     (descended_what config scene event.0 event.1.what are)
 
+-- the founder, who is alone at first, has no record of birth
 founder_descended : (config : ConfigValues)
     → AreDescended (founder_link 0 0 config.founder_cell config.ancestor ∷ [])
 founder_descended config zero link h =
@@ -109,6 +115,7 @@ founder_descended config zero link h =
 founder_descended config (suc place) link h = absurd cc
 
 module _ (laws : LifeLaws) (config : ConfigValues) (fit : IsConfig config) where
+  -- where each who ever was comes from its parent, so it is after one more update
   descended_next : (n : ℕ) (start : People) (w : World) → IsRun config n start w
       → AreDescended w.everyone → AreDescended (next_world config w).everyone
   unfolding next_world next_scene scene_of_lives last_scene after_burials after_births after_events

@@ -14,7 +14,7 @@ use Rattle.world_rules.specs.Lives.{CellLife, no_life}
 use Rattle.world_rules.specs.Scene.{Scene, with_death, with_deaths, with_newcomer}
 use Rattle.world_rules.specs.Update.{Delivery, births_by, births_in, delivery_of}
 use Rattle.world_rules.specs.World.{Occupant}
-use Rattle.world_laws.proofs.FolkLemmas.{left_by}
+use Rattle.world_laws.proofs.AfterLives.{left_by}
 use Rattle.world_laws.proofs.Placements.{all_append}
 use Rattle.world_laws.proofs.Scenes.{Each, Stands, stands_before, stands_with}
 
@@ -38,6 +38,7 @@ fails_here : (P : ℕ → Type 0) (test : Bool) (place : ℕ) (others : List ℕ
 fails_here P true place others all = (inr all.0, all.1)
 fails_here P false place others all = (inl refl, all)
 
+-- a place of a range that is none of those that pass a test fails it
 pub fails_test : (test : ℕ → Bool) (from count cell : ℕ)
     → AllByRecursion (λ at. cell ≢ at) (filter test (range_with_len from count)) → from ≤ cell
     → cell < from + count → test cell ≡ false
@@ -58,10 +59,12 @@ fails_test test from (suc count) cell others low high =
 -- ---- what holds of each, as organisms go and come
 
 module _ (Holds : OrganismState → Type 0) where
+  -- what holds of each still holds once some have died
   pub each_left : (scene : Scene) (ats : List ℕ) → Each Holds scene.cells
       → Each Holds (with_deaths scene ats).cells
   each_left scene ats each cell o h = each cell o (stood_before scene ats cell o h).0
 
+  -- and once somebody has come of whom it holds
   pub each_with : (scene : Scene) (link : Link) (organism : OrganismState) → Holds organism
       → Each Holds scene.cells → Each Holds (with_newcomer scene link organism).cells
   unfolding with_newcomer
@@ -107,11 +110,13 @@ all_lives P run count each =
     subst P (sym (get_or-map-range_with_len run 0 count k k d low (omega arith))) (each k low))
 
 module _ (P : NewbornValue → Type 0) where
+  -- what holds of newborns holds of them with their parent's cell and id
   newborns_by : (cell parent : ℕ) (newborns : List NewbornValue) → AllByRecursion P newborns
       → AllByRecursion (λ (d : Delivery). P d.newborn) (map (delivery_of cell parent) newborns)
   newborns_by cell parent [] all = tt
   newborns_by cell parent (n ∷ newborns) all = (all.0, newborns_by cell parent newborns all.1)
 
+  -- what holds of a life's newborns holds of the births by who stands in its cell
   births_there : (cell : ℕ) (newborns : List NewbornValue) (slot : Option Occupant)
       → AllByRecursion P newborns
       → AllByRecursion (λ (d : Delivery). P d.newborn) (births_by cell newborns slot)

@@ -23,10 +23,11 @@ use Rattle.organism.specs.OrganismState.{OrganismState}
 use Rattle.organism.specs.Lived.{IsSoundOrganism}
 use Rattle.world_rules.specs.World.{Occupant, id_of, ids_of}
 use Rattle.world_rules.specs.Scene.{Scene}
-use Rattle.world_rules.specs.Statistics.{organism_in, organisms_in, genomes_in, genotypes_of, credited_with, stats_in, scene_stats}
+use Rattle.world_rules.specs.Statistics.{organism_in, organisms_in, genomes_of_cells, distinct_genomes, credited_with, stats_in, scene_stats}
 use Rattle.world_laws.proofs.Scenes.{Each}
 use Rattle.world_laws.proofs.Configs.{filter_few}
 
+-- the base of a record that a log can write fits its field
 base_form : (written : Option (List Letter)) → FitsBase written → base_field.Fits written
 base_form None h = tt
 base_form (Some letters) h = h
@@ -50,25 +51,30 @@ pub over_form : (slot : Option ℕ) (end : ℕ) → ((id : ℕ) → slot ≡ Som
 over_form None end low few = tt
 over_form (Some id) end low few = (omega arith, omega (arith, low id refl, few))
 
+-- one more item, or none, makes a list at most one longer
 found_few : {Y : Type 0} (o : Option Y) (ys : List Y) (n : ℕ) → length ys ≤ n
     → length (cons_option o ys) ≤ suc n
 found_few None ys n h = omega (arith, h)
 found_few (Some y) ys n h = omega (arith, h)
 
+-- there are no more organisms than cells
 organisms_few : (cells : List (Option Occupant)) → length (organisms_in cells) ≤ length cells
 organisms_few [] = omega arith
 organisms_few (slot ∷ cells) =
     found_few (organism_in slot) (organisms_in cells) (length cells) (organisms_few cells)
 
-genotypes_of_few : (genomes : List (List Letter)) → length (genotypes_of genomes) ≤ length genomes
+-- there are no more different genomes than genomes
+genotypes_of_few : (genomes : List (List Letter))
+    → length (distinct_genomes genomes) ≤ length genomes
 genotypes_of_few [] = omega arith
 genotypes_of_few (genome ∷ genomes) =
     omega (
       arith,
-      filter_few (λ other. not (same_letters genome other)) (genotypes_of genomes),
+      filter_few (λ other. not (same_letters genome other)) (distinct_genomes genomes),
       genotypes_of_few genomes,
     )
 
+-- with one more organism of at most the greatest merit, or none, no merit is above that
 merits_first : (slot : Option Occupant) (os : List OrganismState)
     → ((o : Occupant) → slot ≡ Some o → o.organism.merit ≤ 2 ^ 38)
     → AllByRecursion (λ (o : OrganismState). o.merit ≤ 2 ^ 38) os
@@ -76,6 +82,7 @@ merits_first : (slot : Option Occupant) (os : List OrganismState)
 merits_first None os first rest = rest
 merits_first (Some o) os first rest = (first o refl, rest)
 
+-- no sound organism in the cells has more than the greatest merit
 merits_fit : (cells : List (Option Occupant)) → Each IsSoundOrganism cells
     → AllByRecursion (λ (o : OrganismState). o.merit ≤ 2 ^ 38) (organisms_in cells)
 merits_fit [] sound = tt
@@ -92,6 +99,7 @@ merits_sum cells sound =
     (All-from_recursion (λ (o : OrganismState). o.merit ≤ 2 ^ 38) (organisms_in cells)
     (merits_fit cells sound))
 
+-- how many of at most 65536 organisms have a task credited fits its field, task by task
 tasks_form : (cells : List (Option Occupant)) (tasks : List Task)
     → length (organisms_in cells) ≤ 65536
     → AllByRecursion large.Fits (map (credited_with cells) tasks)
@@ -118,15 +126,15 @@ count_form scene births sound small early few gone =
     let organisms = organisms_few cells in
     let living : taken (ids_of cells) ≤ 65536 =
     omega (arith, count_by-le-length is_some (ids_of cells), length-map cells id_of, small) in
-    let genomes : length (genomes_in cells) ≤ 65536 =
+    let genomes : length (genomes_of_cells cells) ≤ 65536 =
     omega (
       arith,
       length-map (organisms_in cells) (λ (o : OrganismState). o.genome),
       organisms,
       small,
     ) in
-    let genotypes : length (genotypes_of (genomes_in cells)) ≤ 65536 =
-    omega (arith, genotypes_of_few (genomes_in cells), genomes) in
+    let genotypes : length (distinct_genomes (genomes_of_cells cells)) ≤ 65536 =
+    omega (arith, genotypes_of_few (genomes_of_cells cells), genomes) in
     let merit : sum_by (λ (o : OrganismState). o.merit) (organisms_in cells)
     ≤ 18446744073709551615 = omega (arith, merits_sum cells sound, organisms, small) in (
       (omega arith, omega (arith, early)),

@@ -15,9 +15,9 @@ use Rattle.world_rules.specs.Update.{Delivery, birth_link, with_newborn, after_w
 use Rattle.world_rules.specs.LogText.{death_lines, birth_line, cleared_line, what_lines, lines_of_event}
 use Rattle.world_laws.proofs.Mirror.{People}
 use Rattle.world_laws.proofs.Scenes.{IsScene, who_stands, id_small, scene_death}
-use Rattle.world_laws.proofs.Turns.{scene_birth, scene_what}
+use Rattle.world_laws.proofs.UpdateLines.{scene_birth, scene_what}
 use Rattle.world_laws.proofs.Placements.{all_append}
-use Rattle.world_laws.proofs.FolkLemmas.{IsDelivery}
+use Rattle.world_laws.proofs.AfterLives.{IsDelivery}
 use Rattle.world_laws.proofs.Configs.{IsConfig, size_of, FitsWhat, FitsPlaced, genome_fits, few_cells}
 use Rattle.world_laws.proofs.FormLemmas.{record_form, letters_form, over_form}
 
@@ -40,17 +40,20 @@ module _ (size : ℕ) (start : People) (small : size ≤ 65536) where
         omega (arith, slice_get_within scene.cells cell (Some who.0) who.1, is.sized),
       )
 
+  -- who stands in a cell, or nobody, fits the field for it
   over_fits : (scene : Scene) (more : ℕ) → IsScene size start scene → HasRoom scene more
       → (cell : ℕ) → over_field.Fits (standing_at scene cell)
   over_fits scene more is room cell =
       over_form (standing_at scene cell) (length scene.everyone)
       (λ id h. (standing_low scene is cell id h).0) (omega (arith, room.ids))
 
+  -- a death leaves a scene its room for newcomers
   room_death : (scene : Scene) (more cell : ℕ) → HasRoom scene more
       → HasRoom (with_death scene cell) more
   unfolding with_death
   room_death scene more cell room = record { ids = room.ids; early = room.early }
 
+  -- with the line of one more death, or none, lines still have their forms
   first_fits : (scene : Scene) (more cell : ℕ) (slot : Option ℕ) (others : List Line)
       → IsScene size start scene → HasRoom scene more → standing_at scene cell ≡ slot → Forms others
       → Forms (cons_option (option_map (λ id. Death id scene.update cell) slot) others)
@@ -74,6 +77,7 @@ module _ (size : ℕ) (start : People) (small : size ≤ 65536) where
       (deaths_fit next more cells (scene_death size start scene is cell)
       (room_death scene more cell room))
 
+  -- with the line of one more who is cleared, or none, lines still have their forms
   cleared_fits : (scene : Scene) (more cell : ℕ) (slot : Option ℕ) (others : List Line)
       → IsScene size start scene → HasRoom scene more → standing_at scene cell ≡ slot → Forms others
       → Forms (cons_option (option_map (λ id. Cleared id scene.update cell) slot) others)
@@ -87,6 +91,7 @@ module _ (size : ℕ) (start : People) (small : size ≤ 65536) where
         rest,
       )
 
+  -- the lines of all who are cleared from these cells have their forms
   all_cleared_fit : (scene : Scene) (more : ℕ) (cells : List ℕ) → IsScene size start scene
       → HasRoom scene more → Forms
       (filter_map (λ line. line) (scan with_death cleared_line scene cells))
@@ -98,6 +103,7 @@ module _ (size : ℕ) (start : People) (small : size ≤ 65536) where
       (all_cleared_fit next more cells (scene_death size start scene is cell)
       (room_death scene more cell room))
 
+  -- a birth takes the room of one newcomer
   room_birth : (config : ConfigValues) (scene : Scene) (more : ℕ) (turn : Delivery × Placing)
       → HasRoom scene (suc more) → HasRoom (with_newborn config scene turn) more
   unfolding with_newborn with_newcomer
@@ -136,6 +142,7 @@ module _ (size : ℕ) (start : People) (small : size ≤ 65536) where
             (room_birth config scene (length births) (b, p) room) are.1 within.1,
       )
 
+-- deaths leave a scene its room for newcomers
 room_deaths : (scene : Scene) (more : ℕ) (cells : List ℕ) → HasRoom scene more
     → HasRoom (with_deaths scene cells) more
 unfolding with_death
@@ -144,6 +151,7 @@ room_deaths scene more (cell ∷ cells) room =
     room_deaths (with_death scene cell) more cells (record { ids = room.ids; early = room.early })
 
 module _ (start : People) (config : ConfigValues) (fit : IsConfig config) where
+  -- what an event does takes the room of at most one newcomer
   room_what : (scene : Scene) (more nth : ℕ) (what : WhatValue) → HasRoom scene (suc more)
       → HasRoom (after_what config scene nth what) more
   unfolding with_newcomer

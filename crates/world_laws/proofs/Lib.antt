@@ -2,16 +2,16 @@ mod ListLemmas
 mod Mirror
 mod Scenes
 mod Steps
-mod Turns
+mod UpdateLines
 mod Updates
 mod Placements
 mod LivesLemmas
-mod FolkLemmas
+mod AfterLives
 mod Configs
 mod Sounds
 mod Endings
 mod Runs
-mod Wholes
+mod WholeLogs
 mod FormLemmas
 mod Forms
 mod RunForms
@@ -21,7 +21,9 @@ mod Descents
 mod LineDescents
 mod Merits
 pub mod Keepings
+mod Parents
 mod Turnovers
 mod LifeRanges
 mod Each
 mod Ranges
+mod Ids

@@ -6,10 +6,10 @@ use Rattle.std.proofs.lemmas.Bool.{cases_eq, cases_lt, eqb-false}
 use Rattle.std.proofs.lemmas.List.{length-set, length-replicate}
 use Rattle.instruction_set.specs.declared.letter.Letter.{Letter}
 use Rattle.divide_rules.specs.Rules.{RuleNumbers}
-use Rattle.logic_tasks.specs.LogicTasks.{place_of}
+use Rattle.logic_tasks.specs.LogicTasks.{task_place}
 use Rattle.logic_tasks.specs.declared.task.Task.{Task}
-use Rattle.virtual_cpu.specs.declared.did.Did.{Did}
-use Rattle.virtual_cpu.specs.declared.did.Did.TheVariants.{Output, Asks}
+use Rattle.virtual_cpu.specs.declared.step_answer.StepAnswer.{StepAnswer}
+use Rattle.virtual_cpu.specs.declared.step_answer.StepAnswer.TheVariants.{Output, Asks}
 use Rattle.virtual_cpu.specs.Machine.{Machine}
 use Rattle.virtual_cpu.specs.Step.{KeepsLimits, step}
 use Rattle.organism.specs.declared.outcome.Outcome.{Outcome}
@@ -19,8 +19,7 @@ use Rattle.organism.specs.Life.{after_did, after_output, life_step, machine_step
 use Rattle.organism.specs.Newborns.{NewbornValue}
 use Rattle.organism.specs.OrganismState.{OrganismState}
 use Rattle.organism.specs.SettingNumbers.{SettingNumbers}
-use Rattle.organism.specs.UpdateLife.{LifeState, after_copy, after_outcome, after_step, copy_drawn, death_in, dies_at, ended, is_old, life, newborn_of, state_after}
-use Rattle.world_rules.specs.Lives.{is_death}
+use Rattle.organism.specs.UpdateLife.{LifeState, after_copy, after_outcome, after_step, copy_drawn, death_in, dies_at, ended, is_death, is_old, life, life_state_after, newborn_of}
 use Rattle.world_laws.proofs.Keepings.{steps-kept}
 use Rattle.world_laws.proofs.Placements.{all_append}
 
@@ -43,6 +42,7 @@ record IsOfAge (steps : ℕ) (o other : OrganismState) : Type 0 where
   age : other.age ≡ steps
   nine : (limit : ℕ) → HasNine limit o → HasNine limit other
 
+-- a task that is newly done, or none, leaves the age, the limit and sets of nine tasks
 done-of-age : (o : OrganismState) (task : Option Task) → IsOfAge o.age o (with_done o task).0
 done-of-age o None = record { age = refl; nine = λ limit has. has }
 done-of-age o (Some task) = record {
@@ -50,10 +50,11 @@ done-of-age o (Some task) = record {
   nine = λ limit has. record {
     limit = has.limit;
     credited = has.credited;
-    gestation = length-set o.gestation (place_of task) true ∙ has.gestation;
+    gestation = length-set o.gestation (task_place task) true ∙ has.gestation;
   };
 }
 
+-- so does an output
 output-of-age : (o : OrganismState) (output : ℤ) → IsOfAge o.age o (after_output o output).0
 unfolding after_output
 output-of-age o output =
@@ -68,12 +69,14 @@ output-of-age o output =
       });
     }
 
-did-of-age : (o : OrganismState) (rules : RuleNumbers) (did : Did)
+-- so does what follows from what the machine tells
+did-of-age : (o : OrganismState) (rules : RuleNumbers) (did : StepAnswer)
     → IsOfAge o.age o (after_did o rules did).0
 did-of-age o rules (Output value) = output-of-age o value
 did-of-age o rules (Asks ask) = record { age = refl; nine = λ limit has. has }
 did-of-age o rules _ = record { age = refl; nine = λ limit has. has }
 
+-- a step makes the age one more, and leaves the limit and sets of nine tasks
 step-of-age : KeepLimits → (o : OrganismState) (copy : Option Letter) (rules : RuleNumbers)
     → IsOfAge (o.age + 1) o (life_step o copy rules).0
 unfolding life_step
@@ -94,6 +97,7 @@ pub record LivesWithNine (bound : ℕ) (s : LifeState) : Type 0 where
   pub organism : HasNine bound s.organism
   pub newborns : AllByRecursion BringsNine s.newborns
 
+-- an outcome leaves the limit and sets of nine tasks, in the newborns too
 outcome-nine : (settings : SettingNumbers) (words : ℕ → ℕ) (limit : ℕ) (s : LifeState)
     (told : Outcome) → LivesWithNine limit s
     → LivesWithNine limit (after_outcome settings words s told)
@@ -118,6 +122,7 @@ outcome-age settings words s (outcome.Viable ask) = inr refl
 outcome-age settings words s _ = inl refl
 
 module _ (keep : KeepLimits) (settings : SettingNumbers) (words : ℕ → ℕ) where
+  -- one more step leaves the limit and sets of nine tasks
   more-nine : (limit : ℕ) (s : LifeState) → LivesWithNine limit s
       → LivesWithNine limit (after_step settings words s)
   unfolding after_step
@@ -131,6 +136,7 @@ module _ (keep : KeepLimits) (settings : SettingNumbers) (words : ℕ → ℕ) w
         newborns = has.newborns;
       })
 
+  -- it makes the age one more, or begins it anew
   more-age : (s : LifeState)
       → ((after_step settings words s).organism.age ≡ s.organism.age + 1)
       ⊎ ((after_step settings words s).organism.age ≡ 0)
@@ -146,12 +152,13 @@ module _ (keep : KeepLimits) (settings : SettingNumbers) (words : ℕ → ℕ) w
         | inr anew ↦ inr anew
       ]
 
+  -- so many steps leave the limit and sets of nine tasks
   steps-nine : (limit : ℕ) (start : LifeState) (steps : ℕ) → LivesWithNine limit start
-      → LivesWithNine limit (state_after settings words start steps)
-  unfolding state_after
+      → LivesWithNine limit (life_state_after settings words start steps)
+  unfolding life_state_after
   steps-nine limit start zero has = has
   steps-nine limit start (suc steps) has =
-      more-nine limit (state_after settings words start steps)
+      more-nine limit (life_state_after settings words start steps)
       (steps-nine limit start steps has)
 
   -- the age at which an organism dies
@@ -172,18 +179,18 @@ module _ (keep : KeepLimits) (settings : SettingNumbers) (words : ℕ → ℕ) w
   steps-young : (start : LifeState) (steps : ℕ)
       → ((step : ℕ) → step < steps → dies_at settings words start step ≡ false)
       → settings.death ≡ true → start.organism.age < last-age start
-      → (state_after settings words start steps).organism.age < last-age start
-  unfolding state_after
+      → (life_state_after settings words start steps).organism.age < last-age start
+  unfolding life_state_after
   steps-young start zero alive death young = young
   steps-young start (suc steps) alive death young =
-      let before : LifeState = state_after settings words start steps in
+      let before : LifeState = life_state_after settings words start steps in
       let now : LifeState = after_step settings words before in
       let one_more : steps + 1 ≡ suc steps = omega arith in
       let early : before.organism.age < last-age start =
       steps-young start steps (λ step low. alive step (omega (arith, low))) death young in
       let kept = steps-kept settings words start (suc steps) in
       let lives : is_old settings now.organism ≡ false =
-      ap (λ (n : ℕ). is_old settings (state_after settings words start n).organism)
+      ap (λ (n : ℕ). is_old settings (life_state_after settings words start n).organism)
       (sym one_more) ∙ alive steps (omega arith) in
       let other = other-age now.organism (length start.organism.genome) (ap length kept.genome)
       death lives in
@@ -222,6 +229,7 @@ pub record LeavesInRange (settings : SettingNumbers) (start : LifeState)
       → start.organism.age < settings.age_limit * length start.organism.genome
       → left.0.organism.age < settings.age_limit * length start.organism.genome
 
+-- a life leaves the limit and sets of nine tasks, and who lives on is below the age of death
 pub life-in-range : KeepLimits → (settings : SettingNumbers) (words : ℕ → ℕ) (start : LifeState)
     (steps : ℕ) → LivesWithNine start.organism.machine.limit start
     → LeavesInRange settings start (life settings words start steps)

@@ -7,22 +7,14 @@ use Rattle.lineage_log.specs.Links.{Link}
 use Rattle.world_config.specs.Values.{ConfigValues}
 use Rattle.world_rules.specs.World.{Occupant, World, id_at, id_of}
 use Rattle.world_rules.specs.WorldRun.{world_after}
-use Rattle.world_rules.specs.Descent.{line_of, line_of_parent, lines_of, line_in, IsBelow, AreNumbered, IsNumberedWorld}
+use Rattle.world_rules.specs.Descent.{descent_line_of, line_of_parent, descent_lines_of, line_in, IsBelow, AreNumbered}
 use Rattle.world_laws.specs.Heredity.{IsChildOf, ComesFrom, AreDescended, IsDescent, IsLastOfLine}
+use Rattle.world_laws.specs.LowerLaws.{LifeLaws, LineLaws}
 use Rattle.world_laws.proofs.Mirror.{written}
 use Rattle.world_laws.proofs.Scenes.{Known, Stands, who_stands}
-use Rattle.world_laws.proofs.LivesLemmas.{LifeLaws}
 use Rattle.world_laws.proofs.Configs.{IsConfig}
-use Rattle.world_laws.proofs.Wholes.{run_after}
+use Rattle.world_laws.proofs.WholeLogs.{run_after}
 use Rattle.world_laws.proofs.Descents.{descended_after}
-
--- what world_rules proves of ids and of lines
-pub record LineLaws : Type 0 where
-  pub numbered : (config : ConfigValues) (updates : ℕ)
-      → IsNumberedWorld (world_after config updates)
-  pub line : (everyone : List Link) (id : ℕ) (link : Link) → AreNumbered everyone
-      → slice_get everyone id ≡ Some link
-      → line_of everyone id ≡ line_of_parent (lines_of everyone) link.parent ++ link ∷ []
 
 -- a line goes on with a child of its last
 descent_more : (front : List Link) (last link : Link) → IsDescent (front ++ last ∷ [])
@@ -34,22 +26,24 @@ descent_more (x ∷ y ∷ front) last link is child =
 
 module _ (laws : LineLaws) (everyone : List Link) (are : AreNumbered everyone)
     (descended : AreDescended everyone) where
+  -- the line of a parent, and then its child, descends, where those of lower ids do
   descent_from : (link : Link) (parent : Option ℕ) (bound : ℕ) → IsBelow bound parent
       → ComesFrom everyone parent link
       → ((p : ℕ) (before : Link) → p < bound → slice_get everyone p ≡ Some before
-      → IsDescent (line_of everyone p))
-      → IsDescent (line_of_parent (lines_of everyone) parent ++ link ∷ [])
+      → IsDescent (descent_line_of everyone p))
+      → IsDescent (line_of_parent (descent_lines_of everyone) parent ++ link ∷ [])
   descent_from link None bound below comes earlier = tt
   descent_from link (Some p) bound below comes earlier =
       let before = comes.0 in
       let line = laws.line everyone p before are comes.1 in
       let first = earlier p before below comes.1 in
-      let front = line_of_parent (lines_of everyone) before.parent in
+      let front = line_of_parent (descent_lines_of everyone) before.parent in
       subst (λ (l : List Link). IsDescent (l ++ link ∷ [])) (sym line)
       (descent_more front before link (subst IsDescent line first) comes.2)
 
+  -- the line of each id below a bound descends
   descent_below : (bound id : ℕ) (link : Link) → id < bound → slice_get everyone id ≡ Some link
-      → IsDescent (line_of everyone id)
+      → IsDescent (descent_line_of everyone id)
   descent_below zero id link h e = absurd (omega (arith, h))
   descent_below (suc bound) id link h e =
       let numbered = are id link e in
@@ -57,8 +51,9 @@ module _ (laws : LineLaws) (everyone : List Link) (are : AreNumbered everyone)
       (descent_from link link.parent id numbered.parent (descended id link e)
       (λ p before low there. descent_below bound p before (omega (arith, low, h)) there))
 
+  -- the line of each who ever was descends
   descent_of : (id : ℕ) (link : Link) → slice_get everyone id ≡ Some link
-      → IsDescent (line_of everyone id)
+      → IsDescent (descent_line_of everyone id)
   descent_of id link e = let low : id < suc id = omega arith in descent_below (suc id) id link low e
 
 -- a link that was written, with its genome
@@ -68,9 +63,10 @@ written_there : (slot : Option Link) (letters : List Letter)
 written_there None letters e = absurd cc
 written_there (Some link) letters e = (link, refl, cc)
 
+-- the line of who stands in a cell, if somebody does, descends
 descent_in : (laws : LineLaws) (w : World) → AreNumbered w.everyone → AreDescended w.everyone
     → Known (map written w.everyone) w.cells → (cell : ℕ) (slot : Option ℕ)
-    → id_at w.cells cell ≡ slot → IfSome (option_map (line_of w.everyone) slot) IsDescent
+    → id_at w.cells cell ≡ slot → IfSome (option_map (descent_line_of w.everyone) slot) IsDescent
 descent_in laws w are descended known cell None e = tt
 descent_in laws w are descended known cell (Some id) e =
     let who = who_stands w.cells cell id e in
@@ -89,6 +85,7 @@ line_descends laws lives config fit n cell =
     descent_in laws w (laws.numbered config n).everyone (descended_after lives config fit n)
     (run_after lives config fit n).world.kept cell (id_at w.cells cell) refl
 
+-- the line of who stands in a cell ends with its own record, which has its genome
 last_in : (laws : LineLaws) (w : World) → AreNumbered w.everyone
     → Known (map written w.everyone) w.cells → (cell : ℕ) (o : Occupant) → Stands w.cells cell o
     → IsLastOfLine w cell o
@@ -103,8 +100,8 @@ last_in laws w are known cell o stands =
       last = found.0;
       recorded = found.1;
       genome = found.2;
-      before = line_of_parent (lines_of w.everyone) found.0.parent;
-      line = ap (option_map (line_of w.everyone)) here ∙ ap Some line;
+      before = line_of_parent (descent_lines_of w.everyone) found.0.parent;
+      line = ap (option_map (descent_line_of w.everyone)) here ∙ ap Some line;
     }
 
 -- who stands in a cell of a run's world

@@ -1,14 +1,18 @@
 -- Lists that were written at a place, or grew at their end.
-use Rattle.std.proofs.Common.{◌≡◌, ◌≢◌, ℕ, zero, suc, ◌+◌, ◌<◌, true, List, [], ◌∷◌, ◌++◌, map, length, drop, Option, Some, None, refl, sym, ap, arith, eq-eqb, ◌⊎◌, inl, inr, ◌∙◌}
-use Rattle.std.proofs.lemmas.List.{set-get_or}
+use Rattle.std.proofs.Common.{◌≡◌, ◌≢◌, ℕ, zero, suc, ◌+◌, ◌<◌, true, List, [], ◌∷◌, ◌++◌, map, length, drop, Option, Some, None, refl, sym, ap, subst, arith, eq-eqb, ◌⊎◌, inl, inr, ◌∙◌}
+use Rattle.std.proofs.lemmas.Bool.{cases_eq}
+use Rattle.std.proofs.lemmas.List.{length-set, set-get_or}
+use Rattle.std.proofs.lemmas.Option.{slice_get_within}
 use Rattle.std.specs.Prelude.{slice_get, slice_set, slice_index_or, ◌==◌, replicate}
 
+-- what was written at a place stands there
 pub get_written : {X : Type 0} (xs : List X) (i : ℕ) (x : X) → i < length xs
     → slice_get (slice_set xs i x) i ≡ Some x
 get_written [] i x h = absurd (omega (arith, h))
 get_written (y ∷ ys) zero x h = refl
 get_written (y ∷ ys) (suc i) x h = get_written ys i x (omega (arith, h))
 
+-- at another place stands what stood there before
 pub get_elsewhere : {X : Type 0} (xs : List X) (i j : ℕ) (x : X) → j ≢ i
     → slice_get (slice_set xs i x) j ≡ slice_get xs j
 get_elsewhere [] i j x h = refl
@@ -17,12 +21,32 @@ get_elsewhere (y ∷ ys) zero (suc j) x h = refl
 get_elsewhere (y ∷ ys) (suc i) zero x h = refl
 get_elsewhere (y ∷ ys) (suc i) (suc j) x h = get_elsewhere ys i j x (λ e. h (ap suc e))
 
+-- who stands once a place is empty stood there before, and in another place
+pub get_emptied : {X : Type 0} (xs : List (Option X)) (i at : ℕ) (x : X)
+    → slice_get (slice_set xs at None) i ≡ Some (Some x)
+    → (slice_get xs i ≡ Some (Some x)) × (i ≢ at)
+get_emptied xs i at x h = elim (cases_eq i at) [
+  | inl same ↦
+      let here : slice_get (slice_set xs at None) at ≡ Some (Some x) =
+      subst (λ n. slice_get (slice_set xs at None) n ≡ Some (Some x)) same h in
+      let within : at < length xs =
+      omega (
+        arith,
+        slice_get_within (slice_set xs at None) at (Some x) here,
+        length-set xs at None,
+      ) in
+      let e = get_written xs at None within in absurd cc
+  | inr other ↦ (sym (get_elsewhere xs at i None other) ∙ h, other)
+]
+
+-- what stands in a list still stands there with others behind
 pub get_more : {X : Type 0} (xs ys : List X) (i : ℕ) (x : X) → slice_get xs i ≡ Some x
     → slice_get (xs ++ ys) i ≡ Some x
 get_more [] ys i x h = absurd cc
 get_more (y ∷ xs) ys zero x h = h
 get_more (y ∷ xs) ys (suc i) x h = get_more xs ys i x h
 
+-- the item behind a list stands at the list's length
 pub get_seam : {X : Type 0} (xs ys : List X) (x : X) → slice_get (xs ++ x ∷ ys) (length xs) ≡ Some x
 get_seam [] ys x = refl
 get_seam (y ∷ xs) ys x = get_seam xs ys x
@@ -35,9 +59,11 @@ get_last [] x (suc i) y h = absurd cc
 get_last (z ∷ xs) x zero y h = inl h
 get_last (z ∷ xs) x (suc i) y h = get_last xs x i y h
 
+-- a number passes the test of equality with itself
 pub eqb_same : (n : ℕ) → (n == n) ≡ true
 eqb_same n = eq-eqb n n refl
 
+-- a function of copies of an item makes as many copies of its value
 pub map-replicate : {X Y : Type 0} (f : X → Y) (n : ℕ) (x : X)
     → map f (replicate n x) ≡ replicate n (f x)
 map-replicate f zero x = refl
@@ -55,18 +81,21 @@ got_some [] i x h = absurd cc
 got_some (y ∷ xs) zero x h = ap Some h
 got_some (y ∷ xs) (suc i) x h = got_some xs i x h
 
+-- at the places of a first list stands what it has, whatever is behind
 pub get_left : {X : Type 0} (xs ys : List X) (i : ℕ) → i < length xs
     → slice_get (xs ++ ys) i ≡ slice_get xs i
 get_left [] ys i h = absurd (omega (arith, h))
 get_left (x ∷ xs) ys zero h = refl
 get_left (x ∷ xs) ys (suc i) h = get_left xs ys i (omega (arith, h))
 
+-- behind a first list stands what the second one has
 pub get_right : {X : Type 0} (xs ys : List X) (j : ℕ)
     → slice_get (xs ++ ys) (length xs + j) ≡ slice_get ys j
 get_right [] ys j = let e : 0 + j ≡ j = omega arith in ap (slice_get ys) e
 get_right (x ∷ xs) ys j =
     let e : length (x ∷ xs) + j ≡ suc (length xs + j) = omega arith in rw e (get_right xs ys j)
 
+-- without the first n items, at a place stands what stood n places later
 pub get_dropped : {X : Type 0} (n : ℕ) (xs : List X) (j : ℕ)
     → slice_get (drop n xs) j ≡ slice_get xs (n + j)
 get_dropped zero xs j = let e : j ≡ 0 + j = omega arith in ap (slice_get xs) e

@@ -1,39 +1,22 @@
 -- What the lives of an update leave in the cells, and their newborns, by what one life does.
-use Rattle.std.proofs.Common.{◌≡◌, ℕ, suc, ◌+◌, ◌*◌, ◌^◌, ◌<◌, ◌≤◌, Bool, List, [], ◌∷◌, map, length, Option, Some, None, refl, sym, subst, arith}
-use Rattle.std.specs.Prelude.{slice_index_or, sum}
+use Rattle.std.proofs.Common.{◌≡◌, ℕ, suc, ◌+◌, ◌<◌, ◌≤◌, List, [], ◌∷◌, map, length, Option, Some, None, refl, sym, subst, arith}
+use Rattle.std.specs.Prelude.{slice_index_or}
 use Rattle.std.specs.List.{AllByRecursion, range_with_len}
 use Rattle.std.proofs.lemmas.List.Elements.{recursion_from_All}
 use Rattle.instruction_set.specs.declared.letter.Letter.{Letter}
 use Rattle.divide_rules.specs.Rules.{AreRules}
-use Rattle.genome.specs.Genome.{IsGenome}
-use Rattle.merit_slices.specs.Slices.{slices_of}
-use Rattle.random_streams.specs.declared.purpose.Purpose.{Purpose}
 use Rattle.random_streams.specs.declared.purpose.Purpose.TheVariants.{Run}
 use Rattle.random_streams.specs.RandomStream.{draw}
-use Rattle.organism.specs.SettingNumbers.{SettingNumbers}
 use Rattle.organism.specs.Newborns.{NewbornValue}
-use Rattle.organism.specs.OrganismState.{OrganismState, new_organism}
 use Rattle.organism.specs.UpdateLife.{life}
-use Rattle.organism.specs.Lived.{IsSoundOrganism, IsBornOf, beginning, HasLived}
+use Rattle.organism.specs.Lived.{IsSoundOrganism, IsBornOf, beginning}
 use Rattle.world_config.specs.Values.{ConfigValues}
 use Rattle.world_rules.specs.World.{Occupant}
 use Rattle.world_rules.specs.Settings.{rules_of, settings_at}
 use Rattle.world_rules.specs.Lives.{CellLife, life_of, life_at, lives_of, slice_at}
+use Rattle.world_laws.specs.LowerLaws.{LifeLaws}
 use Rattle.world_laws.proofs.ListLemmas.{got_some}
 use Rattle.world_laws.proofs.Scenes.{Each}
-
--- what the crates below prove of one life, of words, of new organisms and of slices
-pub record LifeLaws : Type 0 where
-  pub lives : (settings : SettingNumbers) (words : ℕ → ℕ) (start : OrganismState) (steps : ℕ)
-      → AreRules settings.rules → ((k : ℕ) → words k < 2 ^ 32) → IsSoundOrganism start
-      → HasLived settings start steps (life settings words (beginning start) steps).0
-  pub words : (seed update cell : ℕ) (purpose : Purpose) (k : ℕ)
-      → draw seed update cell purpose k < 2 ^ 32
-  pub new : (letters : List Letter) (inputs : List ℕ) (merit : ℕ) (credited : List Bool) (limit : ℕ)
-      → IsGenome letters → length letters ≤ limit → limit ≤ 8192 → 1 ≤ merit → merit ≤ 2 ^ 38
-      → IsSoundOrganism (new_organism letters inputs merit credited limit)
-  pub slices : (merits : List ℕ) (average : ℕ)
-      → sum (slices_of merits average) ≤ average * length merits
 
 -- a newborn as its parent's genome and the configuration's rules want it
 abbrev pub IsNewborn : ConfigValues → List Letter → NewbornValue → Type 0
@@ -85,6 +68,7 @@ AreLives config steps from (slot ∷ cells) [] = ⊥
 AreLives config steps from (slot ∷ cells) (l ∷ lives) =
     IsLife config (steps from) slot l × AreLives config steps (from + 1) cells lives
 
+-- lives stand beside the cells from one on, where each is a life of its cell
 lives_beside : (config : ConfigValues) (steps : ℕ → ℕ) (run : ℕ → CellLife) (from : ℕ)
     (cells : List (Option Occupant))
     → ((i : ℕ) → i < length cells

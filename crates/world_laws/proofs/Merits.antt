@@ -9,10 +9,10 @@ use Rattle.world_config.specs.Values.{ConfigValues}
 use Rattle.world_rules.specs.World.{Occupant}
 use Rattle.world_rules.specs.Lives.{merit_in}
 use Rattle.world_rules.specs.WorldRun.{world_after}
+use Rattle.world_laws.specs.LowerLaws.{LifeLaws}
 use Rattle.world_laws.proofs.Scenes.{Each}
-use Rattle.world_laws.proofs.LivesLemmas.{LifeLaws}
 use Rattle.world_laws.proofs.Configs.{IsConfig, few_cells}
-use Rattle.world_laws.proofs.Wholes.{run_after}
+use Rattle.world_laws.proofs.WholeLogs.{run_after}
 
 -- no cell has more than the greatest merit
 merit_few : (slot : Option Occupant) → ((o : Occupant) → slot ≡ Some o → IsSoundOrganism o.organism)
@@ -20,6 +20,7 @@ merit_few : (slot : Option Occupant) → ((o : Occupant) → slot ≡ Some o →
 merit_few None sound = omega arith
 merit_few (Some o) sound = (sound o refl).merit
 
+-- so it is with all cells of sound organisms
 merits_fit : (cells : List (Option Occupant)) → Each IsSoundOrganism cells
     → AllByRecursion (λ merit. merit ≤ 2 ^ 38) (map merit_in cells)
 merits_fit [] sound = tt
@@ -28,6 +29,7 @@ merits_fit (slot ∷ cells) sound = (
   merits_fit cells (λ cell o h. sound (suc cell) o h),
 )
 
+-- all merits together are at most the greatest one for each cell
 merits_few : (cells : List (Option Occupant)) → Each IsSoundOrganism cells
     → sum (map merit_in cells) ≤ length (map merit_in cells) * 2 ^ 38
 merits_few cells sound =

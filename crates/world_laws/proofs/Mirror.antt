@@ -5,7 +5,7 @@ use Rattle.log_lines.specs.Line.{Line}
 use Rattle.lineage_log.specs.declared.reason.Reason.{Reason}
 use Rattle.lineage_log.specs.declared.stage.Stage.{Stage}
 use Rattle.lineage_log.specs.declared.stage.Stage.TheVariants.{Quiet}
-use Rattle.lineage_log.specs.Order.{Place, Within, told, told_all, and_on}
+use Rattle.lineage_log.specs.Order.{LogPlace, Within, told, told_all, and_on}
 use Rattle.lineage_log.specs.Reader.{Reader}
 use Rattle.lineage_log.specs.Replay.{Seen, seen_on, seen_all}
 use Rattle.lineage_log.specs.Links.{Link}
@@ -59,7 +59,7 @@ abbrev pub seen_in : List (Option Occupant) → List Link → Seen
 seen_in cells everyone = record { standing = ids_of cells; genomes = genomes_of everyone }
 
 -- these lines take the reader and the replay on
-pub record Tells (before : Place) (early : Seen) (lines : List Line) (after : Place)
+pub record Tells (before : LogPlace) (early : Seen) (lines : List Line) (after : LogPlace)
     (later : Seen) : Type 0 where
   pub told : told_all before lines ≡ Ok after
   pub seen : seen_all early lines ≡ later
@@ -70,42 +70,52 @@ Passes start stage births scene lines later more next =
     Tells (Within (mirror start stage births scene)) (seen_in scene.cells scene.everyone) lines
     (Within (mirror start later more next)) (seen_in next.cells next.everyone)
 
-abbrev taken : Place → Result Place Reason
+-- the answer of lines that lead to this place
+abbrev taken : LogPlace → Result LogPlace Reason
 taken p = Ok p
 
-pub place_is : (p q : Place) → taken p ≡ taken q → p ≡ q
+-- equal answers are of equal places
+pub place_is : (p q : LogPlace) → taken p ≡ taken q → p ≡ q
 place_is p q e = cc
 
-told_one : (r : Result Place Reason) (q : Place) → r ≡ Ok q
+-- with no more lines an answer is what it was
+told_one : (r : Result LogPlace Reason) (q : LogPlace) → r ≡ Ok q
     → and_on r (λ next. told_all next []) ≡ Ok q
 told_one (Ok p) q e = e
 told_one (Err reason) q e = e
 
-and_then : (r : Result Place Reason) (f g : Place → Result Place Reason) (q : Place)
-    (k : Result Place Reason) → ((p : Place) → f p ≡ Ok q → g p ≡ k) → and_on r f ≡ Ok q
+-- where one way on from an answer leads to q, another gives k if it does from each such place
+and_then : (r : Result LogPlace Reason) (f g : LogPlace → Result LogPlace Reason) (q : LogPlace)
+    (k : Result LogPlace Reason) → ((p : LogPlace) → f p ≡ Ok q → g p ≡ k) → and_on r f ≡ Ok q
     → and_on r g ≡ k
 and_then (Ok p) f g q k h e = h p e
 and_then (Err reason) f g q k h e = absurd cc
 
-told_more : (p : Place) (xs ys : List Line) (q : Place) → told_all p xs ≡ Ok q
+-- once lines lead to a place, they and others are told as the others from there
+told_more : (p : LogPlace) (xs ys : List Line) (q : LogPlace) → told_all p xs ≡ Ok q
     → told_all p (xs ++ ys) ≡ told_all q ys
 told_more p [] ys q e = ap (λ x. told_all x ys) (place_is p q e)
 told_more p (x ∷ xs) ys q e =
     and_then (told p x) (λ next. told_all next xs) (λ next. told_all next (xs ++ ys)) q
     (told_all q ys) (λ next h. told_more next xs ys q h) e
 
+-- a replay of lines and then others is one of the others after the first
 seen_more : (s : Seen) (xs ys : List Line) → seen_all s (xs ++ ys) ≡ seen_all (seen_all s xs) ys
 seen_more s [] ys = refl
 seen_more s (x ∷ xs) ys = seen_more (seen_on s x) xs ys
 
-pub no_lines : (p : Place) (s : Seen) → Tells p s [] p s
+-- no lines leave the reader and the replay as they are
+pub no_lines : (p : LogPlace) (s : Seen) → Tells p s [] p s
 no_lines p s = record { told = refl; seen = refl }
 
-pub one_line : (p : Place) (s : Seen) (line : Line) (q : Place) (t : Seen) → told p line ≡ Ok q
+-- one line takes them on to what it is told and seen as
+pub one_line : (p : LogPlace) (s : Seen) (line : Line) (q : LogPlace) (t : Seen)
+    → told p line ≡ Ok q
     → seen_on s line ≡ t → Tells p s (line ∷ []) q t
 one_line p s line q t e f = record { told = told_one (told p line) q e; seen = f }
 
-pub more_lines : {p q o : Place} {s t v : Seen} (xs ys : List Line) → Tells p s xs q t
+-- lines, and others from where they ended, take them on together
+pub more_lines : {p q o : LogPlace} {s t v : Seen} (xs ys : List Line) → Tells p s xs q t
     → Tells q t ys o v → Tells p s (xs ++ ys) o v
 more_lines {p} {q} {o} {s} {t} {v} xs ys first second = record {
   told = told_more p xs ys q first.told ∙ second.told;

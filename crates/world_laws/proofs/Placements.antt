@@ -5,9 +5,9 @@ use Rattle.std.specs.List.{AllByRecursion}
 use Rattle.std.proofs.Math.Nat.{mul-le-mul_left, div-lt_iff_lt-mul}
 use Rattle.logic_tasks.specs.Inputs.{HasTopBytes, inputs_of}
 use Rattle.birth_board.specs.declared.placing.Placing.{Placing}
-use Rattle.birth_board.specs.declared.season.Season.{Season}
+use Rattle.birth_board.specs.declared.placing_round.PlacingRound.{PlacingRound}
 use Rattle.birth_board.specs.Torus.{TorusNumbers, cells_of, column_of, row_of, west_of, east_of, north_of, south_of, around, neighbours_of}
-use Rattle.birth_board.specs.Placement.{Board, is_free, choices_of, chosen_cell, words_of, placing_of, next_placing, next_board, placements_of}
+use Rattle.birth_board.specs.Placement.{Board, is_free, choices_of, chosen_cell, placing_words, placing_of, next_placing, next_board, placements_of}
 
 -- the top byte of an input
 input_top : (top n : ℕ) → (top * 2 ^ 24 + n % 2 ^ 24) / 2 ^ 24 ≡ top
@@ -50,6 +50,7 @@ tall : (width height cell : ℕ) → cell < width * height → 1 ≤ height
 tall width zero cell h = omega (arith, h)
 tall width (suc height) cell h = omega arith
 
+-- all cells around a column and a row lie in the torus
 around_in : (torus : TorusNumbers) (column row : ℕ) → 1 ≤ torus.width → 1 ≤ torus.height
     → column < torus.width → row < torus.height
     → AllByRecursion (IsCell torus) (around torus column row)
@@ -72,6 +73,7 @@ around_in torus column row some rows c r =
       ),
     )
 
+-- all neighbours of a cell of the torus lie in it
 neighbours_in : (torus : TorusNumbers) (cell : ℕ) → IsCell torus cell
     → AllByRecursion (IsCell torus) (neighbours_of torus cell)
 unfolding neighbours_of
@@ -82,6 +84,7 @@ neighbours_in torus cell h =
     around_in torus (column_of torus cell) (row_of torus cell) some rows column
     (row_in torus.width torus.height cell some h)
 
+-- what holds of an item and of others holds of them, with the item or without it
 filter_step : {X : Type 0} (P : X → Type 0) (b : Bool) (x : X) (xs : List X) → P x
     → AllByRecursion P xs → AllByRecursion P (cond b (x ∷ xs) xs)
 filter_step P true x xs h all = (h, all)
@@ -94,6 +97,7 @@ all_filtered P test [] all = tt
 all_filtered P test (x ∷ xs) all =
     filter_step P (test x) x (filter test xs) all.0 (all_filtered P test xs all.1)
 
+-- what holds of all of two lists holds of all of whichever is taken
 all_or : {X : Type 0} (P : X → Type 0) (b : Bool) (xs ys : List X) → AllByRecursion P xs
     → AllByRecursion P ys → AllByRecursion P (cond b xs ys)
 all_or P true xs ys h k = h
@@ -128,79 +132,87 @@ chosen_in torus prefer occupants parent word h =
 abbrev pub PlacedIn : TorusNumbers → Placing → Type 0
 PlacedIn torus placing = IsCell torus placing.cell
 
-placing_in : (torus : TorusNumbers) (season : Season) (board : Board) (parent : ℕ)
-    → IsCell torus parent → PlacedIn torus (next_placing torus season board parent)
+-- a newborn whose parent is in the torus is placed in it
+placing_in : (torus : TorusNumbers) (round : PlacingRound) (board : Board) (parent : ℕ)
+    → IsCell torus parent → PlacedIn torus (next_placing torus round board parent)
 unfolding placing_of
-placing_in torus season board parent h =
-    chosen_in torus season.prefer_empty board.occupants parent _ h
+placing_in torus round board parent h =
+    chosen_in torus round.prefer_empty board.occupants parent _ h
 
 -- the placings of a board once the newborns of these parents are placed
-placed_in : (torus : TorusNumbers) (season : Season) (board : Board) (parents : List ℕ)
+placed_in : (torus : TorusNumbers) (round : PlacingRound) (board : Board) (parents : List ℕ)
     → AllByRecursion (IsCell torus) parents → AllByRecursion (PlacedIn torus) board.placings
-    → AllByRecursion (PlacedIn torus) (fold (next_board torus season) board parents).placings
+    → AllByRecursion (PlacedIn torus) (fold (next_board torus round) board parents).placings
 unfolding next_board
-placed_in torus season board [] cells before = before
-placed_in torus season board (parent ∷ parents) cells before =
-    placed_in torus season (next_board torus season board parent) parents cells.1
-    (all_append (PlacedIn torus) board.placings (next_placing torus season board parent ∷ []) before
-    (placing_in torus season board parent cells.0, tt))
+placed_in torus round board [] cells before = before
+placed_in torus round board (parent ∷ parents) cells before =
+    placed_in torus round (next_board torus round board parent) parents cells.1
+    (all_append (PlacedIn torus) board.placings (next_placing torus round board parent ∷ []) before
+    (placing_in torus round board parent cells.0, tt))
 
-placed_number : (torus : TorusNumbers) (season : Season) (board : Board) (parents : List ℕ)
-    → length (fold (next_board torus season) board parents).placings
+-- for each parent there is one placing more
+placed_number : (torus : TorusNumbers) (round : PlacingRound) (board : Board) (parents : List ℕ)
+    → length (fold (next_board torus round) board parents).placings
     ≡ length board.placings + length parents
 unfolding next_board
-placed_number torus season board [] = omega arith
-placed_number torus season board (parent ∷ parents) =
+placed_number torus round board [] = omega arith
+placed_number torus round board (parent ∷ parents) =
     omega (
       arith,
-      placed_number torus season (next_board torus season board parent) parents,
-      length-append board.placings (next_placing torus season board parent ∷ []),
+      placed_number torus round (next_board torus round board parent) parents,
+      length-append board.placings (next_placing torus round board parent ∷ []),
     )
 
+-- all newborns whose parents are in the torus are placed in it
 pub placements_in : (torus : TorusNumbers) (parents : List ℕ) (occupants : List (Option ℕ))
-    (season : Season) → AllByRecursion (IsCell torus) parents
-    → AllByRecursion (PlacedIn torus) (placements_of torus parents occupants season).placings
+    (round : PlacingRound) → AllByRecursion (IsCell torus) parents
+    → AllByRecursion (PlacedIn torus) (placements_of torus parents occupants round).placings
 unfolding placements_of
-placements_in torus parents occupants season cells =
-    placed_in torus season (record { occupants = occupants; placings = []; parents = [] }) parents
+placements_in torus parents occupants round cells =
+    placed_in torus round (record { occupants = occupants; placings = []; parents = [] }) parents
     cells tt
 
+-- there are as many placings as parents
 pub placements_number : (torus : TorusNumbers) (parents : List ℕ) (occupants : List (Option ℕ))
-    (season : Season) → length (placements_of torus parents occupants season).placings
+    (round : PlacingRound) → length (placements_of torus parents occupants round).placings
     ≡ length parents
 unfolding placements_of
-placements_number torus parents occupants season =
+placements_number torus parents occupants round =
     let empty : Board = record { occupants = occupants; placings = []; parents = [] } in
-    omega (arith, placed_number torus season empty parents)
+    omega (arith, placed_number torus round empty parents)
 
 -- the inputs of a newborn have the top bytes
 abbrev pub IsEquipped : Placing → Type 0
 IsEquipped placing = HasTopBytes placing.inputs
 
+-- the inputs of each placing have the top bytes
 placing_equipped : (torus : TorusNumbers) (prefer : Bool) (occupants : List (Option ℕ))
-    (id parent : ℕ) (words : List ℕ) → IsEquipped (placing_of torus prefer occupants id parent words)
+    (id parent : ℕ) (words : List ℕ)
+    → IsEquipped (placing_of torus prefer occupants id parent words)
 unfolding placing_of
 placing_equipped torus prefer occupants id parent words =
     inputs_top (slice_index_or words 1 0 ∷ slice_index_or words 2 0 ∷ slice_index_or words 3 0 ∷ [])
 
-placed_equipped : (torus : TorusNumbers) (season : Season) (board : Board) (parents : List ℕ)
+-- where those of all of a board's placings do, so do they once more newborns are placed
+placed_equipped : (torus : TorusNumbers) (round : PlacingRound) (board : Board) (parents : List ℕ)
     → AllByRecursion IsEquipped board.placings
-    → AllByRecursion IsEquipped (fold (next_board torus season) board parents).placings
+    → AllByRecursion IsEquipped (fold (next_board torus round) board parents).placings
 unfolding next_board
-placed_equipped torus season board [] before = before
-placed_equipped torus season board (parent ∷ parents) before =
-    placed_equipped torus season (next_board torus season board parent) parents
-    (all_append IsEquipped board.placings (next_placing torus season board parent ∷ []) before (
-      placing_equipped torus season.prefer_empty board.occupants
-          (season.next_id + length board.parents) parent
-          (words_of season parent (count_by (λ cell. cell == parent) board.parents)),
+placed_equipped torus round board [] before = before
+placed_equipped torus round board (parent ∷ parents) before =
+    placed_equipped torus round (next_board torus round board parent) parents
+    (all_append IsEquipped board.placings (next_placing torus round board parent ∷ []) before (
+      placing_equipped torus round.prefer_empty board.occupants
+          (round.next_id + length board.parents) parent
+          (placing_words round parent (count_by (λ cell. cell == parent) board.parents)),
       tt,
     ))
 
+-- the inputs of all newborns that are placed have the top bytes
 pub placements_equipped : (torus : TorusNumbers) (parents : List ℕ) (occupants : List (Option ℕ))
-    (season : Season)
-    → AllByRecursion IsEquipped (placements_of torus parents occupants season).placings
+    (round : PlacingRound)
+    → AllByRecursion IsEquipped (placements_of torus parents occupants round).placings
 unfolding placements_of
-placements_equipped torus parents occupants season =
-    placed_equipped torus season (record { occupants = occupants; placings = []; parents = [] })
+placements_equipped torus parents occupants round =
+    placed_equipped torus round (record { occupants = occupants; placings = []; parents = [] })
     parents tt

@@ -20,24 +20,24 @@ use Rattle.world_config.specs.Events.{EventValue, WhatValue, inject, clear, rate
 use Rattle.world_config.specs.Values.{ConfigValues}
 use Rattle.world_rules.specs.Lives.{CellLife, life_at, life_of, lives_of, no_life, slice_at, slices_at}
 use Rattle.world_rules.specs.Scene.{Scene, cells_from, next_id}
-use Rattle.world_rules.specs.Settings.{settings_at, season_at, torus_of}
+use Rattle.world_rules.specs.Settings.{settings_at, placing_round_at, torus_of}
 use Rattle.world_rules.specs.Update.{Delivery, after_births, after_burials, after_event, after_events, after_lives, after_what, birth_link, births_of, child_of_birth, deaths_of, events_at, last_scene, lives_after, next_scene, next_world, placings_of, scene_of_lives, with_newborn}
 use Rattle.world_rules.specs.World.{Occupant, World, first_world, founder_link, founder_of, founder_words, ids_of}
 use Rattle.world_rules.specs.WorldRun.{world_after}
 use Rattle.world_laws.specs.Ranges.{HasFewIds, IsInRange}
+use Rattle.world_laws.specs.LowerLaws.{LifeLaws}
 use Rattle.world_laws.proofs.Configs.{FitsPlaced, FitsWhat, IsConfig, events_fit, rules_are}
 use Rattle.world_laws.proofs.Each.{all_births, all_lives, each_left, each_with, fails_test, life_there, stood_before}
-use Rattle.world_laws.proofs.FolkLemmas.{IsBorn, births_born}
+use Rattle.world_laws.proofs.AfterLives.{IsBorn, births_born}
 use Rattle.world_laws.proofs.LifeRanges.{BringsNine, KeepLimits, LeavesInRange, LivesWithNine, life-in-range}
 use Rattle.world_laws.proofs.ListLemmas.{got_some}
-use Rattle.world_laws.proofs.LivesLemmas.{LifeLaws}
 use Rattle.world_laws.proofs.Mirror.{People, written}
 use Rattle.world_laws.proofs.Placements.{IsEquipped, inputs_top, placements_equipped}
 use Rattle.world_laws.proofs.RunForms.{everyone_few}
 use Rattle.world_laws.proofs.Runs.{IsRun, few_steps, lives_lawful}
 use Rattle.world_laws.proofs.Scenes.{Each, id_below}
 use Rattle.world_laws.proofs.Turnovers.{turnover_after}
-use Rattle.world_laws.proofs.Wholes.{kept_after, only_founder, run_after}
+use Rattle.world_laws.proofs.WholeLogs.{kept_after, only_founder, run_after}
 
 -- no cell gets more steps than all together
 entry_few : (xs : List ℕ) (i : ℕ) → slice_index_or xs i 0 ≤ sum xs
@@ -68,6 +68,7 @@ module _ (config : ConfigValues) (fit : IsConfig config) (updates : ℕ) where
         inputs = top;
       }
 
+  -- a founder of an allowed length is in range
   range_founder : (cell nth : ℕ) (letters : List Letter) → config.least_length ≤ length letters
       → length letters ≤ config.greatest_length
       → IsInRange config updates (founder_of config cell nth letters)
@@ -83,6 +84,7 @@ module _ (config : ConfigValues) (fit : IsConfig config) (updates : ℕ) where
     nine : BringsNine turn.0.newborn
     equipped : IsEquipped turn.1
 
+  -- lawful newborns with sets of nine tasks come in range, with placings that equip them
   come_in_range : (births : List Delivery) (placings : List Placing)
       → AllByRecursion (IsBorn config) births
       → AllByRecursion (λ (d : Delivery). BringsNine d.newborn) births
@@ -94,9 +96,11 @@ module _ (config : ConfigValues) (fit : IsConfig config) (updates : ℕ) where
     come_in_range births placings born.1 nine.1 equipped.1,
   )
 
+  -- each who stands in these cells is in range
   abbrev InRange : List (Option Occupant) → Type 0
   InRange cells = Each (IsInRange config updates) cells
 
+  -- births of newborns that come in range leave all in range
   range_births : (scene : Scene) (turns : List (Delivery × Placing))
       → AllByRecursion ComesInRange turns → InRange scene.cells
       → InRange (fold (with_newborn config) scene turns).cells
@@ -111,6 +115,7 @@ module _ (config : ConfigValues) (fit : IsConfig config) (updates : ℕ) where
       (birth_link (next_id scene) scene.update turn.0 turn.1.cell)
       (child_of_birth config turn.0 turn.1) child each)
 
+  -- so does what an event does, where it fits
   range_what : (scene : Scene) (nth : ℕ) (what : WhatValue) → FitsWhat config what
       → InRange scene.cells → InRange (after_what config scene nth what).cells
   range_what scene nth (inject cell letters) fits each =
@@ -121,6 +126,7 @@ module _ (config : ConfigValues) (fit : IsConfig config) (updates : ℕ) where
       each_left (IsInRange config updates) scene (cells_from first last) each
   range_what scene nth (rate name ppm) fits each = each
 
+  -- so do events that fit, one after another
   range_events : (scene : Scene) (events : List (ℕ × EventValue))
       → AllByRecursion (FitsPlaced config) events → InRange scene.cells
       → InRange (fold (after_event config) scene events).cells
@@ -206,6 +212,7 @@ module _ (laws : LifeLaws) (keep : KeepLimits) (config : ConfigValues) (fit : Is
       abbrev lived : Scene
       lived = after_lives (w.update + 1) w.everyone (lives_after config w)
 
+      -- no cell gets more than 65536000 steps
       steps_few : (cell : ℕ) → slice_at config w.cells cell ≤ 65536000
       steps_few cell =
           omega (
@@ -235,6 +242,7 @@ module _ (laws : LifeLaws) (keep : KeepLimits) (config : ConfigValues) (fit : Is
           let here = got_some w.cells cell x e in (is.sound cell x here, range cell x here))
           there.2 alive
 
+      -- all newborns of the update have sets of nine tasks
       births_nine : AllByRecursion (λ (d : Delivery). BringsNine d.newborn)
           (births_of (lives_after config w))
       unfolding births_of lives_of
@@ -246,12 +254,13 @@ module _ (laws : LifeLaws) (keep : KeepLimits) (config : ConfigValues) (fit : Is
           (slice_index_or w.cells cell None)
           (λ x e. range cell x (got_some w.cells cell x e))))
 
+      -- all placings of newborns bring inputs with the top bytes
       equipped : (scene : Scene) (births : List Delivery)
           → AllByRecursion IsEquipped (placings_of config scene births)
       unfolding placings_of
       equipped scene births = placements_equipped (torus_of config)
           (map (λ (b : Delivery). b.cell) births) (ids_of scene.cells)
-          (season_at config scene.update (next_id scene))
+          (placing_round_at config scene.update (next_id scene))
 
       -- the next world
       range_next : Each (IsInRange config (suc n)) (next_world config w).cells
@@ -287,6 +296,7 @@ module _ (laws : LifeLaws) (keep : KeepLimits) (config : ConfigValues) (fit : Is
         (range_after n)
 
 module _ (laws : LifeLaws) (config : ConfigValues) (fit : IsConfig config) where
+  -- each world of a run has had somebody
   some_ids : (n : ℕ) → 1 ≤ length (world_after config n).everyone
   unfolding world_after first_world next_world
   some_ids zero = omega arith

@@ -6,9 +6,9 @@ use Rattle.lineage_log.specs.LogGrammar.{IsGoodLog, Reads, lines_text}
 use Rattle.world_config.specs.Values.{ConfigValues}
 use Rattle.world_rules.specs.LogText.{log_text}
 use Rattle.world_rules.specs.Laws.{ReplaysToLiving}
-use Rattle.world_laws.proofs.LivesLemmas.{LifeLaws}
+use Rattle.world_laws.specs.LowerLaws.{LifeLaws}
 use Rattle.world_laws.proofs.Configs.{IsConfig}
-use Rattle.world_laws.proofs.Wholes.{run_lines, run_whole, run_replays}
+use Rattle.world_laws.proofs.WholeLogs.{run_lines, run_whole, run_replays}
 use Rattle.world_laws.proofs.RunForms.{run_forms, text_is}
 
 -- what is read as a log is a good log's text
@@ -16,15 +16,19 @@ pub record ReadLaw : Type 0 where
   pub reads : (bytes : List ℕ) (lines : List Line) → Reads bytes lines
       ↔ ((lines_text lines ≡ bytes) × IsGoodLog lines)
 
+-- the log of a run is read as its lines
+pub run_reads : LifeLaws → ReadLaw → (config : ConfigValues) → IsConfig config → (n : ℕ)
+    → n ≤ 4294967295 → Reads (log_text config n) (run_lines config n)
+run_reads laws read config fit n h = (read.reads (log_text config n) (run_lines config n)).1 (
+  text_is config n,
+  record { forms = run_forms laws config fit n h; order = run_whole laws config fit n },
+)
+
 -- the law, for a configuration within its bounds
 pub replays_to_living : LifeLaws → ReadLaw → (config : ConfigValues) → IsConfig config → (n : ℕ)
     → n ≤ 4294967295 → ReplaysToLiving config n
 replays_to_living laws read config fit n h = record {
   lines = run_lines config n;
-  good = (read.reads (log_text config n) (run_lines config n)).1 (
-    text_is config n,
-    record
-        { forms = run_forms laws config fit n h; order = run_whole laws config fit n },
-  );
+  good = run_reads laws read config fit n h;
   replays = run_replays laws config fit n;
 }

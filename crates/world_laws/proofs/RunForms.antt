@@ -11,19 +11,20 @@ use Rattle.world_rules.specs.Scene.{Scene}
 use Rattle.world_rules.specs.Update.{after_lives, after_burials, deaths_of, births_of, placings_of, turns_of, after_births, events_at, after_events, last_scene, lives_after}
 use Rattle.world_rules.specs.WorldRun.{world_after}
 use Rattle.world_rules.specs.LogText.{death_lines, birth_lines, event_lines, lines_of_lives, update_lines, head_line, head_text, update_text, end_text, updates_text, log_text}
+use Rattle.world_laws.specs.LowerLaws.{LifeLaws}
 use Rattle.world_laws.proofs.Mirror.{People}
-use Rattle.world_laws.proofs.Turns.{scene_deaths, scene_births}
+use Rattle.world_laws.proofs.UpdateLines.{scene_deaths, scene_births}
 use Rattle.world_laws.proofs.Updates.{scene_last}
 use Rattle.world_laws.proofs.Placements.{all_append}
-use Rattle.world_laws.proofs.LivesLemmas.{LifeLaws}
-use Rattle.world_laws.proofs.FolkLemmas.{births_born, sound_kept}
+use Rattle.world_laws.proofs.AfterLives.{births_born, sound_kept}
 use Rattle.world_laws.proofs.Configs.{IsConfig, size_of, events_fit, events_few, few_cells, genome_fits}
 use Rattle.world_laws.proofs.Sounds.{Goes, goes_deaths, goes_births}
 use Rattle.world_laws.proofs.Runs.{IsRun, scene_ended, lives_lawful, deliveries_lawful, placed_lawful, update_goes, few_born, few_come}
-use Rattle.world_laws.proofs.Wholes.{updates_lines, run_lines, kept_after, run_after}
+use Rattle.world_laws.proofs.WholeLogs.{updates_lines, run_lines, kept_after, run_after}
 use Rattle.world_laws.proofs.FormLemmas.{letters_form, count_form}
 use Rattle.world_laws.proofs.Forms.{Forms, HasRoom, deaths_fit, births_fit, events_fit_forms}
 
+-- once some have come, there is room for the rest
 room_after : (scene next : Scene) (count deaths more : ℕ) → Goes scene next count deaths
     → HasRoom scene (count + more) → HasRoom next more
 room_after scene next count deaths more goes room =
@@ -32,10 +33,12 @@ room_after scene next count deaths more goes room =
       early = omega (arith, goes.update, room.early);
     }
 
+-- room for more is room for fewer
 room_less : (scene : Scene) (more less : ℕ) → less ≤ more → HasRoom scene more → HasRoom scene less
 room_less scene more less h room = record { ids = omega (arith, room.ids, h); early = room.early }
 
 module _ (laws : LifeLaws) (config : ConfigValues) (fit : IsConfig config) where
+  -- the number of cells
   abbrev size : ℕ
   size = size_of config
 
@@ -68,7 +71,8 @@ module _ (laws : LifeLaws) (config : ConfigValues) (fit : IsConfig config) where
       let room_born : HasRoom born 1000 =
       room_after buried born (length births) (length births) 1000
       (goes_births laws config fit buried births placings
-      (births_born config _ w.cells lives (lives_lawful laws config fit n start w is))) room_buried in
+      (births_born config _ w.cells lives (lives_lawful laws config fit n start w is)))
+      room_buried in
       let goes = update_goes laws config fit n start w is in
       let deaths = deaths_fit size start small scene (0 + (length births + 1000))
       (deaths_of lives) is_ended room in
@@ -101,6 +105,7 @@ module _ (laws : LifeLaws) (config : ConfigValues) (fit : IsConfig config) where
       (run_after laws config fit n) in
       omega (arith, before, come)
 
+  -- the lines of so many updates have their forms
   updates_forms : (n : ℕ) → n ≤ 4294967295 → Forms (updates_lines config n)
   updates_forms zero h = tt
   updates_forms (suc n) h =

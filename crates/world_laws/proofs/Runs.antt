@@ -7,28 +7,30 @@ use Rattle.std.proofs.lemmas.List.{length-map}
 use Rattle.std.proofs.lemmas.List.FromFn.{length-range_with_len}
 use Rattle.std.proofs.lemmas.Slice.Zip.{length-zip}
 use Rattle.birth_board.specs.declared.placing.Placing.{Placing}
-use Rattle.lineage_log.specs.Order.{Place, Within}
+use Rattle.lineage_log.specs.Order.{LogPlace, Within}
 use Rattle.lineage_log.specs.Replay.{Seen}
 use Rattle.organism.specs.Lived.{IsSoundOrganism}
 use Rattle.world_config.specs.Events.{EventValue, WhatValue, inject, clear, rate}
 use Rattle.world_config.specs.Values.{ConfigValues}
 use Rattle.world_rules.specs.World.{World, ids_of}
-use Rattle.world_rules.specs.Settings.{torus_of, season_at}
+use Rattle.world_rules.specs.Settings.{torus_of, placing_round_at}
 use Rattle.world_rules.specs.Lives.{no_life, merit_in, slices_at, slice_at, life_at, lives_of}
 use Rattle.world_rules.specs.Scene.{Scene, next_id}
 use Rattle.world_rules.specs.Update.{Delivery, after_lives, after_burials, deaths_of, births_of, placings_of, events_at, last_scene, scene_of_lives, lives_after, next_scene, next_world}
 use Rattle.world_rules.specs.LogText.{lines_of_lives, update_lines}
+use Rattle.world_laws.specs.LowerLaws.{LifeLaws}
 use Rattle.world_laws.proofs.Mirror.{People, between, seen_in, Tells}
 use Rattle.world_laws.proofs.Scenes.{Each, IsScene}
-use Rattle.world_laws.proofs.Turns.{IsWhat, IsEvent}
+use Rattle.world_laws.proofs.UpdateLines.{IsWhat, IsEvent}
 use Rattle.world_laws.proofs.Updates.{IsWorld, people_after, world_left, scene_begun, begun_is, seen_begun, AreTurns, scene_last, lives_tell}
 use Rattle.world_laws.proofs.Placements.{placements_in, placements_number}
-use Rattle.world_laws.proofs.LivesLemmas.{LifeLaws, AreLives, lives_are}
-use Rattle.world_laws.proofs.FolkLemmas.{IsDelivery, left_by, folk_kept, births_lawful, births_few, entries_few, turns_lawful}
+use Rattle.world_laws.proofs.LivesLemmas.{AreLives, lives_are}
+use Rattle.world_laws.proofs.AfterLives.{IsDelivery, left_by, folk_kept, births_lawful, births_few, entries_few, turns_lawful}
 use Rattle.world_laws.proofs.Configs.{IsConfig, filter_few, size_of, FitsWhat, FitsPlaced, events_fit, few_cells, rules_are}
 use Rattle.world_laws.proofs.Sounds.{Goes, goes_more}
 use Rattle.world_laws.proofs.Endings.{end_goes, next_sound}
 
+-- the parents of lawful newborns are in cells of the world
 cells_in : (config : ConfigValues) (size : ℕ) (start : People) (births : List Delivery)
     → AllByRecursion (IsDelivery config size start) births
     → AllByRecursion (λ cell. cell < size) (map (λ b. b.cell) births)
@@ -36,12 +38,14 @@ cells_in config size start [] are = tt
 cells_in config size start (b ∷ births) are =
     (are.0.within, cells_in config size start births are.1)
 
+-- where what an event does fits, an injected organism's cell is in the world
 what_is : (config : ConfigValues) (what : WhatValue) → FitsWhat config what
     → IsWhat (size_of config) what
 what_is config (inject cell letters) fits = fits.0
 what_is config (clear first last) fits = tt
 what_is config (rate name ppm) fits = tt
 
+-- so it is with all events that fit
 pub events_are : (config : ConfigValues) (events : List (ℕ × EventValue))
     → AllByRecursion (FitsPlaced config) events → AllByRecursion (IsEvent (size_of config)) events
 events_are config [] fits = tt
@@ -56,6 +60,7 @@ pub record IsRun (config : ConfigValues) (n : ℕ) (start : People) (w : World) 
 
 module _ (laws : LifeLaws) (config : ConfigValues) (fit : IsConfig config) (n : ℕ) (start : People)
     (w : World) (is : IsRun config n start w) where
+  -- each life of the update keeps who stands in its cell, and bears few lawful newborns
   pub lives_lawful : AreLives config (slice_at config w.cells) 0 w.cells (lives_after config w)
   lives_lawful = lives_are laws config (rules_are config fit) (w.update + 1) w.cells is.sound
 
@@ -63,15 +68,18 @@ module _ (laws : LifeLaws) (config : ConfigValues) (fit : IsConfig config) (n : 
   abbrev pub ended : Scene
   ended = after_lives (w.update + 1) w.everyone (lives_after config w)
 
+  -- what holds of a world within an update holds of the scene as the lives have ended
   pub scene_ended : IsScene (size_of config) start ended
   scene_ended = scene_begun (size_of config) start w (lives_after config w) is.world
       (folk_kept config (slice_at config w.cells) 0 w.cells (lives_after config w) lives_lawful)
 
+  -- all newborns of the update are lawful
   pub deliveries_lawful : AllByRecursion (IsDelivery config (size_of config) start)
       (births_of (lives_after config w))
   deliveries_lawful = births_lawful config (size_of config) start (slice_at config w.cells) w.cells
       (lives_after config w) lives_lawful is.world.sized is.world.known
 
+  -- they are placed in cells of the world
   pub placed_lawful : (scene : Scene)
       → AllByRecursion (λ (p : Placing). p.cell < size_of config)
       (placings_of config scene (births_of (lives_after config w)))
@@ -80,8 +88,9 @@ module _ (laws : LifeLaws) (config : ConfigValues) (fit : IsConfig config) (n : 
       let births = births_of (lives_after config w) in
       let cells = cells_in config (size_of config) start births deliveries_lawful in
       placements_in (torus_of config) (map (λ b. b.cell) births) (ids_of scene.cells)
-      (season_at config scene.update (next_id scene)) cells
+      (placing_round_at config scene.update (next_id scene)) cells
 
+  -- there are as many placings as newborns
   pub placed_all : (scene : Scene)
       → length (placings_of config scene (births_of (lives_after config w)))
       ≡ length (births_of (lives_after config w))
@@ -89,8 +98,9 @@ module _ (laws : LifeLaws) (config : ConfigValues) (fit : IsConfig config) (n : 
   placed_all scene =
       let births = births_of (lives_after config w) in
       placements_number (torus_of config) (map (λ b. b.cell) births) (ids_of scene.cells)
-      (season_at config scene.update (next_id scene)) ∙ length-map births (λ b. b.cell)
+      (placing_round_at config scene.update (next_id scene)) ∙ length-map births (λ b. b.cell)
 
+  -- each newborn has a placing, and is lawful with it
   pub turns_are : AreTurns (size_of config) start config ended (lives_after config w) scene_ended
   turns_are =
       let births = births_of (lives_after config w) in
@@ -102,6 +112,7 @@ module _ (laws : LifeLaws) (config : ConfigValues) (fit : IsConfig config) (n : 
             (placings_of config buried births) deliveries_lawful (placed_lawful buried);
       }
 
+  -- the scene at the end of the update
   abbrev last : Scene
   last = last_scene config ended (lives_after config w)
 
@@ -119,7 +130,8 @@ module _ (laws : LifeLaws) (config : ConfigValues) (fit : IsConfig config) (n : 
       let lines = lines_of_lives config ended lives in
       let told = lives_tell size start config ended lives scene_ended turns_are
       (λ update. events_are config (events_at config update) (events_fit config fit update)) in
-      let after : Place = Within (between (people_after start last) (last.update + 1) last.cells) in
+      let after : LogPlace = Within
+      (between (people_after start last) (last.update + 1) last.cells) in
       let later : Seen = seen_in last.cells last.everyone in
       subst (λ (s : Seen). Tells (Within (between start (w.update + 1) w.cells)) s lines after
       later) (seen_begun size start w lives is.world folk)

@@ -10,7 +10,7 @@ use Rattle.organism.specs.OrganismState.{OrganismState}
 use Rattle.lineage_log.specs.Links.{Link}
 use Rattle.world_rules.specs.World.{Occupant, id_of, id_at}
 use Rattle.world_rules.specs.Scene.{Scene, standing_at, with_death, with_newcomer}
-use Rattle.world_laws.proofs.ListLemmas.{get_written, get_elsewhere, get_more, get_seam, get_last, set_nothing, got_some}
+use Rattle.world_laws.proofs.ListLemmas.{get_written, get_elsewhere, get_emptied, get_more, get_seam, get_last, set_nothing, got_some}
 use Rattle.world_laws.proofs.Mirror.{People, written, people_in, genomes_of}
 
 -- somebody stands in a cell
@@ -59,19 +59,7 @@ pub record IsScene (size : ℕ) (start : People) (scene : Scene) : Type 0 where
 -- where somebody stands once a cell is empty
 pub stands_before : (cells : List (Option Occupant)) (cell at : ℕ) (o : Occupant)
     → Stands (slice_set cells at None) cell o → Stands cells cell o × (cell ≢ at)
-stands_before cells cell at o h = elim (cases_eq cell at) [
-  | inl same ↦
-      let here : slice_get (slice_set cells at None) at ≡ Some (Some o) =
-      subst (λ n. slice_get (slice_set cells at None) n ≡ Some (Some o)) same h in
-      let within : at < length cells =
-      omega (
-        arith,
-        slice_get_within (slice_set cells at None) at (Some o) here,
-        length-set cells at None,
-      ) in
-      let e = get_written cells at None within in absurd cc
-  | inr other ↦ (sym (get_elsewhere cells at cell None other) ∙ h, other)
-]
+stands_before = get_emptied
 
 -- where somebody stands once somebody new does
 pub stands_with : (cells : List (Option Occupant)) (cell at : ℕ) (new o : Occupant)
@@ -94,10 +82,12 @@ stands_with cells cell at new o h = elim (cases_eq cell at) [
   | inr other ↦ inr (sym (get_elsewhere cells at cell (Some new) other) ∙ h, other)
 ]
 
+-- where genomes are at the ids of who stands, so they are once a cell is empty
 known_empty : (genomes : People) (cells : List (Option Occupant)) (at : ℕ) → Known genomes cells
     → Known genomes (slice_set cells at None)
 known_empty genomes cells at known cell o h = known cell o (stands_before cells cell at o h).0
 
+-- so they are once somebody comes whose genome is the next one
 known_new : (genomes : People) (cells : List (Option Occupant)) (at : ℕ) (new : Occupant)
     → Known genomes cells → new.id ≡ length genomes
     → Known (genomes ++ Some new.organism.genome ∷ []) (slice_set cells at (Some new))
@@ -173,6 +163,7 @@ module _ (size : ℕ) (start : People) (scene : Scene) (is : IsScene size start 
     length-map scene.everyone written,
   )
 
+  -- the ids of those who have gone, and of who stands in a cell, are below the next id
   below_more : (cell : ℕ) → Below (scene.gone ++ option_to_list (standing_at scene cell))
       (length scene.everyone)
   below_more cell place id h = elim (gone_more scene.gone (standing_at scene cell) place id h) [

@@ -17,9 +17,9 @@ use Rattle.world_rules.specs.World.{Occupant, founder_of, founder_link}
 use Rattle.world_rules.specs.Settings.{rules_of}
 use Rattle.world_rules.specs.Scene.{Scene, next_id, standing_at, with_death, with_deaths, cells_from, with_newcomer}
 use Rattle.world_rules.specs.Update.{Delivery, child_of_birth, birth_link, with_newborn, after_what, after_event}
+use Rattle.world_laws.specs.LowerLaws.{LifeLaws}
 use Rattle.world_laws.proofs.Scenes.{Each, stands_before, stands_with}
-use Rattle.world_laws.proofs.LivesLemmas.{LifeLaws}
-use Rattle.world_laws.proofs.FolkLemmas.{IsBorn}
+use Rattle.world_laws.proofs.AfterLives.{IsBorn}
 use Rattle.world_laws.proofs.Configs.{IsConfig, few_cells, FitsWhat, FitsPlaced, genome_fits}
 
 -- what holds as an update ends: organisms are sound, and so many came and died at most
@@ -29,9 +29,11 @@ pub record Goes (scene next : Scene) (count deaths : ℕ) : Type 0 where
   pub gone : length next.gone ≤ length scene.gone + deaths
   pub update : next.update ≡ scene.update
 
+-- in a scene that stays nobody came and nobody died
 pub goes_nowhere : (scene : Scene) → Goes scene scene 0 0
 goes_nowhere scene = record { sound = λ s. s; few = omega arith; gone = omega arith; update = refl }
 
+-- from a scene to a second and on to a third, numbers of newcomers and of deaths add up
 pub goes_on : {a b c : Scene} {m n k l : ℕ} → Goes a b m k → Goes b c n l → Goes a c (m + n) (k + l)
 goes_on {a} {b} {c} {m} {n} {k} {l} first second = record {
   sound = λ s. second.sound (first.sound s);
@@ -40,6 +42,7 @@ goes_on {a} {b} {c} {m} {n} {k} {l} first second = record {
   update = second.update ∙ first.update;
 }
 
+-- what holds of so many newcomers and deaths at most holds of more
 pub goes_more : {a b : Scene} (m n k l : ℕ) → Goes a b m k → m ≤ n → k ≤ l → Goes a b n l
 goes_more m n k l goes h i =
     record {
@@ -49,11 +52,13 @@ goes_more m n k l goes h i =
       update = goes.update;
     }
 
+-- with one more dead, or none, the list is at most one longer
 gone_one : (gone : List ℕ) (slot : Option ℕ)
     → length (gone ++ option_to_list slot) ≤ length gone + 1
 gone_one gone None = omega (arith, length-append gone [])
 gone_one gone (Some id) = omega (arith, length-append gone (id ∷ []))
 
+-- with a death nobody came and at most one died
 goes_death : (scene : Scene) (cell : ℕ) → Goes scene (with_death scene cell) 0 1
 unfolding with_death
 goes_death scene at = record {
@@ -63,6 +68,7 @@ goes_death scene at = record {
   update = refl;
 }
 
+-- with deaths nobody came and at most one died for each cell
 pub goes_deaths : (scene : Scene) (cells : List ℕ)
     → Goes scene (with_deaths scene cells) 0 (length cells)
 goes_deaths scene [] = goes_nowhere scene
@@ -71,6 +77,7 @@ goes_deaths scene (cell ∷ cells) =
     (goes_on (goes_death scene cell) (goes_deaths (with_death scene cell) cells)) (omega arith)
     (omega arith)
 
+-- with a sound newcomer one came and at most one died
 goes_newcomer : (scene : Scene) (link : Link) (organism : OrganismState) → IsSoundOrganism organism
     → Goes scene (with_newcomer scene link organism) 1 1
 unfolding with_newcomer
@@ -106,13 +113,15 @@ module _ (laws : LifeLaws) (config : ConfigValues) (fit : IsConfig config) where
       config.memory_limit genome (omega (arith, greatest, high)) (omega (arith, top))
       is.born.some_merit is.born.merit
 
-  goes_birth : (scene : Scene) (turn : Delivery × Placing) → IsBorn config turn.0
+  -- with a birth of a newborn as the rules want it one came and at most one died
+  pub goes_birth : (scene : Scene) (turn : Delivery × Placing) → IsBorn config turn.0
       → Goes scene (with_newborn config scene turn) 1 1
   unfolding with_newborn
   goes_birth scene turn is =
       goes_newcomer scene (birth_link (next_id scene) scene.update turn.0 turn.1.cell)
       (child_of_birth config turn.0 turn.1) (sound_newborn turn.0 turn.1 is)
 
+  -- with such births at most one came and at most one died for each newborn
   pub goes_births : (scene : Scene) (births : List Delivery) (placings : List Placing)
       → AllByRecursion (IsBorn config) births
       → Goes scene (fold (with_newborn config) scene (zip births placings)) (length births)
@@ -127,6 +136,7 @@ module _ (laws : LifeLaws) (config : ConfigValues) (fit : IsConfig config) where
       (goes_births (with_newborn config scene (b, p)) births placings are.1))
       (omega arith) (omega arith)
 
+  -- a founder of an allowed length is a sound organism
   pub sound_founder : (cell nth : ℕ) (letters : List Letter) → config.least_length ≤ length letters
       → length letters ≤ config.greatest_length
       → IsSoundOrganism (founder_of config cell nth letters)
@@ -139,6 +149,7 @@ module _ (laws : LifeLaws) (config : ConfigValues) (fit : IsConfig config) where
       (genome_fits config fit letters least greatest) (omega arith) (omega arith) (omega arith)
       (omega arith)
 
+  -- with what an event does at most one came and at most 65536 died
   goes_what : (scene : Scene) (nth : ℕ) (what : WhatValue) → FitsWhat config what
       → Goes scene (after_what config scene nth what) 1 65536
   goes_what scene nth (inject cell letters) fits =
@@ -153,11 +164,13 @@ module _ (laws : LifeLaws) (config : ConfigValues) (fit : IsConfig config) where
   goes_what scene nth (rate name ppm) fits =
       goes_more 0 1 0 65536 (goes_nowhere scene) (omega arith) (omega arith)
 
-  goes_event : (scene : Scene) (event : ℕ × EventValue) → FitsPlaced config event
+  -- so it is with an event, given with its place
+  pub goes_event : (scene : Scene) (event : ℕ × EventValue) → FitsPlaced config event
       → Goes scene (after_event config scene event) 1 65536
   unfolding after_event
   goes_event scene event fits = goes_what scene event.0 event.1.what fits
 
+  -- with events at most one came and at most 65536 died for each
   pub goes_events : (scene : Scene) (events : List (ℕ × EventValue))
       → AllByRecursion (FitsPlaced config) events
       → Goes scene (fold (after_event config) scene events) (length events) (65536 * length events)

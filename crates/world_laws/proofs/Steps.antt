@@ -13,7 +13,7 @@ use Rattle.lineage_log.specs.declared.reason.Reason.{Reason}
 use Rattle.lineage_log.specs.declared.stage.Stage.{Stage}
 use Rattle.lineage_log.specs.declared.stage.Stage.TheVariants.{Dying, Placing, Happening}
 use Rattle.lineage_log.specs.Slots.{same_slot, holds}
-use Rattle.lineage_log.specs.Order.{Place, Within, told_death, told_birth, with_parent, with_child, told_injected, told_cleared, told_rate}
+use Rattle.lineage_log.specs.Order.{LogPlace, Within, told_death, told_birth, with_parent, with_child, told_injected, told_cleared, told_rate}
 use Rattle.lineage_log.specs.Reader.{Reader, may_die, may_be_born, parent_in}
 use Rattle.lineage_log.specs.Reader as reader
 use Rattle.lineage_log.specs.Links.{Link}
@@ -24,9 +24,11 @@ use Rattle.world_laws.proofs.ListLemmas.{get_more, eqb_same}
 use Rattle.world_laws.proofs.Mirror.{People, written, people_in, mirror, seen_in, Passes, one_line}
 use Rattle.world_laws.proofs.Scenes.{who_stands, people_number, people_grown}
 
-abbrev on : Reader → Result Place Reason
+-- the answer that the log goes on, with this reader
+abbrev on : Reader → Result LogPlace Reason
 on r = Ok (Within r)
 
+-- a slot is the same as itself
 same_self : (slot : Option ℕ) → same_slot slot slot ≡ true
 same_self None = refl
 same_self (Some id) = eqb_same id
@@ -40,6 +42,7 @@ holds_cell cells cell h =
     ∙ ap (option_map id_of) (slice_get-get_or cells cell None h) in
     rw slot (same_self (id_at cells cell))
 
+-- where an id stands in a cell, the reader's cell holds it
 holds_who : (cells : List (Option Occupant)) (cell id : ℕ) → id_at cells cell ≡ Some id
     → holds (slice_get (ids_of cells) cell) (Some id) ≡ true
 holds_who cells cell id h =
@@ -51,7 +54,7 @@ holds_who cells cell id h =
 -- the mirror of a scene with a death
 mirror_death : (start : People) (before stage : Stage) (births : ℕ) (scene : Scene) (cell id : ℕ)
     → standing_at scene cell ≡ Some id
-    → reader.with_death (mirror start before births scene) stage cell id
+    → reader.reader_with_death (mirror start before births scene) stage cell id
     ≡ mirror start stage births (with_death scene cell)
 unfolding with_death
 mirror_death start before stage births scene cell id h =
@@ -68,7 +71,7 @@ mirror_death start before stage births scene cell id h =
 mirror_newcomer : (start : People) (before stage : Stage) (births more : ℕ) (scene : Scene)
     (link : Link) (organism : OrganismState) → length start ≤ length scene.everyone
     → link.id ≡ length scene.everyone
-    → reader.with_newcomer (mirror start before births scene) stage link.cell
+    → reader.reader_with_newcomer (mirror start before births scene) stage link.cell
     (standing_at scene link.cell) link.genome more
     ≡ mirror start stage more (with_newcomer scene link organism)
 unfolding with_newcomer
@@ -124,7 +127,7 @@ unfolding told_death
 one_death start stage births scene cell id may h =
     let stands = holds_who scene.cells cell id h in
     let told : told_death (mirror start stage births scene) id scene.update cell
-    ≡ on (reader.with_death (mirror start stage births scene) (Dying cell) cell id) =
+    ≡ on (reader.reader_with_death (mirror start stage births scene) (Dying cell) cell id) =
     rw (eqb_same scene.update, may, stands) refl in
     one_line _ _ _ _ _ (told ∙ ap on (mirror_death start stage (Dying cell) births scene cell id h))
     (seen_death scene cell)
@@ -138,7 +141,7 @@ unfolding told_cleared
 one_cleared start stage births scene cell id h =
     let stands = holds_who scene.cells cell id h in
     let told : told_cleared (mirror start stage births scene) id scene.update cell
-    ≡ on (reader.with_death (mirror start stage births scene) Happening cell id) =
+    ≡ on (reader.reader_with_death (mirror start stage births scene) Happening cell id) =
     rw (eqb_same scene.update, stands) refl in
     one_line _ _ _ _ _ (told ∙ ap on (mirror_death start stage Happening births scene cell id h))
     (seen_death scene cell)
@@ -168,7 +171,7 @@ one_injected start stage births scene link organism grown within is =
     let stands = holds_cell scene.cells link.cell within in
     let told : told_injected (mirror start stage births scene) link.id scene.update link.cell
     (standing_at scene link.cell) link.genome
-    ≡ on (reader.with_newcomer (mirror start stage births scene) Happening link.cell
+    ≡ on (reader.reader_with_newcomer (mirror start stage births scene) Happening link.cell
     (standing_at scene link.cell) link.genome births) =
     rw (eqb_same scene.update, number, stands) refl in
     one_line _ _ _ _ _ (told
@@ -211,7 +214,8 @@ one_birth start stage births scene link organism parent origin letters may grown
     (parent_in (mirror start stage births scene) parent) =
     rw (eqb_same scene.update, may, number, stands) refl in
     let told : told_birth (mirror start stage births scene) link.id parent scene.update link.cell
-    over origin ≡ on (reader.with_newcomer (mirror start stage births scene) Placing link.cell
+    over origin ≡ on (reader.reader_with_newcomer (mirror start stage births scene)
+    Placing link.cell
     over link.genome (births + 1)) =
     first ∙ ap (with_parent (mirror start stage births scene) link.cell over origin) found
     ∙ ap (with_child (mirror start stage births scene) link.cell over) child in

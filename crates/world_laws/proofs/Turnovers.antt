@@ -1,36 +1,35 @@
 -- Who comes and who goes, from the lives of an update to its last event.
-use Rattle.std.proofs.Common.{◌≡◌, ◌≢◌, ◌⊎◌, inl, inr, ⊎_elim, ◌∙◌, refl, sym, ap, subst, unwrap_or, ℕ, zero, suc, ◌+◌, ◌<◌, ◌≤◌, true, false, List, [], ◌∷◌, ◌++◌, length, drop, map, fold, get_or, Option, Some, None, arith, length-append, eqb-true}
-use Rattle.std.specs.Prelude.{nat_eq, slice_get, slice_set, slice_index_or, option_map}
+use Rattle.std.proofs.Common.{◌≡◌, ◌≢◌, ◌⊎◌, inl, inr, ⊎_elim, ◌∙◌, refl, sym, ap, subst, unwrap_or, ℕ, ◌+◌, ◌<◌, ◌≤◌, true, List, [], ◌∷◌, ◌++◌, length, drop, fold, Option, Some, None, arith, length-append, eqb-true}
+use Rattle.std.specs.Prelude.{nat_eq, slice_get, slice_set, option_map}
 use Rattle.std.specs.Cmp.{nat_eq_equiv}
-use Rattle.std.specs.List.{AllByRecursion, IsDistinct, enumerate_from, flat_map, list_any, zip}
+use Rattle.std.specs.List.{AllByRecursion, IsDistinct, list_any}
 use Rattle.std.specs.Option.{option_to_list}
 use Rattle.std.proofs.lemmas.Bool.{cases_eq, cases_lt, false_from_ne_true}
-use Rattle.std.proofs.lemmas.List.{append-nil, append_assoc, drop-append-le, drop_all, length-set}
+use Rattle.std.proofs.lemmas.List.{append-nil, append_assoc, drop-append-le, drop_all}
 use Rattle.std.proofs.lemmas.List.Folds.{Any-from_list_any}
 use Rattle.std.proofs.lemmas.Map.Keys.{IsDistinct-push}
 use Rattle.std.proofs.lemmas.Option.{get_or_from_slice_get, slice_get-get_or, slice_get-map, slice_get_within}
 use Rattle.birth_board.specs.declared.placing.Placing.{Placing}
-use Rattle.organism.specs.Newborns.{NewbornValue}
 use Rattle.organism.specs.OrganismState.{OrganismState, new_organism}
 use Rattle.lineage_log.specs.Links.{Link}
 use Rattle.world_config.specs.Events.{EventValue, WhatValue, inject, clear, rate}
 use Rattle.world_config.specs.Values.{ConfigValues}
 use Rattle.world_rules.specs.World.{Occupant, World, founder_link, founder_of, id_of, ids_of}
-use Rattle.world_rules.specs.Lives.{CellLife, slice_at}
+use Rattle.world_rules.specs.Lives.{slice_at}
 use Rattle.world_rules.specs.Scene.{Scene, cells_from, next_id, standing_at, with_death, with_deaths, with_newcomer}
-use Rattle.world_rules.specs.Update.{Delivery, after_births, after_burials, after_event, after_events, after_what, birth_link, births_by, births_in, births_of, child_of_birth, deaths_of, delivery_of, events_at, last_scene, lives_after, next_scene, placings_of, scene_of_lives, turns_of, with_newborn}
+use Rattle.world_rules.specs.Update.{Delivery, after_births, after_burials, after_event, after_events, after_what, birth_link, births_of, child_of_birth, deaths_of, events_at, last_scene, lives_after, next_scene, placings_of, scene_of_lives, turns_of, with_newborn}
 use Rattle.world_rules.specs.WorldRun.{world_after}
 use Rattle.world_laws.specs.Turnover.{HasBeen, HasGone, IsStanding, IsTurnover}
+use Rattle.world_laws.specs.LowerLaws.{LifeLaws}
 use Rattle.world_laws.proofs.ListLemmas.{get_written, get_elsewhere, get_last, get_more, get_seam}
 use Rattle.world_laws.proofs.Mirror.{People}
-use Rattle.world_laws.proofs.Scenes.{IsScene, Stands, gone_more, id_small, scene_death, scene_newcomer, stands_before, stands_with, who_stands}
-use Rattle.world_laws.proofs.Turns.{IsEvent, IsTurn, IsWhat, scene_birth, scene_births, scene_deaths, scene_events, scene_what}
-use Rattle.world_laws.proofs.Placements.{all_append}
-use Rattle.world_laws.proofs.LivesLemmas.{AreLives, IsLife, LifeLaws}
-use Rattle.world_laws.proofs.FolkLemmas.{folk_kept, left_by}
+use Rattle.world_laws.proofs.Scenes.{IsScene, Stands, gone_more, scene_death, scene_newcomer, stands_before, stands_with, who_stands}
+use Rattle.world_laws.proofs.UpdateLines.{IsEvent, IsTurn, IsWhat, scene_birth, scene_births, scene_deaths, scene_what}
+use Rattle.world_laws.proofs.AfterLives.{folk_kept, left_by}
 use Rattle.world_laws.proofs.Configs.{IsConfig, events_fit, size_of}
 use Rattle.world_laws.proofs.Runs.{IsRun, ended, events_are, lives_lawful, scene_ended, turns_are}
-use Rattle.world_laws.proofs.Wholes.{kept_after, run_after}
+use Rattle.world_laws.proofs.WholeLogs.{kept_after, run_after}
+use Rattle.world_laws.proofs.Parents.{parents_from, zip_parents}
 
 -- the id of who stands in a cell
 standing_id : (scene : Scene) (cell : ℕ) (o : Occupant) → Stands scene.cells cell o
@@ -84,6 +83,7 @@ gone_from gone slot id there = ⊎_elim
     (gone_more gone slot there.0 id there.1)
 
 module _ (cells : List (Option Occupant)) (before : List Link) (size : ℕ) (start : People) where
+  -- the first id of those that come
   abbrev first : ℕ
   first = length before
 
@@ -284,43 +284,6 @@ module _ (cells : List (Option Occupant)) (before : List Link) (size : ℕ) (sta
       turnover_events config (after_what config scene event.0 event.1.what) events within.1
       (scene_what size start config scene event.0 event.1.what is)
       (turnover_what config scene event.0 event.1.what within.0 is t)
-
--- the parents of newborns, by a fact on ids
-by_parent : (P : ℕ → Type 0) (cell parent : ℕ) (newborns : List NewbornValue) → P parent
-    → AllByRecursion (λ (d : Delivery). P d.parent) (map (delivery_of cell parent) newborns)
-by_parent P cell parent [] is = tt
-by_parent P cell parent (n ∷ newborns) is = (is, by_parent P cell parent newborns is)
-
--- the parents of the newborns of a cell
-slot_parents : (P : ℕ → Type 0) (config : ConfigValues) (steps cell : ℕ) (slot : Option Occupant)
-    (l : CellLife) → IsLife config steps slot l → ((o : Occupant) → slot ≡ Some o → P o.id)
-    → AllByRecursion (λ (d : Delivery). P d.parent) (births_by cell l.newborns l.occupant)
-slot_parents P config steps cell None l is each = rw is.0 tt
-slot_parents P config steps cell (Some o) l is each =
-    rw is.stays (by_parent P cell is.who.id l.newborns (subst P (sym is.id) (each o refl)))
-
--- the parents of the newborns of all cells
-parents_from : (P : ℕ → Type 0) (config : ConfigValues) (steps : ℕ → ℕ) (from : ℕ)
-    (cells : List (Option Occupant)) (lives : List CellLife)
-    → AreLives config steps from cells lives
-    → ((cell : ℕ) (o : Occupant) → Stands cells cell o → P o.id)
-    → AllByRecursion (λ (d : Delivery). P d.parent) (flat_map births_in (enumerate_from from lives))
-parents_from P config steps from [] [] are each = tt
-parents_from P config steps from [] (l ∷ lives) are each = absurd are
-parents_from P config steps from (slot ∷ cells) [] are each = absurd are
-parents_from P config steps from (slot ∷ cells) (l ∷ lives) are each =
-    all_append (λ (d : Delivery). P d.parent) (births_by from l.newborns l.occupant)
-    (flat_map births_in (enumerate_from (from + 1) lives))
-    (slot_parents P config (steps from) from slot l are.0 (λ o e. each 0 o (ap Some e)))
-    (parents_from P config steps (from + 1) cells lives are.1 (λ cell o h. each (suc cell) o h))
-
--- the same with their placings
-zip_parents : (P : ℕ → Type 0) (births : List Delivery) (placings : List Placing)
-    → AllByRecursion (λ (d : Delivery). P d.parent) births
-    → AllByRecursion (λ (turn : Delivery × Placing). P turn.0.parent) (zip births placings)
-zip_parents P [] placings are = tt
-zip_parents P (b ∷ births) [] are = tt
-zip_parents P (b ∷ births) (p ∷ placings) are = (are.0, zip_parents P births placings are.1)
 
 module _ (laws : LifeLaws) (config : ConfigValues) (fit : IsConfig config) where
   module _ (n : ℕ) (start : People) (w : World) (is : IsRun config n start w) where

@@ -1,16 +1,16 @@
 -- The lines of an update take the reader from one world to the next.
-use Rattle.std.proofs.Common.{◌≡◌, ℕ, suc, ◌+◌, ◌-◌, ◌<◌, ◌≤◌, true, List, [], ◌∷◌, ◌++◌, map, length, drop, Option, Some, None, Ok, refl, sym, ap, subst, ◌∙◌, arith, inl, inr}
+use Rattle.std.proofs.Common.{◌≡◌, ℕ, suc, ◌+◌, ◌-◌, ◌≤◌, true, List, [], ◌∷◌, ◌++◌, map, length, drop, Option, Some, None, Ok, refl, sym, ap, subst, ◌∙◌, arith, inl, inr}
 use Rattle.std.specs.Prelude.{slice_get, slice_set, option_map, fold}
 use Rattle.std.specs.List.{AllByRecursion}
 use Rattle.std.proofs.lemmas.List.{length-set, length-map, append-nil, drop_all}
-use Rattle.std.proofs.lemmas.Bool.{cases_eq, cases_lt}
-use Rattle.std.proofs.lemmas.Option.{slice_get_within, slice_get-map}
+use Rattle.std.proofs.lemmas.Bool.{cases_lt}
+use Rattle.std.proofs.lemmas.Option.{slice_get-map}
 use Rattle.instruction_set.specs.declared.letter.Letter.{Letter}
 use Rattle.log_lines.specs.Line.{Count}
 use Rattle.lineage_log.specs.declared.stage.Stage.{Stage}
 use Rattle.lineage_log.specs.declared.stage.Stage.TheVariants.{Quiet}
 use Rattle.lineage_log.specs.Slots.{taken}
-use Rattle.lineage_log.specs.Order.{Within, told_count, renewed}
+use Rattle.lineage_log.specs.Order.{Within, told_count, at_next_update}
 use Rattle.lineage_log.specs.People.{without}
 use Rattle.lineage_log.specs.Reader.{may_be_born}
 use Rattle.lineage_log.specs.Links.{Link}
@@ -21,10 +21,10 @@ use Rattle.world_rules.specs.Scene.{Scene}
 use Rattle.world_rules.specs.Statistics.{scene_stats, stats_in}
 use Rattle.world_rules.specs.Update.{after_lives, deaths_of, after_burials, births_of, turns_of, with_newborn, after_births, events_at, after_events, last_scene}
 use Rattle.world_rules.specs.LogText.{death_lines, birth_lines, event_lines, lines_of_lives}
-use Rattle.world_laws.proofs.ListLemmas.{get_written, get_elsewhere, get_left, get_right, get_dropped, eqb_same}
+use Rattle.world_laws.proofs.ListLemmas.{get_elsewhere, get_emptied, get_left, get_right, get_dropped, eqb_same}
 use Rattle.world_laws.proofs.Mirror.{People, written, people_in, genomes_of, mirror, between, seen_in, Tells, one_line, more_lines}
 use Rattle.world_laws.proofs.Scenes.{Stands, Known, Apart, Agree, IsScene, people_number}
-use Rattle.world_laws.proofs.Turns.{rising_part, ToBirths, ToEvents, scene_deaths, all_deaths, IsTurn, scene_births, all_births, IsEvent, scene_events, all_events}
+use Rattle.world_laws.proofs.UpdateLines.{rising_part, ToBirths, ToEvents, scene_deaths, all_deaths, IsTurn, scene_births, all_births, IsEvent, scene_events, all_events}
 
 -- those who stay keep their genomes
 without_others : (ids : List ℕ) (people : People) (id : ℕ)
@@ -46,29 +46,15 @@ without_fewer : (ids : List ℕ) (people : People) (id : ℕ) (letters : List Le
     → slice_get people id ≡ Some (Some letters)
 without_fewer [] people id letters h = h
 without_fewer (x ∷ ids) people id letters h =
-    unset (without_fewer ids (slice_set people x None) id letters h)
-  where
-    unset : slice_get (slice_set people x None) id ≡ Some (Some letters)
-        → slice_get people id ≡ Some (Some letters)
-    unset e = elim (cases_eq id x) [
-      | inl same ↦
-          let here : slice_get (slice_set people x None) x ≡ Some (Some letters) =
-          subst (λ n. slice_get (slice_set people x None) n ≡ Some (Some letters)) same e in
-          let within : x < length people =
-          omega (
-            arith,
-            slice_get_within (slice_set people x None) x (Some letters) here,
-            length-set people x None,
-          ) in
-          let w = get_written people x None within in absurd cc
-      | inr other ↦ sym (get_elsewhere people x id None other) ∙ e
-    ]
+    (get_emptied people id x letters (without_fewer ids (slice_set people x None) id letters h)).0
 
+-- people without some ids have as many places as before
 length-without : (ids : List ℕ) (people : People) → length (without ids people) ≡ length people
 length-without [] people = refl
 length-without (x ∷ ids) people =
     length-without ids (slice_set people x None) ∙ length-set people x None
 
+-- the genome that a link wrote is the link's
 unwritten : (slot : Option Link) (letters : List Letter)
     → option_map written slot ≡ Some (Some letters)
     → option_map (λ (l : Link). l.genome) slot ≡ Some letters
@@ -119,7 +105,7 @@ pub record KeepsFolk (cells later : List (Option Occupant)) : Type 0 where
 -- the line of what is counted
 one_count : (start : People) (stage : Stage) (births : ℕ) (scene : Scene)
     → told_count (mirror start stage births scene) (scene_stats scene births)
-    ≡ Ok (Within (renewed (mirror start stage births scene)))
+    ≡ Ok (Within (at_next_update (mirror start stage births scene)))
 unfolding told_count stats_in
 one_count start stage births scene =
     rw (
@@ -129,8 +115,9 @@ one_count start stage births scene =
       eqb_same (length scene.gone),
     ) refl
 
+-- the reader when the next update is due is that between two updates
 renewed_is : (start : People) (stage : Stage) (births : ℕ) (scene : Scene)
-    → renewed (mirror start stage births scene)
+    → at_next_update (mirror start stage births scene)
     ≡ between (people_after start scene) (scene.update + 1) scene.cells
 renewed_is start stage births scene =
     let people = people_in start scene.everyone in
@@ -172,6 +159,7 @@ people_begun start everyone h =
 module _ (size : ℕ) (start : People) (w : World) (lives : List CellLife)
     (is : IsWorld size start w.cells w.everyone)
     (folk : KeepsFolk w.cells (map (λ l. l.occupant) lives)) where
+  -- the scene as the lives have ended
   abbrev pub begun : Scene
   begun = after_lives (w.update + 1) w.everyone lives
 
@@ -199,6 +187,7 @@ module _ (size : ℕ) (start : People) (w : World) (lives : List CellLife)
           ap (slice_get genomes) (sym a.2) ∙ known cell a.0 a.1
           ∙ ap (λ (g : List Letter). Some (Some g)) a.3
 
+  -- the reader as an update begins is that between two updates
   pub begun_is : mirror start Quiet 0 begun ≡ between start (w.update + 1) w.cells
   begun_is =
       ap (λ (l : People). record (mirror start Quiet 0 begun) { people = l })
@@ -206,6 +195,7 @@ module _ (size : ℕ) (start : People) (w : World) (lives : List CellLife)
       ∙ ap (λ (l : List (Option ℕ)). record (between start (w.update + 1) w.cells) { standing = l })
       folk.ids
 
+  -- the lives change nothing that a replay has seen
   pub seen_begun : seen_in begun.cells w.everyone ≡ seen_in w.cells w.everyone
   seen_begun =
       ap (λ (l : List (Option ℕ)). record (seen_in w.cells w.everyone) { standing = l }) folk.ids
@@ -220,28 +210,33 @@ module _ (size : ℕ) (start : People) (config : ConfigValues) (scene : Scene) (
     pub lawful : AllByRecursion (IsTurn size start)
         (turns_of config (after_burials scene lives) (births_of lives))
 
+  -- what holds of the scene holds once the dead have left
   scene_buried : IsScene size start (after_burials scene lives)
   unfolding after_burials
   scene_buried = scene_deaths size start scene (deaths_of lives) is
 
+  -- and once the newborns are placed
   scene_born : IsScene size start
       (after_births config (after_burials scene lives) (births_of lives))
   unfolding after_births
   scene_born = scene_births size start config (after_burials scene lives)
       (turns_of config (after_burials scene lives) (births_of lives)) scene_buried
 
+  -- and at the end of the update
   pub scene_last : IsScene size start (last_scene config scene lives)
   unfolding last_scene after_events
   scene_last =
       let born = after_births config (after_burials scene lives) (births_of lives) in
       scene_events size start config born (events_at config born.update) scene_born
 
+  -- after the lines of its deaths births may come
   deaths_tell : ToBirths start Quiet 0 scene (death_lines scene (deaths_of lives)) 0
       (after_burials scene lives)
   unfolding after_burials deaths_of
   deaths_tell = all_deaths start Quiet 0 0 scene (deaths_of lives) (rising_part _ 0 (length lives))
       (λ cell h. refl) refl
 
+  -- after the lines of its births too, and each newborn is counted
   births_tell : (stage : Stage) → may_be_born stage ≡ true → AreTurns
       → ToBirths start stage 0 (after_burials scene lives)
       (birth_lines config (after_burials scene lives) (births_of lives)) (length (births_of lives))
@@ -255,6 +250,7 @@ module _ (size : ℕ) (start : People) (config : ConfigValues) (scene : Scene) (
       (fold (with_newborn config) buried list)) e
       (all_births size start stage 0 config buried list scene_buried turns.lawful may)
 
+  -- the lines of its events take the reader on to the end of the update
   events_tell : (stage : Stage) (births : ℕ)
       → ((update : ℕ) → AllByRecursion (IsEvent size) (events_at config update))
       → ToEvents start stage births

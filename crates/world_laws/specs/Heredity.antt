@@ -9,7 +9,7 @@ use Rattle.world_rules.specs.World.{Occupant, World}
 pub record IsChildOf (parent link : Link) : Type 0 where
   pub record_of_birth : BirthRecord
   pub recorded : link.origin ≡ Some record_of_birth
-  pub made : child_of parent.genome record_of_birth ≡ Ok link.genome
+  pub child : child_of parent.genome record_of_birth ≡ Ok link.genome
 
 -- a founder has no record, and the record of any other makes its genome of its parent's
 abbrev pub ComesFrom : List Link → Option ℕ → Link → Type 0

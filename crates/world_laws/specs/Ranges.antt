@@ -1,5 +1,7 @@
 -- In which ranges the organisms and the ids of a run stay (docs/WORLD.md, "Saved worlds").
-use Rattle.std.specs.Prelude.{◌≡◌, ℕ, ◌+◌, ◌*◌, ◌<◌, ◌≤◌, true, Some, length, slice_get}
+use Rattle.std.specs.Prelude.{◌≡◌, ℕ, ◌+◌, ◌*◌, ◌^◌, ◌<◌, ◌≤◌, true, Some, length, slice_get}
+use Rattle.log_lines.specs.Line.{Line, Birth, Injected}
+use Rattle.lineage_log.specs.Links.{Link}
 use Rattle.logic_tasks.specs.Inputs.{HasTopBytes}
 use Rattle.organism.specs.OrganismState.{OrganismState}
 use Rattle.world_config.specs.Values.{ConfigValues}
@@ -32,3 +34,13 @@ pub record HasFewIds (config : ConfigValues) (updates : ℕ) (w : World) : Type 
       → slice_get w.cells other ≡ Some (Some x)
       → o.id ≡ x.id
       → cell ≡ other
+
+-- somebody with an id below 2^58
+abbrev pub HasSmallId : Link → Type 0
+HasSmallId link = link.id < 2 ^ 58
+
+-- a line of a birth or an injection gives such an id
+abbrev pub GivesSmallId : Line → Type 0
+GivesSmallId (Birth id parent update cell over birth) = id < 2 ^ 58
+GivesSmallId (Injected id update cell over genome) = id < 2 ^ 58
+GivesSmallId line = Unit {0}

@@ -3,7 +3,7 @@ use Rattle.std.specs.Prelude.{◌≡◌, ◌⊎◌, ℕ, ◌<◌, ◌≤◌, ◌
 use Rattle.std.specs.List.{IsDistinct}
 use Rattle.lineage_log.specs.Links.{Link}
 use Rattle.world_rules.specs.Scene.{Scene}
-use Rattle.world_rules.specs.World.{Occupant, World}
+use Rattle.world_rules.specs.World.{Occupant}
 
 -- the organism with this id stands in a cell
 abbrev pub IsStanding : List (Option Occupant) → ℕ → Type 0

@@ -1,5 +1,7 @@
 // Laws of every run (docs/WORLD.md, "Time slices", "The log of a run" and "Lines of descent").
-ghost use Rattle.std.specs.Prelude.{◌≡◌, ℕ, ◌≤◌, ◌^◌, IfSome, Some, map, sum, slice_get};
+ghost use Rattle.std.specs.Prelude.{◌≡◌, ℕ, ◌≤◌, ◌^◌, All, IfSome, List, Some, map, sum, slice_get};
+ghost use Rattle.log_lines.specs.Line.{Line};
+ghost use Rattle.lineage_log.specs.LogGrammar.{Reads};
 ghost use Rattle.organism.specs.Lived.{IsSoundOrganism};
 ghost use Rattle.organism.specs.SettingNumbers.{SettingNumbers};
 ghost use Rattle.organism.specs.UpdateLife.{LifeState, life};
@@ -7,25 +9,42 @@ ghost use Rattle.world_config.specs.Shown.{values_of};
 ghost use Rattle.world_rules.specs.Descent.{line_in};
 ghost use Rattle.world_rules.specs.Laws.{ReplaysToLiving};
 ghost use Rattle.world_rules.specs.Lives.{merit_in};
+ghost use Rattle.world_rules.specs.LogText.{log_text};
 ghost use Rattle.world_rules.specs.Update.{next_scene, next_world};
 ghost use Rattle.world_rules.specs.World.{Occupant, World};
 ghost use Rattle.world_rules.specs.WorldRun.{world_after};
 ghost use Rattle.world_laws.specs.Keeping.{AreSound, HasKept, LiveOn};
-ghost use Rattle.world_laws.specs.Ranges.{HasFewIds, IsInRange};
+ghost use Rattle.world_laws.specs.LowerLaws.{LifeLaws, LineLaws};
+ghost use Rattle.world_laws.specs.Ranges.{GivesSmallId, HasFewIds, HasSmallId, IsInRange};
 ghost use Rattle.world_laws.specs.Heredity.{AreDescended, IsDescent, IsLastOfLine};
 ghost use Rattle.world_laws.specs.Turnover.{IsTurnover};
 
 use world_config::Config;
+
+/// What the crates below say of lives, of words, of new organisms and of slices.
+fn lives_are_lawful()
+    ensures { LifeLaws }
+{
+    merit_slices::laws::slices_are_few();
+    organism::laws::lives_are_sound();
+    organism::laws::new_organisms_are_sound();
+    random_streams::laws::words_fit();
+}
+
+/// What `world_rules` says of ids and of lines of descent.
+fn lines_are_lawful()
+    ensures { LineLaws }
+{
+    world_rules::laws::ids_are_places();
+    world_rules::laws::lines_come_from_parents();
+}
 
 /// The log of a run of so many updates is a good log, and replays to who lives at its end.
 pub fn replay_gives_living(config: &Config, updates: u32)
     ensures { ReplaysToLiving (values_of config.now) updates }
 {
     lineage_log::laws::read_exactly();
-    merit_slices::laws::slices_are_few();
-    organism::laws::lives_are_sound();
-    organism::laws::new_organisms_are_sound();
-    random_streams::laws::words_fit();
+    lives_are_lawful();
 }
 
 /// Whoever was ever in a world, but for founders, has the genome that its record makes of its
@@ -35,12 +54,8 @@ pub fn genomes_come_from_parents(config: &Config, updates: u32)
     ensures line { (cell : ℕ)
         → IfSome (line_in (world_after (values_of config.now) updates) cell) IsDescent }
 {
-    merit_slices::laws::slices_are_few();
-    organism::laws::lives_are_sound();
-    organism::laws::new_organisms_are_sound();
-    random_streams::laws::words_fit();
-    world_rules::laws::ids_are_places();
-    world_rules::laws::lines_come_from_parents();
+    lives_are_lawful();
+    lines_are_lawful();
 }
 
 /// Whoever stands in a cell has the genome of the record of its id, and the line of descent of that
@@ -50,12 +65,8 @@ pub fn lines_end_with_who_stands(config: &Config, updates: u32)
         → slice_get (world_after (values_of config.now) updates).cells cell ≡ Some (Some occupant)
         → IsLastOfLine (world_after (values_of config.now) updates) cell occupant }
 {
-    merit_slices::laws::slices_are_few();
-    organism::laws::lives_are_sound();
-    organism::laws::new_organisms_are_sound();
-    random_streams::laws::words_fit();
-    world_rules::laws::ids_are_places();
-    world_rules::laws::lines_come_from_parents();
+    lives_are_lawful();
+    lines_are_lawful();
 }
 
 /// Each organism of a world is sound, with a merit of its own, and all merits together are few.
@@ -66,10 +77,7 @@ pub fn organisms_are_sound(config: &Config, updates: u32)
     ensures merits { sum (map merit_in (world_after (values_of config.now) updates).cells)
         ≤ 2 ^ 54 }
 {
-    merit_slices::laws::slices_are_few();
-    organism::laws::lives_are_sound();
-    organism::laws::new_organisms_are_sound();
-    random_streams::laws::words_fit();
+    lives_are_lawful();
 }
 
 /// In each update, who stands or dies stood at its begin or comes in it, and all others stand or
@@ -79,10 +87,7 @@ pub fn organisms_come_and_go(config: &Config, updates: u32)
         (world_after (values_of config.now) updates).everyone
         (next_scene (values_of config.now) (world_after (values_of config.now) updates)) }
 {
-    merit_slices::laws::slices_are_few();
-    organism::laws::lives_are_sound();
-    organism::laws::new_organisms_are_sound();
-    random_streams::laws::words_fit();
+    lives_are_lawful();
 }
 
 /// A life keeps the genome, and nothing but a birth changes the merit and the credited set.
@@ -96,10 +101,7 @@ pub fn births_alone_change_merits()
 pub fn organisms_live_on(config: &Config, updates: u32)
     ensures { LiveOn (values_of config.now) (world_after (values_of config.now) updates) }
 {
-    merit_slices::laws::slices_are_few();
-    organism::laws::lives_are_sound();
-    organism::laws::new_organisms_are_sound();
-    random_streams::laws::words_fit();
+    lives_are_lawful();
 }
 
 /// Sound organisms live on, and those of the next world are sound, however they came into a world.
@@ -109,10 +111,7 @@ pub fn sound_organisms_live_on(config: &Config)
         → AreSound w.cells
         → AreSound (next_world (values_of config.now) w).cells }
 {
-    merit_slices::laws::slices_are_few();
-    organism::laws::lives_are_sound();
-    organism::laws::new_organisms_are_sound();
-    random_streams::laws::words_fit();
+    lives_are_lawful();
 }
 
 /// Each organism of a world has a genome of an allowed length, is younger than the age of death,
@@ -124,9 +123,19 @@ pub fn organisms_stay_in_range(config: &Config, updates: u32)
     ensures ids { HasFewIds (values_of config.now) updates
         (world_after (values_of config.now) updates) }
 {
-    merit_slices::laws::slices_are_few();
-    organism::laws::lives_are_sound();
-    organism::laws::new_organisms_are_sound();
-    random_streams::laws::words_fit();
+    lives_are_lawful();
     virtual_cpu::laws::steps_leave_machines();
+}
+
+/// Whoever is born or injected in a run has an id below 2^58: each of all who ever were in its
+/// world, and each of the births and injections in its log.
+pub fn ids_are_few(config: &Config, updates: u32)
+    ensures everyone { All HasSmallId (world_after (values_of config.now) updates).everyone }
+    ensures log { (lines : List Line)
+        → Reads (log_text (values_of config.now) updates) lines
+        → All GivesSmallId lines }
+{
+    lives_are_lawful();
+    lineage_log::laws::read_exactly();
+    world_rules::laws::ids_are_places();
 }

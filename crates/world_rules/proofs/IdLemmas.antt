@@ -16,12 +16,13 @@ use Rattle.world_rules.specs.Lives.{CellLife, life_of, life_at, slice_at, lives_
 use Rattle.world_rules.specs.Scene.{Scene, next_id, with_death, cells_from, with_newcomer}
 use Rattle.world_rules.specs.Update.{Delivery, delivery_of, births_by, births_in, births_of, deaths_of, after_lives, after_burials, placings_of, birth_link, child_of_birth, with_newborn, turns_of, after_births, after_what, after_event, events_at, after_events, last_scene, scene_of_lives, lives_after, next_scene, next_world, world_of}
 use Rattle.world_rules.specs.WorldRun.{world_after}
-use Rattle.world_rules.specs.Descent.{IsBelow, IsNumbered, AreNumbered, AreAmong, IsNumberedWorld}
+use Rattle.world_rules.specs.Descent.{IsBelow, HasPlaceAsId, AreNumbered, AreAmong, IsNumberedWorld}
 
 -- a scene's ids are places
 abbrev IsNumberedScene : Scene → Type 0
 IsNumberedScene scene = IsNumberedWorld (world_of scene)
 
+-- an id below a number, if there is one, is below a greater number
 below_more : (few many : ℕ) (id : Option ℕ) → few ≤ many → IsBelow few id → IsBelow many id
 below_more few many None more below = tt
 below_more few many (Some id) more below = omega (arith, more, below)
@@ -35,15 +36,17 @@ get_last (z ∷ xs) x zero y h = inl h
 get_last (z ∷ xs) x (suc i) y h =
     elim (get_last xs x i y h) [ inl before ↦ inl before | inr last ↦ inr (ap suc last.0, last.1) ]
 
+-- with one more that has its place as its id, each still has
 numbered_more : (everyone : List Link) (link : Link) → AreNumbered everyone
-    → IsNumbered (length everyone) link → AreNumbered (everyone ++ link ∷ [])
+    → HasPlaceAsId (length everyone) link → AreNumbered (everyone ++ link ∷ [])
 numbered_more everyone link are is place other there =
     elim (get_last everyone link place other there) [
       | inl before ↦ are place other before
-      | inr last ↦ subst (λ n. IsNumbered n other) last.0
-          (subst (λ l. IsNumbered (length everyone) l) last.1 is)
+      | inr last ↦ subst (λ n. HasPlaceAsId n other) last.0
+          (subst (λ l. HasPlaceAsId (length everyone) l) last.1 is)
     ]
 
+-- after a death a scene's ids are places still
 numbered_death : (scene : Scene) (cell : ℕ) → IsNumberedScene scene
     → IsNumberedScene (with_death scene cell)
 unfolding with_death
@@ -53,24 +56,29 @@ numbered_death scene cell is = record {
       is.standing;
 }
 
+-- so they are after deaths, one after another
 numbered_deaths : (scene : Scene) (cells : List ℕ) → IsNumberedScene scene
     → IsNumberedScene (fold with_death scene cells)
 numbered_deaths scene [] is = is
 numbered_deaths scene (cell ∷ cells) is =
     numbered_deaths (with_death scene cell) cells (numbered_death scene cell is)
 
+-- a death leaves the list of all as it is
 death_keeps : (scene : Scene) (cell : ℕ) → (with_death scene cell).everyone ≡ scene.everyone
 unfolding with_death
 death_keeps scene cell = refl
 
+-- so do deaths, one after another
 deaths_keep : (scene : Scene) (cells : List ℕ)
     → (fold with_death scene cells).everyone ≡ scene.everyone
 deaths_keep scene [] = refl
 deaths_keep scene (cell ∷ cells) =
     deaths_keep (with_death scene cell) cells ∙ death_keeps scene cell
 
+-- with a newcomer that has its place as its id, a scene's ids are places still
 numbered_newcomer : (scene : Scene) (link : Link) (organism : OrganismState) → IsNumberedScene scene
-    → IsNumbered (length scene.everyone) link → IsNumberedScene (with_newcomer scene link organism)
+    → HasPlaceAsId (length scene.everyone) link
+    → IsNumberedScene (with_newcomer scene link organism)
 unfolding with_newcomer
 numbered_newcomer scene link organism is new =
     let few = length scene.everyone in
@@ -86,6 +94,7 @@ numbered_newcomer scene link organism is new =
           (λ slot. below_more few many (id_of slot) low) scene.cells is.standing);
     }
 
+-- so they are after a birth whose parent is in the list of all
 numbered_birth : (config : ConfigValues) (scene : Scene) (turn : Delivery × Placing)
     → turn.0.parent < length scene.everyone → IsNumberedScene scene
     → IsNumberedScene (with_newborn config scene turn)
@@ -94,6 +103,7 @@ numbered_birth config scene turn parent is =
     numbered_newcomer scene (birth_link (next_id scene) scene.update turn.0 turn.1.cell)
     (child_of_birth config turn.0 turn.1) is (record { id = refl; parent = parent })
 
+-- a birth makes the list of all one longer
 birth_grows : (config : ConfigValues) (scene : Scene) (turn : Delivery × Placing)
     → length (with_newborn config scene turn).everyone ≡ length scene.everyone + 1
 unfolding with_newborn with_newcomer
@@ -104,6 +114,7 @@ birth_grows config scene turn =
 abbrev IsOf : ℕ → Delivery → Type 0
 IsOf count b = b.parent < count
 
+-- after births whose parents are in the list of all, a scene's ids are places still
 numbered_births : (config : ConfigValues) (count : ℕ) (scene : Scene) (births : List Delivery)
     (placings : List Placing) → count ≤ length scene.everyone → AllByRecursion (IsOf count) births
     → IsNumberedScene scene → IsNumberedScene
@@ -116,6 +127,7 @@ numbered_births config count scene (b ∷ births) (p ∷ placings) few of is =
     (omega (arith, few, birth_grows config scene (b, p))) of.1
     (numbered_birth config scene (b, p) parent is)
 
+-- so they are after what an event does
 numbered_what : (config : ConfigValues) (scene : Scene) (nth : ℕ) (what : WhatValue)
     → IsNumberedScene scene → IsNumberedScene (after_what config scene nth what)
 numbered_what config scene nth (inject cell letters) is =
@@ -125,11 +137,13 @@ numbered_what config scene nth (clear first last) is =
     numbered_deaths scene (cells_from first last) is
 numbered_what config scene nth (rate name ppm) is = is
 
+-- so they are after an event, given with its place
 numbered_event : (config : ConfigValues) (scene : Scene) (event : ℕ × EventValue)
     → IsNumberedScene scene → IsNumberedScene (after_event config scene event)
 unfolding after_event
 numbered_event config scene event is = numbered_what config scene event.0 event.1.what is
 
+-- so they are after events, one after another
 numbered_events : (config : ConfigValues) (scene : Scene) (events : List (ℕ × EventValue))
     → IsNumberedScene scene → IsNumberedScene (fold (after_event config) scene events)
 numbered_events config scene [] is = is
@@ -145,6 +159,7 @@ unfolding life_of
 among_life config count update cell steps None below = tt
 among_life config count update cell steps (Some o) below = below
 
+-- who stands in a cell, if somebody does, is one of so many
 slot_among : (count : ℕ) (cells : List (Option Occupant)) (cell : ℕ) → AreAmong count cells
     → IsBelow count (id_of (slice_index_or cells cell None))
 slot_among count cells cell among = elim (cases_lt cell (length cells)) [
@@ -153,6 +168,7 @@ slot_among count cells cell among = elim (cases_lt cell (length cells)) [
       tt
 ]
 
+-- who stands in the cells after their lives is one of so many
 lives_among : (config : ConfigValues) (count update : ℕ) (cells : List (Option Occupant))
     → AreAmong count cells → All (λ l. IsBelow count (id_of l.occupant))
     (lives_of config update cells)
@@ -164,22 +180,26 @@ lives_among config count update cells among =
     among_life config count update cell (slice_at config cells cell)
     (slice_index_or cells cell None) (slot_among count cells cell among))
 
+-- what holds of all of two lists holds of all of one behind the other
 all_append : {X : Type 0} (P : X → Type 0) (xs ys : List X) → AllByRecursion P xs
     → AllByRecursion P ys → AllByRecursion P (xs ++ ys)
 all_append P [] ys first rest = rest
 all_append P (x ∷ xs) ys first rest = (first.0, all_append P xs ys first.1 rest)
 
+-- where a parent is one of so many, so is that of each of its newborns
 deliveries_of : (count cell parent : ℕ) (newborns : List NewbornValue) → parent < count
     → AllByRecursion (IsOf count) (map (delivery_of cell parent) newborns)
 deliveries_of count cell parent [] below = tt
 deliveries_of count cell parent (n ∷ newborns) below =
     (below, deliveries_of count cell parent newborns below)
 
+-- where who stands in a cell is one of so many, so is the parent of each of its newborns
 births_by_of : (count cell : ℕ) (newborns : List NewbornValue) (slot : Option Occupant)
     → IsBelow count (id_of slot) → AllByRecursion (IsOf count) (births_by cell newborns slot)
 births_by_of count cell newborns None below = tt
 births_by_of count cell newborns (Some o) below = deliveries_of count cell o.id newborns below
 
+-- so is the parent of each newborn of the cells from one on
 births_from_of : (count from : ℕ) (lives : List CellLife)
     → AllByRecursion (λ l. IsBelow count (id_of l.occupant)) lives
     → AllByRecursion (IsOf count) (flat_map births_in (enumerate_from from lives))
@@ -190,6 +210,7 @@ births_from_of count from (l ∷ lives) among =
     (births_by_of count from l.newborns l.occupant among.0)
     (births_from_of count (from + 1) lives among.1)
 
+-- so is the parent of each newborn of an update
 births_of_of : (count : ℕ) (lives : List CellLife)
     → All (λ l. IsBelow count (id_of l.occupant)) lives
     → AllByRecursion (IsOf count) (births_of lives)
@@ -198,6 +219,7 @@ births_of_of count lives among =
     births_from_of count 0 lives
     (recursion_from_All (λ (l : CellLife). IsBelow count (id_of l.occupant)) lives among)
 
+-- at the end of an update a scene's ids are places still
 numbered_last : (config : ConfigValues) (scene : Scene) (lives : List CellLife)
     → All (λ l. IsBelow (length scene.everyone) (id_of l.occupant)) lives → IsNumberedScene scene
     → IsNumberedScene (last_scene config scene lives)
@@ -213,6 +235,7 @@ numbered_last config scene lives among is =
     (omega (arith, same)) (births_of_of (length scene.everyone) lives among)
     (numbered_deaths scene (deaths_of lives) is))
 
+-- where a world's ids are places, so are those of the next world
 numbered_update : (config : ConfigValues) (w : World) → IsNumberedWorld w
     → IsNumberedWorld (next_world config w)
 unfolding next_world next_scene scene_of_lives
@@ -225,6 +248,7 @@ numbered_update config w is =
           (λ (l : CellLife). l.occupant) lives among;
     })
 
+-- the ids of the founder's world are places
 numbered_first : (config : ConfigValues) → IsNumberedWorld (first_world config)
 unfolding first_world
 numbered_first config =
@@ -242,6 +266,7 @@ numbered_first config =
           (All-replicate (λ slot. IsBelow 1 (id_of slot)) (config.width * config.height) None tt);
     }
 
+-- the ids of each world of a run are places
 pub numbered : (config : ConfigValues) (updates : ℕ) → IsNumberedWorld (world_after config updates)
 unfolding world_after
 numbered config zero = numbered_first config

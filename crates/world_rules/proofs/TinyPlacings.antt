@@ -4,12 +4,13 @@ use Rattle.std.specs.Prelude.{◌==◌, count_by, slice_index_or, slice_set}
 use Rattle.logic_tasks.specs.Inputs.{inputs_of}
 use Rattle.random_streams.specs.RandomStream.{scaled}
 use Rattle.birth_board.specs.declared.placing.Placing.{Placing}
-use Rattle.birth_board.specs.declared.season.Season.{Season}
+use Rattle.birth_board.specs.declared.placing_round.PlacingRound.{PlacingRound}
 use Rattle.birth_board.specs.Torus.{TorusNumbers, neighbours_of}
-use Rattle.birth_board.specs.Placement.{Board, chosen_cell, placing_of, words_of, next_board, placements_of}
-use Rattle.world_rules.specs.Settings.{torus_of, season_at}
+use Rattle.birth_board.specs.Placement.{Board, chosen_cell, placing_of, placing_words, next_board, placements_of}
+use Rattle.world_rules.specs.Settings.{torus_of, placing_round_at}
 use Rattle.world_rules.specs.TinyWorlds.{tiny}
 
+-- eight zeros: the one cell, as each of its neighbours
 abbrev zeros : List ℕ
 zeros = replicate 8 0
 
@@ -30,8 +31,8 @@ abbrev torus : TorusNumbers
 torus = torus_of (tiny [])
 
 -- the season of its update 1
-abbrev season : Season
-season = season_at (tiny []) 1 1
+abbrev round : PlacingRound
+round = placing_round_at (tiny []) 1 1
 
 -- the one cell is chosen, be it empty or not
 chosen : (slot : Option ℕ) (word : ℕ) → chosen_cell torus true (slot ∷ []) 0 word ≡ 0
@@ -62,10 +63,11 @@ with_placing board placing =
 
 -- the words of the next newborn
 abbrev words_at : List ℕ → List ℕ
-words_at parents = words_of season 0 (count_by (λ cell. cell == 0) parents)
+words_at parents = placing_words round 0 (count_by (λ cell. cell == 0) parents)
 
+-- the next newborn is placed in the one cell, whoever stands there
 turn : (slot : Option ℕ) (placings : List Placing) (parents : List ℕ)
-    → next_board torus season
+    → next_board torus round
     (record { occupants = slot ∷ []; placings = placings; parents = parents }) 0
     ≡ with_placing (record { occupants = slot ∷ []; placings = placings; parents = parents })
     (placed 0 (slot ∷ []) (1 + length parents) (words_at parents))
@@ -81,9 +83,10 @@ abbrev pub two_placings : List Placing
 two_placings =
     placed 0 (None ∷ []) 1 (words_at []) ∷ placed 0 (Some 1 ∷ []) 2 (words_at (0 ∷ [])) ∷ []
 
-pub two_placed : (placements_of torus (0 ∷ 0 ∷ []) (None ∷ []) season).placings ≡ two_placings
+-- these are the placings of two newborns of the one cell, once it is empty
+pub two_placed : (placements_of torus (0 ∷ 0 ∷ []) (None ∷ []) round).placings ≡ two_placings
 unfolding placements_of
 two_placed =
     let first : Placing = placed 0 (None ∷ []) 1 (words_at []) in
-    ap (λ board. (next_board torus season board 0).placings) (turn None [] [])
+    ap (λ board. (next_board torus round board 0).placings) (turn None [] [])
     ∙ ap (λ (board : Board). board.placings) (turn (Some 1) (first ∷ []) (0 ∷ []))

@@ -9,20 +9,20 @@ line_of_parent lines None = []
 line_of_parent lines (Some parent) = slice_index_or lines parent []
 
 -- one organism more: its line is that of its parent, and itself
-abbrev pub with_line : List (List Link) → Link → List (List Link)
-with_line lines link = lines ++ (line_of_parent lines link.parent ++ link ∷ []) ∷ []
+abbrev pub with_descent_line : List (List Link) → Link → List (List Link)
+with_descent_line lines link = lines ++ (line_of_parent lines link.parent ++ link ∷ []) ∷ []
 
 -- the line of each organism, by id, its founder first
-unfoldable pub lines_of : List Link → List (List Link)
-lines_of everyone = fold with_line [] everyone
+unfoldable pub descent_lines_of : List Link → List (List Link)
+descent_lines_of everyone = fold with_descent_line [] everyone
 
 -- the line of the organism with this id
-abbrev pub line_of : List Link → ℕ → List Link
-line_of everyone id = slice_index_or (lines_of everyone) id []
+abbrev pub descent_line_of : List Link → ℕ → List Link
+descent_line_of everyone id = slice_index_or (descent_lines_of everyone) id []
 
 -- the line of who stands in a cell
 unfoldable pub line_in : World → ℕ → Option (List Link)
-line_in w cell = option_map (line_of w.everyone) (id_at w.cells cell)
+line_in w cell = option_map (descent_line_of w.everyone) (id_at w.cells cell)
 
 -- this id, if there is one, is below a number
 abbrev pub IsBelow : ℕ → Option ℕ → Type 0
@@ -30,14 +30,14 @@ IsBelow bound None = Unit {0}
 IsBelow bound (Some id) = id < bound
 
 -- an organism has its place as its id, and its parent came before it
-pub record IsNumbered (place : ℕ) (link : Link) : Type 0 where
+pub record HasPlaceAsId (place : ℕ) (link : Link) : Type 0 where
   pub id : link.id ≡ place
   pub parent : IsBelow place link.parent
 
 -- so has each of these
 abbrev pub AreNumbered : List Link → Type 0
 AreNumbered everyone =
-    (place : ℕ) (link : Link) → slice_get everyone place ≡ Some link → IsNumbered place link
+    (place : ℕ) (link : Link) → slice_get everyone place ≡ Some link → HasPlaceAsId place link
 
 -- who stands in the cells is one of so many
 abbrev pub AreAmong : ℕ → List (Option Occupant) → Type 0

@@ -1,15 +1,14 @@
 -- The lives of an update, all from one start (docs/WORLD.md, "Time slices" and "The life of one
 -- update").
-use Rattle.std.specs.Prelude.{ℕ, Bool, true, false, List, [], length, map, Option, None, Some, slice_index_or}
+use Rattle.std.specs.Prelude.{ℕ, Bool, false, List, [], length, map, Option, None, Some, slice_index_or}
 use Rattle.std.specs.List.{range_with_len}
 use Rattle.random_streams.specs.declared.purpose.Purpose.TheVariants.{Run}
 use Rattle.random_streams.specs.RandomStream.{draw}
 use Rattle.merit_slices.specs.Slices.{slices_of}
 use Rattle.organism.specs.declared.ran.Ran.{Ran}
-use Rattle.organism.specs.declared.ran.Ran.TheVariants.{Lives, Died}
 use Rattle.organism.specs.Lived.{beginning}
 use Rattle.organism.specs.Newborns.{NewbornValue}
-use Rattle.organism.specs.UpdateLife.{LifeState, life}
+use Rattle.organism.specs.UpdateLife.{LifeState, is_death, life}
 use Rattle.world_config.specs.Values.{ConfigValues}
 use Rattle.world_rules.specs.World.{Occupant}
 use Rattle.world_rules.specs.Settings.{settings_at}
@@ -37,11 +36,6 @@ slices_at config cells = slices_of (map merit_in cells) config.average_slices
 -- the steps of one cell
 abbrev pub slice_at : ConfigValues → List (Option Occupant) → ℕ → ℕ
 slice_at config cells cell = slice_index_or (slices_at config cells) cell 0
-
--- whether a life ended by age
-abbrev pub is_death : Ran → Bool
-is_death Lives = false
-is_death (Died after) = true
 
 -- the life of the organism with this id
 abbrev pub cell_life : ℕ → LifeState × Ran → CellLife

@@ -1,6 +1,6 @@
 -- What a configuration sets for an update (docs/WORLD.md, "Events" and "The life of one update").
 use Rattle.std.specs.Prelude.{ℕ, List, filter, fold, nat_lt}
-use Rattle.birth_board.specs.declared.season.Season.{Season}
+use Rattle.birth_board.specs.declared.placing_round.PlacingRound.{PlacingRound}
 use Rattle.birth_board.specs.Torus.{TorusNumbers}
 use Rattle.divide_rules.specs.Rules.{RuleNumbers}
 use Rattle.mutations.specs.declared.rate_name.RateName.{RateName}
@@ -73,8 +73,8 @@ abbrev pub torus_of : ConfigValues → TorusNumbers
 torus_of config = record { width = config.width; height = config.height }
 
 -- what the placing of an update needs besides the cells
-abbrev pub season_at : ConfigValues → ℕ → ℕ → Season
-season_at config update next_id =
+abbrev pub placing_round_at : ConfigValues → ℕ → ℕ → PlacingRound
+placing_round_at config update next_id =
     record {
       seed = config.seed;
       update = update;

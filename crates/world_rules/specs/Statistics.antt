@@ -26,18 +26,18 @@ abbrev pub organisms_in : List (Option Occupant) → List OrganismState
 organisms_in cells = filter_map organism_in cells
 
 -- their genomes
-abbrev pub genomes_in : List (Option Occupant) → List (List Letter)
-genomes_in cells = map (λ o. o.genome) (organisms_in cells)
+abbrev pub genomes_of_cells : List (Option Occupant) → List (List Letter)
+genomes_of_cells cells = map (λ o. o.genome) (organisms_in cells)
 
 -- the different ones of some genomes, in order of their first place
-abbrev pub genotypes_of : List (List Letter) → List (List Letter)
-genotypes_of [] = []
-genotypes_of (genome ∷ genomes) =
-    genome ∷ filter (λ other. not (same_letters genome other)) (genotypes_of genomes)
+abbrev pub distinct_genomes : List (List Letter) → List (List Letter)
+distinct_genomes [] = []
+distinct_genomes (genome ∷ genomes) =
+    genome ∷ filter (λ other. not (same_letters genome other)) (distinct_genomes genomes)
 
 -- how many of some genomes are this one
-abbrev pub count_of : List (List Letter) → List Letter → ℕ
-count_of genomes genome = count_by (same_letters genome) genomes
+abbrev pub genome_count : List (List Letter) → List Letter → ℕ
+genome_count genomes genome = count_by (same_letters genome) genomes
 
 -- how many of the living have a task in their credited set
 abbrev pub credited_with : List (Option Occupant) → Task → ℕ
@@ -50,7 +50,7 @@ stats_in update cells births deaths = record {
   living = taken (ids_of cells);
   births = births;
   deaths = deaths;
-  genotypes = length (genotypes_of (genomes_in cells));
+  genotypes = length (distinct_genomes (genomes_of_cells cells));
   merit = sum_by (λ o. o.merit) (organisms_in cells);
   tasks = map (credited_with cells) all_tasks;
 }
@@ -70,11 +70,11 @@ stats_of config (suc n) = next_stats config (world_after config n)
 
 -- a genome, and how many of these are the same
 abbrev pub counted_in : List (List Letter) → List Letter → GenotypeCount
-counted_in genomes genome = record { genome = genome; count = count_of genomes genome }
+counted_in genomes genome = record { genome = genome; count = genome_count genomes genome }
 
 -- the genome that most of the living in some cells have, and of equally frequent ones the least in
 -- the order of letters, with its count
 unfoldable pub dominant_of : List (Option Occupant) → Option GenotypeCount
 dominant_of cells =
-    let genomes = genomes_in cells in
+    let genomes = genomes_of_cells cells in
     dominant_among (map (counted_in genomes) genomes)

@@ -61,12 +61,12 @@ barren o died =
     record { occupant = Some (record { id = 0; organism = o }); died = died; newborns = [] } ∷ []
 
 -- the scene of an update as that life has ended
-abbrev pub ended : ℕ → OrganismState → Bool → Scene
-ended update o died = after_lives update one_link (barren o died)
+abbrev pub scene_after_life : ℕ → OrganismState → Bool → Scene
+scene_after_life update o died = after_lives update one_link (barren o died)
 
 -- the record of a child that is as its parent
-abbrev pub unchanged : BirthRecord
-unchanged = record { written = None; changes = [] }
+abbrev pub unchanged_birth : BirthRecord
+unchanged_birth = record { written = None; changes = [] }
 
 -- a child of the founder with this number and merit
 abbrev pub child : ℕ → ℕ → NewbornValue
@@ -74,7 +74,7 @@ child nth merit =
     record {
       nth = nth;
       genome = eight NopA;
-      origin = unchanged;
+      origin = unchanged_birth;
       merit = merit;
       credited = no_tasks;
     }

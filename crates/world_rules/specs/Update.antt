@@ -10,7 +10,7 @@ use Rattle.lineage_log.specs.Links.{Link}
 use Rattle.world_config.specs.Events.{EventValue, WhatValue, inject, clear, rate}
 use Rattle.world_config.specs.Values.{ConfigValues}
 use Rattle.world_rules.specs.World.{Occupant, World, ids_of, founder_of, founder_link}
-use Rattle.world_rules.specs.Settings.{torus_of, season_at}
+use Rattle.world_rules.specs.Settings.{torus_of, placing_round_at}
 use Rattle.world_rules.specs.Lives.{CellLife, no_life, lives_of}
 use Rattle.world_rules.specs.Scene.{Scene, next_id, with_deaths, cells_from, with_newcomer}
 
@@ -55,7 +55,7 @@ births_of lives = flat_map births_in (enumerate_from 0 lives)
 unfoldable pub placings_of : ConfigValues → Scene → List Delivery → List Placing
 placings_of config scene births =
     (placements_of (torus_of config) (map (λ b. b.cell) births) (ids_of scene.cells)
-    (season_at config scene.update (next_id scene))).placings
+    (placing_round_at config scene.update (next_id scene))).placings
 
 -- how a newborn stands in the list of all
 abbrev pub birth_link : ℕ → ℕ → Delivery → ℕ → Link

@@ -3,7 +3,7 @@ ghost use Rattle.std.specs.Prelude.{◌≡◌, ℕ, List, [], ◌∷◌, ◌++�
 ghost use Rattle.lineage_log.specs.Links.{Link};
 ghost use Rattle.world_config.specs.Values.{ConfigValues};
 ghost use Rattle.world_rules.specs.WorldRun.{world_after};
-ghost use Rattle.world_rules.specs.Descent.{line_of, line_of_parent, lines_of, AreNumbered, IsNumberedWorld};
+ghost use Rattle.world_rules.specs.Descent.{descent_line_of, line_of_parent, descent_lines_of, AreNumbered, IsNumberedWorld};
 
 /// An id is a place in the list of all, and a parent's comes before its child's.
 pub fn ids_are_places()
@@ -15,5 +15,6 @@ pub fn lines_come_from_parents()
     ensures { (everyone : List Link) (id : ℕ) (link : Link)
         → AreNumbered everyone
         → slice_get everyone id ≡ Some link
-        → line_of everyone id ≡ line_of_parent (lines_of everyone) link.parent ++ link ∷ [] }
+        → descent_line_of everyone id ≡ line_of_parent (descent_lines_of everyone) link.parent
+        ++ link ∷ [] }
 {}

@@ -13,7 +13,7 @@ ghost use Rattle.world_rules.specs.Lives.{slices_at};
 ghost use Rattle.world_rules.specs.LogText.{lines_of_lives, update_lines, log_text};
 ghost use Rattle.world_rules.specs.WorldRun.{world_after, residents_of_world};
 ghost use Rattle.world_rules.specs.Picture.{picture_of, picture_text};
-ghost use Rattle.world_rules.specs.TinyWorlds.{tiny, once, eight, ended, barren, unchanged, fertile, after_fertile, counts};
+ghost use Rattle.world_rules.specs.TinyWorlds.{tiny, once, eight, scene_after_life, barren, unchanged_birth, fertile, after_fertile, counts};
 
 #[tactic(auto, unfolding(crate::specs::WorldRun::world_after))]
 pub fn the_first_world_is_the_founders()
@@ -27,20 +27,20 @@ pub fn a_rate_holds_from_the_next_update_on()
     ensures others { (rates_at (tiny (once (rate Copy 5))) 2).delete ≡ 0 }
 {}
 
-#[tactic(auto, unfolding(crate::specs::World::first_world, crate::specs::World::founder_of, crate::specs::Lives::slices_at, organism::specs::OrganismState::new_organism, merit_slices::specs::Slices::slices_of))]
 pub fn the_founder_gets_all_steps()
     ensures { slices_at (tiny []) (first_world (tiny [])).cells ≡ 8 ∷ [] }
 {}
 
-#[tactic(auto, unfolding(crate::specs::LogText::lines_of_lives, crate::specs::Update::last_scene, crate::specs::Update::deaths_of, crate::specs::Update::after_burials, crate::specs::Update::births_of, crate::specs::Update::placings_of, crate::specs::Update::after_births, crate::specs::Update::with_newborn, crate::specs::Update::events_at, crate::specs::Update::after_event, crate::specs::Update::after_events, crate::specs::Scene::with_death, crate::specs::Scene::with_newcomer, crate::specs::Statistics::stats_in, crate::specs::World::founder_of, organism::specs::OrganismState::new_organism, birth_board::specs::Placement::placements_of))]
 pub fn an_update_tells_its_events()
     ensures inject { (o : OrganismState)
-        → lines_of_lives (tiny (once (inject 0 (eight NopB)))) (ended 1 o false) (barren o false)
+        → lines_of_lives (tiny (once (inject 0 (eight NopB)))) (scene_after_life 1 o false)
+        (barren o false)
         ≡ Injected 1 1 0 (Some 0) (eight NopB) ∷ counts 1 1 0 1 1 8 ∷ [] }
     ensures clear { (o : OrganismState)
-        → lines_of_lives (tiny (once (clear 0 0))) (ended 1 o false) (barren o false)
+        → lines_of_lives (tiny (once (clear 0 0))) (scene_after_life 1 o false) (barren o false)
         ≡ Cleared 0 1 0 ∷ counts 1 0 0 1 0 0 ∷ [] }
-    ensures death { (o : OrganismState) → lines_of_lives (tiny []) (ended 4 o true) (barren o true)
+    ensures death { (o : OrganismState)
+        → lines_of_lives (tiny []) (scene_after_life 4 o true) (barren o true)
         ≡ Death 0 4 0 ∷ counts 4 0 0 1 0 0 ∷ [] }
 {}
 
@@ -54,7 +54,6 @@ pub fn the_first_picture_shows_the_founder()
     ensures { picture_text (picture_of (tiny []) 0) ≡ codes "W 0 1 1 8 1 aaaaaaaa\n" }
 {}
 
-#[tactic(auto, unfolding(crate::specs::LogText::update_lines, crate::specs::LogText::lines_of_lives, crate::specs::Lives::lives_of, crate::specs::Lives::life_of, crate::specs::Lives::slices_at, crate::specs::Settings::settings_at, crate::specs::Settings::rates_at, crate::specs::Update::last_scene, crate::specs::Update::deaths_of, crate::specs::Update::after_burials, crate::specs::Update::births_of, crate::specs::Update::placings_of, crate::specs::Update::after_births, crate::specs::Update::events_at, crate::specs::Update::after_event, crate::specs::Update::after_events, crate::specs::Scene::with_death, crate::specs::Statistics::stats_in, crate::specs::World::first_world, crate::specs::World::founder_of, organism::specs::OrganismState::new_organism, organism::specs::UpdateLife::life, organism::specs::UpdateLife::death_in, organism::specs::UpdateLife::state_after, organism::specs::UpdateLife::after_step, organism::specs::Life::life_step, virtual_cpu::specs::Step::step, merit_slices::specs::Slices::slices_of))]
 pub fn an_organism_dies_with_the_step_of_its_age_limit()
     ensures alone { update_lines (tiny []) (first_world (tiny []))
         ≡ Death 0 1 0 ∷ counts 1 0 0 1 0 0 ∷ [] }
@@ -63,7 +62,6 @@ pub fn an_organism_dies_with_the_step_of_its_age_limit()
         ≡ Death 0 1 0 ∷ Rate 1 Copy 5 ∷ counts 1 0 0 1 0 0 ∷ [] }
 {}
 
-#[tactic(auto, unfolding(crate::specs::WorldRun::world_after, crate::specs::Update::next_world, crate::specs::Update::next_scene, crate::specs::Update::scene_of_lives, crate::specs::LogText::update_lines, crate::specs::LogText::lines_of_lives, crate::specs::Lives::lives_of, crate::specs::Lives::life_of, crate::specs::Lives::slices_at, crate::specs::Settings::settings_at, crate::specs::Settings::rates_at, crate::specs::Update::last_scene, crate::specs::Update::deaths_of, crate::specs::Update::after_burials, crate::specs::Update::births_of, crate::specs::Update::placings_of, crate::specs::Update::after_births, crate::specs::Update::events_at, crate::specs::Update::after_event, crate::specs::Update::after_events, crate::specs::Scene::with_death, crate::specs::Statistics::stats_in, crate::specs::World::first_world, crate::specs::World::founder_of, organism::specs::OrganismState::new_organism, organism::specs::UpdateLife::life, organism::specs::UpdateLife::death_in, organism::specs::UpdateLife::state_after, organism::specs::UpdateLife::after_step, organism::specs::Life::life_step, virtual_cpu::specs::Step::step, merit_slices::specs::Slices::slices_of))]
 pub fn an_empty_world_goes_on()
     ensures lines { update_lines (tiny []) (world_after (tiny []) 1) ≡ counts 2 0 0 0 0 0 ∷ [] }
     ensures nobody { residents_of_world (world_after (tiny []) 1) ≡ [] }
@@ -72,6 +70,6 @@ pub fn an_empty_world_goes_on()
 /// The first takes the cell of the dead parent, and the second that of the first.
 pub fn newborns_take_the_only_cell()
     ensures { (o : OrganismState) → lines_of_lives (tiny []) (after_fertile o) (fertile o)
-        ≡ Death 0 1 0 ∷ Birth 1 0 1 0 None unchanged ∷ Birth 2 0 1 0 (Some 1) unchanged
+        ≡ Death 0 1 0 ∷ Birth 1 0 1 0 None unchanged_birth ∷ Birth 2 0 1 0 (Some 1) unchanged_birth
         ∷ counts 1 1 2 2 1 16 ∷ [] }
 {}

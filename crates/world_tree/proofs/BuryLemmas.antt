@@ -5,7 +5,7 @@ use Rattle.std.proofs.lemmas.Bool.{cases_lt}
 use Rattle.std.proofs.lemmas.Map.Keys.{apart_from_distinct}
 use Rattle.std.proofs.lemmas.Option.{get_or_from_slice_get, slice_get_within}
 use Rattle.lineage_log.specs.Ancestry.{kept_of}
-use Rattle.lineage_log.specs.Trees.{TreeValue, with_death, without}
+use Rattle.lineage_log.specs.Trees.{TreeValue, tree_with_death, without_id}
 use Rattle.world_rules.specs.Scene.{Scene}
 use Rattle.world_rules.specs.Update.{world_of}
 use Rattle.world_rules.specs.World.{World}
@@ -35,11 +35,11 @@ module _ (laws : KeepingLaws) {w : World} {scene : Scene} (is : IsUpdate w scene
         (λ place low gone. died_once place count id low gone there)
 
     -- one more is buried
-    pub buried_more : HasBuried w scene (count + 1) (with_death tree id)
+    pub buried_more : HasBuried w scene (count + 1) (tree_with_death tree id)
     buried_more = record {
       links =
-          ap (λ links. kept_of links (without id tree.living)) buried.links
-          ∙ laws.fewer scene.everyone tree.living (without id tree.living)
+          ap (λ links. kept_of links (without_id id tree.living)) buried.links
+          ∙ laws.fewer scene.everyone tree.living (without_id id tree.living)
           (older_of scene.everyone is.numbered)
           (λ x lives. (without_from id x tree.living lives).0);
       living = λ x lives.

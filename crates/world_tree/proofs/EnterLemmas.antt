@@ -6,8 +6,8 @@ use Rattle.std.proofs.lemmas.List.{take_all}
 use Rattle.std.proofs.lemmas.List.Elements.{All-filter}
 use Rattle.std.proofs.lemmas.Option.{slice_get-get_or}
 use Rattle.lineage_log.specs.Links.{Link}
-use Rattle.lineage_log.specs.Ancestry.{AreOlder, is_kept, kept_of, line_of, link_of}
-use Rattle.lineage_log.specs.Trees.{TreeValue, CanCome, with_newcomer}
+use Rattle.lineage_log.specs.Ancestry.{AreOlder, is_kept, kept_of, line_of_descent, link_of}
+use Rattle.lineage_log.specs.Trees.{TreeValue, CanCome, tree_with_newcomer}
 use Rattle.world_rules.specs.Descent.{AreNumbered, IsNumberedWorld}
 use Rattle.world_config.specs.Values.{ConfigValues}
 use Rattle.world_rules.specs.Scene.{Scene}
@@ -22,21 +22,27 @@ use Rattle.world_tree.proofs.NumberLemmas.{contains_from, contains_last, contain
 -- what is kept goes on, as the law of that name says it
 abbrev pub KeepingLaws : Type 0
 KeepingLaws = record {
+  -- a newest organism whose parent lives is kept behind those that were
   more : (everyone : List Link) (living : List ℕ) (link : Link) → AreOlder everyone
       → All (λ (other : Link). other.id < link.id) everyone → All (λ id. id < link.id) living
       → ((above : ℕ) → link.parent ≡ Some above → Contains living above)
       → kept_of (everyone ++ link ∷ []) (living ++ link.id ∷ []) ≡ kept_of everyone living
       ++ link ∷ [];
+  -- where fewer live, who is kept of the kept is who is kept of all
   fewer : (everyone : List Link) (living left : List ℕ) → AreOlder everyone
       → ((id : ℕ) → Contains left id → Contains living id)
       → kept_of (kept_of everyone living) left ≡ kept_of everyone left;
+  -- lists of the same ids that live keep the same organisms
   same : (everyone : List Link) (living others : List ℕ)
       → ((id : ℕ) → Contains living id ↔ Contains others id)
       → kept_of everyone living ≡ kept_of everyone others;
+  -- an id that lives has the same link among the kept as among all
   links : (everyone : List Link) (living : List ℕ) (id : ℕ) → AreOlder everyone
       → Contains living id → link_of (kept_of everyone living) id ≡ link_of everyone id;
+  -- and the same line of descent
   lines : (everyone : List Link) (living : List ℕ) (id : ℕ) → AreOlder everyone
-      → Contains living id → line_of (kept_of everyone living) id ≡ line_of everyone id;
+      → Contains living id → line_of_descent (kept_of everyone living) id
+      ≡ line_of_descent everyone id;
 }
 
 -- an update of a world
@@ -61,22 +67,6 @@ module _ (laws : KeepingLaws) {w : World} {scene : Scene} (is : IsUpdate w scene
   pub been_low : (end id : ℕ) → first ≤ end → HasBeen w.cells first end id → id < end
   been_low end id more (inl stood) = omega (arith, more, standing_low w id is.world stood)
   been_low end id more (inr came) = came.1
-
-  -- the tree of the world before
-  pub entered_none : (tree : TreeValue) → IsTreeOf w tree → HasEntered w scene 0 tree
-  entered_none tree of = record {
-    links = of.links ∙ ap (λ (links : List Link). kept_of links tree.living)
-        (sym (ap (λ n. take n scene.everyone) none ∙ sym (ap (take first) is.turnover.follows)
-        ∙ take_first w.everyone (drop first scene.everyone)));
-    living = λ id lives. inl (of.living id lives);
-    each = λ id been. ⊎_elim
-        (λ (stood : IsStanding w.cells id). of.standing id stood)
-        (λ (came : (first ≤ id) × (id < first + 0)). absurd (omega (arith, came.0, came.1)))
-        been;
-  }
-    where
-      none : first + 0 ≡ first
-      none = omega arith
 
   module _ {count : ℕ} {tree : TreeValue} {link : Link} (entered : HasEntered w scene count tree)
       (there : slice_get scene.everyone (first + count) ≡ Some link) where
@@ -149,7 +139,7 @@ module _ (laws : KeepingLaws) {w : World} {scene : Scene} (is : IsUpdate w scene
     }
 
     -- one more has entered
-    pub entered_more : HasEntered w scene (count + 1) (with_newcomer tree link)
+    pub entered_more : HasEntered w scene (count + 1) (tree_with_newcomer tree link)
     entered_more = record {
       links =
           ap (λ (links : List Link). links ++ link ∷ []) entered.links
@@ -202,6 +192,7 @@ pub next_is : (config : ConfigValues) (n : ℕ)
     → world_after config (n + 1) ≡ world_of (scene_after config n)
 unfolding world_after next_world
 next_is config n = ap (world_after config) one where
+  -- one more than a number is its successor
   one : n + 1 ≡ suc n
   one = omega arith
 

@@ -5,7 +5,7 @@ use Rattle.std.proofs.lemmas.Bool.{cond-true, eqb-false}
 use Rattle.std.proofs.lemmas.Option.{get_or_from_slice_get, slice_get_within}
 use Rattle.lineage_log.specs.Links.{Link}
 use Rattle.lineage_log.specs.Ancestry.{AreOlder, link_of}
-use Rattle.lineage_log.specs.Trees.{without}
+use Rattle.lineage_log.specs.Trees.{without_id}
 use Rattle.world_rules.specs.Descent.{AreNumbered, IsBelow, IsNumberedWorld}
 use Rattle.world_rules.specs.World.{World, id_of}
 use Rattle.world_laws.specs.Turnover.{IsStanding}
@@ -102,6 +102,7 @@ link_at links place link are there =
 -- parents are older
 pub older_of : (links : List Link) → AreNumbered links → AreOlder links
 older_of links are id above is = by (link_of links id) refl is where
+  -- for an id with this link, or with none
   by : (found : Option Link) → link_of links id ≡ found
       → option_and_then (λ (l : Link). l.parent) found ≡ Some above → above < id
   by None e is = absurd cc
@@ -132,6 +133,7 @@ contains_more x y xs is = (suc is.0, omega (arith, is.1), is.2)
 pub contains_push : (xs : List ℕ) (y x : ℕ) → Contains xs x → Contains (xs ++ y ∷ []) x
 contains_push [] y x is = absurd (omega (arith, is.1))
 contains_push (z ∷ xs) y x is = by (λ h. contains_push xs y x h) is.0 is.1 is.2 where
+  -- for a number in the first place, or in a later one
   by : (Contains xs x → Contains (xs ++ y ∷ []) x) → (k : ℕ) → k < length (z ∷ xs)
       → get_or (z ∷ xs) k x ≡ x → Contains (z ∷ xs ++ y ∷ []) x
   by rest zero low e = (0, omega arith, e)
@@ -145,10 +147,12 @@ contains_last (z ∷ xs) y = contains_more y z (xs ++ y ∷ []) (contains_last x
 -- who is there with one more
 pub contains_from : (xs : List ℕ) (y x : ℕ) → Contains (xs ++ y ∷ []) x → Contains xs x ⊎ (x ≡ y)
 contains_from [] y x is = by is.0 is.1 is.2 where
+  -- for a number in a list of one item
   by : (k : ℕ) → k < length (y ∷ []) → get_or (y ∷ []) k x ≡ x → Contains [] x ⊎ (x ≡ y)
   by zero low e = inr (sym e)
   by (suc k) low e = absurd (omega (arith, low))
 contains_from (z ∷ xs) y x is = by (λ h. contains_from xs y x h) is.0 is.1 is.2 where
+  -- for a number in the first place, or in a later one
   by : (Contains (xs ++ y ∷ []) x → Contains xs x ⊎ (x ≡ y)) → (k : ℕ)
       → k < length (z ∷ xs ++ y ∷ []) → get_or (z ∷ xs ++ y ∷ []) k x ≡ x → Contains (z ∷ xs) x
       ⊎ (x ≡ y)
@@ -157,35 +161,40 @@ contains_from (z ∷ xs) y x is = by (λ h. contains_from xs y x h) is.0 is.1 is
       (λ (h : x ≡ y). inr h) (rest (k, omega (arith, low), e))
 
 -- without an id the others are there
-pub without_to : (id x : ℕ) (ids : List ℕ) → Contains ids x → x ≢ id → Contains (without id ids) x
+pub without_to : (id x : ℕ) (ids : List ℕ) → Contains ids x → x ≢ id
+    → Contains (without_id id ids) x
 without_to id x [] is apart = absurd (omega (arith, is.1))
 without_to id x (y ∷ ids) is apart =
     by (λ h. without_to id x ids h apart) (eqb y id) refl is.0 is.1 is.2 where
-      by : (Contains ids x → Contains (without id ids) x) → (b : Bool) → eqb y id ≡ b → (k : ℕ)
+      by : (Contains ids x → Contains (without_id id ids) x) → (b : Bool) → eqb y id ≡ b → (k : ℕ)
           → k < length (y ∷ ids) → get_or (y ∷ ids) k x ≡ x
-          → Contains (cond (not b) (y ∷ without id ids) (without id ids)) x
+          → Contains (cond (not b) (y ∷ without_id id ids) (without_id id ids)) x
       by rest true e zero low here = absurd (apart (sym here ∙ eqb-true y id e))
       by rest true e (suc k) low here = rest (k, omega (arith, low), here)
       by rest false e zero low here = (0, omega arith, here)
       by rest false e (suc k) low here =
-          contains_more x y (without id ids) (rest (k, omega (arith, low), here))
+          contains_more x y (without_id id ids) (rest (k, omega (arith, low), here))
 
 -- and it isn't
-pub without_from : (id x : ℕ) (ids : List ℕ) → Contains (without id ids) x
+pub without_from : (id x : ℕ) (ids : List ℕ) → Contains (without_id id ids) x
     → Contains ids x × (x ≢ id)
 without_from id x [] is = absurd (omega (arith, is.1))
 without_from id x (y ∷ ids) is = by (λ h. without_from id x ids h) (eqb y id) refl is where
+  -- another id of a list is there with one more in front
   more : Contains ids x × (x ≢ id) → Contains (y ∷ ids) x × (x ≢ id)
   more r = (contains_more x y ids r.0, r.1)
 
-  first : (Contains (without id ids) x → Contains ids x × (x ≢ id)) → eqb y id ≡ false → (k : ℕ)
-      → k < length (y ∷ without id ids) → get_or (y ∷ without id ids) k x ≡ x → Contains (y ∷ ids) x
+  -- for a first number that stays, and a place in what is left
+  first : (Contains (without_id id ids) x → Contains ids x × (x ≢ id)) → eqb y id ≡ false → (k : ℕ)
+      → k < length (y ∷ without_id id ids) → get_or (y ∷ without_id id ids) k x ≡ x
+      → Contains (y ∷ ids) x
       × (x ≢ id)
   first rest e zero low here = ((0, omega arith, here), λ same. eqb-false y id e (here ∙ same))
   first rest e (suc k) low here = more (rest (k, omega (arith, low), here))
 
-  by : (Contains (without id ids) x → Contains ids x × (x ≢ id)) → (b : Bool) → eqb y id ≡ b
-      → Contains (cond (not b) (y ∷ without id ids) (without id ids)) x → Contains (y ∷ ids) x
+  -- for a first number that is the id, or another
+  by : (Contains (without_id id ids) x → Contains ids x × (x ≢ id)) → (b : Bool) → eqb y id ≡ b
+      → Contains (cond (not b) (y ∷ without_id id ids) (without_id id ids)) x → Contains (y ∷ ids) x
       × (x ≢ id)
   by rest true e is = more (rest is)
   by rest false e is = first rest e is.0 is.1 is.2

@@ -7,7 +7,7 @@ use Rattle.lineage_log.specs.Ancestry.{AreOlder, kept_of, link_of}
 use Rattle.lineage_log.specs.Ancestry as tree
 use Rattle.lineage_log.specs.Trees.{TreeValue, founded_by}
 use Rattle.world_config.specs.Values.{ConfigValues}
-use Rattle.world_rules.specs.Descent.{AreNumbered, IsBelow, IsNumberedWorld, line_of, line_of_parent, lines_of}
+use Rattle.world_rules.specs.Descent.{AreNumbered, IsBelow, IsNumberedWorld, descent_line_of, descent_lines_of, line_of_parent}
 use Rattle.world_rules.specs.World.{Occupant, World, empty_cells, first_occupant, first_world, founder_link, id_of}
 use Rattle.world_rules.specs.WorldRun.{world_after}
 use Rattle.world_laws.specs.Turnover.{IsStanding}
@@ -82,21 +82,25 @@ tree_found config tree within is = subst (IsTreeOf (first_world config)) (sym is
 pub record LineLaws : Type 0 where
   pub trees : (links : List Link) (id : ℕ) (link : Link) → AreOlder links
       → link_of links id ≡ Some link
-      → tree.line_of links id ≡ option_map_or (tree.line_of links) link.parent [] ++ link ∷ []
+      → tree.line_of_descent links id ≡ option_map_or (tree.line_of_descent links) link.parent []
+      ++ link ∷ []
   pub all : (everyone : List Link) (id : ℕ) (link : Link) → AreNumbered everyone
       → slice_get everyone id ≡ Some link
-      → line_of everyone id ≡ line_of_parent (lines_of everyone) link.parent ++ link ∷ []
+      → descent_line_of everyone id ≡ line_of_parent (descent_lines_of everyone) link.parent ++ link
+      ∷ []
 
 module _ (lines : LineLaws) (everyone : List Link) (are : AreNumbered everyone) where
+  -- the lines of ids below a bound are the same in both
   same_line_within : (n id : ℕ) → id < n → id < length everyone
-      → tree.line_of everyone id ≡ line_of everyone id
+      → tree.line_of_descent everyone id ≡ descent_line_of everyone id
   same_line_within zero id low within = absurd (omega (arith, low))
   same_line_within (suc n) id low within =
       by (slice_get everyone id) refl
       (λ above l. same_line_within n above (omega (arith, l, low)) (omega (arith, l, within))) where
         by : (found : Option Link) → slice_get everyone id ≡ found
-            → ((above : ℕ) → above < id → tree.line_of everyone above ≡ line_of everyone above)
-            → tree.line_of everyone id ≡ line_of everyone id
+            → ((above : ℕ) → above < id
+            → tree.line_of_descent everyone above ≡ descent_line_of everyone above)
+            → tree.line_of_descent everyone id ≡ descent_line_of everyone id
         by None e rest = absurd (some within e) where
           some : id < length everyone → slice_get everyone id ≡ None → ⊥
           some within e = gone everyone id within e where
@@ -110,21 +114,22 @@ module _ (lines : LineLaws) (everyone : List Link) (are : AreNumbered everyone) 
             ∙ sym (lines.all everyone id link are e)
           where
             up : (parent : Option ℕ) → IsBelow id parent
-                → option_map_or (tree.line_of everyone) parent []
-                ≡ line_of_parent (lines_of everyone) parent
+                → option_map_or (tree.line_of_descent everyone) parent []
+                ≡ line_of_parent (descent_lines_of everyone) parent
             up None below = refl
             up (Some above) below = rest above below
 
   -- the line of an id is the same in both
-  pub same_line : (id : ℕ) → id < length everyone → tree.line_of everyone id ≡ line_of everyone id
+  pub same_line : (id : ℕ) → id < length everyone
+      → tree.line_of_descent everyone id ≡ descent_line_of everyone id
   same_line id within = same_line_within (id + 1) id (omega arith) within
 
 -- the path of an organism of the tree is its line among all
 pub path_is : (laws : KeepingLaws) (lines : LineLaws) (w : World) (t : TreeValue) (id : ℕ)
     → IsNumberedWorld w → IsTreeOf w t → Contains t.living id
-    → tree.line_of t.links id ≡ line_of w.everyone id
+    → tree.line_of_descent t.links id ≡ descent_line_of w.everyone id
 path_is laws lines w t id is of lives =
-    ap (λ (links : List Link). tree.line_of links id) of.links
+    ap (λ (links : List Link). tree.line_of_descent links id) of.links
     ∙ laws.lines w.everyone t.living id (older_of w.everyone is.everyone) lives
     ∙ same_line lines w.everyone is.everyone id (standing_low w id is (of.living id lives))
 
@@ -137,6 +142,7 @@ ids_stand [] id is = absurd (omega (arith, is.1))
 ids_stand (None ∷ cells) id is =
     let rest = ids_stand cells id is in (suc rest.0, rest.1, rest.2, rest.3)
 ids_stand (Some o ∷ cells) id is = by (λ h. ids_stand cells id h) is.0 is.1 is.2 where
+  -- for an id in the first place, or in a later one
   by : (Contains (filter_map id_of cells) id → IsStanding cells id) → (k : ℕ)
       → k < length (o.id ∷ filter_map id_of cells)
       → get_or (o.id ∷ filter_map id_of cells) k id ≡ id → IsStanding (Some o ∷ cells) id
@@ -151,6 +157,7 @@ stand_ids (slot ∷ cells) id zero o is e =
     let same : slot ≡ Some o = ap (λ (s : Option (Option Occupant)). unwrap_or s slot) is in
     subst (λ s. Contains (filter_map id_of (s ∷ cells)) id) (sym same) (0, omega arith, e)
 stand_ids (slot ∷ cells) id (suc k) o is e = by slot (stand_ids cells id k o is e) where
+  -- behind an empty cell, or behind another organism
   by : (slot : Option Occupant) → Contains (filter_map id_of cells) id
       → Contains (filter_map id_of (slot ∷ cells)) id
   by None rest = rest

@@ -2,7 +2,7 @@
 ghost use Rattle.std.specs.Prelude.{◌≡◌, ◌+◌, Contains, IfOk, OnOk, length};
 ghost use Rattle.genome.specs.Genome.{letters};
 ghost use Rattle.world_config.specs.Shown.{values_of};
-ghost use Rattle.world_rules.specs.Descent.{IsNumberedWorld, line_of};
+ghost use Rattle.world_rules.specs.Descent.{IsNumberedWorld, descent_line_of};
 ghost use Rattle.world_rules.specs.World.{World};
 ghost use Rattle.world_rules.specs.WorldRun.{world_after};
 ghost use Rattle.world_tree.specs.WorldTrees.{IsTreeOf, living_and_ancestors, newcomers_of, scene_after};
@@ -71,7 +71,7 @@ impl WorldTree {
     pub fn lineage(&self, alloc: Global, id: u64) -> Result<Path, Memory>
         requires { Contains self.now.living id }
         ensures { IfOk result (λ path. (w : World)
-            → IsNumberedWorld w → IsTreeOf w self.now → path ≡ line_of w.everyone id) }
+            → IsNumberedWorld w → IsTreeOf w self.now → path ≡ descent_line_of w.everyone id) }
     {
         keeping_goes_on();
         lines_come_from_parents();

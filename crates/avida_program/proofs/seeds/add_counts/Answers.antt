@@ -1,11 +1,11 @@
 use Rattle.std.proofs.Common.{◌≡◌, List, ℕ, ◌++◌, append_assoc}
 use Rattle.avida_program.proofs.seeds.add_counts.Goals as goal
 
--- seven texts, one behind another
-texts_add_up : (t a b c d e f g : List ℕ) {u v w x y z end : List ℕ} → u ≡ t ++ a → v ≡ u ++ b
-    → w ≡ v ++ c → x ≡ w ++ d → y ≡ x ++ e
-    → z ≡ y ++ f → end ≡ z ++ g → end ≡ t ++ (a ++ (b ++ (c ++ (d ++ (e ++ (f ++ g))))))
-texts_add_up t a b c d e f g p q r s m n o = rw (o, n, m, s, r, q, p) (simp append_assoc)
+module _ (t a b c d e f g : List ℕ) {u v w x y z end : List ℕ} where
+  -- seven texts, one behind another
+  texts_add_up : u ≡ t ++ a → v ≡ u ++ b → w ≡ v ++ c → x ≡ w ++ d → y ≡ x ++ e → z ≡ y ++ f
+      → end ≡ z ++ g → end ≡ t ++ (a ++ (b ++ (c ++ (d ++ (e ++ (f ++ g))))))
+  texts_add_up p q r s m n o = rw (o, n, m, s, r, q, p) (simp append_assoc)
 
 pub returns : goal.returns
 returns c =

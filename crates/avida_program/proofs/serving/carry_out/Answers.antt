@@ -19,7 +19,8 @@ returns-in-Assay g c =
     rw c.in-Assay.is (c.assay.ensures (g.W.Sink.seen c.args.watch.now) c.args.last.now)
 
 pub returns-in-Save : goal.returns-in-Save
-returns-in-Save g c = rw c.in-Save.is (c.save.ensures (g.W.Sink.seen c.args.watch.now) c.args.last.now)
+returns-in-Save g c =
+    rw c.in-Save.is (c.save.ensures (g.W.Sink.seen c.args.watch.now) c.args.last.now)
 
 pub returns-in-Resume : goal.returns-in-Resume
 returns-in-Resume g c =

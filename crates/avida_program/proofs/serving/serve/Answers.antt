@@ -20,4 +20,4 @@ returns-clause-last_stays g c =
 pub returns-clause-serves : goal.returns-clause-serves
 returns-clause-serves g c =
     rw c.status.ensures (serves _ _ c.obey-outcome.result c.obey-outcome.ensures.obeys
-    c.tell.ensures)
+    c.write_fault_line.ensures)

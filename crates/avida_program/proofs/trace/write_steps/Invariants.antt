@@ -2,7 +2,7 @@
 use Rattle.std.proofs.Common.{◌≡◌, ◌≤◌, [], Ok}
 use Rattle.written_texts.specs.Pieces.{Writes}
 use Rattle.landscape.specs.Trace.{organism_after}
-use Rattle.avida_program.specs.TraceText.{lines_of}
+use Rattle.avida_program.specs.TraceText.{trace_lines}
 use Rattle.avida_program.proofs.trace.write_steps.Given as goal
 
 abbrev pub invariant-loop-step : goal.invariant-loop-step
@@ -10,5 +10,5 @@ invariant-loop-step g l = record {
   age : l.organism.age ≤ l.step;
   stepped : l.organism ≡ organism_after l.fn.organism l.step;
   written : Writes (g.O.Sink.seen l.fn.out) (g.O.Sink.seen l.out) [] l.piece.items
-      (lines_of l.fn.organism l.step) (Ok tt);
+      (trace_lines l.fn.organism l.step) (Ok tt);
 }

@@ -2,7 +2,7 @@ use Rattle.std.proofs.Common.{◌≡◌, ◌∙◌, List, ◌++◌, ap, sym, sub
 use Rattle.std.specs.Prelude.{flat_map}
 use Rattle.log_lines.specs.Line.{Line}
 use Rattle.phylogeny.specs.declared.tree.Phylogeny.{Phylogeny}
-use Rattle.phylogeny.specs.CommonAncestor.{branches_of, depths_of, kept_of, most_recent_common_ancestor}
+use Rattle.phylogeny.specs.CommonAncestor.{branches_of, depths_of, kept_ids_of, most_recent_common_ancestor}
 use Rattle.phylogeny.specs.LogPedigree.{pedigree_of}
 use Rattle.phylogeny.specs.TreeText.{ancestor_line, depth_line, shape_line, tree_text}
 use Rattle.written_texts.specs.SinkChanges.{change}
@@ -13,7 +13,7 @@ use Rattle.avida_program.proofs.tree.write_tree.Goals as goal
 -- the lines of what was found are the tree of the log
 lines_are : (found : Phylogeny) (lines : List Line) → found.depths ≡ depths_of (pedigree_of lines)
     → found.common ≡ most_recent_common_ancestor (pedigree_of lines)
-    → found.kept ≡ length (kept_of (pedigree_of lines))
+    → found.kept ≡ length (kept_ids_of (pedigree_of lines))
     → found.branches ≡ length (branches_of (pedigree_of lines))
     → lines_of_tree found ≡ tree_text lines
 lines_are found lines depths common kept branches =
@@ -22,7 +22,7 @@ lines_are found lines depths common kept branches =
     ap (λ l. flat_map depth_line l ++ last_lines found) depths
     ∙ ap (λ a. living ++ (ancestor_line a ++ counts_line found.kept found.branches)) common
     ∙ ap (λ n. living ++ (ancestor ++ counts_line n found.branches)) kept
-    ∙ ap (λ n. living ++ (ancestor ++ counts_line (length (kept_of (pedigree_of lines))) n))
+    ∙ ap (λ n. living ++ (ancestor ++ counts_line (length (kept_ids_of (pedigree_of lines))) n))
     branches
     ∙ sym (append_assoc living ancestor (shape_line (pedigree_of lines)))
 

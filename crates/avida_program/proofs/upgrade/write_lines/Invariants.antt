@@ -2,14 +2,14 @@
 use Rattle.std.proofs.Common.{ℕ, List, [], take, Ok}
 use Rattle.std.specs.Prelude.{flat_map}
 use Rattle.log_lines.specs.declared.log_line.LogLine.{LogLine}
-use Rattle.log_lines.specs.Line.{values_of}
+use Rattle.log_lines.specs.Line.{line_values}
 use Rattle.log_lines.specs.LineText.{line_text}
 use Rattle.written_texts.specs.Pieces.{Writes}
 use Rattle.avida_program.proofs.upgrade.write_lines.Given as goal
 
 -- the text of a line
 abbrev pub text_of : LogLine → List ℕ
-text_of line = line_text (values_of line)
+text_of line = line_text (line_values line)
 
 abbrev pub invariant-loop-line : goal.invariant-loop-line
 invariant-loop-line g l =

@@ -12,25 +12,25 @@ use Rattle.birth_board.proofs.turns.place_all.Goals as goal
 pub loop-parent-preserved : goal.loop-parent-preserved
 loop-parent-preserved c =
     let torus = torus_numbers c.args.torus.now in
-    let season = c.args.season.now in
+    let round = c.args.round.now in
     let parents = c.args.parents.now in
     let i = c.loop-parent.parent-index in
     let before = take i parents in
     let parent = get_or parents i 0 in
     let turn = c.loop-parent.turn in
-    let board = board_after torus season c.args.occupants.now before in
+    let board = board_after torus round c.args.occupants.now before in
     let within : i < length parents = c.loop-parent-test.true in
     let many : length before ≡ i = omega (arith, length-take i parents) in
     let order : turn.cell ≤ parent = c.loop-parent.invariant.order i (omega arith) within in
     let taken = words-taken turn.cell parent turn.draws.taken before order
     (ap (λ s. s.taken) c.loop-parent.invariant.stream) c.loop-parent.invariant.later in
-    let stream = c.turn_to-turn.ensures.draws ∙ ap (place_stream season parent) taken in
-    let id : c.loop-parent.id ≡ season.next_id + length before = omega arith in
-    let placed = placing-next torus season board parent before c.loop-parent.occupants
+    let stream = c.turn_to-turn.ensures.draws ∙ ap (place_stream round parent) taken in
+    let id : c.loop-parent.id ≡ round.next_id + length before = omega arith in
+    let placed = placing-next torus round board parent before c.loop-parent.occupants
     c.loop-parent.id c.turn_to-turn.result.draws c.place_one-placing.result
-    (board-parents torus season _ before) c.loop-parent.invariant.occupants id stream
+    (board-parents torus round _ before) c.loop-parent.invariant.occupants id stream
     c.place_one-placing.ensures.placing in
-    let more = board_after-more torus season c.args.occupants.now parents i within in
+    let more = board_after-more torus round c.args.occupants.now parents i within in
     let counted : count_by (λ p. p == parent) (take (i + 1) parents)
     ≡ count_by (λ p. p == parent) before + 1 =
     count_by_more_yes (λ p. p == parent) parents i 0 within (eqb-self parent) in
@@ -39,8 +39,8 @@ loop-parent-preserved c =
     let in_torus : Placing → Type 0 = λ placing. placing.cell < cells_of torus in
     record {
       stream = c.place_one-placing.ensures.draws ∙ ap (after 4) stream
-          ∙ ap (place_stream season parent) words
-          ∙ ap (λ q. place_stream season q (4 * count_by (λ p. p == q) (take (i + 1) parents)))
+          ∙ ap (place_stream round parent) words
+          ∙ ap (λ q. place_stream round q (4 * count_by (λ p. p == q) (take (i + 1) parents)))
           (sym c.turn_to-turn.ensures.cell);
       later = λ q above.
           let below : parent < q = omega arith in
@@ -48,11 +48,11 @@ loop-parent-preserved c =
           ∙ c.loop-parent.invariant.later q (omega arith);
       order = λ k low high. omega (arith, c.requires.can.rising i k 0 (omega arith) high);
       id = omega arith;
-      occupants = next_board-occupants torus season board parent c.loop-parent.occupants
+      occupants = next_board-occupants torus round board parent c.loop-parent.occupants
           c.place_one-placing.new.occupants c.place_one-placing.result
           c.loop-parent.invariant.occupants placed c.place_one-placing.ensures.occupants
           ∙ ap (λ b. b.occupants) (sym more);
-      placings = next_board-placings torus season board parent c.loop-parent.placings.items
+      placings = next_board-placings torus round board parent c.loop-parent.placings.items
           c.push_reserved.new.self.items c.place_one-placing.result c.loop-parent.invariant.placings
           placed c.push_reserved.ensures.items ∙ ap (λ b. b.placings) (sym more);
       count = omega (
@@ -76,7 +76,7 @@ returns-clause-placings c =
     take_all c.loop-parent.parent-index c.args.parents.now (omega arith) in
     record {
       placings = c.loop-parent.invariant.placings
-          ∙ ap (λ parents. (board_after torus c.args.season.now c.args.occupants.now
+          ∙ ap (λ parents. (board_after torus c.args.round.now c.args.occupants.now
           parents).placings) all;
       count = omega arith;
       in_torus = c.loop-parent.invariant.in_torus;
@@ -90,7 +90,7 @@ returns-clause-occupants c =
     take_all c.loop-parent.parent-index c.args.parents.now (omega arith) in
     record {
       occupants = c.loop-parent.invariant.occupants
-          ∙ ap (λ parents. (board_after torus c.args.season.now c.args.occupants.now
+          ∙ ap (λ parents. (board_after torus c.args.round.now c.args.occupants.now
           parents).occupants) all;
       cells = c.loop-parent.invariant.cells;
     }

@@ -1,7 +1,7 @@
-use Rattle.std.proofs.Common.{◌+◌, ◌<◌, None, length, map, refl, arith}
+use Rattle.std.proofs.Common.{◌<◌, None, length, map, arith}
 use Rattle.std.proofs.lemmas.List.{get_or_default}
 use Rattle.organism.specs.Newborns.{newborn_value}
-use Rattle.cell_shards.specs.CellLives.{part_from, round_numbers}
+use Rattle.cell_shards.specs.CellLives.{ShardLife, part_from, round_numbers}
 use Rattle.cell_shards.proofs.LivesLemmas.{HaveLived-none, HaveLived-next, HaveLived-more, all-cells, all-births, all-dead}
 use Rattle.cell_shards.proofs.lives.live.Goals as goal
 
@@ -23,13 +23,13 @@ loop-place-preserved c =
     let inside : c.loop-place.place < length c.loop-place.cells = omega arith in
     let old = get_or_default c.loop-place.cells c.loop-place.place c.index-cells-place.result None
     inside in
-    HaveLived-more (round_numbers c.args.round.now)
-    (part_from c.args.first c.args.cells.now c.args.slices.now) c.loop-place.place
-    c.loop-place.cells c.loop-place.lived.births.items c.tell.new.self.births.items
-    c.loop-place.lived.dead.items c.tell.new.self.dead.items (c.args.first + c.loop-place.place)
-    _ _ c.live_in.new.slot c.bury.new.slot c.in_ok-life.life.died
-    (map newborn_value c.in_ok-life.life.births) c.loop-place.invariant within refl refl old
-    c.in_ok-life.ensures c.bury.ensures c.in_ok-tell.ensures.births c.in_ok-tell.ensures.dead
+    let life : ShardLife = record {
+      organism = c.live_in.new.slot;
+      died = c.in_ok-life.life.died;
+      newborns = map newborn_value c.in_ok-life.life.births;
+    } in
+    HaveLived-more life c.loop-place.invariant within old c.in_ok-life.ensures c.bury.ensures
+    c.in_ok-tell.ensures.births c.in_ok-tell.ensures.dead
 
 pub returns-clause-cells : goal.returns-clause-cells
 returns-clause-cells c = all-cells _ _ _ _ _ _ c.loop-place.invariant (omega arith)

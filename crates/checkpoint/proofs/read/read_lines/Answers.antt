@@ -3,7 +3,7 @@ use Rattle.std.specs.Prelude.{IfSome}
 use Rattle.saved_worlds.specs.SavedState.{SavedState}
 use Rattle.saved_worlds.specs.SavedGrammar.{SavedFault, saved_of}
 use Rattle.checkpoint.specs.declared.saved_stop.SavedStop.{SavedStop}
-use Rattle.checkpoint.specs.Places.{place_of}
+use Rattle.checkpoint.specs.Places.{saved_place_of}
 use Rattle.checkpoint.specs.Reading.{Ends, IsFaultOf}
 use Rattle.checkpoint.specs.ToldValue.{ToldValue}
 use Rattle.checkpoint.proofs.ReadLemmas.{left_faulty, left_on}
@@ -15,7 +15,7 @@ returns-in_err-place c =
     let is : c.from_residual.result ≡ Err e = search rules in
     let bad : IsFaultOf e (saved_of c.args.bytes.now) =
     subst (λ (r : Result SavedState SavedFault). IsFaultOf e r) c.loop-behind.invariant.left
-    (left_faulty c.loop-behind.number (place_of c.loop-behind.place) c.loop-behind.rest.now
+    (left_faulty c.loop-behind.number (saved_place_of c.loop-behind.place) c.loop-behind.rest.now
     c.split_at.result.0.now c.split_at.result.1 c.split_at.ensures.pieces e c.in-Some.behind
     c.in-Some.is c.in_err-place.ensures) in
     subst (λ (r : Result ToldValue SavedStop). Ends r (saved_of c.args.bytes.now)) (sym is) bad
@@ -27,9 +27,9 @@ loop-behind-preserved c =
     subst (λ (o : Option (Bor (List ℕ))). IfSome o (λ behind. length behind.now < length rest))
     c.in-Some.is c.split_at.ensures.shorter in
     record {
-      left = sym (left_on c.loop-behind.number (place_of c.loop-behind.place) rest
+      left = sym (left_on c.loop-behind.number (saved_place_of c.loop-behind.place) rest
           c.split_at.result.0.now c.split_at.result.1 c.split_at.ensures.pieces
-          (place_of c.in_ok-place.place) c.in-Some.behind c.in-Some.is c.in_ok-place.ensures)
+          (saved_place_of c.in_ok-place.place) c.in-Some.behind c.in-Some.is c.in_ok-place.ensures)
           ∙ c.loop-behind.invariant.left;
       few = omega (arith, shorter, c.loop-behind.invariant.few);
     }

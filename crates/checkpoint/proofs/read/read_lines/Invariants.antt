@@ -1,12 +1,12 @@
 use Rattle.std.proofs.Common.{◌≡◌, ◌+◌, ◌≤◌, length}
 use Rattle.saved_worlds.specs.SavedGrammar.{pieces_state, saved_of}
-use Rattle.checkpoint.specs.Places.{place_of}
+use Rattle.checkpoint.specs.Places.{saved_place_of}
 use Rattle.checkpoint.proofs.ReadLemmas.{cut}
 use Rattle.checkpoint.proofs.read.read_lines.Given as goal
 
 abbrev pub invariant-loop-behind : goal.invariant-loop-behind
 invariant-loop-behind l = record {
-  left : pieces_state l.number (place_of l.place) (cut l.rest) ≡ saved_of l.fn.bytes;
+  left : pieces_state l.number (saved_place_of l.place) (cut l.rest) ≡ saved_of l.fn.bytes;
   few : l.number + length l.rest ≤ length l.fn.bytes + 1;
 }
 

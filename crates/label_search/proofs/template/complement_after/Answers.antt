@@ -1,10 +1,10 @@
-use Rattle.std.proofs.Common.{◌≡◌, ◌∙◌, sym, ap, arith, ◌+◌, ◌-◌, ◌%◌, ◌++◌, [], ◌∷◌, append_assoc, append-nil, true, false, length, length-append, refl, add-zero}
+use Rattle.std.proofs.Common.{◌≡◌, ◌∙◌, sym, ap, arith, ◌+◌, ◌-◌, ◌++◌, [], ◌∷◌, append_assoc, append-nil, true, false, length-append, refl, add-zero}
 use Rattle.std.specs.Prelude.{unwrap_or}
 use Rattle.std.proofs.Math.Nat.{mod-eq_of_lt}
 use Rattle.std.proofs.lemmas.Grind.{common_steps}
 use Rattle.instruction_set.specs.Letter.{complement_of}
 use Rattle.label_search.specs.Template.{is_nop, letter_after, template_after, complements_of}
-use Rattle.label_search.proofs.TemplateLemmas.{nops_read-room, mod-next, nops-next, nops-end, is_nop-complement}
+use Rattle.label_search.proofs.TemplateLemmas.{nops_read-room, next-place, nops-next, nops-end, is_nop-complement}
 use Rattle.label_search.proofs.template.complement_after.Goals as goal
 
 pub loop-init : goal.loop-init
@@ -17,34 +17,26 @@ loop-init c = record {
 
 pub returns-then-not-is_nop-clause-complement : goal.returns-then-not-is_nop-clause-complement
 returns-then-not-is_nop-clause-complement c =
-    let place : c.next_place-place.result
-    ≡ (c.args.ip + (1 + c.loop.counter)) % length c.args.memory.now =
-    rw c.loop.invariant.place at c.next_place-place.ensures
-    ∙ mod-next c.args.ip c.loop.counter _
-    ∙ ap (λ k. (c.args.ip + k) % length c.args.memory.now) (omega arith) in
-    let other : is_nop (letter_after c.args.memory.now c.args.ip (1 + c.loop.counter)) ≡ false =
-    rw (← place) (sym c.is_nop.ensures ∙ c.if-not-is_nop.true) in
+    let next = next-place c.args.ip c.loop.counter _ _ _ c.loop.invariant.place
+    c.next_place-place.ensures in
+    let other : is_nop (letter_after c.args.memory.now c.args.ip (c.loop.counter + 1)) ≡ false =
+    rw (← next) (sym c.is_nop.ensures ∙ c.if-not-is_nop.true) in
     let none = nops-end c.args.memory.now c.args.ip c.loop.counter (omega arith) other [] in
     sym (append-nil c.loop.complement)
     ∙ sym (ap (λ nops. c.loop.complement ++ complements_of nops) none) ∙ c.loop.invariant.nops
 
 pub loop-preserved : goal.loop-preserved
 loop-preserved c =
-    let next : c.next_place-place.result
-    ≡ (c.args.ip + (c.loop.counter + 1)) % length c.args.memory.now =
-    rw c.loop.invariant.place at c.next_place-place.ensures
-    ∙ mod-next c.args.ip c.loop.counter _ in
-    let place : c.next_place-place.result
-    ≡ (c.args.ip + (1 + c.loop.counter)) % length c.args.memory.now =
-    next ∙ ap (λ k. (c.args.ip + k) % length c.args.memory.now) (omega arith) in
-    let letter = letter_after c.args.memory.now c.args.ip (1 + c.loop.counter) in
-    let nop : is_nop letter ≡ true = rw (← place) (sym c.is_nop.ensures ∙ c.if-not-is_nop.false) in
+    let next = next-place c.args.ip c.loop.counter _ _ _ c.loop.invariant.place
+    c.next_place-place.ensures in
+    let letter = letter_after c.args.memory.now c.args.ip (c.loop.counter + 1) in
+    let nop : is_nop letter ≡ true = rw (← next) (sym c.is_nop.ensures ∙ c.if-not-is_nop.false) in
     let rest = nops-next c.args.memory.now c.args.ip c.loop.counter (10 - (c.loop.counter + 1))
     (omega arith) nop in
     let nop-too : is_nop (unwrap_or (complement_of letter) letter) ≡ true =
     is_nop-complement letter nop in
     let other : c.complement_of.result ≡ unwrap_or (complement_of letter) letter =
-    rw place at c.complement_of.ensures in
+    rw next at c.complement_of.ensures in
     let noted : c.note.new.self ≡ c.loop.complement ++ unwrap_or (complement_of letter) letter
     ∷ [] = rw other at c.note.ensures.read
     ∙ nops_read-room c.loop.complement (unwrap_or (complement_of letter) letter) nop-too

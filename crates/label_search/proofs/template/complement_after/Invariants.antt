@@ -10,6 +10,6 @@ invariant-loop l = record {
   count : length l.complement ≡ l.counter;
   nops : l.complement ++ complements_of
       (take_while is_nop (map (letter_after l.memory l.ip)
-      (range_with_len (1 + l.counter) (10 - l.counter))))
+      (range_with_len (l.counter + 1) (10 - l.counter))))
       ≡ complements_of (template_after l.memory l.ip);
 }

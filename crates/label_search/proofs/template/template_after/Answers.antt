@@ -1,9 +1,9 @@
-use Rattle.std.proofs.Common.{◌≡◌, ◌∙◌, sym, ap, arith, ◌+◌, ◌-◌, ◌%◌, ◌++◌, [], ◌∷◌, append_assoc, true, false, length, length-append, refl, add-zero}
+use Rattle.std.proofs.Common.{◌≡◌, ◌∙◌, sym, ap, arith, ◌+◌, ◌-◌, ◌++◌, [], ◌∷◌, append_assoc, true, false, length-append, refl, add-zero}
 use Rattle.std.proofs.Math.Nat.{mod-eq_of_lt}
 use Rattle.std.proofs.lemmas.Grind.{common_steps}
 use Rattle.std.proofs.lemmas.List.Elements.{All-nil}
 use Rattle.label_search.specs.Template.{is_nop, letter_after, template_after}
-use Rattle.label_search.proofs.TemplateLemmas.{nops_read-room, mod-next, nops-next, nops-end}
+use Rattle.label_search.proofs.TemplateLemmas.{nops_read-room, next-place, nops-next, nops-end}
 use Rattle.label_search.proofs.template.template_after.Goals as goal
 
 pub loop-init : goal.loop-init
@@ -17,13 +17,10 @@ loop-init c = record {
 
 pub returns-then-not-is_nop-clause-nops : goal.returns-then-not-is_nop-clause-nops
 returns-then-not-is_nop-clause-nops c =
-    let place : c.next_place-place.result
-    ≡ (c.args.ip + (1 + c.loop.counter)) % length c.args.memory.now =
-    rw c.loop.invariant.place at c.next_place-place.ensures
-    ∙ mod-next c.args.ip c.loop.counter _
-    ∙ ap (λ k. (c.args.ip + k) % length c.args.memory.now) (omega arith) in
-    let other : is_nop (letter_after c.args.memory.now c.args.ip (1 + c.loop.counter)) ≡ false =
-    rw (← place) (sym c.is_nop.ensures ∙ c.if-not-is_nop.true) in
+    let next = next-place c.args.ip c.loop.counter _ _ _ c.loop.invariant.place
+    c.next_place-place.ensures in
+    let other : is_nop (letter_after c.args.memory.now c.args.ip (c.loop.counter + 1)) ≡ false =
+    rw (← next) (sym c.is_nop.ensures ∙ c.if-not-is_nop.true) in
     sym (nops-end c.args.memory.now c.args.ip c.loop.counter (omega arith) other c.loop.template)
     ∙ c.loop.invariant.nops
 
@@ -35,19 +32,14 @@ returns-clause-template c = c.loop.invariant.template
 
 pub loop-preserved : goal.loop-preserved
 loop-preserved c =
-    let next : c.next_place-place.result
-    ≡ (c.args.ip + (c.loop.counter + 1)) % length c.args.memory.now =
-    rw c.loop.invariant.place at c.next_place-place.ensures
-    ∙ mod-next c.args.ip c.loop.counter _ in
-    let place : c.next_place-place.result
-    ≡ (c.args.ip + (1 + c.loop.counter)) % length c.args.memory.now =
-    next ∙ ap (λ k. (c.args.ip + k) % length c.args.memory.now) (omega arith) in
-    let letter = letter_after c.args.memory.now c.args.ip (1 + c.loop.counter) in
-    let nop : is_nop letter ≡ true = rw (← place) (sym c.is_nop.ensures ∙ c.if-not-is_nop.false) in
+    let next = next-place c.args.ip c.loop.counter _ _ _ c.loop.invariant.place
+    c.next_place-place.ensures in
+    let letter = letter_after c.args.memory.now c.args.ip (c.loop.counter + 1) in
+    let nop : is_nop letter ≡ true = rw (← next) (sym c.is_nop.ensures ∙ c.if-not-is_nop.false) in
     let rest = nops-next c.args.memory.now c.args.ip c.loop.counter (10 - (c.loop.counter + 1))
     (omega arith) nop in
     let noted : c.note.new.self ≡ c.loop.template ++ letter ∷ [] =
-    rw place at c.note.ensures.read ∙ nops_read-room c.loop.template letter nop (omega arith) in
+    rw next at c.note.ensures.read ∙ nops_read-room c.loop.template letter nop (omega arith) in
     record {
       place = next;
       count = rw (noted, length-append c.loop.template (letter ∷ [])) (omega arith);

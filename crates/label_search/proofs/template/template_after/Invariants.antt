@@ -10,6 +10,6 @@ invariant-loop l = record {
   count : length l.template ≡ l.counter;
   template : IsTemplate l.template;
   nops : l.template ++ take_while is_nop
-      (map (letter_after l.memory l.ip) (range_with_len (1 + l.counter) (10 - l.counter)))
+      (map (letter_after l.memory l.ip) (range_with_len (l.counter + 1) (10 - l.counter)))
       ≡ template_after l.memory l.ip;
 }

@@ -1,6 +1,6 @@
 use Rattle.std.proofs.Common.{◌∙◌, ap, sym, subst, refl, Some}
 use Rattle.mutations.specs.BirthRecord.{record_of}
-use Rattle.lineage_log.specs.Trees.{TreeValue, CanCome, genome_in}
+use Rattle.lineage_log.specs.Trees.{TreeValue, CanCome, genome_in_tree}
 use Rattle.library_tests.proofs.FamilyLemmas.{applies, family_of, grandchild_comes, lives_first, lives_last, lives_middle, living_three, middle_stays, same_child}
 use Rattle.library_tests.proofs.kept_trees.a_tree_keeps_the_ancestors_of_the_living.Goals as goal
 
@@ -9,8 +9,8 @@ born-requires-clause-applies g c = applies _ _ c.unchanged.ensures
 
 pub born-requires-2-clause-can_come : goal.born-requires-2-clause-can_come
 born-requires-2-clause-can_come g c =
-    let child = c.in_ok-born.ensures.ok (genome_in c.in_ok-tree.tree 0)
-    (same_child (genome_in c.in_ok-tree.tree 0) (record_of c.unchanged.result)
+    let child = c.in_ok-born.ensures.ok (genome_in_tree c.in_ok-tree.tree 0)
+    (same_child (genome_in_tree c.in_ok-tree.tree 0) (record_of c.unchanged.result)
     c.unchanged.ensures) in
     subst (λ (t : TreeValue). CanCome t 2 (Some 1)) (sym child)
     (grandchild_comes _ refl c.in_ok-tree.tree c.in_ok-tree.ensures

@@ -1,19 +1,11 @@
-use Rattle.std.proofs.Common.{◌≡◌, ◌∙◌, ◌+◌, ◌<◌, ◌∷◌, ◌++◌, ℕ, List, [], Option, Some, Bor, length, take, set, get_or, sym, ap, subst, arith}
+use Rattle.std.proofs.Common.{◌≡◌, ◌∙◌, ◌<◌, ℕ, List, [], Option, Some, Bor, length, take, sym, ap, subst, arith}
 use Rattle.std.specs.Prelude.{option_copied}
-use Rattle.std.proofs.lemmas.List.{take_all, take_more, take-set-le, get_or-set_same, length-set}
+use Rattle.std.proofs.lemmas.List.{take_all, length-set}
 use Rattle.numerals.specs.Numeral.{number_of}
 use Rattle.log_lines.specs.Words.{words_of}
 use Rattle.log_lines.proofs.WordLemmas.{split_some}
-use Rattle.log_lines.proofs.TimesLemmas.{HasRead, read_more, read_all, read_too_many}
+use Rattle.log_lines.proofs.TimesLemmas.{HasRead, front_more, read_more, read_all, read_too_many}
 use Rattle.log_lines.proofs.reading.tasks_last.Goals as goal
-
-one_more : (ns : List ℕ) (k n : ℕ) → k < length ns → take (k + 1) (set ns k n) ≡ take k ns ++ n ∷ []
-one_more ns k n h =
-    let within : k < length (set ns k n) = omega (arith, h, length-set ns k n) in
-    take_more (set ns k n) k 0 within
-    ∙ ap (λ (l : List ℕ). l ++ get_or (set ns k n) k 0 ∷ [])
-    (take-set-le k ns k n (omega arith))
-    ∙ ap (λ (m : ℕ). take k ns ++ m ∷ []) (get_or-set_same ns k n 0 h)
 
 pub loop-at-preserved : goal.loop-at-preserved
 loop-at-preserved c =
@@ -29,7 +21,7 @@ loop-at-preserved c =
     record {
       read = subst (λ (l : List ℕ).
           HasRead read words (words_of (option_copied c.in_ok-count.others)) l)
-          (sym (one_more tasks at c.in_ok-count.count within)) more;
+          (sym (front_more tasks at c.in_ok-count.count within)) more;
       long = length-set tasks at c.in_ok-count.count ∙ long;
     }
 

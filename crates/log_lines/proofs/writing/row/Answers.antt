@@ -1,16 +1,16 @@
 use Rattle.std.proofs.Common.{◌≡◌, ◌++◌, ℕ, List, Result, sym, subst}
 use Rattle.std.specs.Prelude.{OnOk}
 use Rattle.log_lines.specs.declared.log_line.LogLine.{LogLine}
-use Rattle.log_lines.specs.Line.{values_of}
+use Rattle.log_lines.specs.Line.{line_values}
 use Rattle.log_lines.specs.LineText.{row_text}
 use Rattle.log_lines.proofs.writing.row.Goals as goal
 
 -- what was written of a line of this kind, was written of this line
 written : {T E : Type 0} (result : Result T E) (old new : List ℕ) (line one : LogLine)
-    → line ≡ one → OnOk result (new ≡ old ++ row_text (values_of one))
-    → OnOk result (new ≡ old ++ row_text (values_of line))
+    → line ≡ one → OnOk result (new ≡ old ++ row_text (line_values one))
+    → OnOk result (new ≡ old ++ row_text (line_values line))
 written result old new line one is ok =
-    subst (λ (l : LogLine). OnOk result (new ≡ old ++ row_text (values_of l))) (sym is) ok
+    subst (λ (l : LogLine). OnOk result (new ≡ old ++ row_text (line_values l))) (sym is) ok
 
 pub returns-in-Start-clause-ok : goal.returns-in-Start-clause-ok
 returns-in-Start-clause-ok c =

@@ -28,15 +28,13 @@ returns-in_err-write_last-clause-text g c =
     c.from_residual-in_err-write_last.ensures.1 in
     let founded = c.in_ok-world.ensures.0 in
     rw (p.1, p.2)
-    (stopped_same (last_written (values_of c.args.config) c.in_ok-world.world.config
-    c.in_ok-world.world.config c.args.config.updates c.in_ok-world-2.world.update
-    c.in_ok-write_first.ensures founded c.in_ok-world-2.ensures.text founded
+    (stopped_same (last_written founded founded c.args.config.updates
+    c.in_ok-world-2.world.update c.in_ok-write_first.ensures c.in_ok-world-2.ensures.text
     c.in_err-write_last.ensures c.in_ok-world-2.ensures.update))
 
 pub returns-clause-text : goal.returns-clause-text
 returns-clause-text g c =
     let founded = c.in_ok-world.ensures.0 in
-    writes_same (last_written (values_of c.args.config) c.in_ok-world.world.config
-    c.in_ok-world.world.config c.args.config.updates c.in_ok-world-2.world.update
-    c.in_ok-write_first.ensures founded c.in_ok-world-2.ensures.text founded
+    writes_same (last_written founded founded c.args.config.updates
+    c.in_ok-world-2.world.update c.in_ok-write_first.ensures c.in_ok-world-2.ensures.text
     c.in_ok-write_last.ensures c.in_ok-world-2.ensures.update)

@@ -24,17 +24,15 @@ pub returns-in_err-write_last-clause-text : goal.returns-in_err-write_last-claus
 returns-in_err-write_last-clause-text g c =
     let p = err_from_is_err_and c.from_residual-in_err-write_last.result
     c.from_residual-in_err-write_last.ensures.1 in
-    let here = c.args.progress.world.config in
     rw (p.1, p.2)
-    (stopped_same (last_written (values_of c.args.config.now) here here c.args.config.now.updates
-    c.in_ok-progress.progress.world.update
-    c.in_ok-write_first.ensures c.requires.config c.in_ok-progress.ensures.text c.requires.config
+    (stopped_same (last_written c.requires.config c.requires.config
+    c.args.config.now.updates c.in_ok-progress.progress.world.update
+    c.in_ok-write_first.ensures c.in_ok-progress.ensures.text
     c.in_err-write_last.ensures c.in_ok-progress.ensures.update))
 
 pub returns-clause-text : goal.returns-clause-text
 returns-clause-text g c =
-    let here = c.args.progress.world.config in
-    writes_same (last_written (values_of c.args.config.now) here here c.args.config.now.updates
-    c.in_ok-progress.progress.world.update
-    c.in_ok-write_first.ensures c.requires.config c.in_ok-progress.ensures.text c.requires.config
+    writes_same (last_written c.requires.config c.requires.config
+    c.args.config.now.updates c.in_ok-progress.progress.world.update
+    c.in_ok-write_first.ensures c.in_ok-progress.ensures.text
     c.in_ok-write_last.ensures c.in_ok-progress.ensures.update)

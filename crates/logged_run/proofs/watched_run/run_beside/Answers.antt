@@ -45,12 +45,7 @@ returns-in_err-world-clause-err g c =
     let same =
     same_config c.deref-2.ensures c.in_ok-config.ensures c.deref.ensures c.requires.come in
     let both = c.side_by_side-watched.ensures in
-    rw (p.1, p.2)
-    (runner_ended c.args.looks (values_of c.deref-2.result.now) c.args.progress.world.config
-    (g.O.Sink.seen c.args.out.now) (g.O.Sink.seen c.side_by_side-watched.new.out)
-    (g.W.Sink.seen c.args.watch.now) (g.W.Sink.seen c.side_by_side-watched.new.watch)
-    c.side_by_side-watched.result.1 c.side_by_side-watched.result.0
-    same both.log both.lines _ c.in_err-world.was)
+    rw (p.1, p.2) (runner_ended same both.log both.lines _ c.in_err-world.was)
 
 pub returns-in_err-newest-clause-err : goal.returns-in_err-newest-clause-err
 returns-in_err-newest-clause-err g c =
@@ -59,12 +54,7 @@ returns-in_err-newest-clause-err g c =
     let same =
     same_config c.deref-2.ensures c.in_ok-config.ensures c.deref.ensures c.requires.come in
     let both = c.side_by_side-watched.ensures in
-    rw (p.1, p.2)
-    (watcher_ended c.args.looks (values_of c.deref-2.result.now) c.args.progress.world.config
-    (g.O.Sink.seen c.args.out.now) (g.O.Sink.seen c.side_by_side-watched.new.out)
-    (g.W.Sink.seen c.args.watch.now) (g.W.Sink.seen c.side_by_side-watched.new.watch)
-    c.side_by_side-watched.result.1 c.side_by_side-watched.result.0
-    same both.log both.lines _ _ c.in_ok-world.was c.in_err-newest.was)
+    rw (p.1, p.2) (watcher_ended same both.log both.lines _ _ c.in_ok-world.was c.in_err-newest.was)
 
 pub write_last_picture-requires-clause-note : goal.write_last_picture-requires-clause-note
 write_last_picture-requires-clause-note g c =
@@ -81,11 +71,8 @@ returns-in_err-write_last_picture-clause-err g c =
     same_config c.deref-2.ensures c.in_ok-config.ensures c.deref.ensures c.requires.come in
     let both = c.side_by_side-watched.ensures in
     rw (p.1, p.2)
-    (last_ended c.args.looks (values_of c.deref-2.result.now) c.args.progress.world.config
-    (g.O.Sink.seen c.args.out.now) (g.O.Sink.seen c.side_by_side-watched.new.out)
-    (g.W.Sink.seen c.args.watch.now) (g.W.Sink.seen c.side_by_side-watched.new.watch)
-    c.side_by_side-watched.result.1 c.side_by_side-watched.result.0
-    same both.log both.lines {shown = values_of c.in_ok-world.field-0.picture.value.config.value}
+    (last_ended same both.log both.lines
+    {shown = values_of c.in_ok-world.field-0.picture.value.config.value}
     {last = c.in_ok-world.field-0.picture.value.update} {told = c.in_ok-newest.newest}
     c.in_ok-world.was c.in_ok-newest.was c.in_err-write_last_picture.ensures (search rules)
     (search rules) (search rules))
@@ -95,22 +82,15 @@ returns-clause-ok g c =
     let same =
     same_config c.deref-2.ensures c.in_ok-config.ensures c.deref.ensures c.requires.come in
     let both = c.side_by_side-watched.ensures in
-    log_ended c.args.looks (values_of c.deref-2.result.now) c.args.progress.world.config
-    (g.O.Sink.seen c.args.out.now) (g.O.Sink.seen c.side_by_side-watched.new.out)
-    (g.W.Sink.seen c.args.watch.now) (g.W.Sink.seen c.side_by_side-watched.new.watch)
-    c.side_by_side-watched.result.1 c.side_by_side-watched.result.0
-    same both.log both.lines _ c.in_ok-world.was
+    log_ended same both.log both.lines _ c.in_ok-world.was
 
 pub returns-clause-watched : goal.returns-clause-watched
 returns-clause-watched g c =
     let same =
     same_config c.deref-2.ensures c.in_ok-config.ensures c.deref.ensures c.requires.come in
     let both = c.side_by_side-watched.ensures in
-    all_ended c.args.looks (values_of c.deref-2.result.now) c.args.progress.world.config
-    (g.O.Sink.seen c.args.out.now) (g.O.Sink.seen c.side_by_side-watched.new.out)
-    (g.W.Sink.seen c.args.watch.now) (g.W.Sink.seen c.side_by_side-watched.new.watch)
-    c.side_by_side-watched.result.1 c.side_by_side-watched.result.0
-    same both.log both.lines {shown = values_of c.in_ok-world.field-0.picture.value.config.value}
+    all_ended same both.log both.lines
+    {shown = values_of c.in_ok-world.field-0.picture.value.config.value}
     {last = c.in_ok-world.field-0.picture.value.update} {told = c.in_ok-newest.newest}
     c.in_ok-world.was c.in_ok-newest.was c.in_ok-write_last_picture.ensures (search rules)
     (search rules) (search rules)

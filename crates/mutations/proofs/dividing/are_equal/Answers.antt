@@ -1,7 +1,5 @@
-use Rattle.std.proofs.Common.{rules, ◌∙◌}
-use Rattle.mutations.proofs.BirthLemmas.{pointwise_alike}
+use Rattle.std.proofs.Common.{◌∙◌}
 use Rattle.mutations.proofs.dividing.are_equal.Goals as goal
 
 pub returns : goal.returns
-returns c =
-    c.eq.ensures ∙ pointwise_alike _ _ (λ a b. search rules) c.args.letters.now c.args.others.now
+returns c = c.eq.ensures ∙ c.equal_by_letters.ensures c.args.genome.now c.args.other.now

@@ -1,4 +1,5 @@
-use Rattle.organism.proofs.LivedLemmas.{LowerLaws, lived}
+use Rattle.organism.proofs.LivedLemmas.{lived}
+use Rattle.organism.proofs.SoundLemmas.{LowerLaws}
 use Rattle.organism.proofs.laws.lives_are_sound.Goals as goal
 
 pub returns : goal.returns

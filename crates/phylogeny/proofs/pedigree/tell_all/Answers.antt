@@ -1,5 +1,5 @@
 use Rattle.std.proofs.Common.{◌<◌, ◌∙◌, length, arith}
-use Rattle.log_lines.specs.Line.{values_of}
+use Rattle.log_lines.specs.Line.{line_values}
 use Rattle.phylogeny.proofs.ListLemmas.{not_past}
 use Rattle.phylogeny.proofs.SlotLemmas.{parents_more, standing_more}
 use Rattle.phylogeny.proofs.pedigree.tell_all.Goals.{in-Some+in_ok-tell, in_default}
@@ -9,7 +9,7 @@ pub loop-at-preserved : goal.loop-at-preserved
 loop-at-preserved c = elim c.match-get.branch [
   | in-Some+in_ok-tell w ↦
       let lines = c.args.log.now in
-      let line = values_of w.in-Some.line.now in
+      let line = line_values w.in-Some.line.now in
       let old = c.loop-at.pedigree in
       let new = w.tell.new.self in
       rw w.pedigree-is (record {

@@ -7,6 +7,7 @@ use Rattle.phylogeny.specs.declared.shape.Shape.{Shape}
 use Rattle.phylogeny.proofs.CountLemmas.{bit}
 use Rattle.phylogeny.proofs.SlotLemmas.{living_count}
 use Rattle.phylogeny.proofs.WalkLemmas.{IsWalked, Keeps, children_few, descendants_few, everybody, shape_few, walked_branches, walked_child, walked_common, walked_founder, walked_kept, walked_over, walked_start}
+use Rattle.phylogeny.proofs.shape.shape_of.Goals.{After-index-below, After-keep, In-Some}
 use Rattle.phylogeny.proofs.shape.shape_of.Goals as goal
 
 read_is : (xs : List ℕ) (i r n : ℕ) → length xs ≡ n → i < n → r ≡ get_or xs i r → r ≡ get_or xs i 0
@@ -21,27 +22,12 @@ zero_at zero i = refl
 zero_at (suc n) zero = refl
 zero_at (suc n) (suc i) = zero_at n i
 
-module _ (parents standing : List (Option ℕ)) (bound : ℕ) (descendants children : List ℕ)
-    (shape : Shape) (left : 0 < bound)
-    (walked : IsWalked parents standing bound descendants children shape) where
-  before : IsWalked parents standing ((bound - 1) + 1) descendants children shape
-  before =
-      let e : bound ≡ (bound - 1) + 1 = omega arith in
-      subst (λ (n : ℕ). IsWalked parents standing n descendants children shape) e walked
-
-  keeps_by : (below count living : ℕ) (new : Shape) → below ≡ get_or descendants (bound - 1) 0
-      → count ≡ get_or children (bound - 1) 0 → living ≡ length (everybody parents standing)
-      → new.kept ≡ shape.kept + 1 → new.branches ≡ shape.branches + bit (nat_le 2 count)
-      → new.common ≡ cond (eqb below living) (option_or shape.common (Some (bound - 1)))
-      shape.common
-      → Keeps (bound - 1) (get_or children (bound - 1) 0)
-      (eqb (get_or descendants (bound - 1) 0) (length (everybody parents standing))) shape new
-  keeps_by below count living new below_is count_is living_is kept branches common = record {
-    kept = kept;
-    branches = branches ∙ ap (λ (n : ℕ). shape.branches + bit (nat_le 2 n)) count_is;
-    common = common ∙ (λ i. cond (eqb (below_is i) (living_is i))
-        (option_or shape.common (Some (bound - 1))) shape.common);
-  }
+before : (parents standing : List (Option ℕ)) (bound : ℕ) (descendants children : List ℕ)
+    (shape : Shape) → 0 < bound → IsWalked parents standing bound descendants children shape
+    → IsWalked parents standing ((bound - 1) + 1) descendants children shape
+before parents standing bound descendants children shape left walked =
+    let e : bound ≡ (bound - 1) + 1 = omega arith in
+    subst (λ (n : ℕ). IsWalked parents standing n descendants children shape) e walked
 
 at_end : (parents standing : List (Option ℕ)) (bound : ℕ) (descendants children : List ℕ)
     (shape : Shape) → bound ≤ 0 → IsWalked parents standing bound descendants children shape
@@ -64,18 +50,59 @@ loop-id-init c =
     ∙ zero_at (length c.args.parents.now) id)
     refl refl refl
 
+-- what the walk has counted when it comes to an id
+walked : (c : After-index-below)
+    → IsWalked c.args.parents.now c.args.standing.now ((c.loop-id.id - 1) + 1)
+    c.loop-id.descendants.items c.loop-id.children.items c.loop-id.shape
+walked c =
+    before c.args.parents.now c.args.standing.now c.loop-id.id c.loop-id.descendants.items
+    c.loop-id.children.items c.loop-id.shape c.loop-id-test.true c.loop-id.invariant
+
+-- the id is below the bound
+within : (c : After-index-below) → c.loop-id.id - 1 < length c.args.parents.now
+within c = omega (arith, c.loop-id-test.true, c.loop-id.auto.id)
+
+-- so many descend from it
+below_is : (c : After-index-below)
+    → c.index-below.result.now ≡ get_or c.loop-id.descendants.items (c.loop-id.id - 1) 0
+below_is c =
+    read_is c.loop-id.descendants.items (c.loop-id.id - 1) c.index-below.result.now
+    (length c.args.parents.now) c.loop-id.invariant.as_many (within c) c.index-below.ensures
+
+-- its parent is below the bound
+lower : (c : In-Some) → c.in-Some.parent < length c.args.parents.now
+lower c =
+    let older = c.requires.older (c.loop-id.id - 1) c.in-Some.parent c.in-Some.is in
+    omega (arith, older, c.loop-id-test.true, c.loop-id.auto.id)
+
+-- it is kept
+keeps : (c : After-keep)
+    → Keeps (c.loop-id.id - 1) (get_or c.loop-id.children.items (c.loop-id.id - 1) 0)
+    (eqb (get_or c.loop-id.descendants.items (c.loop-id.id - 1) 0)
+    (length (everybody c.args.parents.now c.args.standing.now))) c.loop-id.shape c.keep.new.self
+keeps c =
+    let l = c.loop-id in
+    let low : l.id - 1 < length c.args.parents.now =
+    omega (arith, c.loop-id-test.true, l.auto.id) in
+    let count = read_is l.children.items (l.id - 1) c.index.result.now (length c.args.parents.now)
+    l.invariant.as_many_children low c.index.ensures in
+    let below = read_is l.descendants.items (l.id - 1) c.index-below.result.now
+    (length c.args.parents.now) l.invariant.as_many low c.index-below.ensures in
+    let living = c.count_living-living.ensures ∙ sym (living_count 0 c.args.standing.now) in
+    record {
+      kept = c.keep.ensures.kept;
+      branches = c.keep.ensures.branches
+          ∙ ap (λ (n : ℕ). l.shape.branches + bit (nat_le 2 n)) count;
+      common = c.keep.ensures.common ∙ (λ i. cond (eqb (below i) (living i))
+          (option_or l.shape.common (Some (l.id - 1))) l.shape.common);
+    }
+
 pub loop-id-preserved-then-below-eq0 : goal.loop-id-preserved-then-below-eq0
 loop-id-preserved-then-below-eq0 c =
-    let parents = c.args.parents.now in
-    let standing = c.args.standing.now in
-    let l = c.loop-id in
-    let walked = before parents standing l.id l.descendants.items l.children.items l.shape
-    c.loop-id-test.true l.invariant in
-    let within : l.id - 1 < length parents = omega (arith, c.loop-id-test.true, l.auto.id) in
-    let none = sym (read_is l.descendants.items (l.id - 1) c.index-below.result.now
-    (length parents) walked.as_many within c.index-below.ensures) ∙ c.if-below-eq0.true in
-    walked_over parents standing c.requires.older (l.id - 1) l.descendants.items l.children.items
-    l.shape within none walked
+    let at = (goal.at.loop-id-preserved-then-below-eq0 c).After-index-below in
+    walked_over c.args.parents.now c.args.standing.now c.requires.older (c.loop-id.id - 1)
+    c.loop-id.descendants.items c.loop-id.children.items c.loop-id.shape (within at)
+    (sym (below_is at) ∙ c.if-below-eq0.true) (walked at)
 
 pub keep-requires-clause-kept : goal.keep-requires-clause-kept
 keep-requires-clause-kept c =
@@ -101,16 +128,12 @@ overflow_add-index_mut c =
     let parents = c.args.parents.now in
     let standing = c.args.standing.now in
     let l = c.loop-id in
-    let walked = before parents standing l.id l.descendants.items l.children.items l.shape
-    c.loop-id-test.true l.invariant in
-    let within : l.id - 1 < length parents = omega (arith, c.loop-id-test.true, l.auto.id) in
-    let older = c.requires.older (l.id - 1) c.in-Some.parent c.in-Some.is in
-    let here = read_is l.descendants.items (l.id - 1) c.index-below.result.now
-    (length parents) walked.as_many within c.index-below.ensures in
+    let at = goal.at.overflow_add-index_mut c in
+    let here = below_is at.After-index-below in
     let above = read_is l.descendants.items c.in-Some.parent c.index_mut.result.now
-    (length parents) walked.as_many (omega (arith, older, within)) c.index_mut.ensures.value in
+    (length parents) l.invariant.as_many (lower at.In-Some) c.index_mut.ensures.value in
     let few = descendants_few parents standing c.requires.older (l.id - 1) c.in-Some.parent
-    l.descendants.items l.children.items l.shape c.in-Some.is walked in
+    l.descendants.items l.children.items l.shape c.in-Some.is (walked at.After-index-below) in
     let living = living_count 0 standing in
     let cells = count_by-le-length is_some standing in
     omega (arith, here, above, few, living, cells, c.requires.few)
@@ -118,17 +141,14 @@ overflow_add-index_mut c =
 pub overflow_add-index_mut-in-Some : goal.overflow_add-index_mut-in-Some
 overflow_add-index_mut-in-Some c =
     let parents = c.args.parents.now in
-    let standing = c.args.standing.now in
     let l = c.loop-id in
-    let walked = before parents standing l.id l.descendants.items l.children.items l.shape
-    c.loop-id-test.true l.invariant in
-    let within : l.id - 1 < length parents = omega (arith, c.loop-id-test.true, l.auto.id) in
-    let older = c.requires.older (l.id - 1) c.in-Some.parent c.in-Some.is in
+    let at = goal.at.overflow_add-index_mut-in-Some c in
     let above = read_is l.children.items c.in-Some.parent c.index_mut-in-Some.result.now
-    (length parents) walked.as_many_children (omega (arith, older, within))
+    (length parents) l.invariant.as_many_children (lower at.In-Some)
     c.index_mut-in-Some.ensures.value in
-    let few = children_few parents standing c.requires.older (l.id - 1) c.in-Some.parent
-    l.descendants.items l.children.items l.shape c.in-Some.is walked in
+    let few = children_few parents c.args.standing.now c.requires.older (l.id - 1)
+    c.in-Some.parent l.descendants.items l.children.items l.shape c.in-Some.is
+    (walked at.After-index-below) in
     omega (
       arith,
       above,
@@ -143,29 +163,18 @@ loop-id-preserved-in-Some c =
     let parents = c.args.parents.now in
     let standing = c.args.standing.now in
     let l = c.loop-id in
-    let walked = before parents standing l.id l.descendants.items l.children.items l.shape
-    c.loop-id-test.true l.invariant in
-    let within : l.id - 1 < length parents = omega (arith, c.loop-id-test.true, l.auto.id) in
-    let older = c.requires.older (l.id - 1) c.in-Some.parent c.in-Some.is in
-    let lower : c.in-Some.parent < length parents = omega (arith, older, within) in
-    let below = read_is l.descendants.items (l.id - 1) c.index-below.result.now
-    (length parents) walked.as_many within c.index-below.ensures in
-    let count = read_is l.children.items (l.id - 1) c.index.result.now
-    (length parents) walked.as_many_children within c.index.ensures in
+    let at = goal.at.loop-id-preserved-in-Some c in
+    let below = below_is at.After-index-below in
     let above = read_is l.descendants.items c.in-Some.parent c.index_mut.result.now
-    (length parents) walked.as_many lower c.index_mut.ensures.value in
+    (length parents) l.invariant.as_many (lower at.In-Some) c.index_mut.ensures.value in
     let above_too = read_is l.children.items c.in-Some.parent c.index_mut-in-Some.result.now
-    (length parents) walked.as_many_children lower c.index_mut-in-Some.ensures.value in
-    let living = c.count_living-living.ensures ∙ sym (living_count 0 standing) in
-    let keeps = keeps_by parents standing l.id l.descendants.items l.children.items l.shape
-    c.loop-id-test.true l.invariant c.index-below.result.now c.index.result.now
-    c.count_living-living.result c.keep.new.self below count living c.keep.ensures.kept
-    c.keep.ensures.branches c.keep.ensures.common in
+    (length parents) l.invariant.as_many_children (lower at.In-Some)
+    c.index_mut-in-Some.ensures.value in
     let some : 0 < get_or l.descendants.items (l.id - 1) 0 =
     omega (arith, below, c.if-below-eq0.false) in
     let now = walked_child parents standing c.requires.older (l.id - 1) l.descendants.items
-    l.children.items l.shape c.keep.new.self within some walked keeps c.in-Some.parent
-    c.in-Some.is in
+    l.children.items l.shape c.keep.new.self (within at.After-index-below) some
+    (walked at.After-index-below) (keeps at.After-keep) c.in-Some.parent c.in-Some.is in
     subst (λ (ds : List ℕ). IsWalked parents standing (l.id - 1) ds
     (set l.children.items c.in-Some.parent (c.index_mut-in-Some.result.now + 1))
     c.keep.new.self)
@@ -178,25 +187,14 @@ loop-id-preserved-in-Some c =
 
 pub loop-id-preserved : goal.loop-id-preserved
 loop-id-preserved c =
-    let parents = c.args.parents.now in
-    let standing = c.args.standing.now in
     let l = c.loop-id in
-    let walked = before parents standing l.id l.descendants.items l.children.items l.shape
-    c.loop-id-test.true l.invariant in
-    let within : l.id - 1 < length parents = omega (arith, c.loop-id-test.true, l.auto.id) in
-    let below = read_is l.descendants.items (l.id - 1) c.index-below.result.now
-    (length parents) walked.as_many within c.index-below.ensures in
-    let count = read_is l.children.items (l.id - 1) c.index.result.now
-    (length parents) walked.as_many_children within c.index.ensures in
-    let living = c.count_living-living.ensures ∙ sym (living_count 0 standing) in
-    let keeps = keeps_by parents standing l.id l.descendants.items l.children.items l.shape
-    c.loop-id-test.true l.invariant c.index-below.result.now c.index.result.now
-    c.count_living-living.result c.keep.new.self below count living c.keep.ensures.kept
-    c.keep.ensures.branches c.keep.ensures.common in
+    let at = goal.at.loop-id-preserved c in
+    let below = below_is at.After-index-below in
     let some : 0 < get_or l.descendants.items (l.id - 1) 0 =
     omega (arith, below, c.if-below-eq0.false) in
-    walked_founder parents standing c.requires.older (l.id - 1) l.descendants.items l.children.items
-    l.shape c.keep.new.self within some walked keeps c.in_default.is
+    walked_founder c.args.parents.now c.args.standing.now c.requires.older (l.id - 1)
+    l.descendants.items l.children.items l.shape c.keep.new.self (within at.After-index-below) some
+    (walked at.After-index-below) (keeps at.After-keep) c.in_default.is
 
 pub returns-clause-common : goal.returns-clause-common
 returns-clause-common c =

@@ -18,7 +18,7 @@ returns-in_err-push-2-clause-err c =
     let o = old ++ 77 ∷ [] in
     let grown = c.in_err-push-2.ensures.items ∙ c.in_ok-texts.ensures.ok
     ∙ ap (λ (l : List ℕ). l ++ t) (c.in_ok-nops_and_stacks.ensures.ok
-    ∙ ap (λ (l : List ℕ). l ++ s) (c.in_ok-numbers.ensures.ok
+    ∙ ap (λ (l : List ℕ). l ++ s) (c.in_ok-write_numbers.ensures.ok
     ∙ ap (λ (l : List ℕ). l ++ n) (c.in_ok-integers.ensures.ok
     ∙ ap (λ (l : List ℕ). l ++ r) c.in_ok-push.ensures.items)))
     ∙ four_texts o r n s t ∙ append_assoc old (77 ∷ []) (r ++ (n ++ (s ++ t))) in
@@ -40,7 +40,7 @@ returns-clause-ok c =
     let o = old ++ 77 ∷ [] in
     let grown = c.in_ok-texts.ensures.ok
     ∙ ap (λ (l : List ℕ). l ++ t) (c.in_ok-nops_and_stacks.ensures.ok
-    ∙ ap (λ (l : List ℕ). l ++ s) (c.in_ok-numbers.ensures.ok
+    ∙ ap (λ (l : List ℕ). l ++ s) (c.in_ok-write_numbers.ensures.ok
     ∙ ap (λ (l : List ℕ). l ++ n) (c.in_ok-integers.ensures.ok
     ∙ ap (λ (l : List ℕ). l ++ r) c.in_ok-push.ensures.items)))
     ∙ four_texts o r n s t

@@ -20,7 +20,7 @@ returns-clause-ok c =
     old ++ ((79 ∷ words_text (words ns ++ map byte_of ls ∷ [])) ++ 10 ∷ []) in
     c.in_ok-push-2.ensures.items
     ∙ ap (λ (l : List ℕ). l ++ 10 ∷ []) (c.in_ok-text.ensures.ok
-    ∙ ap (λ (l : List ℕ). l ++ 32 ∷ map byte_of letters) (c.in_ok-numbers.ensures.ok
+    ∙ ap (λ (l : List ℕ). l ++ 32 ∷ map byte_of letters) (c.in_ok-write_numbers.ensures.ok
     ∙ ap (λ (l : List ℕ). l ++ words_text (words numbers)) c.in_ok-push.ensures.items))
     ∙ organism_made old (words numbers) (map byte_of letters)
     ∙ ap (λ (ns : List ℕ). made ns letters) c.organism_numbers.ensures

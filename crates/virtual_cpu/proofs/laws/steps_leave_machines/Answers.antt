@@ -1,6 +1,7 @@
 use Rattle.virtual_cpu.specs.Machine.{letter_under_ip, with_ip_marked}
 use Rattle.virtual_cpu.specs.Step.{step}
-use Rattle.virtual_cpu.proofs.MachineLemmas.{marked, effect}
+use Rattle.virtual_cpu.proofs.EffectLemmas.{effect}
+use Rattle.virtual_cpu.proofs.MachineLemmas.{marked}
 use Rattle.virtual_cpu.proofs.QuestionLemmas.{effect-asks}
 use Rattle.virtual_cpu.proofs.StepLemmas.{effect_of-keeps}
 use Rattle.virtual_cpu.proofs.laws.steps_leave_machines.Goals as goal
@@ -19,4 +20,4 @@ pub returns-clause-kept : goal.returns-clause-kept
 unfolding step
 returns-clause-kept c = λ m input copy. let k =
     effect_of-keeps (letter_under_ip m) (with_ip_marked m) input copy in
-    record { made = k.made; limit = k.limit }
+    record { birth_length = k.birth_length; limit = k.limit }

@@ -54,15 +54,15 @@ road c =
     (ap (λ s. into_iter_len (zip_second s)) same ∙ zipped.second.1 ∙ c.into_vec.result.ok.0
     ∙ ap length (found c)))
 
-pub settle-requires-clause-birth : goal.settle-requires-clause-birth
-settle-requires-clause-birth c =
+pub place_newborn-requires-clause-birth : goal.place_newborn-requires-clause-birth
+place_newborn-requires-clause-birth c =
     let config = values_of c.args.config.now in
     let births = c.args.births.items in
     let placings = placings_of config (scene_in c.args.scene.now) (map delivery_in births) in
     let n = length c.loop-birth.yielded in
     let turn : Delivery × Placing = (c.in-Some.birth, c.in-Some.placing) in
     let here = YieldsList-turn
-    (road (goal.at.settle-requires-clause-birth c).After-into_iter-birth-iterator)
+    (road (goal.at.place_newborn-requires-clause-birth c).After-into_iter-birth-iterator)
     c.loop-birth.yielded c.loop-birth.birth-iterator c.loop-birth.yielded_by c.next.result
     c.next.new.self turn c.in-Some.is c.next.ensures.steps in
     let many = length-zip births placings in
@@ -85,7 +85,7 @@ loop-birth-preserved c =
     let n = length so_far in
     let turn : Delivery × Placing = (c.in-Some.birth, c.in-Some.placing) in
     let before = c.loop-birth.invariant in
-    let told = c.in_ok-settle.ensures in
+    let told = c.in_ok-place_newborn.ensures in
     let here = YieldsList-turn
     (road (goal.at.loop-birth-preserved c).After-into_iter-birth-iterator) so_far
     c.loop-birth.birth-iterator c.loop-birth.yielded_by c.next.result c.next.new.self turn
@@ -96,9 +96,8 @@ loop-birth-preserved c =
       scene = rw long (told.scene ∙ ap (λ s. placed config s turn) before.scene
           ∙ ap (placed config (fold (placed config) first (take n turns))) here.1
           ∙ sym (fold_more (placed config) first turns n turn here.0));
-      text = rw long (lines-step (placed config) placed_line line_text first scene turns n turn
-          c.args.text.now.items c.loop-birth.text.items c.settle.new.text.items here.0 before.scene
-          before.text (told.text ∙ ap
+      text = rw long (lines-step (placed config) line_text first turns n turn here.0
+          c.args.text.now.items placed_line before.scene before.text (told.text ∙ ap
           (λ (t : Delivery × Placing). c.loop-birth.text.items ++ line_text (placed_line scene t))
           here.1));
       bank = told.bank ∙ before.bank;

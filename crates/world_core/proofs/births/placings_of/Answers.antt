@@ -2,12 +2,12 @@ use Rattle.std.proofs.Common.{◌≡◌, ◌∙◌, ◌<◌, ◌*◌, ℕ, get_o
 use Rattle.std.specs.List.Sorted.{IsNonDecreasing}
 use Rattle.std.proofs.lemmas.List.{length-map}
 use Rattle.std.proofs.lemmas.List.Elements.{All-map, All-same}
-use Rattle.birth_board.specs.declared.season.Season.{Season}
+use Rattle.birth_board.specs.declared.placing_round.PlacingRound.{PlacingRound}
 use Rattle.birth_board.specs.Torus.{TorusNumbers}
 use Rattle.world_config.specs.Shown.{values_of}
 use Rattle.std.proofs.lemmas.Result.{IfOk-weaker}
 use Rattle.birth_board.specs.Placement.{placements_of}
-use Rattle.world_rules.specs.Settings.{season_at}
+use Rattle.world_rules.specs.Settings.{placing_round_at}
 use Rattle.world_rules.specs.Update.{Delivery, placings_of}
 use Rattle.world_rules.specs.World.{id_of, ids_of}
 use Rattle.world_core.specs.Lived.{delivery_in}
@@ -48,7 +48,7 @@ place-requires c =
         length-map births delivery_in,
         c.requires.few,
         c.next_id.ensures,
-        ap (λ (s : Season). s.next_id) c.season_at-season.ensures,
+        ap (λ (s : PlacingRound). s.next_id) c.placing_round_at-round.ensures,
       );
     }
 
@@ -61,10 +61,10 @@ returns-clause-placings c =
     c.in_ok-parents.ensures ∙ sym (map-both delivery_in (λ (d : Delivery). d.cell) births) in
     let board = c.in_ok-board.ensures
     ∙ ap ids_of (c.cells.ensures.cells ∙ ap (λ (s : SceneValue). s.cells) c.scene.view_is) in
-    let season = c.season_at-season.ensures
-    ∙ (λ i. season_at (values_of c.args.config.now) (c.scene.view_is i).update
+    let round = c.placing_round_at-round.ensures
+    ∙ (λ i. placing_round_at (values_of c.args.config.now) (c.scene.view_is i).update
     (c.next_id.ensures i)) in
     IfOk-weaker c.place.result _ _
     (λ placings is. is.placings
     ∙ (λ i. (placements_of (c.torus_of-torus.ensures i) (parents i) (board i)
-    (season i)).placings)) c.place.ensures.placings
+    (round i)).placings)) c.place.ensures.placings

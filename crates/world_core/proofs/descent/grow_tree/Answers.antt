@@ -5,8 +5,8 @@ use Rattle.world_rules.specs.WorldRun.{world_after}
 use Rattle.world_core.proofs.WorldLemmas.{everyone_after}
 use Rattle.world_core.proofs.descent.grow_tree.Goals as goal
 
-pub settle-requires-clause-world : goal.settle-requires-clause-world
-settle-requires-clause-world c =
+pub take_newcomers-requires-clause-world : goal.take_newcomers-requires-clause-world
+take_newcomers-requires-clause-world c =
     let config = values_of c.args.config.now.value in
     ap (λ (s : Scene). s.everyone) c.requires.scene
     ∙ everyone_after config c.args.update

@@ -34,9 +34,8 @@ loop-cell-preserved c =
     ∙ ap (λ cell. c.loop-cell.text.items
     ++ lines_text (option_to_list (cleared_line (scene_in c.loop-cell.scene) cell)))
     (sym here) in
-    let text = told-step with_death cleared_line line_text first (scene_in c.loop-cell.scene) cells
-    i 0 c.args.text.now.items c.loop-cell.text.items c.tell_clearing.new.text.items within
-    before.scene before.text one in
+    let text = told-step with_death line_text first cells i 0 within c.args.text.now.items
+    cleared_line before.scene before.text one in
     record {
       scene = scene ∙ ap (λ n. with_deaths first (take n cells)) next;
       text = text ∙ ap (λ n. c.args.text.now.items

@@ -1,6 +1,6 @@
 use Rattle.std.proofs.Common.{◌≡◌, map, take}
-use Rattle.world_core.specs.Population.{merit_of}
+use Rattle.world_core.specs.Population.{merit_or_zero}
 use Rattle.world_core.proofs.lives.merits_of.Given as goal
 
 abbrev pub invariant-loop-slot : goal.invariant-loop-slot
-invariant-loop-slot l = l.merits.items ≡ map merit_of (take l.slot-index l.cells)
+invariant-loop-slot l = l.merits.items ≡ map merit_or_zero (take l.slot-index l.cells)

@@ -1,7 +1,7 @@
 use Rattle.std.proofs.Common.{rules, sym, ap, ◌∙◌, ◌++◌, ◌∷◌, []}
 use Rattle.genotype_bank.specs.BankHistory.{entry, genotypes_of}
 use Rattle.genotype_bank.specs.Catalog.{call_in}
-use Rattle.genotype_bank.specs.BankSteps.{number_of}
+use Rattle.genotype_bank.specs.BankSteps.{last_drawn_number}
 use Rattle.genotype_bank.proofs.TurnLemmas.{releases}
 use Rattle.genotype_bank.proofs.bank.Bank.release.Goals as goal
 
@@ -13,6 +13,6 @@ fetch_add-requires c =
       search rules,
       search rules,
       releases _ _ _ back.0 back.1 turn.0 turn.1
-          (back.2 ∙ ap (λ call. genotypes_of (m.0.seen ++ entry (number_of m.0) call ∷ []))
+          (back.2 ∙ ap (λ call. genotypes_of (m.0.seen ++ entry (last_drawn_number m.0) call ∷ []))
           (sym (ap call_in back.1))),
     )

@@ -1,6 +1,6 @@
 use Rattle.std.proofs.Common.{ap}
-use Rattle.log_lines.specs.Line.{values_of}
+use Rattle.log_lines.specs.Line.{line_values}
 use Rattle.lineage_log.proofs.reader.Reader.tell.Goals as goal
 
 pub unreachable-requires : goal.unreachable-requires
-unreachable-requires c = c.requires c.in-End.updates (ap values_of c.in-End.is)
+unreachable-requires c = c.requires c.in-End.updates (ap line_values c.in-End.is)

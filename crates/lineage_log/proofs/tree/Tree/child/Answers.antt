@@ -3,7 +3,7 @@ use Rattle.std.specs.Prelude.{is_some, is_ok}
 use Rattle.instruction_set.specs.declared.letter.Letter.{Letter}
 use Rattle.mutations.specs.BirthRecord.{child_of, record_of}
 use Rattle.lineage_log.specs.Ancestry.{link_of}
-use Rattle.lineage_log.specs.Trees.{TreeValue, genome_in}
+use Rattle.lineage_log.specs.Trees.{TreeValue, genome_in_tree}
 use Rattle.lineage_log.specs.Nodes.{node_at}
 use Rattle.lineage_log.proofs.NodeLemmas.{is_some_link}
 use Rattle.lineage_log.proofs.KeptLemmas.{genome_there}
@@ -22,7 +22,7 @@ unreachable-requires-in_default-stop c =
     let nodes = c.self.inside.nodes.entries in
     let is : node_at nodes c.args.parent ≡ Some c.in-Some.node.now = sym c.in-Some.ensures.value in
     let genome = c.genome.ensures ∙ sym (genome_there nodes c.args.parent c.in-Some.node.now is)
-    ∙ ap (λ (t : TreeValue). genome_in t c.args.parent) c.self.view_is in
+    ∙ ap (λ (t : TreeValue). genome_in_tree t c.args.parent) c.self.view_is in
     let refused = c.in-Err.ensures.refused c.in_default-stop.not-Memory in
     true≢false (sym c.requires.applies
     ∙ ap (λ (letters : List Letter). is_ok (child_of letters (record_of c.args.origin.now)))
@@ -33,6 +33,6 @@ returns-in-Ok c =
     let nodes = c.self.inside.nodes.entries in
     let is : node_at nodes c.args.parent ≡ Some c.in-Some.node.now = sym c.in-Some.ensures.value in
     let genome = c.genome.ensures ∙ sym (genome_there nodes c.args.parent c.in-Some.node.now is)
-    ∙ ap (λ (t : TreeValue). genome_in t c.args.parent) c.self.view_is in
+    ∙ ap (λ (t : TreeValue). genome_in_tree t c.args.parent) c.self.view_is in
     ap (λ (letters : List Letter). child_of letters (record_of c.args.origin.now)) (sym genome)
     ∙ c.in-Ok.ensures.ok

@@ -1,7 +1,7 @@
 use Rattle.std.proofs.Common.{◌∙◌, ℕ, subst}
 use Rattle.std.specs.Prelude.{Contains, IsSome}
 use Rattle.lineage_log.specs.Ancestry.{link_of}
-use Rattle.lineage_log.specs.Trees.{TreeValue, IsKept}
+use Rattle.lineage_log.specs.Trees.{TreeValue, IsPruned}
 use Rattle.lineage_log.specs.Nodes.{node_at}
 use Rattle.lineage_log.proofs.NodeLemmas.{is_some_link}
 use Rattle.lineage_log.proofs.LivingLemmas.{lives_there}
@@ -11,7 +11,7 @@ use Rattle.lineage_log.proofs.tree.Tree.nodes.Goals as goal
 
 pub returns-clause-kept : goal.returns-clause-kept
 returns-clause-kept c =
-    subst IsKept c.self.view_is (nodes_kept c.self.inside.nodes.entries c.self.invariant)
+    subst IsPruned c.self.view_is (nodes_kept c.self.inside.nodes.entries c.self.invariant)
 
 pub returns-clause-living : goal.returns-clause-living
 returns-clause-living c =

@@ -1,7 +1,7 @@
 use Rattle.std.proofs.Common.{◌≡◌, ◌++◌, ◌∙◌, ap, sym, reverse, List, [], ◌∷◌, append-nil, Some}
 use Rattle.std.specs.Prelude.{is_some}
 use Rattle.lineage_log.specs.Links.{Link}
-use Rattle.lineage_log.specs.Ancestry.{line_of, link_of}
+use Rattle.lineage_log.specs.Ancestry.{line_of_descent, link_of}
 use Rattle.lineage_log.specs.Trees.{TreeValue}
 use Rattle.lineage_log.specs.Nodes.{node_at}
 use Rattle.lineage_log.proofs.NodeLemmas.{is_some_link}
@@ -36,11 +36,11 @@ loop-next-preserved c =
     }
 
 pub returns : goal.returns
-unfolding line_of
+unfolding line_of_descent
 returns c =
     let nodes = c.self.inside.nodes.entries in
     let all = sym (append-nil c.loop-next.links.items)
     ∙ ap (λ next. c.loop-next.links.items ++ links_back nodes next) (sym c.in_default.is)
     ∙ c.loop-next.invariant.all in
     c.from_vec.ensures ∙ c.reverse.ensures.items ∙ ap reverse all
-    ∙ ap (λ (t : TreeValue). line_of t.links c.args.id) c.self.view_is
+    ∙ ap (λ (t : TreeValue). line_of_descent t.links c.args.id) c.self.view_is

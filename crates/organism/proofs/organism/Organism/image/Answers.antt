@@ -13,10 +13,10 @@ returns-clause-organism c =
     ap letters c.in_ok-genome.ensures in
     let limit : c.args.self.now.machine.limit ≡ old.machine.limit =
     sym (ap (λ (o : OrganismState). o.machine.limit) c.self.view_is) in
-    let made : length (letters c.in_ok-genome.genome.value) ≡ old.machine.made =
-    ap length same ∙ sym c.self.invariant.made in
+    let birth_length : length (letters c.in_ok-genome.genome.value) ≡ old.machine.birth_length =
+    ap length same ∙ sym c.self.invariant.birth_length in
     let machine = machine-again c.images_are_whole.ensures old.machine c.in_ok-cpu.cpu _ _
-    c.in_ok-cpu.ensures.machine c.in_ok-cpu.ensures.image made limit in
+    c.in_ok-cpu.ensures.machine c.in_ok-cpu.ensures.image birth_length limit in
     let of : List Letter → Machine → OrganismState = λ genome machine. record {
       genome = genome;
       inputs = old.inputs;

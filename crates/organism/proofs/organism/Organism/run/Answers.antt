@@ -2,7 +2,7 @@ use Rattle.std.proofs.Common.{arith, ◌+◌, ◌≡◌, ap, refl, sym, ◌∙�
 use Rattle.random_streams.specs.RandomStream.{Stream, word_of}
 use Rattle.organism.specs.declared.ran.Ran.TheVariants.{Died}
 use Rattle.organism.specs.SettingNumbers.{setting_numbers}
-use Rattle.organism.specs.UpdateLife.{LifeState, life_state, state_after, dies_at}
+use Rattle.organism.specs.UpdateLife.{LifeState, life_state, life_state_after, dies_at}
 use Rattle.organism.proofs.GoingOnLemmas.{goes_on-more, old-at}
 use Rattle.organism.proofs.UpdateLifeLemmas.{state_after-zero, state-next, dies-now, search-all, search-next, search-here, life-dies}
 use Rattle.organism.proofs.organism.Organism.run.Goals as goal
@@ -33,7 +33,7 @@ returns-then-has_age-clause-life c =
     let words = word_of c.args.draws.now in
     let start = life_state c.args.self.now c.args.births.now c.args.draws.now in
     let here : life_state c.live.new.self c.live.new.births c.live.new.draws
-    ≡ state_after settings words start (c.loop-step.step + 1) =
+    ≡ life_state_after settings words start (c.loop-step.step + 1) =
     state-next settings words (word_of c.loop-step.draws) start _ _ c.loop-step.step
     c.loop-step.invariant.state (ap word_of c.loop-step.invariant.stream)
     c.in_ok-live.ensures.state in
@@ -56,7 +56,7 @@ loop-step-preserved c =
     let words = word_of c.args.draws.now in
     let start = life_state c.args.self.now c.args.births.now c.args.draws.now in
     let here : life_state c.live.new.self c.live.new.births c.live.new.draws
-    ≡ state_after settings words start (c.loop-step.step + 1) =
+    ≡ life_state_after settings words start (c.loop-step.step + 1) =
     state-next settings words (word_of c.loop-step.draws) start _ _ c.loop-step.step
     c.loop-step.invariant.state (ap word_of c.loop-step.invariant.stream)
     c.in_ok-live.ensures.state in

@@ -3,7 +3,7 @@ use Rattle.std.specs.List.{find, range_with_len}
 use Rattle.random_streams.specs.RandomStream.{word_of}
 use Rattle.organism.specs.GoingOn.{GoesOn, life_now}
 use Rattle.organism.specs.SettingNumbers.{setting_numbers}
-use Rattle.organism.specs.UpdateLife.{life_state, state_after, dies_at, death_in}
+use Rattle.organism.specs.UpdateLife.{life_state, life_state_after, dies_at, death_in}
 use Rattle.organism.proofs.organism.Organism.run.Given as goal
 
 abbrev pub invariant-loop-step : goal.invariant-loop-step
@@ -12,7 +12,7 @@ invariant-loop-step l =
     let words = word_of l.initial.draws in
     record {
       state : life_state l.self l.births l.draws
-          ≡ state_after (setting_numbers l.settings) words start l.step;
+          ≡ life_state_after (setting_numbers l.settings) words start l.step;
       search : find (dies_at (setting_numbers l.settings) words start)
           (range_with_len l.step (l.slices - l.step))
           ≡ death_in (setting_numbers l.settings) words start l.slices;

@@ -4,14 +4,14 @@ use Rattle.label_search.specs.Template.{complements_of}
 use Rattle.virtual_cpu.specs.Marks.{Marks}
 use Rattle.virtual_cpu.specs.Machine.{Machine, place_after}
 use Rattle.virtual_cpu.specs.Operands.{template_of, on_template}
-use Rattle.virtual_cpu.specs.View.{machine_of}
+use Rattle.virtual_cpu.specs.View.{machine_view}
 use Rattle.virtual_cpu.proofs.TemplateLemmas.{template-moved, some-nop}
 use Rattle.virtual_cpu.proofs.cpu.Cpu.read_complement.Goals as goal
 
 pub returns-then-not-is_empty-clause-moved : goal.returns-then-not-is_empty-clause-moved
 unfolding template_of
 returns-then-not-is_empty-clause-moved c =
-    let m = machine_of c.self.inside in
+    let m = machine_view c.self.inside in
     let complement = c.complement_after-complement.result.complement in
     let read : c.complement_after-complement.result.complement ≡ complements_of (template_of m) =
     rw c.as_slice.ensures.value at c.complement_after-complement.ensures.complement in

@@ -1,5 +1,5 @@
-use Rattle.std.proofs.Common.{◌≤◌, arith}
-use Rattle.virtual_cpu.proofs.PackedLemmas.{seen-length, count-between, count-all, count-bound}
+use Rattle.std.proofs.Common.{arith}
+use Rattle.virtual_cpu.proofs.PackedLemmas.{seen-length, counts-apart, count-all, count-bound}
 use Rattle.virtual_cpu.proofs.packed_marks.PackedMarks.count.Goals as goal
 
 pub returns-then-to-self-clause-count : goal.returns-then-to-self-clause-count
@@ -33,30 +33,24 @@ count_before-requires-2 c =
 
 pub overflow_sub-result : goal.overflow_sub-result
 overflow_sub-result c =
-    let within : c.args.to ≤ c.self.inside.places =
-    omega (arith, seen-length _ _ _ c.self.view_is, c.requires.within) in
-    let parts = count-between c.self.inside.words.items c.self.inside.places c.args.from c.args.to
-    c.args.self.now c.self.view_is c.requires.order within in
     let last = rw c.as_slice-words.ensures.value at c.count_before.ensures in
     let first = rw c.as_slice-words.ensures.value at c.count_before-2.ensures in
-    omega (arith, parts, last, first)
+    let parts = counts-apart c.self.inside.words.items c.self.inside.places c.args.from c.args.to
+    _ _ c.args.self.now c.self.view_is c.requires.order c.requires.within last first in
+    omega (arith, parts)
 
 pub returns-clause-count : goal.returns-clause-count
 returns-clause-count c =
-    let within : c.args.to ≤ c.self.inside.places =
-    omega (arith, seen-length _ _ _ c.self.view_is, c.requires.within) in
-    let parts = count-between c.self.inside.words.items c.self.inside.places c.args.from c.args.to
-    c.args.self.now c.self.view_is c.requires.order within in
     let last = rw c.as_slice-words.ensures.value at c.count_before.ensures in
     let first = rw c.as_slice-words.ensures.value at c.count_before-2.ensures in
-    omega (arith, parts, last, first)
+    let parts = counts-apart c.self.inside.words.items c.self.inside.places c.args.from c.args.to
+    _ _ c.args.self.now c.self.view_is c.requires.order c.requires.within last first in
+    omega (arith, parts)
 
 pub returns-clause-bound : goal.returns-clause-bound
 returns-clause-bound c =
-    let within : c.args.to ≤ c.self.inside.places =
-    omega (arith, seen-length _ _ _ c.self.view_is, c.requires.within) in
-    let parts = count-between c.self.inside.words.items c.self.inside.places c.args.from c.args.to
-    c.args.self.now c.self.view_is c.requires.order within in
     let last = rw c.as_slice-words.ensures.value at c.count_before.ensures in
     let first = rw c.as_slice-words.ensures.value at c.count_before-2.ensures in
-    omega (arith, parts, last, first, count-bound c.args.self.now.places c.args.from c.args.to)
+    let parts = counts-apart c.self.inside.words.items c.self.inside.places c.args.from c.args.to
+    _ _ c.args.self.now c.self.view_is c.requires.order c.requires.within last first in
+    omega (arith, parts, count-bound c.args.self.now.places c.args.from c.args.to)

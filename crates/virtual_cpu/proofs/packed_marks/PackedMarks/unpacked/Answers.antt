@@ -8,8 +8,8 @@ loop-place-preserved c =
     let words = c.as_slice-words.result.now in
     let place = c.loop-place.place in
     record {
-      made = c.in_ok-push.ensures.items
-          ∙ ap (λ (l : List Bool). l ++ c.bit_at.result ∷ []) c.loop-place.invariant.made
+      birth_length = c.in_ok-push.ensures.items
+          ∙ ap (λ (l : List Bool). l ++ c.bit_at.result ∷ []) c.loop-place.invariant.birth_length
           ∙ ap (λ (b : Bool). marks_in words place ++ b ∷ []) c.bit_at.ensures
           ∙ sym (marks_in-more words place);
     }

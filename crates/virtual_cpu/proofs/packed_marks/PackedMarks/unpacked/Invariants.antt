@@ -4,5 +4,5 @@ use Rattle.virtual_cpu.proofs.packed_marks.PackedMarks.unpacked.Given as goal
 
 abbrev pub invariant-loop-place : goal.invariant-loop-place
 invariant-loop-place l = record {
-  made : l.marks.items ≡ marks_in l.words l.place;
+  birth_length : l.marks.items ≡ marks_in l.words l.place;
 }

@@ -11,7 +11,7 @@ use Rattle.world_rules.specs.Update.{Delivery as RulesDelivery, births_of}
 use Rattle.world_rules.specs.World.{Occupant}
 use Rattle.world_core.specs.Genotypes.{TakesIn}
 use Rattle.world_core.specs.Lived.{departed_from}
-use Rattle.world_core.specs.Population.{IsKeptOf, PopulationValue, genome_of, merit_of}
+use Rattle.world_core.specs.Population.{IsKeptOf, PopulationValue, merit_or_zero, occupant_genome}
 use Rattle.world_core.specs.Residents.{occupants_of}
 use Rattle.world_core.specs.Soundness.{AreBounded, AreBoundedLives}
 use Rattle.world_core.specs.declared.lived.Delivery.{Delivery}
@@ -39,7 +39,8 @@ apart g c =
       were = were;
       bought = slices-are config c.args.self.cells c.cells.inside.organisms.items
           c.cells.inside.ids.items c.in_ok-merits.merits.items c.in_ok-slices.slices.items
-          c.cells.invariant were (c.in_ok-merits.ensures ∙ ap (map merit_of) c.deref.ensures.value)
+          c.cells.invariant were (c.in_ok-merits.ensures
+          ∙ ap (map merit_or_zero) c.deref.ensures.value)
           (c.in_ok-slices.ensures.slices
           ∙ ap (λ merits. slices_of merits config.average_slices) c.deref-3.ensures.value);
       shared = c.round_at-round.ensures;
@@ -65,9 +66,9 @@ lists : (g : given.Over) (c : In_ok-genotypes g)
     → AreRead c.cells.inside.organisms.items c.self.inside.keys.items c.in_ok-merits.merits.items
     c.in_ok-credits.credits.items
 lists g c = record {
-  keyed = c.self.invariant.genotypes.size ∙ length-map c.self.inside.cells genome_of
+  keyed = c.self.invariant.genotypes.size ∙ length-map c.self.inside.cells occupant_genome
       ∙ ap (λ (p : PopulationValue). length p.cells) c.self.view_is ∙ cells-long (apart g c);
-  merits_are = c.in_ok-merits.ensures ∙ ap (map merit_of) c.deref.ensures.value;
+  merits_are = c.in_ok-merits.ensures ∙ ap (map merit_or_zero) c.deref.ensures.value;
   credits_are = c.in_ok-credits.ensures ∙ ap (map credited_of) c.deref-2.ensures.value;
 }
 
@@ -117,8 +118,8 @@ slices_by-requires-clause-cells g c =
     omega (
       arith,
       ap length c.deref-3.ensures.value,
-      ap length (c.in_ok-merits.ensures ∙ ap (map merit_of) c.deref.ensures.value),
-      length-map os merit_of,
+      ap length (c.in_ok-merits.ensures ∙ ap (map merit_or_zero) c.deref.ensures.value),
+      length-map os merit_or_zero,
       occupants_of-length os c.cells.inside.ids.items c.cells.invariant,
       ap length c.cells.view_is,
       c.self.invariant.sums.few,
@@ -130,7 +131,7 @@ slices_by-requires-clause-merits g c =
     c.deref-3.ensures.value
     (merits-fit c.cells.inside.organisms.items c.cells.inside.ids.items
     c.in_ok-merits.merits.items c.cells.invariant
-    (c.in_ok-merits.ensures ∙ ap (map merit_of) c.deref.ensures.value)
+    (c.in_ok-merits.ensures ∙ ap (map merit_or_zero) c.deref.ensures.value)
     (subst (All (λ (slot : Option Occupant). merit_in slot ≤ 2 ^ 38)) (sym c.cells.view_is)
     c.self.invariant.sums.fits))
 
@@ -184,7 +185,7 @@ index-requires-in-loop-cell g c =
       inside g at.In-loop-cell,
       left-long g at.In_ok-genotypes,
       ap length (lists g at.In_ok-genotypes).merits_are,
-      length-map c.cells.inside.organisms.items merit_of,
+      length-map c.cells.inside.organisms.items merit_or_zero,
       c.in_ok-merits.merits.ok.0,
     )
 
@@ -303,7 +304,7 @@ returns-clause-bounds g c =
       c.in_ok-slices.ensures.length,
       ap length c.deref-3.ensures.value,
       ap length (lists g at.In_ok-genotypes).merits_are,
-      length-map c.cells.inside.organisms.items merit_of,
+      length-map c.cells.inside.organisms.items merit_or_zero,
       cells-long live,
     ) in
     let bounded = lives-bounded config c.args.update cells c.requires.sound c.requires.lives

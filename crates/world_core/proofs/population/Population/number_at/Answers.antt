@@ -2,7 +2,7 @@ use Rattle.std.proofs.Common.{◌≡◌, ◌∙◌, ap, sym, get_or, None, Some,
 use Rattle.std.specs.Option.{option_copied}
 use Rattle.std.specs.Prelude.{option_map, slice_get}
 use Rattle.std.proofs.lemmas.List.{get_or_read, length-map}
-use Rattle.world_core.specs.Population.{PopulationValue, genome_of}
+use Rattle.world_core.specs.Population.{PopulationValue, occupant_genome}
 use Rattle.world_core.proofs.KeptOfLemmas.{key-is}
 use Rattle.world_core.proofs.ResidentLemmas.{nobody, somebody}
 use Rattle.world_core.proofs.population.Population.number_at.Goals as goal
@@ -21,7 +21,7 @@ returns-in-Some c =
     (sym c.organism_at.ensures ∙ ap option_copied c.in-Some.is) in
     let key : c.index.result.now ≡ get_or keys c.args.cell 0 =
     get_or_read keys c.args.cell c.index.result.now
-    (omega (arith, within, c.self.invariant.genotypes.size, length-map cells genome_of))
+    (omega (arith, within, c.self.invariant.genotypes.size, length-map cells occupant_genome))
     c.index.ensures 0 in
     let number : slice_get c.args.self.now.bank c.index.result.now ≡ Some who.0.organism.genome =
     ap (slice_get c.args.self.now.bank) key
@@ -29,8 +29,8 @@ returns-in-Some c =
     ∙ key-is cells bank keys c.self.inside.census c.args.cell who.0 within who.1
     c.self.invariant in
     ap Some number ∙ sym (ap
-    (λ cells. option_map (λ genome. Some genome) (genome_of (get_or cells c.args.cell None)))
-    (sym were) ∙ ap (λ slot. option_map (λ genome. Some genome) (genome_of slot)) who.1)
+    (λ cells. option_map (λ genome. Some genome) (occupant_genome (get_or cells c.args.cell None)))
+    (sym were) ∙ ap (λ slot. option_map (λ genome. Some genome) (occupant_genome slot)) who.1)
 
 pub returns-in-None : goal.returns-in-None
 returns-in-None c =
@@ -40,5 +40,5 @@ returns-in-None c =
     let empty = nobody (get_or cells c.args.cell None)
     (sym c.organism_at.ensures ∙ ap option_copied c.in-None.is) in
     sym (ap (λ cells. option_map (λ genome. Some genome)
-    (genome_of (get_or cells c.args.cell None))) (sym were)
-    ∙ ap (λ slot. option_map (λ genome. Some genome) (genome_of slot)) empty)
+    (occupant_genome (get_or cells c.args.cell None))) (sym were)
+    ∙ ap (λ slot. option_map (λ genome. Some genome) (occupant_genome slot)) empty)

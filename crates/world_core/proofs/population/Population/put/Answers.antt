@@ -1,5 +1,6 @@
-use Rattle.std.proofs.Common.{◌≡◌, ◌∙◌, ap, get_or, None, Some, length, ◌<◌}
+use Rattle.std.proofs.Common.{◌≡◌, ◌∙◌, ap, get_or, subst, sym, List, ℕ, None, Some, length, ◌<◌}
 use Rattle.std.specs.Prelude.{slice_get}
+use Rattle.instruction_set.specs.declared.letter.Letter.{Letter}
 use Rattle.organism.specs.OrganismState.{OrganismState}
 use Rattle.census.specs.Changes.{genotype_with_one, with_organism}
 use Rattle.world_rules.specs.World.{Occupant}
@@ -7,40 +8,38 @@ use Rattle.world_core.specs.Population.{PopulationValue}
 use Rattle.world_core.proofs.KeptOfLemmas.{IsKeptOf-put, can-add}
 use Rattle.world_core.proofs.population.Population.put.Goals as goal
 
+-- the cell is there and empty, and the genome has this number
+record HasRoom (p : PopulationValue) (cell number : ℕ) (genome : List Letter) : Type 0 where
+  within : cell < length p.cells
+  empty : get_or p.cells cell None ≡ None
+  number_is : slice_get p.bank number ≡ Some genome
+
+-- what was required of the population holds of what it is made of
+room_inside : {inside now : PopulationValue} {cell number : ℕ} {genome : List Letter}
+    → inside ≡ now → cell < length now.cells → get_or now.cells cell None ≡ None
+    → slice_get now.bank number ≡ Some genome → HasRoom inside cell number genome
+room_inside {cell = cell} {number = number} {genome = genome} is within empty number_is =
+    subst (λ p. HasRoom p cell number genome) (sym is)
+    (record { within = within; empty = empty; number_is = number_is })
+
 pub add-requires : goal.add-requires
 add-requires c =
-    let cells = c.self.inside.cells in
     let o : Occupant = record { id = c.args.id; organism = c.args.organism } in
-    let were : cells ≡ c.args.self.now.cells =
-    ap (λ (p : PopulationValue). p.cells) c.self.view_is in
-    let bank : c.self.inside.genotypes ≡ c.args.self.now.bank =
-    ap (λ (p : PopulationValue). p.bank) c.self.view_is in
-    let number_is : slice_get c.self.inside.genotypes c.args.number ≡ Some o.organism.genome =
-    rw bank c.requires.number in
-    let within : c.args.cell < length cells = rw were c.requires.cell in
-    let empty : get_or cells c.args.cell None ≡ None = rw were c.requires.empty in
+    let room = room_inside c.self.view_is c.requires.cell c.requires.empty c.requires.number in
     rw (c.genome.ensures, c.merit.ensures, c.get-newcomer.ensures)
-    (can-add c.one_index.ensures.list cells c.self.inside.genotypes c.self.inside.keys.items
-    c.self.inside.census c.self.inside.census c.args.cell within o c.args.number number_is empty
-    c.requires.merit c.self.invariant)
+    (can-add c.one_index.ensures.list c.self.inside.cells c.self.inside.genotypes
+    c.self.inside.keys.items c.self.inside.census c.self.inside.census c.args.cell room.within o
+    c.args.number room.number_is room.empty c.requires.merit c.self.invariant)
 
 pub invariant_of-self-2 : goal.invariant_of-self-2
 invariant_of-self-2 c =
-    let cells = c.self.inside.cells in
     let o : Occupant = record { id = c.args.id; organism = c.args.organism } in
-    let were : cells ≡ c.args.self.now.cells =
-    ap (λ (p : PopulationValue). p.cells) c.self.view_is in
-    let bank : c.self.inside.genotypes ≡ c.args.self.now.bank =
-    ap (λ (p : PopulationValue). p.bank) c.self.view_is in
-    let number_is : slice_get c.self.inside.genotypes c.args.number ≡ Some o.organism.genome =
-    rw bank c.requires.number in
-    let within : c.args.cell < length cells = rw were c.requires.cell in
-    let empty : get_or cells c.args.cell None ≡ None = rw were c.requires.empty in
+    let room = room_inside c.self.view_is c.requires.cell c.requires.empty c.requires.number in
     let before = c.self.inside.census in
     let number = c.args.number in
-    rw c.put.ensures (IsKeptOf-put c.one_index.ensures.list cells c.self.inside.genotypes
-    c.self.inside.keys.items c.self.inside.census c.add.new.self c.args.cell within o number
-    number_is empty c.requires.merit c.self.invariant
+    rw c.put.ensures (IsKeptOf-put c.one_index.ensures.list c.self.inside.cells
+    c.self.inside.genotypes c.self.inside.keys.items before c.add.new.self c.args.cell room.within
+    o number room.number_is room.empty c.requires.merit c.self.invariant
     (c.in_ok-add.ensures.ok ∙ (λ i. with_organism before number (c.genome.ensures i)
     (c.merit.ensures i) (c.credited.ensures i))
     ∙ ap (λ (one : OrganismState). with_organism before number one.genome one.merit one.credited)

@@ -4,7 +4,7 @@ use Rattle.std.proofs.lemmas.List.{get_or_read, length-map}
 use Rattle.census.specs.Changes.{genotype_without_one, without_organism}
 use Rattle.world_rules.specs.World.{Occupant}
 use Rattle.organism.specs.OrganismState.{OrganismState}
-use Rattle.world_core.specs.Population.{IsKeptOf, PopulationValue, genome_of}
+use Rattle.world_core.specs.Population.{IsKeptOf, PopulationValue, occupant_genome}
 use Rattle.world_core.proofs.KeptOfLemmas.{IsKeptOf-empty, IsKeptOf-removed, can-remove}
 use Rattle.world_core.proofs.ResidentLemmas.{nobody, somebody}
 use Rattle.world_core.proofs.population.Population.remove.Goals.{in-Some, in_default}
@@ -20,7 +20,7 @@ remove-requires c =
     (sym c.organism_at.ensures ∙ ap option_copied c.in-Some.is) in
     let key : c.index-key.result.now ≡ get_or c.self.inside.keys.items c.args.cell 0 =
     get_or_read c.self.inside.keys.items c.args.cell c.index-key.result.now
-    (omega (arith, within, c.self.invariant.genotypes.size, length-map cells genome_of))
+    (omega (arith, within, c.self.invariant.genotypes.size, length-map cells occupant_genome))
     c.index-key.ensures 0 in
     rw (key, c.merit.ensures, c.credited.ensures, sym who.2)
     (can-remove c.one_index.ensures.list cells c.self.inside.genotypes c.self.inside.keys.items
@@ -39,7 +39,7 @@ invariant_of-self c =
           (sym c.organism_at.ensures ∙ ap option_copied w.in-Some.is) in
           let key : w.index-key.result.now ≡ get_or c.self.inside.keys.items c.args.cell 0 =
           get_or_read c.self.inside.keys.items c.args.cell w.index-key.result.now
-          (omega (arith, within, c.self.invariant.genotypes.size, length-map cells genome_of))
+          (omega (arith, within, c.self.invariant.genotypes.size, length-map cells occupant_genome))
           w.index-key.ensures 0 in
           rw w.self-inside-is (subst
           (λ (cells : List (Option Occupant)).

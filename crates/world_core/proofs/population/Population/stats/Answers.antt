@@ -1,7 +1,7 @@
 use Rattle.std.proofs.Common.{◌∙◌, ap, List, Option}
 use Rattle.logic_tasks.specs.LogicTasks.{all_tasks}
 use Rattle.world_rules.specs.World.{Occupant}
-use Rattle.world_rules.specs.Statistics.{credited_with, genomes_in, stats_in}
+use Rattle.world_rules.specs.Statistics.{credited_with, genomes_of_cells, stats_in}
 use Rattle.world_core.specs.Population.{PopulationValue}
 use Rattle.world_core.proofs.StatLemmas.{living-in, merits-in, credited-in, genotype-number}
 use Rattle.world_core.proofs.SumLemmas.{cells_with, map_alike}
@@ -16,7 +16,7 @@ returns c =
     let genotypes = c.genotypes.ensures.count
     ∙ genotype-number c.one_index.ensures.list cells c.self.inside.genotypes
     c.self.inside.keys.items c.self.inside.census.genotypes c.genotypes.ensures.genotypes
-    kept.genotypes (c.genotypes_are_what_was_interned.ensures.each (genomes_in cells)) in
+    kept.genotypes (c.genotypes_are_what_was_interned.ensures.each (genomes_of_cells cells)) in
     let merit = c.merit.ensures ∙ kept.sums.merit_sum ∙ merits-in cells in
     let tasks = c.tasks.ensures ∙ kept.sums.task_counts
     ∙ map_alike (cells_with cells) (credited_with cells) (credited-in cells) all_tasks in

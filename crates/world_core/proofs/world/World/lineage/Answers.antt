@@ -1,7 +1,7 @@
 use Rattle.std.proofs.Common.{◌<◌, ◌*◌, ◌∙◌, ap, length, sym, subst, Some}
 use Rattle.std.specs.Prelude.{option_map}
 use Rattle.world_config.specs.Shown.{values_of}
-use Rattle.world_rules.specs.Descent.{line_in, line_of}
+use Rattle.world_rules.specs.Descent.{descent_line_of, line_in}
 use Rattle.world_rules.specs.World.{World, id_at}
 use Rattle.world_rules.specs.WorldRun.{world_after}
 use Rattle.world_laws.specs.Turnover.{IsStanding}
@@ -29,8 +29,8 @@ returns-in_ok-lineage-in-Some c =
     let here = world_after config update in
     ap (λ path. Some path) (c.in_ok-lineage-in-Some.ensures here
     (c.ids_are_places.ensures config update) c.self.invariant.3)
-    ∙ ap (option_map (line_of here.everyone)) c.in-Some.ensures
-    ∙ ap (λ (w : World). option_map (line_of here.everyone) (id_at w.cells c.args.cell))
+    ∙ ap (option_map (descent_line_of here.everyone)) c.in-Some.ensures
+    ∙ ap (λ (w : World). option_map (descent_line_of here.everyone) (id_at w.cells c.args.cell))
     c.self.invariant.0.world
     ∙ ap (λ (v : WorldValue). line_in (world_in v) c.args.cell) c.self.view_is
 
@@ -38,7 +38,7 @@ pub returns-in-None : goal.returns-in-None
 unfolding line_in
 returns-in-None c =
     let here = world_after (values_of c.self.inside.config.value) c.self.inside.scene.update in
-    ap (option_map (line_of here.everyone)) c.in-None.ensures
-    ∙ ap (λ (w : World). option_map (line_of here.everyone) (id_at w.cells c.args.cell))
+    ap (option_map (descent_line_of here.everyone)) c.in-None.ensures
+    ∙ ap (λ (w : World). option_map (descent_line_of here.everyone) (id_at w.cells c.args.cell))
     c.self.invariant.0.world
     ∙ ap (λ (v : WorldValue). line_in (world_in v) c.args.cell) c.self.view_is

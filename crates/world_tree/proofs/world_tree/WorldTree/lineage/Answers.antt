@@ -4,7 +4,7 @@ use Rattle.lineage_log.specs.Links.{Link}
 use Rattle.lineage_log.specs.Ancestry as tree
 use Rattle.lineage_log.specs.Trees.{TreeValue}
 use Rattle.world_rules.specs.World.{World}
-use Rattle.world_rules.specs.Descent.{IsNumberedWorld, line_of}
+use Rattle.world_rules.specs.Descent.{IsNumberedWorld, descent_line_of}
 use Rattle.world_tree.specs.WorldTrees.{IsTreeOf}
 use Rattle.world_tree.proofs.SeenLemmas.{LineLaws, if_ok, path_is}
 use Rattle.world_tree.proofs.world_tree.WorldTree.lineage.Goals as goal
@@ -20,10 +20,10 @@ returns c =
       all = c.lines_come_from_parents-2.ensures;
     } in
     if_ok c.path.result (λ (path : List Link). path
-    ≡ tree.line_of c.self.inside.tree.links c.args.id)
+    ≡ tree.line_of_descent c.self.inside.tree.links c.args.id)
     (λ (path : List Link). (w : World) → IsNumberedWorld w → IsTreeOf w c.args.self.now
-    → path ≡ line_of w.everyone c.args.id)
+    → path ≡ descent_line_of w.everyone c.args.id)
     (λ path is w numbered of. is
-    ∙ ap (λ (t : TreeValue). tree.line_of t.links c.args.id) c.self.view_is
+    ∙ ap (λ (t : TreeValue). tree.line_of_descent t.links c.args.id) c.self.view_is
     ∙ path_is c.keeping_goes_on.ensures lines w c.args.self.now c.args.id numbered of c.requires)
     c.path.ensures

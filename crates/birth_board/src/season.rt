@@ -1,8 +1,0 @@
-/// What the placing of an update needs besides the cells.
-#[derive(Clone, Copy, Debug, PartialEq, Eq)]
-pub struct Season {
-    pub seed: u64,
-    pub update: u32,
-    pub prefer_empty: bool,
-    pub next_id: u64,
-}

@@ -1,0 +1,55 @@
+-- All cells live as an update starts, and nothing else happens.
+use Rattle.std.proofs.Common.{◌≡◌, ℕ, zero, suc, ◌+◌, ◌<◌, ◌≤◌, false, length, Some, refl, sym, subst, ap, ◌∙◌, arith, add-zero}
+use Rattle.std.specs.Prelude.{IsSome, IsNone}
+use borrow.Author.Count.{below_more}
+use Rattle.world_config.specs.Values.{ConfigValues}
+use Rattle.world_rules.specs.World.{World}
+use Rattle.event_orders.specs.declared.schedule.ScheduleEvent.TheVariants.{Run}
+use Rattle.event_orders.specs.State.{State, life_in}
+use Rattle.event_orders.specs.Schedule.{with_value_at, state_after_event}
+use Rattle.event_orders.proofs.Results.{AreLives, result_kept}
+use Rattle.event_orders.proofs.Going.{at_same, at_other, Any, Goes, goes_one, goes_on, goes_none}
+
+module _ (config : ConfigValues) where
+  -- the cells below a have lived, and nothing else has happened since s
+  pub record Lived (a : ℕ) (s t : State) : Type 0 where
+    pub ran : (c : ℕ) → c < a → IsSome (t.results c)
+    pub idle : (c : ℕ) → a ≤ c → IsNone (t.results c)
+    pub lives : AreLives config t.world t.results
+    pub world : t.world ≡ s.world
+    pub history : t.history ≡ s.history
+    pub none : (c k : ℕ) → t.interned c k ≡ false
+
+  -- one more cell has lived
+  lived_next : (a : ℕ) (s t : State) → a < length t.world.cells → Lived a s t
+      → Lived (a + 1) s (state_after_event config t (Run a))
+  lived_next a s t within h = record {
+    ran = below_more (λ c. IsSome (with_value_at t.results a (Some (life_in config t.world a)) c)) a
+        (λ c l. rw (at_other t.results a c (Some (life_in config t.world a)) (λ e. omega arith))
+        (h.ran c l))
+        (rw (at_same t.results a a (Some (life_in config t.world a)) refl) refl);
+    idle =
+        λ c l. rw (at_other t.results a c (Some (life_in config t.world a)) (λ e. omega arith))
+        (h.idle c (omega arith));
+    lives = result_kept config t.world t.results a within h.lives;
+    world = h.world;
+    history = h.history;
+    none = h.none;
+  }
+
+  -- all cells from a on live
+  pub all_live : (d a : ℕ) (s t : State) → Lived a s t → a + d ≡ length t.world.cells → (u : State)
+      × Goes config Any t 0 u × Lived (length s.world.cells) s u
+  all_live zero a s t h e = (
+    t,
+    goes_none config Any t,
+    subst (λ (n : ℕ). Lived n s t)
+        (sym (add-zero a) ∙ e ∙ ap (λ (w : World). length w.cells) h.world) h,
+  )
+  all_live (suc d) a s t h e =
+      let within : a < length t.world.cells = omega arith in
+      let t1 = state_after_event config t (Run a) in
+      let one = goes_one config Any t (Run a) (record
+      { is_cell = within; has_no_result = h.idle a (omega arith) }) tt in
+      let rest = all_live d (a + 1) s t1 (lived_next a s t within h) (omega arith) in
+      (rest.0, goes_on config Any t t1 rest.0 0 0 one rest.1, rest.2)

@@ -1,0 +1,106 @@
+-- Lawful events have the calls that the seats have still to make, in any order of the seats.
+use Rattle.std.proofs.Common.{◌≡◌, ◌≢◌, ℕ, Bool, true, false, cond, List, [], ◌∷◌, ◌++◌, map, eqb, Contains, refl, sym, subst, ap, ◌∙◌, ⊎_elim, append_assoc, append-nil}
+use Rattle.std.specs.Prelude.{◌==◌, filter}
+use Rattle.std.proofs.lemmas.Bool.{cases_eq, eq-eqb}
+use Rattle.std.proofs.lemmas.Bool.Decides.{eqb_tells}
+use Rattle.genotype_bank.specs.declared.view.Entry.{Entry}
+use Rattle.world_config.specs.Values.{ConfigValues}
+use Rattle.event_orders.specs.declared.schedule.ScheduleEvent.TheVariants.{Intern}
+use Rattle.event_orders.specs.State.{State, genome_entry}
+use Rattle.event_orders.specs.Schedule.{with_value_at, MayGather, state_after_event}
+use Rattle.event_orders.proofs.Members.{Contains-nil}
+use Rattle.event_orders.proofs.Going.{at_same, at_other, Any, Goes, goes_one, goes_on, goes_none}
+use Rattle.event_orders.proofs.Pairs.{Pair}
+use Rattle.event_orders.proofs.LeftPairs.{Left, head_in, left_next, newborn}
+
+-- the calls of a seat
+abbrev pub own : ℕ → List Entry → List Entry
+own j calls = filter (λ call. call.seat == j) calls
+
+-- the calls that a seat has still to make
+abbrev pub due : State → (ℕ → List Pair) → ℕ → List Entry
+due s rest j = map (λ p. genome_entry j (newborn s p)) (rest j)
+
+-- only the empty list is made into the empty one
+nil_from_map : {A B : Type 0} (f : A → B) (xs : List A) → [] ≡ map f xs → xs ≡ []
+nil_from_map f [] e = refl
+nil_from_map f (x ∷ xs) e = absurd (cc)
+
+module _ (config : ConfigValues) where
+  -- lawful events lead to this history, where the update may end
+  abbrev pub Explained : State → List Entry → Type 0
+  Explained s calls =
+      (t : State) × Goes config Any s 0 t × (t.history ≡ s.history ++ calls) × MayGather t
+
+  -- the history with a further call, before the others
+  history_next : (s t : State) (made x : Entry) (calls : List Entry)
+      → t.history ≡ (s.history ++ made ∷ []) ++ calls → x ≡ made
+      → t.history ≡ s.history ++ x ∷ calls
+  history_next s t made x calls is same =
+      is ∙ (append_assoc s.history (made ∷ []) calls ∙ ap (λ e. s.history ++ e ∷ calls) (sym same))
+
+  -- if each seat makes the calls that it has still to make, in its order
+  pub explained : (calls : List Entry) (s : State) (rest : ℕ → List Pair) → Left s rest
+      → ((j : ℕ) → own j calls ≡ due s rest j) → Explained s calls
+  explained [] s rest h own_is = (
+    s,
+    goes_none config Any s,
+    sym (append-nil s.history),
+    record {
+      every_cell = h.ran;
+      every_newborn = λ c k l n. ⊎_elim
+          (λ (e : s.interned c k ≡ true). e)
+          (λ (r : (j : ℕ) × Contains (rest j) (c, k)). absurd
+          (Contains-nil (c, k) (subst (λ (l : List Pair). Contains l (c, k))
+          (nil_from_map (λ p. genome_entry r.0 (newborn s p)) (rest r.0) (own_is r.0)) r.1)))
+          (h.whole c k l n);
+    },
+  )
+  explained (x ∷ calls) s rest h own_is =
+      by (rest x.seat) refl (sym here ∙ own_is x.seat) (λ u left l o. explained calls u left l o)
+    where
+      here : own x.seat (x ∷ calls) ≡ x ∷ own x.seat calls
+      here =
+          ap (λ (b : Bool). cond b (x ∷ own x.seat calls) (own x.seat calls))
+          (eq-eqb x.seat x.seat refl)
+
+      elsewhere : (j : ℕ) → j ≢ x.seat → own j (x ∷ calls) ≡ own j calls
+      elsewhere j n = ⊎_elim
+          (λ (t : (eqb x.seat j ≡ true) × (x.seat ≡ j)). absurd (n (sym t.1)))
+          (λ (t : (eqb x.seat j ≡ false) × (x.seat ≢ j)). ap
+          (λ (b : Bool). cond b (x ∷ own j calls) (own j calls)) t.0)
+          (eqb_tells x.seat j)
+
+      by : (l : List Pair) → rest x.seat ≡ l → x ∷ own x.seat calls ≡ due s rest x.seat
+          → ((u : State) (left : ℕ → List Pair) → Left u left
+          → ((j : ℕ) → own j calls ≡ due u left j) → Explained u calls)
+          → Explained s (x ∷ calls)
+      by [] is e again =
+          absurd (nil_is (ap (map (λ p. genome_entry x.seat (newborn s p))) (sym is) ∙ sym e))
+        where
+          nil_is : [] ≡ x ∷ own x.seat calls → ⊥
+          nil_is e = cc
+      by (p ∷ ps) is e again =
+          let s1 = state_after_event config s (Intern x.seat p.0 p.1) in
+          let v = h.valid x.seat p (head_in rest x.seat p ps is) in
+          let both : x ∷ own x.seat calls ≡ genome_entry x.seat (newborn s p) ∷ map
+          (λ p. genome_entry x.seat (newborn s p)) ps = e
+          ∙ ap (map (λ p. genome_entry x.seat (newborn s p))) is in
+          let first : x ≡ genome_entry x.seat (newborn s p) = cc in
+          let others : own x.seat calls ≡ map (λ p. genome_entry x.seat (newborn s p)) ps = cc in
+          let go = again s1 (with_value_at rest x.seat ps)
+          (left_next config s rest x.seat p ps is h)
+          (λ j. ⊎_elim
+          (λ (f : j ≡ x.seat). ap (λ j. own j calls) f
+          ∙ (others ∙ (ap (λ j. map (λ p. genome_entry j (newborn s p)) ps) (sym f)
+          ∙ ap (map (λ p. genome_entry j (newborn s p))) (sym (at_same rest x.seat j ps f)))))
+          (λ (n : j ≢ x.seat). sym (elsewhere j n)
+          ∙ (own_is j ∙ ap (map (λ p. genome_entry j (newborn s p)))
+          (sym (at_other rest x.seat j ps n))))
+          (cases_eq j x.seat)) in (
+            go.0,
+            goes_on config Any s s1 go.0 0 0 (goes_one config Any s (Intern x.seat p.0 p.1)
+                (record { has_result = v.0; is_newborn = v.1; is_new = v.2 }) tt) go.1,
+            history_next s go.0 (genome_entry x.seat (newborn s p)) x calls go.2 first,
+            go.3,
+          )

@@ -1,0 +1,5 @@
+// The organism that worlds begin with.
+
+/// The default ancestor.
+pub const ANCESTOR: &str =
+    "wzcagcccccccccccccccccccccccccccccccccccccccccccccccccccccccccccccccccccccccccccccccccccccczvfcaxgab";

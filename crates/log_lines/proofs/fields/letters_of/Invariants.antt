@@ -1,0 +1,12 @@
+use Rattle.std.proofs.Common.{◌≡◌, ◌+◌, ◌-◌, ◌≤◌, ◌++◌, drop, length, vec_len, vec_capacity}
+use Rattle.std.specs.Prelude.{option_map}
+use Rattle.instruction_set.specs.Letter.{letter_of_byte}
+use Rattle.log_lines.specs.Fields.{each}
+use Rattle.log_lines.proofs.fields.letters_of.Given as goal
+
+abbrev pub invariant-loop-byte : goal.invariant-loop-byte
+invariant-loop-byte l = record {
+  read : option_map (λ others. l.letters.items ++ others)
+      (each letter_of_byte (drop l.byte-index l.word)) ≡ each letter_of_byte l.word;
+  room : vec_len l.letters + (length l.word - l.byte-index) ≤ vec_capacity l.letters;
+}

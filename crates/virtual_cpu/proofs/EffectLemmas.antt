@@ -1,0 +1,274 @@
+-- The effect of each letter leaves a machine.
+use Rattle.std.proofs.Common.{◌≡◌, refl, sym, ◌∙◌, ap, subst, ℕ, ℤ, ◌+◌, ◌-◌, ◌*◌, ◌<◌, ◌≤◌, Bool, true, false, cond, ltb, Option, Some, None, unwrap_or, List, [], ◌∷◌, ◌++◌, length, set, replicate, All, arith, length-set, length-append, length-drop}
+use Rattle.std.proofs.lemmas.List.{length-replicate}
+use Rattle.std.proofs.lemmas.List.Elements.{All-nil, All-push, All-drop}
+use Rattle.instruction_set.specs.declared.letter.Letter.{Letter}
+use Rattle.instruction_set.specs.declared.letter.Letter.TheVariants.{NopA, NopB, NopC, IfNEqu, IfLess, IfLabel, MovHead, JmpHead, GetHead, SetFlow, ShiftR, ShiftL, Inc, Dec, Push, Pop, SwapStk, Swap, Add, Sub, Nand, HCopy, HAlloc, HDivide, Io, HSearch}
+use Rattle.label_search.specs.Template.{is_nop, last_ten}
+use Rattle.virtual_cpu.specs.declared.heads.Head.{Head}
+use Rattle.virtual_cpu.specs.declared.heads.Head.TheVariants.{Ip, Read, Write}
+use Rattle.virtual_cpu.specs.Machine.{Machine, IsMachine, letter_in_memory, with_flow_at}
+use Rattle.virtual_cpu.specs.Operands.{on_modifier, template_of, on_template}
+use Rattle.virtual_cpu.specs.RegisterEffects.{picked, value, next, with_active_stack, with_picked, after_if_n_equ, after_if_less, after_set_flow, after_shift_r, after_shift_l, after_inc, after_dec, after_push, after_pop, after_swap_stk, after_swap, after_add, after_sub, after_nand, after_io}
+use Rattle.virtual_cpu.specs.HeadEffects.{head, after_mov_head, after_jmp_head, after_get_head}
+use Rattle.virtual_cpu.specs.TemplateEffects.{after_if_label, after_h_search, with_search, with_match, with_search_for}
+use Rattle.virtual_cpu.specs.Copying.{after_h_copy}
+use Rattle.virtual_cpu.specs.Allocation.{extra_places, can_allocate, with_allocation}
+use Rattle.virtual_cpu.specs.Effects.{moving, allocating_if, effect_of}
+use Rattle.virtual_cpu.proofs.MachineLemmas.{with_numbers, head_at, flow_at, rem-within, number-within, advanced, with_registers, with_stack, active-ten, pushed-ten, popped-ten, on_modifier-machine, on_template-machine, skipping, picked-machine}
+
+-- a machine is left by if-n-equ; the rows of registers follow
+if_n_equ : (m : Machine) → IsMachine m → IsMachine (after_if_n_equ m)
+unfolding after_if_n_equ
+if_n_equ m h = skipping _ (on_modifier m) (on_modifier-machine m h)
+
+-- if-less leaves a machine, whether it passes over the next place or not
+if_less : (m : Machine) → IsMachine m → IsMachine (after_if_less m)
+unfolding after_if_less
+if_less m h = skipping _ (on_modifier m) (on_modifier-machine m h)
+
+-- set-flow leaves a machine: FLOW is at a place of memory whatever the register holds
+set_flow : (m : Machine) → IsMachine m → IsMachine (after_set_flow m)
+unfolding after_set_flow
+set_flow m h = flow_at (on_modifier m) _ (on_modifier-machine m h)
+    (number-within (on_modifier m) _ (on_modifier-machine m h))
+
+-- shift-r leaves a machine, the picked register shifted to the right
+shift_r : (m : Machine) → IsMachine m → IsMachine (after_shift_r m)
+unfolding after_shift_r
+shift_r m h = picked-machine m _ h
+
+-- shift-l leaves a machine, the picked register shifted to the left
+shift_l : (m : Machine) → IsMachine m → IsMachine (after_shift_l m)
+unfolding after_shift_l
+shift_l m h = picked-machine m _ h
+
+-- inc leaves a machine, 1 added to the picked register
+inc : (m : Machine) → IsMachine m → IsMachine (after_inc m)
+unfolding after_inc
+inc m h = picked-machine m _ h
+
+-- dec leaves a machine, 1 taken from the picked register
+dec : (m : Machine) → IsMachine m → IsMachine (after_dec m)
+unfolding after_dec
+dec m h = picked-machine m _ h
+
+-- push leaves a machine: the active stack still has ten numbers
+push : (m : Machine) → IsMachine m → IsMachine (after_push m)
+unfolding after_push
+push m h = let n = on_modifier-machine m h in
+    with_stack (on_modifier m) _ n
+    (pushed-ten (value m (picked m)) _ (active-ten (on_modifier m) n))
+
+-- pop leaves a machine: the active stack still has ten numbers
+pop : (m : Machine) → IsMachine m → IsMachine (after_pop m)
+unfolding after_pop
+pop m h = let n = on_modifier-machine m h in
+    with_registers (with_active_stack (on_modifier m) _) _
+    (with_stack (on_modifier m) _ n (popped-ten _ (active-ten (on_modifier m) n)))
+
+-- swap-stk leaves a machine: the other of its two stacks is active
+swap_stk : (m : Machine) → IsMachine m → IsMachine (after_swap_stk m)
+unfolding after_swap_stk
+swap_stk m h = with_numbers m m.registers m.stacks (1 - m.active) h h.stacks h.ten (omega arith)
+
+-- swap leaves a machine, the picked register and the next one exchanged
+swap : (m : Machine) → IsMachine m → IsMachine (after_swap m)
+unfolding after_swap
+swap m h =
+    with_registers (with_picked m (value m (next m))) _ (picked-machine m (value m (next m)) h)
+
+-- add leaves a machine, the sum of BX and CX in the picked register
+sum : (m : Machine) → IsMachine m → IsMachine (after_add m)
+unfolding after_add
+sum m h = picked-machine m _ h
+
+-- sub leaves a machine, the difference of BX and CX in the picked register
+difference : (m : Machine) → IsMachine m → IsMachine (after_sub m)
+unfolding after_sub
+difference m h = picked-machine m _ h
+
+-- nand leaves a machine, the nand of BX and CX in the picked register
+nand : (m : Machine) → IsMachine m → IsMachine (after_nand m)
+unfolding after_nand
+nand m h = picked-machine m _ h
+
+-- IO leaves a machine, the input in the picked register
+io : (m : Machine) (input : ℤ) → IsMachine m → IsMachine (after_io m input)
+unfolding after_io
+io m input h = picked-machine m input h
+
+-- a machine is left by mov-head; the rows of heads follow
+mov_head : (m : Machine) → IsMachine m → IsMachine (after_mov_head m)
+unfolding after_mov_head
+mov_head m h = let n = on_modifier-machine m h in head_at (on_modifier m) (head m) _ n n.flow
+
+-- jmp-head leaves a machine: the head is at a place of memory whatever CX holds
+jmp_head : (m : Machine) → IsMachine m → IsMachine (after_jmp_head m)
+unfolding after_jmp_head
+jmp_head m h = let n = on_modifier-machine m h in
+    head_at (on_modifier m) (head m) _ n (number-within (on_modifier m) _ n)
+
+-- get-head leaves a machine, the place of the picked head in CX
+get_head : (m : Machine) → IsMachine m → IsMachine (after_get_head m)
+unfolding after_get_head
+get_head m h = with_registers (on_modifier m) _ (on_modifier-machine m h)
+
+-- a machine is left by if-label; the rows of templates follow
+if_label : (m : Machine) → IsMachine m → IsMachine (after_if_label m)
+unfolding after_if_label
+if_label m h = skipping _ (on_template m) (on_template-machine m h)
+
+-- FLOW at a place of memory, and any numbers in BX and CX, leave a machine
+searched : (m : Machine) (flow : ℕ) (bx : ℤ) (cx : ℕ) → IsMachine m → flow < length m.memory
+    → IsMachine (with_search m flow bx cx)
+searched m flow bx cx h within = with_registers (with_flow_at m flow) _ (flow_at m flow h within)
+
+-- a search leaves a machine, with a match or without one
+matched : (m : Machine) (count : ℕ) (first : Option ℕ) → IsMachine m
+    → IsMachine (with_match m count first)
+matched m count (Some place) h = searched m _ _ count h (rem-within m (place + count) h)
+matched m count None h = searched m _ _ count h (rem-within m (m.heads.ip + 1) h)
+
+-- a search for any template, the empty one too, leaves a machine
+searched_for : (m : Machine) (nops : List Letter) → IsMachine m → IsMachine (with_search_for m nops)
+searched_for m [] h = searched m _ _ 0 h (rem-within m (m.heads.ip + 1) h)
+searched_for m (nop ∷ nops) h = matched m _ _ h
+
+-- h-search leaves a machine, whatever template stands after IP
+h_search : (m : Machine) → IsMachine m → IsMachine (after_h_search m)
+unfolding after_h_search
+h_search m h = searched_for (on_template m) (template_of m) (on_template-machine m h)
+
+-- the nops read last are at most ten
+few-nops : (nop : Bool) (nops : List Letter) → length (cond nop (last_ten nops) []) ≤ 10
+few-nops true nops = omega (arith, length-drop (length nops - 10) nops)
+few-nops false nops = omega arith
+
+-- a further letter leaves nops alone
+only-nops : (nop : Bool) (nops : List Letter) (letter : Letter) → is_nop letter ≡ nop
+    → All (λ l. is_nop l ≡ true) nops
+    → All (λ l. is_nop l ≡ true) (cond nop (last_ten (nops ++ letter ∷ [])) [])
+only-nops true nops letter is are =
+    All-drop (λ l. is_nop l ≡ true) _ (nops ++ letter ∷ [])
+    (All-push (λ l. is_nop l ≡ true) nops letter are is)
+only-nops false nops letter is are = All-nil (λ l. is_nop l ≡ true)
+
+-- h-copy
+h_copy : (m : Machine) (copy : Option Letter) → IsMachine m → IsMachine (after_h_copy m copy)
+unfolding after_h_copy
+h_copy m copy h =
+    let read : Letter = letter_in_memory m m.heads.read in
+    let size : length (set m.memory m.heads.write (unwrap_or copy read)) ≡ length m.memory =
+    length-set m.memory m.heads.write (unwrap_or copy read) in
+    let rest : (place : ℕ) → place < length m.memory
+    → place < length (set m.memory m.heads.write (unwrap_or copy read)) =
+    λ place. subst (λ (n : ℕ). place < n) (sym size) in
+    record {
+      clean = length-set m.clean m.heads.write read ∙ h.clean ∙ sym size;
+      executed = h.executed ∙ sym size;
+      copied = length-set m.copied m.heads.write true ∙ h.copied ∙ sym size;
+      stacks = h.stacks;
+      ten = h.ten;
+      active = h.active;
+      template = record {
+        few = few-nops (is_nop read) (m.nops ++ read ∷ []);
+        nops = only-nops (is_nop read) m.nops read refl h.template.nops;
+      };
+      ip = rest m.heads.ip h.ip;
+      read = rest _ (rem-within m (m.heads.read + 1) h);
+      write = rest _ (rem-within m (m.heads.write + 1) h);
+      flow = rest m.heads.flow h.flow;
+      least = subst (λ (n : ℕ). 8 ≤ n) (sym size) h.least;
+      greatest = subst (λ (n : ℕ). n ≤ m.limit) (sym size) h.greatest;
+      growth = subst (λ (n : ℕ). n ≤ cond m.pending 6 2 * m.birth_length) (sym size) h.growth;
+      birth_length = h.birth_length;
+      limit = h.limit;
+    }
+
+-- h-alloc, where it can
+longer : {A : Type 0} (xs : List A) (extra : ℕ) (x : A)
+    → length (xs ++ replicate extra x) ≡ length xs + extra
+longer xs extra x =
+    length-append xs (replicate extra x) ∙ ap (λ n. length xs + n) (length-replicate extra x)
+
+-- where memory can grow, no allocation is pending and there is room
+not_pending : (pending room : Bool) → cond pending false room ≡ true → (pending ≡ false)
+    × (room ≡ true)
+not_pending true room can = absurd cc
+not_pending false room can = (refl, can)
+
+-- a machine that can allocate is still one once its memory has grown
+allocated : (m : Machine) → can_allocate m ≡ true → IsMachine m → IsMachine (with_allocation m)
+unfolding with_allocation
+allocated m can h =
+    let extra : ℕ = extra_places m in
+    let size : length (m.memory ++ replicate extra NopA) ≡ length m.memory + extra =
+    longer m.memory extra NopA in
+    let free : m.pending ≡ false = (not_pending m.pending (ltb (length m.memory) m.limit) can).0 in
+    let twice : length m.memory ≤ 2 * m.birth_length =
+    subst (λ (b : Bool). length m.memory ≤ cond b 6 2 * m.birth_length) free h.growth in
+    let few : extra ≤ 2 * length m.memory = omega arith in
+    let room : length m.memory + extra ≤ m.limit = omega (arith, h.greatest) in
+    let rest : (place : ℕ) → place < length m.memory
+    → place < length (m.memory ++ replicate extra NopA) = λ place within. omega (arith, size) in
+    record {
+      clean = longer m.clean extra NopA ∙ ap (λ n. n + extra) h.clean ∙ sym size;
+      executed = longer m.executed extra false ∙ ap (λ n. n + extra) h.executed ∙ sym size;
+      copied = longer m.copied extra false ∙ ap (λ n. n + extra) h.copied ∙ sym size;
+      stacks = h.stacks;
+      ten = h.ten;
+      active = h.active;
+      template = h.template;
+      ip = rest m.heads.ip h.ip;
+      read = rest m.heads.read h.read;
+      write = rest m.heads.write h.write;
+      flow = rest m.heads.flow h.flow;
+      least = omega (arith, size, h.least);
+      greatest = omega (arith, size, room);
+      growth = omega (arith, size, few, twice);
+      birth_length = h.birth_length;
+      limit = h.limit;
+    }
+
+-- IP advances unless it was moved
+moved : (head : Head) (m : Machine) → IsMachine m → IsMachine (moving head m).0
+moved Ip m h = h
+moved Read m h = advanced m h
+moved Write m h = advanced m h
+
+-- h-alloc leaves a machine, whether memory grows or not
+allocating : (test : Bool) (m : Machine) → can_allocate m ≡ test → IsMachine m
+    → IsMachine (allocating_if test m).0
+allocating true m can h = advanced (with_allocation m) (allocated m can h)
+allocating false m can h = advanced m h
+
+-- each row leaves a machine
+pub effect : (letter : Letter) (m : Machine) (input : ℤ) (copy : Option Letter) → IsMachine m
+    → IsMachine (effect_of letter m input copy).0
+effect NopA m input copy h = advanced m h
+effect NopB m input copy h = advanced m h
+effect NopC m input copy h = advanced m h
+effect HDivide m input copy h = advanced m h
+effect IfNEqu m input copy h = advanced (after_if_n_equ m) (if_n_equ m h)
+effect IfLess m input copy h = advanced (after_if_less m) (if_less m h)
+effect IfLabel m input copy h = advanced (after_if_label m) (if_label m h)
+effect MovHead m input copy h = moved (head m) (after_mov_head m) (mov_head m h)
+effect JmpHead m input copy h = advanced (after_jmp_head m) (jmp_head m h)
+effect GetHead m input copy h = advanced (after_get_head m) (get_head m h)
+effect SetFlow m input copy h = advanced (after_set_flow m) (set_flow m h)
+effect ShiftR m input copy h = advanced (after_shift_r m) (shift_r m h)
+effect ShiftL m input copy h = advanced (after_shift_l m) (shift_l m h)
+effect Inc m input copy h = advanced (after_inc m) (inc m h)
+effect Dec m input copy h = advanced (after_dec m) (dec m h)
+effect Push m input copy h = advanced (after_push m) (push m h)
+effect Pop m input copy h = advanced (after_pop m) (pop m h)
+effect SwapStk m input copy h = advanced (after_swap_stk m) (swap_stk m h)
+effect Swap m input copy h = advanced (after_swap m) (swap m h)
+effect Add m input copy h = advanced (after_add m) (sum m h)
+effect Sub m input copy h = advanced (after_sub m) (difference m h)
+effect Nand m input copy h = advanced (after_nand m) (nand m h)
+effect HCopy m input copy h = advanced (after_h_copy m copy) (h_copy m copy h)
+effect HAlloc m input copy h = allocating (can_allocate m) m refl h
+effect Io m input copy h = advanced (after_io m input) (io m input h)
+effect HSearch m input copy h = advanced (after_h_search m) (h_search m h)
