@@ -14,7 +14,7 @@ ghost use Rattle.avida_program.specs.Outcomes.{StopsWithin};
 ghost use Rattle.logged_run.specs.RunText.{IsFinalWorld, run_text};
 ghost use Rattle.avida_program.specs.Work.{CarriesOut};
 
-use crate::Outcome;
+use crate::outcome::Outcome;
 use crate::run::leave;
 use avida_port::{Gate, Memory, Sink};
 use log_lines::{LogLine, Stats, write_line};

@@ -9,7 +9,8 @@ ghost use Rattle.written_texts.specs.SinkChanges.{change};
 ghost use Rattle.avida_program.specs.Input.{assay_input_of, configuration_of, genome_of_input, genome_spelled, lineage_input_of, log_input_of, resume_input_of, saved_input_of};
 ghost use Rattle.avida_program.specs.Outcomes.{GivesInput, GivesNoInput, StopsReading};
 
-use crate::{Outcome, Refusal, Spelling};
+use crate::outcome::Outcome;
+use crate::{Refusal, Spelling};
 use avida_port::{LONGEST_INPUT, ReadStop, Source, read_all};
 use checkpoint::{SavedStop, read_saved};
 use genome::{Genome, GenomeStop, read_letters, read_names};

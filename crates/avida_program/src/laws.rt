@@ -4,10 +4,11 @@ ghost use Rattle.std.specs.Prelude.{◌≡◌};
 ghost use Rattle.world_config.specs.Shown.{values_of};
 ghost use Rattle.avida_program.specs.ResumedRun.{CanResume, ResumesExactly};
 
-use crate::{INPUT_LIMIT, MOST_CELLS, PIECE_SIZE};
+use crate::input::{INPUT_LIMIT, MOST_CELLS};
 use checkpoint::laws::runs_are_read_again;
 use saved_worlds::laws::resumed_runs_go_on;
 use world_config::Config;
+use written_texts::PIECE_SIZE;
 
 /// The limits of the input, of worlds that run side by side, and of a piece of output.
 pub fn limits()

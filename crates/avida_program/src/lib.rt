@@ -23,9 +23,6 @@ mod tree;
 mod upgrade;
 
 pub use command::{Command, Spelling};
-pub use input::{INPUT_LIMIT, MOST_CELLS};
-pub use outcome::Outcome;
 pub use refusal::Refusal;
 pub use serving::serve;
 pub use status::Status;
-pub use written_texts::PIECE_SIZE;

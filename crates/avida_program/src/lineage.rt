@@ -12,9 +12,8 @@ ghost use Rattle.avida_program.specs.PathText.{origin_text, parent_text, path_li
 ghost use Rattle.logged_run.specs.RunText.{IsFinalWorld};
 ghost use Rattle.avida_program.specs.Work.{CarriesOut};
 
-use crate::Outcome;
 use crate::input::read_config_with;
-use crate::outcome::ended;
+use crate::outcome::{Outcome, ended};
 use crate::run::{leave, run_to_end};
 use avida_port::{Gate, Memory, Sink, Source};
 use genome::letters_text;

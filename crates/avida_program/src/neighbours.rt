@@ -11,9 +11,9 @@ ghost use Rattle.avida_program.specs.Outcomes.{WritesText};
 ghost use Rattle.written_texts.specs.Pieces.{Writes};
 ghost use Rattle.avida_program.specs.Work.{CarriesOut};
 
+use crate::Spelling;
 use crate::input::read_genome;
-use crate::outcome::ended;
-use crate::{Outcome, Spelling};
+use crate::outcome::{Outcome, ended};
 use avida_port::{Memory, Sink, SinkStop, Source};
 use genome::Genome;
 use instruction_set::Letter;

@@ -12,9 +12,8 @@ ghost use Rattle.written_texts.specs.Pieces.{Writes};
 ghost use Rattle.avida_program.specs.ReplayText.{replay_text, resident_line};
 ghost use Rattle.avida_program.specs.Work.{CarriesOut};
 
-use crate::Outcome;
 use crate::input::read_livings;
-use crate::outcome::ended;
+use crate::outcome::{Outcome, ended};
 use avida_port::{Sink, SinkStop, Source};
 use lineage_log::{Living, Livings};
 use std::alloc::Global;

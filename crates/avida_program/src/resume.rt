@@ -10,9 +10,8 @@ ghost use Rattle.avida_program.specs.declared.command.Command.TheVariants.{Resum
 ghost use Rattle.avida_program.specs.Outcomes.{WritesText};
 ghost use Rattle.avida_program.specs.Work.{CarriesOut};
 
-use crate::Outcome;
 use crate::input::read_state_for;
-use crate::outcome::written;
+use crate::outcome::{Outcome, written};
 use avida_port::{Gate, Sink, Source};
 use log_lines::{LogLine, write_line};
 use std::alloc::Global;

@@ -6,8 +6,8 @@ ghost use Rattle.logged_run.specs.RunText.{IsFinalWorld};
 ghost use Rattle.avida_program.specs.declared.command.Command.TheVariants.{Run};
 ghost use Rattle.avida_program.specs.Work.{CarriesOut};
 
-use crate::Outcome;
 use crate::input::read_config;
+use crate::outcome::Outcome;
 use avida_port::{Gate, Memory, Sink, Source};
 use logged_run::write_run;
 use std::alloc::Global;

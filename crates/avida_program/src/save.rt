@@ -15,9 +15,8 @@ ghost use Rattle.avida_program.specs.Outcomes.{WritesText};
 ghost use Rattle.avida_program.specs.SaveText.{save_text};
 ghost use Rattle.avida_program.specs.Work.{CarriesOut};
 
-use crate::Outcome;
 use crate::input::read_config;
-use crate::outcome::written;
+use crate::outcome::{Outcome, written};
 use crate::run::run_to_end;
 use avida_port::{Gate, Sink, Source};
 use checkpoint::laws::texts_are_written_by_cells;

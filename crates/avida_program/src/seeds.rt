@@ -11,9 +11,8 @@ ghost use Rattle.written_texts.specs.SinkChanges.{change, unchanged};
 ghost use Rattle.avida_program.specs.Outcomes.{WritesText};
 ghost use Rattle.avida_program.specs.Work.{CarriesOut};
 
-use crate::Outcome;
 use crate::input::read_config_for;
-use crate::outcome::ended;
+use crate::outcome::{Outcome, ended};
 use assay::{Assay, seeds_with_each};
 use avida_port::{Gate, Memory, Sink, Source};
 use genome::{Genome, letters_text};

@@ -9,10 +9,10 @@ ghost use Rattle.avida_program.specs.Outcomes.{WritesText};
 ghost use Rattle.avida_program.specs.TraceText.{trace_lines, trace_text};
 ghost use Rattle.avida_program.specs.Work.{CarriesOut};
 
+use crate::Spelling;
 use crate::input::read_genome;
-use crate::outcome::ended;
+use crate::outcome::{Outcome, ended};
 use crate::trace_line::write_line;
-use crate::{Outcome, Spelling};
 use avida_port::{Memory, Sink, Source};
 use genome::Genome;
 use landscape::traced_organism;

@@ -11,9 +11,8 @@ ghost use Rattle.written_texts.specs.Pieces.{Writes};
 ghost use Rattle.avida_program.specs.TreeText.{counts_line, last_lines, lines_of_tree};
 ghost use Rattle.avida_program.specs.Work.{CarriesOut};
 
-use crate::Outcome;
 use crate::input::read_lines;
-use crate::outcome::ended;
+use crate::outcome::{Outcome, ended};
 use avida_port::{Memory, Sink, SinkStop, Source};
 use lineage_log::Log;
 use phylogeny::{Depth, Phylogeny, phylogeny};

@@ -10,9 +10,8 @@ ghost use Rattle.avida_program.specs.Outcomes.{WritesText};
 ghost use Rattle.avida_program.specs.ReplayText.{upgrade_text};
 ghost use Rattle.avida_program.specs.Work.{CarriesOut};
 
-use crate::Outcome;
 use crate::input::read_lines;
-use crate::outcome::ended;
+use crate::outcome::{Outcome, ended};
 use avida_port::{Sink, Source};
 use lineage_log::{Log, LogLine, write_line};
 use std::alloc::Global;

@@ -4,10 +4,14 @@ ghost use Rattle.command_line.specs.Form.{Form, IsSimple};
 ghost use Rattle.command_line.specs.Parsers.{parsed_by};
 ghost use Rattle.command_line.specs.Words.{told_by, undashed};
 
-use crate::{
-    LEAST_WORKERS, MOST_CELL, MOST_FIRST_SEED, MOST_FURTHER_UPDATES, MOST_LOOKS, MOST_SEED,
-    MOST_SEEDS, MOST_STEPS, MOST_TRIED_STEPS, MOST_WORKERS,
-};
+use crate::assay::{MOST_FIRST_SEED, MOST_SEEDS};
+use crate::bench::MOST_SEED;
+use crate::landscape::MOST_TRIED_STEPS;
+use crate::lineage::MOST_CELL;
+use crate::resume::MOST_FURTHER_UPDATES;
+use crate::run::MOST_LOOKS;
+use crate::trace::MOST_STEPS;
+use crate::workers::{LEAST_WORKERS, MOST_WORKERS};
 
 /// For every form, the parser's result is the one that the form gives when the words are read from
 /// left to right. The law doesn't cover a positional or a value that begins with `-`.

@@ -5,14 +5,6 @@ ghost use Rattle.divide_rules.specs.declared.verdict.Verdict.TheVariants.{Viable
 ghost use Rattle.divide_rules.specs.Rules.{RuleNumbers, AreRules, rule_numbers};
 ghost use Rattle.divide_rules.specs.Viability.{verdict_of, IsViable};
 
-use crate::limits::{GREATEST_PERCENT, LEAST_PERCENT};
-
-/// The code's limits are the numbers that the definitions state.
-pub fn limits()
-    ensures least_percent { LEAST_PERCENT ≡ 1 }
-    ensures greatest_percent { GREATEST_PERCENT ≡ 100 }
-{}
-
 /// Rules keep the limits.
 pub fn rules_keep_the_limits()
     ensures { (rules : DivideRules) → AreRules (rule_numbers rules) }

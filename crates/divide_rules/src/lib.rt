@@ -8,6 +8,6 @@ mod rule;
 mod verdict;
 
 pub use ask::DivideAsk;
-pub use limits::{DivideRules, GREATEST_PERCENT, LEAST_PERCENT};
+pub use limits::DivideRules;
 pub use rule::Rule;
 pub use verdict::{Verdict, judge};

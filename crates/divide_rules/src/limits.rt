@@ -2,12 +2,6 @@
 ghost use Rattle.std.specs.Prelude.{◌≤◌};
 ghost use Rattle.genome.specs.Lengths.{shortest_genome, longest_genome};
 
-/// The smallest percentage of a length that a rule can ask for.
-pub const LEAST_PERCENT: u32 = 1;
-
-/// The whole length.
-pub const GREATEST_PERCENT: u32 = 100;
-
 /// What the configuration sets for divides: the lengths that parent and child may have, the
 /// percentage of places that must be executed and copied, and whether an allocation is needed.
 #[derive(Clone, Copy, Debug, PartialEq, Eq)]

@@ -4,4 +4,4 @@
 pub mod laws;
 mod letter;
 
-pub use letter::{Class, FIRST_BYTE, LETTER_COUNT, Letter};
+pub use letter::{Class, LETTER_COUNT, Letter};

@@ -13,5 +13,5 @@ pub use alone::traced_organism;
 pub use entry::{Entries, Entry};
 pub use first_divide::Trial;
 pub use surveyed::Survey;
-pub use totals::{Totals, is_better};
+pub use totals::Totals;
 pub use trying::{survey, trial};

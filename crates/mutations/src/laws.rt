@@ -7,7 +7,7 @@ ghost use Rattle.mutations.specs.Rates.{RateNumbers, LengthRange};
 ghost use Rattle.mutations.specs.BirthRecord.{child_of, origin_of};
 ghost use Rattle.mutations.specs.RecordForm.{HasRecordForm};
 
-use crate::BIRTH_WORDS;
+use crate::dividing::BIRTH_WORDS;
 
 /// The limit of the code is the written one.
 pub fn limits()

@@ -21,7 +21,7 @@ pub use born::Born;
 pub use change::{Change, Changes};
 pub use child::apply;
 pub use copying::copy_error;
-pub use dividing::{BIRTH_WORDS, divide_errors};
+pub use dividing::divide_errors;
 pub use limits::Limits;
 pub use origin::Origin;
 pub use rate_name::RateName;

@@ -22,9 +22,7 @@ pub use event::{Event, What};
 pub use events::Events;
 pub use key::Key;
 pub use key_text::KeyText;
-pub use limits::{
-    GREATEST_AGE, GREATEST_AVERAGE, GREATEST_PERCENT, GREATEST_SEED, GREATEST_UPDATES, MOST_EVENTS,
-};
+pub use limits::{GREATEST_UPDATES, MOST_EVENTS};
 pub use printing::print;
 pub use reading::read;
 pub use stop::ConfigStop;

@@ -23,7 +23,7 @@ mod world;
 
 pub use census::Dominant;
 pub use log_lines::Stats;
-pub use picture::{ConfigShown, WorldPicture, picture_line};
+pub use picture::{WorldPicture, picture_line};
 pub use saved_lines::{Resident, StateHead};
 pub use state::{Residents, State};
 pub use world::World;

@@ -29,7 +29,7 @@ loop-place-preserved c =
       newborns = map newborn_value c.in_ok-life.life.births;
     } in
     HaveLived-more life c.loop-place.invariant within old c.in_ok-life.ensures c.bury.ensures
-    c.in_ok-tell.ensures.births c.in_ok-tell.ensures.dead
+    c.in_ok-add_life.ensures.births c.in_ok-add_life.ensures.dead
 
 pub returns-clause-cells : goal.returns-clause-cells
 returns-clause-cells c = all-cells _ _ _ _ _ _ c.loop-place.invariant (omega arith)
