@@ -191,7 +191,6 @@ nodes_kept nodes are = sym (links_kept nodes nodes are.families are (fewer_same 
 pub record IsLaid (before after : List (ℕ × NodeValue)) (id : ℕ) : Type 0 where
   pub families : AreFamilies after
   pub needed : AreNeededBut (Some id) after
-  pub there : IsSome (node_at after id)
   pub links : links_of after ≡ links_of before
   pub living : living_ids_of after ≡ without_id id (living_ids_of before)
 
@@ -230,7 +229,6 @@ laid before after id are lives change =
           (λ here. absurd (hole (ap (λ (n : ℕ). Some n) here.0)))
           (λ apart. are.needed other node apart.1 dies (none_some other))
           (set_from before after id new other node set has);
-      there = set_still before after id new id set (is_there (node_at before id) old is);
       links = ap links_of e ∙ links_set before id old new is (λ key. refl);
       living = ap living_ids_of e ∙ living_dead before id old new are.families.rising is refl;
     }

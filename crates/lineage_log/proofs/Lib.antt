@@ -10,5 +10,6 @@ pub mod NodeLemmas
 pub mod LivingLemmas
 pub mod TreeLemmas
 pub mod KeptLemmas
+pub mod DeathLemmas
 pub mod ComingLemmas
 pub mod KeepingLemmas

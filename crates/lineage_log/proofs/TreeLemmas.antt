@@ -334,7 +334,6 @@ fewer_set before after id children old is e =
 pub record LetsGo (before after : List (ℕ × NodeValue)) (above : ℕ) : Type 0 where
   pub families : AreFamilies after
   pub needed : AreNeededBut (Some above) after
-  pub there : IsSome (node_at after above)
   pub fewer : AreFewer before after
 
 -- so it is where the node of a child is removed and its parent has one child fewer
@@ -357,7 +356,6 @@ lets_go before mid after id above old families needed is dead vain gone removed 
     record {
       families = both.0;
       needed = both.1;
-      there = set_still mid after above new above set stays;
       fewer = fewer_again before mid after
           (fewer_gone before mid id old families.rising is dead removed)
           (fewer_set mid after above (parent.children - 1) parent above_is

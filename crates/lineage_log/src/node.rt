@@ -1,8 +1,8 @@
 // A node of a tree.
-ghost use Rattle.std.specs.Prelude.{◌≡◌, ◌+◌, ◌-◌, ◌<◌, ◌^◌, ◌||◌, false, IfOk, nat_lt, option_map, true};
+ghost use Rattle.std.specs.Prelude.{◌≡◌, ◌+◌, ◌-◌, ◌<◌, ◌^◌, false, IfOk, option_map, true};
 ghost use Rattle.genome.specs.Genome.{letters};
 ghost use Rattle.mutations.specs.BirthRecord.{record_of};
-ghost use Rattle.lineage_log.specs.Nodes.{node_link};
+ghost use Rattle.lineage_log.specs.Nodes.{is_needed, node_link};
 
 use crate::ancestor::Ancestor;
 use crate::link::Link;
@@ -91,7 +91,7 @@ impl Node {
 
     /// It lives, or has a child in the tree.
     pub(crate) fn is_needed(&self) -> bool
-        ensures { result ≡ (self.now.lives || nat_lt 0 self.now.children) }
+        ensures { result ≡ is_needed self.now }
     {
         self.lives || self.children > 0
     }

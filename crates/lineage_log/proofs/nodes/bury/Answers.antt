@@ -1,27 +1,39 @@
-use Rattle.lineage_log.proofs.KeptLemmas.{IsLaid, buried, laid}
+use Rattle.std.proofs.Common.{◌<◌, ap, subst, suc, ℕ, Option, arith}
+use Rattle.std.specs.Option.{option_map_or}
+use Rattle.lineage_log.proofs.DeathLemmas.{Go, go_again, go_first, laid_down, lies}
+use Rattle.lineage_log.proofs.KeptLemmas.{buried}
 use Rattle.lineage_log.proofs.nodes.bury.Goals as goal
 
--- the organism no longer lives
-lies : (c : goal.After-prune)
-    → IsLaid c.args.nodes.now.entries c.lay_down.new.nodes.entries c.args.id
-lies c = laid c.args.nodes.now.entries c.lay_down.new.nodes.entries c.args.id c.requires.nodes
-    c.requires.lives c.lay_down.ensures
+pub loop-next-init : goal.loop-next-init
+loop-next-init c = record {
+  go = go_first c.args.nodes.now.entries c.lay_down-next.new.nodes.entries c.args.id
+      c.lay_down-next.result c.requires.nodes c.requires.lives c.lay_down-next.ensures;
+}
 
-pub prune-requires-clause-families : goal.prune-requires-clause-families
-prune-requires-clause-families c =
-    (laid c.args.nodes.now.entries c.lay_down.new.nodes.entries c.args.id c.requires.nodes
-    c.requires.lives c.lay_down.ensures).families
+-- one node more went, or none
+turn : (c : goal.After-lose_child-next)
+    → Go (laid_down c.args.id c.args.nodes.now.entries) c.lose_child-next.new.nodes.entries
+    c.lose_child-next.result
+    × (option_map_or suc c.lose_child-next.result 0 < suc c.in-Some.above)
+turn c =
+    let start = laid_down c.args.id c.args.nodes.now.entries in
+    go_again start c.loop-next.nodes.entries c.lose_child-next.new.nodes.entries c.in-Some.above
+    c.lose_child-next.result
+    (subst (λ next. Go start c.loop-next.nodes.entries next) c.in-Some.is c.loop-next.invariant.go)
+    c.lose_child-next.ensures
 
-pub prune-requires-clause-needed : goal.prune-requires-clause-needed
-prune-requires-clause-needed c =
-    (laid c.args.nodes.now.entries c.lay_down.new.nodes.entries c.args.id c.requires.nodes
-    c.requires.lives c.lay_down.ensures).needed
+pub loop-next-smaller : goal.loop-next-smaller
+loop-next-smaller c =
+    omega (arith, (turn c).1, ap (λ (o : Option ℕ). option_map_or suc o 0) c.in-Some.is)
 
-pub prune-requires-clause-there : goal.prune-requires-clause-there
-prune-requires-clause-there c =
-    (laid c.args.nodes.now.entries c.lay_down.new.nodes.entries c.args.id c.requires.nodes
-    c.requires.lives c.lay_down.ensures).there
+pub loop-next-preserved : goal.loop-next-preserved
+loop-next-preserved c = record { go = (turn c).0 }
 
 pub returns-clause-tree : goal.returns-clause-tree
-returns-clause-tree c = buried c.args.nodes.now.entries c.lay_down.new.nodes.entries
-    c.prune.new.nodes.entries c.args.id (lies c) c.prune.ensures.nodes c.prune.ensures.fewer
+returns-clause-tree c =
+    let start = laid_down c.args.id c.args.nodes.now.entries in
+    let go = subst (λ next. Go start c.loop-next.nodes.entries next) c.in_default.is
+    c.loop-next.invariant.go in
+    buried c.args.nodes.now.entries start c.loop-next.nodes.entries c.args.id
+    (lies c.args.nodes.now.entries c.args.id c.requires.nodes c.requires.lives)
+    (record { families = go.families; needed = go.needed }) go.fewer

@@ -1,0 +1,249 @@
+-- After a death: nodes go one after another, up the line, as far as they are there in vain.
+use Rattle.std.proofs.Common.{◌≡◌, ⊎_elim, ◌∙◌, refl, sym, ap, subst, ℕ, ◌-◌, ◌<◌, ◌≤◌, ◌||◌, suc, Bool, true, false, cond, ltb, ltb-true, ltb-false, List, [], ◌∷◌, Option, Some, None, nat_cmp, Ordering, Less, Equal, Greater, arith}
+use Rattle.std.specs.Prelude.{Contains, IfSome, IsSome}
+use Rattle.std.specs.BTreeMap.{insert_entry, is_at}
+use Rattle.std.specs.Cmp.{nat_cmp_total}
+use Rattle.std.specs.Map.{keys_of, remove_entry, set_value}
+use Rattle.std.specs.Option.{option_map_or, unwrap_or}
+use Rattle.std.specs.Ordering.{is_eq, match_ordering}
+use Rattle.std.proofs.lemmas.Bool.{cases_Bool, cond-true, cond-false, or_parts}
+use Rattle.std.proofs.lemmas.Map.{lookup-none}
+use Rattle.std.proofs.lemmas.Map.Entries.{none_below_head}
+use Rattle.std.proofs.lemmas.Map.Keys.{sorted_tail}
+use Rattle.lineage_log.specs.Nodes.{NodeValue, AreFamilies, AreFewer, AreNeededBut, AreNodes, IsSettled, is_needed, living_ids_of, node_at}
+use Rattle.lineage_log.proofs.NodeLemmas.{Rises, by_key, other_node, some_of}
+use Rattle.lineage_log.proofs.LivingLemmas.{lives_there}
+use Rattle.lineage_log.proofs.TreeLemmas.{IsGone, fewer_again, fewer_gone, fewer_same, founder_goes, gone_is, is_there, lets_go, one_node, parent_counts, parent_stays, set_is}
+use Rattle.lineage_log.proofs.KeptLemmas.{IsLaid, laid}
+
+-- what is put under an id that is there is set
+insert_is_set : (nodes : List (ℕ × NodeValue)) (id : ℕ) (node : NodeValue) → Rises nodes
+    → IsSome (node_at nodes id)
+    → insert_entry nat_cmp nodes id node ≡ set_value (is_at (nat_cmp id)) nodes node
+insert_is_set [] id node rising is = absurd cc
+insert_is_set (e ∷ es) id node rising is =
+    by (λ rest. insert_is_set es id node (sorted_tail nat_cmp e.0 (keys_of es) rising) rest)
+    (nat_cmp id e.0) refl
+  where
+    -- however the id compares to the first one
+    by : (IsSome (node_at es id) → insert_entry nat_cmp es id node
+        ≡ set_value (is_at (nat_cmp id)) es node) → (r : Ordering) → nat_cmp id e.0 ≡ r
+        → match_ordering r ((id, node) ∷ e ∷ es) ((e.0, node) ∷ es)
+        (e ∷ insert_entry nat_cmp es id node)
+        ≡ cond (is_eq r) ((e.0, node) ∷ es) (e ∷ set_value (is_at (nat_cmp id)) es node)
+    by behind Less below = absurd (let none = lookup-none (is_at (nat_cmp id)) (e ∷ es)
+        (none_below_head nat_cmp_total id e es rising below) in cc)
+    by behind Equal same = refl
+    by behind Greater above = ap (λ (rest : List (ℕ × NodeValue)). e ∷ rest)
+        (behind (subst IsSome (other_node e es id (ap is_eq above)) is))
+
+-- where a node goes it doesn't matter what it was
+remove_once_set : (nodes : List (ℕ × NodeValue)) (id : ℕ) (node : NodeValue)
+    → remove_entry (is_at (nat_cmp id)) (set_value (is_at (nat_cmp id)) nodes node)
+    ≡ remove_entry (is_at (nat_cmp id)) nodes
+remove_once_set [] id node = refl
+remove_once_set (e ∷ es) id node =
+    by (remove_once_set es id node) (is_at (nat_cmp id) e.0) refl where
+      -- whether it is the first or not
+      by : remove_entry (is_at (nat_cmp id)) (set_value (is_at (nat_cmp id)) es node)
+          ≡ remove_entry (is_at (nat_cmp id)) es → (b : Bool) → is_at (nat_cmp id) e.0 ≡ b
+          → remove_entry (is_at (nat_cmp id))
+          (cond b ((e.0, node) ∷ es) (e ∷ set_value (is_at (nat_cmp id)) es node))
+          ≡ cond b es (e ∷ remove_entry (is_at (nat_cmp id)) es)
+      by behind true here =
+          cond-true (is_at (nat_cmp id) e.0) es
+          ((e.0, node) ∷ remove_entry (is_at (nat_cmp id)) es) here
+      by behind false apart =
+          cond-false (is_at (nat_cmp id) e.0) (set_value (is_at (nat_cmp id)) es node)
+          (e ∷ remove_entry (is_at (nat_cmp id)) (set_value (is_at (nat_cmp id)) es node)) apart
+          ∙ ap (λ (rest : List (ℕ × NodeValue)). e ∷ rest) behind
+
+-- ---- one node more goes, or none
+
+-- a parent with one child fewer
+abbrev fewer_children : NodeValue → NodeValue
+fewer_children parent = record parent { children = parent.children - 1 }
+
+-- the nodes once the next one has one child fewer
+abbrev lowered : Option ℕ → List (ℕ × NodeValue) → List (ℕ × NodeValue)
+lowered None nodes = nodes
+lowered (Some id) nodes =
+    option_map_or (λ parent. set_value (is_at (nat_cmp id)) nodes (fewer_children parent))
+    (node_at nodes id) nodes
+
+-- so it is where the next one is known
+lowered_is : (nodes : List (ℕ × NodeValue)) (id : ℕ) (parent : NodeValue)
+    → node_at nodes id ≡ Some parent
+    → lowered (Some id) nodes ≡ set_value (is_at (nat_cmp id)) nodes (fewer_children parent)
+lowered_is nodes id parent is =
+    ap (λ (found : Option NodeValue). option_map_or
+    (λ p. set_value (is_at (nat_cmp id)) nodes (fewer_children p)) found nodes) is
+
+-- some nodes went, and all is as it should be once the next one has one child fewer
+pub record Go (start nodes : List (ℕ × NodeValue)) (next : Option ℕ) : Type 0 where
+  pub rising : Rises nodes
+  pub there : IfSome next (λ id. IsSome (node_at nodes id))
+  pub counts : IfSome next (λ id. (parent : NodeValue) → node_at nodes id ≡ Some parent
+      → 0 < parent.children)
+  pub families : AreFamilies (lowered next nodes)
+  pub needed : AreNeededBut next (lowered next nodes)
+  pub fewer : AreFewer start (lowered next nodes)
+
+module _ (start before mid after : List (ℕ × NodeValue)) (id : ℕ) (old new : NodeValue)
+    (next : Option ℕ) (rising : Rises before) (is : node_at before id ≡ Some old)
+    (same : new.parent ≡ old.parent) (set : mid ≡ set_value (is_at (nat_cmp id)) before new)
+    (families : AreFamilies mid) (needed : AreNeededBut (Some id) mid)
+    (fewer : AreFewer start mid) (settled : IsSettled before after id new next) where
+  -- what stands there once it was changed
+  new_at : node_at mid id ≡ Some new
+  new_at = ⊎_elim
+      (λ here. (set_is before mid id old new rising is same set).at id
+      ∙ cond-true (is_at (nat_cmp id) id) (Some new) (node_at before id) here.1)
+      (λ apart. absurd (apart.0 refl))
+      (by_key id id)
+
+  -- it is needed and stays
+  stays : is_needed new ≡ true → Go start after next
+  stays wanted =
+      let e : mid ≡ after = set
+      ∙ sym (insert_is_set before id new rising (is_there (node_at before id) old is))
+      ∙ sym (cond-true (is_needed new) (insert_entry nat_cmp before id new)
+      (remove_entry (is_at (nat_cmp id)) before) wanted) ∙ sym settled.entries in
+      let none : None ≡ next =
+      sym (cond-true (is_needed new) None new.parent wanted) ∙ sym settled.above in
+      let all : Go start mid None = record {
+        rising = families.rising;
+        there = tt;
+        counts = tt;
+        families = families;
+        needed = λ other node has dies hole. ⊎_elim
+            (λ here.
+            let one : node ≡ new = one_node (node_at mid id) node new
+            (subst (λ n. node_at mid n ≡ Some node) (sym here.0) has) new_at in
+            ltb-true 0 node.children (sym (ap (λ b. b || ltb 0 node.children) dies)
+            ∙ ap is_needed one ∙ wanted))
+            (λ apart. needed other node has dies
+            (λ it. apart.0 (ap (λ (o : Option ℕ). unwrap_or o 0) it)))
+            (by_key id other);
+        fewer = fewer;
+      } in
+      subst (λ o. Go start after o) none (subst (λ nodes. Go start nodes None) e all)
+
+  -- it is there in vain and goes
+  goes : is_needed new ≡ false → Go start after next
+  goes vain = subst (λ o. Go start after o) (sym above) (by new.parent refl) where
+    above : next ≡ new.parent
+    above = settled.above ∙ cond-false (is_needed new) None new.parent vain
+
+    removed : after ≡ remove_entry (is_at (nat_cmp id)) mid
+    removed = settled.entries ∙ cond-false (is_needed new) (insert_entry nat_cmp before id new)
+        (remove_entry (is_at (nat_cmp id)) before) vain
+        ∙ sym (ap (remove_entry (is_at (nat_cmp id))) set ∙ remove_once_set before id new)
+
+    dead : new.lives ≡ false
+    dead = (or_parts new.lives (ltb 0 new.children) vain).0
+
+    childless : new.children ≤ 0
+    childless = ltb-false 0 new.children (or_parts new.lives (ltb 0 new.children) vain).1
+
+    gone : IsGone mid after id new
+    gone = gone_is mid after id new families.rising settled.rising new_at removed
+
+    by : (parent : Option ℕ) → new.parent ≡ parent → Go start after parent
+    by None founder =
+        let both = founder_goes mid after id new families needed new_at childless gone founder in
+        record {
+          rising = settled.rising;
+          there = tt;
+          counts = tt;
+          families = both.0;
+          needed = both.1;
+          fewer = fewer_again start mid after fewer
+              (fewer_gone mid after id new families.rising new_at dead removed);
+        }
+    by (Some higher) child =
+        let left = lets_go mid after (lowered (Some higher) after) id higher new families needed
+        new_at dead childless gone removed child (lowered_is after higher) in
+        record {
+          rising = settled.rising;
+          there = parent_stays mid after id new families needed new_at childless gone id higher new
+              new_at child;
+          counts = λ parent. parent_counts mid after id new families needed new_at childless gone
+              higher parent child;
+          families = left.families;
+          needed = left.needed;
+          fewer = fewer_again start mid (lowered (Some higher) after) fewer left.fewer;
+        }
+
+  -- either way
+  go_on : Go start after next
+  go_on = ⊎_elim stays goes (cases_Bool (is_needed new))
+
+  -- who is next has a lower id
+  go_up : option_map_or suc next 0 < suc id
+  go_up = by next refl where
+    -- whoever is next
+    by : (o : Option ℕ) → next ≡ o → option_map_or suc o 0 < suc id
+    by None e = omega arith
+    by (Some above) e =
+        let child : new.parent ≡ Some above = ⊎_elim
+        (λ (wanted : is_needed new ≡ true). absurd (let none : None ≡ Some above =
+        sym (settled.above ∙ cond-true (is_needed new) None new.parent wanted) ∙ e in cc))
+        (λ (vain : is_needed new ≡ false).
+        sym (settled.above ∙ cond-false (is_needed new) None new.parent vain) ∙ e)
+        (cases_Bool (is_needed new)) in
+        omega (arith, (families.each id new new_at).older above child)
+
+-- ---- from the first to the last
+
+-- the nodes once the organism of an id no longer lives
+abbrev pub laid_down : ℕ → List (ℕ × NodeValue) → List (ℕ × NodeValue)
+laid_down id nodes =
+    option_map_or (λ node. set_value (is_at (nat_cmp id)) nodes (record node { lives = false }))
+    (node_at nodes id) nodes
+
+-- so it is where the node is known
+laid_down_is : (nodes : List (ℕ × NodeValue)) (id : ℕ) (node : NodeValue)
+    → node_at nodes id ≡ Some node → laid_down id nodes
+    ≡ set_value (is_at (nat_cmp id)) nodes (record node { lives = false })
+laid_down_is nodes id node is =
+    ap (λ (found : Option NodeValue). option_map_or
+    (λ n. set_value (is_at (nat_cmp id)) nodes (record n { lives = false })) found nodes) is
+
+-- one that lived no longer does
+pub lies : (nodes : List (ℕ × NodeValue)) (id : ℕ) → AreNodes nodes
+    → Contains (living_ids_of nodes) id → IsLaid nodes (laid_down id nodes) id
+lies nodes id are lives = laid nodes (laid_down id nodes) id are lives (laid_down_is nodes id)
+
+-- its node goes if it is there in vain then
+pub go_first : (before after : List (ℕ × NodeValue)) (id : ℕ) (next : Option ℕ) → AreNodes before
+    → Contains (living_ids_of before) id
+    → ((node : NodeValue) → node_at before id ≡ Some node
+    → IsSettled before after id (record node { lives = false }) next)
+    → Go (laid_down id before) after next
+go_first before after id next are lives settled =
+    let found = lives_there before id are.families.rising lives in
+    let old = found.0 in
+    let lie = lies before id are lives in
+    go_on (laid_down id before) before (laid_down id before) after id old
+    (record old { lives = false }) next are.families.rising found.1 refl
+    (laid_down_is before id old found.1) lie.families lie.needed
+    (fewer_same (laid_down id before)) (settled old found.1)
+
+-- its parent has one child fewer, and goes if it is there in vain then; and so up the line
+pub go_again : (start before after : List (ℕ × NodeValue)) (id : ℕ) (next : Option ℕ)
+    → Go start before (Some id)
+    → ((node : NodeValue) → node_at before id ≡ Some node
+    → IsSettled before after id (record node { children = node.children - 1 }) next)
+    → Go start after next × (option_map_or suc next 0 < suc id)
+go_again start before after id next go settled =
+    let found = some_of (node_at before id) go.there in
+    let old = found.0 in
+    let is = found.1 in
+    let mid = lowered (Some id) before in
+    let set = lowered_is before id old is in (
+      go_on start before mid after id old (fewer_children old) next go.rising is refl set
+          go.families go.needed go.fewer (settled old is),
+      go_up start before mid after id old (fewer_children old) next go.rising is refl set
+          go.families go.needed go.fewer (settled old is),
+    )
