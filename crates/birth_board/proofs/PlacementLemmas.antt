@@ -1,12 +1,10 @@
 -- One turn of the placing.
 use Rattle.std.proofs.Common.{◌≡◌, ◌∙◌, sym, ap, refl, ℕ, ◌+◌, ◌*◌, ◌<◌, ◌≤◌, true, false, ◌==◌, cond, List, [], ◌∷◌, ◌++◌, length, take, get_or, Option, Some, fold, arith, append_assoc, append-nil, count_by, inl, inr}
 use Rattle.std.proofs.Math.ListN.{set}
-use Rattle.std.proofs.Math.Nat.{mul-le-mul}
 use Rattle.std.proofs.lemmas.Bool.Decides.{eqb_tells, Decides-eqb}
 use Rattle.std.proofs.lemmas.List.Sums.{fold_more}
-use Rattle.birth_board.specs.declared.torus.Torus.{Torus}
 use Rattle.birth_board.specs.declared.placing_round.PlacingRound.{PlacingRound}
-use Rattle.birth_board.specs.Torus.{TorusNumbers, torus_numbers, cells_of}
+use Rattle.birth_board.specs.Torus.{TorusNumbers}
 use Rattle.birth_board.specs.Placement.{Board, next_board, next_placing, place_stream, placing_of}
 use Rattle.birth_board.specs.declared.placing.Placing.{Placing}
 use Rattle.random_streams.specs.RandomStream.{Stream, word_of}

@@ -1,5 +1,5 @@
 -- What one organism more or less does to the genotypes.
-use Rattle.std.proofs.Common.{◌≡◌, ◌∙◌, sym, refl, ap, subst, ℕ, ◌+◌, ◌<◌, ◌≤◌, Bool, true, false, cond, List, [], Option, Some, None, lt-ltb, le-ltb, arith}
+use Rattle.std.proofs.Common.{◌≡◌, ◌∙◌, sym, refl, ap, subst, ℕ, ◌+◌, ◌<◌, ◌≤◌, Bool, true, false, cond, List, [], Option, Some, None, arith}
 use Rattle.std.specs.Prelude.{IsSome}
 use Rattle.std.specs.BTreeMap.{insert_entry, is_at}
 use Rattle.std.specs.Cmp.{nat_cmp_total}
@@ -11,7 +11,7 @@ use Rattle.std.proofs.lemmas.Map.Entries.{sum_by-insert_entry, sum_by-remove_ent
 use Rattle.std.proofs.lemmas.Map.Lookups.{exact_unsigned}
 use Rattle.std.proofs.lemmas.Map.Views.{tells_apart}
 use Rattle.census.specs.Counts.{GenotypeCount, AreGenotypes, genotype_at, living_of}
-use Rattle.census.specs.Changes.{count_under, genome_under, lowered, without_one}
+use Rattle.census.specs.Changes.{count_under, genome_under, lowered}
 
 -- a key that ties with another is that key
 tied : (key other : ℕ) → is_at (nat_cmp key) other ≡ true → other ≡ key

@@ -1,5 +1,5 @@
 -- The counts of the tasks, changed one after another.
-use Rattle.std.proofs.Common.{◌≡◌, ◌∙◌, sym, refl, ap, ℕ, zero, suc, ◌+◌, ◌-◌, ◌<◌, ◌≤◌, ◌≢◌, inl, inr, Bool, true, false, List, length, map, set, get_or, get_or-set_same, get_or-set_other, below_more, arith}
+use Rattle.std.proofs.Common.{◌≡◌, ◌∙◌, sym, refl, ap, ℕ, zero, suc, ◌+◌, ◌-◌, ◌<◌, ◌≤◌, ◌≢◌, inl, inr, Bool, List, length, map, set, get_or, get_or-set_same, get_or-set_other, below_more, arith}
 use Rattle.std.specs.Prelude.{slice_index}
 use Rattle.std.specs.Int.{from_bool}
 use Rattle.std.specs.List.{All}
@@ -11,7 +11,7 @@ use Rattle.logic_tasks.specs.declared.task.Task.{Task}
 use Rattle.logic_tasks.specs.declared.task.Task.TheVariants.{Not}
 use Rattle.logic_tasks.specs.LogicTasks.{all_tasks, task_place}
 use Rattle.logic_tasks.specs.TaskSet.{has_task}
-use Rattle.census.specs.Changes.{AreCounted, tasks_without}
+use Rattle.census.specs.Changes.{tasks_without}
 
 -- the place of a task of the table
 place_of-nth : (k : ℕ) → k < 9 → task_place (get_or all_tasks k Not) ≡ k

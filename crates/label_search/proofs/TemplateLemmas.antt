@@ -3,14 +3,12 @@ use Rattle.std.proofs.Common.{◌-◌, suc, true, false, arith, ◌≡◌, ◌�
 use Rattle.std.specs.Cmp.Lexicographic.{pointwise}
 use Rattle.std.specs.List.{take_while, prefix_len, range_with_len}
 use Rattle.std.specs.Prelude.{unwrap_or}
-use Rattle.std.proofs.lemmas.List.{length-map}
-use Rattle.std.proofs.lemmas.List.Elements.{All-map}
 use Rattle.std.proofs.Math.Nat.{mod-add-mod}
 use Rattle.std.proofs.lemmas.Grind.{common_steps}
 use Rattle.instruction_set.specs.declared.letter.Letter.{Letter}
 use Rattle.instruction_set.specs.declared.letter.Letter.TheVariants.{NopA, NopB, NopC}
 use Rattle.instruction_set.specs.Letter.{complement_of}
-use Rattle.label_search.specs.Template.{IsTemplate, is_nop, nops_read, complements_of, letter_after}
+use Rattle.label_search.specs.Template.{is_nop, nops_read, letter_after}
 
 -- two tests that agree compare lists alike
 pub pointwise_alike : {A : Type 0} (E F : A → A → Bool) → ((a b : A) → E a b ≡ F a b)

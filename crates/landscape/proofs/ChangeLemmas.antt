@@ -6,7 +6,7 @@ use Rattle.std.proofs.lemmas.Bool.Decides.{nat_tests}
 use Rattle.instruction_set.specs.declared.letter.Letter.{Letter}
 use Rattle.instruction_set.specs.Letter.{index_of, letter_at}
 use Rattle.landscape.specs.declared.changes.Change.{Change}
-use Rattle.landscape.specs.Landscape.{changes_at, changes_of, others_from}
+use Rattle.landscape.specs.Landscape.{changes_at, others_from}
 use Rattle.landscape.proofs.RangeLemmas.{range_next}
 
 -- the changes of a place to the letters of the indexes that are left

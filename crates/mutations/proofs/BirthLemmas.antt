@@ -1,5 +1,5 @@
 -- The record of a birth and the child that it makes.
-use Rattle.std.proofs.Common.{◌≡◌, refl, sym, ◌∙◌, ap, subst, ℕ, Bool, true, false, cond, List, [], ◌∷◌, ◌++◌, length, Ok, unwrap_or, Some, None, Option, IsNone, ◌↔◌}
+use Rattle.std.proofs.Common.{◌≡◌, refl, sym, ◌∙◌, ap, subst, ℕ, Bool, true, false, cond, List, [], ◌++◌, length, Ok, unwrap_or, Some, None, Option, IsNone, ◌↔◌}
 use Rattle.std.specs.Bool.{Decides}
 use Rattle.std.proofs.lemmas.Slice.Eq.{slice_eq-Decides}
 use Rattle.instruction_set.specs.declared.letter.Letter.{Letter}
