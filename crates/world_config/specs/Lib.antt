@@ -1,5 +1,5 @@
 -- The files in the order of reading. The last four are the code's own: no clause of a public
--- function cites them.
+-- function cites them. The end is `config_of` in Config: what a document's bytes are read as.
 pub use Rattle.toml.specs.Data
 pub use Rattle.genome.specs.Genome
 pub use Rattle.genome.specs.GenomeText
