@@ -35,7 +35,8 @@ pub record Frame : Type 0 where
 abbrev pub default_ancestor : List ℕ
 default_ancestor = codes "wzcag" ++ replicate 86 99 ++ codes "zvfcaxgab"
 
--- the row of each key; the frame has the numbers by which other keys bound it
+-- the row of each key; the frame has the numbers by which other keys bound it, and the greatest
+-- seed is the greatest integer of TOML, 2 ^ 63 - 1
 abbrev pub key_row : Frame → Key → KeyRow
 key_row frame code.Width = row (codes "width") (integer (pos 60)) (number 1 256)
 key_row frame code.Height = row (codes "height") (integer (pos 60)) (number 1 256)
