@@ -25,8 +25,8 @@ pub record FilledForm : Type 1 where
   pub form : LineForm
   pub fields : form.Fields
 
--- the first line: the version, which is 1 or 2, the world's width and height, and the founder's cell
--- and letters
+-- the first line: the version, which is 1 or 2, the width and the height of the world, and the
+-- founder's cell and letters
 abbrev pub start_form : LineForm
 start_form =
     record {

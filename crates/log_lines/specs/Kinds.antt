@@ -30,7 +30,7 @@ side = number 1 greatest_side
 abbrev pub rate_name : Field RateName
 rate_name = record { text = name_of_rate; read = λ word. rate_named word; Fits = λ name. Unit {0} }
 
--- `p4k` puts k at place 4, `i4k` inserts it before place 4, and `d9` deletes the letter at place 9
+-- `p4k` puts k at place 4, `i4k` inserts k before that place, and `d9` deletes what is at place 9
 abbrev pub change_text : Change → List ℕ
 change_text (Point at letter) = code "p" ∷ (decimal at ++ byte_of letter ∷ [])
 change_text (Insert at letter) = code "i" ∷ (decimal at ++ byte_of letter ∷ [])
