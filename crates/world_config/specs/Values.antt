@@ -36,7 +36,7 @@ pub record ConfigValues : Type 0 where
   pub ancestor : List Letter
   pub event : List EventValue
 
--- what a table says at each key, or the default; its events are read in EventForms
+-- what a table says at each key, or the default, with these events, which EventForms reads from it
 abbrev pub values_in_table : Members → List EventValue → ConfigValues
 values_in_table ms happening = record {
   width = number_at (frame_in ms) code.Width ms;
