@@ -1,4 +1,6 @@
--- The lives of cells that lie side by side (docs/WORLD.md, "The life of one update").
+-- The lives of cells that lie side by side (docs/WORLD.md, "The life of one update"). For example,
+-- a part whose first cell is 40 and that has three cells lives as the cells 40, 41 and 42 of the
+-- world, each with its own stream, so it is the same however the world is cut.
 use Rattle.std.specs.Prelude.{ℕ, ◌+◌, ◌<◌, ◌^◌, Bool, false, List, [], length, map, filter, Option, None, Some, slice_index_or, if◌then◌else◌}
 use Rattle.std.specs.List.{range_with_len, flat_map, enumerate_from}
 use Rattle.random_streams.specs.declared.purpose.Purpose.TheVariants.{Run}
@@ -32,7 +34,7 @@ pub record ShardLife : Type 0 where
   pub died : Bool
   pub newborns : List NewbornValue
 
--- of an empty cell
+-- the life of an empty cell: nothing
 abbrev pub no_shard_life : ShardLife
 no_shard_life = record { organism = None; died = false; newborns = [] }
 

@@ -1,4 +1,7 @@
--- What the jobs of an update come to (docs/ARCHITECTURE.md, "Shards").
+-- What the jobs of an update come to (docs/ARCHITECTURE.md, "Shards"). A job has the cells of a
+-- shard, and a seat at the bank that numbers genomes. For example, if the organism of cell 41 bore
+-- a child and died of age, then cell 41 is left empty, it is among the dead, and the child is
+-- delivered with 41 as its parent's cell.
 use Rattle.std.specs.Prelude.{◌≡◌, ℕ, ◌+◌, ◌<◌, ◌≤◌, ◌^◌, ◌++◌, All, IfOk, List, Result, Some, length, map, slice_get, slice_index_or}
 use mathlib.Core.List.{IsPrefix}
 use Rattle.avida_port.specs.declared.memory.Memory.{Memory}

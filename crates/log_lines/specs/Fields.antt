@@ -1,4 +1,6 @@
--- A field of a line: a value's text, and the reading of that text (docs/FORMATS.md, "The log").
+-- A field of a line: a value's text, and the reading of that text (docs/FORMATS.md, "The log"). A
+-- text is a list of bytes. For example, the field of an organism's id writes 12 as `12`, reads `12`
+-- as 12, and reads nothing from `012`, from `x` or from an empty text.
 use Prim.Native.Char.{code}
 use Rattle.std.specs.Prelude.{◌≡◌, ℕ, ◌≤◌, List, [], ◌∷◌, map, length, Option, Some, None, Bool, true, ◌==◌, if◌then◌else◌, option_and_then, option_map, decimal}
 use Rattle.std.specs.Str.{bytes_eq}
@@ -8,17 +10,17 @@ use Rattle.instruction_set.specs.Letter.{byte_of, letter_of_byte}
 use Rattle.mutations.specs.Change.{is_genome_length}
 use Rattle.numerals.specs.Numeral.{number_of}
 
--- the text of a value, what is read from a text, and which values have a text
+-- the text of a value, the value that is read from a text, and which values the field allows
 pub record Field (A : Type 0) : Type 1 where
   pub text : A → List ℕ
   pub read : List ℕ → Option A
   pub Fits : A → Type 0
 
--- the value where the test holds
+-- the value where the test holds, else none
 abbrev pub given : {A : Type 0} → Bool → A → Option A
 given test value = if test then Some value else None
 
--- a number from least to greatest, in decimal digits
+-- a number from least to greatest, in decimal digits without a leading zero
 abbrev pub number : ℕ → ℕ → Field ℕ
 number least greatest =
     record {
@@ -27,18 +29,18 @@ number least greatest =
       Fits = λ n. (least ≤ n) × (n ≤ greatest);
     }
 
--- each value read, or none
+-- what is read from each item, in order; none where one of them is not readable
 abbrev pub each : {X A : Type 0} → (X → Option A) → List X → Option (List A)
 each read [] = Some []
 each read (x ∷ xs) =
     option_and_then (λ a. option_map (λ others. a ∷ others) (each read xs)) (read x)
 
--- the genome that a word spells, a byte a letter
+-- the genome, of 8 to 8,192 letters, that a word spells with a byte for each letter
 unfoldable pub genome_of_word : List ℕ → Option (List Letter)
 genome_of_word word =
     option_and_then (λ ls. given (is_genome_length (length ls)) ls) (each letter_of_byte word)
 
--- the letters of a genome
+-- a genome of 8 to 8,192 letters, a byte for each
 abbrev pub genome_field : Field (List Letter)
 genome_field =
     record {
@@ -52,12 +54,12 @@ abbrev pub text_or : {A : Type 0} → ℕ → Field A → Option A → List ℕ
 text_or sign f None = sign ∷ []
 text_or sign f (Some a) = f.text a
 
--- none, or a value that has a text
+-- none, or a value that the field allows
 abbrev pub FitsOr : {A : Type 0} → Field A → Option A → Type 0
 FitsOr f None = Unit {0}
 FitsOr f (Some a) = f.Fits a
 
--- a sign for none, or a field
+-- a value that may be missing: a sign for none, such as `-`, or the text of the value
 abbrev pub or_sign : {A : Type 0} → ℕ → Field A → Field (Option A)
 or_sign sign f =
     record {
@@ -66,12 +68,12 @@ or_sign sign f =
       Fits = FitsOr f;
     }
 
--- a dash for an empty list, or texts parted by commas
+-- a dash for an empty list, or the texts of its items, parted by commas
 abbrev pub list_text : {A : Type 0} → Field A → List A → List ℕ
 list_text f [] = code "-" ∷ []
 list_text f (a ∷ items) = join_with_byte (code ",") (map f.text (a ∷ items))
 
--- a dash for an empty list, or items parted by commas
+-- a list of items: a dash if it is empty, else items parted by commas, as in `p4k,d9`
 abbrev pub list_of : {A : Type 0} → Field A → Field (List A)
 list_of f =
     record {
@@ -81,7 +83,7 @@ list_of f =
       Fits = AllByRecursion f.Fits;
     }
 
--- the values of a field that pass a test
+-- the same field, but only for the values that pass a test
 abbrev pub where_true : {A : Type 0} → (A → Bool) → Field A → Field A
 where_true test f =
     record {

@@ -1,4 +1,6 @@
--- The forms of a log's lines, a record each, and their table (docs/FORMATS.md, "The log").
+-- The eight forms of a log's lines, and their table (docs/FORMATS.md, "The log"). For example, the
+-- line `R 12 copy_error 500` has the mark `R` and the three fields (12, (Copy, 500)), and it sets
+-- the rate of copy errors to 500 in a million.
 use Prim.Native.Char.{code}
 use Rattle.std.specs.Prelude.{ℕ, List, [], ◌∷◌, Option}
 use Rattle.instruction_set.specs.declared.letter.Letter.{Letter}
@@ -10,19 +12,21 @@ use Rattle.log_lines.specs.Fields.{number, genome_field}
 use Rattle.log_lines.specs.Rows.{Row, last, times, ◌◂◌}
 use Rattle.log_lines.specs.Kinds.{small, large, side, rate_name, death_row, arrival_then, record_row}
 
--- a form of lines: the mark in front, the words of the fields, and the line that the fields tell
+-- a form of lines: the type of its fields, the byte in front, the row that writes and reads the
+-- fields, and the line that they tell
 pub record LineForm : Type 1 where
   pub Fields : Type 0
   pub mark : ℕ
   pub row : Row Fields
   pub line : Fields → Line
 
--- a form whose fields are filled in
+-- a form with a value of its fields
 pub record FilledForm : Type 1 where
   pub form : LineForm
   pub fields : form.Fields
 
--- the first line: the version, the width, the height, the founder's cell and its letters
+-- the first line: the version, which is 1 or 2, the width and the height of the world, and the
+-- founder's cell and letters
 abbrev pub start_form : LineForm
 start_form =
     record {
@@ -42,7 +46,7 @@ death_form =
       line = λ (id, (update, cell)). Death id update cell;
     }
 
--- a birth: the id, the parent, the update, the cell, who stood there, the base and the changes
+-- a birth: the id, the parent's id, the update, the cell, who stood there, the base and the changes
 abbrev pub birth_form : LineForm
 birth_form =
     record {
@@ -73,7 +77,7 @@ cleared_form =
       line = λ (id, (update, cell)). Cleared id update cell;
     }
 
--- a rate: the update, the name and the parts per million
+-- a rate that an event sets: the update, the name and the parts per million
 abbrev pub rate_form : LineForm
 rate_form =
     record {
@@ -83,7 +87,8 @@ rate_form =
       line = λ (update, (name, ppm)). Rate update name ppm;
     }
 
--- the end of an update: it, living, births, deaths, genotypes, merit and the nine task counts
+-- the end of an update: its number, how many live, the births and deaths in it, the number of
+-- different genomes, the sum of merits, and for each of the nine tasks how many have done it
 abbrev pub count_form : LineForm
 count_form =
     record {
@@ -106,7 +111,7 @@ count_form =
 abbrev pub end_form : LineForm
 end_form = record { Fields = ℕ; mark = code "E"; row = last small; line = End }
 
--- the table of the forms
+-- the table of the forms, each of which has another mark
 abbrev pub forms : List LineForm
 forms =
     start_form
@@ -119,7 +124,7 @@ forms =
     ∷ end_form
     ∷ []
 
--- the form of a line, filled in
+-- the form that a line has, with the values of its fields
 abbrev pub filled_form : Line → FilledForm
 filled_form (Start version width height cell genome) =
     record { form = start_form; fields = (version, (width, (height, (cell, genome)))) }

@@ -1,4 +1,6 @@
--- The fields of a log's lines, and the words that several lines have (docs/FORMATS.md, "The log").
+-- The fields of a log's lines, and the rows that several lines have (docs/FORMATS.md, "The log").
+-- For example, a birth's line ends with the words of its record, `= p4k,d9`: the base is the
+-- parent's genome, the letter `k` is put at its place 4, and then the letter at place 9 is deleted.
 use Prim.Native.Char.{code}
 use Rattle.std.specs.Prelude.{ℕ, ◌-◌, List, [], ◌∷◌, ◌++◌, length, take, Option, None, ◌==◌, if◌then◌else◌, option_and_then, option_map, decimal, slice_index}
 use Rattle.instruction_set.specs.declared.letter.Letter.{Letter}
@@ -12,29 +14,29 @@ use Rattle.mutations.specs.RecordForm.{FitsChange, in_order}
 use Rattle.log_lines.specs.Fields.{Field, number, genome_field, or_sign, list_of, where_true}
 use Rattle.log_lines.specs.Rows.{Row, last, ◌◂◌}
 
--- a number below 2 ^ 32
+-- an update, a cell or a place: a number below 2 ^ 32
 abbrev pub small : Field ℕ
 small = number 0 4294967295
 
--- a number below 2 ^ 64
+-- an id, a count or a merit: a number below 2 ^ 64
 abbrev pub large : Field ℕ
 large = number 0 18446744073709551615
 
--- a side of a world
+-- the width or the height of a world, from 1 to 256
 abbrev pub side : Field ℕ
 side = number 1 greatest_side
 
--- a rate by its name
+-- one of the six rates of errors, by its name, such as `copy_error`
 abbrev pub rate_name : Field RateName
 rate_name = record { text = name_of_rate; read = λ word. rate_named word; Fits = λ name. Unit {0} }
 
--- one change: `p`, `i` or `d`, its place, and a letter but for `d`
+-- `p4k` puts k at place 4, `i4k` inserts k before that place, and `d9` deletes what is at place 9
 abbrev pub change_text : Change → List ℕ
 change_text (Point at letter) = code "p" ∷ (decimal at ++ byte_of letter ∷ [])
 change_text (Insert at letter) = code "i" ∷ (decimal at ++ byte_of letter ∷ [])
 change_text (Delete at) = code "d" ∷ decimal at
 
--- a place, and a letter at the end
+-- the change with the place and the letter that a text such as `4k` has
 abbrev pub read_lettered : (ℕ → Letter → Change) → List ℕ → Option Change
 read_lettered make rest =
     option_and_then
@@ -51,30 +53,30 @@ read_change (mark ∷ rest) =
     else if mark == code "d" then option_map Delete (small.read rest)
     else None
 
--- one change of a birth's record
+-- one change of a birth's record; its place must be below 2 ^ 32
 abbrev pub change_field : Field Change
 change_field = record { text = change_text; read = read_change; Fits = FitsChange }
 
--- who stood in a cell
+-- who stood in a cell: an id, or `-` for nobody
 abbrev pub over_field : Field (Option ℕ)
 over_field = or_sign (code "-") large
 
--- `=` for the parent's letters, or written ones
+-- the base of a birth: `=` for the parent's genome, or the letters of a written one
 abbrev pub base_field : Field (Option (List Letter))
 base_field = or_sign (code "=") genome_field
 
--- the changes of a birth, in their order
+-- the changes of a birth: points at rising places, then insertions, then deletions
 abbrev pub changes_field : Field (List Change)
 changes_field = where_true in_order (list_of change_field)
 
--- an id, the update and the cell
+-- the id, the update and the cell of an organism that died of age or was cleared
 abbrev pub death_row : Row (ℕ × (ℕ × ℕ))
 death_row = large ◂ small ◂ last small
 
--- the update, the cell, who stood there, and the words behind them
+-- where an organism came: the update, the cell, who stood there, and then the row behind these
 abbrev pub arrival_then : {A : Type 0} → Row A → Row (ℕ × (ℕ × (Option ℕ × A)))
 arrival_then behind = small ◂ small ◂ over_field ◂ behind
 
--- the base and the changes of a birth
+-- the record of a birth: its base and its changes
 abbrev pub record_row : Row (Option (List Letter) × List Change)
 record_row = base_field ◂ last changes_field

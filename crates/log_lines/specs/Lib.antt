@@ -1,3 +1,6 @@
+-- The files in the order of reading. Line says what a line of a log tells. Fields to LineText say
+-- how it is written, and LineReading how it is read. Words and Kept are for functions that read or
+-- write a part of a line.
 pub use Rattle.genome.specs.Genome
 pub use Rattle.mutations.specs.BirthRecord
 pub mod Line

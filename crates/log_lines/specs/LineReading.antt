@@ -1,4 +1,5 @@
--- The line that a text has (docs/FORMATS.md, "The log").
+-- The line that a text has, or none (docs/FORMATS.md, "The log"). For example, `D 7 12 45` is
+-- `Death 7 12 45`, while `D 7 12`, `D 7 12 045` and `D  7 12 45` with two spaces are no lines.
 use Prim.Native.Char.{code}
 use Rattle.std.specs.Prelude.{ℕ, List, [], ◌∷◌, Option, None, ◌==◌, if◌then◌else◌, option_map}
 use Rattle.std.specs.Str.{bytes_eq}
@@ -6,11 +7,11 @@ use Rattle.std.specs.List.{slice_split}
 use Rattle.log_lines.specs.Line.{Line}
 use Rattle.log_lines.specs.Forms.{LineForm, forms}
 
--- the line of a form that has these words behind its mark
+-- the line that a form reads from the words behind its mark
 abbrev pub read_as : LineForm → List (List ℕ) → Option Line
 read_as form words = option_map form.line (form.row.read words)
 
--- the line with this mark and these words, by the first form of a table that has the mark
+-- the line with this mark and these words, as the first form of the table with the mark reads it
 abbrev pub read_by : List LineForm → List ℕ → List (List ℕ) → Option Line
 read_by [] mark words = None
 read_by (form ∷ others) mark words =

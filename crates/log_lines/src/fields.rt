@@ -70,7 +70,7 @@ fn genome_from(alloc: Global, letters: &[Letter]) -> Result<Option<Genome>, Memo
     }
 }
 
-/// The base of a birth.
+/// The base of a birth: `=` for the parent's genome, or the letters of a written one.
 pub fn base(alloc: Global, word: &[u8]) -> Result<Option<Base>, Memory>
     ensures { IfOk result (λ found. option_map written_in found ≡ base_field.read word.now) }
 {
@@ -83,7 +83,7 @@ pub fn base(alloc: Global, word: &[u8]) -> Result<Option<Base>, Memory>
     }
 }
 
-/// A place and a letter.
+/// The place and the letter of a text such as `4k`.
 fn lettered(rest: &[u8]) -> Option<(u32, Letter)>
     ensures { (make : ToChange) → option_map (λ p. make p.0 p.1) result
         ≡ read_lettered make rest.now }
@@ -100,7 +100,7 @@ fn lettered(rest: &[u8]) -> Option<(u32, Letter)>
     }
 }
 
-/// One change.
+/// One change, such as `p4k` or `d9`.
 fn item(word: &[u8]) -> Option<Change>
     ensures { result ≡ read_change word.now }
 {
@@ -179,7 +179,7 @@ fn is_in_order(changes: &[Change]) -> bool
     true
 }
 
-/// The changes of a birth.
+/// The changes of a birth, in the order that a log asks for.
 pub fn changes(alloc: Global, word: &[u8]) -> Result<Option<Changes>, Memory>
     ensures { IfOk result (λ found. found ≡ changes_field.read word.now) }
 {

@@ -4,7 +4,7 @@ ghost use Rattle.log_lines.specs.Line.{Line};
 ghost use Rattle.log_lines.specs.LineText.{HasForm, row_text};
 ghost use Rattle.log_lines.specs.LineReading.{line_of};
 
-/// Each line has one spelling, which has no newline in it.
+/// Each line has one spelling. It has no newline in it: each of its bytes is above 10, the newline.
 pub fn one_spelling()
     ensures again { (line : Line) → HasForm line → line_of (row_text line) ≡ Some line }
     ensures takes { (bytes : List ℕ) (line : Line) → line_of bytes ≡ Some line

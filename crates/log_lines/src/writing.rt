@@ -18,7 +18,7 @@ use mutations::{Base, Change, Changes, Origin, RateName};
 /// Room for a byte and the digits of any number.
 const DIGITS: usize = 21;
 
-/// A byte.
+/// Appends a byte.
 fn byte(out: &mut Vec<u8>, value: u8) -> Result<(), Memory>
     ensures ok { OnOk result (out.new.items ≡ out.old.items ++ value ∷ []) }
     ensures err { OnErr result (out.new.items ≡ out.old.items) }
@@ -29,7 +29,7 @@ fn byte(out: &mut Vec<u8>, value: u8) -> Result<(), Memory>
     }
 }
 
-/// Bytes.
+/// Appends bytes.
 fn text(out: &mut Vec<u8>, bytes: &[u8]) -> Result<(), Memory>
     ensures ok { OnOk result (out.new.items ≡ out.old.items ++ bytes.now) }
     ensures err { OnErr result (out.new.items ≡ out.old.items) }
@@ -52,7 +52,7 @@ pub fn write_number(before: u8, value: u64, out: &mut Vec<u8>) -> Result<(), Mem
     text(out, &room[start..])
 }
 
-/// A space, and the letters of a genome.
+/// Appends a space, and the letters of a genome.
 fn letters(out: &mut Vec<u8>, genome: &Genome) -> Result<(), Memory>
     ensures ok { OnOk result (out.new.items ≡ out.old.items
         ++ spaced_word (genome_field.text (genome_spec.letters genome.now))) }
@@ -102,7 +102,7 @@ fn change(out: &mut Vec<u8>, before: u8, change: Change) -> Result<(), Memory>
     }
 }
 
-/// The items, behind a space and then behind commas.
+/// Appends the changes of a birth, the first behind a space and each other behind a comma.
 #[tactic(auto, using(crate::proofs::KeptLemmas::keeps_front))]
 fn changes(out: &mut Vec<u8>, changes: &Changes) -> Result<(), Memory>
     ensures ok { OnOk result (out.new.items ≡ out.old.items
@@ -134,7 +134,7 @@ pub fn write_numbers(numbers: &[u64], out: &mut Vec<u8>) -> Result<(), Memory>
     Ok(())
 }
 
-/// The update and the cell.
+/// Appends the update and the cell.
 fn placed(out: &mut Vec<u8>, update: u32, cell: u32) -> Result<(), Memory>
     ensures ok { OnOk result (out.new.items ≡ out.old.items
         ++ words_text (decimal update ∷ decimal cell ∷ [])) }
@@ -144,7 +144,7 @@ fn placed(out: &mut Vec<u8>, update: u32, cell: u32) -> Result<(), Memory>
     write_number(b' ', u64::from(cell), out)
 }
 
-/// The update, the cell and who stood there.
+/// Appends where an organism came: the update, the cell and who stood there.
 #[tactic(auto, using(crate::proofs::KeptLemmas::keeps_front))]
 fn arrival(out: &mut Vec<u8>, update: u32, cell: u32, who: Option<u64>) -> Result<(), Memory>
     ensures ok { OnOk result (out.new.items ≡ out.old.items
@@ -168,7 +168,7 @@ pub fn write_record(origin: &Origin, out: &mut Vec<u8>) -> Result<(), Memory>
     changes(out, &origin.changes)
 }
 
-/// How many live, were born and died.
+/// Appends how many live, were born and died.
 fn turnover(out: &mut Vec<u8>, living: u64, births: u64, deaths: u64) -> Result<(), Memory>
     ensures ok { OnOk result (out.new.items ≡ out.old.items
         ++ words_text (decimal living ∷ decimal births ∷ decimal deaths ∷ [])) }
@@ -200,7 +200,7 @@ fn start(
     letters(out, genome)
 }
 
-/// The mark, and a death's row.
+/// Appends the line of a death or of a clearing, without its newline.
 #[tactic(auto, using(crate::proofs::KeptLemmas::keeps_front))]
 fn death(out: &mut Vec<u8>, mark: u8, id: u64, update: u32, cell: u32) -> Result<(), Memory>
     ensures ok { OnOk result (out.new.items ≡ out.old.items
@@ -286,7 +286,7 @@ fn end(out: &mut Vec<u8>, updates: u32) -> Result<(), Memory>
     write_number(b' ', u64::from(updates), out)
 }
 
-/// The line without its newline.
+/// Appends the line without its newline.
 fn row(line: &LogLine, out: &mut Vec<u8>) -> Result<(), Memory>
     ensures ok { OnOk result (out.new.items ≡ out.old.items ++ row_text (line_values line.now)) }
     ensures err { OnErr result (Keeps out.old.items out.new.items) }

@@ -1,4 +1,6 @@
--- Reading a configuration (docs/FORMATS.md, "The configuration").
+-- Reading a configuration (docs/FORMATS.md, "The configuration"): from the bytes of a document to
+-- its values, or to its first refusal. For example, `width = 20` has the width 20 and each other
+-- default, and `width = 0` is refused.
 use Rattle.std.specs.Prelude.{ℕ, if◌then◌else◌, List, Option, Some, None, Result, Ok, Err}
 use Rattle.std.specs.Str.{is_utf8}
 use Rattle.toml.specs.Data.{Members}
@@ -13,7 +15,7 @@ use Rattle.world_config.specs.EventForms.{events_of}
 use Rattle.world_config.specs.Values.{ConfigValues}
 pub use Rattle.world_config.specs.Values.{values_in_table}
 
--- what the members say, where their events have forms
+-- what a table says with the events that were read, or the refusal of the nth member of its array
 abbrev pub values_with : Members → Result (List EventValue) ℕ → Result ConfigValues ConfigStop
 values_with ms (Ok happening) = Ok (values_in_table ms happening)
 values_with ms (Err nth) = Err (BadEvent nth)
@@ -24,13 +26,14 @@ abbrev pub unless_refused :
 unless_refused (Some stop) values = Err stop
 unless_refused None values = values
 
--- the configuration of a table: its keys are tried first, and its events last
+-- the configuration of a table: its keys are tried first, and its events last; one with an unknown
+-- key, or with a wrong value, is refused for that whatever its events are
 abbrev pub config_in : Members → Result ConfigValues ConfigStop
 config_in ms =
     unless_refused (refusal_in ms)
     (values_with ms (events_of (frame_in ms) (items_at code.Event ms)))
 
--- the configuration of a document's table, where it is one
+-- the configuration of a document's table; there is none where the bytes are no TOML document
 abbrev pub config_of_table : Option Members → Result ConfigValues ConfigStop
 config_of_table (Some ms) = config_in ms
 config_of_table None = Err BadToml

@@ -1,5 +1,6 @@
--- Which tables are events, and of what members an array of events is one (docs/FORMATS.md, "The
--- configuration").
+-- Which tables are events (docs/FORMATS.md, "The configuration"), and which arrays are lists of
+-- events. For example, the table with `kind = "clear"`, `update = 5`, `first = 0` and `last = 9`,
+-- in any order, is the event of update 5 that does `clear 0 9`.
 use Rattle.std.specs.Prelude.{ℕ, ◌+◌, pos, Bool, true, ◌&&◌, nat_le, if◌then◌else◌, codes}
 use Rattle.std.specs.Prelude.{List, [], ◌∷◌, length, Option, Some, None, option_map}
 use Rattle.std.specs.Prelude.{option_and_then, Result, Ok, Err}
@@ -14,7 +15,7 @@ use Rattle.mutations.specs.RateNames.{rate_named}
 use Rattle.world_config.specs.KeyTable.{Frame}
 use Rattle.world_config.specs.Events.{EventValue, WhatValue, inject, clear, rate}
 
--- each key of the table is one of these names
+-- each key of a table is one of these names
 abbrev pub has_only : List (List ℕ) → Members → Bool
 has_only names no_members = true
 has_only names (member k d ms) = list_any (λ name. bytes_eq name k) names && has_only names ms
@@ -57,26 +58,26 @@ clear_names = codes "kind" ∷ codes "update" ∷ codes "first" ∷ codes "last"
 abbrev pub rate_form_names : List (List ℕ)
 rate_form_names = codes "kind" ∷ codes "update" ∷ codes "name" ∷ codes "ppm" ∷ []
 
--- an organism in a cell of the world, with a genome of a length that the configuration allows
+-- an injection into a cell of the world, of a genome whose length the configuration allows
 abbrev pub inject_of : Frame → Members → Option WhatValue
 inject_of frame ms = if_only inject_names ms
     (both inject (number_from 0 frame.last_cell (get_member (codes "cell") ms))
     (genome_from frame.least_length frame.greatest_length (get_member (codes "letters") ms)))
 
--- cells of the world from the first to the last
+-- a clearing of cells of the world from the first to the last, which is not below the first
 abbrev pub clear_of : Frame → Members → Option WhatValue
 clear_of frame ms = if_only clear_names ms
     (option_and_then (λ last. option_map (λ first. clear first last)
     (number_from 0 last (get_member (codes "first") ms)))
     (number_from 0 frame.last_cell (get_member (codes "last") ms)))
 
--- one of the six rates, in parts per million
+-- a new value of one of the six rates, in parts per million
 abbrev pub rate_of : Members → Option WhatValue
 rate_of ms = if_only rate_form_names ms
     (both rate (option_and_then rate_named (option_and_then as_str (get_member (codes "name") ms)))
     (number_from 0 1000000 (get_member (codes "ppm") ms)))
 
--- what an event of this kind does
+-- what an event of this kind does, where its table has the form of the kind
 abbrev pub what_of : Frame → Members → List ℕ → Option WhatValue
 what_of frame ms kind =
     if bytes_eq kind (codes "inject") then inject_of frame ms
@@ -84,7 +85,7 @@ what_of frame ms kind =
     else if bytes_eq kind (codes "rate") then rate_of ms
     else None
 
--- the event that a member is, in an update that is not below the least
+-- the event that a member of the array is, in an update from the least to the last of the run
 abbrev pub event_of : Frame → ℕ → Data → Option EventValue
 event_of frame least (table ms) =
     both (λ update what. record { update = update; what = what })
@@ -92,24 +93,25 @@ event_of frame least (table ms) =
     (option_and_then (what_of frame ms) (option_and_then as_str (get_member (codes "kind") ms)))
 event_of frame least _ = None
 
--- one more event before the others, or the place of the first member that is none
+-- an event before the others, or the place of the first of the others that is no event
 abbrev pub more_events : EventValue → Result (List EventValue) ℕ → Result (List EventValue) ℕ
 more_events event (Ok events) = Ok (event ∷ events)
 more_events event (Err nth) = Err nth
 
--- a member and what follows it, or the place of the member where it is none
+-- the event that a member is, and those that follow from its update on; its place if it is none
 abbrev pub followed :
     ℕ → Option EventValue → (ℕ → Result (List EventValue) ℕ) → Result (List EventValue) ℕ
 followed nth None others = Err nth
 followed nth (Some event) others = more_events event (others event.update)
 
--- the events that members are from this place and this update on, or the place of the first member
--- that is none
+-- the events that members are, the first of which has this place and happens in this update or
+-- later; or the place of the first member that is no event
 abbrev pub events_from : Frame → Items → ℕ → ℕ → Result (List EventValue) ℕ
 events_from frame no_items nth least = Ok []
 events_from frame (item d ds) nth least =
     followed nth (event_of frame least d) (events_from frame ds (nth + 1))
 
--- the events of a configuration: the updates are from 1 on and never fall
+-- the events that an array is: their updates begin at 1 or later and never fall, and places count
+-- from 1
 abbrev pub events_of : Frame → Items → Result (List EventValue) ℕ
 events_of frame items = events_from frame items 1 1

@@ -1,5 +1,7 @@
--- Tables that are printed: a member at its place, and the tables of events (docs/FORMATS.md, "The
--- configuration"). No clause of a public function cites this file.
+-- Tables that are printed (docs/FORMATS.md, "The configuration"): a key with its value at its
+-- place, and the tables of events. For example, the event of update 5 that does `clear 0 9` has a
+-- table of four keys, in the order of bytes: first, kind, last and update. No clause of a public
+-- function cites this file.
 use Rattle.std.specs.Prelude.{ℕ, pos, List, [], ◌∷◌, codes}
 use Rattle.std.specs.Ordering.{nat_cmp, match_ordering}
 use Rattle.std.specs.Cmp.Lexicographic.{slice_cmp}
@@ -9,14 +11,15 @@ use Rattle.genome.specs.GenomeText.{letters_text_of}
 use Rattle.mutations.specs.RateNames.{name_of_rate}
 use Rattle.world_config.specs.Events.{EventValue, WhatValue, inject, clear, rate}
 
--- the members with this value at the key, at its place in the order
+-- the members with this value at the key, at its place in the order of bytes; a value that was
+-- there before goes
 abbrev pub insert_member : List ℕ → Data → Members → Members
 insert_member k d no_members = member k d no_members
 insert_member k d (member l e ms) =
     match_ordering (slice_cmp nat_cmp k l) (member k d (member l e ms)) (member l d ms)
     (member l e (insert_member k d ms))
 
--- the members of an event
+-- the keys and values of the table of an event
 abbrev pub event_members : ℕ → WhatValue → Members
 event_members update (inject cell ls) =
     member (codes "cell") (integer (pos cell))
@@ -34,7 +37,7 @@ event_members update (rate name ppm) =
     (member (codes "ppm") (integer (pos ppm))
     (member (codes "update") (integer (pos update)) no_members)))
 
--- the tables of some events
+-- the array of the tables of events
 abbrev pub items_for : List EventValue → Items
 items_for [] = no_items
 items_for (event ∷ events) =

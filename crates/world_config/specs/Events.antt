@@ -1,4 +1,6 @@
--- Events as values, and which events a configuration may have (docs/WORLD.md, "Events").
+-- Events as values, and which events a configuration may have (docs/WORLD.md, "Events"). For
+-- example, an event that kills all organisms in the cells 0 to 9 at the end of update 5 has the
+-- update 5 and is `clear 0 9`.
 use Rattle.std.specs.Prelude.{ℕ, ◌≤◌, Bool, ◌&&◌, nat_le, List, length, map}
 use Rattle.std.specs.List.{AllPass}
 use Rattle.std.specs.List.Sorted.{IsNonDecreasingBy}
@@ -10,13 +12,14 @@ use Rattle.world_config.specs.declared.event.What.{What}
 use Rattle.world_config.specs.declared.event.What.TheVariants as code
 use Rattle.world_config.specs.KeyTable.{Frame}
 
--- what an event does: an organism in a cell, cells cleared from the first to the last, or a rate
+-- what an event does: it puts an organism with these letters into a cell, kills all in the cells
+-- from the first to the last, or sets a rate, in parts per million, from the next update on
 pub data WhatValue : Type 0 where
   inject : ℕ → List Letter → WhatValue
   clear : ℕ → ℕ → WhatValue
   rate : RateName → ℕ → WhatValue
 
--- an event at the end of an update
+-- an event: the update at whose end it happens, and what it does
 pub record EventValue : Type 0 where
   pub update : ℕ
   pub what : WhatValue
@@ -27,11 +30,12 @@ what_value (code.Inject cell genome) = inject cell (letters genome)
 what_value (code.Clear first last) = clear first last
 what_value (code.Rate name ppm) = rate name ppm
 
--- the value of an event
+-- the value of the code's event
 abbrev pub event_value : Event → EventValue
 event_value event = record { update = event.update; what = what_value event.what }
 
--- its cells are in the world, its genome is within the two lengths, and its rate is one
+-- its cells are in the world, the length of its genome is within the two bounds, and its rate is at
+-- most a million in a million
 abbrev pub what_fits : Frame → WhatValue → Bool
 what_fits frame (inject cell ls) =
     nat_le cell frame.last_cell
@@ -44,12 +48,13 @@ abbrev pub event_fits : Frame → EventValue → Bool
 event_fits frame event =
     (nat_le 1 event.update && nat_le event.update frame.updates) && what_fits frame event.what
 
--- these events can stand in a configuration with these numbers
+-- a configuration with these numbers can have these events: at most 1000, each of which fits, and
+-- whose updates never fall
 pub record AreEvents (frame : Frame) (events : List EventValue) : Type 0 where
   pub number : length events ≤ 1000
   pub fit : AllPass (event_fits frame) events
   pub rising : IsNonDecreasingBy (λ event. event.update) events
 
--- the values of a list of events
+-- the values of the code's events
 abbrev pub event_values : List Event → List EventValue
 event_values events = map event_value events

@@ -1,5 +1,6 @@
--- Each key's value, as the code reads it into a group of keys, and as it prints it. No clause of a
--- public function cites this file.
+-- Each key's value, as the code reads it into a group of keys, and as it prints it. For example,
+-- with `width = 20` in the table, ArePlace holds only of a group whose `width` is 20, and 20 is
+-- printed at Width again. No clause of a public function cites this file.
 use Rattle.std.specs.Prelude.{◌≡◌, pos}
 use Rattle.toml.specs.Data.{Data, string, integer, boolean, array, Members}
 use Rattle.genome.specs.GenomeText.{letters_text_of}
@@ -17,7 +18,7 @@ use Rattle.world_config.specs.Lookup.{number_at, flag_at, frame_in}
 use Rattle.world_config.specs.Values.{ConfigValues}
 use Rattle.world_config.specs.EventTables.{items_for}
 
--- these are the members' values at the keys of where and how long a run goes
+-- the group has the table's values at the keys of the world and of its run
 pub record ArePlace (ms : Members) (place : PlaceKeys) : Type 0 where
   pub width : number_at (frame_in ms) code.Width ms ≡ place.width
   pub height : number_at (frame_in ms) code.Height ms ≡ place.height
@@ -25,13 +26,13 @@ pub record ArePlace (ms : Members) (place : PlaceKeys) : Type 0 where
   pub seed : number_at (frame_in ms) code.Seed ms ≡ place.seed
   pub founder_cell : number_at (frame_in ms) code.FounderCell ms ≡ place.founder_cell
 
--- these are the members' values at the keys of how long an organism runs and lives
+-- the group has the table's values at the keys of an organism's steps and of its death of age
 pub record AreLife (ms : Members) (life : LifeKeys) : Type 0 where
   pub average_slices : number_at (frame_in ms) code.AverageSlices ms ≡ life.average_slices
   pub death : flag_at code.Death ms ≡ life.death
   pub age_limit : number_at (frame_in ms) code.AgeLimit ms ≡ life.age_limit
 
--- these are the members' values at the keys of the six rates
+-- the group has the table's values at the keys of the six rates of errors
 pub record AreErrors (ms : Members) (errors : ErrorKeys) : Type 0 where
   pub copy_error : number_at (frame_in ms) code.CopyError ms ≡ errors.copy_error
   pub divide_insert : number_at (frame_in ms) code.DivideInsert ms ≡ errors.divide_insert
@@ -40,20 +41,20 @@ pub record AreErrors (ms : Members) (errors : ErrorKeys) : Type 0 where
   pub site_insert : number_at (frame_in ms) code.SiteInsert ms ≡ errors.site_insert
   pub site_delete : number_at (frame_in ms) code.SiteDelete ms ≡ errors.site_delete
 
--- these are the members' values at the keys of what a birth asks
+-- the group has the table's values at the keys of placing a child and of what a divide must meet
 pub record AreDivide (ms : Members) (divide : DivideKeys) : Type 0 where
   pub prefer_empty : flag_at code.PreferEmpty ms ≡ divide.prefer_empty
   pub need_alloc : flag_at code.NeedAlloc ms ≡ divide.need_alloc
   pub executed_percent : number_at (frame_in ms) code.ExecutedPercent ms ≡ divide.executed_percent
   pub copied_percent : number_at (frame_in ms) code.CopiedPercent ms ≡ divide.copied_percent
 
--- these are the members' values at the keys of the lengths
+-- the group has the table's values at the keys of the lengths of genomes and of memory
 pub record AreLengths (ms : Members) (lengths : LengthKeys) : Type 0 where
   pub least_length : number_at (frame_in ms) code.LeastLength ms ≡ lengths.least_length
   pub greatest_length : number_at (frame_in ms) code.GreatestLength ms ≡ lengths.greatest_length
   pub memory_limit : number_at (frame_in ms) code.MemoryLimit ms ≡ lengths.memory_limit
 
--- these are the members' values at the keys of all groups
+-- all groups have the table's values
 pub record AreNumbers (ms : Members) (numbers : Numbers) : Type 0 where
   pub place : ArePlace ms numbers.place
   pub life : AreLife ms numbers.life
@@ -61,13 +62,13 @@ pub record AreNumbers (ms : Members) (numbers : Numbers) : Type 0 where
   pub divide : AreDivide ms numbers.divide
   pub lengths : AreLengths ms numbers.lengths
 
--- the frame of the numbers
+-- the numbers of these groups that bound other values
 abbrev pub numbers_frame : Numbers → Frame
 numbers_frame numbers =
     frame_of numbers.place.width numbers.place.height numbers.place.updates
     numbers.lengths.least_length numbers.lengths.greatest_length
 
--- what a document that is printed has at a key
+-- the value that a printed document has at a key
 abbrev pub printed_at : ConfigValues → Key → Data
 printed_at v code.Width = integer (pos v.width)
 printed_at v code.Height = integer (pos v.height)

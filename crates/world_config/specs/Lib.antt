@@ -1,5 +1,6 @@
 -- The files in the order of reading. The last four are the code's own: no clause of a public
--- function cites them.
+-- function cites them. The main definition is `config_of` in Config: what the bytes of a document
+-- are read as.
 pub use Rattle.toml.specs.Data
 pub use Rattle.genome.specs.Genome
 pub use Rattle.genome.specs.GenomeText

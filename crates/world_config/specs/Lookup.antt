@@ -1,5 +1,7 @@
 -- The values of a document's table at the keys (docs/FORMATS.md, "The configuration"). A missing
--- key has its default. What is of another kind counts as 0, false or nothing; Refusal rejects it.
+-- key has its default: of a document that is only `width = 20`, the number at Width is 20, and that
+-- at Height is 60. What is of another kind counts as 0, false or nothing, since Refusal rejects it.
+-- `Members` are the keys of a table with their values, and `Items` the members of an array.
 use Rattle.std.specs.Prelude.{ℕ, pos, ◌+◌, Bool, false, List, [], unwrap_or, Result, Ok, Err}
 use Rattle.toml.specs.Data.{Data, string, integer, boolean, array}
 use Rattle.toml.specs.Data.{Items, no_items, item, Members, get_member}
@@ -19,27 +21,27 @@ value_at row ms = unwrap_or (get_member row.name ms) row.default
 abbrev pub value_or : Key → Data → Members → Data
 value_or key default ms = unwrap_or (get_member (key_name key) ms) default
 
--- the number that a value is, and 0 for what is none
+-- the number that a value is, and 0 for a negative one and for what is no number
 abbrev pub number_or_zero : Data → ℕ
 number_or_zero (integer (pos n)) = n
 number_or_zero _ = 0
 
--- the truth that a value is, and false for what is none
+-- the boolean that a value is, and false for what is no boolean
 abbrev pub flag_or_false : Data → Bool
 flag_or_false (boolean b) = b
 flag_or_false _ = false
 
--- the letters of a genome that was read
+-- the letters of a genome that was read, and no letters where the reading was refused
 abbrev pub letters_or_none : Result (List Letter) GenomeStop → List Letter
 letters_or_none (Ok ls) = ls
 letters_or_none (Err stop) = []
 
--- the letters that a value spells, and none for what is no genome
+-- the letters that a value spells, and no letters for what is no genome
 abbrev pub letters_of_value : Data → List Letter
 letters_of_value (string text) = letters_or_none (spelled_by_letters text)
 letters_of_value _ = []
 
--- the members of an array, and none for what is no array
+-- the members of an array, and no members for what is no array
 abbrev pub items_of_value : Data → Items
 items_of_value (array items) = items
 items_of_value _ = no_items
@@ -49,23 +51,24 @@ abbrev pub item_count : Items → ℕ
 item_count no_items = 0
 item_count (item d ds) = item_count ds + 1
 
--- the number at a key
+-- the number at a key, or the key's default
 unfoldable pub number_at : Frame → Key → Members → ℕ
 number_at frame key ms = number_or_zero (value_at (key_row frame key) ms)
 
--- the truth at a key
+-- the boolean at a key, or the key's default
 unfoldable pub flag_at : Key → Members → Bool
 flag_at key ms = flag_or_false (value_at (key_row no_frame key) ms)
 
--- the letters at a key
+-- the letters of the genome at a key, or of the key's default
 unfoldable pub genome_at : Key → Members → List Letter
 genome_at key ms = letters_of_value (value_at (key_row no_frame key) ms)
 
--- the members at a key
+-- the members of the array at a key, or of the key's default
 unfoldable pub items_at : Key → Members → Items
 items_at key ms = items_of_value (value_at (key_row no_frame key) ms)
 
--- the numbers on which other rows hang; their own names and defaults hang on none
+-- the numbers of a table that bound its other values; their own names and defaults are the same in
+-- every frame
 abbrev pub frame_in : Members → Frame
 frame_in ms =
     frame_of (number_at no_frame code.Width ms) (number_at no_frame code.Height ms)

@@ -1,5 +1,6 @@
--- What the code's reading of events says: its frame and its refusal. No clause of a public
--- function cites this file.
+-- The values of what the code's reading of events takes and answers: the four numbers that bound
+-- events, and the refusal of an array. For example, where the third member is no event, the refusal
+-- is `BadEvent 3`. No clause of a public function cites this file.
 use Rattle.std.specs.Prelude.{ℕ, List, Option, Some, None, Result, Ok, Err}
 use Rattle.world_config.specs.declared.event_forms.Frame.{Frame as FrameCode}
 use Rattle.world_config.specs.declared.stop.ConfigStop.{ConfigStop}
@@ -7,7 +8,7 @@ use Rattle.world_config.specs.declared.stop.ConfigStop.TheVariants.{BadEvent}
 use Rattle.world_config.specs.KeyTable.{Frame}
 use Rattle.world_config.specs.Events.{EventValue}
 
--- the frame of the code's four numbers
+-- the code's four numbers as a frame
 abbrev pub frame_value : FrameCode → Frame
 frame_value frame = record {
   last_cell = frame.last_cell;
@@ -16,7 +17,7 @@ frame_value frame = record {
   greatest_length = frame.greatest_length;
 }
 
--- the refusal of members that are no events
+-- the refusal of an array, by the place of its first member that is no event
 abbrev pub event_refusal : Result (List EventValue) ℕ → Option ConfigStop
 event_refusal (Ok events) = None
 event_refusal (Err nth) = Some (BadEvent nth)

@@ -1,5 +1,7 @@
 -- What refuses a configuration (docs/FORMATS.md, "The configuration"): a key without a row, then
--- the first key whose value is not what its row asks. Config has the refusal of an event.
+-- the first key whose value is not what its row asks. For example, `width = 0` with `wide = 1` is
+-- refused for the unknown key `wide`, and `width = 0` alone for a value that is out of range. None
+-- is no refusal. Config has the refusal of an event.
 use Rattle.std.specs.Prelude.{ℕ, ℤ, pos, negsuc, Bool, ◌&&◌, nat_le, if◌then◌else◌}
 use Rattle.std.specs.Prelude.{List, [], ◌∷◌, length, Option, Some, None, Result, Ok, Err}
 use Rattle.std.specs.List.{list_any}
@@ -18,7 +20,7 @@ use Rattle.world_config.specs.KeyTable.{Kind, number, flag, genome, events}
 use Rattle.world_config.specs.KeyTable.{Frame, key_row, key_name, keys}
 use Rattle.world_config.specs.Lookup.{value_at, item_count, frame_in}
 
--- a row has this name
+-- a row of the table of keys has this name
 unfoldable pub is_known : List ℕ → Bool
 is_known text = list_any (λ key. bytes_eq (key_name key) text) keys
 
@@ -27,24 +29,25 @@ abbrev pub least_of : List ℕ → Option (List ℕ) → List ℕ
 least_of key None = key
 least_of key (Some other) = if is_lt (slice_cmp nat_cmp other key) then other else key
 
--- the least key that no row names
+-- the key that no row names, and of several the least in byte order
 abbrev pub least_unknown : Members → Option (List ℕ)
 least_unknown no_members = None
 least_unknown (member key value ms) =
     if is_known key then least_unknown ms else Some (least_of key (least_unknown ms))
 
--- the refusal of a number that lies outside its bounds
+-- the refusal of a number that lies outside these bounds; `negsuc n` is below 0
 abbrev pub unless_within : Key → ℕ → ℕ → ℤ → Option ConfigStop
 unless_within key least greatest (pos n) =
     if nat_le least n && nat_le n greatest then None else Some (OutOfRange key (pos n))
 unless_within key least greatest (negsuc n) = Some (OutOfRange key (negsuc n))
 
--- the refusal of a text as a genome: first of its letters, then of their number
+-- the refusal of a text as a genome: first for why it spells none, then for its length
 abbrev pub unless_genome : Key → ℕ → ℕ → Result (List Letter) GenomeStop → Option ConfigStop
 unless_genome key least greatest (Ok ls) = unless_within key least greatest (pos (length ls))
 unless_genome key least greatest (Err stop) = Some (BadAncestor stop)
 
--- the refusal of a key's value: first of its kind, then of its bounds
+-- the refusal of a key's value: first for its kind, then for a text that spells no genome, then for
+-- its bounds
 abbrev pub refusal_of : Kind → Key → Data → Option ConfigStop
 refusal_of (number least greatest) key (integer z) = unless_within key least greatest z
 refusal_of flag key (boolean b) = None
@@ -53,7 +56,7 @@ refusal_of (genome least greatest) key (string text) =
 refusal_of (events most) key (array items) = unless_within key 0 most (pos (item_count items))
 refusal_of _ key _ = Some (WrongKind key)
 
--- the refusal of the value at a key
+-- the refusal of the value at a key, or of the key's default
 unfoldable pub refusal_at : Frame → Key → Members → Option ConfigStop
 refusal_at frame key ms = refusal_of (key_row frame key).kind key (value_at (key_row frame key) ms)
 
@@ -73,6 +76,6 @@ abbrev pub unknown_refusal : Option (List ℕ) → Option ConfigStop
 unknown_refusal (Some key) = Some (UnknownKey key)
 unknown_refusal None = None
 
--- the refusal of a document's keys, in order
+-- the first refusal of a table: of a key that no row names, then of each key in the order of rows
 abbrev pub refusal_in : Members → Option ConfigStop
 refusal_in ms = earlier (unknown_refusal (least_unknown ms)) (first_refusal keys ms)

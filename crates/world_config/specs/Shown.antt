@@ -1,2 +1,2 @@
--- What contracts see of a configuration: its values.
+-- What contracts see of the code's configuration: its values. The crates above cite this file.
 pub use Rattle.world_config.specs.Values.{values_of}

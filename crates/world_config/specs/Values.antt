@@ -1,5 +1,6 @@
 -- What a configuration says, a field for each key (docs/FORMATS.md, "The configuration"): as a
--- document's table has it, and as the code's configuration holds it.
+-- document's table has it, and as the code's configuration holds it. For example, `width = 20`
+-- alone gives the values with `width` 20, `height` 60 and each other default, and without an event.
 use Rattle.std.specs.Prelude.{ℕ, Bool, List}
 use Rattle.toml.specs.Data.{Members}
 use Rattle.instruction_set.specs.declared.letter.Letter.{Letter}
@@ -9,7 +10,7 @@ use Rattle.world_config.specs.declared.key.Key.TheVariants as code
 use Rattle.world_config.specs.Lookup.{number_at, flag_at, genome_at, frame_in}
 use Rattle.world_config.specs.Events.{EventValue, event_values}
 
--- the values of the keys, in the order of the table of keys
+-- the values of all keys, in the order of the table of keys
 pub record ConfigValues : Type 0 where
   pub width : ℕ
   pub height : ℕ
@@ -35,7 +36,7 @@ pub record ConfigValues : Type 0 where
   pub ancestor : List Letter
   pub event : List EventValue
 
--- what a table says at its keys, with these events
+-- what a table says at each key, or the default, with these events, which EventForms reads from it
 abbrev pub values_in_table : Members → List EventValue → ConfigValues
 values_in_table ms happening = record {
   width = number_at (frame_in ms) code.Width ms;
@@ -63,7 +64,7 @@ values_in_table ms happening = record {
   event = happening;
 }
 
--- the values of a configuration
+-- the values of the code's configuration
 abbrev pub values_of : Config → ConfigValues
 values_of config = record {
   width = config.width;

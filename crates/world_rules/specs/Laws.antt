@@ -1,4 +1,5 @@
--- What holds of every run (docs/WORLD.md, "The log of a run").
+-- What holds of every run (docs/WORLD.md, "The log of a run"): from its log alone one knows who
+-- lives at its end, in which cell and with which genome.
 use Rattle.std.specs.Prelude.{◌≡◌, ℕ, List}
 use Rattle.lineage_log.specs.LogGrammar.{Reads}
 use Rattle.lineage_log.specs.Replay.{replay_of}

@@ -1,3 +1,5 @@
+-- The files in the order of reading: from a world, by its lives and the scenes within an update, to
+-- the world and the log after so many updates.
 pub use Rattle.birth_board.specs.Placement
 pub use Rattle.lineage_log.specs.LogGrammar
 pub use Rattle.lineage_log.specs.Replay

@@ -1,5 +1,7 @@
--- The lives of an update, all from one start (docs/WORLD.md, "Time slices" and "The life of one
--- update").
+-- The lives of an update, all from one start
+-- (docs/WORLD.md, "Time slices" and "The life of one update"): each cell lives alone, whatever the
+-- others do. For example, if only cell 1 of two cells has an organism, cell 0 has no_life, and the
+-- life of cell 1 says what its organism became and bore.
 use Rattle.std.specs.Prelude.{ℕ, Bool, false, List, [], length, map, Option, None, Some, slice_index_or}
 use Rattle.std.specs.List.{range_with_len}
 use Rattle.random_streams.specs.declared.purpose.Purpose.TheVariants.{Run}
@@ -20,7 +22,7 @@ pub record CellLife : Type 0 where
   pub died : Bool
   pub newborns : List NewbornValue
 
--- of an empty cell
+-- the life of an empty cell: nothing
 abbrev pub no_life : CellLife
 no_life = record { occupant = None; died = false; newborns = [] }
 

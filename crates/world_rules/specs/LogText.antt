@@ -1,4 +1,6 @@
--- The log of a run (docs/WORLD.md, "The log of a run"; docs/FORMATS.md, "The log").
+-- The log of a run (docs/WORLD.md, "The log of a run"; docs/FORMATS.md, "The log"). For example,
+-- the log of a run of 0 updates is its `L` line and `E 0`. A line speaks of the scene before it:
+-- that of a birth says who stood in the cell, and so dies.
 use Rattle.std.specs.Prelude.{ℕ, zero, suc, ◌+◌, List, [], ◌∷◌, ◌++◌, length, Option, option_map}
 use Rattle.std.specs.List.{filter_map, flat_map, scan}
 use Rattle.birth_board.specs.declared.placing.Placing.{Placing}

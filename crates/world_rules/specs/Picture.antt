@@ -1,4 +1,7 @@
--- The picture of a world, and its line (docs/WORLD.md, "Statistics"; docs/FORMATS.md, "The log").
+-- The picture of a world, and its line (docs/WORLD.md, "Statistics", and
+-- docs/FORMATS.md, "Watch lines"). For example, `W 12 3 2 291 2 mmmmmmmm` says that after update 12
+-- three organisms live, with two different genomes and a sum of merits of 291, and that two of them
+-- have the dominant genome.
 use Rattle.std.specs.Prelude.{ℕ, List, [], ◌∷◌, ◌++◌, Option, None, Some, codes, decimal}
 use Rattle.census.specs.Counts.{GenotypeCount}
 use Rattle.genome.specs.GenomeText.{letters_text_of}

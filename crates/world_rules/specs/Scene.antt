@@ -1,5 +1,6 @@
--- A world within an update, and how organisms leave it and come into it (docs/WORLD.md, "The end of
--- an update").
+-- A world within an update, and how organisms leave it and come into it
+-- (docs/WORLD.md, "The end of an update"). For example, if a newborn comes into cell 3, where
+-- organism 7 stands, then 7 is gone and the newborn stands there.
 use Rattle.std.specs.Prelude.{ℕ, ◌+◌, ◌-◌, List, [], ◌∷◌, ◌++◌, length, Option, None, Some, slice_set, fold}
 use Rattle.std.specs.List.{range_with_len}
 use Rattle.std.specs.Option.{option_to_list}

@@ -1,4 +1,6 @@
 -- What a configuration sets for an update (docs/WORLD.md, "Events" and "The life of one update").
+-- For example, if an event of update 5 sets copy_error to 0, the rate of the key holds up to update
+-- 5, and 0 from update 6 on.
 use Rattle.std.specs.Prelude.{ℕ, List, filter, fold, nat_lt}
 use Rattle.birth_board.specs.declared.placing_round.PlacingRound.{PlacingRound}
 use Rattle.birth_board.specs.Torus.{TorusNumbers}

@@ -1,4 +1,5 @@
--- Worlds of one cell, for theorems by computation. No public clause of the world cites this file.
+-- Worlds of one cell, for theorems by computation. For example, in `tiny (once (clear 0 0))` an
+-- event clears the only cell at the end of update 1. No public clause of the world cites this file.
 use Rattle.std.specs.Prelude.{ℕ, Bool, true, List, [], ◌∷◌, Some, None, replicate}
 use Rattle.instruction_set.specs.declared.letter.Letter.{Letter}
 use Rattle.instruction_set.specs.declared.letter.Letter.TheVariants.{NopA}

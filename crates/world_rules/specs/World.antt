@@ -1,4 +1,6 @@
 -- A world between two updates, and the world of a founder alone (docs/WORLD.md, "The founder").
+-- Cells are numbered from 0, and None is an empty one. For example, the first world of 3 by 2 cells
+-- whose founder cell is 4 has six cells, of which only cell 4 has an organism, with id 0.
 use Rattle.std.specs.Prelude.{ℕ, ◌+◌, ◌*◌, List, [], ◌∷◌, length, map, replicate, Option, None, Some, option_map, slice_index_or, slice_set}
 use Rattle.instruction_set.specs.declared.letter.Letter.{Letter}
 use Rattle.logic_tasks.specs.Inputs.{inputs_of}
@@ -34,7 +36,7 @@ ids_of cells = map id_of cells
 abbrev pub id_at : List (Option Occupant) → ℕ → Option ℕ
 id_at cells cell = id_of (slice_index_or cells cell None)
 
--- the three words of update 0 that make a founder's inputs
+-- the three random words of update 0 that make the inputs of the founder with this number
 abbrev pub founder_words : ℕ → ℕ → ℕ → List ℕ
 founder_words seed cell nth =
     draw seed 0 cell Place (3 * nth)

@@ -1,4 +1,5 @@
--- The world after so many updates, and who lives in it (docs/WORLD.md, "The log of a run").
+-- The world after so many updates, and who lives in it (docs/WORLD.md, "The log of a run"). For
+-- example, the world after 2 updates is next_world of next_world of first_world.
 use Rattle.std.specs.Prelude.{ℕ, zero, suc, List, Option, option_map}
 use Rattle.std.specs.List.{filter_map, enumerate_from}
 use Rattle.lineage_log.specs.Replay.{Resident}
