@@ -1,41 +1,16 @@
 -- After a death: nodes go one after another, up the line, as far as they are there in vain.
-use Rattle.std.proofs.Common.{◌≡◌, ⊎_elim, ◌∙◌, refl, sym, ap, subst, ℕ, ◌-◌, ◌<◌, ◌≤◌, ◌||◌, suc, Bool, true, false, cond, ltb, ltb-true, ltb-false, List, [], ◌∷◌, Option, Some, None, nat_cmp, Ordering, Less, Equal, Greater, arith}
-use Rattle.std.specs.Prelude.{Contains, IfSome, IsSome}
+use Rattle.std.proofs.Common.{◌≡◌, ⊎_elim, ◌∙◌, refl, sym, ap, subst, ℕ, ◌-◌, ◌<◌, ◌≤◌, ◌||◌, suc, Bool, true, false, cond, ltb, ltb-true, ltb-false, List, [], ◌∷◌, Option, Some, None, nat_cmp, arith}
+use Rattle.std.specs.Prelude.{Contains, IfSome, IsSome, nat_eq}
 use Rattle.std.specs.BTreeMap.{insert_entry, is_at}
-use Rattle.std.specs.Cmp.{nat_cmp_total}
-use Rattle.std.specs.Map.{keys_of, remove_entry, set_value}
+use Rattle.std.specs.Map.{lookup, remove_entry, set_value}
 use Rattle.std.specs.Option.{option_map_or, unwrap_or}
-use Rattle.std.specs.Ordering.{is_eq, match_ordering}
 use Rattle.std.proofs.lemmas.Bool.{cases_Bool, cond-true, cond-false, or_parts}
-use Rattle.std.proofs.lemmas.Map.{lookup-none}
-use Rattle.std.proofs.lemmas.Map.Entries.{none_below_head}
-use Rattle.std.proofs.lemmas.Map.Keys.{sorted_tail}
-use Rattle.lineage_log.specs.Nodes.{NodeValue, AreFamilies, AreFewer, AreNeededBut, AreNodes, IsSettled, is_needed, living_ids_of, node_at}
-use Rattle.lineage_log.proofs.NodeLemmas.{Rises, by_key, other_node, some_of}
+use Rattle.lineage_log.specs.Nodes.{NodeValue, AreFamilies, AreFewer, AreNeededBut, AreNodes, IsSettled, in_order, is_needed, living_ids_of, node_at}
+use Rattle.lineage_log.proofs.NodeLemmas.{Rises, by_key, some_of}
+use Rattle.lineage_log.proofs.OrderLemmas.{insert_is_set, order_finds, order_gone, order_put, order_rises}
 use Rattle.lineage_log.proofs.LivingLemmas.{lives_there}
 use Rattle.lineage_log.proofs.TreeLemmas.{IsGone, fewer_again, fewer_gone, fewer_same, founder_goes, gone_is, is_there, lets_go, one_node, parent_counts, parent_stays, set_is}
 use Rattle.lineage_log.proofs.KeptLemmas.{IsLaid, laid}
-
--- what is put under an id that is there is set
-insert_is_set : (nodes : List (ℕ × NodeValue)) (id : ℕ) (node : NodeValue) → Rises nodes
-    → IsSome (node_at nodes id)
-    → insert_entry nat_cmp nodes id node ≡ set_value (is_at (nat_cmp id)) nodes node
-insert_is_set [] id node rising is = absurd cc
-insert_is_set (e ∷ es) id node rising is =
-    by (λ rest. insert_is_set es id node (sorted_tail nat_cmp e.0 (keys_of es) rising) rest)
-    (nat_cmp id e.0) refl
-  where
-    -- however the id compares to the first one
-    by : (IsSome (node_at es id) → insert_entry nat_cmp es id node
-        ≡ set_value (is_at (nat_cmp id)) es node) → (r : Ordering) → nat_cmp id e.0 ≡ r
-        → match_ordering r ((id, node) ∷ e ∷ es) ((e.0, node) ∷ es)
-        (e ∷ insert_entry nat_cmp es id node)
-        ≡ cond (is_eq r) ((e.0, node) ∷ es) (e ∷ set_value (is_at (nat_cmp id)) es node)
-    by behind Less below = absurd (let none = lookup-none (is_at (nat_cmp id)) (e ∷ es)
-        (none_below_head nat_cmp_total id e es rising below) in cc)
-    by behind Equal same = refl
-    by behind Greater above = ap (λ (rest : List (ℕ × NodeValue)). e ∷ rest)
-        (behind (subst IsSome (other_node e es id (ap is_eq above)) is))
 
 -- where a node goes it doesn't matter what it was
 remove_once_set : (nodes : List (ℕ × NodeValue)) (id : ℕ) (node : NodeValue)
@@ -59,6 +34,38 @@ remove_once_set (e ∷ es) id node =
           ∙ ap (λ (rest : List (ℕ × NodeValue)). e ∷ rest) behind
 
 -- ---- one node more goes, or none
+
+-- after one node was changed: it stays where it is needed then, and else it goes and its parent
+-- is the next one
+pub record Settles (before after : List (ℕ × NodeValue)) (id : ℕ) (node : NodeValue)
+    (next : Option ℕ) : Type 0 where
+  pub rising : Rises after
+  pub entries : after ≡ cond (is_needed node) (insert_entry nat_cmp before id node)
+      (remove_entry (is_at (nat_cmp id)) before)
+  pub above : next ≡ cond (is_needed node) None node.parent
+
+-- so it is in order, whatever order the nodes are kept in
+settles : (before after : List (ℕ × NodeValue)) (id : ℕ) (node : NodeValue) (next : Option ℕ)
+    → IsSettled before after id node next
+    → Settles (in_order before) (in_order after) id node next
+settles before after id node next settled = record {
+  rising = order_rises after;
+  entries = ⊎_elim
+      (λ (wanted : is_needed node ≡ true). order_put before after id node
+      (λ other. settled.found other
+      ∙ ap (λ (o : Option NodeValue). cond (nat_eq id other) o (lookup (nat_eq other) before))
+      (cond-true (is_needed node) (Some node) None wanted))
+      ∙ sym (cond-true (is_needed node) (insert_entry nat_cmp (in_order before) id node)
+      (remove_entry (is_at (nat_cmp id)) (in_order before)) wanted))
+      (λ (vain : is_needed node ≡ false). order_gone before after id
+      (λ other. settled.found other
+      ∙ ap (λ (o : Option NodeValue). cond (nat_eq id other) o (lookup (nat_eq other) before))
+      (cond-false (is_needed node) (Some node) None vain))
+      ∙ sym (cond-false (is_needed node) (insert_entry nat_cmp (in_order before) id node)
+      (remove_entry (is_at (nat_cmp id)) (in_order before)) vain))
+      (cases_Bool (is_needed node));
+  above = settled.above;
+}
 
 -- a parent with one child fewer
 abbrev fewer_children : NodeValue → NodeValue
@@ -93,7 +100,7 @@ module _ (start before mid after : List (ℕ × NodeValue)) (id : ℕ) (old new 
     (next : Option ℕ) (rising : Rises before) (is : node_at before id ≡ Some old)
     (same : new.parent ≡ old.parent) (set : mid ≡ set_value (is_at (nat_cmp id)) before new)
     (families : AreFamilies mid) (needed : AreNeededBut (Some id) mid)
-    (fewer : AreFewer start mid) (settled : IsSettled before after id new next) where
+    (fewer : AreFewer start mid) (settled : Settles before after id new next) where
   -- what stands there once it was changed
   new_at : node_at mid id ≡ Some new
   new_at = ⊎_elim
@@ -216,34 +223,47 @@ pub lies : (nodes : List (ℕ × NodeValue)) (id : ℕ) → AreNodes nodes
 lies nodes id are lives = laid nodes (laid_down id nodes) id are lives (laid_down_is nodes id)
 
 -- its node goes if it is there in vain then
-pub go_first : (before after : List (ℕ × NodeValue)) (id : ℕ) (next : Option ℕ) → AreNodes before
-    → Contains (living_ids_of before) id
-    → ((node : NodeValue) → node_at before id ≡ Some node
+pub go_first : (before after : List (ℕ × NodeValue)) (id : ℕ) (next : Option ℕ)
+    → AreNodes (in_order before) → Contains (living_ids_of (in_order before)) id
+    → ((node : NodeValue) → lookup (nat_eq id) before ≡ Some node
     → IsSettled before after id (record node { lives = false }) next)
-    → Go (laid_down id before) after next
+    → Go (laid_down id (in_order before)) (in_order after) next
 go_first before after id next are lives settled =
-    let found = lives_there before id are.families.rising lives in
+    let nodes = in_order before in
+    let found = lives_there nodes id are.families.rising lives in
     let old = found.0 in
-    let lie = lies before id are lives in
-    go_on (laid_down id before) before (laid_down id before) after id old
-    (record old { lives = false }) next are.families.rising found.1 refl
-    (laid_down_is before id old found.1) lie.families lie.needed
-    (fewer_same (laid_down id before)) (settled old found.1)
+    let new : NodeValue = record old { lives = false } in
+    let lie = lies nodes id are lives in
+    go_on (laid_down id nodes) nodes (laid_down id nodes) (in_order after) id old new next
+    are.families.rising found.1 refl (laid_down_is nodes id old found.1) lie.families lie.needed
+    (fewer_same (laid_down id nodes))
+    (settles before after id new next (settled old (sym (order_finds before id) ∙ found.1)))
+
+-- who is next has children
+pub next_counts : (start nodes : List (ℕ × NodeValue)) (now : Option ℕ) (id : ℕ)
+    → Go start (in_order nodes) now → now ≡ Some id → (node : NodeValue)
+    → lookup (nat_eq id) nodes ≡ Some node → 0 < node.children
+next_counts start nodes now id go is node there =
+    (subst (λ o. Go start (in_order nodes) o) is go).counts node (order_finds nodes id ∙ there)
 
 -- its parent has one child fewer, and goes if it is there in vain then; and so up the line
-pub go_again : (start before after : List (ℕ × NodeValue)) (id : ℕ) (next : Option ℕ)
-    → Go start before (Some id)
-    → ((node : NodeValue) → node_at before id ≡ Some node
+pub go_again : (start before after : List (ℕ × NodeValue)) (now : Option ℕ) (id : ℕ)
+    (next : Option ℕ) → Go start (in_order before) now → now ≡ Some id
+    → ((node : NodeValue) → lookup (nat_eq id) before ≡ Some node
     → IsSettled before after id (record node { children = node.children - 1 }) next)
-    → Go start after next × (option_map_or suc next 0 < suc id)
-go_again start before after id next go settled =
-    let found = some_of (node_at before id) go.there in
+    → Go start (in_order after) next × (option_map_or suc next 0 < suc id)
+go_again start before after now id next going this settled =
+    let nodes = in_order before in
+    let go = subst (λ o. Go start nodes o) this going in
+    let found = some_of (node_at nodes id) go.there in
     let old = found.0 in
     let is = found.1 in
-    let mid = lowered (Some id) before in
-    let set = lowered_is before id old is in (
-      go_on start before mid after id old (fewer_children old) next go.rising is refl set
-          go.families go.needed go.fewer (settled old is),
-      go_up start before mid after id old (fewer_children old) next go.rising is refl set
-          go.families go.needed go.fewer (settled old is),
+    let mid = lowered (Some id) nodes in
+    let set = lowered_is nodes id old is in
+    let settling = settles before after id (fewer_children old) next
+    (settled old (sym (order_finds before id) ∙ is)) in (
+      go_on start nodes mid (in_order after) id old (fewer_children old) next go.rising is refl set
+          go.families go.needed go.fewer settling,
+      go_up start nodes mid (in_order after) id old (fewer_children old) next go.rising is refl set
+          go.families go.needed go.fewer settling,
     )

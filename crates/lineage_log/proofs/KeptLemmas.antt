@@ -284,3 +284,11 @@ pub parent_stands : (nodes : List (ℕ × NodeValue)) (id : ℕ) (node : NodeVal
     → IfSome next (λ above. IsSome (node_at nodes above))
 parent_stands nodes id node None are is same = tt
 parent_stands nodes id node (Some above) are is same = (are.each id node is).there above (sym same)
+
+-- a parent has a lower id, as a measure
+pub parent_lower : (nodes : List (ℕ × NodeValue)) (id : ℕ) (node : NodeValue) (next : Option ℕ)
+    → AreFamilies nodes → node_at nodes id ≡ Some node → next ≡ node.parent
+    → option_map_or suc next 0 < suc id
+parent_lower nodes id node None are is same = omega arith
+parent_lower nodes id node (Some above) are is same =
+    omega (arith, (are.each id node is).older above (sym same))

@@ -7,6 +7,7 @@ pub mod ResidentWalks
 pub mod LeftLemmas
 pub mod AncestorLemmas
 pub mod NodeLemmas
+pub mod OrderLemmas
 pub mod LivingLemmas
 pub mod TreeLemmas
 pub mod KeptLemmas

@@ -1,10 +1,10 @@
 -- The nodes of a tree, as they are kept: under each id an organism, with the number of its children
 -- that are nodes.
-use Rattle.std.specs.Prelude.{◌≡◌, ◌≢◌, ℕ, ◌<◌, ◌==◌, ◌||◌, nat_lt, Bool, false, List, filter, map, if◌then◌else◌, Option, None, Some, IsSome}
+use Rattle.std.specs.Prelude.{◌≡◌, ◌≢◌, ℕ, ◌<◌, ◌==◌, ◌||◌, nat_eq, nat_lt, Bool, false, List, [], ◌∷◌, filter, map, if◌then◌else◌, Option, None, Some, IsSome}
 use Rattle.std.specs.BTreeMap.{insert_entry, is_at}
 use Rattle.std.specs.List.{sum_by}
 use Rattle.std.specs.List.Sorted.{IsStrictlySortedBy}
-use Rattle.std.specs.Map.{keys_of, values_of, lookup, remove_entry}
+use Rattle.std.specs.Map.{keys_of, values_of, lookup}
 use Rattle.std.specs.Option.{option_map_or}
 use Rattle.std.specs.Ordering.{nat_cmp}
 use Rattle.instruction_set.specs.declared.letter.Letter.{Letter}
@@ -36,6 +36,11 @@ node_link id node = record {
 -- the node of an id
 abbrev pub node_at : List (ℕ × NodeValue) → ℕ → Option NodeValue
 node_at nodes id = lookup (is_at (nat_cmp id)) nodes
+
+-- nodes in order of their ids
+abbrev pub in_order : List (ℕ × NodeValue) → List (ℕ × NodeValue)
+in_order [] = []
+in_order (e ∷ es) = insert_entry nat_cmp (in_order es) e.0 e.1
 
 -- it lives, or has a child among the nodes
 abbrev pub is_needed : NodeValue → Bool
@@ -95,7 +100,7 @@ pub record AreFewer (before after : List (ℕ × NodeValue)) : Type 0 where
 -- is the next one
 pub record IsSettled (before after : List (ℕ × NodeValue)) (id : ℕ) (node : NodeValue)
     (next : Option ℕ) : Type 0 where
-  pub rising : IsStrictlySortedBy nat_cmp (keys_of after)
-  pub entries : after ≡ (if is_needed node then insert_entry nat_cmp before id node
-      else remove_entry (is_at (nat_cmp id)) before)
+  pub found : (other : ℕ) → lookup (nat_eq other) after
+      ≡ (if nat_eq id other then (if is_needed node then Some node else None)
+      else lookup (nat_eq other) before)
   pub above : next ≡ (if is_needed node then None else node.parent)

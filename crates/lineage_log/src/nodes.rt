@@ -1,27 +1,25 @@
 // The nodes of a tree, by their ids.
-ghost use Rattle.std.specs.Prelude.{◌≡◌, ◌+◌, ◌-◌, ◌<◌, ◌^◌, Contains, OnErr, OnOk, Some, false};
-ghost use Rattle.std.specs.BTreeMap.{is_at};
-ghost use Rattle.std.specs.Map.{set_value};
-ghost use Rattle.std.specs.Ordering.{nat_cmp};
-ghost use Rattle.lineage_log.specs.Nodes.{NodeValue, AreNodes, IsSettled, living_ids_of, node_at, tree_of};
+ghost use Rattle.std.specs.Prelude.{◌≡◌, ◌+◌, ◌-◌, ◌<◌, ◌^◌, Contains, OnErr, OnOk, Some, false, nat_eq};
+ghost use Rattle.std.specs.Map.{lookup, set_value};
+ghost use Rattle.lineage_log.specs.Nodes.{NodeValue, AreNodes, IsSettled, in_order, living_ids_of, tree_of};
 ghost use Rattle.lineage_log.specs.Trees.{CanCome, tree_with_death, tree_with_newcomer};
 
 use crate::ancestor::Ancestor;
 use crate::node::Node;
 use avida_port::Memory;
-use std::collections::BTreeMap;
-use std::collections::btree_map::Entry;
+use std::collections::HashMap;
+use std::collections::hash_map::Entry;
 
-pub(crate) type Nodes = BTreeMap<u64, Node>;
+pub(crate) type Nodes = HashMap<u64, Node>;
 
 /// A newcomer lives, and its parent has one child more. If memory runs out, nothing changes.
 pub(crate) fn enter(nodes: &mut Nodes, newcomer: Ancestor) -> Result<(), Memory>
-    requires nodes { AreNodes nodes.old.entries }
-    requires can_come { CanCome (tree_of nodes.old.entries) newcomer.id newcomer.parent }
-    ensures ok { OnOk result (tree_of nodes.new.entries
-        ≡ tree_with_newcomer (tree_of nodes.old.entries) newcomer) }
-    ensures err { OnErr result (nodes.new.entries ≡ nodes.old.entries) }
-    ensures nodes { AreNodes nodes.new.entries }
+    requires nodes { AreNodes (in_order nodes.old.entries) }
+    requires can_come { CanCome (tree_of (in_order nodes.old.entries)) newcomer.id newcomer.parent }
+    ensures ok { OnOk result (tree_of (in_order nodes.new.entries)
+        ≡ tree_with_newcomer (tree_of (in_order nodes.old.entries)) newcomer) }
+    ensures err { OnErr result (in_order nodes.new.entries ≡ in_order nodes.old.entries) }
+    ensures nodes { AreNodes (in_order nodes.new.entries) }
 {
     let _count = nodes.len();
     let id = newcomer.id;
@@ -35,10 +33,11 @@ pub(crate) fn enter(nodes: &mut Nodes, newcomer: Ancestor) -> Result<(), Memory>
 
 /// An organism dies, and no node stays in vain. It takes no memory.
 pub(crate) fn bury(nodes: &mut Nodes, id: u64)
-    requires nodes { AreNodes nodes.old.entries }
-    requires lives { Contains (living_ids_of nodes.old.entries) id }
-    ensures tree { tree_of nodes.new.entries ≡ tree_with_death (tree_of nodes.old.entries) id }
-    ensures nodes { AreNodes nodes.new.entries }
+    requires nodes { AreNodes (in_order nodes.old.entries) }
+    requires lives { Contains (living_ids_of (in_order nodes.old.entries)) id }
+    ensures tree { tree_of (in_order nodes.new.entries)
+        ≡ tree_with_death (tree_of (in_order nodes.old.entries)) id }
+    ensures nodes { AreNodes (in_order nodes.new.entries) }
 {
     let mut next = lay_down(nodes, id);
     while let Some(above) = next {
@@ -49,7 +48,7 @@ pub(crate) fn bury(nodes: &mut Nodes, id: u64)
 /// The organism of a node no longer lives. If the node is there in vain then, it goes, and its
 /// parent is given.
 fn lay_down(nodes: &mut Nodes, id: u64) -> Option<u64>
-    ensures { (node : NodeValue) → node_at nodes.old.entries id ≡ Some node
+    ensures { (node : NodeValue) → lookup (nat_eq id) nodes.old.entries ≡ Some node
         → IsSettled nodes.old.entries nodes.new.entries id (record node { lives = false }) result }
 {
     let Ok(Entry::Occupied(mut place)) = nodes.entry(id) else {
@@ -65,10 +64,10 @@ fn lay_down(nodes: &mut Nodes, id: u64) -> Option<u64>
 
 /// A node has one child more.
 fn gain_child(nodes: &mut Nodes, id: u64)
-    requires { (node : NodeValue) → node_at nodes.old.entries id ≡ Some node
+    requires { (node : NodeValue) → lookup (nat_eq id) nodes.old.entries ≡ Some node
         → node.children < 2 ^ 63 }
-    ensures { (node : NodeValue) → node_at nodes.old.entries id ≡ Some node
-        → nodes.new.entries ≡ set_value (is_at (nat_cmp id)) nodes.old.entries
+    ensures { (node : NodeValue) → lookup (nat_eq id) nodes.old.entries ≡ Some node
+        → nodes.new.entries ≡ set_value (nat_eq id) nodes.old.entries
         (record node { children = node.children + 1 }) }
 {
     let Some(node) = nodes.get_mut(&id) else {
@@ -79,9 +78,9 @@ fn gain_child(nodes: &mut Nodes, id: u64)
 
 /// A node has one child fewer. If it is there in vain then, it goes, and its parent is given.
 fn lose_child(nodes: &mut Nodes, id: u64) -> Option<u64>
-    requires { (node : NodeValue) → node_at nodes.old.entries id ≡ Some node
+    requires { (node : NodeValue) → lookup (nat_eq id) nodes.old.entries ≡ Some node
         → 0 < node.children }
-    ensures { (node : NodeValue) → node_at nodes.old.entries id ≡ Some node
+    ensures { (node : NodeValue) → lookup (nat_eq id) nodes.old.entries ≡ Some node
         → IsSettled nodes.old.entries nodes.new.entries id
         (record node { children = node.children - 1 }) result }
 {

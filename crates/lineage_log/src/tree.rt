@@ -13,7 +13,7 @@ use avida_port::Memory;
 use genome::Genome;
 use mutations::{ApplyStop, Origin, apply};
 use std::alloc::Global;
-use std::collections::BTreeMap;
+use std::collections::HashMap;
 use std::marker::Model;
 use std::sync::Arc;
 
@@ -24,14 +24,14 @@ pub struct Tree {
 }
 
 impl Model for Tree {
-    ghost use Rattle.lineage_log.specs.Nodes.{AreNodes, tree_of};
+    ghost use Rattle.lineage_log.specs.Nodes.{AreNodes, in_order, tree_of};
     ghost use Rattle.lineage_log.specs.Trees.{TreeValue};
 
     ghost Value = { TreeValue };
 
-    ghost view = { λ t. tree_of t.nodes.entries };
+    ghost view = { λ t. tree_of (in_order t.nodes.entries) };
 
-    ghost invariant = { λ t. AreNodes t.nodes.entries };
+    ghost invariant = { λ t. AreNodes (in_order t.nodes.entries) };
 }
 
 impl Tree {
@@ -47,7 +47,7 @@ impl Tree {
         })) }
     {
         let mut tree = Tree {
-            nodes: BTreeMap::new(alloc),
+            nodes: HashMap::new(alloc),
         };
         tree.founded(0, 0, cell, genome)?;
         Ok(tree)

@@ -1,6 +1,7 @@
 use Rattle.std.proofs.Common.{◌<◌, ap, subst, suc, ℕ, Option, arith}
 use Rattle.std.specs.Option.{option_map_or}
-use Rattle.lineage_log.proofs.DeathLemmas.{Go, go_again, go_first, laid_down, lies}
+use Rattle.lineage_log.specs.Nodes.{in_order}
+use Rattle.lineage_log.proofs.DeathLemmas.{Go, go_again, go_first, laid_down, lies, next_counts}
 use Rattle.lineage_log.proofs.KeptLemmas.{buried}
 use Rattle.lineage_log.proofs.nodes.bury.Goals as goal
 
@@ -10,17 +11,21 @@ loop-next-init c = record {
       c.lay_down-next.result c.requires.nodes c.requires.lives c.lay_down-next.ensures;
 }
 
+pub lose_child-next-requires : goal.lose_child-next-requires
+lose_child-next-requires c =
+    next_counts (laid_down c.args.id (in_order c.args.nodes.now.entries)) c.loop-next.nodes.entries
+    c.loop-next.next c.in-Some.above c.loop-next.invariant.go c.in-Some.is
+
 -- one node more went, or none
 turn : (c : goal.After-lose_child-next)
-    → Go (laid_down c.args.id c.args.nodes.now.entries) c.lose_child-next.new.nodes.entries
+    → Go (laid_down c.args.id (in_order c.args.nodes.now.entries))
+    (in_order c.lose_child-next.new.nodes.entries)
     c.lose_child-next.result
     × (option_map_or suc c.lose_child-next.result 0 < suc c.in-Some.above)
 turn c =
-    let start = laid_down c.args.id c.args.nodes.now.entries in
-    go_again start c.loop-next.nodes.entries c.lose_child-next.new.nodes.entries c.in-Some.above
-    c.lose_child-next.result
-    (subst (λ next. Go start c.loop-next.nodes.entries next) c.in-Some.is c.loop-next.invariant.go)
-    c.lose_child-next.ensures
+    go_again (laid_down c.args.id (in_order c.args.nodes.now.entries)) c.loop-next.nodes.entries
+    c.lose_child-next.new.nodes.entries c.loop-next.next c.in-Some.above c.lose_child-next.result
+    c.loop-next.invariant.go c.in-Some.is c.lose_child-next.ensures
 
 pub loop-next-smaller : goal.loop-next-smaller
 loop-next-smaller c =
@@ -31,9 +36,10 @@ loop-next-preserved c = record { go = (turn c).0 }
 
 pub returns-clause-tree : goal.returns-clause-tree
 returns-clause-tree c =
-    let start = laid_down c.args.id c.args.nodes.now.entries in
-    let go = subst (λ next. Go start c.loop-next.nodes.entries next) c.in_default.is
+    let start = laid_down c.args.id (in_order c.args.nodes.now.entries) in
+    let go = subst (λ next. Go start (in_order c.loop-next.nodes.entries) next) c.in_default.is
     c.loop-next.invariant.go in
-    buried c.args.nodes.now.entries start c.loop-next.nodes.entries c.args.id
-    (lies c.args.nodes.now.entries c.args.id c.requires.nodes c.requires.lives)
+    let nodes = in_order c.args.nodes.now.entries in
+    buried nodes start (in_order c.loop-next.nodes.entries) c.args.id
+    (lies nodes c.args.id c.requires.nodes c.requires.lives)
     (record { families = go.families; needed = go.needed }) go.fewer

@@ -1,40 +1,58 @@
-use Rattle.std.proofs.Common.{◌≡◌, ◌∙◌, ap, sym, cond, nat_cmp, Some, arith}
-use Rattle.std.specs.BTreeMap.{insert_entry, is_at}
+use Rattle.std.proofs.Common.{◌≡◌, ◌∙◌, ap, sym, cond, ℕ, ◌+◌, Some, arith}
+use Rattle.std.specs.Prelude.{nat_eq}
+use Rattle.std.specs.Map.{lookup}
 use Rattle.lineage_log.specs.Links.{Link}
-use Rattle.lineage_log.specs.Nodes.{AreNodes, node_at, tree_of}
+use Rattle.lineage_log.specs.Nodes.{AreNodes, in_order, tree_of}
 use Rattle.lineage_log.specs.Trees.{tree_with_newcomer}
 use Rattle.lineage_log.proofs.ComingLemmas.{Comes, child_enters, comes, founder_enters, has_room}
+use Rattle.lineage_log.proofs.OrderLemmas.{order_at, order_few, order_finds, order_put, order_rises, order_set}
 use Rattle.lineage_log.proofs.nodes.enter.Goals.{In_ok-insert}
 use Rattle.lineage_log.proofs.nodes.enter.Goals as goal
 
 -- the newcomer came
 came : (c : In_ok-insert)
-    → Comes c.args.nodes.now.entries c.insert.new.self.entries c.args.newcomer c.new.result
+    → Comes (in_order c.args.nodes.now.entries) (in_order c.insert.new.self.entries) c.args.newcomer
+    c.new.result
 came c =
     let before = c.args.nodes.now.entries in
-    let id = ap (λ (l : Link). l.id) c.newcomer.view_is in
-    comes before c.insert.new.self.entries c.args.newcomer c.new.result c.requires.nodes
-    c.requires.can_come c.new.ensures c.in_ok-insert.ensures.ordered
-    (c.in_ok-insert.ensures.entries ∙ ap (λ n. insert_entry nat_cmp before n c.new.result) id)
-    (λ other. c.in_ok-insert.ensures.updates.0 other
-    ∙ ap (λ n. cond (is_at (nat_cmp n) other) (Some c.new.result) (node_at before other)) id)
+    let after = c.insert.new.self.entries in
+    let at : (other : ℕ) → lookup (nat_eq other) after
+    ≡ cond (nat_eq c.args.newcomer.id other) (Some c.new.result) (lookup (nat_eq other) before) =
+    λ other. c.in_ok-insert.ensures.updates.0 other
+    ∙ ap (λ (l : Link). cond (nat_eq l.id other) (Some c.new.result)
+    (lookup (nat_eq other) before)) c.newcomer.view_is in
+    comes (in_order before) (in_order after) c.args.newcomer c.new.result c.requires.nodes
+    c.requires.can_come c.new.ensures (order_rises after)
+    (order_put before after c.args.newcomer.id c.new.result at)
+    (order_at before after c.args.newcomer.id (Some c.new.result) at)
 
 pub gain_child-requires : goal.gain_child-requires
 gain_child-requires c =
-    λ node there. has_room c.args.nodes.now.entries c.insert.new.self.entries c.args.newcomer
-    c.new.result 9223372036854775808 c.in-Some.parent node c.requires.nodes
+    λ node there. has_room (in_order c.args.nodes.now.entries) (in_order c.insert.new.self.entries)
+    c.args.newcomer c.new.result 9223372036854775808 c.in-Some.parent node c.requires.nodes
     (came (goal.at.gain_child-requires c).In_ok-insert)
-    (omega (arith, c.len-count.ensures.len, c.len-count.ensures.small)) there
+    (omega (
+      arith,
+      order_few c.args.nodes.now.entries,
+      c.len-count.ensures.len,
+      c.len-count.ensures.small,
+    ))
+    (order_finds c.insert.new.self.entries c.in-Some.parent ∙ there)
 
 -- a child came
-child : (c : goal.After-gain_child) → AreNodes c.gain_child.new.nodes.entries
-    × (tree_of c.gain_child.new.nodes.entries
-    ≡ tree_with_newcomer (tree_of c.args.nodes.now.entries) c.args.newcomer)
+child : (c : goal.After-gain_child) → AreNodes (in_order c.gain_child.new.nodes.entries)
+    × (tree_of (in_order c.gain_child.new.nodes.entries)
+    ≡ tree_with_newcomer (tree_of (in_order c.args.nodes.now.entries)) c.args.newcomer)
 child c =
-    child_enters c.args.nodes.now.entries c.insert.new.self.entries c.gain_child.new.nodes.entries
-    c.args.newcomer c.new.result c.in-Some.parent c.requires.nodes c.requires.can_come
-    (came (goal.at.returns-in-Some-clause-ok c).In_ok-insert)
-    (sym (ap (λ (l : Link). l.parent) c.newcomer.view_is) ∙ c.in-Some.is) c.gain_child.ensures
+    let mid = c.insert.new.self.entries in
+    child_enters (in_order c.args.nodes.now.entries) (in_order mid)
+    (in_order c.gain_child.new.nodes.entries) c.args.newcomer c.new.result c.in-Some.parent
+    c.requires.nodes c.requires.can_come (came (goal.at.returns-in-Some-clause-ok c).In_ok-insert)
+    (sym (ap (λ (l : Link). l.parent) c.newcomer.view_is) ∙ c.in-Some.is)
+    (λ node there.
+    let is = sym (order_finds mid c.in-Some.parent) ∙ there in
+    ap in_order (c.gain_child.ensures node is)
+    ∙ order_set mid c.in-Some.parent node (record node { children = node.children + 1 }) is)
 
 pub returns-in-Some-clause-ok : goal.returns-in-Some-clause-ok
 returns-in-Some-clause-ok c = (child c).1
@@ -48,6 +66,7 @@ returns-in_default-clause-ok c =
 
 pub returns-in_default-clause-nodes : goal.returns-in_default-clause-nodes
 returns-in_default-clause-nodes c =
-    founder_enters c.args.nodes.now.entries c.insert.new.self.entries c.args.newcomer c.new.result
-    c.requires.nodes (came (goal.at.returns-in_default-clause-nodes c).In_ok-insert)
+    founder_enters (in_order c.args.nodes.now.entries) (in_order c.insert.new.self.entries)
+    c.args.newcomer c.new.result c.requires.nodes
+    (came (goal.at.returns-in_default-clause-nodes c).In_ok-insert)
     (sym (ap (λ (l : Link). l.parent) c.newcomer.view_is) ∙ c.in_default.is)

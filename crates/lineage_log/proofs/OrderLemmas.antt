@@ -1,0 +1,352 @@
+-- Nodes in order of their ids: what is found there, whatever order they are kept in.
+use Rattle.std.proofs.Common.{◌≡◌, ◌≢◌, ⊎_elim, ◌∙◌, refl, sym, ap, subst, ℕ, ◌+◌, ◌<◌, ◌≤◌, Bool, true, false, cond, List, [], ◌∷◌, length, Option, Some, None, nat_cmp, Ordering, Less, Equal, Greater, arith}
+use Rattle.std.specs.Prelude.{IsSome, nat_eq}
+use Rattle.std.specs.BTreeMap.{insert_entry, is_at}
+use Rattle.std.specs.Cmp.{nat_cmp_is, nat_cmp_total, ranked, unsigned_tied}
+use Rattle.std.specs.List.{AllByRecursion, IsDistinct}
+use Rattle.std.specs.Map.{keys_of, lookup, remove_entry, set_value}
+use Rattle.std.specs.Option.{unwrap_or}
+use Rattle.std.specs.Ordering.{eq_by_cmp, is_eq, match_ordering}
+use Rattle.std.specs.List.Sorted.{IsStrictlySortedBy}
+use Rattle.std.proofs.lemmas.Cmp.{eq_by_cmp_equiv, nat_eq_equiv}
+use Rattle.std.proofs.lemmas.Bool.{cond-true, cond-false}
+use Rattle.std.proofs.lemmas.Map.{lookup-none, lookup-remove_entry, lookup-set_value}
+use Rattle.std.proofs.lemmas.Map.Entries.{none_below_head}
+use Rattle.std.proofs.lemmas.Map.Keys.{IsDistinct-from_sorted, IsDistinct-head, IsDistinct-tail, sorted_head, sorted_tail}
+use Rattle.lineage_log.specs.Nodes.{NodeValue, AreNodes, in_order, node_at}
+use Rattle.lineage_log.proofs.NodeLemmas.{Rises, by_key, first_node, none_behind, other_node}
+
+-- all of these ids are above one
+abbrev Above : ℕ → List (ℕ × NodeValue) → Type 0
+Above id nodes = AllByRecursion (λ other. nat_cmp id other ≡ Less) (keys_of nodes)
+
+-- a node before others whose ids are above
+rises_cons : (e : ℕ × NodeValue) (es : List (ℕ × NodeValue)) → Above e.0 es → Rises es
+    → Rises (e ∷ es)
+unfolding IsStrictlySortedBy
+rises_cons e es above rising = (above, rising)
+
+-- what is above a higher id is above a lower one
+above_lower : (id higher : ℕ) (es : List (ℕ × NodeValue)) → id < higher → Above higher es
+    → Above id es
+above_lower id higher [] low above = tt
+above_lower id higher (e ∷ es) low above = (
+  sym (nat_cmp_is id e.0 Less
+      (let far : higher < e.0 = ranked higher e.0 Less (sym above.0) in omega (arith, low, far))),
+  above_lower id higher es low above.1,
+)
+
+-- one id above more
+above_put : (low : ℕ) (es : List (ℕ × NodeValue)) (id : ℕ) (node : NodeValue)
+    → nat_cmp low id ≡ Less → Above low es → Above low (insert_entry nat_cmp es id node)
+above_put low [] id node is above = (is, tt)
+above_put low (e ∷ es) id node is above =
+    by (above_put low es id node is above.1) (nat_cmp id e.0) where
+      -- however the id compares to the first one
+      by : Above low (insert_entry nat_cmp es id node) → (r : Ordering)
+          → Above low (match_ordering r ((id, node) ∷ e ∷ es) ((e.0, node) ∷ es)
+          (e ∷ insert_entry nat_cmp es id node))
+      by behind Less = (is, above)
+      by behind Equal = above
+      by behind Greater = (above.0, behind)
+
+-- ids still rise where one is put
+rises_put : (es : List (ℕ × NodeValue)) (id : ℕ) (node : NodeValue) → Rises es
+    → Rises (insert_entry nat_cmp es id node)
+rises_put [] id node rising = rises_cons (id, node) [] tt rising
+rises_put (e ∷ es) id node rising =
+    by (rises_put es id node (sorted_tail nat_cmp e.0 (keys_of es) rising)) (nat_cmp id e.0) refl
+  where
+    head : Above e.0 es
+    head = sorted_head nat_cmp e.0 (keys_of es) rising
+
+    -- however the id compares to the first one
+    by : Rises (insert_entry nat_cmp es id node) → (r : Ordering) → nat_cmp id e.0 ≡ r
+        → Rises (match_ordering r ((id, node) ∷ e ∷ es) ((e.0, node) ∷ es)
+        (e ∷ insert_entry nat_cmp es id node))
+    by behind Less below = rises_cons (id, node) (e ∷ es)
+        (below, above_lower id e.0 es (ranked id e.0 Less (sym below)) head) rising
+    by behind Equal same = rises_cons (e.0, node) es head
+        (sorted_tail nat_cmp e.0 (keys_of es) rising)
+    by behind Greater above = rises_cons e (insert_entry nat_cmp es id node)
+        (above_put e.0 es id node
+        (sym (nat_cmp_is e.0 id Less (ranked id e.0 Greater (sym above)))) head) behind
+
+-- fewer ids are above too
+above_remove : (low id : ℕ) (es : List (ℕ × NodeValue)) → Above low es
+    → Above low (remove_entry (is_at (nat_cmp id)) es)
+above_remove low id [] above = tt
+above_remove low id (e ∷ es) above =
+    by (is_at (nat_cmp id) e.0) (above_remove low id es above.1) where
+      -- whether it is the first or not
+      by : (b : Bool) → Above low (remove_entry (is_at (nat_cmp id)) es)
+          → Above low (cond b es (e ∷ remove_entry (is_at (nat_cmp id)) es))
+      by true behind = above.1
+      by false behind = (above.0, behind)
+
+-- ids still rise where one is removed
+rises_remove : (es : List (ℕ × NodeValue)) (id : ℕ) → Rises es
+    → Rises (remove_entry (is_at (nat_cmp id)) es)
+rises_remove [] id rising = rising
+rises_remove (e ∷ es) id rising =
+    by (is_at (nat_cmp id) e.0)
+    (rises_remove es id (sorted_tail nat_cmp e.0 (keys_of es) rising)) where
+      -- whether it is the first or not
+      by : (b : Bool) → Rises (remove_entry (is_at (nat_cmp id)) es)
+          → Rises (cond b es (e ∷ remove_entry (is_at (nat_cmp id)) es))
+      by true behind = sorted_tail nat_cmp e.0 (keys_of es) rising
+      by false behind = rises_cons e (remove_entry (is_at (nat_cmp id)) es)
+          (above_remove e.0 id es (sorted_head nat_cmp e.0 (keys_of es) rising)) behind
+
+-- an id is itself
+itself : (id : ℕ) → is_at (nat_cmp id) id ≡ true
+itself id = ⊎_elim (λ here. here.1) (λ apart. absurd (apart.0 refl)) (by_key id id)
+
+-- another id is another
+other_id : (id other : ℕ) → id ≢ other → is_at (nat_cmp id) other ≡ false
+other_id id other differs =
+    ⊎_elim (λ here. absurd (differs here.0)) (λ apart. apart.1) (by_key id other)
+
+-- what is put is there
+put_here : (es : List (ℕ × NodeValue)) (id : ℕ) (node : NodeValue)
+    → node_at (insert_entry nat_cmp es id node) id ≡ Some node
+put_here [] id node = first_node (id, node) [] id (itself id)
+put_here (e ∷ es) id node = by (put_here es id node) (nat_cmp id e.0) refl where
+  -- however the id compares to the first one
+  by : node_at (insert_entry nat_cmp es id node) id ≡ Some node → (r : Ordering)
+      → nat_cmp id e.0 ≡ r → node_at (match_ordering r ((id, node) ∷ e ∷ es) ((e.0, node) ∷ es)
+      (e ∷ insert_entry nat_cmp es id node)) id ≡ Some node
+  by behind Less below = first_node (id, node) (e ∷ es) id (itself id)
+  by behind Equal same = first_node (e.0, node) es id (ap is_eq same)
+  by behind Greater above =
+      other_node e (insert_entry nat_cmp es id node) id (ap is_eq above) ∙ behind
+
+-- what else is there stays
+put_apart : (es : List (ℕ × NodeValue)) (id : ℕ) (node : NodeValue) (other : ℕ) → id ≢ other
+    → node_at (insert_entry nat_cmp es id node) other ≡ node_at es other
+put_apart [] id node other differs =
+    other_node (id, node) [] other (other_id other id (λ same. differs (sym same)))
+put_apart (e ∷ es) id node other differs =
+    by (put_apart es id node other differs) (nat_cmp id e.0) refl where
+      -- however the id compares to the first one
+      by : node_at (insert_entry nat_cmp es id node) other ≡ node_at es other → (r : Ordering)
+          → nat_cmp id e.0 ≡ r
+          → node_at (match_ordering r ((id, node) ∷ e ∷ es) ((e.0, node) ∷ es)
+          (e ∷ insert_entry nat_cmp es id node)) other ≡ node_at (e ∷ es) other
+      by behind Less below =
+          other_node (id, node) (e ∷ es) other (other_id other id (λ same. differs (sym same)))
+      by behind Equal same =
+          let it : id ≡ e.0 = ranked id e.0 Equal (sym same) in
+          let out = other_id other e.0 (λ is. differs (it ∙ sym is)) in
+          other_node (e.0, node) es other out ∙ sym (other_node e es other out)
+      by behind Greater above = ⊎_elim
+          (λ here. first_node e (insert_entry nat_cmp es id node) other here.1
+          ∙ sym (first_node e es other here.1))
+          (λ apart. other_node e (insert_entry nat_cmp es id node) other apart.1 ∙ behind
+          ∙ sym (other_node e es other apart.1))
+          (by_key other e.0)
+
+-- ---- two lists in order in which all ids have the same nodes are one
+
+-- a first node is found in no list whose ids are above
+not_above : (d e : ℕ × NodeValue) (ds es : List (ℕ × NodeValue)) → Rises (e ∷ es)
+    → node_at (d ∷ ds) d.0 ≡ node_at (e ∷ es) d.0 → d.0 < e.0 → ⊥
+not_above d e ds es rising same below =
+    let none = lookup-none (is_at (nat_cmp d.0)) (e ∷ es)
+    (none_below_head nat_cmp_total d.0 e es rising (sym (nat_cmp_is d.0 e.0 Less below))) in
+    let some : Some d.1 ≡ None = sym (first_node d ds d.0 (itself d.0)) ∙ same ∙ none in cc
+
+-- the lists are one
+pub one_order : (ds es : List (ℕ × NodeValue)) → Rises ds → Rises es
+    → ((id : ℕ) → node_at ds id ≡ node_at es id) → ds ≡ es
+one_order [] [] low high same = refl
+one_order [] (e ∷ es) low high same = absurd
+    (let some : None ≡ Some e.1 = same e.0 ∙ first_node e es e.0 (itself e.0) in cc)
+one_order (d ∷ ds) [] low high same = absurd
+    (let some : Some d.1 ≡ None = sym (first_node d ds d.0 (itself d.0)) ∙ same d.0 in cc)
+one_order (d ∷ ds) (e ∷ es) low high same =
+    by (λ rest. one_order ds es (sorted_tail nat_cmp d.0 (keys_of ds) low)
+    (sorted_tail nat_cmp e.0 (keys_of es) high) rest) (nat_cmp d.0 e.0) refl
+  where
+    -- however the first ids compare
+    by : (((id : ℕ) → node_at ds id ≡ node_at es id) → ds ≡ es) → (r : Ordering)
+        → nat_cmp d.0 e.0 ≡ r → d ∷ ds ≡ e ∷ es
+    by rest Less below = absurd
+        (not_above d e ds es high (same d.0) (ranked d.0 e.0 Less (sym below)))
+    by rest Greater above = absurd
+        (not_above e d es ds low (sym (same e.0)) (ranked d.0 e.0 Greater (sym above)))
+    by rest Equal equal =
+        let key : d.0 ≡ e.0 = ranked d.0 e.0 Equal (sym equal) in
+        let value : d.1 ≡ e.1 = ap (λ (o : Option NodeValue). unwrap_or o d.1)
+        (sym (first_node d ds d.0 (itself d.0)) ∙ same d.0
+        ∙ first_node e es d.0 (ap is_eq equal)) in
+        let tails = rest (λ id. ⊎_elim
+        (λ here. none_behind d ds id low here.1 ∙ sym (none_behind e es id high
+        (subst (λ k. is_at (nat_cmp id) k ≡ true) key here.1)))
+        (λ apart. sym (other_node d ds id apart.1) ∙ same id ∙ other_node e es id
+        (subst (λ k. is_at (nat_cmp id) k ≡ false) key apart.1))
+        (by_key id d.0)) in
+        λ i. (key i, value i) ∷ tails i
+
+-- ---- in order
+
+-- ids rise there
+pub order_rises : (nodes : List (ℕ × NodeValue)) → Rises (in_order nodes)
+unfolding IsStrictlySortedBy
+order_rises [] = tt
+order_rises (e ∷ es) = rises_put (in_order es) e.0 e.1 (order_rises es)
+
+-- each id has its node there
+pub order_finds : (nodes : List (ℕ × NodeValue)) (id : ℕ)
+    → node_at (in_order nodes) id ≡ lookup (nat_eq id) nodes
+order_finds [] id = refl
+order_finds (e ∷ es) id = ⊎_elim
+    (λ here. subst (λ k. node_at (insert_entry nat_cmp (in_order es) k e.1) id ≡ Some e.1) here.0
+    (put_here (in_order es) id e.1)
+    ∙ sym (cond-true (nat_eq id e.0) (Some e.1) (lookup (nat_eq id) es)
+    (sym (unsigned_tied id e.0) ∙ here.1)))
+    (λ apart. put_apart (in_order es) e.0 e.1 id (λ same. apart.0 (sym same))
+    ∙ order_finds es id
+    ∙ sym (cond-false (nat_eq id e.0) (Some e.1) (lookup (nat_eq id) es)
+    (sym (unsigned_tied id e.0) ∙ apart.1)))
+    (by_key id e.0)
+
+-- what is put anywhere is put in order
+pub order_put : (before after : List (ℕ × NodeValue)) (id : ℕ) (node : NodeValue)
+    → ((other : ℕ) → lookup (nat_eq other) after
+    ≡ cond (nat_eq id other) (Some node) (lookup (nat_eq other) before))
+    → in_order after ≡ insert_entry nat_cmp (in_order before) id node
+order_put before after id node at =
+    one_order (in_order after) (insert_entry nat_cmp (in_order before) id node)
+    (order_rises after) (rises_put (in_order before) id node (order_rises before))
+    (λ other. ⊎_elim
+    (λ here. order_finds after other ∙ at other
+    ∙ cond-true (nat_eq id other) (Some node) (lookup (nat_eq other) before)
+    (sym (unsigned_tied id other) ∙ here.1)
+    ∙ sym (subst (λ k. node_at (insert_entry nat_cmp (in_order before) id node) k ≡ Some node)
+    here.0 (put_here (in_order before) id node)))
+    (λ apart. order_finds after other ∙ at other
+    ∙ cond-false (nat_eq id other) (Some node) (lookup (nat_eq other) before)
+    (sym (unsigned_tied id other) ∙ apart.1)
+    ∙ sym (order_finds before other)
+    ∙ sym (put_apart (in_order before) id node other apart.0))
+    (by_key id other))
+
+-- what one look-up says of each id
+pub order_at : (before after : List (ℕ × NodeValue)) (id : ℕ) (what : Option NodeValue)
+    → ((other : ℕ) → lookup (nat_eq other) after
+    ≡ cond (nat_eq id other) what (lookup (nat_eq other) before)) → (other : ℕ)
+    → node_at (in_order after) other
+    ≡ cond (is_at (nat_cmp id) other) what (node_at (in_order before) other)
+order_at before after id what at other =
+    order_finds after other ∙ at other
+    ∙ (λ i. cond (sym (unsigned_tied id other) i) what (sym (order_finds before other) i))
+
+-- what is removed anywhere is removed in order
+pub order_gone : (before after : List (ℕ × NodeValue)) (id : ℕ)
+    → ((other : ℕ) → lookup (nat_eq other) after
+    ≡ cond (nat_eq id other) None (lookup (nat_eq other) before))
+    → in_order after ≡ remove_entry (is_at (nat_cmp id)) (in_order before)
+order_gone before after id at =
+    let laws = eq_by_cmp_equiv nat_cmp_total in
+    let nodes = in_order before in
+    one_order (in_order after) (remove_entry (is_at (nat_cmp id)) nodes) (order_rises after)
+    (rises_remove nodes id (order_rises before))
+    (λ other. order_at before after id None at other
+    ∙ sym (lookup-remove_entry {eq = eq_by_cmp nat_cmp} laws (is_at (nat_cmp id))
+    (λ x y h. laws.congr id x y h) other nodes
+    (IsDistinct-from_sorted nat_cmp (keys_of nodes) (order_rises before))))
+
+-- what is put under an id that is there is set
+pub insert_is_set : (nodes : List (ℕ × NodeValue)) (id : ℕ) (node : NodeValue) → Rises nodes
+    → IsSome (node_at nodes id)
+    → insert_entry nat_cmp nodes id node ≡ set_value (is_at (nat_cmp id)) nodes node
+insert_is_set [] id node rising is = absurd cc
+insert_is_set (e ∷ es) id node rising is =
+    by (λ rest. insert_is_set es id node (sorted_tail nat_cmp e.0 (keys_of es) rising) rest)
+    (nat_cmp id e.0) refl
+  where
+    -- however the id compares to the first one
+    by : (IsSome (node_at es id) → insert_entry nat_cmp es id node
+        ≡ set_value (is_at (nat_cmp id)) es node) → (r : Ordering) → nat_cmp id e.0 ≡ r
+        → match_ordering r ((id, node) ∷ e ∷ es) ((e.0, node) ∷ es)
+        (e ∷ insert_entry nat_cmp es id node)
+        ≡ cond (is_eq r) ((e.0, node) ∷ es) (e ∷ set_value (is_at (nat_cmp id)) es node)
+    by behind Less below = absurd (let none = lookup-none (is_at (nat_cmp id)) (e ∷ es)
+        (none_below_head nat_cmp_total id e es rising below) in cc)
+    by behind Equal same = refl
+    by behind Greater above = ap (λ (rest : List (ℕ × NodeValue)). e ∷ rest)
+        (behind (subst IsSome (other_node e es id (ap is_eq above)) is))
+
+-- what is set anywhere is set in order
+pub order_set : (nodes : List (ℕ × NodeValue)) (id : ℕ) (old new : NodeValue)
+    → lookup (nat_eq id) nodes ≡ Some old → in_order (set_value (nat_eq id) nodes new)
+    ≡ set_value (is_at (nat_cmp id)) (in_order nodes) new
+order_set nodes id old new is =
+    order_put nodes (set_value (nat_eq id) nodes new) id new
+    (λ other. lookup-set_value {eq = nat_eq} nat_eq_equiv (nat_eq id)
+    (λ x y h. nat_eq_equiv.congr id x y h) other new nodes (subst IsSome (sym is) refl))
+    ∙ insert_is_set (in_order nodes) id new (order_rises nodes)
+    (subst IsSome (sym (order_finds nodes id ∙ is)) refl)
+
+-- there are no more nodes in order
+pub order_few : (nodes : List (ℕ × NodeValue)) → length (in_order nodes) ≤ length nodes
+order_few [] = omega arith
+order_few (e ∷ es) = omega (arith, one_more (in_order es) e.0 e.1, order_few es) where
+  -- at most one more
+  one_more : (nodes : List (ℕ × NodeValue)) (id : ℕ) (node : NodeValue)
+      → length (insert_entry nat_cmp nodes id node) ≤ length nodes + 1
+  one_more [] id node = omega arith
+  one_more (d ∷ ds) id node = by (one_more ds id node) (nat_cmp id d.0) where
+    -- however the id compares to the first one
+    by : length (insert_entry nat_cmp ds id node) ≤ length ds + 1 → (r : Ordering)
+        → length (match_ordering r ((id, node) ∷ d ∷ ds) ((d.0, node) ∷ ds)
+        (d ∷ insert_entry nat_cmp ds id node)) ≤ length (d ∷ ds) + 1
+    by behind Less = omega arith
+    by behind Equal = omega arith
+    by behind Greater = omega (arith, behind)
+
+-- one more where the id isn't there
+put_length : (nodes : List (ℕ × NodeValue)) (id : ℕ) (node : NodeValue) → node_at nodes id ≡ None
+    → length (insert_entry nat_cmp nodes id node) ≡ length nodes + 1
+put_length [] id node none = refl
+put_length (e ∷ es) id node none =
+    by (λ behind. put_length es id node behind) (nat_cmp id e.0) refl where
+      -- however the id compares to the first one
+      by : (node_at es id ≡ None → length (insert_entry nat_cmp es id node) ≡ length es + 1)
+          → (r : Ordering) → nat_cmp id e.0 ≡ r
+          → length (match_ordering r ((id, node) ∷ e ∷ es) ((e.0, node) ∷ es)
+          (e ∷ insert_entry nat_cmp es id node)) ≡ length (e ∷ es) + 1
+      by behind Less below = omega arith
+      by behind Equal same = absurd (let some : Some e.1 ≡ None =
+          sym (first_node e es id (ap is_eq same)) ∙ none in cc)
+      by behind Greater above =
+          omega (arith, behind (sym (other_node e es id (ap is_eq above)) ∙ none))
+
+-- an id that differs from all is not found
+not_found : (nodes : List (ℕ × NodeValue)) (id : ℕ)
+    → AllByRecursion (λ other. nat_eq id other ≡ false) (keys_of nodes)
+    → lookup (nat_eq id) nodes ≡ None
+not_found [] id apart = refl
+not_found (e ∷ es) id apart =
+    cond-false (nat_eq id e.0) (Some e.1) (lookup (nat_eq id) es) apart.0
+    ∙ not_found es id apart.1
+
+-- there are as many nodes in order where the ids are distinct
+pub order_length : (nodes : List (ℕ × NodeValue)) → IsDistinct nat_eq (keys_of nodes)
+    → length (in_order nodes) ≡ length nodes
+order_length [] distinct = refl
+order_length (e ∷ es) distinct =
+    omega (
+      arith,
+      put_length (in_order es) e.0 e.1 (order_finds es e.0
+          ∙ not_found es e.0 (IsDistinct-head nat_eq e.0 (keys_of es) distinct)),
+      order_length es (IsDistinct-tail nat_eq e.0 (keys_of es) distinct),
+    )
+
+-- no nodes are nodes
+pub no_nodes : AreNodes []
+no_nodes = record {
+  families = record { rising = order_rises []; each = λ id node is. absurd cc };
+  needed = λ id node is dies hole. absurd cc;
+}
