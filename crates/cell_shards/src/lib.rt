@@ -12,6 +12,7 @@ mod lives;
 mod round;
 mod running;
 mod shards;
+mod standing;
 
 pub use boxed_organism::BoxedOrganism;
 pub use delivered::{Delivered, Deliveries};
@@ -20,3 +21,4 @@ pub use job::{Cells, Job, Slices};
 pub use round::Round;
 pub use running::run_all;
 pub use shards::bounds;
+pub use standing::{Standing, Standings};

@@ -10,6 +10,7 @@ use crate::finished::{Dead, Finished};
 use crate::job::{Cells, Job};
 use crate::lives::live;
 use crate::round::Round;
+use crate::standing::Standings;
 use avida_port::{Gate, Memory};
 use genotype_bank::Bank;
 use std::alloc::{AllocError, Global};
@@ -146,6 +147,7 @@ fn run<R: Wait>(
     Ok(Finished {
         first,
         cells: Cells::from_vec(cells),
+        standings: Standings::from_vec(lived.standings),
         births,
         dead: Dead::from_vec(lived.dead),
         seat,
