@@ -15,9 +15,7 @@ ghost use Rattle.world_core.specs.Soundness.{AreBounded, AreBoundedLives};
 
 use crate::genotypes::Genotypes;
 use crate::lived::Lived;
-use crate::lives::{
-    count_again, credits_of, merits_of, round_at, slices_by, with_ids, with_parents,
-};
+use crate::lives::{count_again, round_at, slices_by, with_ids, with_parents};
 use crate::residents::Residents;
 use crate::sharding::{Ended, live_in_shards};
 use avida_port::{Gate, Memory};
@@ -224,27 +222,24 @@ impl Population {
             genotypes: known,
             mut census,
         } = self;
-        let Residents { organisms, ids } = cells;
-        let merits = merits_of(alloc, &organisms)?;
-        let credits = credits_of(alloc, &organisms)?;
-        let slices = slices_by(alloc, config, &merits)?;
+        let Residents {
+            organisms,
+            ids,
+            standings: before,
+        } = cells;
+        let slices = slices_by(alloc, config, &before)?;
         let round = round_at(config, update + 1);
         let (genotypes, ended) = live_in_shards(
             rt, alloc, known, organisms, slices, &round, workers, gate,
         )?;
         let Ended {
             organisms: left,
+            standings,
             births,
             dead,
         } = ended;
         for cell in 0..left.len() {
-            count_again(
-                &mut census,
-                keys[cell],
-                merits[cell],
-                credits[cell],
-                &left[cell],
-            );
+            count_again(&mut census, keys[cell], before[cell], standings[cell]);
         }
         let lived = Lived {
             births: with_parents(alloc, &ids, births)?,
@@ -254,6 +249,7 @@ impl Population {
             cells: Residents {
                 organisms: left,
                 ids,
+                standings,
             },
             keys,
             genotypes,
