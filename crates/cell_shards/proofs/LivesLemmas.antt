@@ -9,7 +9,8 @@ use Rattle.organism.specs.declared.ran.Ran.{Ran}
 use Rattle.organism.specs.Lived.{beginning}
 use Rattle.organism.specs.OrganismState.{OrganismState}
 use Rattle.organism.specs.UpdateLife.{LifeState, is_death, life}
-use Rattle.cell_shards.specs.CellLives.{ShardLife, RoundNumbers, Part, BirthValue, IsYoung, as_shard_life, shard_life_of, shard_life_at, shard_lives_of, left_in, shard_births_in, births_from, deaths_from}
+use Rattle.cell_shards.specs.CellLives.{ShardLife, RoundNumbers, Part, BirthValue, IsYoung, as_shard_life, shard_life_of, shard_life_at, shard_lives_of, left_in, shard_births_in, births_from, deaths_from, standing_in}
+use Rattle.cell_shards.specs.declared.standing.Standing.{Standing}
 use Rattle.cell_shards.proofs.PartLemmas.{births_from-push, deaths_from-push}
 
 -- the life of a cell is that of its organism
@@ -37,17 +38,20 @@ first_lives round part n = map (shard_life_at round part) (range_with_len 0 n)
 
 -- where the first cells have lived
 pub record HaveLived (round : RoundNumbers) (part : Part) (n : ℕ)
-    (cells : List (Option OrganismState)) (births : List BirthValue) (dead : List ℕ) : Type 0 where
+    (cells : List (Option OrganismState)) (standings : List (Option Standing))
+    (births : List BirthValue) (dead : List ℕ) : Type 0 where
   pub cells_are : cells ≡ map left_in (first_lives round part n) ++ drop n part.cells
+  pub standings_are : standings ≡ map standing_in (map left_in (first_lives round part n))
   pub births_are : births ≡ births_from part.first (first_lives round part n)
   pub dead_are : dead ≡ deaths_from part.first (first_lives round part n)
 
 -- no cell has
-pub HaveLived-none : (round : RoundNumbers) (part : Part) (births : List BirthValue) (dead : List ℕ)
-    → births ≡ [] → dead ≡ [] → HaveLived round part 0 part.cells births dead
+pub HaveLived-none : (round : RoundNumbers) (part : Part) (standings : List (Option Standing))
+    (births : List BirthValue) (dead : List ℕ) → standings ≡ [] → births ≡ [] → dead ≡ []
+    → HaveLived round part 0 part.cells standings births dead
 unfolding births_from deaths_from
-HaveLived-none round part births dead unborn alive =
-    record { cells_are = refl; births_are = unborn; dead_are = alive }
+HaveLived-none round part standings births dead untold unborn alive =
+    record { cells_are = refl; standings_are = untold; births_are = unborn; dead_are = alive }
 
 -- the next cell has not lived yet
 cell-next : (start cells : List (Option OrganismState)) (lives : List ShardLife) (n : ℕ)
@@ -73,26 +77,28 @@ cells-push start cells lives l n long within here =
 
 -- who stands in the next cell is as young as at the start
 pub HaveLived-next : (round : RoundNumbers) (part : Part) (n : ℕ)
-    (cells : List (Option OrganismState)) (births : List BirthValue) (dead : List ℕ)
-    (d : Option OrganismState) → HaveLived round part n cells births dead → n < length part.cells
+    (cells : List (Option OrganismState)) (standings : List (Option Standing))
+    (births : List BirthValue) (dead : List ℕ) (d : Option OrganismState)
+    → HaveLived round part n cells standings births dead → n < length part.cells
     → All IsYoung part.cells → IsYoung (get_or cells n d)
-HaveLived-next round part n cells births dead d so_far within young =
+HaveLived-next round part n cells standings births dead d so_far within young =
     let next = cell-next part.cells cells (first_lives round part n) n d
     (length-map-range_with_len (shard_life_at round part) 0 n) within so_far.cells_are in
     subst IsYoung (sym next) (young n d within)
 
 module _ {round : RoundNumbers} {part : Part} {n : ℕ} {cells : List (Option OrganismState)}
-    {births : List BirthValue} {dead : List ℕ} where
+    {standings : List (Option Standing)} {births : List BirthValue} {dead : List ℕ} where
   -- one more cell has
   pub HaveLived-more : (l : ShardLife) {old left : Option OrganismState}
-      {next_births : List BirthValue} {next_dead : List ℕ}
-      → HaveLived round part n cells births dead → n < length part.cells
+      {next_standings : List (Option Standing)} {next_births : List BirthValue} {next_dead : List ℕ}
+      → HaveLived round part n cells standings births dead → n < length part.cells
       → old ≡ get_or cells n None
       → shard_life_of round (part.first + n) (get_or part.slices n 0) old ≡ l → left ≡ left_in l
+      → next_standings ≡ standings ++ standing_in left ∷ []
       → next_births ≡ births ++ shard_births_in (part.first + n, l)
       → next_dead ≡ dead ++ cond l.died ((part.first + n) ∷ []) []
-      → HaveLived round part (n + 1) (set cells n left) next_births next_dead
-  HaveLived-more l so_far within was lived gone born buried =
+      → HaveLived round part (n + 1) (set cells n left) next_standings next_births next_dead
+  HaveLived-more l so_far within was lived gone told born buried =
       let cell = part.first + n in
       let lives = first_lives round part n in
       let size : length lives ≡ n = length-map-range_with_len (shard_life_at round part) 0 n in
@@ -107,6 +113,11 @@ module _ {round : RoundNumbers} {part : Part} {n : ℕ} {cells : List (Option Or
         cells_are = ap (set cells n) gone
             ∙ cells-push part.cells cells lives l n size within so_far.cells_are
             ∙ ap (λ ls. map left_in ls ++ drop (n + 1) part.cells) (sym more);
+        standings_are = told
+            ∙ (λ i. so_far.standings_are i ++ standing_in (gone i) ∷ [])
+            ∙ sym (map-append standing_in (map left_in lives) (left_in l ∷ []))
+            ∙ ap (map standing_in) (sym (map-append left_in lives (l ∷ [])))
+            ∙ ap (λ ls. map standing_in (map left_in ls)) (sym more);
         births_are = born ∙ ap (λ bs. bs ++ shard_births_in (cell, l)) so_far.births_are
             ∙ sym (births_from-push part.first lives l cell place)
             ∙ ap (births_from part.first) (sym more);
@@ -116,7 +127,8 @@ module _ {round : RoundNumbers} {part : Part} {n : ℕ} {cells : List (Option Or
       }
 
 module _ (round : RoundNumbers) (part : Part) (n : ℕ) (cells : List (Option OrganismState))
-    (births : List BirthValue) (dead : List ℕ) (so_far : HaveLived round part n cells births dead)
+    (standings : List (Option Standing)) (births : List BirthValue) (dead : List ℕ)
+    (so_far : HaveLived round part n cells standings births dead)
     (all : n ≡ length part.cells) where
   -- all cells have
   lives_all : first_lives round part n ≡ shard_lives_of round part
@@ -129,6 +141,11 @@ module _ (round : RoundNumbers) (part : Part) (n : ℕ) (cells : List (Option Or
       so_far.cells_are ∙ ap (λ rest. map left_in (first_lives round part n) ++ rest)
       (drop_all n part.cells (omega (arith, all)))
       ∙ append-nil (map left_in (first_lives round part n)) ∙ ap (map left_in) lives_all
+
+  -- what is told of the cells is what is counted of who is left in them
+  pub all-standings : standings ≡ map standing_in cells
+  all-standings = so_far.standings_are ∙ ap (λ lives. map standing_in (map left_in lives)) lives_all
+      ∙ sym (ap (map standing_in) all-cells)
 
   -- the births are those of all the lives
   pub all-births : births ≡ births_from part.first (shard_lives_of round part)

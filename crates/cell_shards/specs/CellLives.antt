@@ -1,7 +1,7 @@
 -- The lives of cells that lie side by side (docs/WORLD.md, "The life of one update"). For example,
 -- a part whose first cell is 40 and that has three cells lives as the cells 40, 41 and 42 of the
 -- world, each with its own stream, so it is the same however the world is cut.
-use Rattle.std.specs.Prelude.{ℕ, ◌+◌, ◌<◌, ◌^◌, Bool, false, List, [], length, map, filter, Option, None, Some, slice_index_or, if◌then◌else◌}
+use Rattle.std.specs.Prelude.{ℕ, ◌+◌, ◌<◌, ◌^◌, Bool, false, List, [], length, map, filter, Option, None, Some, option_map, slice_index_or, if◌then◌else◌}
 use Rattle.std.specs.List.{range_with_len, flat_map, enumerate_from}
 use Rattle.random_streams.specs.declared.purpose.Purpose.TheVariants.{Run}
 use Rattle.random_streams.specs.RandomStream.{draw}
@@ -12,6 +12,7 @@ use Rattle.organism.specs.OrganismState.{OrganismState}
 use Rattle.organism.specs.SettingNumbers.{SettingNumbers, setting_numbers}
 use Rattle.organism.specs.UpdateLife.{LifeState, is_death, life}
 use Rattle.cell_shards.specs.declared.round.Round.{Round}
+use Rattle.cell_shards.specs.declared.standing.Standing.{Standing}
 
 -- what all lives of an update share, as numbers
 pub record RoundNumbers : Type 0 where
@@ -76,6 +77,14 @@ shard_lives_of round part = map (shard_life_at round part) (range_with_len 0 (le
 -- who stands in a cell once the dead have left
 abbrev pub left_in : ShardLife → Option OrganismState
 left_in l = if l.died then None else l.organism
+
+-- what is counted of an organism
+abbrev pub standing_of : OrganismState → Standing
+standing_of o = record { merit = o.merit; credited = o.credited }
+
+-- what is counted of who stands in a cell
+abbrev pub standing_in : Option OrganismState → Option Standing
+standing_in slot = option_map standing_of slot
 
 -- a newborn, with its parent's cell
 pub record BirthValue : Type 0 where

@@ -13,7 +13,7 @@ use Rattle.genotype_bank.specs.declared.view.Call.TheVariants.{Interned}
 use Rattle.genotype_bank.specs.declared.view.Entry.{Entry}
 use Rattle.instruction_set.specs.declared.letter.Letter.{Letter}
 use Rattle.mutations.specs.BirthRecord.{record_of}
-use Rattle.cell_shards.specs.CellLives.{BirthValue, IsYoung, Part, RoundNumbers, births_from, deaths_from, left_in, part_from, shard_lives_of}
+use Rattle.cell_shards.specs.CellLives.{BirthValue, IsYoung, Part, RoundNumbers, births_from, deaths_from, left_in, part_from, shard_lives_of, standing_in}
 use Rattle.cell_shards.specs.declared.delivered.Delivered.{Delivered}
 use Rattle.cell_shards.specs.declared.finished.Finished.{Finished}
 use Rattle.cell_shards.specs.declared.job.Job.{Job}
@@ -69,11 +69,12 @@ pub record HasInterned (old new : SeatValue) (births : List Delivered) : Type 0 
   pub interned : map (λ call. call.call) calls ≡ map call_for births
   pub numbers : All (IsNumbered new.seen) births
 
--- a job's cells have lived, the dead have left them, its newborns are delivered, and its seat has
--- interned them
+-- a job's cells have lived, the dead have left them, what is counted of the others is told, its
+-- newborns are delivered, and its seat has interned them
 pub record IsFinished (round : RoundNumbers) (job : Job) (finished : Finished) : Type 0 where
   pub first : finished.first ≡ job.first
   pub cells : finished.cells ≡ map left_in (shard_lives_of round (part_of job))
+  pub standings : finished.standings ≡ map standing_in finished.cells
   pub births : map birth_of finished.births
       ≡ births_from job.first (shard_lives_of round (part_of job))
   pub dead : finished.dead ≡ deaths_from job.first (shard_lives_of round (part_of job))

@@ -1,3 +1,4 @@
+use crate::standing::Standing;
 use avida_port::Memory;
 use organism::Organism;
 use std::alloc::Global;
@@ -19,6 +20,7 @@ impl Model for BoxedOrganism {
 
 impl BoxedOrganism {
     ghost use Rattle.std.specs.Prelude.{◌≡◌, IfOk};
+    ghost use Rattle.cell_shards.specs.CellLives.{standing_of};
 
     /// The organism moves there.
     pub fn new(alloc: Global, organism: Organism) -> Result<BoxedOrganism, Memory>
@@ -34,5 +36,15 @@ impl BoxedOrganism {
         ensures { result.now ≡ self.now }
     {
         &self.inner
+    }
+
+    /// What is counted of it.
+    pub fn standing(&self) -> Standing
+        ensures { result ≡ standing_of self.now }
+    {
+        Standing {
+            merit: self.inner.merit(),
+            credited: self.inner.credited(),
+        }
     }
 }

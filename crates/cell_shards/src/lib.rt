@@ -12,11 +12,13 @@ mod lives;
 mod round;
 mod running;
 mod shards;
+mod standing;
 
 pub use boxed_organism::BoxedOrganism;
 pub use delivered::{Delivered, Deliveries};
 pub use finished::{Dead, Finished};
-pub use job::{Cells, Job, Slices};
+pub use job::{Cells, Job, Slices, Spent};
 pub use round::Round;
 pub use running::run_all;
 pub use shards::bounds;
+pub use standing::{Standing, Standings};

@@ -2,20 +2,22 @@
 ghost use Rattle.std.specs.Prelude.{◌≡◌, ◌+◌, ◌<◌, ◌≤◌, ◌^◌, ◌∷◌, ◌++◌, [], Some, None, All, OnOk, IfOk, length, map, if◌then◌else◌};
 ghost use Rattle.organism.specs.Newborns.{newborn_value};
 ghost use Rattle.organism.specs.UpdateLife.{is_death};
-ghost use Rattle.cell_shards.specs.CellLives.{IsYoung, birth_in, births_from, deaths_from, left_in, part_from, round_numbers, shard_life_of, shard_lives_of};
+ghost use Rattle.cell_shards.specs.CellLives.{IsYoung, birth_in, births_from, deaths_from, left_in, part_from, round_numbers, shard_life_of, shard_lives_of, standing_in};
 
 use crate::boxed_organism::BoxedOrganism;
 use crate::cell_birth::CellBirth;
 use crate::round::Round;
+use crate::standing::Standing;
 use avida_port::Memory;
 use organism::{Births, Organism, Ran};
 use random_streams::{CELLS, Draws, Purpose};
 use std::alloc::Global;
 
-/// What the lives of a shard bring: its newborns in order of cell and birth, and the cells whose
-/// organism died of age.
+/// What the lives of a shard bring: what is counted of who is left in each cell, its newborns in
+/// order of cell and birth, and the cells whose organism died of age.
 #[derive(Drop)]
 pub(crate) struct Lived {
+    pub(crate) standings: Vec<Option<Standing>>,
     pub(crate) births: Vec<CellBirth>,
     pub(crate) dead: Vec<u32>,
 }
@@ -42,12 +44,15 @@ pub(crate) fn live(
     requires young { All IsYoung cells.old }
     ensures cells { OnOk result (cells.new ≡ map left_in
         (shard_lives_of (round_numbers round.now) (part_from first cells.old slices.now))) }
+    ensures standings { IfOk result
+        (λ lived. lived.standings.items ≡ map standing_in cells.new) }
     ensures births { IfOk result (λ lived. lived.births.items ≡ births_from first
         (shard_lives_of (round_numbers round.now) (part_from first cells.old slices.now))) }
     ensures dead { IfOk result (λ lived. lived.dead.items ≡ deaths_from first
         (shard_lives_of (round_numbers round.now) (part_from first cells.old slices.now))) }
 {
     let mut lived = Lived {
+        standings: Vec::with_capacity(alloc, cells.len())?,
         births: Vec::new(alloc),
         dead: Vec::new(alloc),
     };
@@ -56,6 +61,7 @@ pub(crate) fn live(
         let slot = &mut cells[place];
         let life = live_in(alloc, round, cell, slices[place], slot)?;
         bury(slot, life.died);
+        lived.standings.push(standing_in(slot))?;
         lived.add_life(cell, life)?;
     }
     Ok(lived)
@@ -134,9 +140,20 @@ fn bury(slot: &mut Option<BoxedOrganism>, died: bool)
     }
 }
 
+/// What is counted of who stands in a cell.
+fn standing_in(slot: &Option<BoxedOrganism>) -> Option<Standing>
+    ensures { result ≡ standing_in slot.now }
+{
+    match slot {
+        Some(organism) => Some(organism.standing()),
+        None => None,
+    }
+}
+
 impl Lived {
-    /// What the life of a cell brought.
+    /// The newborns of a cell, and the cell itself where its organism died.
     fn add_life(&mut self, cell: u32, life: Life) -> Result<(), Memory>
+        ensures standings { OnOk result (self.new.standings ≡ self.old.standings) }
         ensures births { OnOk result (self.new.births.items
             ≡ self.old.births.items ++ map (birth_in cell) (map newborn_value life.births)) }
         ensures dead { OnOk result (self.new.dead.items

@@ -10,6 +10,7 @@ use crate::finished::{Dead, Finished};
 use crate::job::{Cells, Job};
 use crate::lives::live;
 use crate::round::Round;
+use crate::standing::Standings;
 use avida_port::{Gate, Memory};
 use genotype_bank::Bank;
 use std::alloc::{AllocError, Global};
@@ -139,13 +140,16 @@ fn run<R: Wait>(
         cells,
         slices,
         mut seat,
+        spent,
     } = job;
+    drop(spent);
     let mut cells = cells.into_vec();
     let lived = live(alloc, round, first, &mut cells, slices.as_slice())?;
     let births = deliver(rt, alloc, bank, &mut seat, lived.births)?;
     Ok(Finished {
         first,
         cells: Cells::from_vec(cells),
+        standings: Standings::from_vec(lived.standings),
         births,
         dead: Dead::from_vec(lived.dead),
         seat,

@@ -1,15 +1,15 @@
 -- The counts after lives, one cell after another.
 use Rattle.std.proofs.Common.{◌≡◌, ◌∙◌, refl, sym, ap, subst, ℕ, ◌+◌, ◌<◌, ◌≤◌, ◌^◌, List, [], ◌∷◌, ◌++◌, append-nil, append_assoc, length, set, get_or, take, drop, Option, Some, None, arith, inl, inr}
-use Rattle.std.specs.Option.{option_map}
 use Rattle.std.proofs.Math.Seq.{map-set_same}
 use Rattle.std.proofs.lemmas.List.{drop_all, drop_more, get_or_at, length-append, length-drop, length-take-le, set_at, take_all, take_more}
+use Rattle.cell_shards.specs.CellLives.{standing_in}
 use Rattle.census.specs.Counts.{Counts}
 use Rattle.instruction_set.specs.declared.letter.Letter.{Letter}
 use Rattle.logic_tasks.specs.TaskSet.{has_task}
 use Rattle.organism.specs.OrganismState.{OrganismState}
 use Rattle.world_rules.specs.Lives.{merit_in}
 use Rattle.world_rules.specs.World.{Occupant}
-use Rattle.world_core.specs.Population.{CanCountAgain, CountsAgain, IsKeptOf, is_credited, merit_or_zero, occupant_genome, occupant_genomes}
+use Rattle.world_core.specs.Population.{CanCountAgain, CountsAgain, IsKeptOf, is_credited, occupant_genome, occupant_genomes}
 use Rattle.world_core.specs.Residents.{with_id}
 use Rattle.world_core.proofs.KeptOfLemmas.{IsKeptOf-empty, IsKeptOf-lived, IsKeptOf-removed, can-remove}
 use Rattle.world_core.proofs.StandingLemmas.{OneList}
@@ -26,8 +26,8 @@ module _ (one_list : OneList) (cells : List (Option Occupant)) (genomes : List (
     (kept : IsKeptOf cells genomes keys before) where
   -- who stood in the cell may be counted again
   pub can-count : (was now : Option OrganismState) → get_or cells cell None ≡ with_id id was
-      → GoesOn was now → CanCountAgain before (get_or keys cell 0) (merit_or_zero was)
-      (option_map (λ o. o.credited) was) now
+      → GoesOn was now
+      → CanCountAgain before (get_or keys cell 0) (standing_in was) (standing_in now)
   can-count None now here goes = tt
   can-count (Some o) None here goes =
       can-remove one_list cells genomes keys before before cell within
@@ -40,8 +40,8 @@ module _ (one_list : OneList) (cells : List (Option Occupant)) (genomes : List (
 
   -- and what is kept is that of who stands there now
   pub counted-again : (was now : Option OrganismState) → get_or cells cell None ≡ with_id id was
-      → GoesOn was now → CountsAgain before after (get_or keys cell 0) (merit_or_zero was)
-      (option_map (λ o. o.credited) was) now
+      → GoesOn was now
+      → CountsAgain before after (get_or keys cell 0) (standing_in was) (standing_in now)
       → IsKeptOf (set cells cell (with_id id now)) genomes keys after
   counted-again None None here goes counted =
       subst (λ (counts : Counts). IsKeptOf (set cells cell None) genomes keys counts) (sym counted)

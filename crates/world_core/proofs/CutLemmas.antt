@@ -1,13 +1,43 @@
 -- Cells that are cut into jobs, from the last to the first.
-use Rattle.std.proofs.Common.{◌≡◌, ◌∙◌, sym, ap, subst, ℕ, ◌+◌, ◌-◌, ◌≤◌, List, [], ◌∷◌, ◌++◌, append-nil, append_assoc, length, reverse, take, drop, Option, arith}
+use Rattle.std.proofs.Common.{◌≡◌, ◌∙◌, sym, ap, subst, ℕ, ◌+◌, ◌-◌, ◌<◌, ◌≤◌, ◌^◌, List, [], ◌∷◌, ◌++◌, append_assoc, length, reverse, take, drop, Option, arith}
 use Rattle.std.specs.List.{All}
-use Rattle.std.proofs.lemmas.List.{length-drop, length-reverse, length-take-le, length_push, reverse-append, take-append-drop}
-use Rattle.std.proofs.lemmas.List.Elements.{All-cons, All-nil, All-same}
+use Rattle.std.proofs.lemmas.List.{length-append, length-drop, length-take-le, length_push, reverse-append, take-append-drop}
+use Rattle.std.proofs.lemmas.List.Elements.{All-cons, All-head, All-nil, All-same, All-tail}
+use Rattle.cell_shards.specs.CellLives.{IsYoung}
+use Rattle.cell_shards.specs.Finishing.{CanRun}
 use Rattle.cell_shards.specs.declared.job.Job.{Job}
 use Rattle.genotype_bank.specs.Seats.{SeatValue}
 use Rattle.organism.specs.OrganismState.{OrganismState}
-use Rattle.world_core.specs.Sharding.{LieSideBySide, PartCells, ShareSeat, seat_from, seat_without}
+use Rattle.world_core.specs.Sharding.{LieSideBySide, PartCells, seat_from, seat_without}
 use Rattle.world_core.proofs.JoinLemmas.{cells_in, slices_in}
+
+-- where all cells may run, those of each job may
+pub jobs-can-run : (first : ℕ) (jobs : List Job) → LieSideBySide first jobs
+    → first + length (cells_in jobs) ≤ 65536 → All (λ steps. steps < 2 ^ 27) (slices_in jobs)
+    → All IsYoung (cells_in jobs) → All CanRun jobs
+jobs-can-run first [] beside within few young = All-nil CanRun
+jobs-can-run first (job ∷ jobs) beside within few young =
+    All-cons CanRun job jobs
+    (record {
+      within = omega (arith, within, beside.0, length-append job.cells (cells_in jobs));
+      each = beside.1;
+      few = All-front (λ steps. steps < 2 ^ 27) job.slices (slices_in jobs) few;
+      young = All-front IsYoung job.cells (cells_in jobs) young;
+    })
+    (jobs-can-run (first + length job.cells) jobs beside.2
+    (omega (arith, within, length-append job.cells (cells_in jobs)))
+    (All-back (λ steps. steps < 2 ^ 27) job.slices (slices_in jobs) few)
+    (All-back IsYoung job.cells (cells_in jobs) young))
+  where
+    All-front : {X : Type 0} (P : X → Type 0) (xs ys : List X) → All P (xs ++ ys) → All P xs
+    All-front P [] ys all = All-nil P
+    All-front P (x ∷ xs) ys all =
+        All-cons P x xs (All-head P x (xs ++ ys) all)
+        (All-front P xs ys (All-tail P x (xs ++ ys) all))
+
+    All-back : {X : Type 0} (P : X → Type 0) (xs ys : List X) → All P (xs ++ ys) → All P ys
+    All-back P [] ys all = all
+    All-back P (x ∷ xs) ys all = All-back P xs ys (All-tail P x (xs ++ ys) all)
 
 -- the last cells were cut off into these jobs, the last job first
 pub record HaveCut (seat : SeatValue) (cells : List (Option OrganismState)) (slices : List ℕ)
@@ -71,4 +101,22 @@ module _ (seat : SeatValue) (cells : List (Option OrganismState)) (slices : List
             (job ∷ reverse jobs) ordered
             (All-cons (λ (job : Job). job.seat ≡ seat_from seat) job (reverse jobs)
             (seat_is ∙ ap seat_from cut.seat_is) cut.seats);
+      }
+
+  -- the last job has all that is left
+  pub cut-all : (all : List Job) → job.first ≡ 0 → job.cells ≡ left → job.slices ≡ steps
+      → all ≡ reverse (jobs ++ job ∷ []) → PartCells all cells slices
+  cut-all all first cells_is slices_is is =
+      let ordered : all ≡ job ∷ reverse jobs = is ∙ jobs-push jobs job in
+      let end : length left ≡ 0 + length job.cells = omega (arith, ap length cells_is) in
+      record {
+        beside = subst (LieSideBySide 0) (sym ordered) (
+          first,
+          ap length slices_is ∙ cut.long ∙ sym (ap length cells_is),
+          subst (λ n. LieSideBySide n (reverse jobs)) end cut.beside,
+        );
+        cells_are = ap cells_in ordered ∙ ap (λ front. front ++ cells_in (reverse jobs)) cells_is
+            ∙ cut.cells_are;
+        slices_are = ap slices_in ordered
+            ∙ ap (λ front. front ++ slices_in (reverse jobs)) slices_is ∙ cut.slices_are;
       }

@@ -1,15 +1,15 @@
 -- Jobs that part the cells, and what comes of them as one.
-use Rattle.std.proofs.Common.{◌≡◌, ◌∙◌, refl, sym, ap, subst, ℕ, suc, ◌+◌, ◌<◌, ◌≤◌, ◌^◌, List, [], ◌∷◌, ◌++◌, append_assoc, length, map, Option, arith, inl, inr}
+use Rattle.std.proofs.Common.{◌≡◌, ◌∙◌, refl, sym, ap, subst, ℕ, suc, ◌+◌, ◌≤◌, List, [], ◌∷◌, ◌++◌, append_assoc, length, map, Option, arith, inl, inr}
 use Rattle.std.specs.Prelude.{◌↔◌}
 use Rattle.std.specs.List.{All, Contains, cons_option, filter_map, flat_map, sum_by}
 use Rattle.std.specs.List.Sorted.{IsPermutation}
-use Rattle.std.proofs.lemmas.List.{length-append, map-append}
+use Rattle.std.proofs.lemmas.List.{map-append}
 use Rattle.std.proofs.lemmas.List.Elements.{All-cons, All-head, All-nil, All-tail, All-weaker, Contains-append_cases, Contains-append_left, Contains-append_right, filter_map-append}
 use Rattle.std.proofs.lemmas.List.Sorted.{IsPermutation-refl, IsPermutation-sym}
 use Rattle.std.proofs.lemmas.List.Sums.{sum_by-cons}
 use mathlib.Core.List.{IsPrefix}
-use Rattle.cell_shards.specs.CellLives.{IsYoung, RoundNumbers, ShardLife, births_from, deaths_from, left_in, part_from, shard_lives_of}
-use Rattle.cell_shards.specs.Finishing.{AreFinished, CanRun, IsFinished, IsNumbered, birth_of, call_for, genome_in, part_of}
+use Rattle.cell_shards.specs.CellLives.{RoundNumbers, ShardLife, births_from, deaths_from, left_in, part_from, shard_lives_of, standing_in}
+use Rattle.cell_shards.specs.Finishing.{AreFinished, IsFinished, IsNumbered, birth_of, call_for, genome_in, part_of}
 use Rattle.cell_shards.specs.declared.delivered.Delivered.{Delivered}
 use Rattle.cell_shards.specs.declared.finished.Finished.{Finished}
 use Rattle.cell_shards.specs.declared.job.Job.{Job}
@@ -51,34 +51,6 @@ cells_in jobs = flat_map (λ job. job.cells) jobs
 -- the steps of their cells
 abbrev pub slices_in : List Job → List ℕ
 slices_in jobs = flat_map (λ job. job.slices) jobs
-
--- where all cells may run, those of each job may
-pub jobs-can-run : (first : ℕ) (jobs : List Job) → LieSideBySide first jobs
-    → first + length (cells_in jobs) ≤ 65536 → All (λ steps. steps < 2 ^ 27) (slices_in jobs)
-    → All IsYoung (cells_in jobs) → All CanRun jobs
-jobs-can-run first [] beside within few young = All-nil CanRun
-jobs-can-run first (job ∷ jobs) beside within few young =
-    All-cons CanRun job jobs
-    (record {
-      within = omega (arith, within, beside.0, length-append job.cells (cells_in jobs));
-      each = beside.1;
-      few = All-front (λ steps. steps < 2 ^ 27) job.slices (slices_in jobs) few;
-      young = All-front IsYoung job.cells (cells_in jobs) young;
-    })
-    (jobs-can-run (first + length job.cells) jobs beside.2
-    (omega (arith, within, length-append job.cells (cells_in jobs)))
-    (All-back (λ steps. steps < 2 ^ 27) job.slices (slices_in jobs) few)
-    (All-back IsYoung job.cells (cells_in jobs) young))
-  where
-    All-front : {X : Type 0} (P : X → Type 0) (xs ys : List X) → All P (xs ++ ys) → All P xs
-    All-front P [] ys all = All-nil P
-    All-front P (x ∷ xs) ys all =
-        All-cons P x xs (All-head P x (xs ++ ys) all)
-        (All-front P xs ys (All-tail P x (xs ++ ys) all))
-
-    All-back : {X : Type 0} (P : X → Type 0) (xs ys : List X) → All P (xs ++ ys) → All P ys
-    All-back P [] ys all = all
-    All-back P (x ∷ xs) ys all = All-back P xs ys (All-tail P x (xs ++ ys) all)
 
 -- a finished shard stands beside each job
 abbrev pub AllPairwise : RoundNumbers → List Job → List Finished → Type 0
@@ -150,6 +122,17 @@ module _ (laws : PartsLaws) (round : RoundNumbers) where
   cells-joined (job ∷ jobs) (one ∷ all) are =
       (λ i. are.0.cells i ++ cells-joined jobs all are.1 i)
       ∙ sym (map-append left_in (shard_lives_of round (part_of job)) (lives_in jobs))
+
+  -- what is told of the cells is what is counted of them
+  standings-joined : (jobs : List Job) (all : List Finished) → AllPairwise round jobs all
+      → flat_map (λ one. one.standings) all
+      ≡ map standing_in (flat_map (λ one. one.cells) all)
+  standings-joined [] [] are = refl
+  standings-joined [] (one ∷ all) are = absurd are
+  standings-joined (job ∷ jobs) [] are = absurd are
+  standings-joined (job ∷ jobs) (one ∷ all) are =
+      (λ i. are.0.standings i ++ standings-joined jobs all are.1 i)
+      ∙ sym (map-append standing_in one.cells (flat_map (λ one. one.cells) all))
 
   -- so are the newborns
   births-joined : (first : ℕ) (jobs : List Job) (all : List Finished) → LieSideBySide first jobs
@@ -226,6 +209,7 @@ module _ (laws : PartsLaws) (round : RoundNumbers) where
 pub record EndsAs (round : RoundNumbers) (seat : SeatValue) (cells : List (Option OrganismState))
     (slices : List ℕ) (whole : Finished) : Type 0 where
   pub left : whole.cells ≡ map left_in (shard_lives_of round (part_from 0 cells slices))
+  pub standings : whole.standings ≡ map standing_in whole.cells
   pub births : map birth_of whole.births
       ≡ births_from 0 (shard_lives_of round (part_from 0 cells slices))
   pub dead : whole.dead ≡ deaths_from 0 (shard_lives_of round (part_from 0 cells slices))
@@ -266,6 +250,9 @@ ends-as laws round seat cells slices (job ∷ jobs) (first ∷ others) whole par
     record {
       left = is.cells ∙ cells-joined laws round (job ∷ jobs) (first ∷ others) are
           ∙ ap (map left_in) (sym whole_lives);
+      standings = is.standings
+          ∙ standings-joined laws round (job ∷ jobs) (first ∷ others) are
+          ∙ ap (map standing_in) (sym is.cells);
       births = ap (map birth_of) is.births
           ∙ births-joined laws round 0 (job ∷ jobs) (first ∷ others) parts.beside are
           ∙ ap (births_from 0) (sym whole_lives);

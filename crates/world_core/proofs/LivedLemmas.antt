@@ -4,9 +4,10 @@ use Rattle.std.specs.List.{All, enumerate_from}
 use Rattle.std.proofs.lemmas.Bool.{cases_lt}
 use Rattle.std.proofs.lemmas.List.{get_or-map, get_or_past, length-map}
 use Rattle.std.proofs.lemmas.List.Elements.{All-append, All-cons, All-head, All-map, All-nil, All-same, All-tail}
-use Rattle.cell_shards.specs.CellLives.{BirthValue, IsYoung, RoundNumbers, ShardLife, birth_in, births_from as shard_births, deaths_from as shard_deaths, has_died, left_in, part_from, shard_lives_of}
+use Rattle.cell_shards.specs.CellLives.{BirthValue, IsYoung, RoundNumbers, ShardLife, birth_in, births_from as shard_births, deaths_from as shard_deaths, has_died, left_in, part_from, shard_lives_of, standing_in}
 use Rattle.cell_shards.specs.Finishing.{birth_of}
 use Rattle.cell_shards.specs.declared.delivered.Delivered.{Delivered}
+use Rattle.cell_shards.specs.declared.standing.Standing.{Standing}
 use Rattle.merit_slices.specs.Slices.{slices_of}
 use Rattle.organism.specs.OrganismState.{OrganismState}
 use Rattle.world_config.specs.Values.{ConfigValues}
@@ -72,22 +73,26 @@ young-are update (o ∷ os) (id ∷ ids) long early sound =
     by (Some o) is = omega (arith, is.age, early)
 
 -- nor have they too great merits
-pub merits-fit : (os : List (Option OrganismState)) (ids merits : List ℕ) → length ids ≡ length os
-    → merits ≡ map merit_or_zero os → All (λ slot. merit_in slot ≤ 2 ^ 38) (occupants_of os ids)
-    → All (λ merit. merit ≤ 2 ^ 38) merits
-merits-fit os ids merits long same fit =
-    All-same (λ (merit : ℕ). merit ≤ 2 ^ 38) merits (map merit_in (occupants_of os ids))
-    (same ∙ sym (merits-of os ids long))
+pub merits-fit : (os : List (Option OrganismState)) (ids : List ℕ)
+    (standings : List (Option Standing)) → length ids ≡ length os
+    → standings ≡ map standing_in os → All (λ slot. merit_in slot ≤ 2 ^ 38) (occupants_of os ids)
+    → All (λ merit. merit ≤ 2 ^ 38) (map merit_or_zero standings)
+merits-fit os ids standings long same fit =
+    All-same (λ (merit : ℕ). merit ≤ 2 ^ 38) (map merit_or_zero standings)
+    (map merit_in (occupants_of os ids))
+    (ap (map merit_or_zero) same ∙ sym (merits-of os ids long))
     (All-map (λ (merit : ℕ). merit ≤ 2 ^ 38) merit_in (occupants_of os ids) fit)
 
 -- the steps of the cells
 pub slices-are : (config : ConfigValues) (cells : List (Option Occupant))
-    (os : List (Option OrganismState)) (ids merits slices : List ℕ) → length ids ≡ length os
-    → occupants_of os ids ≡ cells → merits ≡ map merit_or_zero os
-    → slices ≡ slices_of merits config.average_slices → slices ≡ slices_at config cells
+    (os : List (Option OrganismState)) (ids slices : List ℕ) (standings : List (Option Standing))
+    → length ids ≡ length os → occupants_of os ids ≡ cells → standings ≡ map standing_in os
+    → slices ≡ slices_of (map merit_or_zero standings) config.average_slices
+    → slices ≡ slices_at config cells
 unfolding slices_at
-slices-are config cells os ids merits slices long were same bought =
-    bought ∙ ap (λ ms. slices_of ms config.average_slices) (same ∙ sym (merits-of os ids long))
+slices-are config cells os ids slices standings long were same bought =
+    bought ∙ ap (λ ms. slices_of ms config.average_slices)
+    (ap (map merit_or_zero) same ∙ sym (merits-of os ids long))
     ∙ ap (slices_at config) were
 
 -- the cells of a world as its shards have them: organisms and ids apart, the steps of each cell,

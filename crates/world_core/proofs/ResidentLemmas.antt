@@ -1,6 +1,8 @@
 -- Organisms beside their ids, as one cell changes.
 use Rattle.std.proofs.Common.{◌≡◌, ◌∙◌, ◌<◌, refl, sym, ap, ℕ, zero, suc, List, [], ◌∷◌, length, map, set, get_or, replicate, Option, Some, None, arith}
-use Rattle.std.proofs.lemmas.List.{get_or_read}
+use Rattle.std.proofs.lemmas.List.{get_or-map, get_or_read, length-map, length-replicate, length-set, map-set}
+use Rattle.cell_shards.specs.CellLives.{standing_in, standing_of}
+use Rattle.cell_shards.specs.declared.standing.Standing.{Standing}
 use Rattle.organism.specs.Image.{organism_of_image}
 use Rattle.organism.specs.OrganismState.{OrganismState}
 use Rattle.saved_lines.specs.declared.resident.Resident.{Resident}
@@ -10,7 +12,7 @@ use Rattle.world_rules.specs.Lives.{merit_in}
 use Rattle.world_rules.specs.Statistics.{organism_in}
 use Rattle.world_rules.specs.World.{Occupant}
 use Rattle.world_core.specs.Population.{merit_or_zero}
-use Rattle.world_core.specs.Residents.{occupants_of, with_id}
+use Rattle.world_core.specs.Residents.{AreKeptBeside, occupants_of, with_id}
 use Rattle.world_core.specs.Resumed.{IsResident}
 use Rattle.world_core.specs.declared.residents.Residents.TheInside.{Inside}
 
@@ -61,6 +63,46 @@ occupants_of-none (suc n) [] long = absurd (omega (arith, long))
 occupants_of-none (suc n) (id ∷ ids) long =
     ap (λ rest. None ∷ rest) (occupants_of-none n ids (omega (arith, long)))
 
+-- where nobody stands nothing is counted
+counted-none : (n : ℕ) → map standing_in (replicate n None) ≡ replicate n None
+counted-none zero = refl
+counted-none (suc n) = ap (λ rest. None ∷ rest) (counted-none n)
+
+-- and that is kept
+pub AreKeptBeside-none : (n : ℕ) (os : List (Option OrganismState)) (ids : List ℕ)
+    (standings : List (Option Standing)) → os ≡ replicate n None → length ids ≡ n
+    → standings ≡ replicate n None → AreKeptBeside os ids standings
+AreKeptBeside-none n os ids standings empty many untold = record {
+  long = many ∙ sym (length-replicate {A = Option OrganismState} n None) ∙ sym (ap length empty);
+  counted = untold ∙ sym (ap (map standing_in) empty ∙ counted-none n);
+}
+
+-- beside a cell that changes is kept what is counted of who stands there now
+pub AreKeptBeside-set : (os : List (Option OrganismState)) (ids next : List ℕ)
+    (standings : List (Option Standing)) (cell : ℕ) (slot : Option OrganismState)
+    (standing : Option Standing) → AreKeptBeside os ids standings → length next ≡ length ids
+    → standing ≡ standing_in slot
+    → AreKeptBeside (set os cell slot) next (set standings cell standing)
+AreKeptBeside-set os ids next standings cell slot standing beside many is = record {
+  long = many ∙ beside.long ∙ sym (length-set os cell slot);
+  counted = (λ i. set (beside.counted i) cell (is i)) ∙ sym (map-set standing_in os cell slot);
+}
+
+-- what was read of a cell is what is counted of who stands there
+pub counted-at : (os : List (Option OrganismState)) (standings : List (Option Standing)) (cell : ℕ)
+    (read : Option Standing) → cell < length os → standings ≡ map standing_in os
+    → read ≡ get_or standings cell read → read ≡ standing_in (get_or os cell None)
+counted-at os standings cell read within are found =
+    get_or_read standings cell read (omega (arith, within, ap length are, length-map os standing_in))
+    found None
+    ∙ ap (λ ss. get_or ss cell None) are
+    ∙ get_or-map standing_in os cell None None within
+
+-- the organism of who stands in a cell
+organism-with_id : (id : ℕ) (slot : Option OrganismState) → organism_in (with_id id slot) ≡ slot
+organism-with_id id None = refl
+organism-with_id id (Some o) = refl
+
 -- a cell of residents, whose organisms and ids lie apart
 module _ (r : Inside) {cells : List (Option Occupant)}
     (long : length r.ids.items ≡ length r.organisms.items)
@@ -81,6 +123,18 @@ module _ (r : Inside) {cells : List (Option Occupant)}
   pub has-id : cell < r.ids.len
   has-id = omega (arith, has-slot, r.organisms.ok.0, r.ids.ok.0, long)
 
+  -- and something that is counted of it
+  pub has-standing : r.standings.items ≡ map standing_in r.organisms.items → cell < r.standings.len
+  has-standing counted =
+      omega (
+        arith,
+        has-slot,
+        r.organisms.ok.0,
+        r.standings.ok.0,
+        ap length counted,
+        length-map r.organisms.items standing_in,
+      )
+
   -- who stands there, by what was read
   pub read-slot : (read slot : Option OrganismState) → read ≡ get_or r.organisms.items cell read
       → read ≡ slot → get_or cells cell None ≡ with_id (get_or r.ids.items cell 0) slot
@@ -91,19 +145,32 @@ module _ (r : Inside) {cells : List (Option Occupant)}
       (sym (get_or_read r.organisms.items cell read (omega (arith, has-slot, r.organisms.ok.0))
       found None) ∙ is)
 
+  -- what is counted there
+  pub read-standing : (read : Option Standing) → r.standings.items ≡ map standing_in r.organisms.items
+      → read ≡ get_or r.standings.items cell read
+      → read ≡ standing_in (organism_in (get_or cells cell None))
+  read-standing read counted found =
+      counted-at r.organisms.items r.standings.items cell read
+      (omega (arith, has-slot, r.organisms.ok.0)) counted found
+      ∙ ap standing_in (sym (ap organism_in
+      (sym (ap (λ (cells : List (Option Occupant)). get_or cells cell None) are)
+      ∙ occupants_of-at r.organisms.items r.ids.items cell long)
+      ∙ organism-with_id (get_or r.ids.items cell 0) (get_or r.organisms.items cell None)))
+
   -- the id
   pub read-id : (id : ℕ) → id ≡ get_or r.ids.items cell id → id ≡ get_or r.ids.items cell 0
   read-id id found =
       get_or_read r.ids.items cell id (omega (arith, has-id, r.ids.ok.0)) found 0
 
 -- its merit counts in the cell
-merit-of : (id : ℕ) (o : Option OrganismState) → merit_in (with_id id o) ≡ merit_or_zero o
+merit-of : (id : ℕ) (o : Option OrganismState)
+    → merit_in (with_id id o) ≡ merit_or_zero (standing_in o)
 merit-of id None = refl
 merit-of id (Some o) = refl
 
--- the merits in the cells are those of the organisms
+-- the merits in the cells are those that are counted of the organisms
 pub merits-of : (os : List (Option OrganismState)) (ids : List ℕ) → length ids ≡ length os
-    → map merit_in (occupants_of os ids) ≡ map merit_or_zero os
+    → map merit_in (occupants_of os ids) ≡ map merit_or_zero (map standing_in os)
 merits-of [] ids long = refl
 merits-of (o ∷ os) [] long = absurd (omega (arith, long))
 merits-of (o ∷ os) (id ∷ ids) long = λ i. merit-of id o i ∷ merits-of os ids (omega (arith, long)) i
@@ -118,6 +185,18 @@ somebody (Some o) organism is = (o, refl, cc)
 pub nobody : (slot : Option Occupant) → organism_in slot ≡ None → slot ≡ None
 nobody None is = refl
 nobody (Some o) is = absurd cc
+
+-- who is counted so
+pub counted-somebody : (slot : Option Occupant) (one : Standing)
+    → standing_in (organism_in slot) ≡ Some one
+    → (o : Occupant) × (slot ≡ Some o) × (standing_of o.organism ≡ one)
+counted-somebody None one is = absurd cc
+counted-somebody (Some o) one is = (o, refl, cc)
+
+-- nobody is counted
+pub counted-nobody : (slot : Option Occupant) → standing_in (organism_in slot) ≡ None → slot ≡ None
+counted-nobody None is = refl
+counted-nobody (Some o) is = absurd cc
 
 -- a resident with this cell and id and the image of an organism has its values
 pub resident_is : (cell id : ℕ) (o : OrganismState) (resident : Resident) → resident.cell ≡ cell

@@ -1,39 +1,33 @@
 -- A turn of the count after lives, over what is read of the cell.
-use Rattle.std.proofs.Common.{◌≡◌, ◌∙◌, sym, ap, subst, ℕ, ◌+◌, ◌<◌, ◌≤◌, Bool, List, length, map, set, get_or, Option, None, arith}
-use Rattle.std.specs.Option.{option_map}
-use Rattle.std.proofs.lemmas.List.{get_or-map, get_or_read, length-map}
-use Rattle.cell_shards.specs.CellLives.{RoundNumbers, left_in, part_from, shard_lives_of}
+use Rattle.std.proofs.Common.{◌≡◌, ◌∙◌, sym, ap, subst, ℕ, ◌+◌, ◌<◌, ◌≤◌, List, length, map, set, get_or, Option, None, arith}
+use Rattle.std.proofs.lemmas.List.{get_or_read}
+use Rattle.cell_shards.specs.CellLives.{RoundNumbers, left_in, part_from, shard_lives_of, standing_in}
+use Rattle.cell_shards.specs.declared.standing.Standing.{Standing}
 use Rattle.census.specs.Counts.{Counts}
 use Rattle.instruction_set.specs.declared.letter.Letter.{Letter}
 use Rattle.organism.specs.OrganismState.{OrganismState}
 use Rattle.world_config.specs.Values.{ConfigValues}
 use Rattle.world_rules.specs.World.{Occupant}
-use Rattle.world_core.specs.Population.{CanCountAgain, CountsAgain, IsKeptOf, merit_or_zero}
+use Rattle.world_core.specs.Population.{CanCountAgain, CountsAgain, IsKeptOf}
 use Rattle.world_core.specs.Residents.{occupants_of, with_id}
 use Rattle.world_core.proofs.CountLemmas.{GoesOn, can-count, counted-again, mixed, mixed-all, mixed-at, mixed-length, mixed-step}
 use Rattle.world_core.proofs.LivedLemmas.{LiveApart, cells-long, lived-length}
-use Rattle.world_core.proofs.ResidentLemmas.{occupants_of-at, occupants_of-length}
+use Rattle.world_core.proofs.ResidentLemmas.{counted-at, occupants_of-at, occupants_of-length}
 use Rattle.world_core.proofs.StandingLemmas.{OneList}
 
--- the credited set of who stands in a cell
-abbrev pub credited_of : Option OrganismState → Option (List Bool)
-credited_of slot = option_map (λ o. o.credited) slot
-
--- what is read of the cells: the keys, and the merits and credited sets before the lives
-pub record AreRead (os : List (Option OrganismState)) (keys merits : List ℕ)
-    (credits : List (Option (List Bool))) : Type 0 where
+-- what is read of the cells: the keys, and what is counted of them before and after the lives
+pub record AreRead (os left : List (Option OrganismState)) (keys : List ℕ)
+    (before after : List (Option Standing)) : Type 0 where
   pub keyed : length keys ≡ length os
-  pub merits_are : merits ≡ map merit_or_zero os
-  pub credits_are : credits ≡ map credited_of os
+  pub before_are : before ≡ map standing_in os
+  pub after_are : after ≡ map standing_in left
 
 -- what is read of one of them
-pub record IsRead (keys merits : List ℕ) (credits : List (Option (List Bool)))
-    (left : List (Option OrganismState)) (cell key merit : ℕ) (credited : Option (List Bool))
-    (now : Option OrganismState) : Type 0 where
+pub record IsRead (keys : List ℕ) (before after : List (Option Standing)) (cell key : ℕ)
+    (was now : Option Standing) : Type 0 where
   pub key_is : key ≡ get_or keys cell key
-  pub merit_is : merit ≡ get_or merits cell merit
-  pub credited_is : credited ≡ get_or credits cell credited
-  pub now_is : now ≡ get_or left cell now
+  pub was_is : was ≡ get_or before cell was
+  pub now_is : now ≡ get_or after cell now
 
 module _ {config : ConfigValues} {update : ℕ} {cells : List (Option Occupant)}
     {os : List (Option OrganismState)} {ids slices : List ℕ} {round : RoundNumbers}
@@ -60,13 +54,13 @@ module _ {config : ConfigValues} {update : ℕ} {cells : List (Option Occupant)}
         occupants_of-length left ids (lived-length apart left are),
       )))
 
-  module _ (one_list : OneList) {keys merits : List ℕ} {credits : List (Option (List Bool))}
-      (lists : AreRead os keys merits credits) (genomes : List (List Letter))
+  module _ (one_list : OneList) {keys : List ℕ} {standings told : List (Option Standing)}
+      (lists : AreRead os left keys standings told) (genomes : List (List Letter))
       (before after : Counts) (cell : ℕ) (inside : cell < length left)
       (goes : GoesOn (get_or os cell None) (get_or left cell None))
       (kept : IsKeptOf (mixed (occupants_of left ids) cells cell) genomes keys before)
-      {key merit : ℕ} {credited : Option (List Bool)} {now : Option OrganismState}
-      (read : IsRead keys merits credits left cell key merit credited now) where
+      {key : ℕ} {was now : Option Standing}
+      (read : IsRead keys standings told cell key was now) where
     -- somebody or nobody stood there
     within : cell < length os
     within = omega (arith, inside, lived-length apart left are, apart.long)
@@ -75,23 +69,11 @@ module _ {config : ConfigValues} {update : ℕ} {cells : List (Option Occupant)}
     key-here : key ≡ get_or keys cell 0
     key-here = get_or_read keys cell key (omega (arith, within, lists.keyed)) read.key_is 0
 
-    merit-here : merit ≡ merit_or_zero (get_or os cell None)
-    merit-here =
-        get_or_read merits cell merit
-        (omega (arith, within, ap length lists.merits_are, length-map os merit_or_zero))
-        read.merit_is 0
-        ∙ ap (λ ms. get_or ms cell 0) lists.merits_are
-        ∙ get_or-map merit_or_zero os cell None 0 within
+    was-here : was ≡ standing_in (get_or os cell None)
+    was-here = counted-at os standings cell was within lists.before_are read.was_is
 
-    credited-here : credited ≡ credited_of (get_or os cell None)
-    credited-here =
-        get_or_read credits cell credited
-        (omega (arith, within, ap length lists.credits_are, length-map os credited_of))
-        read.credited_is None ∙ ap (λ cs. get_or cs cell None) lists.credits_are
-        ∙ get_or-map credited_of os cell None None within
-
-    now-here : now ≡ get_or left cell None
-    now-here = get_or_read left cell now inside read.now_is None
+    now-here : now ≡ standing_in (get_or left cell None)
+    now-here = counted-at left told cell now inside lists.after_are read.now_is
 
     -- the cell is not counted yet
     stands : cell < length cells
@@ -111,29 +93,26 @@ module _ {config : ConfigValues} {update : ℕ} {cells : List (Option Occupant)}
     )
 
     -- it can be counted
-    pub can-count-here : CanCountAgain before key merit credited now
+    pub can-count-here : CanCountAgain before key was now
     can-count-here =
-        rw (key-here, merit-here, credited-here, now-here)
+        rw (key-here, was-here, now-here)
         (can-count one_list (mixed (occupants_of left ids) cells cell) genomes keys before before
         cell among (get_or ids cell 0) kept (get_or os cell None) (get_or left cell None) here goes)
 
     -- and then one cell more is
-    pub counted-here : CountsAgain before after key merit credited now
+    pub counted-here : CountsAgain before after key was now
         → IsKeptOf (mixed (occupants_of left ids) cells (cell + 1)) genomes keys after
     counted-here counted =
-        let told : CountsAgain before after (get_or keys cell 0)
-        (merit_or_zero (get_or os cell None))
-        (credited_of (get_or os cell None)) (get_or left cell None) =
-        subst (λ (key : ℕ). CountsAgain before after key (merit_or_zero (get_or os cell None))
-        (credited_of (get_or os cell None)) (get_or left cell None)) key-here
-        (subst (λ (merit : ℕ). CountsAgain before after key merit
-        (credited_of (get_or os cell None)) (get_or left cell None)) merit-here
-        (subst (λ credited. CountsAgain before after key merit credited (get_or left cell None))
-        credited-here (subst (CountsAgain before after key merit credited) now-here counted))) in
+        let so : CountsAgain before after (get_or keys cell 0) (standing_in (get_or os cell None))
+        (standing_in (get_or left cell None)) =
+        subst (λ (key : ℕ). CountsAgain before after key (standing_in (get_or os cell None))
+        (standing_in (get_or left cell None))) key-here
+        (subst (λ was. CountsAgain before after key was (standing_in (get_or left cell None)))
+        was-here (subst (CountsAgain before after key was) now-here counted)) in
         subst (λ (cells : List (Option Occupant)). IsKeptOf cells genomes keys after)
         (ap (λ (slot : Option Occupant). set (mixed (occupants_of left ids) cells cell) cell slot)
         (sym (occupants_of-at left ids cell (lived-length apart left are)))
         ∙ mixed-step (occupants_of left ids) cells cell next-long stands)
         (counted-again one_list (mixed (occupants_of left ids) cells cell) genomes keys before after
         cell among (get_or ids cell 0) kept (get_or os cell None) (get_or left cell None) here goes
-        told)
+        so)

@@ -30,6 +30,7 @@ number-stays stay early history d longer number = record {
 -- two shards as one
 pub record AreTwo (front back whole : Finished) : Type 0 where
   pub cells : whole.cells ≡ front.cells ++ back.cells
+  pub standings : whole.standings ≡ front.standings ++ back.standings
   pub births : whole.births ≡ front.births ++ back.births
   pub dead : whole.dead ≡ front.dead ++ back.dead
   pub bank : whole.seat.bank ≡ front.seat.bank
@@ -58,6 +59,7 @@ pub joined-alone : (whole : Finished) → All (IsNumbered whole.seat.seen) whole
     → IsJoined whole [] whole
 joined-alone whole numbers = record {
   cells = sym (append-nil whole.cells);
+  standings = sym (append-nil whole.standings);
   births = sym (append-nil whole.births);
   dead = sym (append-nil whole.dead);
   bank = refl;
@@ -74,6 +76,9 @@ pub joined-more : (front back two end : Finished) (others : List Finished) → A
 joined-more front back two end others are joined = record {
   cells = joined.cells ∙ ap (λ cells. cells ++ flat_map (λ one. one.cells) others) are.cells
       ∙ append_assoc front.cells back.cells (flat_map (λ one. one.cells) others);
+  standings = joined.standings
+      ∙ ap (λ told. told ++ flat_map (λ one. one.standings) others) are.standings
+      ∙ append_assoc front.standings back.standings (flat_map (λ one. one.standings) others);
   births = joined.births ∙ ap (λ births. births ++ flat_map (λ one. one.births) others) are.births
       ∙ append_assoc front.births back.births (flat_map (λ one. one.births) others);
   dead = joined.dead ∙ ap (λ dead. dead ++ flat_map (λ one. one.dead) others) are.dead

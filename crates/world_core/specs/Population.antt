@@ -1,6 +1,7 @@
 -- What is kept of the living beside their cells (docs/WORLD.md, "Statistics").
 use Rattle.std.specs.Prelude.{◌≡◌, ◌⊎◌, ℕ, ◌+◌, ◌≤◌, ◌^◌, Bool, false, All, List, length, map, Option, None, Some, option_map, count_by, is_some, slice_get, slice_index, slice_index_or}
 use Rattle.std.specs.List.{sum_by}
+use Rattle.cell_shards.specs.declared.standing.Standing.{Standing}
 use Rattle.census.specs.Changes.{CanRemove, CanRenew, count_under, genotype_without_one, with_renewal, without_organism}
 use Rattle.census.specs.Counts.{Counts, GenotypeCount, genotype_at, living_of}
 use Rattle.instruction_set.specs.declared.letter.Letter.{Letter}
@@ -8,7 +9,6 @@ use Rattle.instruction_set.specs.Letter.{same_letters}
 use Rattle.logic_tasks.specs.declared.task.Task.{Task}
 use Rattle.logic_tasks.specs.LogicTasks.{all_tasks}
 use Rattle.logic_tasks.specs.TaskSet.{has_task}
-use Rattle.organism.specs.OrganismState.{OrganismState}
 use Rattle.world_rules.specs.World.{Occupant}
 use Rattle.world_rules.specs.Lives.{merit_in}
 
@@ -73,37 +73,34 @@ pub record IsKeptOf (cells : List (Option Occupant)) (genomes : List (List Lette
   pub genotypes : AreCountedIn (occupant_genomes cells) genomes keys counts.genotypes
   pub sums : AreSummedIn cells counts.merit counts.tasks
 
--- the merit of who stands in a cell, 0 where nobody does
-abbrev pub merit_or_zero : Option OrganismState → ℕ
+-- the merit that counts in a cell, 0 where nobody stands
+abbrev pub merit_or_zero : Option Standing → ℕ
 merit_or_zero None = 0
-merit_or_zero (Some o) = o.merit
+merit_or_zero (Some one) = one.merit
 
--- who stood in a cell with this key, merit and credited set may be counted again by who stands
--- there now
-abbrev pub CanCountAgain : Counts → ℕ → ℕ → Option (List Bool) → Option OrganismState → Type 0
-CanCountAgain counts key merit None now = Unit {0}
-CanCountAgain counts key merit (Some credited) None = CanRemove counts key merit credited
-CanCountAgain counts key merit (Some credited) (Some o) =
-    CanRenew counts merit credited (2 ^ 38) × (o.merit ≤ 2 ^ 38)
+-- who stood in a cell with this key may be counted again as who stands there now
+abbrev pub CanCountAgain : Counts → ℕ → Option Standing → Option Standing → Type 0
+CanCountAgain counts key None now = Unit {0}
+CanCountAgain counts key (Some was) None = CanRemove counts key was.merit was.credited
+CanCountAgain counts key (Some was) (Some now) =
+    CanRenew counts was.merit was.credited (2 ^ 38) × (now.merit ≤ 2 ^ 38)
 
 -- one organism fewer is counted
-pub record IsWithout (before after : Counts) (key merit : ℕ) (credited : List Bool) : Type 0 where
-  pub counts : after ≡ without_organism before key merit credited
+pub record IsWithout (before after : Counts) (key : ℕ) (was : Standing) : Type 0 where
+  pub counts : after ≡ without_organism before key was.merit was.credited
   pub under : (other : ℕ)
       → genotype_at after.genotypes other ≡ genotype_without_one before.genotypes key other
   pub living : living_of after.genotypes + 1 ≡ living_of before.genotypes
 
 -- an organism is counted with the merit and the credited set that it has now
-abbrev pub IsRenewed : Counts → Counts → ℕ → List Bool → OrganismState → Type 0
-IsRenewed before after merit credited o =
-    (after ≡ with_renewal before merit credited o.merit o.credited)
-    ⊎ ((after ≡ before) × (o.merit ≡ merit) × (o.credited ≡ credited))
+abbrev pub IsRenewed : Counts → Counts → Standing → Standing → Type 0
+IsRenewed before after was now =
+    (after ≡ with_renewal before was.merit was.credited now.merit now.credited)
+    ⊎ ((after ≡ before) × (now.merit ≡ was.merit) × (now.credited ≡ was.credited))
 
 -- who stood in a cell is counted as who stands there now: nobody, or the same organism after its
 -- life
-abbrev pub CountsAgain : Counts → Counts → ℕ → ℕ → Option (List Bool) → Option OrganismState
-    → Type 0
-CountsAgain before after key merit None now = after ≡ before
-CountsAgain before after key merit (Some credited) None = IsWithout before after key merit credited
-CountsAgain before after key merit (Some credited) (Some o) =
-    IsRenewed before after merit credited o
+abbrev pub CountsAgain : Counts → Counts → ℕ → Option Standing → Option Standing → Type 0
+CountsAgain before after key None now = after ≡ before
+CountsAgain before after key (Some was) None = IsWithout before after key was
+CountsAgain before after key (Some was) (Some now) = IsRenewed before after was now

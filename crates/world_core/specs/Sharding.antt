@@ -37,9 +37,11 @@ ShareSeat seat [] = ⊥
 ShareSeat seat (job ∷ jobs) =
     (job.seat ≡ seat_without seat (length jobs)) × All (λ other. other.seat ≡ seat_from seat) jobs
 
--- shards joined behind a first one: cells, newborns and dead in order, and one seat of all
+-- shards joined behind a first one: cells, what is counted of them, newborns and dead in order, and
+-- one seat of all
 pub record IsJoined (first : Finished) (others : List Finished) (whole : Finished) : Type 0 where
   pub cells : whole.cells ≡ first.cells ++ flat_map (λ one. one.cells) others
+  pub standings : whole.standings ≡ first.standings ++ flat_map (λ one. one.standings) others
   pub births : whole.births ≡ first.births ++ flat_map (λ one. one.births) others
   pub dead : whole.dead ≡ first.dead ++ flat_map (λ one. one.dead) others
   pub bank : whole.seat.bank ≡ first.seat.bank

@@ -1,5 +1,5 @@
 // The lives of an update, all from one start.
-ghost use Rattle.std.specs.Prelude.{◌≡◌, ◌+◌, ◌<◌, ◌≤◌, ◌^◌, ℕ, All, IfOk, length, map, option_map, sum, slice_index_or};
+ghost use Rattle.std.specs.Prelude.{◌≡◌, ◌+◌, ◌<◌, ◌≤◌, ◌^◌, ℕ, All, IfOk, length, map, sum, slice_index_or};
 ghost use Rattle.cell_shards.specs.CellLives.{round_numbers};
 ghost use Rattle.census.specs.Changes.{CanRenew};
 ghost use Rattle.merit_slices.specs.Slices.{slices_of};
@@ -11,11 +11,9 @@ ghost use Rattle.world_core.specs.Population.{CanCountAgain, CountsAgain, IsRene
 use crate::lived::{Delivery, Departed};
 use crate::settings::settings_at;
 use avida_port::Memory;
-use cell_shards::{BoxedOrganism, Delivered, Round};
+use cell_shards::{Delivered, Round, Standing};
 use census::Census;
-use logic_tasks::Tasks;
 use merit_slices::share;
-use organism::Organism;
 use random_streams::CELLS;
 use std::alloc::{AllocError, Global};
 use world_config::Config;
@@ -35,71 +33,45 @@ pub(crate) fn round_at(config: &Config, update: u32) -> Round
     }
 }
 
-/// The merit in each cell, 0 where nobody stands.
-pub(crate) fn merits_of(
-    alloc: Global,
-    cells: &[Option<BoxedOrganism>],
-) -> Result<Vec<u64>, AllocError>
-    ensures { IfOk result (λ merits. merits.items ≡ map merit_or_zero cells.now) }
-{
-    let mut merits = Vec::with_capacity(alloc, cells.len())?;
-    for slot in cells {
-        merits.push(merit_in(slot))?;
-    }
-    Ok(merits)
-}
-
-fn merit_in(slot: &Option<BoxedOrganism>) -> u64
-    ensures { result ≡ merit_or_zero slot.now }
-{
-    match slot {
-        Some(organism) => organism.get().merit(),
-        None => 0,
-    }
-}
-
-/// The credited set in each cell where somebody stands.
-pub(crate) fn credits_of(
-    alloc: Global,
-    cells: &[Option<BoxedOrganism>],
-) -> Result<Vec<Option<Tasks>>, AllocError>
-    ensures { IfOk result (λ credits. credits.items
-        ≡ map (λ slot. option_map (λ o. o.credited) slot) cells.now) }
-{
-    let mut credits = Vec::with_capacity(alloc, cells.len())?;
-    for slot in cells {
-        credits.push(credited_in(slot))?;
-    }
-    Ok(credits)
-}
-
-fn credited_in(slot: &Option<BoxedOrganism>) -> Option<Tasks>
-    ensures { result ≡ option_map (λ o. o.credited) slot.now }
-{
-    match slot {
-        Some(organism) => Some(organism.get().credited()),
-        None => None,
-    }
-}
-
 /// The steps of each cell, by the merits as the update begins.
 pub(crate) fn slices_by(
     alloc: Global,
     config: &Config,
-    merits: &[u64],
+    standings: &[Option<Standing>],
 ) -> Result<Vec<u64>, AllocError>
-    requires cells { length merits.now ≤ CELLS }
-    requires merits { All (λ merit. merit ≤ 2 ^ 38) merits.now }
-    ensures slices { IfOk result
-        (λ slices. slices.items ≡ slices_of merits.now config.now.average_slices) }
+    requires cells { length standings.now ≤ CELLS }
+    requires merits { All (λ merit. merit ≤ 2 ^ 38) (map merit_or_zero standings.now) }
+    ensures slices { IfOk result (λ slices. slices.items
+        ≡ slices_of (map merit_or_zero standings.now) config.now.average_slices) }
     ensures few { IfOk result
         (λ slices. (cell : ℕ) → slice_index_or slices.items cell 0 < 2 ^ 27) }
     ensures total { IfOk result (λ slices. sum slices.items < 2 ^ 27) }
-    ensures length { IfOk result (λ slices. length slices.items ≡ length merits.now) }
+    ensures length { IfOk result (λ slices. length slices.items ≡ length standings.now) }
 {
+    let merits = merits_of(alloc, standings)?;
     let mut slices = vec![in alloc; 0; merits.len()]?;
-    share(merits, config.average_slices, &mut slices);
+    share(&merits, config.average_slices, &mut slices);
     Ok(slices)
+}
+
+/// The merit in each cell, 0 where nobody stands.
+fn merits_of(alloc: Global, standings: &[Option<Standing>]) -> Result<Vec<u64>, AllocError>
+    ensures { IfOk result (λ merits. merits.items ≡ map merit_or_zero standings.now) }
+{
+    let mut merits = Vec::with_capacity(alloc, standings.len())?;
+    for standing in standings {
+        merits.push(merit_in(*standing))?;
+    }
+    Ok(merits)
+}
+
+fn merit_in(standing: Option<Standing>) -> u64
+    ensures { result ≡ merit_or_zero standing }
+{
+    match standing {
+        Some(one) => one.merit,
+        None => 0,
+    }
 }
 
 /// The newborns with the ids of their parents.
@@ -144,27 +116,26 @@ pub(crate) fn with_ids(
 pub(crate) fn count_again(
     census: &mut Census,
     key: u64,
-    merit: u64,
-    credited: Option<Tasks>,
-    now: &Option<BoxedOrganism>,
+    was: Option<Standing>,
+    now: Option<Standing>,
 )
-    requires { CanCountAgain census.old key merit credited now.now }
-    ensures { CountsAgain census.old census.new key merit credited now.now }
+    requires { CanCountAgain census.old key was now }
+    ensures { CountsAgain census.old census.new key was now }
 {
-    match (credited, now) {
-        (Some(credited), Some(organism)) => renew(census, merit, credited, organism.get()),
-        (Some(credited), None) => census.remove(key, merit, credited),
+    match (was, now) {
+        (Some(was), Some(now)) => renew(census, was, now),
+        (Some(was), None) => census.remove(key, was.merit, was.credited),
         (None, _) => {}
     }
 }
 
-/// An organism has this merit and credited set now.
-fn renew(census: &mut Census, merit: u64, credited: Tasks, organism: &Organism)
-    requires counted { CanRenew census.old merit credited (2 ^ 38) }
-    requires merit { organism.now.merit ≤ 2 ^ 38 }
-    ensures { IsRenewed census.old census.new merit credited organism.now }
+/// An organism counts with the merit and the credited set that it has now.
+fn renew(census: &mut Census, was: Standing, now: Standing)
+    requires counted { CanRenew census.old was.merit was.credited (2 ^ 38) }
+    requires merit { now.merit ≤ 2 ^ 38 }
+    ensures { IsRenewed census.old census.new was now }
 {
-    if organism.merit() != merit || organism.credited() != credited {
-        census.renew(merit, credited, organism.merit(), organism.credited());
+    if now.merit != was.merit || now.credited != was.credited {
+        census.renew(was.merit, was.credited, now.merit, now.credited);
     }
 }

@@ -15,9 +15,7 @@ ghost use Rattle.world_core.specs.Soundness.{AreBounded, AreBoundedLives};
 
 use crate::genotypes::Genotypes;
 use crate::lived::Lived;
-use crate::lives::{
-    count_again, credits_of, merits_of, round_at, slices_by, with_ids, with_parents,
-};
+use crate::lives::{count_again, round_at, slices_by, with_ids, with_parents};
 use crate::residents::Residents;
 use crate::sharding::{Ended, live_in_shards};
 use avida_port::{Gate, Memory};
@@ -44,6 +42,8 @@ pub(crate) struct Population {
     pub(crate) keys: Vec<u64>,
     pub(crate) genotypes: Genotypes,
     pub(crate) census: Census,
+    /// Those removed since the last update, whose memory the threads of the next one give back.
+    pub(crate) spent: Vec<BoxedOrganism>,
 }
 
 impl Model for Population {
@@ -70,6 +70,7 @@ impl Population {
             keys: vec![in alloc; 0; cells as usize]?,
             genotypes: Genotypes::none(alloc)?,
             census: Census::start(alloc),
+            spent: Vec::new(alloc),
         })
     }
 
@@ -126,12 +127,11 @@ impl Population {
     {
         one_index();
         let at = cell as usize;
-        if let Some(organism) = self.cells.organism_at(at) {
-            let key = self.keys[at];
-            self.census
-                .remove(key, organism.merit(), organism.credited());
+        if let Some(was) = self.cells.standing_at(at) {
+            self.census.remove(self.keys[at], was.merit, was.credited);
         }
-        self.cells.remove(at);
+        let organism = self.cells.remove(at);
+        spend(&mut self.spent, organism);
     }
 
     /// Somebody, whose genome has this number, stands in a cell that was empty. If memory runs out,
@@ -223,28 +223,26 @@ impl Population {
             keys,
             genotypes: known,
             mut census,
+            spent,
         } = self;
-        let Residents { organisms, ids } = cells;
-        let merits = merits_of(alloc, &organisms)?;
-        let credits = credits_of(alloc, &organisms)?;
-        let slices = slices_by(alloc, config, &merits)?;
+        let Residents {
+            organisms,
+            ids,
+            standings: before,
+        } = cells;
+        let slices = slices_by(alloc, config, &before)?;
         let round = round_at(config, update + 1);
         let (genotypes, ended) = live_in_shards(
-            rt, alloc, known, organisms, slices, &round, workers, gate,
+            rt, alloc, known, organisms, slices, spent, &round, workers, gate,
         )?;
         let Ended {
             organisms: left,
+            standings,
             births,
             dead,
         } = ended;
         for cell in 0..left.len() {
-            count_again(
-                &mut census,
-                keys[cell],
-                merits[cell],
-                credits[cell],
-                &left[cell],
-            );
+            count_again(&mut census, keys[cell], before[cell], standings[cell]);
         }
         let lived = Lived {
             births: with_parents(alloc, &ids, births)?,
@@ -254,10 +252,12 @@ impl Population {
             cells: Residents {
                 organisms: left,
                 ids,
+                standings,
             },
             keys,
             genotypes,
             census,
+            spent: Vec::new(alloc),
         };
         Ok((population, lived))
     }
@@ -288,5 +288,12 @@ impl Population {
         one_index();
         dominance_knows_no_order();
         self.census.dominant()
+    }
+}
+
+/// Keeps whoever was removed. If memory runs out, the organism is dropped at once.
+fn spend(spent: &mut Vec<BoxedOrganism>, organism: Option<BoxedOrganism>) {
+    if let Some(organism) = organism {
+        let _ = spent.push(organism);
     }
 }

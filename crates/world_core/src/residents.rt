@@ -1,24 +1,27 @@
-// Who stands in each cell, the organisms apart from their ids.
+// Who stands in each cell, the organisms apart from their ids and from what is counted of them.
 ghost use Rattle.std.specs.Prelude.{◌≡◌, ◌<◌, None, Some, IfOk, length, replicate, slice_index_or, slice_set};
 ghost use Rattle.std.specs.Option.{option_copied};
+ghost use Rattle.cell_shards.specs.CellLives.{standing_in};
 ghost use Rattle.world_rules.specs.Statistics.{organism_in};
 ghost use Rattle.world_rules.specs.World.{id_of, ids_of};
 ghost use Rattle.world_core.specs.Resumed.{IsResidentIn};
 
 use avida_port::Memory;
-use cell_shards::BoxedOrganism;
+use cell_shards::{BoxedOrganism, Standing};
 use organism::Organism;
 use saved_lines::Resident;
 use std::alloc::{AllocError, Global};
 use std::marker::Model;
 
-/// The organism of each cell, and the id of who stands there. The lives of an update need only the
-/// organisms, which a shard takes with it.
+/// The organism of each cell, the id of who stands there, and what is counted of it. The lives of an
+/// update need only the organisms, which a shard takes with it.
 #[derive(Drop)]
 pub(crate) struct Residents {
     pub(crate) organisms: Vec<Option<BoxedOrganism>>,
     /// Where nobody stands the number means nothing.
     pub(crate) ids: Vec<u64>,
+    /// What is counted of the organisms, so that counting reads none of them.
+    pub(crate) standings: Vec<Option<Standing>>,
 }
 
 impl Model for Residents {
@@ -27,12 +30,11 @@ impl Model for Residents {
 
     ghost Value = { List (Option Occupant) };
 
-    ghost use Rattle.std.specs.Prelude.{◌≡◌, length};
-    ghost use Rattle.world_core.specs.Residents.{occupants_of};
+    ghost use Rattle.world_core.specs.Residents.{AreKeptBeside, occupants_of};
 
     ghost view = { λ r. occupants_of r.organisms.items r.ids.items };
 
-    ghost invariant = { λ r. length r.ids.items ≡ length r.organisms.items };
+    ghost invariant = { λ r. AreKeptBeside r.organisms.items r.ids.items r.standings.items };
 }
 
 impl Residents {
@@ -43,6 +45,7 @@ impl Residents {
         Ok(Residents {
             organisms: empty_cells(alloc, cells)?,
             ids: vec![in alloc; 0; cells as usize]?,
+            standings: empty_cells(alloc, cells)?,
         })
     }
 
@@ -62,6 +65,14 @@ impl Residents {
             Some(organism) => Some(organism.get()),
             None => None,
         }
+    }
+
+    /// What is counted of who stands in the cell.
+    pub(crate) fn standing_at(&self, cell: usize) -> Option<Standing>
+        requires { cell < length self.now }
+        ensures { result ≡ standing_in (organism_in (slice_index_or self.now cell None)) }
+    {
+        self.standings[cell]
     }
 
     /// The id of who stands in the cell.
@@ -101,12 +112,13 @@ impl Residents {
         Ok(ids)
     }
 
-    /// Nobody stands in the cell any longer.
-    pub(crate) fn remove(&mut self, cell: usize)
+    /// Nobody stands in the cell any longer. Whoever did comes out.
+    pub(crate) fn remove(&mut self, cell: usize) -> Option<BoxedOrganism>
         requires { cell < length self.old }
         ensures { self.new ≡ slice_set self.old cell None }
     {
-        self.organisms[cell] = None;
+        self.standings[cell] = None;
+        self.organisms[cell].take()
     }
 
     /// Somebody with this id stands in the cell.
@@ -115,13 +127,14 @@ impl Residents {
         ensures { self.new
             ≡ slice_set self.old cell (Some (record { id = id; organism = organism })) }
     {
+        self.standings[cell] = Some(organism.standing());
         self.organisms[cell] = Some(organism);
         self.ids[cell] = id;
     }
 }
 
-/// So many cells in which nobody stands.
-fn empty_cells(alloc: Global, count: u32) -> Result<Vec<Option<BoxedOrganism>>, Memory>
+/// So many cells that have nothing.
+fn empty_cells<T: Drop>(alloc: Global, count: u32) -> Result<Vec<Option<T>>, Memory>
     ensures { IfOk result (λ cells. cells.items ≡ replicate count None) }
 {
     let mut cells = Vec::with_capacity(alloc, count as usize)?;

@@ -2,7 +2,7 @@
 ghost use Rattle.std.specs.Prelude.{◌≡◌, ◌+◌, ◌<◌, ◌≤◌, ◌^◌, ◌++◌, ◌∷◌, List, All, IfOk, length, map};
 ghost use Rattle.std.specs.List.Sorted.{IsPermutation};
 ghost use mathlib.Core.List.{IsPrefix};
-ghost use Rattle.cell_shards.specs.CellLives.{IsYoung, births_from, deaths_from, left_in, part_from, round_numbers, shard_lives_of};
+ghost use Rattle.cell_shards.specs.CellLives.{IsYoung, births_from, deaths_from, left_in, part_from, round_numbers, shard_lives_of, standing_in};
 ghost use Rattle.cell_shards.specs.Finishing.{IsNumbered, birth_of};
 ghost use Rattle.genotype_bank.specs.Seats.{all_shares, own_calls_of};
 ghost use Rattle.world_core.specs.Genotypes.{TakesIn};
@@ -13,8 +13,8 @@ use crate::genotypes::{Genotypes, len_after};
 use avida_port::{Gate, Memory};
 use cell_shards::laws::{parts_live_as_one, shards_part_the_cells};
 use cell_shards::{
-    BoxedOrganism, Cells, Dead, Delivered, Deliveries, Finished, Job, Round, Slices, bounds,
-    run_all,
+    BoxedOrganism, Cells, Dead, Delivered, Deliveries, Finished, Job, Round, Slices, Spent,
+    Standing, Standings, bounds, run_all,
 };
 use genotype_bank::laws::{calls_number_genotypes, genotypes_are_what_was_interned, numbers_agree};
 use genotype_bank::{Bank, Seat};
@@ -23,10 +23,12 @@ use std::alloc::Global;
 use std::sync::Wait;
 use std::thread::Threads;
 
-/// The cells after an update without the dead, its newborns, and the cells of the dead.
+/// The cells after an update without the dead, what is counted of them, its newborns, and the cells
+/// of the dead.
 #[derive(Drop)]
 pub(crate) struct Ended {
     pub(crate) organisms: Vec<Option<BoxedOrganism>>,
+    pub(crate) standings: Vec<Option<Standing>>,
     pub(crate) births: Vec<Delivered>,
     pub(crate) dead: Vec<u32>,
 }
@@ -39,6 +41,7 @@ pub(crate) fn live_in_shards<R: Threads + Wait + Sync, G: Gate + Sync>(
     genotypes: Genotypes,
     cells: Vec<Option<BoxedOrganism>>,
     slices: Vec<u64>,
+    spent: Vec<BoxedOrganism>,
     round: &Round,
     workers: u32,
     gate: &G,
@@ -50,6 +53,8 @@ pub(crate) fn live_in_shards<R: Threads + Wait + Sync, G: Gate + Sync>(
     requires workers { (1 ≤ workers) × (workers ≤ 64) }
     ensures cells { IfOk result (λ next. next.1.organisms.items ≡ map left_in
         (shard_lives_of (round_numbers round.now) (part_from 0 cells.items slices.items))) }
+    ensures standings { IfOk result
+        (λ next. next.1.standings.items ≡ map standing_in next.1.organisms.items) }
     ensures births { IfOk result (λ next. map birth_of next.1.births.items ≡ births_from 0
         (shard_lives_of (round_numbers round.now) (part_from 0 cells.items slices.items))) }
     ensures dead { IfOk result (λ next. next.1.dead.items ≡ deaths_from 0
@@ -63,10 +68,11 @@ pub(crate) fn live_in_shards<R: Threads + Wait + Sync, G: Gate + Sync>(
     parts_live_as_one();
     let Genotypes { bank, seat, len } = genotypes;
     seat.owns_all();
-    let jobs = jobs_of(alloc, &bank, seat, cells, slices, workers)?;
+    let jobs = jobs_of(alloc, &bank, seat, cells, slices, spent, workers)?;
     let shards = run_all(rt, alloc, jobs, &bank, round, gate)?;
     let Finished {
         cells,
+        standings,
         births,
         dead,
         seat,
@@ -77,6 +83,7 @@ pub(crate) fn live_in_shards<R: Threads + Wait + Sync, G: Gate + Sync>(
     let genotypes = Genotypes { bank, seat, len };
     let ended = Ended {
         organisms: cells.into_vec(),
+        standings: standings.into_vec(),
         births: births.into_vec(),
         dead: dead.into_vec(),
     };
@@ -84,13 +91,15 @@ pub(crate) fn live_in_shards<R: Threads + Wait + Sync, G: Gate + Sync>(
 }
 
 /// The cells cut into a job for each worker, cut off from the last to the first. The first job
-/// keeps the seat; each other has one that was split from it.
+/// keeps the seat; each other has one that was split from it. Each gives back the memory of its part
+/// of the spent organisms.
 fn jobs_of(
     alloc: Global,
     bank: &Bank,
     seat: Seat,
     cells: Vec<Option<BoxedOrganism>>,
     slices: Vec<u64>,
+    spent: Vec<BoxedOrganism>,
     workers: u32,
 ) -> Result<Vec<Job>, Memory>
     requires cells { (1 ≤ length cells.items) × (length cells.items ≤ CELLS) }
@@ -106,6 +115,7 @@ fn jobs_of(
     let mut seat = seat;
     let mut cells = cells;
     let mut slices = slices;
+    let mut spent = spent;
     let mut jobs = Vec::with_capacity(alloc, workers as usize)?;
     let mut shard = workers - 1;
     while shard > 0 {
@@ -117,6 +127,7 @@ fn jobs_of(
             cells: Cells::from_vec(part),
             slices: Slices::from_vec(steps),
             seat: bank.split(&mut seat),
+            spent: Spent::from_vec(cut_part(&mut spent, shard as usize + 1)?),
         })?;
         shard -= 1;
     }
@@ -125,9 +136,18 @@ fn jobs_of(
         cells: Cells::from_vec(cells),
         slices: Slices::from_vec(slices),
         seat,
+        spent: Spent::from_vec(spent),
     })?;
     jobs.reverse();
     Ok(jobs)
+}
+
+/// The last of so many equal parts of a list, which is cut off.
+fn cut_part<T: Drop>(list: &mut Vec<T>, parts: usize) -> Result<Vec<T>, Memory>
+    requires { 1 ≤ parts }
+{
+    let part = list.len() / parts;
+    Ok(list.split_off(list.len() - part)?)
 }
 
 /// All shards as one, joined in their order.
@@ -155,6 +175,8 @@ fn join_two(bank: &Bank, front: Finished, back: Finished) -> Result<Finished, Me
     requires front { front.seat.bank ≡ bank.now }
     requires back { back.seat.bank ≡ bank.now }
     ensures cells { IfOk result (λ whole. whole.cells ≡ front.cells ++ back.cells) }
+    ensures standings { IfOk result
+        (λ whole. whole.standings ≡ front.standings ++ back.standings) }
     ensures births { IfOk result (λ whole. whole.births ≡ front.births ++ back.births) }
     ensures dead { IfOk result (λ whole. whole.dead ≡ front.dead ++ back.dead) }
     ensures bank { IfOk result (λ whole. whole.seat.bank ≡ front.seat.bank) }
@@ -168,6 +190,7 @@ fn join_two(bank: &Bank, front: Finished, back: Finished) -> Result<Finished, Me
     let Finished {
         first,
         cells,
+        standings,
         births,
         dead,
         seat,
@@ -175,6 +198,7 @@ fn join_two(bank: &Bank, front: Finished, back: Finished) -> Result<Finished, Me
     Ok(Finished {
         first,
         cells: Cells::from_vec(appended(cells.into_vec(), back.cells.into_vec())?),
+        standings: Standings::from_vec(appended(standings.into_vec(), back.standings.into_vec())?),
         births: Deliveries::from_vec(appended(births.into_vec(), back.births.into_vec())?),
         dead: Dead::from_vec(appended(dead.into_vec(), back.dead.into_vec())?),
         seat: bank.join(seat, back.seat),

@@ -2,5 +2,6 @@ use Rattle.std.proofs.Common.{◌≡◌, map, take}
 use Rattle.world_core.specs.Population.{merit_or_zero}
 use Rattle.world_core.proofs.lives.merits_of.Given as goal
 
-abbrev pub invariant-loop-slot : goal.invariant-loop-slot
-invariant-loop-slot l = l.merits.items ≡ map merit_or_zero (take l.slot-index l.cells)
+abbrev pub invariant-loop-standing : goal.invariant-loop-standing
+invariant-loop-standing l =
+    l.merits.items ≡ map merit_or_zero (take l.standing-index l.standings)

@@ -1,5 +1,16 @@
+use Rattle.std.proofs.Common.{◌≡◌, ◌∙◌, ◌≤◌, ◌^◌, ℕ, ap, arith, length, map}
+use Rattle.std.proofs.lemmas.List.{length-map}
+use Rattle.std.proofs.lemmas.List.Elements.{All-same}
+use Rattle.world_core.specs.Population.{merit_or_zero}
 use Rattle.world_core.proofs.LifeLemmas.{sum-merits}
 use Rattle.world_core.proofs.lives.slices_by.Goals as goal
 
 pub share-requires-clause-sum : goal.share-requires-clause-sum
-share-requires-clause-sum c = sum-merits c.args.merits.now c.requires.merits c.requires.cells
+share-requires-clause-sum c =
+    let standings = c.args.standings.now in
+    let merits : c.deref.result.now ≡ map merit_or_zero standings =
+    c.deref.ensures.value ∙ c.in_ok-merits.ensures in
+    sum-merits c.deref.result.now
+    (All-same (λ (merit : ℕ). merit ≤ 2 ^ 38) c.deref.result.now (map merit_or_zero standings) merits
+    c.requires.merits)
+    (omega (arith, ap length merits, length-map standings merit_or_zero, c.requires.cells))

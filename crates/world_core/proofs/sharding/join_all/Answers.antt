@@ -45,6 +45,7 @@ loop-next-preserved c =
     let turn = c.in_ok-whole.ensures in
     let two : AreTwo c.loop-next.whole next c.in_ok-whole.whole = record {
       cells = turn.cells;
+      standings = turn.standings;
       births = turn.births;
       dead = turn.dead;
       bank = turn.bank;

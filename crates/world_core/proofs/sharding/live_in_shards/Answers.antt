@@ -1,6 +1,6 @@
 use Rattle.std.proofs.Common.{◌≡◌, ◌∙◌, ◌<◌, ◌^◌, List, All, ap, arith, fold, length, map, subst, sym}
 use Rattle.std.proofs.lemmas.List.Elements.{All-same, All-weaker}
-use Rattle.cell_shards.specs.CellLives.{IsYoung, round_numbers}
+use Rattle.cell_shards.specs.CellLives.{IsYoung, round_numbers, standing_in}
 use Rattle.cell_shards.specs.Finishing.{IsNumbered, birth_of}
 use Rattle.cell_shards.specs.declared.delivered.Delivered.{Delivered}
 use Rattle.cell_shards.specs.declared.finished.Finished.{Finished}
@@ -8,7 +8,8 @@ use Rattle.genotype_bank.specs.BankHistory.{genotypes_of}
 use Rattle.instruction_set.specs.declared.letter.Letter.{Letter}
 use Rattle.world_core.specs.Genotypes.{TakesIn}
 use Rattle.world_core.proofs.GenotypeLemmas.{genotypes-different, len-taken, next_len}
-use Rattle.world_core.proofs.JoinLemmas.{EndsAs, each-finished, ends-as, jobs-can-run, numbers-finished, seats-finished, seats-shared, takes-in}
+use Rattle.world_core.proofs.CutLemmas.{jobs-can-run}
+use Rattle.world_core.proofs.JoinLemmas.{EndsAs, each-finished, ends-as, numbers-finished, seats-finished, seats-shared, takes-in}
 use Rattle.world_core.proofs.sharding.live_in_shards.Given as given
 use Rattle.world_core.proofs.sharding.live_in_shards.Goals.{After-owns_all-2, In_ok-cells}
 use Rattle.world_core.proofs.sharding.live_in_shards.Goals as goal
@@ -93,20 +94,25 @@ pub returns-clause-cells : goal.returns-clause-cells
 returns-clause-cells g c =
     c.into_vec.ensures ∙ (ends g (goal.at.returns-clause-cells g c).In_ok-cells).left
 
+pub returns-clause-standings : goal.returns-clause-standings
+returns-clause-standings g c =
+    c.into_vec-2.ensures ∙ (ends g (goal.at.returns-clause-standings g c).In_ok-cells).standings
+    ∙ ap (map standing_in) (sym c.into_vec.ensures)
+
 pub returns-clause-births : goal.returns-clause-births
 returns-clause-births g c =
-    ap (map birth_of) c.into_vec-2.ensures
+    ap (map birth_of) c.into_vec-3.ensures
     ∙ (ends g (goal.at.returns-clause-births g c).In_ok-cells).births
 
 pub returns-clause-dead : goal.returns-clause-dead
 returns-clause-dead g c =
-    c.into_vec-3.ensures ∙ (ends g (goal.at.returns-clause-dead g c).In_ok-cells).dead
+    c.into_vec-4.ensures ∙ (ends g (goal.at.returns-clause-dead g c).In_ok-cells).dead
 
 pub returns-clause-bank : goal.returns-clause-bank
 returns-clause-bank g c =
     let at = goal.at.returns-clause-bank g c in
     subst (λ (births : List Delivered). TakesIn c.args.genotypes
-    (genotypes_of c.in_ok-cells.field-0.seat.seen) births) (sym c.into_vec-2.ensures)
+    (genotypes_of c.in_ok-cells.field-0.seat.seen) births) (sym c.into_vec-3.ensures)
     (subst (λ (old : List (List Letter)). TakesIn old (genotypes_of c.in_ok-cells.field-0.seat.seen)
     c.in_ok-cells.field-0.births) c.genotypes.view_is
     (takes g at.After-owns_all-2 (ends g at.In_ok-cells)))

@@ -1,7 +1,7 @@
 use Rattle.std.proofs.Common.{◌≡◌, ◌∙◌, ◌+◌, ◌<◌, ◌≤◌, ◌^◌, All, List, None, Option, ap, arith, get_or, length, map, subst, sum, sym, ℕ}
 use Rattle.std.proofs.lemmas.List.{length-map, map-id}
 use Rattle.std.proofs.lemmas.List.Elements.{All-same}
-use Rattle.cell_shards.specs.CellLives.{round_numbers}
+use Rattle.cell_shards.specs.CellLives.{round_numbers, standing_in}
 use Rattle.cell_shards.specs.declared.delivered.Delivered.{Delivered}
 use Rattle.instruction_set.specs.declared.letter.Letter.{Letter}
 use Rattle.merit_slices.specs.Slices.{slices_of}
@@ -21,9 +21,9 @@ use Rattle.world_core.proofs.KeptOfLemmas.{IsKeptOf-more}
 use Rattle.world_core.proofs.LivedLemmas.{LiveApart, births-within, cells-long, dead-within, goes-on, lived-births, lived-cells, lived-dead, lived-length, merits-fit, slices-are, young-are}
 use Rattle.world_core.proofs.LivesLemmas.{map-both}
 use Rattle.world_core.proofs.ResidentLemmas.{occupants_of-length}
-use Rattle.world_core.proofs.TurnLemmas.{AreRead, IsRead, all-counted, can-count-here, counted-here, credited_of}
+use Rattle.world_core.proofs.TurnLemmas.{AreRead, IsRead, all-counted, can-count-here, counted-here}
 use Rattle.world_core.proofs.population.Population.live.Given as given
-use Rattle.world_core.proofs.population.Population.live.Goals.{After-index-in-loop-cell-3, In-loop-cell, In_ok-genotypes, In_ok-with_parents}
+use Rattle.world_core.proofs.population.Population.live.Goals.{After-index-in-loop-cell-2, In-loop-cell, In_ok-genotypes, In_ok-with_parents}
 use Rattle.world_core.proofs.population.Population.live.Goals as goal
 
 -- the cells as their shards had them
@@ -35,14 +35,14 @@ apart g c =
     let config = values_of c.args.config.now in
     let were = c.cells.view_is ∙ ap (λ (p : PopulationValue). p.cells) c.self.view_is in
     record {
-      long = c.cells.invariant;
+      long = c.cells.invariant.long;
       were = were;
       bought = slices-are config c.args.self.cells c.cells.inside.organisms.items
-          c.cells.inside.ids.items c.in_ok-merits.merits.items c.in_ok-slices.slices.items
-          c.cells.invariant were (c.in_ok-merits.ensures
-          ∙ ap (map merit_or_zero) c.deref.ensures.value)
+          c.cells.inside.ids.items c.in_ok-slices.slices.items c.cells.inside.standings.items
+          c.cells.invariant.long were c.cells.invariant.counted
           (c.in_ok-slices.ensures.slices
-          ∙ ap (λ merits. slices_of merits config.average_slices) c.deref-3.ensures.value);
+          ∙ ap (λ all. slices_of (map merit_or_zero all) config.average_slices)
+          c.deref.ensures.value);
       shared = c.round_at-round.ensures;
     }
 
@@ -63,20 +63,21 @@ goes g c = goes-on (apart g c) c.in_ok-genotypes.ended.organisms.items
 
 -- what the count reads of the cells
 lists : (g : given.Over) (c : In_ok-genotypes g)
-    → AreRead c.cells.inside.organisms.items c.self.inside.keys.items c.in_ok-merits.merits.items
-    c.in_ok-credits.credits.items
+    → AreRead c.cells.inside.organisms.items c.in_ok-genotypes.ended.organisms.items
+    c.self.inside.keys.items c.cells.inside.standings.items
+    c.in_ok-genotypes.ended.standings.items
 lists g c = record {
   keyed = c.self.invariant.genotypes.size ∙ length-map c.self.inside.cells occupant_genome
       ∙ ap (λ (p : PopulationValue). length p.cells) c.self.view_is ∙ cells-long (apart g c);
-  merits_are = c.in_ok-merits.ensures ∙ ap (map merit_or_zero) c.deref.ensures.value;
-  credits_are = c.in_ok-credits.ensures ∙ ap (map credited_of) c.deref-2.ensures.value;
+  before_are = c.cells.invariant.counted;
+  after_are = c.in_ok-genotypes.ensures.standings;
 }
 
 -- there are as many organisms and gaps as before
 left-long : (g : given.Over) (c : In_ok-genotypes g)
     → length c.in_ok-genotypes.ended.organisms.items ≡ length c.cells.inside.organisms.items
 left-long g c = sym (lived-length (apart g c) c.in_ok-genotypes.ended.organisms.items
-    c.in_ok-genotypes.ensures.cells) ∙ c.cells.invariant
+    c.in_ok-genotypes.ensures.cells) ∙ c.cells.invariant.long
 
 -- somebody or nobody is left in the cell of a turn
 inside : (g : given.Over) (c : In-loop-cell g)
@@ -89,16 +90,14 @@ inside g c = omega (
 )
 
 -- what is read of that cell
-read : (g : given.Over) (c : After-index-in-loop-cell-3 g)
-    → IsRead c.self.inside.keys.items c.in_ok-merits.merits.items c.in_ok-credits.credits.items
-    c.in_ok-genotypes.ended.organisms.items c.loop-cell.cell c.index.result.now
+read : (g : given.Over) (c : After-index-in-loop-cell-2 g)
+    → IsRead c.self.inside.keys.items c.cells.inside.standings.items
+    c.in_ok-genotypes.ended.standings.items c.loop-cell.cell c.index.result.now
     c.index-in-loop-cell.result.now c.index-in-loop-cell-2.result.now
-    c.index-in-loop-cell-3.result.now
 read g c = record {
   key_is = c.index.ensures;
-  merit_is = c.index-in-loop-cell.ensures;
-  credited_is = c.index-in-loop-cell-2.ensures;
-  now_is = c.index-in-loop-cell-3.ensures;
+  was_is = c.index-in-loop-cell.ensures;
+  now_is = c.index-in-loop-cell-2.ensures;
 }
 
 -- the newborns with their parents
@@ -110,35 +109,32 @@ parents : (g : given.Over) (c : In_ok-with_parents g) → c.in_ok-with_parents.f
 parents g c = c.in_ok-with_parents.ensures
     ∙ ap (λ (numbers : List ℕ). map (λ (birth : Delivered).
     record { parent = get_or numbers birth.cell 0; newborn = birth })
-    c.in_ok-genotypes.ended.births.items) c.deref-4.ensures.value
+    c.in_ok-genotypes.ended.births.items) c.deref-2.ensures.value
 
 pub slices_by-requires-clause-cells : goal.slices_by-requires-clause-cells
 slices_by-requires-clause-cells g c =
     let os = c.cells.inside.organisms.items in
     omega (
       arith,
-      ap length c.deref-3.ensures.value,
-      ap length (c.in_ok-merits.ensures ∙ ap (map merit_or_zero) c.deref.ensures.value),
-      length-map os merit_or_zero,
-      occupants_of-length os c.cells.inside.ids.items c.cells.invariant,
+      ap length c.deref.ensures.value,
+      ap length c.cells.invariant.counted,
+      length-map os standing_in,
+      occupants_of-length os c.cells.inside.ids.items c.cells.invariant.long,
       ap length c.cells.view_is,
       c.self.invariant.sums.few,
     )
 
 pub slices_by-requires-clause-merits : goal.slices_by-requires-clause-merits
 slices_by-requires-clause-merits g c =
-    All-same (λ (merit : ℕ). merit ≤ 2 ^ 38) c.deref-3.result.now c.in_ok-merits.merits.items
-    c.deref-3.ensures.value
-    (merits-fit c.cells.inside.organisms.items c.cells.inside.ids.items
-    c.in_ok-merits.merits.items c.cells.invariant
-    (c.in_ok-merits.ensures ∙ ap (map merit_or_zero) c.deref.ensures.value)
+    merits-fit c.cells.inside.organisms.items c.cells.inside.ids.items c.deref.result.now
+    c.cells.invariant.long (c.deref.ensures.value ∙ c.cells.invariant.counted)
     (subst (All (λ (slot : Option Occupant). merit_in slot ≤ 2 ^ 38)) (sym c.cells.view_is)
-    c.self.invariant.sums.fits))
+    c.self.invariant.sums.fits)
 
 pub live_in_shards-requires-clause-cells : goal.live_in_shards-requires-clause-cells
 live_in_shards-requires-clause-cells g c l b =
     let long = occupants_of-length c.cells.inside.organisms.items c.cells.inside.ids.items
-    c.cells.invariant in (
+    c.cells.invariant.long in (
       omega (
         arith,
         c.requires.some,
@@ -152,7 +148,7 @@ live_in_shards-requires-clause-cells g c l b =
 pub live_in_shards-requires-clause-young : goal.live_in_shards-requires-clause-young
 live_in_shards-requires-clause-young g c l b =
     young-are c.args.update c.cells.inside.organisms.items c.cells.inside.ids.items
-    c.cells.invariant c.requires.update
+    c.cells.invariant.long c.requires.update
     (subst (AreBounded c.args.update)
     (sym (c.cells.view_is ∙ ap (λ (p : PopulationValue). p.cells) c.self.view_is))
     c.requires.sound)
@@ -184,9 +180,9 @@ index-requires-in-loop-cell g c =
       arith,
       inside g at.In-loop-cell,
       left-long g at.In_ok-genotypes,
-      ap length (lists g at.In_ok-genotypes).merits_are,
-      length-map c.cells.inside.organisms.items merit_or_zero,
-      c.in_ok-merits.merits.ok.0,
+      ap length c.cells.invariant.counted,
+      length-map c.cells.inside.organisms.items standing_in,
+      c.cells.inside.standings.ok.0,
     )
 
 pub index-requires-in-loop-cell-2 : goal.index-requires-in-loop-cell-2
@@ -195,10 +191,9 @@ index-requires-in-loop-cell-2 g c =
     omega (
       arith,
       inside g at.In-loop-cell,
-      left-long g at.In_ok-genotypes,
-      ap length (lists g at.In_ok-genotypes).credits_are,
-      length-map c.cells.inside.organisms.items credited_of,
-      c.in_ok-credits.credits.ok.0,
+      ap length c.in_ok-genotypes.ensures.standings,
+      length-map c.in_ok-genotypes.ended.organisms.items standing_in,
+      c.in_ok-genotypes.ended.standings.ok.0,
     )
 
 pub count_again-requires : goal.count_again-requires
@@ -208,7 +203,7 @@ count_again-requires g c =
     can-count-here (apart g before) c.in_ok-genotypes.ensures.cells c.one_index.ensures.list
     (lists g before) c.in_ok-genotypes.genotypes c.loop-cell.census c.loop-cell.census
     c.loop-cell.cell (inside g at.In-loop-cell) (goes g before c.loop-cell.cell)
-    c.loop-cell.invariant (read g at.After-index-in-loop-cell-3)
+    c.loop-cell.invariant (read g at.After-index-in-loop-cell-2)
 
 pub loop-cell-preserved : goal.loop-cell-preserved
 loop-cell-preserved g c =
@@ -217,13 +212,13 @@ loop-cell-preserved g c =
     counted-here (apart g before) c.in_ok-genotypes.ensures.cells c.one_index.ensures.list
     (lists g before) c.in_ok-genotypes.genotypes c.loop-cell.census c.count_again.new.census
     c.loop-cell.cell (inside g at.In-loop-cell) (goes g before c.loop-cell.cell)
-    c.loop-cell.invariant (read g at.After-index-in-loop-cell-3) c.count_again.ensures
+    c.loop-cell.invariant (read g at.After-index-in-loop-cell-2) c.count_again.ensures
 
 pub with_parents-requires : goal.with_parents-requires
 with_parents-requires g c =
     let at = (goal.at.with_parents-requires g c).In_ok-genotypes in
     subst (λ (n : ℕ). All (λ (birth : Delivered). birth.cell < n)
-    c.in_ok-genotypes.ended.births.items) (sym (ap length c.deref-4.ensures.value))
+    c.in_ok-genotypes.ended.births.items) (sym (ap length c.deref-2.ensures.value))
     (births-within (apart g at) c.in_ok-genotypes.ended.births.items
     c.in_ok-genotypes.ensures.births)
 
@@ -231,15 +226,17 @@ pub with_ids-requires : goal.with_ids-requires
 with_ids-requires g c =
     let at = (goal.at.with_ids-requires g c).In_ok-genotypes in
     let dead = c.in_ok-genotypes.ended.dead.items in
-    subst (λ (n : ℕ). All (λ (cell : ℕ). cell < n) c.deref-6.result.now)
-    (sym (ap length c.deref-5.ensures.value))
-    (All-same (λ (cell : ℕ). cell < length c.cells.inside.ids.items) c.deref-6.result.now dead
-    c.deref-6.ensures.value (dead-within (apart g at) dead c.in_ok-genotypes.ensures.dead))
+    subst (λ (n : ℕ). All (λ (cell : ℕ). cell < n) c.deref-4.result.now)
+    (sym (ap length c.deref-3.ensures.value))
+    (All-same (λ (cell : ℕ). cell < length c.cells.inside.ids.items) c.deref-4.result.now dead
+    c.deref-4.ensures.value (dead-within (apart g at) dead c.in_ok-genotypes.ensures.dead))
 
 pub invariant_of-population : goal.invariant_of-population
-invariant_of-population g c =
-    lived-length (apart g (goal.at.invariant_of-population g c).In_ok-genotypes)
-    c.in_ok-genotypes.ended.organisms.items c.in_ok-genotypes.ensures.cells
+invariant_of-population g c = record {
+  long = lived-length (apart g (goal.at.invariant_of-population g c).In_ok-genotypes)
+      c.in_ok-genotypes.ended.organisms.items c.in_ok-genotypes.ensures.cells;
+  counted = c.in_ok-genotypes.ensures.standings;
+}
 
 pub invariant_of-population-2 : goal.invariant_of-population-2
 invariant_of-population-2 g c =
@@ -271,7 +268,7 @@ returns-clause-dead g c =
     lived-dead (apart g (goal.at.returns-clause-dead g c).In_ok-genotypes)
     c.in_ok-genotypes.ended.dead.items c.in_ok-with_ids.field-0.items c.in_ok-genotypes.ensures.dead
     (c.in_ok-with_ids.ensures
-    ∙ (λ i. map (departed_from (c.deref-5.ensures.value i)) (c.deref-6.ensures.value i)))
+    ∙ (λ i. map (departed_from (c.deref-3.ensures.value i)) (c.deref-4.ensures.value i)))
 
 pub returns-clause-bank : goal.returns-clause-bank
 returns-clause-bank g c =
@@ -302,9 +299,9 @@ returns-clause-bounds g c =
       arith,
       ap length live.bought,
       c.in_ok-slices.ensures.length,
-      ap length c.deref-3.ensures.value,
-      ap length (lists g at.In_ok-genotypes).merits_are,
-      length-map c.cells.inside.organisms.items merit_or_zero,
+      ap length c.deref.ensures.value,
+      ap length c.cells.invariant.counted,
+      length-map c.cells.inside.organisms.items standing_in,
       cells-long live,
     ) in
     let bounded = lives-bounded config c.args.update cells c.requires.sound c.requires.lives
