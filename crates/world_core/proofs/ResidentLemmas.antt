@@ -93,8 +93,8 @@ pub counted-at : (os : List (Option OrganismState)) (standings : List (Option St
     (read : Option Standing) → cell < length os → standings ≡ map standing_in os
     → read ≡ get_or standings cell read → read ≡ standing_in (get_or os cell None)
 counted-at os standings cell read within are found =
-    get_or_read standings cell read (omega (arith, within, ap length are, length-map os standing_in))
-    found None
+    get_or_read standings cell read
+    (omega (arith, within, ap length are, length-map os standing_in)) found None
     ∙ ap (λ ss. get_or ss cell None) are
     ∙ get_or-map standing_in os cell None None within
 
@@ -146,7 +146,8 @@ module _ (r : Inside) {cells : List (Option Occupant)}
       found None) ∙ is)
 
   -- what is counted there
-  pub read-standing : (read : Option Standing) → r.standings.items ≡ map standing_in r.organisms.items
+  pub read-standing : (read : Option Standing)
+      → r.standings.items ≡ map standing_in r.organisms.items
       → read ≡ get_or r.standings.items cell read
       → read ≡ standing_in (organism_in (get_or cells cell None))
   read-standing read counted found =

@@ -13,8 +13,8 @@ use saved_lines::Resident;
 use std::alloc::{AllocError, Global};
 use std::marker::Model;
 
-/// The organism of each cell, the id of who stands there, and what is counted of it. The lives of an
-/// update need only the organisms, which a shard takes with it.
+/// The organism of each cell, the id of who stands there, and what is counted of it. The lives of
+/// an update need only the organisms, which a shard takes with it.
 #[derive(Drop)]
 pub(crate) struct Residents {
     pub(crate) organisms: Vec<Option<BoxedOrganism>>,

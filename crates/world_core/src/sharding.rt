@@ -91,8 +91,8 @@ pub(crate) fn live_in_shards<R: Threads + Wait + Sync, G: Gate + Sync>(
 }
 
 /// The cells cut into a job for each worker, cut off from the last to the first. The first job
-/// keeps the seat; each other has one that was split from it. Each gives back the memory of its part
-/// of the spent organisms.
+/// keeps the seat; each other has one that was split from it. Each drops its part of the spent
+/// organisms.
 fn jobs_of(
     alloc: Global,
     bank: &Bank,

@@ -15,7 +15,8 @@ pub live_in-requires-clause-young : goal.live_in-requires-clause-young
 live_in-requires-clause-young c =
     HaveLived-next (round_numbers c.args.round.now)
     (part_from c.args.first c.args.cells.now c.args.slices.now) c.loop-place.place
-    c.loop-place.cells c.loop-place.lived.standings.items c.loop-place.lived.births.items c.loop-place.lived.dead.items
+    c.loop-place.cells c.loop-place.lived.standings.items c.loop-place.lived.births.items
+    c.loop-place.lived.dead.items
     c.index-cells-place.result c.loop-place.invariant (omega arith) c.requires.young
 
 pub loop-place-preserved : goal.loop-place-preserved

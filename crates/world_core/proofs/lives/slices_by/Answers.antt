@@ -11,6 +11,6 @@ share-requires-clause-sum c =
     let merits : c.deref.result.now ≡ map merit_or_zero standings =
     c.deref.ensures.value ∙ c.in_ok-merits.ensures in
     sum-merits c.deref.result.now
-    (All-same (λ (merit : ℕ). merit ≤ 2 ^ 38) c.deref.result.now (map merit_or_zero standings) merits
-    c.requires.merits)
+    (All-same (λ (merit : ℕ). merit ≤ 2 ^ 38) c.deref.result.now (map merit_or_zero standings)
+    merits c.requires.merits)
     (omega (arith, ap length merits, length-map standings merit_or_zero, c.requires.cells))

@@ -10,7 +10,8 @@ id_at-requires c =
       arith,
       c.loop-cell-test.true,
       c.self.inside.organisms.ok.0,
-      occupants_of-length c.self.inside.organisms.items c.self.inside.ids.items c.self.invariant.long,
+      occupants_of-length c.self.inside.organisms.items c.self.inside.ids.items
+          c.self.invariant.long,
       ap length c.self.view_is,
     )
 
@@ -21,7 +22,8 @@ loop-cell-preserved c =
       arith,
       c.loop-cell-test.true,
       c.self.inside.organisms.ok.0,
-      occupants_of-length c.self.inside.organisms.items c.self.inside.ids.items c.self.invariant.long,
+      occupants_of-length c.self.inside.organisms.items c.self.inside.ids.items
+          c.self.invariant.long,
       ap length c.self.view_is,
     ) in
     c.in_ok-push.ensures.items ∙ (λ i. c.loop-cell.invariant i ++ c.id_at.ensures i ∷ [])
@@ -34,6 +36,7 @@ returns c =
     (omega (
       arith,
       c.self.inside.organisms.ok.0,
-      occupants_of-length c.self.inside.organisms.items c.self.inside.ids.items c.self.invariant.long,
+      occupants_of-length c.self.inside.organisms.items c.self.inside.ids.items
+          c.self.invariant.long,
       ap length c.self.view_is,
     )))

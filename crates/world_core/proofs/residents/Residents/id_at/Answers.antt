@@ -15,10 +15,10 @@ pub returns-in-Some : goal.returns-in-Some
 returns-in-Some c =
     ap Some (read-id c.self.inside c.self.invariant.long c.self.view_is c.args.cell c.requires
     c.index-in-Some.result.now c.index-in-Some.ensures)
-    ∙ sym (ap id_of (read-slot c.self.inside c.self.invariant.long c.self.view_is c.args.cell c.requires
-    c.index.result.now _ c.index.ensures c.in-Some.is))
+    ∙ sym (ap id_of (read-slot c.self.inside c.self.invariant.long c.self.view_is c.args.cell
+    c.requires c.index.result.now _ c.index.ensures c.in-Some.is))
 
 pub returns-in-None : goal.returns-in-None
 returns-in-None c =
-    sym (ap id_of (read-slot c.self.inside c.self.invariant.long c.self.view_is c.args.cell c.requires
-    c.index.result.now _ c.index.ensures c.in-None.is))
+    sym (ap id_of (read-slot c.self.inside c.self.invariant.long c.self.view_is c.args.cell
+    c.requires c.index.result.now _ c.index.ensures c.in-None.is))

@@ -8,6 +8,7 @@ returns c =
       arith,
       c.len.ensures,
       c.self.inside.organisms.ok.0,
-      occupants_of-length c.self.inside.organisms.items c.self.inside.ids.items c.self.invariant.long,
+      occupants_of-length c.self.inside.organisms.items c.self.inside.ids.items
+          c.self.invariant.long,
       ap length c.self.view_is,
     )
