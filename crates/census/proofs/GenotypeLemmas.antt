@@ -1,21 +1,19 @@
 -- What one organism more or less does to the genotypes.
-use Rattle.std.proofs.Common.{◌≡◌, ◌∙◌, sym, refl, ap, subst, ℕ, ◌+◌, ◌<◌, ◌≤◌, Bool, true, false, cond, List, [], Option, Some, None, arith}
-use Rattle.std.specs.Prelude.{IsSome}
+use Rattle.std.proofs.Common.{◌≡◌, ◌∙◌, sym, refl, ap, subst, ℕ, ◌+◌, ◌<◌, ◌≤◌, Bool, true, false, cond, ltb-true, ltb-false, rules, List, [], ◌∷◌, Option, Some, None, Ordering, Less, Equal, Greater, arith}
+use Rattle.std.specs.Prelude.{IsSome, nat_lt}
 use Rattle.std.specs.BTreeMap.{insert_entry, is_at}
 use Rattle.std.specs.Cmp.{nat_cmp_total}
 use Rattle.std.specs.List.Sorted.{IsStrictlySortedBy}
 use Rattle.std.specs.Map.{keys_of, remove_entry, set_value}
 use Rattle.std.specs.Option.{option_map, unwrap_or}
-use Rattle.std.specs.Ordering.{nat_cmp}
-use Rattle.std.proofs.lemmas.Map.Entries.{sum_by-insert_entry, sum_by-remove_entry, sum_by-set_value}
-use Rattle.std.proofs.lemmas.Map.Lookups.{exact_unsigned}
-use Rattle.std.proofs.lemmas.Map.Views.{tells_apart}
+use Rattle.std.specs.Ordering.{is_eq, match_ordering, nat_cmp}
+use Rattle.std.proofs.lemmas.Bool.{cond-true, cond-false}
+use Rattle.std.proofs.lemmas.Map.{lookup-none}
+use Rattle.std.proofs.lemmas.Map.Keys.{sorted_tail}
+use Rattle.std.proofs.lemmas.Map.Entries.{none_below_head, sum_by-insert_entry, sum_by-remove_entry, sum_by-set_value}
+use Rattle.instruction_set.specs.declared.letter.Letter.{Letter}
 use Rattle.census.specs.Counts.{GenotypeCount, AreGenotypes, genotype_at, living_of}
-use Rattle.census.specs.Changes.{count_under, genome_under, lowered}
-
--- a key that ties with another is that key
-tied : (key other : ℕ) → is_at (nat_cmp key) other ≡ true → other ≡ key
-tied key other same = sym (tells_apart exact_unsigned key other same)
+use Rattle.census.specs.Changes.{count_under, genome_under, lowered, with_one, without_one}
 
 -- a count is at most the number of the counted
 pub count_under-le-living : (genotypes : List (ℕ × GenotypeCount)) (key : ℕ)
@@ -28,7 +26,7 @@ count_under-le-living genotypes key =
     )
 
 -- what is under a key is counted
-pub count_under-some : (genotypes : List (ℕ × GenotypeCount)) (key : ℕ) → AreGenotypes genotypes
+count_under-some : (genotypes : List (ℕ × GenotypeCount)) (key : ℕ) → AreGenotypes genotypes
     → IsSome (genotype_at genotypes key) → 0 < count_under genotypes key
 count_under-some genotypes key are some =
     by (genotype_at genotypes key) (are.counted key) some where
@@ -37,54 +35,20 @@ count_under-some genotypes key are some =
       by None counted none = cc
       by (Some g) counted is = counted g refl
 
--- a genotype that is counted once more, or whose count is lower
-pub AreGenotypes-set : (before after : List (ℕ × GenotypeCount)) (key : ℕ) (new : GenotypeCount)
-    → AreGenotypes before → IsStrictlySortedBy nat_cmp (keys_of after)
-    → ((other : ℕ) → genotype_at after other ≡ cond (is_at (nat_cmp key) other) (Some new)
-    (genotype_at before other)) → 0 < new.count
-    → ((other : ℕ) (g : GenotypeCount) → genotype_at before other ≡ Some g → g.genome ≡ new.genome
-    → other ≡ key) → AreGenotypes after
-AreGenotypes-set before after key new are ordered updates counted one_key = record {
-  in_order = ordered;
-  counted = λ other g is. counted_at other g (is_at (nat_cmp key) other) (sym (updates other) ∙ is);
-  one_key = λ q r g h is has same. one (is_at (nat_cmp key) q) (is_at (nat_cmp key) r) q r g h refl
-      refl (sym (updates q) ∙ is) (sym (updates r) ∙ has) same;
-}
-  where
-    counted_at : (other : ℕ) (g : GenotypeCount) (b : Bool)
-        → cond b (Some new) (genotype_at before other) ≡ Some g → 0 < g.count
-    counted_at other g true is =
-        let same : new ≡ g = cc in subst (λ (g : GenotypeCount). 0 < g.count) same counted
-    counted_at other g false is = are.counted other g is
-
-    one : (a b : Bool) (q r : ℕ) (g h : GenotypeCount) → is_at (nat_cmp key) q ≡ a
-        → is_at (nat_cmp key) r ≡ b → cond a (Some new) (genotype_at before q) ≡ Some g
-        → cond b (Some new) (genotype_at before r) ≡ Some h → g.genome ≡ h.genome → q ≡ r
-    one true true q r g h p s is has same = tied key q p ∙ sym (tied key r s)
-    one true false q r g h p s is has same =
-        let new_is : new ≡ g = cc in
-        tied key q p ∙ sym (one_key r h has
-        (sym same ∙ ap (λ (g : GenotypeCount). g.genome) (sym new_is)))
-    one false true q r g h p s is has same =
-        let new_is : new ≡ h = cc in
-        one_key q g is (same ∙ ap (λ (g : GenotypeCount). g.genome) (sym new_is))
-        ∙ sym (tied key r s)
-    one false false q r g h p s is has same = are.one_key q r g h is has same
-
 -- one organism more has a genome
-pub living-raised : (genotypes : List (ℕ × GenotypeCount)) (key : ℕ) (new : GenotypeCount)
-    → IsStrictlySortedBy nat_cmp (keys_of genotypes) → new.count ≡ count_under genotypes key + 1
-    → living_of (insert_entry nat_cmp genotypes key new) ≡ living_of genotypes + 1
-living-raised genotypes key new ordered count =
+pub living-with : (genotypes : List (ℕ × GenotypeCount)) (key : ℕ) (genome : List Letter)
+    → IsStrictlySortedBy nat_cmp (keys_of genotypes)
+    → living_of (with_one genotypes key genome) ≡ living_of genotypes + 1
+living-with genotypes key genome ordered =
     omega (
       arith,
-      count,
       sum_by-insert_entry (λ (g : GenotypeCount). g.count) nat_cmp_total
-          genotypes key new ordered,
+          genotypes key
+          (record { genome = genome; count = count_under genotypes key + 1 }) ordered,
     )
 
 -- what is under a key that is counted
-pub found_under : (genotypes : List (ℕ × GenotypeCount)) (key : ℕ)
+found_under : (genotypes : List (ℕ × GenotypeCount)) (key : ℕ)
     → IsSome (genotype_at genotypes key)
     → genotype_at genotypes key
     ≡ Some (record { genome = genome_under genotypes key; count = count_under genotypes key })
@@ -99,7 +63,7 @@ found_under genotypes key some = by (genotype_at genotypes key) some where
   by (Some g) is = refl
 
 -- one organism fewer has a genome that more than one had
-pub living-lowered : (genotypes : List (ℕ × GenotypeCount)) (key : ℕ)
+living-lowered : (genotypes : List (ℕ × GenotypeCount)) (key : ℕ)
     → IsSome (genotype_at genotypes key) → 1 < count_under genotypes key
     → living_of (set_value (is_at (nat_cmp key)) genotypes (lowered genotypes key)) + 1
     ≡ living_of genotypes
@@ -111,8 +75,30 @@ living-lowered genotypes key some more =
           (lowered genotypes key) (found_under genotypes key some),
     )
 
+-- what is put under a key that is there is set
+insert_is_set : (genotypes : List (ℕ × GenotypeCount)) (key : ℕ) (new : GenotypeCount)
+    → IsStrictlySortedBy nat_cmp (keys_of genotypes) → IsSome (genotype_at genotypes key)
+    → insert_entry nat_cmp genotypes key new ≡ set_value (is_at (nat_cmp key)) genotypes new
+insert_is_set [] key new ordered is = absurd cc
+insert_is_set (e ∷ es) key new ordered is =
+    by (λ rest. insert_is_set es key new (sorted_tail nat_cmp e.0 (keys_of es) ordered) rest)
+    (nat_cmp key e.0) refl
+  where
+    -- however the key compares to the first one
+    by : (IsSome (genotype_at es key) → insert_entry nat_cmp es key new
+        ≡ set_value (is_at (nat_cmp key)) es new) → (r : Ordering) → nat_cmp key e.0 ≡ r
+        → match_ordering r ((key, new) ∷ e ∷ es) ((e.0, new) ∷ es)
+        (e ∷ insert_entry nat_cmp es key new)
+        ≡ cond (is_eq r) ((e.0, new) ∷ es) (e ∷ set_value (is_at (nat_cmp key)) es new)
+    by behind Less below = absurd (let none = lookup-none (is_at (nat_cmp key)) (e ∷ es)
+        (none_below_head nat_cmp_total key e es ordered below) in cc)
+    by behind Equal same = refl
+    by behind Greater above = ap (λ (rest : List (ℕ × GenotypeCount)). e ∷ rest)
+        (behind (subst IsSome (cond-false (is_at (nat_cmp key) e.0) (Some e.1)
+        (genotype_at es key) (ap is_eq above)) is))
+
 -- the only organism that had a genome goes
-pub living-removed : (genotypes : List (ℕ × GenotypeCount)) (key : ℕ)
+living-removed : (genotypes : List (ℕ × GenotypeCount)) (key : ℕ)
     → 0 < count_under genotypes key → count_under genotypes key ≤ 1
     → living_of (remove_entry (is_at (nat_cmp key)) genotypes) + 1 ≡ living_of genotypes
 living-removed genotypes key counted last =
@@ -121,3 +107,28 @@ living-removed genotypes key counted last =
       sum_by-remove_entry (λ (g : GenotypeCount). g.count) (is_at (nat_cmp key))
           genotypes,
     )
+
+-- one organism fewer has a genome
+pub living-without : (genotypes : List (ℕ × GenotypeCount)) (key : ℕ) → AreGenotypes genotypes
+    → IsSome (genotype_at genotypes key)
+    → living_of (without_one genotypes key) + 1 ≡ living_of genotypes
+living-without genotypes key are some = by (nat_lt 1 (count_under genotypes key)) refl where
+  -- whether others stay or not
+  by : (more : Bool) → nat_lt 1 (count_under genotypes key) ≡ more
+      → living_of (cond more
+      (set_value (is_at (nat_cmp key)) genotypes (lowered genotypes key))
+      (remove_entry (is_at (nat_cmp key)) genotypes)) + 1 ≡ living_of genotypes
+  by true more = living-lowered genotypes key some (ltb-true 1 (count_under genotypes key) more)
+  by false last = living-removed genotypes key (count_under-some genotypes key are some)
+      (ltb-false 1 (count_under genotypes key) last)
+
+-- a lower count that is put where others stay
+pub lowered_without : (genotypes : List (ℕ × GenotypeCount)) (key : ℕ)
+    → IsStrictlySortedBy nat_cmp (keys_of genotypes) → IsSome (genotype_at genotypes key)
+    → 1 < count_under genotypes key
+    → insert_entry nat_cmp genotypes key (lowered genotypes key) ≡ without_one genotypes key
+lowered_without genotypes key ordered some more =
+    insert_is_set genotypes key (lowered genotypes key) ordered some
+    ∙ sym (cond-true (nat_lt 1 (count_under genotypes key))
+    (set_value (is_at (nat_cmp key)) genotypes (lowered genotypes key))
+    (remove_entry (is_at (nat_cmp key)) genotypes) (search (rules, more)))

@@ -1,5 +1,5 @@
 // A genome and its count.
-ghost use Rattle.std.specs.Prelude.{◌≡◌, ◌-◌, ◌<◌, IfOk};
+ghost use Rattle.std.specs.Prelude.{◌≡◌, ◌+◌, ◌-◌, ◌<◌, ◌^◌, IfOk};
 ghost use Rattle.genome.specs.Genome.{letters};
 ghost use Rattle.census.specs.Dominance.{outranks, dominant_value};
 
@@ -37,6 +37,14 @@ impl Genotype {
         ensures { result ≡ self.now.count }
     {
         self.count
+    }
+
+    /// One organism more has the genome.
+    pub(crate) fn raise(&mut self)
+        requires { self.old.count < 2 ^ 32 }
+        ensures { self.new ≡ record { genome = self.old.genome; count = self.old.count + 1 } }
+    {
+        self.count += 1;
     }
 
     /// One organism fewer has the genome.

@@ -1,14 +1,11 @@
 // The genotypes by their keys.
-ghost use Rattle.std.specs.Prelude.{◌≡◌, ◌+◌, ◌<◌, ◌^◌, ℕ, IsSome, OnErr, OnOk, Some, if◌then◌else◌};
-ghost use Rattle.std.specs.BTreeMap.{is_at, values};
+ghost use Rattle.std.specs.Prelude.{◌≡◌, ◌+◌, ◌<◌, ◌^◌, ℕ, IsSome, OnErr, OnOk, Some};
+ghost use Rattle.std.specs.BTreeMap.{values};
 ghost use Rattle.std.specs.List.{best_of};
-ghost use Rattle.std.specs.List.Sorted.{IsStrictlySortedBy};
-ghost use Rattle.std.specs.Map.{keys_of, set_value};
 ghost use Rattle.std.specs.Option.{option_copied};
-ghost use Rattle.std.specs.Ordering.{nat_cmp};
 ghost use Rattle.genome.specs.Genome.{letters};
 ghost use Rattle.census.specs.Counts.{GenotypeCount, AreGenotypes, genotype_at, living_of};
-ghost use Rattle.census.specs.Changes.{count_under, genotype_with_one, genotype_without_one, lowered, with_one, without_one};
+ghost use Rattle.census.specs.Changes.{genotype_with_one, genotype_without_one, with_one, without_one};
 ghost use Rattle.census.specs.Dominance.{outranks, dominant_among};
 
 use crate::genotype::Genotype;
@@ -16,20 +13,10 @@ use avida_port::Memory;
 use genome::Genome;
 use std::alloc::Global;
 use std::collections::BTreeMap;
-use std::collections::btree_map::Values;
+use std::collections::btree_map::{Entry, Values};
 use std::sync::Arc;
 
 pub(crate) type Genotypes = BTreeMap<u64, Genotype>;
-
-/// How many organisms are counted under a key.
-pub(crate) fn count_under(genotypes: &Genotypes, key: u64) -> u64
-    ensures { result ≡ count_under genotypes.now.entries key }
-{
-    match genotypes.get(&key) {
-        Some(genotype) => genotype.count(),
-        None => 0,
-    }
-}
 
 /// Counts one organism more. If memory runs out, nothing changes.
 pub(crate) fn raise(
@@ -38,6 +25,9 @@ pub(crate) fn raise(
     genome: &Arc<Genome, Global>,
 ) -> Result<(), Memory>
     requires genotypes { AreGenotypes genotypes.old.entries }
+    requires one_genome { (genotype : GenotypeCount)
+        → genotype_at genotypes.old.entries key ≡ Some genotype
+        → genotype.genome ≡ letters genome.now.value }
     requires one_key { (other : ℕ) (genotype : GenotypeCount)
         → genotype_at genotypes.old.entries other ≡ Some genotype
         → genotype.genome ≡ letters genome.now.value → other ≡ key }
@@ -51,9 +41,13 @@ pub(crate) fn raise(
     ensures err { OnErr result (genotypes.new.entries ≡ genotypes.old.entries) }
     ensures genotypes { AreGenotypes genotypes.new.entries }
 {
-    let count = count_under(genotypes, key) + 1;
-    let genome = Arc::try_clone(genome)?;
-    genotypes.insert(key, Genotype::new(genome, count))?;
+    match genotypes.entry(key)? {
+        Entry::Occupied(place) => place.into_mut().raise(),
+        Entry::Vacant(place) => {
+            let genome = Arc::try_clone(genome)?;
+            place.insert(Genotype::new(genome, 1));
+        }
+    }
     Ok(())
 }
 
@@ -67,27 +61,15 @@ pub(crate) fn lower(genotypes: &mut Genotypes, key: u64)
     ensures living { living_of genotypes.new.entries + 1 ≡ living_of genotypes.old.entries }
     ensures genotypes { AreGenotypes genotypes.new.entries }
 {
-    if 1 < count_under(genotypes, key) {
-        lower_count(genotypes, key);
-    } else {
-        genotypes.remove(&key);
-    }
-}
-
-/// Lowers the count under a key, which stays.
-fn lower_count(genotypes: &mut Genotypes, key: u64)
-    requires { 0 < count_under genotypes.old.entries key }
-    ensures entries { genotypes.new.entries ≡ set_value (is_at (nat_cmp key)) genotypes.old.entries
-        (lowered genotypes.old.entries key) }
-    ensures updates { (other : ℕ) → genotype_at genotypes.new.entries other
-        ≡ (if is_at (nat_cmp key) other then Some (lowered genotypes.old.entries key)
-        else genotype_at genotypes.old.entries other) }
-    ensures ordered { IsStrictlySortedBy nat_cmp (keys_of genotypes.new.entries) }
-{
-    let Some(genotype) = genotypes.get_mut(&key) else {
+    let Ok(Entry::Occupied(mut place)) = genotypes.entry(key) else {
         return;
     };
-    genotype.lower();
+    let genotype = place.get_mut();
+    if 1 < genotype.count() {
+        genotype.lower();
+    } else {
+        place.remove();
+    }
 }
 
 /// The genotype before which no other comes.

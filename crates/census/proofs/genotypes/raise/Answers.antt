@@ -1,24 +1,32 @@
-use Rattle.std.proofs.Common.{◌∙◌, ap, arith, ◌+◌}
-use Rattle.genome.specs.Genome.{letters}
-use Rattle.census.specs.Counts.{GenotypeCount, living_of}
-use Rattle.census.proofs.GenotypeLemmas.{AreGenotypes-set, count_under-le-living, living-raised}
+use Rattle.std.proofs.Common.{rules, ◌≡◌, ◌∙◌, ap, arith, Option, Some}
+use Rattle.std.specs.Option.{option_map, unwrap_or}
+use Rattle.census.specs.Counts.{GenotypeCount, genotype_at, living_of}
+use Rattle.census.proofs.GenotypeLemmas.{count_under-le-living, living-with}
 use Rattle.census.proofs.genotypes.raise.Goals as goal
 
-pub overflow_add-count : goal.overflow_add-count
-overflow_add-count c = omega (arith, count_under-le-living c.args.genotypes.now.entries c.args.key)
+pub raise-requires : goal.raise-requires
+raise-requires c =
+    let genotypes = c.args.genotypes.now.entries in
+    let found : genotype_at genotypes c.args.key ≡ Some c.into_mut.result.now = search rules in
+    omega (
+      arith,
+      count_under-le-living genotypes c.args.key,
+      ap (λ (o : Option GenotypeCount). unwrap_or (option_map (λ g. g.count) o) 0) found,
+    )
 
-pub returns-clause-living : goal.returns-clause-living
-returns-clause-living c =
-    let count = ap (λ (g : GenotypeCount). g.count) c.new.ensures in
-    ap living_of c.in_ok-insert.ensures.entries
-    ∙ living-raised c.args.genotypes.now.entries c.args.key c.new.result
-    c.requires.genotypes.in_order (count ∙ ap (λ n. n + 1) c.count_under-count.ensures)
+pub returns-in-Occupied-clause-ok : goal.returns-in-Occupied-clause-ok
+returns-in-Occupied-clause-ok c = search rules
 
-pub returns-clause-genotypes : goal.returns-clause-genotypes
-returns-clause-genotypes c =
-    let count = ap (λ (g : GenotypeCount). g.count) c.new.ensures in
-    let genome =
-    ap (λ (g : GenotypeCount). g.genome) c.new.ensures ∙ ap letters c.in_ok-genome.ensures in
-    AreGenotypes-set c.args.genotypes.now.entries c.insert.new.self.entries c.args.key c.new.result
-    c.requires.genotypes c.in_ok-insert.ensures.ordered c.in_ok-insert.ensures.updates.0
-    (omega (arith, count)) (λ other g is same. c.requires.one_key other g is (same ∙ genome))
+pub returns-in-Occupied-clause-living : goal.returns-in-Occupied-clause-living
+returns-in-Occupied-clause-living c =
+    ap living_of (returns-in-Occupied-clause-ok c)
+    ∙ living-with c.args.genotypes.now.entries c.args.key _ c.requires.genotypes.in_order
+
+pub returns-in_ok-genome-in-Vacant-clause-ok : goal.returns-in_ok-genome-in-Vacant-clause-ok
+returns-in_ok-genome-in-Vacant-clause-ok c = search rules
+
+pub returns-in_ok-genome-in-Vacant-clause-living :
+    goal.returns-in_ok-genome-in-Vacant-clause-living
+returns-in_ok-genome-in-Vacant-clause-living c =
+    ap living_of (returns-in_ok-genome-in-Vacant-clause-ok c)
+    ∙ living-with c.args.genotypes.now.entries c.args.key _ c.requires.genotypes.in_order
