@@ -1,5 +1,5 @@
 -- What several seeds look like as text (docs/FORMATS.md, "Assay lines").
-use Rattle.std.specs.Prelude.{ℕ, ◌++◌, ◌∷◌, [], List, flat_map, length, map, codes, decimal, Option}
+use Rattle.std.specs.Prelude.{ℕ, ◌++◌, ◌∷◌, List, flat_map, length, map, codes, decimal, Option}
 use Rattle.std.specs.Option.{option_map_or}
 use Rattle.instruction_set.specs.declared.letter.Letter.{Letter}
 use Rattle.genome.specs.GenomeText.{letters_text_of}

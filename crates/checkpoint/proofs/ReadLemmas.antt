@@ -1,5 +1,5 @@
 -- The loop over the pieces of a saved world.
-use Rattle.std.proofs.Common.{◌≡◌, ℕ, ◌+◌, List, [], ◌∷◌, Option, Some, None, Result, Bor, refl, sym, ap, subst, ◌∙◌, inl, inr}
+use Rattle.std.proofs.Common.{◌≡◌, ℕ, ◌+◌, List, [], ◌∷◌, Option, Some, Result, Bor, refl, sym, ap, subst, ◌∙◌, inl, inr}
 use Rattle.std.specs.Prelude.{◌==◌}
 use Rattle.std.specs.Option.{option_copied}
 use Rattle.std.specs.List.{slice_split, onto_first}
@@ -7,7 +7,7 @@ use Rattle.std.proofs.lemmas.Bool.{cases_Bool}
 use Rattle.log_lines.specs.Words.{pieces_of}
 use Rattle.saved_lines.specs.SavedReading.{saved_line_of}
 use Rattle.saved_worlds.specs.SavedState.{SavedState}
-use Rattle.saved_worlds.specs.SavedGrammar.{SavedFault, SavedPlace, last_saved_piece, one_saved_piece, pieces_state}
+use Rattle.saved_worlds.specs.SavedGrammar.{SavedFault, SavedPlace, one_saved_piece, pieces_state}
 use Rattle.checkpoint.specs.declared.saved_stop.SavedStop.{SavedStop}
 use Rattle.checkpoint.specs.Reading.{IsFaultOf}
 

@@ -1,20 +1,16 @@
 -- What was told, at its start and with one organism more.
-use Rattle.std.proofs.Common.{◌≡◌, ℕ, ◌+◌, ◌≤◌, true, List, [], ◌∷◌, ◌++◌, map, sym, ap, ◌∙◌, arith}
+use Rattle.std.proofs.Common.{◌≡◌, ℕ, ◌+◌, ◌≤◌, true, List, [], ◌∷◌, ◌++◌, map, sym, ap, ◌∙◌}
 use Rattle.std.specs.Ordering.{nat_cmp}
-use Rattle.std.specs.Prelude.{not}
-use Rattle.std.specs.List.{list_any}
-use Rattle.std.specs.BTreeMap.{is_at}
 use Rattle.std.specs.BTreeSet.{BTreeSet, Updates}
 use Rattle.std.proofs.lemmas.Bool.{leb-true}
-use Rattle.std.proofs.lemmas.Bool.Decides.{nat_tests}
 use Rattle.std.proofs.lemmas.List.{map-append}
 use Rattle.genome.specs.Genome.{IsGenome}
 use Rattle.virtual_cpu.specs.declared.cpu_image.CpuImage.{CpuImage}
 use Rattle.saved_lines.specs.declared.resident.Resident.{Resident}
 use Rattle.saved_lines.specs.declared.state_head.StateHead.{StateHead}
-use Rattle.saved_lines.specs.SavedValues.{HeadValues, OrganismValues, head_values, organism_values}
+use Rattle.saved_lines.specs.SavedValues.{OrganismValues, head_values, organism_values}
 use Rattle.saved_worlds.specs.SavedGrammar.{Placed, may_follow, may_stand, placed_of}
-use Rattle.saved_worlds.specs.ValidState.{IsHead, placed_in}
+use Rattle.saved_worlds.specs.ValidState.{placed_in}
 use Rattle.checkpoint.specs.Readable.{IsReadImage}
 use Rattle.checkpoint.specs.ToldValue.{ToldValue, IsKept, told_of}
 use Rattle.checkpoint.proofs.KeptLemmas.{above_more, new_more, saved_more}

@@ -1,5 +1,5 @@
 -- A family of three: a founder, its child and its grandchild.
-use Rattle.std.proofs.Common.{◌≡◌, ◌∙◌, refl, sym, ap, subst, unwrap_or, ℕ, ◌<◌, List, [], ◌∷◌, length, Option, Some, None, Ok, arith}
+use Rattle.std.proofs.Common.{◌≡◌, ◌∙◌, refl, sym, ap, subst, unwrap_or, ℕ, ◌<◌, List, [], ◌∷◌, Option, Some, None, Ok, arith}
 use Rattle.std.specs.Prelude.{All, Contains, IsOk, IsSome, is_ok}
 use Rattle.std.proofs.lemmas.List.Elements.{All-cons, All-nil}
 use Rattle.instruction_set.specs.declared.letter.Letter.{Letter}

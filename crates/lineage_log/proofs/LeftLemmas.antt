@@ -1,14 +1,13 @@
 -- What was given of a log, beside what is left.
-use Rattle.std.proofs.Common.{◌≡◌, ℕ, List, [], ◌∷◌, ◌++◌, Option, Some, Result, Ok, Err, subst, sym, ap, ◌∙◌, append-nil}
+use Rattle.std.proofs.Common.{◌≡◌, ℕ, List, [], ◌∷◌, ◌++◌, Option, Some, Result, Ok, subst, sym, ap, ◌∙◌}
 use Rattle.log_lines.specs.Line.{Line, line_values}
 use Rattle.log_lines.specs.declared.log_line.LogLine.{LogLine}
 use Rattle.lineage_log.specs.declared.reason.Reason.{Reason}
 use Rattle.lineage_log.specs.declared.log_reader.LogReader.{LogReader}
-use Rattle.lineage_log.specs.declared.log_stop.LogStop.{LogStop}
 use Rattle.lineage_log.specs.Order.{LogPlace, Before, told, told_all, and_on}
 use Rattle.lineage_log.specs.LogGrammar.{Fault, log_of, pieces_log, with_line}
 use Rattle.lineage_log.specs.LogReading.{GivesNext, IsAtStart, left_of}
-use Rattle.lineage_log.specs.LogValues.{answer_of, with_front}
+use Rattle.lineage_log.specs.LogValues.{with_front}
 use Rattle.lineage_log.specs.Places.{place_of}
 use Rattle.lineage_log.proofs.LogLaws.{cut, went_on, place_is}
 use Rattle.lineage_log.proofs.ReadLemmas.{front_none, front_more}

@@ -1,5 +1,5 @@
 -- What a watcher has written after some of its looks.
-use Rattle.std.proofs.Common.{◌≡◌, ◌≤◌, ◌+◌, ℕ, List, [], ◌++◌, Option, None, Some, Result, Ok, Err, refl, sym, subst}
+use Rattle.std.proofs.Common.{◌≡◌, ◌≤◌, ◌+◌, ℕ, List, ◌++◌, Option, Some, Result, Ok, Err, refl, sym, subst}
 use mathlib.Core.List.{IsPrefix}
 use Rattle.std.proofs.lemmas.Grind.{flat_map-append}
 use Rattle.avida_port.specs.Ports.{SinkState}
@@ -12,9 +12,9 @@ use Rattle.written_texts.specs.declared.stop.WriteStop.TheVariants as stop
 use Rattle.written_texts.specs.WrittenText.{WritesAll}
 use Rattle.logged_run.specs.Watching.{AreSeen, BeginsAs, WritesLooks, newest_after, news}
 use Rattle.logged_run.specs.WatchText.{pictures_text}
-use Rattle.logged_run.proofs.LookLemmas.{seen_more, seen_nothing, seen_within}
+use Rattle.logged_run.proofs.LookLemmas.{seen_more, seen_within}
 use Rattle.logged_run.proofs.PublishedLemmas.{begins_later, begun, config_in, looked}
-use Rattle.written_texts.proofs.WriteLemmas.{stopped_same, wanting_after, writes_nothing, writes_same, writes_then}
+use Rattle.written_texts.proofs.WriteLemmas.{stopped_same, writes_same, writes_then}
 
 -- so many looks were made, and the lines of what was seen are written
 pub record HasLooked (looks : ℕ) (config : ConfigValues) (history : List WorldPicture)

@@ -1,5 +1,5 @@
 -- Those that come in an update enter the tree.
-use Rattle.std.proofs.Common.{◌≡◌, ◌↔◌, inl, inr, ⊎_elim, ◌∙◌, refl, sym, ap, subst, ℕ, zero, suc, ◌+◌, ◌<◌, ◌≤◌, List, [], ◌∷◌, ◌++◌, length, take, drop, get_or, Some, arith}
+use Rattle.std.proofs.Common.{◌≡◌, ◌↔◌, inl, inr, ⊎_elim, ◌∙◌, refl, sym, ap, subst, ℕ, zero, suc, ◌+◌, ◌<◌, ◌≤◌, List, [], ◌∷◌, ◌++◌, length, take, get_or, Some, arith}
 use Rattle.std.specs.Prelude.{All, Contains, is_some, slice_get}
 use Rattle.std.proofs.lemmas.Bool.{cases_lt}
 use Rattle.std.proofs.lemmas.List.{take_all}
@@ -16,8 +16,8 @@ use Rattle.world_rules.specs.WorldRun.{world_after}
 use Rattle.world_rules.specs.World.{World}
 use Rattle.world_laws.specs.Turnover.{HasBeen, IsStanding, IsTurnover}
 use Rattle.world_tree.specs.Growing.{HasBuried, HasEntered}
-use Rattle.world_tree.specs.WorldTrees.{IsTreeOf, scene_after}
-use Rattle.world_tree.proofs.NumberLemmas.{contains_from, contains_last, contains_push, get_taken, link_at, numbered_front, older_of, standing_low, take_first, take_next}
+use Rattle.world_tree.specs.WorldTrees.{scene_after}
+use Rattle.world_tree.proofs.NumberLemmas.{contains_from, contains_last, contains_push, get_taken, link_at, numbered_front, older_of, standing_low, take_next}
 
 -- what is kept goes on, as the law of that name says it
 abbrev pub KeepingLaws : Type 0

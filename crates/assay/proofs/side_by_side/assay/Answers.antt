@@ -1,5 +1,4 @@
 use Rattle.std.proofs.Common.{◌∙◌, ap, map}
-use Rattle.std.proofs.lemmas.Result.{IfOk-weaker}
 use Rattle.world_config.specs.Shown.{values_of}
 use Rattle.assay.specs.Assay.{assay_list, assay_of_seed}
 use Rattle.assay.proofs.SeedLemmas.{runs_are}

@@ -1,9 +1,8 @@
-use Rattle.std.proofs.Common.{◌≡◌, ◌∙◌, ap, subst, sym}
+use Rattle.std.proofs.Common.{◌≡◌, ◌∙◌, ap, subst}
 use Rattle.std.proofs.lemmas.Result.{err_from_is_err_and}
 use Rattle.saved_worlds.specs.SavedState.{SavedState, state_of}
 use Rattle.saved_worlds.specs.SavedWorldText.{saved_text}
 use Rattle.world_config.specs.Shown.{values_of}
-use Rattle.world_config.specs.Values.{ConfigValues}
 use Rattle.written_texts.specs.WrittenText.{WritesAll}
 use Rattle.written_texts.proofs.WriteLemmas.{nothing_written}
 use Rattle.avida_program.specs.SaveText.{save_text}
