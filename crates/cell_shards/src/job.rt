@@ -8,16 +8,12 @@ pub type Cells = Items<Option<BoxedOrganism>>;
 /// The steps of each cell of a shard.
 pub type Slices = Items<u64>;
 
-/// Organisms that stand nowhere any longer.
-pub type Spent = Items<BoxedOrganism>;
-
-/// A shard in an update: its cells from the first one on, their steps, the seat that interns their
-/// newborns, and organisms whose memory it gives back.
+/// A shard in an update: its cells from the first one on, their steps, and the seat that interns
+/// their newborns.
 #[derive(Drop)]
 pub struct Job {
     pub first: u32,
     pub cells: Cells,
     pub slices: Slices,
     pub seat: Seat,
-    pub spent: Spent,
 }

@@ -17,7 +17,7 @@ mod standing;
 pub use boxed_organism::BoxedOrganism;
 pub use delivered::{Delivered, Deliveries};
 pub use finished::{Dead, Finished};
-pub use job::{Cells, Job, Slices, Spent};
+pub use job::{Cells, Job, Slices};
 pub use round::Round;
 pub use running::run_all;
 pub use shards::bounds;

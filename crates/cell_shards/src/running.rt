@@ -140,9 +140,7 @@ fn run<R: Wait>(
         cells,
         slices,
         mut seat,
-        spent,
     } = job;
-    drop(spent);
     let mut cells = cells.into_vec();
     let lived = live(alloc, round, first, &mut cells, slices.as_slice())?;
     let births = deliver(rt, alloc, bank, &mut seat, lived.births)?;

@@ -8,7 +8,7 @@ use Rattle.cell_shards.specs.Finishing.{CanRun}
 use Rattle.cell_shards.specs.declared.job.Job.{Job}
 use Rattle.genotype_bank.specs.Seats.{SeatValue}
 use Rattle.organism.specs.OrganismState.{OrganismState}
-use Rattle.world_core.specs.Sharding.{LieSideBySide, PartCells, seat_from, seat_without}
+use Rattle.world_core.specs.Sharding.{LieSideBySide, seat_from, seat_without}
 use Rattle.world_core.proofs.JoinLemmas.{cells_in, slices_in}
 
 -- where all cells may run, those of each job may
@@ -101,22 +101,4 @@ module _ (seat : SeatValue) (cells : List (Option OrganismState)) (slices : List
             (job ∷ reverse jobs) ordered
             (All-cons (λ (job : Job). job.seat ≡ seat_from seat) job (reverse jobs)
             (seat_is ∙ ap seat_from cut.seat_is) cut.seats);
-      }
-
-  -- the last job has all that is left
-  pub cut-all : (all : List Job) → job.first ≡ 0 → job.cells ≡ left → job.slices ≡ steps
-      → all ≡ reverse (jobs ++ job ∷ []) → PartCells all cells slices
-  cut-all all first cells_is slices_is is =
-      let ordered : all ≡ job ∷ reverse jobs = is ∙ jobs-push jobs job in
-      let end : length left ≡ 0 + length job.cells = omega (arith, ap length cells_is) in
-      record {
-        beside = subst (LieSideBySide 0) (sym ordered) (
-          first,
-          ap length slices_is ∙ cut.long ∙ sym (ap length cells_is),
-          subst (λ n. LieSideBySide n (reverse jobs)) end cut.beside,
-        );
-        cells_are = ap cells_in ordered ∙ ap (λ front. front ++ cells_in (reverse jobs)) cells_is
-            ∙ cut.cells_are;
-        slices_are = ap slices_in ordered
-            ∙ ap (λ front. front ++ slices_in (reverse jobs)) slices_is ∙ cut.slices_are;
       }

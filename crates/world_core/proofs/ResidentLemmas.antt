@@ -1,7 +1,7 @@
 -- Organisms beside their ids, as one cell changes.
 use Rattle.std.proofs.Common.{◌≡◌, ◌∙◌, ◌<◌, refl, sym, ap, ℕ, zero, suc, List, [], ◌∷◌, length, map, set, get_or, replicate, Option, Some, None, arith}
-use Rattle.std.proofs.lemmas.List.{get_or-map, get_or_read, length-map, length-replicate, length-set, map-set}
-use Rattle.cell_shards.specs.CellLives.{standing_in, standing_of}
+use Rattle.std.proofs.lemmas.List.{get_or_read, length-map, length-replicate, length-set, map-set}
+use Rattle.cell_shards.specs.CellLives.{standing_in}
 use Rattle.cell_shards.specs.declared.standing.Standing.{Standing}
 use Rattle.organism.specs.Image.{organism_of_image}
 use Rattle.organism.specs.OrganismState.{OrganismState}
@@ -88,21 +88,6 @@ AreKeptBeside-set os ids next standings cell slot standing beside many is = reco
   counted = (λ i. set (beside.counted i) cell (is i)) ∙ sym (map-set standing_in os cell slot);
 }
 
--- what was read of a cell is what is counted of who stands there
-pub counted-at : (os : List (Option OrganismState)) (standings : List (Option Standing)) (cell : ℕ)
-    (read : Option Standing) → cell < length os → standings ≡ map standing_in os
-    → read ≡ get_or standings cell read → read ≡ standing_in (get_or os cell None)
-counted-at os standings cell read within are found =
-    get_or_read standings cell read
-    (omega (arith, within, ap length are, length-map os standing_in)) found None
-    ∙ ap (λ ss. get_or ss cell None) are
-    ∙ get_or-map standing_in os cell None None within
-
--- the organism of who stands in a cell
-organism-with_id : (id : ℕ) (slot : Option OrganismState) → organism_in (with_id id slot) ≡ slot
-organism-with_id id None = refl
-organism-with_id id (Some o) = refl
-
 -- a cell of residents, whose organisms and ids lie apart
 module _ (r : Inside) {cells : List (Option Occupant)}
     (long : length r.ids.items ≡ length r.organisms.items)
@@ -145,19 +130,6 @@ module _ (r : Inside) {cells : List (Option Occupant)}
       (sym (get_or_read r.organisms.items cell read (omega (arith, has-slot, r.organisms.ok.0))
       found None) ∙ is)
 
-  -- what is counted there
-  pub read-standing : (read : Option Standing)
-      → r.standings.items ≡ map standing_in r.organisms.items
-      → read ≡ get_or r.standings.items cell read
-      → read ≡ standing_in (organism_in (get_or cells cell None))
-  read-standing read counted found =
-      counted-at r.organisms.items r.standings.items cell read
-      (omega (arith, has-slot, r.organisms.ok.0)) counted found
-      ∙ ap standing_in (sym (ap organism_in
-      (sym (ap (λ (cells : List (Option Occupant)). get_or cells cell None) are)
-      ∙ occupants_of-at r.organisms.items r.ids.items cell long)
-      ∙ organism-with_id (get_or r.ids.items cell 0) (get_or r.organisms.items cell None)))
-
   -- the id
   pub read-id : (id : ℕ) → id ≡ get_or r.ids.items cell id → id ≡ get_or r.ids.items cell 0
   read-id id found =
@@ -186,18 +158,6 @@ somebody (Some o) organism is = (o, refl, cc)
 pub nobody : (slot : Option Occupant) → organism_in slot ≡ None → slot ≡ None
 nobody None is = refl
 nobody (Some o) is = absurd cc
-
--- who is counted so
-pub counted-somebody : (slot : Option Occupant) (one : Standing)
-    → standing_in (organism_in slot) ≡ Some one
-    → (o : Occupant) × (slot ≡ Some o) × (standing_of o.organism ≡ one)
-counted-somebody None one is = absurd cc
-counted-somebody (Some o) one is = (o, refl, cc)
-
--- nobody is counted
-pub counted-nobody : (slot : Option Occupant) → standing_in (organism_in slot) ≡ None → slot ≡ None
-counted-nobody None is = refl
-counted-nobody (Some o) is = absurd cc
 
 -- a resident with this cell and id and the image of an organism has its values
 pub resident_is : (cell id : ℕ) (o : OrganismState) (resident : Resident) → resident.cell ≡ cell

@@ -1,6 +1,6 @@
 -- A turn of the count after lives, over what is read of the cell.
 use Rattle.std.proofs.Common.{◌≡◌, ◌∙◌, sym, ap, subst, ℕ, ◌+◌, ◌<◌, ◌≤◌, List, length, map, set, get_or, Option, None, arith}
-use Rattle.std.proofs.lemmas.List.{get_or_read}
+use Rattle.std.proofs.lemmas.List.{get_or-map, get_or_read, length-map}
 use Rattle.cell_shards.specs.CellLives.{RoundNumbers, left_in, part_from, shard_lives_of, standing_in}
 use Rattle.cell_shards.specs.declared.standing.Standing.{Standing}
 use Rattle.census.specs.Counts.{Counts}
@@ -12,7 +12,7 @@ use Rattle.world_core.specs.Population.{CanCountAgain, CountsAgain, IsKeptOf}
 use Rattle.world_core.specs.Residents.{occupants_of, with_id}
 use Rattle.world_core.proofs.CountLemmas.{GoesOn, can-count, counted-again, mixed, mixed-all, mixed-at, mixed-length, mixed-step}
 use Rattle.world_core.proofs.LivedLemmas.{LiveApart, cells-long, lived-length}
-use Rattle.world_core.proofs.ResidentLemmas.{counted-at, occupants_of-at, occupants_of-length}
+use Rattle.world_core.proofs.ResidentLemmas.{occupants_of-at, occupants_of-length}
 use Rattle.world_core.proofs.StandingLemmas.{OneList}
 
 -- what is read of the cells: the keys, and what is counted of them before and after the lives
@@ -28,6 +28,16 @@ pub record IsRead (keys : List ℕ) (before after : List (Option Standing)) (cel
   pub key_is : key ≡ get_or keys cell key
   pub was_is : was ≡ get_or before cell was
   pub now_is : now ≡ get_or after cell now
+
+-- what was read of a cell is what is counted of who stands there
+counted-at : (os : List (Option OrganismState)) (standings : List (Option Standing)) (cell : ℕ)
+    (read : Option Standing) → cell < length os → standings ≡ map standing_in os
+    → read ≡ get_or standings cell read → read ≡ standing_in (get_or os cell None)
+counted-at os standings cell read within are found =
+    get_or_read standings cell read
+    (omega (arith, within, ap length are, length-map os standing_in)) found None
+    ∙ ap (λ ss. get_or ss cell None) are
+    ∙ get_or-map standing_in os cell None None within
 
 module _ {config : ConfigValues} {update : ℕ} {cells : List (Option Occupant)}
     {os : List (Option OrganismState)} {ids slices : List ℕ} {round : RoundNumbers}

@@ -42,8 +42,6 @@ pub(crate) struct Population {
     pub(crate) keys: Vec<u64>,
     pub(crate) genotypes: Genotypes,
     pub(crate) census: Census,
-    /// Those removed since the last update, whose memory the threads of the next one give back.
-    pub(crate) spent: Vec<BoxedOrganism>,
 }
 
 impl Model for Population {
@@ -70,7 +68,6 @@ impl Population {
             keys: vec![in alloc; 0; cells as usize]?,
             genotypes: Genotypes::none(alloc)?,
             census: Census::start(alloc),
-            spent: Vec::new(alloc),
         })
     }
 
@@ -127,11 +124,12 @@ impl Population {
     {
         one_index();
         let at = cell as usize;
-        if let Some(was) = self.cells.standing_at(at) {
-            self.census.remove(self.keys[at], was.merit, was.credited);
+        if let Some(organism) = self.cells.organism_at(at) {
+            let key = self.keys[at];
+            self.census
+                .remove(key, organism.merit(), organism.credited());
         }
-        let organism = self.cells.remove(at);
-        spend(&mut self.spent, organism);
+        self.cells.remove(at);
     }
 
     /// Somebody, whose genome has this number, stands in a cell that was empty. If memory runs out,
@@ -223,7 +221,6 @@ impl Population {
             keys,
             genotypes: known,
             mut census,
-            spent,
         } = self;
         let Residents {
             organisms,
@@ -233,7 +230,7 @@ impl Population {
         let slices = slices_by(alloc, config, &before)?;
         let round = round_at(config, update + 1);
         let (genotypes, ended) = live_in_shards(
-            rt, alloc, known, organisms, slices, spent, &round, workers, gate,
+            rt, alloc, known, organisms, slices, &round, workers, gate,
         )?;
         let Ended {
             organisms: left,
@@ -257,7 +254,6 @@ impl Population {
             keys,
             genotypes,
             census,
-            spent: Vec::new(alloc),
         };
         Ok((population, lived))
     }
@@ -288,12 +284,5 @@ impl Population {
         one_index();
         dominance_knows_no_order();
         self.census.dominant()
-    }
-}
-
-/// Keeps whoever was removed. If memory runs out, the organism is dropped at once.
-fn spend(spent: &mut Vec<BoxedOrganism>, organism: Option<BoxedOrganism>) {
-    if let Some(organism) = organism {
-        let _ = spent.push(organism);
     }
 }

@@ -1,7 +1,6 @@
 // Who stands in each cell, the organisms apart from their ids and from what is counted of them.
 ghost use Rattle.std.specs.Prelude.{◌≡◌, ◌<◌, None, Some, IfOk, length, replicate, slice_index_or, slice_set};
 ghost use Rattle.std.specs.Option.{option_copied};
-ghost use Rattle.cell_shards.specs.CellLives.{standing_in};
 ghost use Rattle.world_rules.specs.Statistics.{organism_in};
 ghost use Rattle.world_rules.specs.World.{id_of, ids_of};
 ghost use Rattle.world_core.specs.Resumed.{IsResidentIn};
@@ -67,14 +66,6 @@ impl Residents {
         }
     }
 
-    /// What is counted of who stands in the cell.
-    pub(crate) fn standing_at(&self, cell: usize) -> Option<Standing>
-        requires { cell < length self.now }
-        ensures { result ≡ standing_in (organism_in (slice_index_or self.now cell None)) }
-    {
-        self.standings[cell]
-    }
-
     /// The id of who stands in the cell.
     pub(crate) fn id_at(&self, cell: usize) -> Option<u64>
         requires { cell < length self.now }
@@ -112,13 +103,13 @@ impl Residents {
         Ok(ids)
     }
 
-    /// Nobody stands in the cell any longer. Whoever did comes out.
-    pub(crate) fn remove(&mut self, cell: usize) -> Option<BoxedOrganism>
+    /// Nobody stands in the cell any longer.
+    pub(crate) fn remove(&mut self, cell: usize)
         requires { cell < length self.old }
         ensures { self.new ≡ slice_set self.old cell None }
     {
+        self.organisms[cell] = None;
         self.standings[cell] = None;
-        self.organisms[cell].take()
     }
 
     /// Somebody with this id stands in the cell.

@@ -13,8 +13,8 @@ use crate::genotypes::{Genotypes, len_after};
 use avida_port::{Gate, Memory};
 use cell_shards::laws::{parts_live_as_one, shards_part_the_cells};
 use cell_shards::{
-    BoxedOrganism, Cells, Dead, Delivered, Deliveries, Finished, Job, Round, Slices, Spent,
-    Standing, Standings, bounds, run_all,
+    BoxedOrganism, Cells, Dead, Delivered, Deliveries, Finished, Job, Round, Slices, Standing,
+    Standings, bounds, run_all,
 };
 use genotype_bank::laws::{calls_number_genotypes, genotypes_are_what_was_interned, numbers_agree};
 use genotype_bank::{Bank, Seat};
@@ -41,7 +41,6 @@ pub(crate) fn live_in_shards<R: Threads + Wait + Sync, G: Gate + Sync>(
     genotypes: Genotypes,
     cells: Vec<Option<BoxedOrganism>>,
     slices: Vec<u64>,
-    spent: Vec<BoxedOrganism>,
     round: &Round,
     workers: u32,
     gate: &G,
@@ -68,7 +67,7 @@ pub(crate) fn live_in_shards<R: Threads + Wait + Sync, G: Gate + Sync>(
     parts_live_as_one();
     let Genotypes { bank, seat, len } = genotypes;
     seat.owns_all();
-    let jobs = jobs_of(alloc, &bank, seat, cells, slices, spent, workers)?;
+    let jobs = jobs_of(alloc, &bank, seat, cells, slices, workers)?;
     let shards = run_all(rt, alloc, jobs, &bank, round, gate)?;
     let Finished {
         cells,
@@ -91,15 +90,13 @@ pub(crate) fn live_in_shards<R: Threads + Wait + Sync, G: Gate + Sync>(
 }
 
 /// The cells cut into a job for each worker, cut off from the last to the first. The first job
-/// keeps the seat; each other has one that was split from it. Each drops its part of the spent
-/// organisms.
+/// keeps the seat; each other has one that was split from it.
 fn jobs_of(
     alloc: Global,
     bank: &Bank,
     seat: Seat,
     cells: Vec<Option<BoxedOrganism>>,
     slices: Vec<u64>,
-    spent: Vec<BoxedOrganism>,
     workers: u32,
 ) -> Result<Vec<Job>, Memory>
     requires cells { (1 ≤ length cells.items) × (length cells.items ≤ CELLS) }
@@ -115,7 +112,6 @@ fn jobs_of(
     let mut seat = seat;
     let mut cells = cells;
     let mut slices = slices;
-    let mut spent = spent;
     let mut jobs = Vec::with_capacity(alloc, workers as usize)?;
     let mut shard = workers - 1;
     while shard > 0 {
@@ -127,7 +123,6 @@ fn jobs_of(
             cells: Cells::from_vec(part),
             slices: Slices::from_vec(steps),
             seat: bank.split(&mut seat),
-            spent: Spent::from_vec(cut_part(&mut spent, shard as usize + 1)?),
         })?;
         shard -= 1;
     }
@@ -136,18 +131,9 @@ fn jobs_of(
         cells: Cells::from_vec(cells),
         slices: Slices::from_vec(slices),
         seat,
-        spent: Spent::from_vec(spent),
     })?;
     jobs.reverse();
     Ok(jobs)
-}
-
-/// The last of so many equal parts of a list, which is cut off.
-fn cut_part<T: Drop>(list: &mut Vec<T>, parts: usize) -> Result<Vec<T>, Memory>
-    requires { 1 ≤ parts }
-{
-    let part = list.len() / parts;
-    Ok(list.split_off(list.len() - part)?)
 }
 
 /// All shards as one, joined in their order.

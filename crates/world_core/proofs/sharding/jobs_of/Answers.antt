@@ -1,8 +1,8 @@
-use Rattle.std.proofs.Common.{◌≡◌, ◌∙◌, ◌+◌, ◌-◌, ◌≤◌, ap, arith, length, refl, reverse, sym}
+use Rattle.std.proofs.Common.{◌≡◌, ◌∙◌, ◌+◌, ◌-◌, ◌≤◌, ap, arith, length, sym}
 use Rattle.std.proofs.lemmas.List.{length-take-le, length_push}
 use Rattle.cell_shards.specs.Shards.{first_cell}
 use Rattle.cell_shards.specs.declared.job.Job.{Job}
-use Rattle.world_core.proofs.CutLemmas.{cut-all, cut-more}
+use Rattle.world_core.proofs.CutLemmas.{cut-more}
 use Rattle.world_core.proofs.sharding.jobs_of.Goals as goal
 
 pub loop-shard-preserved : goal.loop-shard-preserved
@@ -25,7 +25,6 @@ loop-shard-preserved c =
       cells = c.from_vec.result;
       slices = c.from_vec-in-loop-shard.result;
       seat = c.split.result;
-      spent = c.from_vec-in-loop-shard-2.result;
     } in
     let next : shard - 1 + 1 ≡ shard = omega (arith, c.loop-shard-test.true) in
     record {
@@ -47,17 +46,3 @@ loop-shard-preserved c =
         c.loop-shard-test.true,
       );
     }
-
-pub returns-clause-cells : goal.returns-clause-cells
-returns-clause-cells c =
-    let job : Job = record {
-      first = 0;
-      cells = c.from_vec-2.result;
-      slices = c.from_vec-3.result;
-      seat = c.loop-shard.seat;
-      spent = c.from_vec-4.result;
-    } in
-    cut-all c.args.seat c.args.cells.items c.args.slices.items c.loop-shard.jobs.items
-    c.loop-shard.cells.items c.loop-shard.slices.items c.loop-shard.seat c.loop-shard.invariant.cut
-    job c.reverse.new.self.items refl c.from_vec-2.ensures c.from_vec-3.ensures
-    (c.reverse.ensures.items ∙ ap reverse c.in_ok-push-2.ensures.items)

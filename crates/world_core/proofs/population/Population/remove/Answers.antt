@@ -1,11 +1,12 @@
 use Rattle.std.proofs.Common.{◌≡◌, ◌∙◌, List, Option, ap, subst, sym, get_or, None, length, ◌<◌, arith}
+use Rattle.std.specs.Option.{option_copied}
 use Rattle.std.proofs.lemmas.List.{get_or_read, length-map}
-use Rattle.cell_shards.specs.declared.standing.Standing.{Standing}
-use Rattle.census.specs.Changes.{CanRemove, genotype_without_one, without_organism}
+use Rattle.census.specs.Changes.{genotype_without_one, without_organism}
 use Rattle.world_rules.specs.World.{Occupant}
+use Rattle.organism.specs.OrganismState.{OrganismState}
 use Rattle.world_core.specs.Population.{IsKeptOf, PopulationValue, occupant_genome}
 use Rattle.world_core.proofs.KeptOfLemmas.{IsKeptOf-empty, IsKeptOf-removed, can-remove}
-use Rattle.world_core.proofs.ResidentLemmas.{counted-nobody, counted-somebody}
+use Rattle.world_core.proofs.ResidentLemmas.{nobody, somebody}
 use Rattle.world_core.proofs.population.Population.remove.Goals.{in-Some, in_default}
 use Rattle.world_core.proofs.population.Population.remove.Goals as goal
 
@@ -15,16 +16,15 @@ remove-requires c =
     let were : cells ≡ c.args.self.now.cells =
     ap (λ (p : PopulationValue). p.cells) c.self.view_is in
     let within : c.args.cell < length cells = rw were c.requires in
-    let who = counted-somebody (get_or cells c.args.cell None) c.in-Some.was
-    (sym c.standing_at.ensures ∙ c.in-Some.is) in
-    let key : c.index.result.now ≡ get_or c.self.inside.keys.items c.args.cell 0 =
-    get_or_read c.self.inside.keys.items c.args.cell c.index.result.now
+    let who = somebody (get_or cells c.args.cell None) _
+    (sym c.organism_at.ensures ∙ ap option_copied c.in-Some.is) in
+    let key : c.index-key.result.now ≡ get_or c.self.inside.keys.items c.args.cell 0 =
+    get_or_read c.self.inside.keys.items c.args.cell c.index-key.result.now
     (omega (arith, within, c.self.invariant.genotypes.size, length-map cells occupant_genome))
-    c.index.ensures 0 in
-    rw key (subst (λ (one : Standing). CanRemove c.self.inside.census
-    (get_or c.self.inside.keys.items c.args.cell 0) one.merit one.credited) who.2
+    c.index-key.ensures 0 in
+    rw (key, c.merit.ensures, c.credited.ensures, sym who.2)
     (can-remove c.one_index.ensures.list cells c.self.inside.genotypes c.self.inside.keys.items
-    c.self.inside.census c.self.inside.census c.args.cell within who.0 c.self.invariant who.1))
+    c.self.inside.census c.self.inside.census c.args.cell within who.0 c.self.invariant who.1)
 
 pub invariant_of-self : goal.invariant_of-self
 invariant_of-self c =
@@ -33,33 +33,35 @@ invariant_of-self c =
     ap (λ (p : PopulationValue). p.cells) c.self.view_is in
     let within : c.args.cell < length cells = rw were c.requires in
     let before = c.self.inside.census in
-    elim c.match-standing_at.branch [
+    elim c.match-organism_at.branch [
       | in-Some w ↦
-          let who = counted-somebody (get_or cells c.args.cell None) w.in-Some.was
-          (sym c.standing_at.ensures ∙ w.in-Some.is) in
-          let key : w.index.result.now ≡ get_or c.self.inside.keys.items c.args.cell 0 =
-          get_or_read c.self.inside.keys.items c.args.cell w.index.result.now
+          let who = somebody (get_or cells c.args.cell None) _
+          (sym c.organism_at.ensures ∙ ap option_copied w.in-Some.is) in
+          let key : w.index-key.result.now ≡ get_or c.self.inside.keys.items c.args.cell 0 =
+          get_or_read c.self.inside.keys.items c.args.cell w.index-key.result.now
           (omega (arith, within, c.self.invariant.genotypes.size, length-map cells occupant_genome))
-          w.index.ensures 0 in
+          w.index-key.ensures 0 in
           rw w.self-inside-is (subst
           (λ (cells : List (Option Occupant)).
           IsKeptOf cells c.self.inside.genotypes c.self.inside.keys.items w.remove.new.self)
-          (sym (rw w.self-inside-is at c.remove-organism.ensures))
+          (sym (rw w.self-inside-is at c.remove-2.ensures))
           (IsKeptOf-removed c.one_index.ensures.list cells c.self.inside.genotypes
           c.self.inside.keys.items before w.remove.new.self c.args.cell within who.0
           c.self.invariant who.1
           (w.remove.ensures.counts
-          ∙ (λ i. without_organism before (key i) (sym who.2 i).merit (sym who.2 i).credited))
+          ∙ (λ i. without_organism before (key i)
+          ((w.merit.ensures ∙ ap (λ (o : OrganismState). o.merit) (sym who.2)) i)
+          ((w.credited.ensures ∙ ap (λ (o : OrganismState). o.credited) (sym who.2)) i)))
           (λ other. w.remove.ensures.under other
           ∙ ap (λ k. genotype_without_one before.genotypes k other) key)
           w.remove.ensures.living))
       | in_default w ↦
-          let empty = counted-nobody (get_or cells c.args.cell None)
-          (sym c.standing_at.ensures ∙ w.in_default.is) in
+          let empty = nobody (get_or cells c.args.cell None)
+          (sym c.organism_at.ensures ∙ ap option_copied w.in_default.is) in
           rw w.self-inside-is (subst
           (λ (cells : List (Option Occupant)).
           IsKeptOf cells c.self.inside.genotypes c.self.inside.keys.items before)
-          (sym (rw w.self-inside-is at c.remove-organism.ensures))
+          (sym (rw w.self-inside-is at c.remove-2.ensures))
           (IsKeptOf-empty c.one_index.ensures.list cells c.self.inside.genotypes
           c.self.inside.keys.items before before c.args.cell within empty c.self.invariant))
     ]
