@@ -1,7 +1,10 @@
-use Rattle.std.proofs.Common.{◌≤◌, ◌+◌, ◌∙◌, ap, arith}
+use Rattle.std.proofs.Common.{◌≡◌, ◌≤◌, ◌+◌, ◌∙◌, Ok, ap, arith, subst}
 use Rattle.std.proofs.lemmas.Result.{err_from_is_err_and}
-use Rattle.logged_run.proofs.RunLemmas.{update_stopped, update_written}
+use Rattle.world_rules.specs.LogText.{updates_text}
+use Rattle.written_texts.specs.WrittenText.{WritesAll}
 use Rattle.written_texts.proofs.WriteLemmas.{writes_same}
+use Rattle.logged_run.specs.declared.publishing.Progress.{Progress}
+use Rattle.logged_run.proofs.RunLemmas.{update_stopped, update_written}
 use Rattle.logged_run.proofs.publishing.publish_updates.Goals as goal
 
 pub returns-in_err-progress-clause-text : goal.returns-in_err-progress-clause-text
@@ -14,6 +17,13 @@ returns-in_err-progress-clause-text g c =
     so.config so.update in
     rw (p.1, p.2) (update_stopped c.args.progress.world.config (c.loop.counter + 1) c.args.updates
     wrote within)
+
+pub returns-clause-text : goal.returns-clause-text
+returns-clause-text g c =
+    let all : c.loop.counter ≡ c.args.updates = omega arith in
+    subst (λ n. WritesAll {T = Progress} (g.O.Sink.seen c.args.out.now) (g.O.Sink.seen c.loop.out)
+    (updates_text c.args.progress.world.config n) (Ok c.loop.progress)) all
+    (writes_same c.loop.invariant.written)
 
 pub loop-preserved : goal.loop-preserved
 loop-preserved g c =
