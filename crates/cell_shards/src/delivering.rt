@@ -1,5 +1,5 @@
 // The genomes of newborns are interned, one after another.
-ghost use Rattle.std.specs.Prelude.{◌≡◌, ◌++◌, ◌<◌, ◌^◌, IfOk, OnOk, map};
+ghost use Rattle.std.specs.Prelude.{◌≡◌, ◌++◌, IfOk, OnOk, map};
 ghost use Rattle.genotype_bank.specs.Seats.{MakesCall, SeatValue};
 ghost use Rattle.organism.specs.Newborns.{newborn_value};
 ghost use Rattle.cell_shards.specs.CellLives.{birth_in};

@@ -12,15 +12,19 @@ loop-newborn-preserved g c =
     let told = c.in_ok-delivered.ensures in
     let kept = c.deliver_one.ensures.kept in
     let so_far = c.loop-newborn.invariant in
-    let taken : into_iter_items c.loop-newborn.newborn-iterator
-    ≡ c.in-Some.newborn ∷ into_iter_items c.next.new.self = search rules in
-    let values : List Newborn → List BirthValue =
+    let before = c.loop-newborn.births in
+    let delivered = c.in_ok-delivered.delivered in
+    let births : List Newborn → List BirthValue =
     λ newborns. map (birth_in c.args.cell) (map newborn_value newborns) in
+    let left = into_iter_items c.loop-newborn.newborn-iterator in
+    let rest = into_iter_items c.next.new.self in
+    let taken : left ≡ c.in-Some.newborn ∷ rest = search rules in
     record {
-      births = births-more c.loop-newborn.births c.in_ok-delivered.delivered
-          c.in_ok-push.ensures.ok told.birth (ap values taken) so_far.births;
+      births = births-more before c.push.new.self delivered
+          (birth_in c.args.cell (newborn_value c.in-Some.newborn)) (births rest) (births left)
+          c.in_ok-push.ensures.ok told.birth (ap births taken) ∙ so_far.births;
       bank = kept.0 ∙ so_far.bank;
       seat = λ start has. HasInterned-more laws.seen laws.stay start c.loop-newborn.seat
-          c.deliver_one.new.seat c.loop-newborn.births c.push.new.self c.in_ok-delivered.delivered
-          (so_far.seat start has) kept.0 kept.1 told.call told.number c.in_ok-push.ensures.ok;
+          c.deliver_one.new.seat before c.push.new.self delivered (so_far.seat start has) kept.0
+          kept.1 told.call told.number c.in_ok-push.ensures.ok;
     }
