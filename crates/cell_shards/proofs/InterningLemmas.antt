@@ -29,15 +29,14 @@ IsPrefix-trans xs ys zs a b =
 
 -- one newborn more, of those that are left
 pub births-more : (deliveries next : List Delivered) (d : Delivered) (birth : BirthValue)
-    (rest left all : List BirthValue) → next ≡ deliveries ++ d ∷ [] → birth_of d ≡ birth
-    → left ≡ birth ∷ rest → map birth_of deliveries ++ left ≡ all → map birth_of next ++ rest ≡ all
-births-more deliveries next d birth rest left all is same taken so_far =
+    (rest left : List BirthValue) → next ≡ deliveries ++ d ∷ [] → birth_of d ≡ birth
+    → left ≡ birth ∷ rest → map birth_of next ++ rest ≡ map birth_of deliveries ++ left
+births-more deliveries next d birth rest left is same taken =
     ap (λ ds. map birth_of ds ++ rest) is
     ∙ ap (λ bs. bs ++ rest) (map-append birth_of deliveries (d ∷ []))
     ∙ append_assoc (map birth_of deliveries) (birth_of d ∷ []) rest
     ∙ ap (λ b. map birth_of deliveries ++ b ∷ rest) same
     ∙ ap (λ bs. map birth_of deliveries ++ bs) (sym taken)
-    ∙ so_far
 
 -- before any newborn
 pub HasInterned-none : (seat : SeatValue) (births : List Delivered) → births ≡ []

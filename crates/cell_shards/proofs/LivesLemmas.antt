@@ -1,5 +1,5 @@
 -- One more cell that has lived.
-use Rattle.std.proofs.Common.{◌≡◌, ◌∙◌, ap, refl, sym, subst, ℕ, ◌+◌, ◌<◌, Bool, cond, Option, None, Some, List, [], ◌∷◌, ◌++◌, length, map, drop, set, get_or, All, arith, append-nil, append_assoc}
+use Rattle.std.proofs.Common.{◌≡◌, ◌∙◌, ap, sym, subst, ℕ, ◌+◌, ◌<◌, Bool, cond, Option, None, Some, List, [], ◌∷◌, ◌++◌, length, map, drop, set, get_or, All, arith, append-nil, append_assoc}
 use Rattle.std.specs.List.{range_with_len}
 use Rattle.std.proofs.lemmas.List.{map-append, length-map, get_or_at, set_at, drop_more, drop_all}
 use Rattle.std.proofs.lemmas.List.FromFn.{length-map-range_with_len, map-range_with_len_more}
@@ -10,6 +10,9 @@ use Rattle.organism.specs.Lived.{beginning}
 use Rattle.organism.specs.OrganismState.{OrganismState}
 use Rattle.organism.specs.UpdateLife.{LifeState, is_death, life}
 use Rattle.cell_shards.specs.CellLives.{ShardLife, RoundNumbers, Part, BirthValue, IsYoung, as_shard_life, shard_life_of, shard_life_at, shard_lives_of, left_in, shard_births_in, births_from, deaths_from, standing_in}
+use Rattle.cell_shards.specs.Finishing.{HasInterned, IsFinished, birth_of, part_of}
+use Rattle.cell_shards.specs.declared.finished.Finished.{Finished}
+use Rattle.cell_shards.specs.declared.job.Job.{Job}
 use Rattle.cell_shards.specs.declared.standing.Standing.{Standing}
 use Rattle.cell_shards.proofs.PartLemmas.{births_from-push, deaths_from-push}
 
@@ -46,12 +49,13 @@ pub record HaveLived (round : RoundNumbers) (part : Part) (n : ℕ)
   pub dead_are : dead ≡ deaths_from part.first (first_lives round part n)
 
 -- no cell has
-pub HaveLived-none : (round : RoundNumbers) (part : Part) (standings : List (Option Standing))
-    (births : List BirthValue) (dead : List ℕ) → standings ≡ [] → births ≡ [] → dead ≡ []
-    → HaveLived round part 0 part.cells standings births dead
+pub HaveLived-none : (round : RoundNumbers) (part : Part) (cells : List (Option OrganismState))
+    (standings : List (Option Standing)) (births : List BirthValue) (dead : List ℕ)
+    → cells ≡ part.cells → standings ≡ [] → births ≡ [] → dead ≡ []
+    → HaveLived round part 0 cells standings births dead
 unfolding births_from deaths_from
-HaveLived-none round part standings births dead untold unborn alive =
-    record { cells_are = refl; standings_are = untold; births_are = unborn; dead_are = alive }
+HaveLived-none round part cells standings births dead whole untold unborn alive =
+    record { cells_are = whole; standings_are = untold; births_are = unborn; dead_are = alive }
 
 -- the next cell has not lived yet
 cell-next : (start cells : List (Option OrganismState)) (lives : List ShardLife) (n : ℕ)
@@ -126,31 +130,30 @@ module _ {round : RoundNumbers} {part : Part} {n : ℕ} {cells : List (Option Or
             ∙ ap (deaths_from part.first) (sym more);
       }
 
-module _ (round : RoundNumbers) (part : Part) (n : ℕ) (cells : List (Option OrganismState))
-    (standings : List (Option Standing)) (births : List BirthValue) (dead : List ℕ)
-    (so_far : HaveLived round part n cells standings births dead)
-    (all : n ≡ length part.cells) where
-  -- all cells have
-  lives_all : first_lives round part n ≡ shard_lives_of round part
-  unfolding shard_lives_of
-  lives_all = ap (first_lives round part) all
-
-  -- the cells are what the lives of all leave in them
-  pub all-cells : cells ≡ map left_in (shard_lives_of round part)
-  all-cells =
-      so_far.cells_are ∙ ap (λ rest. map left_in (first_lives round part n) ++ rest)
-      (drop_all n part.cells (omega (arith, all)))
-      ∙ append-nil (map left_in (first_lives round part n)) ∙ ap (map left_in) lives_all
-
-  -- what is told of the cells is what is counted of who is left in them
-  pub all-standings : standings ≡ map standing_in cells
-  all-standings = so_far.standings_are ∙ ap (λ lives. map standing_in (map left_in lives)) lives_all
-      ∙ sym (ap (map standing_in) all-cells)
-
-  -- the births are those of all the lives
-  pub all-births : births ≡ births_from part.first (shard_lives_of round part)
-  all-births = so_far.births_are ∙ ap (births_from part.first) lives_all
-
-  -- the dead are those of all the lives
-  pub all-dead : dead ≡ deaths_from part.first (shard_lives_of round part)
-  all-dead = so_far.dead_are ∙ ap (deaths_from part.first) lives_all
+-- a job is finished where all its cells have lived and its seat has interned their newborns
+pub IsFinished-lived : (round : RoundNumbers) (job : Job) (n : ℕ)
+    {cells : List (Option OrganismState)} {standings : List (Option Standing)} {finished : Finished}
+    → n ≡ length job.cells
+    → HaveLived round (part_of job) n cells standings (map birth_of finished.births) finished.dead
+    → HasInterned job.seat finished.seat finished.births
+    → finished.first ≡ job.first → finished.cells ≡ cells → finished.standings ≡ standings
+    → IsFinished round job finished
+unfolding shard_lives_of
+IsFinished-lived round job n {cells = cells} all lived interned first same told =
+    let part = part_of job in
+    let lives : first_lives round part n ≡ shard_lives_of round part =
+    ap (first_lives round part) all in
+    let left : cells ≡ map left_in (shard_lives_of round part) =
+    lived.cells_are ∙ ap (λ rest. map left_in (first_lives round part n) ++ rest)
+    (drop_all n job.cells (omega (arith, all)))
+    ∙ append-nil (map left_in (first_lives round part n)) ∙ ap (map left_in) lives in
+    record {
+      first = first;
+      cells = same ∙ left;
+      standings = told ∙ lived.standings_are
+          ∙ ap (λ lives. map standing_in (map left_in lives)) lives
+          ∙ sym (ap (map standing_in) (same ∙ left));
+      births = lived.births_are ∙ ap (births_from job.first) lives;
+      dead = lived.dead_are ∙ ap (deaths_from job.first) lives;
+      seat = interned;
+    }

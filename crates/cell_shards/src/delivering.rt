@@ -1,53 +1,59 @@
 // The genomes of newborns are interned, one after another.
-ghost use Rattle.std.specs.Prelude.{◌≡◌, ◌<◌, ◌^◌, IfOk, map};
-ghost use Rattle.genotype_bank.specs.Seats.{MakesCall};
+ghost use Rattle.std.specs.Prelude.{◌≡◌, ◌++◌, IfOk, OnOk, map};
+ghost use Rattle.genotype_bank.specs.Seats.{MakesCall, SeatValue};
+ghost use Rattle.organism.specs.Newborns.{newborn_value};
+ghost use Rattle.cell_shards.specs.CellLives.{birth_in};
 ghost use Rattle.cell_shards.specs.Finishing.{HasInterned, IsNumbered, birth_of, call_for};
 
-use crate::cell_birth::CellBirth;
 use crate::delivered::{Delivered, Deliveries};
 use avida_port::Memory;
 use genotype_bank::laws::calls_number_genotypes;
 use genotype_bank::{Bank, Seat};
-use organism::Newborn;
+use organism::{Births, Newborn};
 use std::alloc::Global;
 use std::sync::Wait;
 
-/// The newborns with the handles of their genomes, which the seat interns in this order.
+/// The newborns of a cell, behind those of the cells before it, with the handles of their genomes,
+/// which the seat interns in this order.
 pub(crate) fn deliver<R: Wait>(
     rt: &R,
     alloc: Global,
     bank: &Bank,
     seat: &mut Seat,
-    births: Vec<CellBirth>,
-) -> Result<Deliveries, Memory>
+    cell: u32,
+    newborns: Births,
+    births: &mut Deliveries,
+) -> Result<(), Memory>
     requires { seat.old.bank ≡ bank.now }
-    ensures births { IfOk result (λ deliveries. map birth_of deliveries ≡ births.items) }
-    ensures seat { IfOk result (λ deliveries. HasInterned seat.old seat.new deliveries) }
+    ensures births { OnOk result (map birth_of births.new
+        ≡ map birth_of births.old ++ map (birth_in cell) (map newborn_value newborns)) }
+    ensures seat { OnOk result ((start : SeatValue)
+        → HasInterned start seat.old births.old → HasInterned start seat.new births.new) }
 {
     calls_number_genotypes();
-    let mut deliveries = Deliveries::none(alloc);
-    for birth in births {
-        let delivered = deliver_one(rt, alloc, bank, seat, birth)?;
-        deliveries.push(delivered)?;
+    for newborn in newborns.into_vec() {
+        let delivered = deliver_one(rt, alloc, bank, seat, cell, newborn)?;
+        births.push(delivered)?;
     }
-    Ok(deliveries)
+    Ok(())
 }
 
-/// A newborn with the handle of its genome.
+/// A newborn of a cell, with the handle of its genome.
 fn deliver_one<R: Wait>(
     rt: &R,
     alloc: Global,
     bank: &Bank,
     seat: &mut Seat,
-    birth: CellBirth,
+    cell: u32,
+    newborn: Newborn,
 ) -> Result<Delivered, Memory>
     requires { seat.old.bank ≡ bank.now }
-    ensures birth { IfOk result (λ delivered. birth_of delivered ≡ birth) }
+    ensures birth { IfOk result
+        (λ delivered. birth_of delivered ≡ birth_in cell (newborn_value newborn)) }
     ensures kept { (seat.new.bank ≡ seat.old.bank) × (seat.new.share ≡ seat.old.share) }
     ensures call { IfOk result (λ delivered. MakesCall seat.old seat.new (call_for delivered)) }
     ensures number { IfOk result (λ delivered. IsNumbered seat.new.seen delivered) }
 {
-    let CellBirth { cell, newborn } = birth;
     let Newborn {
         nth,
         genome,

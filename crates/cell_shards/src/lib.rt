@@ -2,7 +2,6 @@
 #![tactic(auto)]
 
 mod boxed_organism;
-mod cell_birth;
 mod delivered;
 mod delivering;
 mod finished;

@@ -1,26 +1,23 @@
 // The lives of a shard's cells, one after another.
-ghost use Rattle.std.specs.Prelude.{◌≡◌, ◌+◌, ◌<◌, ◌≤◌, ◌^◌, ◌∷◌, ◌++◌, [], Some, None, All, OnOk, IfOk, length, map, if◌then◌else◌};
+ghost use Rattle.std.specs.Prelude.{◌≡◌, ◌<◌, ◌^◌, ◌∷◌, ◌++◌, [], Some, None, OnOk, IfOk, map, if◌then◌else◌};
 ghost use Rattle.organism.specs.Newborns.{newborn_value};
 ghost use Rattle.organism.specs.UpdateLife.{is_death};
-ghost use Rattle.cell_shards.specs.CellLives.{IsYoung, birth_in, births_from, deaths_from, left_in, part_from, round_numbers, shard_life_of, shard_lives_of, standing_in};
+ghost use Rattle.cell_shards.specs.CellLives.{IsYoung, round_numbers, shard_life_of, standing_in};
+ghost use Rattle.cell_shards.specs.Finishing.{CanRun, IsFinished};
 
 use crate::boxed_organism::BoxedOrganism;
-use crate::cell_birth::CellBirth;
+use crate::delivered::Deliveries;
+use crate::delivering::deliver;
+use crate::finished::{Dead, Finished};
+use crate::job::{Cells, Job};
 use crate::round::Round;
-use crate::standing::Standing;
+use crate::standing::{Standing, Standings};
 use avida_port::Memory;
+use genotype_bank::Bank;
 use organism::{Births, Organism, Ran};
 use random_streams::{CELLS, Draws, Purpose};
 use std::alloc::Global;
-
-/// What the lives of a shard bring: what is counted of who is left in each cell, its newborns in
-/// order of cell and birth, and the cells whose organism died of age.
-#[derive(Drop)]
-pub(crate) struct Lived {
-    pub(crate) standings: Vec<Option<Standing>>,
-    pub(crate) births: Vec<CellBirth>,
-    pub(crate) dead: Vec<u32>,
-}
+use std::sync::Wait;
 
 /// What the life of a cell brings.
 #[derive(Drop)]
@@ -29,42 +26,46 @@ struct Life {
     births: Births,
 }
 
-/// The lives of the cells from the first one on; the dead leave their cells. After `Memory` drop
-/// the cells.
-pub(crate) fn live(
+/// The job with its cells' lives behind them. The newborns of a cell are delivered right after its
+/// life, so the turns of the bank are spread over the job.
+pub(crate) fn live<R: Wait>(
+    rt: &R,
     alloc: Global,
+    job: Job,
+    bank: &Bank,
     round: &Round,
-    first: u32,
-    cells: &mut [Option<BoxedOrganism>],
-    slices: &[u64],
-) -> Result<Lived, Memory>
-    requires cells { first + length cells.old ≤ CELLS }
-    requires slices { length slices.now ≡ length cells.old }
-    requires few { All (λ steps. steps < 2 ^ 27) slices.now }
-    requires young { All IsYoung cells.old }
-    ensures cells { OnOk result (cells.new ≡ map left_in
-        (shard_lives_of (round_numbers round.now) (part_from first cells.old slices.now))) }
-    ensures standings { IfOk result
-        (λ lived. lived.standings.items ≡ map standing_in cells.new) }
-    ensures births { IfOk result (λ lived. lived.births.items ≡ births_from first
-        (shard_lives_of (round_numbers round.now) (part_from first cells.old slices.now))) }
-    ensures dead { IfOk result (λ lived. lived.dead.items ≡ deaths_from first
-        (shard_lives_of (round_numbers round.now) (part_from first cells.old slices.now))) }
+) -> Result<Finished, Memory>
+    requires job { CanRun job }
+    requires seat { job.seat.bank ≡ bank.now }
+    ensures { IfOk result (IsFinished (round_numbers round.now) job) }
 {
-    let mut lived = Lived {
-        standings: Vec::with_capacity(alloc, cells.len())?,
-        births: Vec::new(alloc),
-        dead: Vec::new(alloc),
-    };
+    let Job {
+        first,
+        cells,
+        slices,
+        mut seat,
+    } = job;
+    let mut cells = cells.into_vec();
+    let slices = slices.into_vec();
+    let mut standings = Vec::with_capacity(alloc, cells.len())?;
+    let mut births = Deliveries::none(alloc);
+    let mut dead = Dead::none(alloc);
     for place in 0..cells.len() {
         let cell = first + place as u32;
         let slot = &mut cells[place];
         let life = live_in(alloc, round, cell, slices[place], slot)?;
-        bury(slot, life.died);
-        lived.standings.push(standing_in(slot))?;
-        lived.add_life(cell, life)?;
+        bury(slot, life.died, cell, &mut dead)?;
+        standings.push(standing_in(slot))?;
+        deliver(rt, alloc, bank, &mut seat, cell, life.births, &mut births)?;
     }
-    Ok(lived)
+    Ok(Finished {
+        first,
+        cells: Cells::from_vec(cells),
+        standings: Standings::from_vec(standings),
+        births,
+        dead,
+        seat,
+    })
 }
 
 /// The life of who stands in a cell.
@@ -131,13 +132,21 @@ fn is_death(ran: Ran) -> bool
     }
 }
 
-/// The dead leave their cells.
-fn bury(slot: &mut Option<BoxedOrganism>, died: bool)
-    ensures { slot.new ≡ (if died then None else slot.old) }
+/// The dead leave their cells, and those are listed.
+fn bury(
+    slot: &mut Option<BoxedOrganism>,
+    died: bool,
+    cell: u32,
+    dead: &mut Dead,
+) -> Result<(), Memory>
+    ensures slot { OnOk result (slot.new ≡ (if died then None else slot.old)) }
+    ensures dead { OnOk result (dead.new ≡ dead.old ++ (if died then cell ∷ [] else [])) }
 {
     if died {
         *slot = None;
+        dead.push(cell)?;
     }
+    Ok(())
 }
 
 /// What is counted of who stands in a cell.
@@ -148,32 +157,4 @@ fn standing_in(slot: &Option<BoxedOrganism>) -> Option<Standing>
         Some(organism) => Some(organism.standing()),
         None => None,
     }
-}
-
-impl Lived {
-    /// The newborns of a cell, and the cell itself where its organism died.
-    fn add_life(&mut self, cell: u32, life: Life) -> Result<(), Memory>
-        ensures standings { OnOk result (self.new.standings ≡ self.old.standings) }
-        ensures births { OnOk result (self.new.births.items
-            ≡ self.old.births.items ++ map (birth_in cell) (map newborn_value life.births)) }
-        ensures dead { OnOk result (self.new.dead.items
-            ≡ self.old.dead.items ++ (if life.died then cell ∷ [] else [])) }
-    {
-        let Life { died, births } = life;
-        if died {
-            self.dead.push(cell)?;
-        }
-        add(cell, births, &mut self.births)
-    }
-}
-
-/// The newborns of a cell, in order of birth.
-fn add(cell: u32, newborns: Births, births: &mut Vec<CellBirth>) -> Result<(), Memory>
-    ensures { OnOk result (births.new.items
-        ≡ births.old.items ++ map (birth_in cell) (map newborn_value newborns)) }
-{
-    for newborn in newborns.into_vec() {
-        births.push(CellBirth { cell, newborn })?;
-    }
-    Ok(())
 }

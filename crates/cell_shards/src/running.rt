@@ -5,12 +5,10 @@ ghost use Rattle.std.specs.List.{AllZip};
 ghost use Rattle.cell_shards.specs.CellLives.{round_numbers};
 ghost use Rattle.cell_shards.specs.Finishing.{AreFinished, CanRun, HasAnswer, IsFinished};
 
-use crate::delivering::deliver;
-use crate::finished::{Dead, Finished};
-use crate::job::{Cells, Job};
+use crate::finished::Finished;
+use crate::job::Job;
 use crate::lives::live;
 use crate::round::Round;
-use crate::standing::Standings;
 use avida_port::{Gate, Memory};
 use genotype_bank::Bank;
 use std::alloc::{AllocError, Global};
@@ -120,38 +118,7 @@ fn run_task<R: Wait, G: Gate>(
     ensures { IfOk result (IsFinished (round_numbers round.now) task.job) }
 {
     gate.pass(u64::from(round.update), task.shard);
-    run(rt, alloc, task.job, bank, round)
-}
-
-/// The lives of the job's cells; then its newborns' genomes are interned.
-fn run<R: Wait>(
-    rt: &R,
-    alloc: Global,
-    job: Job,
-    bank: &Bank,
-    round: &Round,
-) -> Result<Finished, Memory>
-    requires job { CanRun job }
-    requires seat { job.seat.bank ≡ bank.now }
-    ensures { IfOk result (IsFinished (round_numbers round.now) job) }
-{
-    let Job {
-        first,
-        cells,
-        slices,
-        mut seat,
-    } = job;
-    let mut cells = cells.into_vec();
-    let lived = live(alloc, round, first, &mut cells, slices.as_slice())?;
-    let births = deliver(rt, alloc, bank, &mut seat, lived.births)?;
-    Ok(Finished {
-        first,
-        cells: Cells::from_vec(cells),
-        standings: Standings::from_vec(lived.standings),
-        births,
-        dead: Dead::from_vec(lived.dead),
-        seat,
-    })
+    live(rt, alloc, task.job, bank, round)
 }
 
 /// All jobs are finished, or memory ran out in one of them.

@@ -29,7 +29,7 @@ living_of genotypes = sum_by (λ genotype. genotype.count) (values_of genotypes)
 
 -- each key stands once, for a genome that some organism has, and each genome has one key
 pub record AreGenotypes (genotypes : List (ℕ × GenotypeCount)) : Type 0 where
-  pub in_order : IsStrictlySortedBy nat_cmp (keys_of genotypes)
+  pub keys_rise : IsStrictlySortedBy nat_cmp (keys_of genotypes)
   pub counted : (key : ℕ) (genotype : GenotypeCount)
       → genotype_at genotypes key ≡ Some genotype → 0 < genotype.count
   pub one_key : (key other : ℕ) (genotype twin : GenotypeCount)

@@ -5,7 +5,7 @@ use Rattle.std.specs.BTreeMap.{insert_entry, is_at}
 use Rattle.std.specs.Map.{lookup, remove_entry, set_value}
 use Rattle.std.specs.Option.{option_map_or, unwrap_or}
 use Rattle.std.proofs.lemmas.Bool.{cases_Bool, cond-true, cond-false, or_parts}
-use Rattle.lineage_log.specs.Nodes.{NodeValue, AreFamilies, AreFewer, AreNeededBut, AreNodes, IsSettled, in_order, is_needed, living_ids_of, node_at}
+use Rattle.lineage_log.specs.Nodes.{NodeValue, AreFamilies, AreFewer, AreNeededBut, AreNodes, IsSettled, id_order, is_needed, living_ids_of, node_at}
 use Rattle.lineage_log.proofs.NodeLemmas.{Rises, by_key, some_of}
 use Rattle.lineage_log.proofs.OrderLemmas.{insert_is_set, order_finds, order_gone, order_put, order_rises}
 use Rattle.lineage_log.proofs.LivingLemmas.{lives_there}
@@ -47,7 +47,7 @@ pub record Settles (before after : List (ℕ × NodeValue)) (id : ℕ) (node : N
 -- so it is in order, whatever order the nodes are kept in
 settles : (before after : List (ℕ × NodeValue)) (id : ℕ) (node : NodeValue) (next : Option ℕ)
     → IsSettled before after id node next
-    → Settles (in_order before) (in_order after) id node next
+    → Settles (id_order before) (id_order after) id node next
 settles before after id node next settled = record {
   rising = order_rises after;
   entries = ⊎_elim
@@ -55,14 +55,14 @@ settles before after id node next settled = record {
       (λ other. settled.found other
       ∙ ap (λ (o : Option NodeValue). cond (nat_eq id other) o (lookup (nat_eq other) before))
       (cond-true (is_needed node) (Some node) None wanted))
-      ∙ sym (cond-true (is_needed node) (insert_entry nat_cmp (in_order before) id node)
-      (remove_entry (is_at (nat_cmp id)) (in_order before)) wanted))
+      ∙ sym (cond-true (is_needed node) (insert_entry nat_cmp (id_order before) id node)
+      (remove_entry (is_at (nat_cmp id)) (id_order before)) wanted))
       (λ (vain : is_needed node ≡ false). order_gone before after id
       (λ other. settled.found other
       ∙ ap (λ (o : Option NodeValue). cond (nat_eq id other) o (lookup (nat_eq other) before))
       (cond-false (is_needed node) (Some node) None vain))
-      ∙ sym (cond-false (is_needed node) (insert_entry nat_cmp (in_order before) id node)
-      (remove_entry (is_at (nat_cmp id)) (in_order before)) vain))
+      ∙ sym (cond-false (is_needed node) (insert_entry nat_cmp (id_order before) id node)
+      (remove_entry (is_at (nat_cmp id)) (id_order before)) vain))
       (cases_Bool (is_needed node));
   above = settled.above;
 }
@@ -224,36 +224,36 @@ lies nodes id are lives = laid nodes (laid_down id nodes) id are lives (laid_dow
 
 -- its node goes if it is there in vain then
 pub go_first : (before after : List (ℕ × NodeValue)) (id : ℕ) (next : Option ℕ)
-    → AreNodes (in_order before) → Contains (living_ids_of (in_order before)) id
+    → AreNodes (id_order before) → Contains (living_ids_of (id_order before)) id
     → ((node : NodeValue) → lookup (nat_eq id) before ≡ Some node
     → IsSettled before after id (record node { lives = false }) next)
-    → Go (laid_down id (in_order before)) (in_order after) next
+    → Go (laid_down id (id_order before)) (id_order after) next
 go_first before after id next are lives settled =
-    let nodes = in_order before in
+    let nodes = id_order before in
     let found = lives_there nodes id are.families.rising lives in
     let old = found.0 in
     let new : NodeValue = record old { lives = false } in
     let lie = lies nodes id are lives in
-    go_on (laid_down id nodes) nodes (laid_down id nodes) (in_order after) id old new next
+    go_on (laid_down id nodes) nodes (laid_down id nodes) (id_order after) id old new next
     are.families.rising found.1 refl (laid_down_is nodes id old found.1) lie.families lie.needed
     (fewer_same (laid_down id nodes))
     (settles before after id new next (settled old (sym (order_finds before id) ∙ found.1)))
 
 -- who is next has children
 pub next_counts : (start nodes : List (ℕ × NodeValue)) (now : Option ℕ) (id : ℕ)
-    → Go start (in_order nodes) now → now ≡ Some id → (node : NodeValue)
+    → Go start (id_order nodes) now → now ≡ Some id → (node : NodeValue)
     → lookup (nat_eq id) nodes ≡ Some node → 0 < node.children
 next_counts start nodes now id go is node there =
-    (subst (λ o. Go start (in_order nodes) o) is go).counts node (order_finds nodes id ∙ there)
+    (subst (λ o. Go start (id_order nodes) o) is go).counts node (order_finds nodes id ∙ there)
 
 -- its parent has one child fewer, and goes if it is there in vain then; and so up the line
 pub go_again : (start before after : List (ℕ × NodeValue)) (now : Option ℕ) (id : ℕ)
-    (next : Option ℕ) → Go start (in_order before) now → now ≡ Some id
+    (next : Option ℕ) → Go start (id_order before) now → now ≡ Some id
     → ((node : NodeValue) → lookup (nat_eq id) before ≡ Some node
     → IsSettled before after id (record node { children = node.children - 1 }) next)
-    → Go start (in_order after) next × (option_map_or suc next 0 < suc id)
+    → Go start (id_order after) next × (option_map_or suc next 0 < suc id)
 go_again start before after now id next going this settled =
-    let nodes = in_order before in
+    let nodes = id_order before in
     let go = subst (λ o. Go start nodes o) this going in
     let found = some_of (node_at nodes id) go.there in
     let old = found.0 in
@@ -262,8 +262,8 @@ go_again start before after now id next going this settled =
     let set = lowered_is nodes id old is in
     let settling = settles before after id (fewer_children old) next
     (settled old (sym (order_finds before id) ∙ is)) in (
-      go_on start nodes mid (in_order after) id old (fewer_children old) next go.rising is refl set
+      go_on start nodes mid (id_order after) id old (fewer_children old) next go.rising is refl set
           go.families go.needed go.fewer settling,
-      go_up start nodes mid (in_order after) id old (fewer_children old) next go.rising is refl set
+      go_up start nodes mid (id_order after) id old (fewer_children old) next go.rising is refl set
           go.families go.needed go.fewer settling,
     )

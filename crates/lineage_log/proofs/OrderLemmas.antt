@@ -13,7 +13,7 @@ use Rattle.std.proofs.lemmas.Bool.{cond-true, cond-false}
 use Rattle.std.proofs.lemmas.Map.{lookup-none, lookup-remove_entry, lookup-set_value}
 use Rattle.std.proofs.lemmas.Map.Entries.{none_below_head}
 use Rattle.std.proofs.lemmas.Map.Keys.{IsDistinct-from_sorted, IsDistinct-head, IsDistinct-tail, sorted_head, sorted_tail}
-use Rattle.lineage_log.specs.Nodes.{NodeValue, AreNodes, in_order, node_at}
+use Rattle.lineage_log.specs.Nodes.{NodeValue, AreNodes, id_order, node_at}
 use Rattle.lineage_log.proofs.NodeLemmas.{Rises, by_key, first_node, none_behind, other_node}
 
 -- all of these ids are above one
@@ -191,21 +191,21 @@ one_order (d ∷ ds) (e ∷ es) low high same =
 -- ---- in order
 
 -- ids rise there
-pub order_rises : (nodes : List (ℕ × NodeValue)) → Rises (in_order nodes)
+pub order_rises : (nodes : List (ℕ × NodeValue)) → Rises (id_order nodes)
 unfolding IsStrictlySortedBy
 order_rises [] = tt
-order_rises (e ∷ es) = rises_put (in_order es) e.0 e.1 (order_rises es)
+order_rises (e ∷ es) = rises_put (id_order es) e.0 e.1 (order_rises es)
 
 -- each id has its node there
 pub order_finds : (nodes : List (ℕ × NodeValue)) (id : ℕ)
-    → node_at (in_order nodes) id ≡ lookup (nat_eq id) nodes
+    → node_at (id_order nodes) id ≡ lookup (nat_eq id) nodes
 order_finds [] id = refl
 order_finds (e ∷ es) id = ⊎_elim
-    (λ here. subst (λ k. node_at (insert_entry nat_cmp (in_order es) k e.1) id ≡ Some e.1) here.0
-    (put_here (in_order es) id e.1)
+    (λ here. subst (λ k. node_at (insert_entry nat_cmp (id_order es) k e.1) id ≡ Some e.1) here.0
+    (put_here (id_order es) id e.1)
     ∙ sym (cond-true (nat_eq id e.0) (Some e.1) (lookup (nat_eq id) es)
     (sym (unsigned_tied id e.0) ∙ here.1)))
-    (λ apart. put_apart (in_order es) e.0 e.1 id (λ same. apart.0 (sym same))
+    (λ apart. put_apart (id_order es) e.0 e.1 id (λ same. apart.0 (sym same))
     ∙ order_finds es id
     ∙ sym (cond-false (nat_eq id e.0) (Some e.1) (lookup (nat_eq id) es)
     (sym (unsigned_tied id e.0) ∙ apart.1)))
@@ -215,29 +215,29 @@ order_finds (e ∷ es) id = ⊎_elim
 pub order_put : (before after : List (ℕ × NodeValue)) (id : ℕ) (node : NodeValue)
     → ((other : ℕ) → lookup (nat_eq other) after
     ≡ cond (nat_eq id other) (Some node) (lookup (nat_eq other) before))
-    → in_order after ≡ insert_entry nat_cmp (in_order before) id node
+    → id_order after ≡ insert_entry nat_cmp (id_order before) id node
 order_put before after id node at =
-    one_order (in_order after) (insert_entry nat_cmp (in_order before) id node)
-    (order_rises after) (rises_put (in_order before) id node (order_rises before))
+    one_order (id_order after) (insert_entry nat_cmp (id_order before) id node)
+    (order_rises after) (rises_put (id_order before) id node (order_rises before))
     (λ other. ⊎_elim
     (λ here. order_finds after other ∙ at other
     ∙ cond-true (nat_eq id other) (Some node) (lookup (nat_eq other) before)
     (sym (unsigned_tied id other) ∙ here.1)
-    ∙ sym (subst (λ k. node_at (insert_entry nat_cmp (in_order before) id node) k ≡ Some node)
-    here.0 (put_here (in_order before) id node)))
+    ∙ sym (subst (λ k. node_at (insert_entry nat_cmp (id_order before) id node) k ≡ Some node)
+    here.0 (put_here (id_order before) id node)))
     (λ apart. order_finds after other ∙ at other
     ∙ cond-false (nat_eq id other) (Some node) (lookup (nat_eq other) before)
     (sym (unsigned_tied id other) ∙ apart.1)
     ∙ sym (order_finds before other)
-    ∙ sym (put_apart (in_order before) id node other apart.0))
+    ∙ sym (put_apart (id_order before) id node other apart.0))
     (by_key id other))
 
 -- what one look-up says of each id
 pub order_at : (before after : List (ℕ × NodeValue)) (id : ℕ) (what : Option NodeValue)
     → ((other : ℕ) → lookup (nat_eq other) after
     ≡ cond (nat_eq id other) what (lookup (nat_eq other) before)) → (other : ℕ)
-    → node_at (in_order after) other
-    ≡ cond (is_at (nat_cmp id) other) what (node_at (in_order before) other)
+    → node_at (id_order after) other
+    ≡ cond (is_at (nat_cmp id) other) what (node_at (id_order before) other)
 order_at before after id what at other =
     order_finds after other ∙ at other
     ∙ (λ i. cond (sym (unsigned_tied id other) i) what (sym (order_finds before other) i))
@@ -246,11 +246,11 @@ order_at before after id what at other =
 pub order_gone : (before after : List (ℕ × NodeValue)) (id : ℕ)
     → ((other : ℕ) → lookup (nat_eq other) after
     ≡ cond (nat_eq id other) None (lookup (nat_eq other) before))
-    → in_order after ≡ remove_entry (is_at (nat_cmp id)) (in_order before)
+    → id_order after ≡ remove_entry (is_at (nat_cmp id)) (id_order before)
 order_gone before after id at =
     let laws = eq_by_cmp_equiv nat_cmp_total in
-    let nodes = in_order before in
-    one_order (in_order after) (remove_entry (is_at (nat_cmp id)) nodes) (order_rises after)
+    let nodes = id_order before in
+    one_order (id_order after) (remove_entry (is_at (nat_cmp id)) nodes) (order_rises after)
     (rises_remove nodes id (order_rises before))
     (λ other. order_at before after id None at other
     ∙ sym (lookup-remove_entry {eq = eq_by_cmp nat_cmp} laws (is_at (nat_cmp id))
@@ -280,19 +280,19 @@ insert_is_set (e ∷ es) id node rising is =
 
 -- what is set anywhere is set in order
 pub order_set : (nodes : List (ℕ × NodeValue)) (id : ℕ) (old new : NodeValue)
-    → lookup (nat_eq id) nodes ≡ Some old → in_order (set_value (nat_eq id) nodes new)
-    ≡ set_value (is_at (nat_cmp id)) (in_order nodes) new
+    → lookup (nat_eq id) nodes ≡ Some old → id_order (set_value (nat_eq id) nodes new)
+    ≡ set_value (is_at (nat_cmp id)) (id_order nodes) new
 order_set nodes id old new is =
     order_put nodes (set_value (nat_eq id) nodes new) id new
     (λ other. lookup-set_value {eq = nat_eq} nat_eq_equiv (nat_eq id)
     (λ x y h. nat_eq_equiv.congr id x y h) other new nodes (subst IsSome (sym is) refl))
-    ∙ insert_is_set (in_order nodes) id new (order_rises nodes)
+    ∙ insert_is_set (id_order nodes) id new (order_rises nodes)
     (subst IsSome (sym (order_finds nodes id ∙ is)) refl)
 
 -- there are no more nodes in order
-pub order_few : (nodes : List (ℕ × NodeValue)) → length (in_order nodes) ≤ length nodes
+pub order_few : (nodes : List (ℕ × NodeValue)) → length (id_order nodes) ≤ length nodes
 order_few [] = omega arith
-order_few (e ∷ es) = omega (arith, one_more (in_order es) e.0 e.1, order_few es) where
+order_few (e ∷ es) = omega (arith, one_more (id_order es) e.0 e.1, order_few es) where
   -- at most one more
   one_more : (nodes : List (ℕ × NodeValue)) (id : ℕ) (node : NodeValue)
       → length (insert_entry nat_cmp nodes id node) ≤ length nodes + 1
@@ -334,12 +334,12 @@ not_found (e ∷ es) id apart =
 
 -- there are as many nodes in order where the ids are distinct
 pub order_length : (nodes : List (ℕ × NodeValue)) → IsDistinct nat_eq (keys_of nodes)
-    → length (in_order nodes) ≡ length nodes
+    → length (id_order nodes) ≡ length nodes
 order_length [] distinct = refl
 order_length (e ∷ es) distinct =
     omega (
       arith,
-      put_length (in_order es) e.0 e.1 (order_finds es e.0
+      put_length (id_order es) e.0 e.1 (order_finds es e.0
           ∙ not_found es e.0 (IsDistinct-head nat_eq e.0 (keys_of es) distinct)),
       order_length es (IsDistinct-tail nat_eq e.0 (keys_of es) distinct),
     )

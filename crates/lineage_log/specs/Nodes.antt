@@ -38,9 +38,9 @@ abbrev pub node_at : List (ℕ × NodeValue) → ℕ → Option NodeValue
 node_at nodes id = lookup (is_at (nat_cmp id)) nodes
 
 -- nodes in order of their ids
-abbrev pub in_order : List (ℕ × NodeValue) → List (ℕ × NodeValue)
-in_order [] = []
-in_order (e ∷ es) = insert_entry nat_cmp (in_order es) e.0 e.1
+abbrev pub id_order : List (ℕ × NodeValue) → List (ℕ × NodeValue)
+id_order [] = []
+id_order (e ∷ es) = insert_entry nat_cmp (id_order es) e.0 e.1
 
 -- it lives, or has a child among the nodes
 abbrev pub is_needed : NodeValue → Bool

@@ -1,7 +1,7 @@
 // The nodes of a tree, by their ids.
 ghost use Rattle.std.specs.Prelude.{◌≡◌, ◌+◌, ◌-◌, ◌<◌, ◌^◌, Contains, OnErr, OnOk, Some, false, nat_eq};
 ghost use Rattle.std.specs.Map.{lookup, set_value};
-ghost use Rattle.lineage_log.specs.Nodes.{NodeValue, AreNodes, IsSettled, in_order, living_ids_of, tree_of};
+ghost use Rattle.lineage_log.specs.Nodes.{NodeValue, AreNodes, IsSettled, id_order, living_ids_of, tree_of};
 ghost use Rattle.lineage_log.specs.Trees.{CanCome, tree_with_death, tree_with_newcomer};
 
 use crate::ancestor::Ancestor;
@@ -14,12 +14,12 @@ pub(crate) type Nodes = HashMap<u64, Node>;
 
 /// A newcomer lives, and its parent has one child more. If memory runs out, nothing changes.
 pub(crate) fn enter(nodes: &mut Nodes, newcomer: Ancestor) -> Result<(), Memory>
-    requires nodes { AreNodes (in_order nodes.old.entries) }
-    requires can_come { CanCome (tree_of (in_order nodes.old.entries)) newcomer.id newcomer.parent }
-    ensures ok { OnOk result (tree_of (in_order nodes.new.entries)
-        ≡ tree_with_newcomer (tree_of (in_order nodes.old.entries)) newcomer) }
-    ensures err { OnErr result (in_order nodes.new.entries ≡ in_order nodes.old.entries) }
-    ensures nodes { AreNodes (in_order nodes.new.entries) }
+    requires nodes { AreNodes (id_order nodes.old.entries) }
+    requires can_come { CanCome (tree_of (id_order nodes.old.entries)) newcomer.id newcomer.parent }
+    ensures ok { OnOk result (tree_of (id_order nodes.new.entries)
+        ≡ tree_with_newcomer (tree_of (id_order nodes.old.entries)) newcomer) }
+    ensures err { OnErr result (id_order nodes.new.entries ≡ id_order nodes.old.entries) }
+    ensures nodes { AreNodes (id_order nodes.new.entries) }
 {
     let _count = nodes.len();
     let id = newcomer.id;
@@ -33,11 +33,11 @@ pub(crate) fn enter(nodes: &mut Nodes, newcomer: Ancestor) -> Result<(), Memory>
 
 /// An organism dies, and no node stays in vain. It takes no memory.
 pub(crate) fn bury(nodes: &mut Nodes, id: u64)
-    requires nodes { AreNodes (in_order nodes.old.entries) }
-    requires lives { Contains (living_ids_of (in_order nodes.old.entries)) id }
-    ensures tree { tree_of (in_order nodes.new.entries)
-        ≡ tree_with_death (tree_of (in_order nodes.old.entries)) id }
-    ensures nodes { AreNodes (in_order nodes.new.entries) }
+    requires nodes { AreNodes (id_order nodes.old.entries) }
+    requires lives { Contains (living_ids_of (id_order nodes.old.entries)) id }
+    ensures tree { tree_of (id_order nodes.new.entries)
+        ≡ tree_with_death (tree_of (id_order nodes.old.entries)) id }
+    ensures nodes { AreNodes (id_order nodes.new.entries) }
 {
     let mut next = lay_down(nodes, id);
     while let Some(above) = next {

@@ -24,14 +24,14 @@ pub struct Tree {
 }
 
 impl Model for Tree {
-    ghost use Rattle.lineage_log.specs.Nodes.{AreNodes, in_order, tree_of};
+    ghost use Rattle.lineage_log.specs.Nodes.{AreNodes, id_order, tree_of};
     ghost use Rattle.lineage_log.specs.Trees.{TreeValue};
 
     ghost Value = { TreeValue };
 
-    ghost view = { λ t. tree_of (in_order t.nodes.entries) };
+    ghost view = { λ t. tree_of (id_order t.nodes.entries) };
 
-    ghost invariant = { λ t. AreNodes (in_order t.nodes.entries) };
+    ghost invariant = { λ t. AreNodes (id_order t.nodes.entries) };
 }
 
 impl Tree {

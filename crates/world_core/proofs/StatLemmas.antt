@@ -160,7 +160,7 @@ module _ (one_list : OneList) where
       (genotypes : List (ℕ × GenotypeCount)) (are : AreGenotypes genotypes)
       (kept : AreCountedIn (occupant_genomes cells) genomes keys genotypes) where
     key-distinct : IsDistinct (eq_by_cmp nat_cmp) (keys_of genotypes)
-    key-distinct = IsDistinct-from_sorted nat_cmp (keys_of genotypes) are.in_order
+    key-distinct = IsDistinct-from_sorted nat_cmp (keys_of genotypes) are.keys_rise
 
     -- what is counted under a key is a genome of the living with its count
     counted-is : (number : ℕ) (genotype : GenotypeCount)
@@ -295,7 +295,7 @@ module _ (one_list : OneList) where
               are.one_key _ _ _ _ (entry-at i e early) (entry-at j e within) same in
               absurd (omega (
                 arith,
-                below_from_sorted (keys_of genotypes) i j 0 are.in_order upward
+                below_from_sorted (keys_of genotypes) i j 0 are.keys_rise upward
                     (omega (arith, within, length-map genotypes (λ (e : ℕ × GenotypeCount). e.0))),
                 key-at i e early,
                 key-at j e within,

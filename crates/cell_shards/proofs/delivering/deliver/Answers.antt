@@ -1,27 +1,30 @@
-use Rattle.std.proofs.Common.{◌≡◌, ◌∷◌, rules}
+use Rattle.std.proofs.Common.{◌≡◌, ◌∙◌, ◌∷◌, ap, map, List, rules}
 use Rattle.std.specs.Vec.Iter.{into_iter_items}
-use Rattle.cell_shards.proofs.InterningLemmas.{HasInterned-none, HasInterned-more, births-more}
+use Rattle.organism.specs.Newborns.{newborn_value}
+use Rattle.organism.specs.declared.newborn.Newborn.{Newborn}
+use Rattle.cell_shards.specs.CellLives.{BirthValue, birth_in}
+use Rattle.cell_shards.proofs.InterningLemmas.{HasInterned-more, births-more}
 use Rattle.cell_shards.proofs.delivering.deliver.Goals as goal
 
-pub loop-birth-init : goal.loop-birth-init
-loop-birth-init g c = record {
-  births = search rules;
-  seat = HasInterned-none c.args.seat.now c.none-deliveries.result c.none-deliveries.ensures;
-}
-
-pub loop-birth-preserved : goal.loop-birth-preserved
-loop-birth-preserved g c =
+pub loop-newborn-preserved : goal.loop-newborn-preserved
+loop-newborn-preserved g c =
     let laws = c.calls_number_genotypes.ensures in
     let told = c.in_ok-delivered.ensures in
     let kept = c.deliver_one.ensures.kept in
-    let taken : into_iter_items c.loop-birth.birth-iterator
-    ≡ c.in-Some.birth ∷ into_iter_items c.next.new.self = search rules in
+    let so_far = c.loop-newborn.invariant in
+    let before = c.loop-newborn.births in
+    let delivered = c.in_ok-delivered.delivered in
+    let births : List Newborn → List BirthValue =
+    λ newborns. map (birth_in c.args.cell) (map newborn_value newborns) in
+    let left = into_iter_items c.loop-newborn.newborn-iterator in
+    let rest = into_iter_items c.next.new.self in
+    let taken : left ≡ c.in-Some.newborn ∷ rest = search rules in
     record {
-      births = births-more c.loop-birth.deliveries c.push.new.self c.in_ok-delivered.delivered
-          c.in-Some.birth (into_iter_items c.next.new.self)
-          (into_iter_items c.loop-birth.birth-iterator) _ c.in_ok-push.ensures.ok told.birth taken
-          c.loop-birth.invariant.births;
-      seat = HasInterned-more laws.seen laws.stay c.args.seat.now c.loop-birth.seat
-          c.deliver_one.new.seat c.loop-birth.deliveries c.push.new.self c.in_ok-delivered.delivered
-          c.loop-birth.invariant.seat kept.0 kept.1 told.call told.number c.in_ok-push.ensures.ok;
+      births = births-more before c.push.new.self delivered
+          (birth_in c.args.cell (newborn_value c.in-Some.newborn)) (births rest) (births left)
+          c.in_ok-push.ensures.ok told.birth (ap births taken) ∙ so_far.births;
+      bank = kept.0 ∙ so_far.bank;
+      seat = λ start has. HasInterned-more laws.seen laws.stay start c.loop-newborn.seat
+          c.deliver_one.new.seat before c.push.new.self delivered (so_far.seat start has) kept.0
+          kept.1 told.call told.number c.in_ok-push.ensures.ok;
     }

@@ -1,49 +1,79 @@
-use Rattle.std.proofs.Common.{◌∙◌, ◌++◌, ◌∷◌, [], ◌<◌, None, length, map, arith}
+use Rattle.std.proofs.Common.{◌≡◌, ◌∙◌, ap, refl, sym, subst, ℕ, ◌+◌, ◌++◌, ◌∷◌, [], ◌<◌, List, None, length, map, get_or, arith}
 use Rattle.std.proofs.lemmas.List.{get_or_default}
 use Rattle.organism.specs.Newborns.{newborn_value}
-use Rattle.cell_shards.specs.CellLives.{ShardLife, part_from, round_numbers}
-use Rattle.cell_shards.proofs.LivesLemmas.{HaveLived-none, HaveLived-next, HaveLived-more, all-cells, all-standings, all-births, all-dead}
+use Rattle.cell_shards.specs.CellLives.{IsYoung, ShardLife, round_numbers, shard_life_of}
+use Rattle.cell_shards.specs.Finishing.{birth_of, part_of}
+use Rattle.cell_shards.proofs.InterningLemmas.{HasInterned-none}
+use Rattle.cell_shards.proofs.LivesLemmas.{HaveLived-none, HaveLived-next, HaveLived-more, IsFinished-lived}
 use Rattle.cell_shards.proofs.lives.live.Goals as goal
 
 pub loop-place-init : goal.loop-place-init
-loop-place-init c = HaveLived-none (round_numbers c.args.round.now)
-    (part_from c.args.first c.args.cells.now c.args.slices.now)
-    c.in_ok-with_capacity.field-0.items c.new.result.items c.new-2.result.items
-    c.in_ok-with_capacity.ensures.items c.new.ensures.items c.new-2.ensures.items
+loop-place-init g c = record {
+  long = refl;
+  lives = HaveLived-none (round_numbers c.args.round.now) (part_of c.args.job)
+      c.into_vec-cells.result.items c.in_ok-standings.standings.items
+      (map birth_of c.none-births.result) c.none-dead.result c.into_vec-cells.ensures
+      c.in_ok-standings.ensures.items (ap (map birth_of) c.none-births.ensures)
+      c.none-dead.ensures;
+  seat = HasInterned-none c.args.job.seat c.none-births.result c.none-births.ensures;
+}
+
+pub index_mut-slot-requires : goal.index_mut-slot-requires
+index_mut-slot-requires g c =
+    omega (arith, c.loop-place.invariant.long, c.len-place-end.ensures)
 
 pub live_in-requires-clause-young : goal.live_in-requires-clause-young
-live_in-requires-clause-young c =
-    HaveLived-next (round_numbers c.args.round.now)
-    (part_from c.args.first c.args.cells.now c.args.slices.now) c.loop-place.place
-    c.loop-place.cells c.loop-place.lived.standings.items c.loop-place.lived.births.items
-    c.loop-place.lived.dead.items
-    c.index-cells-place.result c.loop-place.invariant (omega arith) c.requires.young
+live_in-requires-clause-young g c =
+    let at = c.index_mut-slot in
+    let whole = c.into_vec-cells in
+    let within : c.loop-place.place < length c.args.job.cells =
+    omega (arith, c.len-place-end.ensures, whole.result.ok.0, ap length whole.ensures) in
+    subst IsYoung (sym at.ensures.value)
+    (HaveLived-next (round_numbers c.args.round.now) (part_of c.args.job) c.loop-place.place
+    c.loop-place.cells.items c.loop-place.standings.items (map birth_of c.loop-place.births)
+    c.loop-place.dead at.result.now c.loop-place.invariant.lives within c.requires.job.young)
+
+pub deliver-requires : goal.deliver-requires
+deliver-requires g c = c.loop-place.invariant.seat.bank ∙ c.requires.seat
 
 pub loop-place-preserved : goal.loop-place-preserved
-loop-place-preserved c =
-    let within : c.loop-place.place < length c.args.cells.now = omega arith in
-    let inside : c.loop-place.place < length c.loop-place.cells = omega arith in
-    let old = get_or_default c.loop-place.cells c.loop-place.place c.index-cells-place.result None
-    inside in
+loop-place-preserved g c =
+    let so_far = c.loop-place.invariant in
+    let place = c.loop-place.place in
+    let at = c.index_mut-slot in
+    let whole = c.into_vec-cells in
+    let each = c.into_vec-slices in
+    let within : place < length c.args.job.cells =
+    omega (arith, c.len-place-end.ensures, whole.result.ok.0, ap length whole.ensures) in
+    let inside : place < length c.loop-place.cells.items =
+    omega (arith, so_far.long, c.len-place-end.ensures, c.loop-place.cells.ok.0) in
+    let told : place < length each.result.items =
+    omega (arith, within, ap length each.ensures, c.requires.job.each) in
+    let old = at.ensures.value
+    ∙ get_or_default c.loop-place.cells.items place at.result.now None inside in
+    let steps : c.index.result.now ≡ get_or c.args.job.slices place 0 =
+    c.index.ensures ∙ get_or_default each.result.items place c.index.result.now 0 told
+    ∙ ap (λ (slices : List ℕ). get_or slices place 0) each.ensures in
     let life : ShardLife = record {
       organism = c.live_in.new.slot;
       died = c.in_ok-life.life.died;
       newborns = map newborn_value c.in_ok-life.life.births;
     } in
-    let brought = c.in_ok-add_life.ensures in
-    HaveLived-more life c.loop-place.invariant within old c.in_ok-life.ensures c.bury.ensures
-    ((λ i. (brought.standings i).items) ∙ c.in_ok-push.ensures.items
-    ∙ (λ i. c.loop-place.lived.standings.items ++ c.standing_in.ensures i ∷ []))
-    brought.births brought.dead
+    let lived = ap (λ (n : ℕ). shard_life_of (round_numbers c.args.round.now)
+    (c.args.job.first + place) n at.result.now) (sym steps) ∙ c.in_ok-life.ensures in
+    record {
+      long = so_far.long;
+      lives = HaveLived-more life so_far.lives within old lived c.in_ok-bury.ensures.slot
+          (c.in_ok-push.ensures.items
+          ∙ (λ i. c.loop-place.standings.items ++ c.standing_in.ensures i ∷ []))
+          c.in_ok-deliver.ensures.births c.in_ok-bury.ensures.dead;
+      seat = c.in_ok-deliver.ensures.seat c.args.job.seat so_far.seat;
+    }
 
-pub returns-clause-cells : goal.returns-clause-cells
-returns-clause-cells c = all-cells _ _ _ _ _ _ _ c.loop-place.invariant (omega arith)
-
-pub returns-clause-standings : goal.returns-clause-standings
-returns-clause-standings c = all-standings _ _ _ _ _ _ _ c.loop-place.invariant (omega arith)
-
-pub returns-clause-births : goal.returns-clause-births
-returns-clause-births c = all-births _ _ _ _ _ _ _ c.loop-place.invariant (omega arith)
-
-pub returns-clause-dead : goal.returns-clause-dead
-returns-clause-dead c = all-dead _ _ _ _ _ _ _ c.loop-place.invariant (omega arith)
+pub returns : goal.returns
+returns g c =
+    let whole = c.into_vec-cells in
+    IsFinished-lived (round_numbers c.args.round.now) c.args.job c.loop-place.place
+    (omega (arith, c.len-place-end.ensures, whole.result.ok.0, ap length whole.ensures))
+    c.loop-place.invariant.lives c.loop-place.invariant.seat refl c.from_vec.ensures
+    c.from_vec-2.ensures

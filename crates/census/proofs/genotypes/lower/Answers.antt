@@ -12,7 +12,8 @@ returns-then-count-gt1-clause-value c =
     let more : 1 < count_under genotypes c.args.key = search rules in
     let put : _ ≡ insert_entry nat_cmp genotypes c.args.key (lowered genotypes c.args.key) =
     search rules in
-    put ∙ lowered_without genotypes c.args.key c.requires.genotypes.in_order c.requires.counted more
+    put ∙ lowered_without genotypes c.args.key c.requires.genotypes.keys_rise
+        c.requires.counted more
 
 pub returns-then-count-gt1-clause-living : goal.returns-then-count-gt1-clause-living
 returns-then-count-gt1-clause-living c =

@@ -20,7 +20,7 @@ returns-in-Occupied-clause-ok c = search rules
 pub returns-in-Occupied-clause-living : goal.returns-in-Occupied-clause-living
 returns-in-Occupied-clause-living c =
     ap living_of (returns-in-Occupied-clause-ok c)
-    ∙ living-with c.args.genotypes.now.entries c.args.key _ c.requires.genotypes.in_order
+    ∙ living-with c.args.genotypes.now.entries c.args.key _ c.requires.genotypes.keys_rise
 
 pub returns-in_ok-genome-in-Vacant-clause-ok : goal.returns-in_ok-genome-in-Vacant-clause-ok
 returns-in_ok-genome-in-Vacant-clause-ok c = search rules
@@ -29,4 +29,4 @@ pub returns-in_ok-genome-in-Vacant-clause-living :
     goal.returns-in_ok-genome-in-Vacant-clause-living
 returns-in_ok-genome-in-Vacant-clause-living c =
     ap living_of (returns-in_ok-genome-in-Vacant-clause-ok c)
-    ∙ living-with c.args.genotypes.now.entries c.args.key _ c.requires.genotypes.in_order
+    ∙ living-with c.args.genotypes.now.entries c.args.key _ c.requires.genotypes.keys_rise

@@ -1,6 +1,6 @@
 use Rattle.std.proofs.Common.{◌<◌, ap, subst, suc, ℕ, Option, arith}
 use Rattle.std.specs.Option.{option_map_or}
-use Rattle.lineage_log.specs.Nodes.{in_order}
+use Rattle.lineage_log.specs.Nodes.{id_order}
 use Rattle.lineage_log.proofs.DeathLemmas.{Go, go_again, go_first, laid_down, lies, next_counts}
 use Rattle.lineage_log.proofs.KeptLemmas.{buried}
 use Rattle.lineage_log.proofs.nodes.bury.Goals as goal
@@ -13,17 +13,17 @@ loop-next-init c = record {
 
 pub lose_child-next-requires : goal.lose_child-next-requires
 lose_child-next-requires c =
-    next_counts (laid_down c.args.id (in_order c.args.nodes.now.entries)) c.loop-next.nodes.entries
+    next_counts (laid_down c.args.id (id_order c.args.nodes.now.entries)) c.loop-next.nodes.entries
     c.loop-next.next c.in-Some.above c.loop-next.invariant.go c.in-Some.is
 
 -- one node more went, or none
 turn : (c : goal.After-lose_child-next)
-    → Go (laid_down c.args.id (in_order c.args.nodes.now.entries))
-    (in_order c.lose_child-next.new.nodes.entries)
+    → Go (laid_down c.args.id (id_order c.args.nodes.now.entries))
+    (id_order c.lose_child-next.new.nodes.entries)
     c.lose_child-next.result
     × (option_map_or suc c.lose_child-next.result 0 < suc c.in-Some.above)
 turn c =
-    go_again (laid_down c.args.id (in_order c.args.nodes.now.entries)) c.loop-next.nodes.entries
+    go_again (laid_down c.args.id (id_order c.args.nodes.now.entries)) c.loop-next.nodes.entries
     c.lose_child-next.new.nodes.entries c.loop-next.next c.in-Some.above c.lose_child-next.result
     c.loop-next.invariant.go c.in-Some.is c.lose_child-next.ensures
 
@@ -36,10 +36,10 @@ loop-next-preserved c = record { go = (turn c).0 }
 
 pub returns-clause-tree : goal.returns-clause-tree
 returns-clause-tree c =
-    let start = laid_down c.args.id (in_order c.args.nodes.now.entries) in
-    let go = subst (λ next. Go start (in_order c.loop-next.nodes.entries) next) c.in_default.is
+    let start = laid_down c.args.id (id_order c.args.nodes.now.entries) in
+    let go = subst (λ next. Go start (id_order c.loop-next.nodes.entries) next) c.in_default.is
     c.loop-next.invariant.go in
-    let nodes = in_order c.args.nodes.now.entries in
-    buried nodes start (in_order c.loop-next.nodes.entries) c.args.id
+    let nodes = id_order c.args.nodes.now.entries in
+    buried nodes start (id_order c.loop-next.nodes.entries) c.args.id
     (lies nodes c.args.id c.requires.nodes c.requires.lives)
     (record { families = go.families; needed = go.needed }) go.fewer

@@ -1,13 +1,13 @@
 use Rattle.std.proofs.Common.{suc}
 use Rattle.std.specs.Option.{option_map_or}
-use Rattle.lineage_log.specs.Nodes.{in_order}
+use Rattle.lineage_log.specs.Nodes.{id_order}
 use Rattle.lineage_log.proofs.DeathLemmas.{Go, laid_down}
 use Rattle.lineage_log.proofs.nodes.bury.Given as goal
 
 -- some nodes went, and all is as it should be once the next one has one child fewer
 abbrev pub invariant-loop-next : goal.invariant-loop-next
 invariant-loop-next l = record {
-  go : Go (laid_down l.fn.id (in_order l.fn.nodes.entries)) (in_order l.nodes.entries) l.next;
+  go : Go (laid_down l.fn.id (id_order l.fn.nodes.entries)) (id_order l.nodes.entries) l.next;
 }
 
 abbrev pub decreases-loop-next : goal.decreases-loop-next

@@ -2,7 +2,7 @@ use Rattle.std.proofs.Common.{◌≡◌, ◌∙◌, ap, sym, cond, ℕ, ◌+◌,
 use Rattle.std.specs.Prelude.{nat_eq}
 use Rattle.std.specs.Map.{lookup}
 use Rattle.lineage_log.specs.Links.{Link}
-use Rattle.lineage_log.specs.Nodes.{AreNodes, in_order, tree_of}
+use Rattle.lineage_log.specs.Nodes.{AreNodes, id_order, tree_of}
 use Rattle.lineage_log.specs.Trees.{tree_with_newcomer}
 use Rattle.lineage_log.proofs.ComingLemmas.{Comes, child_enters, comes, founder_enters, has_room}
 use Rattle.lineage_log.proofs.OrderLemmas.{order_at, order_few, order_finds, order_put, order_rises, order_set}
@@ -11,7 +11,7 @@ use Rattle.lineage_log.proofs.nodes.enter.Goals as goal
 
 -- the newcomer came
 came : (c : In_ok-insert)
-    → Comes (in_order c.args.nodes.now.entries) (in_order c.insert.new.self.entries) c.args.newcomer
+    → Comes (id_order c.args.nodes.now.entries) (id_order c.insert.new.self.entries) c.args.newcomer
     c.new.result
 came c =
     let before = c.args.nodes.now.entries in
@@ -21,14 +21,14 @@ came c =
     λ other. c.in_ok-insert.ensures.updates.0 other
     ∙ ap (λ (l : Link). cond (nat_eq l.id other) (Some c.new.result)
     (lookup (nat_eq other) before)) c.newcomer.view_is in
-    comes (in_order before) (in_order after) c.args.newcomer c.new.result c.requires.nodes
+    comes (id_order before) (id_order after) c.args.newcomer c.new.result c.requires.nodes
     c.requires.can_come c.new.ensures (order_rises after)
     (order_put before after c.args.newcomer.id c.new.result at)
     (order_at before after c.args.newcomer.id (Some c.new.result) at)
 
 pub gain_child-requires : goal.gain_child-requires
 gain_child-requires c =
-    λ node there. has_room (in_order c.args.nodes.now.entries) (in_order c.insert.new.self.entries)
+    λ node there. has_room (id_order c.args.nodes.now.entries) (id_order c.insert.new.self.entries)
     c.args.newcomer c.new.result 9223372036854775808 c.in-Some.parent node c.requires.nodes
     (came (goal.at.gain_child-requires c).In_ok-insert)
     (omega (
@@ -40,18 +40,18 @@ gain_child-requires c =
     (order_finds c.insert.new.self.entries c.in-Some.parent ∙ there)
 
 -- a child came
-child : (c : goal.After-gain_child) → AreNodes (in_order c.gain_child.new.nodes.entries)
-    × (tree_of (in_order c.gain_child.new.nodes.entries)
-    ≡ tree_with_newcomer (tree_of (in_order c.args.nodes.now.entries)) c.args.newcomer)
+child : (c : goal.After-gain_child) → AreNodes (id_order c.gain_child.new.nodes.entries)
+    × (tree_of (id_order c.gain_child.new.nodes.entries)
+    ≡ tree_with_newcomer (tree_of (id_order c.args.nodes.now.entries)) c.args.newcomer)
 child c =
     let mid = c.insert.new.self.entries in
-    child_enters (in_order c.args.nodes.now.entries) (in_order mid)
-    (in_order c.gain_child.new.nodes.entries) c.args.newcomer c.new.result c.in-Some.parent
+    child_enters (id_order c.args.nodes.now.entries) (id_order mid)
+    (id_order c.gain_child.new.nodes.entries) c.args.newcomer c.new.result c.in-Some.parent
     c.requires.nodes c.requires.can_come (came (goal.at.returns-in-Some-clause-ok c).In_ok-insert)
     (sym (ap (λ (l : Link). l.parent) c.newcomer.view_is) ∙ c.in-Some.is)
     (λ node there.
     let is = sym (order_finds mid c.in-Some.parent) ∙ there in
-    ap in_order (c.gain_child.ensures node is)
+    ap id_order (c.gain_child.ensures node is)
     ∙ order_set mid c.in-Some.parent node (record node { children = node.children + 1 }) is)
 
 pub returns-in-Some-clause-ok : goal.returns-in-Some-clause-ok
@@ -66,7 +66,7 @@ returns-in_default-clause-ok c =
 
 pub returns-in_default-clause-nodes : goal.returns-in_default-clause-nodes
 returns-in_default-clause-nodes c =
-    founder_enters (in_order c.args.nodes.now.entries) (in_order c.insert.new.self.entries)
+    founder_enters (id_order c.args.nodes.now.entries) (id_order c.insert.new.self.entries)
     c.args.newcomer c.new.result c.requires.nodes
     (came (goal.at.returns-in_default-clause-nodes c).In_ok-insert)
     (sym (ap (λ (l : Link). l.parent) c.newcomer.view_is) ∙ c.in_default.is)

@@ -4,7 +4,7 @@ use Rattle.instruction_set.specs.declared.letter.Letter.{Letter}
 use Rattle.mutations.specs.BirthRecord.{child_of, record_of}
 use Rattle.lineage_log.specs.Ancestry.{link_of}
 use Rattle.lineage_log.specs.Trees.{TreeValue, genome_in_tree}
-use Rattle.lineage_log.specs.Nodes.{in_order, node_at}
+use Rattle.lineage_log.specs.Nodes.{id_order, node_at}
 use Rattle.lineage_log.proofs.OrderLemmas.{order_finds}
 use Rattle.lineage_log.proofs.NodeLemmas.{is_some_link}
 use Rattle.lineage_log.proofs.KeptLemmas.{genome_there}
@@ -12,7 +12,7 @@ use Rattle.lineage_log.proofs.tree.Tree.child.Goals as goal
 
 pub unreachable-requires : goal.unreachable-requires
 unreachable-requires c =
-    let nodes = in_order c.self.inside.nodes.entries in
+    let nodes = id_order c.self.inside.nodes.entries in
     let there = ap (λ (t : TreeValue). is_some (link_of t.links c.args.parent)) c.self.view_is
     ∙ c.requires.there in
     let none : node_at nodes c.args.parent ≡ None =
@@ -21,7 +21,7 @@ unreachable-requires c =
 
 pub unreachable-requires-in_default-stop : goal.unreachable-requires-in_default-stop
 unreachable-requires-in_default-stop c =
-    let nodes = in_order c.self.inside.nodes.entries in
+    let nodes = id_order c.self.inside.nodes.entries in
     let is : node_at nodes c.args.parent ≡ Some c.in-Some.node.now =
     order_finds c.self.inside.nodes.entries c.args.parent ∙ sym c.in-Some.ensures.value in
     let genome = c.genome.ensures ∙ sym (genome_there nodes c.args.parent c.in-Some.node.now is)
@@ -33,7 +33,7 @@ unreachable-requires-in_default-stop c =
 
 pub returns-in-Ok : goal.returns-in-Ok
 returns-in-Ok c =
-    let nodes = in_order c.self.inside.nodes.entries in
+    let nodes = id_order c.self.inside.nodes.entries in
     let is : node_at nodes c.args.parent ≡ Some c.in-Some.node.now =
     order_finds c.self.inside.nodes.entries c.args.parent ∙ sym c.in-Some.ensures.value in
     let genome = c.genome.ensures ∙ sym (genome_there nodes c.args.parent c.in-Some.node.now is)

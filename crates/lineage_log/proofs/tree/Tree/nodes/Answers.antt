@@ -2,7 +2,7 @@ use Rattle.std.proofs.Common.{◌∙◌, ap, sym, length, ℕ, subst}
 use Rattle.std.specs.Prelude.{Contains, IsSome}
 use Rattle.lineage_log.specs.Ancestry.{link_of}
 use Rattle.lineage_log.specs.Trees.{TreeValue, IsPruned}
-use Rattle.lineage_log.specs.Nodes.{NodeValue, in_order, node_at, node_link}
+use Rattle.lineage_log.specs.Nodes.{NodeValue, id_order, node_at, node_link}
 use Rattle.std.proofs.lemmas.List.{length-map}
 use Rattle.lineage_log.proofs.OrderLemmas.{order_length}
 use Rattle.lineage_log.proofs.NodeLemmas.{is_some_link}
@@ -15,17 +15,17 @@ pub returns-clause-count : goal.returns-clause-count
 returns-clause-count c =
     let nodes = c.self.inside.nodes.entries in
     c.len.ensures.len ∙ sym (order_length nodes c.len.ensures.unique)
-    ∙ sym (length-map (in_order nodes) (λ (e : ℕ × NodeValue). node_link e.0 e.1))
+    ∙ sym (length-map (id_order nodes) (λ (e : ℕ × NodeValue). node_link e.0 e.1))
     ∙ ap (λ (t : TreeValue). length t.links) c.self.view_is
 
 pub returns-clause-kept : goal.returns-clause-kept
 returns-clause-kept c =
     subst IsPruned c.self.view_is
-    (nodes_kept (in_order c.self.inside.nodes.entries) c.self.invariant)
+    (nodes_kept (id_order c.self.inside.nodes.entries) c.self.invariant)
 
 pub returns-clause-living : goal.returns-clause-living
 returns-clause-living c =
-    let nodes = in_order c.self.inside.nodes.entries in
+    let nodes = id_order c.self.inside.nodes.entries in
     subst (λ (t : TreeValue). (id : ℕ) → Contains t.living id → IsSome (link_of t.links id))
     c.self.view_is (λ id lives.
     let found = lives_there nodes id c.self.invariant.families.rising lives in

@@ -4,7 +4,7 @@ use Rattle.std.specs.Option.{option_map_or}
 use Rattle.lineage_log.specs.Links.{Link}
 use Rattle.lineage_log.specs.Ancestry.{line_of_descent, link_of}
 use Rattle.lineage_log.specs.Trees.{TreeValue}
-use Rattle.lineage_log.specs.Nodes.{in_order, node_at}
+use Rattle.lineage_log.specs.Nodes.{id_order, node_at}
 use Rattle.lineage_log.proofs.OrderLemmas.{order_finds}
 use Rattle.lineage_log.proofs.NodeLemmas.{is_some_link}
 use Rattle.lineage_log.proofs.KeptLemmas.{back_once, links_back, parent_lower, parent_stands}
@@ -12,7 +12,7 @@ use Rattle.lineage_log.proofs.tree.Tree.path.Goals as goal
 
 pub loop-next-init : goal.loop-next-init
 loop-next-init c =
-    let nodes = in_order c.self.inside.nodes.entries in
+    let nodes = id_order c.self.inside.nodes.entries in
     record {
       all = ap (λ (links : List Link). links ++ links_back nodes (Some c.args.id))
           c.new-links.ensures.items;
@@ -23,9 +23,9 @@ loop-next-init c =
 pub unreachable-requires : goal.unreachable-requires
 unreachable-requires c =
     let nodes = c.self.inside.nodes.entries in
-    let there = subst (λ next. IfSome next (λ id. IsSome (node_at (in_order nodes) id)))
+    let there = subst (λ next. IfSome next (λ id. IsSome (node_at (id_order nodes) id)))
     c.in-Some.is c.loop-next.invariant.there in
-    let none : node_at (in_order nodes) c.in-Some.id ≡ None =
+    let none : node_at (id_order nodes) c.in-Some.id ≡ None =
     order_finds nodes c.in-Some.id ∙ sym c.in_default-get.ensures.value in
     true≢false (sym there ∙ ap is_some none)
 
@@ -35,14 +35,14 @@ loop-next-smaller c =
     let is = order_finds nodes c.in-Some.id ∙ sym c.in-Some-get.ensures.value in
     omega (
       arith,
-      parent_lower (in_order nodes) c.in-Some.id c.in-Some-get.node.now c.parent-next.result
+      parent_lower (id_order nodes) c.in-Some.id c.in-Some-get.node.now c.parent-next.result
           c.self.invariant.families is c.parent-next.ensures,
       ap (λ (o : Option ℕ). option_map_or suc o 0) c.in-Some.is,
     )
 
 pub loop-next-preserved : goal.loop-next-preserved
 loop-next-preserved c =
-    let nodes = in_order c.self.inside.nodes.entries in
+    let nodes = id_order c.self.inside.nodes.entries in
     let node = c.in-Some-get.node.now in
     let is : node_at nodes c.in-Some.id ≡ Some node =
     order_finds c.self.inside.nodes.entries c.in-Some.id ∙ sym c.in-Some-get.ensures.value in
@@ -61,7 +61,7 @@ loop-next-preserved c =
 pub returns : goal.returns
 unfolding line_of_descent
 returns c =
-    let nodes = in_order c.self.inside.nodes.entries in
+    let nodes = id_order c.self.inside.nodes.entries in
     let all = sym (append-nil c.loop-next.links.items)
     ∙ ap (λ next. c.loop-next.links.items ++ links_back nodes next) (sym c.in_default.is)
     ∙ c.loop-next.invariant.all in

@@ -1,16 +1,16 @@
 use Rattle.std.proofs.Common.{◌≡◌, ◌++◌, suc, Some}
 use Rattle.std.specs.Prelude.{IfSome, IsSome}
 use Rattle.std.specs.Option.{option_map_or}
-use Rattle.lineage_log.specs.Nodes.{in_order, node_at}
+use Rattle.lineage_log.specs.Nodes.{id_order, node_at}
 use Rattle.lineage_log.proofs.KeptLemmas.{links_back}
 use Rattle.lineage_log.proofs.tree.Tree.path.Given as goal
 
 -- the links so far and those that are left are all, the founder last
 abbrev pub invariant-loop-next : goal.invariant-loop-next
 invariant-loop-next l = record {
-  all : l.links.items ++ links_back (in_order l.self-inside.nodes.entries) l.next
-      ≡ links_back (in_order l.self-inside.nodes.entries) (Some l.fn.id);
-  there : IfSome l.next (λ id. IsSome (node_at (in_order l.self-inside.nodes.entries) id));
+  all : l.links.items ++ links_back (id_order l.self-inside.nodes.entries) l.next
+      ≡ links_back (id_order l.self-inside.nodes.entries) (Some l.fn.id);
+  there : IfSome l.next (λ id. IsSome (node_at (id_order l.self-inside.nodes.entries) id));
 }
 
 abbrev pub decreases-loop-next : goal.decreases-loop-next
