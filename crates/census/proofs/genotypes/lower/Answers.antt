@@ -13,7 +13,7 @@ returns-then-count-gt1-clause-value c =
     let put : _ ≡ insert_entry nat_cmp genotypes c.args.key (lowered genotypes c.args.key) =
     search rules in
     put ∙ lowered_without genotypes c.args.key c.requires.genotypes.keys_rise
-        c.requires.counted more
+    c.requires.counted more
 
 pub returns-then-count-gt1-clause-living : goal.returns-then-count-gt1-clause-living
 returns-then-count-gt1-clause-living c =
