@@ -1,10 +1,11 @@
-// How the cells of a world are cut into shards.
-ghost use Rattle.std.specs.Prelude.{◌≡◌, ◌<◌, ◌≤◌};
+// How a row of cells, or of steps, is cut into shards.
+ghost use Rattle.std.specs.Prelude.{◌≡◌, ◌<◌, ◌≤◌, ◌^◌};
 ghost use Rattle.cell_shards.specs.Shards.{bounds_of, first_cell};
 
-/// The cells of a shard, from the first number up to, and without, the second.
+/// Of so many cells those of a shard, from the first number up to, and without, the second. Steps
+/// are cut in the same way.
 pub fn bounds(cells: u32, workers: u32, shard: u32) -> (u32, u32)
-    requires cells { (1 ≤ cells) × (cells ≤ 65536) }
+    requires cells { (1 ≤ cells) × (cells < 2 ^ 26) }
     requires workers { (1 ≤ workers) × (workers ≤ 64) }
     requires shard { shard < workers }
     ensures { result ≡ bounds_of cells workers shard }
@@ -17,7 +18,7 @@ pub fn bounds(cells: u32, workers: u32, shard: u32) -> (u32, u32)
 
 /// The first cell of a shard; behind the last shard, the number of cells.
 fn first_cell(cells: u32, workers: u32, shard: u32) -> u32
-    requires cells { cells ≤ 65536 }
+    requires cells { cells < 2 ^ 26 }
     requires workers { (1 ≤ workers) × (workers ≤ 64) }
     requires shard { shard ≤ 64 }
     ensures { result ≡ first_cell cells workers shard }

@@ -1,14 +1,13 @@
-use Rattle.std.proofs.Common.{◌≡◌, ◌+◌, length}
-use Rattle.cell_shards.specs.Shards.{first_cell}
+use Rattle.std.proofs.Common.{◌≡◌, ◌+◌, ◌<◌, length, sum}
 use Rattle.world_core.proofs.CutLemmas.{HaveCut}
 use Rattle.world_core.proofs.sharding.jobs_of.Given as goal
 
--- the last cells were cut off, up to the first of the shard before
+-- the last cells were cut off, and the steps of those that are left are known
 abbrev pub invariant-loop-shard : goal.invariant-loop-shard
 invariant-loop-shard l = record {
   cut : HaveCut l.fn.seat l.fn.cells.items l.fn.slices.items l.jobs.items l.cells.items
       l.slices.items l.seat;
-  front : length l.cells.items ≡ first_cell l.count l.workers (l.shard + 1);
+  left : l.before ≡ sum l.slices.items;
   some : length l.jobs.items + l.shard + 1 ≡ l.workers;
 }
 

@@ -293,7 +293,8 @@ returns-clause-bounds g c =
     let config = values_of c.args.config.now in
     let cells = c.args.self.cells in
     let total : sum (slices_at config cells) < 2 ^ 27 =
-    subst (λ (steps : List ℕ). sum steps < 2 ^ 27) live.bought c.in_ok-slices.ensures.total in
+    subst (λ (steps : List ℕ). sum steps < 2 ^ 27) live.bought
+    (omega (arith, c.in_ok-slices.ensures.total)) in
     let many : length (slices_at config cells) ≡ length cells =
     omega (
       arith,
