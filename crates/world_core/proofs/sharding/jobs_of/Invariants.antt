@@ -1,4 +1,4 @@
-use Rattle.std.proofs.Common.{◌≡◌, ◌+◌, ◌<◌, length, sum}
+use Rattle.std.proofs.Common.{◌≡◌, ◌+◌, ◌≤◌, length, sum}
 use Rattle.world_core.proofs.CutLemmas.{HaveCut}
 use Rattle.world_core.proofs.sharding.jobs_of.Given as goal
 
@@ -8,6 +8,7 @@ invariant-loop-shard l = record {
   cut : HaveCut l.fn.seat l.fn.cells.items l.fn.slices.items l.jobs.items l.cells.items
       l.slices.items l.seat;
   left : l.before ≡ sum l.slices.items;
+  few : length l.cells.items ≤ 65536;
   some : length l.jobs.items + l.shard + 1 ≡ l.workers;
 }
 
