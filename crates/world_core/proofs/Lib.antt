@@ -14,6 +14,7 @@ mod BirthLemmas
 mod GrowLemmas
 mod LivedLemmas
 mod LivesLemmas
+mod LoadLemmas
 mod SettingsLemmas
 mod UpdateLemmas
 mod WorldLemmas

@@ -1,5 +1,5 @@
 -- How the jobs of an update part the cells and share a seat (docs/ARCHITECTURE.md, "Shards").
-use Rattle.std.specs.Prelude.{◌≡◌, ℕ, ◌+◌, ◌-◌, ◌++◌, All, List, [], ◌∷◌, length, Option}
+use Rattle.std.specs.Prelude.{◌≡◌, ℕ, zero, suc, ◌+◌, ◌-◌, ◌++◌, All, List, [], ◌∷◌, length, Option}
 use Rattle.std.specs.List.{flat_map, sum_by}
 use Rattle.std.specs.List.Sorted.{IsPermutation}
 use mathlib.Core.List.{IsPrefix}
@@ -8,6 +8,12 @@ use Rattle.cell_shards.specs.declared.finished.Finished.{Finished}
 use Rattle.cell_shards.specs.declared.job.Job.{Job}
 use Rattle.genotype_bank.specs.Seats.{SeatValue, own_calls_of}
 use Rattle.organism.specs.OrganismState.{OrganismState}
+
+-- how much work the life in a cell is, in steps: it begins with a random stream, which takes as long
+-- as some 16 steps
+abbrev pub load_of : ℕ → ℕ
+load_of zero = 0
+load_of (suc steps) = suc steps + 16
 
 -- the cells of these jobs lie side by side from the first one on, each with its steps
 abbrev pub LieSideBySide : ℕ → List Job → Type 0

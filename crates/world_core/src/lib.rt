@@ -10,6 +10,7 @@ mod founding;
 mod genotypes;
 mod lived;
 mod lives;
+mod loads;
 mod picture;
 mod population;
 mod residents;

@@ -45,7 +45,7 @@ pub(crate) fn slices_by(
         ≡ slices_of (map merit_or_zero standings.now) config.now.average_slices) }
     ensures few { IfOk result
         (λ slices. (cell : ℕ) → slice_index_or slices.items cell 0 < 2 ^ 27) }
-    ensures total { IfOk result (λ slices. sum slices.items < 2 ^ 26) }
+    ensures total { IfOk result (λ slices. sum slices.items ≤ 65536000) }
     ensures length { IfOk result (λ slices. length slices.items ≡ length standings.now) }
 {
     let merits = merits_of(alloc, standings)?;

@@ -1,5 +1,5 @@
 // The cells of a world in shards, and what their lives leave as one again.
-ghost use Rattle.std.specs.Prelude.{◌≡◌, ◌+◌, ◌<◌, ◌≤◌, ◌^◌, ◌++◌, ◌∷◌, List, All, IfOk, length, map, sum, take};
+ghost use Rattle.std.specs.Prelude.{◌≡◌, ◌+◌, ◌<◌, ◌≤◌, ◌^◌, ◌++◌, ◌∷◌, List, All, IfOk, length, map, sum};
 ghost use Rattle.std.specs.List.Sorted.{IsPermutation};
 ghost use mathlib.Core.List.{IsPrefix};
 ghost use Rattle.cell_shards.specs.CellLives.{IsYoung, births_from, deaths_from, left_in, part_from, round_numbers, shard_lives_of, standing_in};
@@ -10,6 +10,7 @@ ghost use Rattle.world_core.specs.Population.{AreDifferent};
 ghost use Rattle.world_core.specs.Sharding.{IsJoined, PartCells, ShareSeat};
 
 use crate::genotypes::{Genotypes, len_after};
+use crate::loads::{loads_of, start_of};
 use avida_port::{Gate, Memory};
 use cell_shards::laws::parts_live_as_one;
 use cell_shards::{
@@ -48,7 +49,7 @@ pub(crate) fn live_in_shards<R: Threads + Wait + Sync, G: Gate + Sync>(
     requires cells { (1 ≤ length cells.items) × (length cells.items ≤ CELLS) }
     requires slices { length slices.items ≡ length cells.items }
     requires few { All (λ steps. steps < 2 ^ 27) slices.items }
-    requires steps { sum slices.items < 2 ^ 26 }
+    requires total { sum slices.items ≤ 65536000 }
     requires young { All IsYoung cells.items }
     requires workers { (1 ≤ workers) × (workers ≤ 64) }
     ensures cells { IfOk result (λ next. next.1.organisms.items ≡ map left_in
@@ -90,8 +91,8 @@ pub(crate) fn live_in_shards<R: Threads + Wait + Sync, G: Gate + Sync>(
     Ok((genotypes, ended))
 }
 
-/// The cells cut into a job for each worker, cut off from the last to the first, so that each job has
-/// about as many steps. The first job keeps the seat; each other has one that was split from it.
+/// The cells cut into a job for each worker, cut off from the last to the first, so that each job is
+/// about as much work. The first job keeps the seat; each other has one that was split from it.
 fn jobs_of(
     alloc: Global,
     bank: &Bank,
@@ -102,14 +103,16 @@ fn jobs_of(
 ) -> Result<Vec<Job>, Memory>
     requires cells { (1 ≤ length cells.items) × (length cells.items ≤ CELLS) }
     requires slices { length slices.items ≡ length cells.items }
-    requires steps { sum slices.items < 2 ^ 26 }
+    requires few { All (λ steps. steps < 2 ^ 27) slices.items }
+    requires total { sum slices.items ≤ 65536000 }
     requires workers { (1 ≤ workers) × (workers ≤ 64) }
     requires seat { (seat.bank ≡ bank.now) × (seat.share ≡ all_shares) }
     ensures cells { IfOk result (λ jobs. PartCells jobs.items cells.items slices.items) }
     ensures seats { IfOk result (λ jobs. ShareSeat seat jobs.items) }
     ensures few { IfOk result (λ jobs. length jobs.items ≤ 64) }
 {
-    let all: u64 = slices.iter().sum();
+    let mut loads = loads_of(alloc, &slices)?;
+    let all: u64 = loads.iter().sum();
     let mut before = all;
     let mut seat = seat;
     let mut cells = cells;
@@ -117,9 +120,10 @@ fn jobs_of(
     let mut jobs = Vec::with_capacity(alloc, workers as usize)?;
     let mut shard = workers - 1;
     while shard > 0 {
-        let (step, _) = bounds(all.max(1) as u32, workers, shard);
-        let start = cell_of_step(&slices, before, u64::from(step));
+        let (share, _) = bounds(all.max(1) as u32, workers, shard);
+        let start = start_of(&loads, before, u64::from(share));
         before = start.before;
+        loads.truncate(start.cell);
         let part = cells.split_off(start.cell)?;
         let steps = slices.split_off(start.cell)?;
         jobs.push(Job {
@@ -138,32 +142,6 @@ fn jobs_of(
     })?;
     jobs.reverse();
     Ok(jobs)
-}
-
-/// A cell, and how many steps the cells before it have.
-#[derive(Clone, Copy, Debug)]
-struct Start {
-    cell: usize,
-    before: u64,
-}
-
-/// The cell that has the step of this number, from 0 over all cells; behind the last step, the
-/// number of cells.
-fn cell_of_step(slices: &[u64], all: u64, step: u64) -> Start
-    requires all { all ≡ sum slices.now }
-    ensures within { result.cell ≤ length slices.now }
-    ensures before { result.before ≡ sum (take result.cell slices.now) }
-    ensures from { result.before ≤ step }
-    ensures to { result.cell < length slices.now
-        → step < sum (take (result.cell + 1) slices.now) }
-{
-    let mut cell = slices.len();
-    let mut before = all;
-    while before > step {
-        cell -= 1;
-        before -= slices[cell];
-    }
-    Start { cell, before }
 }
 
 /// All shards as one, joined in their order.

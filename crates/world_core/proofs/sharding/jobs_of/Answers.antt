@@ -7,17 +7,14 @@ use Rattle.world_core.proofs.sharding.jobs_of.Goals as goal
 pub loop-shard-preserved : goal.loop-shard-preserved
 loop-shard-preserved c =
     let left = c.loop-shard.cells.items in
+    let loads = c.loop-shard.loads.items in
     let slices = c.loop-shard.slices.items in
-    let start = c.cell_of_step-start.result.cell in
-    let same : c.deref-in-loop-shard.result.now ≡ slices =
-    c.deref-in-loop-shard.ensures.value in
-    let within : start ≤ length left =
-    omega (
-      arith,
-      c.cell_of_step-start.ensures.within,
-      ap length same,
-      c.loop-shard.invariant.cut.long,
-    ) in
+    let start = c.start_of-start.result.cell in
+    let same : c.deref-in-loop-shard.result.now ≡ loads = c.deref-in-loop-shard.ensures.value in
+    let long : length slices ≡ length left = c.loop-shard.invariant.cut.long in
+    let below : start ≤ length loads =
+    omega (arith, c.start_of-start.ensures.within, ap length same) in
+    let within : start ≤ length left = omega (arith, below, c.loop-shard.invariant.loads, long) in
     let job : Job = record {
       first = start;
       cells = c.from_vec.result;
@@ -33,9 +30,16 @@ loop-shard-preserved c =
           (c.from_vec.ensures ∙ c.in_ok-part.ensures.tail)
           (c.from_vec-in-loop-shard.ensures ∙ c.in_ok-steps.ensures.tail) c.split.ensures.new
           c.split.ensures.kept c.in_ok-push.ensures.items;
-      left = c.cell_of_step-start.ensures.before
-          ∙ ap (λ (steps : List ℕ). sum (take start steps)) same
-          ∙ ap sum (sym c.in_ok-steps.ensures.items);
+      loads = omega (
+        arith,
+        ap length c.truncate.ensures.items,
+        length-take-le start loads below,
+        ap length c.in_ok-steps.ensures.items,
+        length-take-le start slices (omega (arith, within, long)),
+      );
+      left = c.start_of-start.ensures.before
+          ∙ ap (λ (all : List ℕ). sum (take start all)) same
+          ∙ ap sum (sym c.truncate.ensures.items);
       few = omega (
         arith,
         ap length c.in_ok-part.ensures.items,
