@@ -1,4 +1,4 @@
-use Rattle.std.proofs.Common.{◌≡◌, ◌∙◌, ℕ, ◌+◌, ◌≤◌, List, ap, arith, length, sum, sym, take}
+use Rattle.std.proofs.Common.{◌≡◌, ◌∙◌, ℕ, ◌≤◌, List, ap, arith, length, sum, sym, take}
 use Rattle.std.proofs.lemmas.List.{length-take-le, length_push}
 use Rattle.cell_shards.specs.declared.job.Job.{Job}
 use Rattle.world_core.proofs.CutLemmas.{cut-more}
