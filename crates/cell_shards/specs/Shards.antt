@@ -1,6 +1,6 @@
 -- How a row of cells is cut into shards, one for each worker (docs/ARCHITECTURE.md, "Shards"). For
--- example, with 10 cells and 3 workers the shards have the cells 0 to 2, 3 to 5 and 6 to 9. The steps
--- of an update, which also stand in a row, are cut in the same way.
+-- example, with 10 cells and 3 workers the shards have the cells 0 to 2, 3 to 5 and 6 to 9. A world
+-- cuts the load of its cells in the same way.
 use Rattle.std.specs.Prelude.{ℕ, ◌+◌, ◌*◌, ◌/◌, ◌<◌, ◌≤◌}
 
 -- the first cell of a shard; behind the last shard, the number of cells
