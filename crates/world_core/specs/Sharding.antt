@@ -9,8 +9,8 @@ use Rattle.cell_shards.specs.declared.job.Job.{Job}
 use Rattle.genotype_bank.specs.Seats.{SeatValue, own_calls_of}
 use Rattle.organism.specs.OrganismState.{OrganismState}
 
--- how much work the life in a cell is, in steps: it begins with a random stream, which takes as long
--- as some 16 steps
+-- how much work the life in a cell is, in steps: it begins with a random stream, which takes as
+-- long as some 16 steps
 abbrev pub load_of : ℕ → ℕ
 load_of zero = 0
 load_of (suc steps) = suc steps + 16

@@ -34,7 +34,7 @@ fn load(steps: u64) -> u64
     if steps > 0 { steps + 16 } else { 0 }
 }
 
-/// Where a shard begins whose share of the load begins there: the last cell before which there is
+/// Where the shard begins that has the load from `share` on: at the last cell before which there is
 /// no more than that.
 pub(crate) fn start_of(loads: &[u64], all: u64, share: u64) -> Start
     requires all { all ≡ sum loads.now }

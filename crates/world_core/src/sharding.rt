@@ -91,8 +91,8 @@ pub(crate) fn live_in_shards<R: Threads + Wait + Sync, G: Gate + Sync>(
     Ok((genotypes, ended))
 }
 
-/// The cells cut into a job for each worker, cut off from the last to the first, so that each job is
-/// about as much work. The first job keeps the seat; each other has one that was split from it.
+/// The cells cut into a job for each worker, cut off from the last to the first, so that each job
+/// is about as much work. The first job keeps the seat; each other has one that was split from it.
 fn jobs_of(
     alloc: Global,
     bank: &Bank,
