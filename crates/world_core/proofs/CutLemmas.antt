@@ -51,7 +51,7 @@ pub record HaveCut (seat : SeatValue) (cells : List (Option OrganismState)) (sli
   pub seats : All (λ job. job.seat ≡ seat_from seat) (reverse jobs)
 
 -- the jobs in order, with one more in front
-jobs-push : (jobs : List Job) (job : Job) → reverse (jobs ++ job ∷ []) ≡ job ∷ reverse jobs
+pub jobs-push : (jobs : List Job) (job : Job) → reverse (jobs ++ job ∷ []) ≡ job ∷ reverse jobs
 jobs-push jobs job = reverse-append jobs (job ∷ [])
 
 module _ (seat : SeatValue) (cells : List (Option OrganismState)) (slices : List ℕ)

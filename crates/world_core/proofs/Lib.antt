@@ -15,6 +15,7 @@ mod GrowLemmas
 mod LivedLemmas
 mod LivesLemmas
 mod LoadLemmas
+mod ShareLemmas
 mod SettingsLemmas
 mod UpdateLemmas
 mod WorldLemmas

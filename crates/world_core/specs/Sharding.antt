@@ -1,11 +1,12 @@
 -- How the jobs of an update part the cells and share a seat (docs/ARCHITECTURE.md, "Shards").
-use Rattle.std.specs.Prelude.{◌≡◌, ℕ, zero, suc, ◌+◌, ◌-◌, ◌++◌, All, List, [], ◌∷◌, length, Option}
+use Rattle.std.specs.Prelude.{◌≡◌, ℕ, zero, suc, ◌+◌, ◌-◌, ◌<◌, ◌≤◌, ◌++◌, All, List, [], ◌∷◌, length, map, sum, take, Option}
 use Rattle.std.specs.List.{flat_map, sum_by}
 use Rattle.std.specs.List.Sorted.{IsPermutation}
 use mathlib.Core.List.{IsPrefix}
 use Rattle.cell_shards.specs.Finishing.{IsNumbered}
 use Rattle.cell_shards.specs.declared.finished.Finished.{Finished}
 use Rattle.cell_shards.specs.declared.job.Job.{Job}
+use Rattle.cell_shards.specs.Shards.{first_cell}
 use Rattle.genotype_bank.specs.Seats.{SeatValue, own_calls_of}
 use Rattle.organism.specs.OrganismState.{OrganismState}
 
@@ -28,6 +29,31 @@ pub record PartCells (jobs : List Job) (cells : List (Option OrganismState))
   pub beside : LieSideBySide 0 jobs
   pub cells_are : flat_map (λ job. job.cells) jobs ≡ cells
   pub slices_are : flat_map (λ job. job.slices) jobs ≡ slices
+
+-- the load of the cells before this one
+abbrev pub load_before : List ℕ → ℕ → ℕ
+load_before slices cell = sum (take cell (map load_of slices))
+
+-- the load before a shard, were each to have as much
+abbrev pub share_before : ℕ → List ℕ → ℕ → ℕ
+share_before workers slices shard = first_cell (sum (map load_of slices)) workers shard
+
+-- a shard begins at the last cell before which there is no more load than that
+pub record StartsAtShare (workers : ℕ) (slices : List ℕ) (shard cell : ℕ) : Type 0 where
+  pub from : load_before slices cell ≤ share_before workers slices shard
+  pub to : cell < length slices
+      → share_before workers slices shard < load_before slices (cell + 1)
+
+-- these jobs are the shards from this one to the last, and start at their shares
+abbrev pub StartAtShares : ℕ → List ℕ → ℕ → List Job → Type 0
+StartAtShares workers slices shard [] = shard ≡ workers
+StartAtShares workers slices shard (job ∷ jobs) =
+    StartsAtShare workers slices shard job.first × StartAtShares workers slices (shard + 1) jobs
+
+-- as many jobs as workers, each but the first of which starts at its share
+abbrev pub ShareLoad : ℕ → List ℕ → List Job → Type 0
+ShareLoad workers slices [] = ⊥
+ShareLoad workers slices (job ∷ jobs) = StartAtShares workers slices 1 jobs
 
 -- a seat that another gave a share of 1
 abbrev pub seat_from : SeatValue → SeatValue

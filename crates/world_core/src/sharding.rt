@@ -7,12 +7,12 @@ ghost use Rattle.cell_shards.specs.Finishing.{IsNumbered, birth_of};
 ghost use Rattle.genotype_bank.specs.Seats.{all_shares, own_calls_of};
 ghost use Rattle.world_core.specs.Genotypes.{TakesIn};
 ghost use Rattle.world_core.specs.Population.{AreDifferent};
-ghost use Rattle.world_core.specs.Sharding.{IsJoined, PartCells, ShareSeat};
+ghost use Rattle.world_core.specs.Sharding.{IsJoined, PartCells, ShareLoad, ShareSeat};
 
 use crate::genotypes::{Genotypes, len_after};
 use crate::loads::{loads_of, start_of};
 use avida_port::{Gate, Memory};
-use cell_shards::laws::parts_live_as_one;
+use cell_shards::laws::{parts_live_as_one, shards_part_the_cells};
 use cell_shards::{
     BoxedOrganism, Cells, Dead, Delivered, Deliveries, Finished, Job, Round, Slices, Standing,
     Standings, bounds, run_all,
@@ -108,9 +108,11 @@ fn jobs_of(
     requires workers { (1 ≤ workers) × (workers ≤ 64) }
     requires seat { (seat.bank ≡ bank.now) × (seat.share ≡ all_shares) }
     ensures cells { IfOk result (λ jobs. PartCells jobs.items cells.items slices.items) }
+    ensures load { IfOk result (λ jobs. ShareLoad workers slices.items jobs.items) }
     ensures seats { IfOk result (λ jobs. ShareSeat seat jobs.items) }
     ensures few { IfOk result (λ jobs. length jobs.items ≤ 64) }
 {
+    shards_part_the_cells();
     let mut loads = loads_of(alloc, &slices)?;
     let all: u64 = loads.iter().sum();
     let mut before = all;

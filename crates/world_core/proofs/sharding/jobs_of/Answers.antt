@@ -1,7 +1,10 @@
-use Rattle.std.proofs.Common.{◌≡◌, ◌∙◌, ℕ, ◌≤◌, List, ap, arith, length, sum, sym, take}
+use Rattle.std.proofs.Common.{◌≡◌, ◌∙◌, ℕ, ◌+◌, ◌-◌, ◌≤◌, List, ap, arith, length, map, sum, sym, take}
 use Rattle.std.proofs.lemmas.List.{length-take-le, length_push}
+use Rattle.cell_shards.specs.Shards.{first_cell}
 use Rattle.cell_shards.specs.declared.job.Job.{Job}
+use Rattle.world_core.specs.Sharding.{load_of, share_before}
 use Rattle.world_core.proofs.CutLemmas.{cut-more}
+use Rattle.world_core.proofs.ShareLemmas.{shares-of_none, started-more}
 use Rattle.world_core.proofs.sharding.jobs_of.Goals as goal
 
 pub loop-shard-preserved : goal.loop-shard-preserved
@@ -15,6 +18,13 @@ loop-shard-preserved c =
     let below : start ≤ length loads =
     omega (arith, c.start_of-start.ensures.within, ap length same) in
     let within : start ≤ length left = omega (arith, below, c.loop-shard.invariant.loads, long) in
+    let share : c.from.result
+    ≡ share_before c.args.workers c.args.slices.items c.loop-shard.shard =
+    c.from.ensures ∙ ap (λ (both : ℕ × ℕ). both.0) c.bounds-share.ensures
+    ∙ ap (λ n. first_cell n c.args.workers c.loop-shard.shard) c.max.ensures
+    ∙ shares-of_none _ c.args.workers c.loop-shard.shard
+    (omega (arith, c.loop-shard.invariant.some))
+    ∙ ap (λ n. first_cell n c.args.workers c.loop-shard.shard) c.loop-shard.invariant.all in
     let job : Job = record {
       first = start;
       cells = c.from_vec.result;
@@ -40,6 +50,26 @@ loop-shard-preserved c =
       left = c.start_of-start.ensures.before
           ∙ ap (λ (all : List ℕ). sum (take start all)) same
           ∙ ap sum (sym c.truncate.ensures.items);
+      all = c.loop-shard.invariant.all;
+      started = started-more c.args.workers c.args.slices.items c.loop-shard.jobs.items
+          c.loop-shard.shard loads c.loop-shard.invariant.started job
+          c.push.new.self.items (c.loop-shard.shard - 1) c.truncate.new.self.items
+          (omega (arith, c.loop-shard-test.true)) below
+          (omega (
+            arith,
+            c.start_of-start.ensures.before,
+            ap (λ (all : List ℕ). sum (take start all)) same,
+            c.start_of-start.ensures.from,
+            share,
+          ))
+          (λ more. omega (
+            arith,
+            c.start_of-start.ensures.to (omega (arith, more, ap length same)),
+            ap (λ (all : List ℕ). sum (take (start + 1) all)) same,
+            share,
+          ))
+          (c.shards_part_the_cells.ensures.rising (sum (map load_of c.args.slices.items))
+          c.args.workers c.loop-shard.shard c.requires.workers.0) c.truncate.ensures.items c.in_ok-push.ensures.items;
       few = omega (
         arith,
         ap length c.in_ok-part.ensures.items,

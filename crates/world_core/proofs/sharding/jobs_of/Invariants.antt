@@ -1,5 +1,7 @@
-use Rattle.std.proofs.Common.{◌≡◌, ◌+◌, ◌≤◌, length, sum}
+use Rattle.std.proofs.Common.{◌≡◌, ◌+◌, ◌≤◌, length, map, sum}
+use Rattle.world_core.specs.Sharding.{load_of}
 use Rattle.world_core.proofs.CutLemmas.{HaveCut}
+use Rattle.world_core.proofs.ShareLemmas.{HaveStarted}
 use Rattle.world_core.proofs.sharding.jobs_of.Given as goal
 
 -- the last cells were cut off, and the load of those that are left is known
@@ -9,6 +11,8 @@ invariant-loop-shard l = record {
       l.slices.items l.seat;
   loads : length l.loads.items ≡ length l.slices.items;
   left : l.before ≡ sum l.loads.items;
+  all : l.all ≡ sum (map load_of l.fn.slices.items);
+  started : HaveStarted l.workers l.fn.slices.items l.jobs.items l.shard l.loads.items;
   few : length l.cells.items ≤ 65536;
   some : length l.jobs.items + l.shard + 1 ≡ l.workers;
 }
