@@ -1,12 +1,13 @@
 // The world that a command leaves.
+use crate::one_cell::CONFIG;
 use crate::served::serve_on;
 use genome::letters_text;
 use std::alloc::Global;
 use std::test::Fail;
 use world_core::World;
 
-/// Words and an input, with the world that is left: its cells, its counts, the length of its bank,
-/// and who lives where, with the genome's number.
+/// Words and an input, which may be the name of one, with the world that is left: its cells, its
+/// counts, the length of its bank, and who lives where, with the genome's number.
 const WORLDS: &str = "run
 =>
 updates = 0
@@ -18,12 +19,7 @@ bank of 1
 ---
 run --watch 0 --workers 64
 =>
-width = 1
-height = 1
-updates = 13
-copy_error = 0
-divide_insert = 0
-divide_delete = 0
+one cell
 =>
 1 cells
 U 13 1 1 1 1 97 0 0 0 0 0 0 0 0 0
@@ -32,12 +28,7 @@ bank of 1
 ---
 lineage 0
 =>
-width = 1
-height = 1
-updates = 13
-copy_error = 0
-divide_insert = 0
-divide_delete = 0
+one cell
 =>
 1 cells
 U 13 1 1 1 1 97 0 0 0 0 0 0 0 0 0
@@ -91,23 +82,13 @@ no world
 ---
 run --workers 65
 =>
-width = 1
-height = 1
-updates = 13
-copy_error = 0
-divide_insert = 0
-divide_delete = 0
+one cell
 =>
 no world
 ---
 lineage 1
 =>
-width = 1
-height = 1
-updates = 13
-copy_error = 0
-divide_insert = 0
-divide_delete = 0
+one cell
 =>
 no world
 ---
@@ -162,6 +143,7 @@ fn the_world_after_the_last_update_is_left(rt: HostRuntime) -> Result<(), Fail> 
     for case in WORLDS.split("---\n") {
         let (words, rest) = case.split_once("\n=>\n").ok_or("no input")?;
         let (input, wanted) = rest.split_once("=>\n").ok_or("no world")?;
+        let input = if input == "one cell\n" { CONFIG } else { input };
         let served = serve_on(&rt, alloc, words, input.as_bytes())?;
         match &served.last {
             Some(world) => {

@@ -1,8 +1,7 @@
 // Reads and puts of `save` and `resume` that fail, one after another.
-use crate::served::{Faults, NO_FAULTS, front_of_puts, serve_with};
+use crate::served::{Faults, NO_FAULTS, READ_FAULT, done, front_of_puts, serve_as, write_fault};
 use avida_port::Failing;
-use avida_program::Status;
-use std::test::Fail;
+use std::alloc::AllocError;
 
 /// Two cells, of which one is empty after the first update.
 const CONFIG: &str = "width = 2
@@ -35,7 +34,7 @@ E 3
 ";
 
 #[test]
-fn each_put_of_a_saved_world_that_fails_leaves_a_front(rt: HostRuntime) -> Result<(), Fail> {
+fn each_put_of_a_saved_world_that_fails_leaves_a_front(rt: HostRuntime) -> Result<(), AllocError> {
     let alloc = rt.alloc();
     let saved = front_of_puts(alloc, SAVED, 4, 0)?;
     for (words, input, puts) in [
@@ -44,22 +43,12 @@ fn each_put_of_a_saved_world_that_fails_leaves_a_front(rt: HostRuntime) -> Resul
     ] {
         for call in 1..4u64 {
             for takes in [0usize, 5, 9000] {
-                let failing = [Failing { call, takes }];
                 let faults = Faults {
-                    puts: &failing,
+                    puts: &[Failing { call, takes }],
                     ..NO_FAULTS
                 };
-                let served = serve_with(&rt, alloc, words, input, faults)?;
                 let front = front_of_puts(alloc, puts, call, takes)?;
-                let at = (words, call, takes);
-                assert_eq!(rt; served.status, Status::WriteFault, "at {at:?}");
-                assert_eq!(rt;
-                    served.err.bytes(),
-                    b"avida: write fault\n".as_slice(),
-                    "at {at:?}"
-                );
-                assert_eq!(rt; served.out.bytes(), front.as_slice(), "at {at:?}");
-                assert!(rt; served.last.is_none(), "at {at:?}");
+                serve_as(&rt, alloc, words, input, faults, write_fault(&front))?;
             }
         }
     }
@@ -67,7 +56,7 @@ fn each_put_of_a_saved_world_that_fails_leaves_a_front(rt: HostRuntime) -> Resul
 }
 
 #[test]
-fn each_read_of_a_saved_world_that_fails_is_told(rt: HostRuntime) -> Result<(), Fail> {
+fn each_read_of_a_saved_world_that_fails_is_told(rt: HostRuntime) -> Result<(), AllocError> {
     let alloc = rt.alloc();
     let saved = front_of_puts(alloc, SAVED, 4, 0)?;
     // Pieces of 64 bytes, and the end, are three reads and seven.
@@ -75,25 +64,20 @@ fn each_read_of_a_saved_world_that_fails_is_told(rt: HostRuntime) -> Result<(), 
         ("save", CONFIG.as_bytes(), SAVED, 4u64),
         ("resume 2", saved.as_slice(), LATER, 8),
     ] {
-        for call in 1..past {
+        let whole = front_of_puts(alloc, puts, 4, 0)?;
+        for call in 1..past + 1 {
             let faults = Faults {
                 piece: 64,
                 reads: &[call],
                 ..NO_FAULTS
             };
-            let served = serve_with(&rt, alloc, words, input, faults)?;
-            assert_eq!(rt; served.status, Status::ReadFault, "{words} at {call}");
-            assert_eq!(rt; served.out.bytes(), b"".as_slice(), "{words} at {call}");
+            let wanted = if call < past {
+                READ_FAULT
+            } else {
+                done(&whole)
+            };
+            serve_as(&rt, alloc, words, input, faults, wanted)?;
         }
-        let faults = Faults {
-            piece: 64,
-            reads: &[past],
-            ..NO_FAULTS
-        };
-        let served = serve_with(&rt, alloc, words, input, faults)?;
-        let whole = front_of_puts(alloc, puts, 4, 0)?;
-        assert_eq!(rt; served.status, Status::Done, "{words}");
-        assert_eq!(rt; served.out.bytes(), whole.as_slice(), "{words}");
     }
     Ok(())
 }

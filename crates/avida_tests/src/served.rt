@@ -2,6 +2,7 @@
 use avida_port::{Failing, Gate, MemSink, MemSource, NoGate, Sink};
 use avida_program::{Status, serve};
 use std::alloc::{AllocError, Global};
+use std::process::Abort;
 use std::sync::Wait;
 use std::thread::Threads;
 use std::time::Clock;
@@ -26,8 +27,45 @@ pub struct Answered {
     pub last: Option<World>,
 }
 
-/// How many bytes a source gives a call, and the calls at which it and the sinks fail.
+/// What a call is to answer, and to leave on its output, its watch and standard error.
 #[derive(Clone, Copy)]
+pub struct Wanted<'a> {
+    pub status: Status,
+    pub out: &'a [u8],
+    pub watch: &'a [u8],
+    pub err: &'a [u8],
+}
+
+/// A read failed, and nothing was put.
+pub const READ_FAULT: Wanted<'static> = Wanted {
+    status: Status::ReadFault,
+    out: b"",
+    watch: b"",
+    err: b"avida: read fault\n",
+};
+
+/// A put failed, after this much of the output.
+pub fn write_fault(out: &[u8]) -> Wanted<'_> {
+    Wanted {
+        status: Status::WriteFault,
+        out,
+        watch: b"",
+        err: b"avida: write fault\n",
+    }
+}
+
+/// All went well, with this output.
+pub fn done(out: &[u8]) -> Wanted<'_> {
+    Wanted {
+        status: Status::Done,
+        out,
+        watch: b"",
+        err: b"",
+    }
+}
+
+/// How many bytes a source gives a call, and the calls at which it and the sinks fail.
+#[derive(Clone, Copy, Debug)]
 pub struct Faults<'a> {
     pub piece: usize,
     pub reads: &'a [u64],
@@ -120,6 +158,28 @@ pub fn serve_on<R: Threads + Wait + Clock + Sync>(
     bytes: &[u8],
 ) -> Result<Served, AllocError> {
     serve_with(rt, alloc, words, bytes, NO_FAULTS)
+}
+
+/// Compares what these words were answered, and what was left, where this failed.
+pub fn compare<R: Abort>(rt: &R, words: &str, served: &Served, wanted: Wanted, faults: Faults) {
+    assert_eq!(rt; served.status, wanted.status, "{words}, {faults:?}");
+    assert_eq!(rt; served.out.bytes(), wanted.out, "{words}, {faults:?}");
+    assert_eq!(rt; served.watch.bytes(), wanted.watch, "{words}, {faults:?}");
+    assert_eq!(rt; served.err.bytes(), wanted.err, "{words}, {faults:?}");
+}
+
+/// Serves the words on these bytes, and compares what is answered and left.
+pub fn serve_as<R: Threads + Wait + Clock + Sync + Abort>(
+    rt: &R,
+    alloc: Global,
+    words: &str,
+    bytes: &[u8],
+    faults: Faults,
+    wanted: Wanted,
+) -> Result<(), AllocError> {
+    let served = serve_with(rt, alloc, words, bytes, faults)?;
+    compare(rt, words, &served, wanted, faults);
+    Ok(())
 }
 
 /// What is held of these texts, put one after another, where the put of this number fails, taking
