@@ -69,7 +69,8 @@ loop-shard-preserved c =
             share,
           ))
           (c.shards_part_the_cells.ensures.rising (sum (map load_of c.args.slices.items))
-          c.args.workers c.loop-shard.shard c.requires.workers.0) c.truncate.ensures.items c.in_ok-push.ensures.items;
+          c.args.workers c.loop-shard.shard c.requires.workers.0)
+          c.truncate.ensures.items c.in_ok-push.ensures.items;
       few = omega (
         arith,
         ap length c.in_ok-part.ensures.items,
