@@ -2,4 +2,5 @@
 -- and what is left once all shards are done.
 pub mod Shards
 pub mod CellLives
+pub mod Bodies
 pub mod Finishing

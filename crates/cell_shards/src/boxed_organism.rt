@@ -1,13 +1,18 @@
+use crate::body::Body;
 use crate::standing::Standing;
+use crate::unmade::Unmade;
 use avida_port::Memory;
-use organism::Organism;
+use genome::Genome;
+use logic_tasks::{Inputs, Tasks};
+use organism::{Image, Organism};
 use std::alloc::Global;
 use std::marker::Model;
+use std::sync::Arc;
 
 /// An organism in memory of its own: a shard of cells moves by an address a cell.
 #[derive(Drop)]
 pub struct BoxedOrganism {
-    pub(crate) inner: Box<Organism>,
+    pub(crate) inner: Box<Body>,
 }
 
 impl Model for BoxedOrganism {
@@ -15,36 +20,90 @@ impl Model for BoxedOrganism {
 
     ghost Value = { OrganismState };
 
-    ghost view = { λ b. b.inner.value };
+    ghost use Rattle.cell_shards.specs.Bodies.{CanBeMade, who_is};
+
+    ghost view = { λ b. who_is b.inner.value.organism b.inner.value.unmade };
+
+    ghost invariant = { λ b. CanBeMade b.inner.value.unmade };
 }
 
 impl BoxedOrganism {
-    ghost use Rattle.std.specs.Prelude.{◌≡◌, IfOk};
+    ghost use Rattle.std.specs.Prelude.{◌≡◌, ◌≤◌, IfOk, length};
+    ghost use Rattle.genome.specs.Genome.{letters};
+    ghost use Rattle.organism.specs.Image.{organism_of_image};
+    ghost use Rattle.organism.specs.OrganismState.{new_organism};
+    ghost use Rattle.virtual_cpu.specs.Image.{image_of};
     ghost use Rattle.cell_shards.specs.CellLives.{standing_of};
 
     /// The organism moves there.
     pub fn new(alloc: Global, organism: Organism) -> Result<BoxedOrganism, Memory>
         ensures { IfOk result (λ boxed. boxed ≡ organism) }
     {
+        let unmade = None;
         Ok(BoxedOrganism {
-            inner: Box::new(alloc, organism)?,
+            inner: Box::new(alloc, Body { organism, unmade })?,
         })
     }
 
-    /// The organism.
-    pub fn get(&self) -> &Organism
-        ensures { result.now ≡ self.now }
+    /// A newborn takes over the memory of who is there. It takes no memory of its own before its
+    /// first update, in which the thread that runs it makes its machine.
+    pub fn replace(
+        &mut self,
+        genome: Arc<Genome, Global>,
+        inputs: Inputs,
+        merit: u64,
+        credited: Tasks,
+        memory_limit: u32,
+    )
+        requires genome_within { length (letters genome.value) ≤ memory_limit }
+        requires greatest { memory_limit ≤ 8192 }
+        ensures { self.new ≡ new_organism (letters genome.value) inputs merit credited memory_limit }
     {
-        &self.inner
+        self.inner.unmade = Some(Unmade {
+            genome,
+            inputs,
+            merit,
+            credited,
+            memory_limit,
+        });
+    }
+
+    #[tactic(auto, unfolding(organism::specs::OrganismState::new_organism))]
+    pub fn genome(&self) -> &Arc<Genome, Global>
+        ensures { letters result.now.value ≡ self.now.genome }
+    {
+        match &self.inner.unmade {
+            Some(unmade) => &unmade.genome,
+            None => self.inner.organism.genome(),
+        }
+    }
+
+    /// The organism's values.
+    pub fn image(&self, alloc: Global) -> Result<Image, Memory>
+        ensures organism { IfOk result (λ image.
+            organism_of_image image self.now.machine.limit ≡ self.now) }
+        ensures cpu { IfOk result (λ image. image.cpu ≡ image_of self.now.machine) }
+    {
+        match &self.inner.unmade {
+            Some(unmade) => unmade.organism(alloc)?.image(alloc),
+            None => self.inner.organism.image(alloc),
+        }
     }
 
     /// What is counted of it.
+    #[tactic(auto, unfolding(organism::specs::OrganismState::new_organism))]
     pub fn standing(&self) -> Standing
         ensures { result ≡ standing_of self.now }
     {
-        Standing {
-            merit: self.inner.merit(),
-            credited: self.inner.credited(),
+        match &self.inner.unmade {
+            Some(unmade) => Standing {
+                merit: unmade.merit,
+                credited: unmade.credited,
+            },
+            None => Standing {
+                merit: self.inner.organism.merit(),
+                credited: self.inner.organism.credited(),
+            },
         }
     }
 }

@@ -1,6 +1,7 @@
 //! The cells of a world in shards, each run by a thread of its own.
 #![tactic(auto)]
 
+mod body;
 mod boxed_organism;
 mod delivered;
 mod delivering;
@@ -12,6 +13,7 @@ mod round;
 mod running;
 mod shards;
 mod standing;
+mod unmade;
 
 pub use boxed_organism::BoxedOrganism;
 pub use delivered::{Delivered, Deliveries};

@@ -2,9 +2,11 @@
 ghost use Rattle.std.specs.Prelude.{◌≡◌, ◌<◌, ◌^◌, ◌∷◌, ◌++◌, [], Some, None, OnOk, IfOk, map, if◌then◌else◌};
 ghost use Rattle.organism.specs.Newborns.{newborn_value};
 ghost use Rattle.organism.specs.UpdateLife.{is_death};
+ghost use Rattle.cell_shards.specs.Bodies.{CanBeMade, who_is};
 ghost use Rattle.cell_shards.specs.CellLives.{IsYoung, round_numbers, shard_life_of, standing_in};
 ghost use Rattle.cell_shards.specs.Finishing.{CanRun, IsFinished};
 
+use crate::body::Body;
 use crate::boxed_organism::BoxedOrganism;
 use crate::delivered::Deliveries;
 use crate::delivering::deliver;
@@ -14,7 +16,7 @@ use crate::round::Round;
 use crate::standing::{Standing, Standings};
 use avida_port::Memory;
 use genotype_bank::Bank;
-use organism::{Births, Organism, Ran};
+use organism::{Births, Ran};
 use random_streams::{CELLS, Draws, Purpose};
 use std::alloc::Global;
 use std::sync::Wait;
@@ -27,7 +29,8 @@ struct Life {
 }
 
 /// The job with its cells' lives behind them. The newborns of a cell are delivered right after its
-/// life, so the turns of the bank are spread over the job.
+/// life, so the turns of the bank are spread over the job. Where the cells have room for more, so
+/// has the list beside them, for both are joined with those of other jobs.
 pub(crate) fn live<R: Wait>(
     rt: &R,
     alloc: Global,
@@ -47,7 +50,7 @@ pub(crate) fn live<R: Wait>(
     } = job;
     let mut cells = cells.into_vec();
     let slices = slices.into_vec();
-    let mut standings = Vec::with_capacity(alloc, cells.len())?;
+    let mut standings = Vec::with_capacity(alloc, cells.capacity())?;
     let mut births = Deliveries::none(alloc);
     let mut dead = Dead::none(alloc);
     for place in 0..cells.len() {
@@ -96,26 +99,31 @@ fn live_in(
     }
 }
 
-/// The life of an organism, with the run stream of its cell.
+/// The life of who is in a body, with the run stream of its cell.
 fn live_once(
     alloc: Global,
     round: &Round,
     cell: u32,
     steps: u64,
-    organism: &mut Organism,
+    body: &mut Body,
 ) -> Result<Life, Memory>
     requires cell { cell < CELLS }
     requires steps { steps < 2 ^ 27 }
-    requires young { organism.old.age < 2 ^ 62 }
-    ensures { IfOk result
-        (λ life. shard_life_of (round_numbers round.now) cell steps (Some organism.old) ≡ record {
-          organism = Some organism.new;
+    requires makeable { CanBeMade body.old.unmade }
+    requires young { (who_is body.old.organism body.old.unmade).age < 2 ^ 62 }
+    ensures made { body.new.unmade ≡ None }
+    ensures life { IfOk result
+        (λ life. shard_life_of (round_numbers round.now) cell steps
+        (Some (who_is body.old.organism body.old.unmade)) ≡ record {
+          organism = Some body.new.organism;
           died = life.died;
           newborns = map newborn_value life.births;
         }) }
 {
     let mut births = Births::none(alloc);
     let mut draws = Draws::start(round.seed, round.update, cell, Purpose::Run);
+    body.make(alloc)?;
+    let organism = &mut body.organism;
     let ran = organism.run(alloc, steps, &round.settings, &mut draws, &mut births)?;
     Ok(Life {
         died: is_death(ran),

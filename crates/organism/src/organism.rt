@@ -1,6 +1,6 @@
 // An organism: its genome, its machine, and what it has done since its birth or its last viable
 // divide.
-ghost use Rattle.std.specs.Prelude.{◌≡◌, ◌≢◌, ◌+◌, ◌*◌, ◌-◌, ◌<◌, ◌≤◌, ◌^◌, IfOk, OnOk, length};
+ghost use Rattle.std.specs.Prelude.{◌≡◌, ◌≢◌, ◌+◌, ◌*◌, ◌-◌, ◌<◌, ◌≤◌, ◌^◌, IfOk, OnErr, OnOk, length};
 ghost use Rattle.divide_rules.specs.Rules.{RuleNumbers, rule_numbers};
 ghost use Rattle.instruction_set.specs.declared.letter.Letter.TheVariants.{HDivide, Io};
 ghost use Rattle.genome.specs.Genome.{letters};
@@ -80,6 +80,35 @@ impl Organism {
             gestation: Tasks::none(),
             machine,
         })
+    }
+
+    /// The organism is another one of age 0, whose machine is at its start, in the memory that it
+    /// has where that suffices. If memory runs out, nothing changes.
+    #[tactic(auto, unfolding(crate::specs::OrganismState::new_organism))]
+    pub fn restart(
+        &mut self,
+        alloc: Global,
+        genome: Arc<Genome, Global>,
+        inputs: Inputs,
+        merit: u64,
+        credited: Tasks,
+        memory_limit: u32,
+    ) -> Result<(), Memory>
+        requires genome_within { length (letters genome.value) ≤ memory_limit }
+        requires greatest { memory_limit ≤ 8192 }
+        ensures ok { OnOk result (self.new ≡
+            new_organism (letters genome.value) inputs merit credited memory_limit) }
+        ensures err { OnErr result (self.new ≡ self.old) }
+    {
+        self.machine.restart(alloc, &genome, memory_limit)?;
+        self.genome = genome;
+        self.inputs = inputs;
+        self.merit = merit;
+        self.credited = credited;
+        self.age = 0;
+        self.read = 0;
+        self.gestation = Tasks::none();
+        Ok(())
     }
 
     /// The organism with an image's values, whose machine has this limit of memory.

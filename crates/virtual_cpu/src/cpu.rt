@@ -1,5 +1,5 @@
 // The machine: its parts, and the few ways in which an instruction changes them.
-ghost use Rattle.std.specs.Prelude.{◌≡◌, ℕ, ℤ, pos, ◌-◌, ◌*◌, ◌<◌, ◌≤◌, IfOk, List, [], ◌∷◌, length, ◌+◌, ◌++◌, replicate, true, false, vec_capacity, IsTrue};
+ghost use Rattle.std.specs.Prelude.{◌≡◌, ℕ, ℤ, pos, ◌-◌, ◌*◌, ◌<◌, ◌≤◌, IfOk, OnErr, OnOk, List, [], ◌∷◌, length, ◌+◌, ◌++◌, replicate, true, false, vec_capacity, IsTrue};
 ghost use Rattle.instruction_set.specs.declared.letter.Letter.{Letter};
 ghost use Rattle.genome.specs.Genome.{letters};
 ghost use Rattle.virtual_cpu.specs.Registers.{value_of};
@@ -169,6 +169,51 @@ impl Cpu {
         self.heads = Heads::default();
         self.nops = Template::none();
         self.pending = false;
+    }
+
+    /// The machine is one at its start for this genome, in the memory that it has where that
+    /// suffices. If memory runs out, nothing changes.
+    pub fn restart(
+        &mut self,
+        alloc: Global,
+        genome: &Genome,
+        memory_limit: u32,
+    ) -> Result<(), Memory>
+        requires genome_within { length (letters genome.now) ≤ memory_limit }
+        requires greatest { memory_limit ≤ 8192 }
+        ensures ok { OnOk result (let text = letters genome.now in
+            self.new ≡ fresh_machine text (length text) memory_limit) }
+        ensures err { OnErr result (self.new ≡ self.old) }
+    {
+        if genome.len() as usize > self.birth_length || memory_limit as usize != self.limit {
+            *self = Cpu::new(alloc, genome, memory_limit)?;
+        } else {
+            self.begin(genome);
+        }
+        Ok(())
+    }
+
+    /// The machine begins anew on a genome, for which it has memory.
+    fn begin(&mut self, genome: &Genome)
+        requires { length (letters genome.now) ≤ self.old.birth_length }
+        ensures { let text = letters genome.now in
+            self.new ≡ fresh_machine text (length text) self.old.limit }
+    {
+        let birth_length = genome.len() as usize;
+        self.memory.clear();
+        append_letters(&mut self.memory, genome.letters());
+        self.clean.clear();
+        append_letters(&mut self.clean, genome.letters());
+        self.executed.reset(birth_length);
+        self.copied.reset(birth_length);
+        self.registers = Registers::default();
+        let stacks = [Stack::new(), Stack::new()];
+        self.stacks = stacks;
+        self.active = 0;
+        self.heads = Heads::default();
+        self.nops = Template::none();
+        self.pending = false;
+        self.birth_length = birth_length;
     }
 
     /// Copies the child's part of the clean text and of memory.

@@ -1,7 +1,7 @@
 -- Organisms beside their ids, as one cell changes.
 use Rattle.std.proofs.Common.{◌≡◌, ◌∙◌, ◌<◌, refl, sym, ap, ℕ, zero, suc, List, [], ◌∷◌, length, map, set, get_or, replicate, Option, Some, None, arith}
-use Rattle.std.proofs.lemmas.List.{get_or_read, length-map, length-replicate, length-set, map-set}
-use Rattle.cell_shards.specs.CellLives.{standing_in}
+use Rattle.std.proofs.lemmas.List.{get_or-map, get_or_read, length-map, length-replicate, length-set, map-set}
+use Rattle.cell_shards.specs.CellLives.{standing_in, standing_of}
 use Rattle.cell_shards.specs.declared.standing.Standing.{Standing}
 use Rattle.organism.specs.Image.{organism_of_image}
 use Rattle.organism.specs.OrganismState.{OrganismState}
@@ -88,6 +88,11 @@ AreKeptBeside-set os ids next standings cell slot standing beside many is = reco
   counted = (λ i. set (beside.counted i) cell (is i)) ∙ sym (map-set standing_in os cell slot);
 }
 
+-- an id takes nothing from the organism
+pub organism-with : (id : ℕ) (slot : Option OrganismState) → organism_in (with_id id slot) ≡ slot
+organism-with id None = refl
+organism-with id (Some o) = refl
+
 -- a cell of residents, whose organisms and ids lie apart
 module _ (r : Inside) {cells : List (Option Occupant)}
     (long : length r.ids.items ≡ length r.organisms.items)
@@ -130,6 +135,24 @@ module _ (r : Inside) {cells : List (Option Occupant)}
       (sym (get_or_read r.organisms.items cell read (omega (arith, has-slot, r.organisms.ok.0))
       found None) ∙ is)
 
+  -- what is counted of who stands there
+  pub read-standing : r.standings.items ≡ map standing_in r.organisms.items
+      → (read : Option Standing) → read ≡ get_or r.standings.items cell read
+      → read ≡ standing_in (organism_in (get_or cells cell None))
+  read-standing counted read found =
+      let slot = get_or r.organisms.items cell None in
+      let id = get_or r.ids.items cell 0 in
+      get_or_read r.standings.items cell read
+      (omega (arith, has-standing counted, r.standings.ok.0)) found None
+      ∙ ap (λ (all : List (Option Standing)). get_or all cell None) counted
+      ∙ get_or-map standing_in r.organisms.items cell None None
+      (omega (arith, has-slot, r.organisms.ok.0, length-map r.organisms.items standing_in))
+      ∙ ap standing_in (sym (organism-with id slot))
+      ∙ ap (λ who. standing_in (organism_in who))
+      (sym (occupants_of-at r.organisms.items r.ids.items cell long))
+      ∙ ap (λ (cells : List (Option Occupant)). standing_in (organism_in (get_or cells cell None)))
+      are
+
   -- the id
   pub read-id : (id : ℕ) → id ≡ get_or r.ids.items cell id → id ≡ get_or r.ids.items cell 0
   read-id id found =
@@ -148,14 +171,15 @@ merits-of [] ids long = refl
 merits-of (o ∷ os) [] long = absurd (omega (arith, long))
 merits-of (o ∷ os) (id ∷ ids) long = λ i. merit-of id o i ∷ merits-of os ids (omega (arith, long)) i
 
--- who has this organism
-pub somebody : (slot : Option Occupant) (organism : OrganismState)
-    → organism_in slot ≡ Some organism → (o : Occupant) × (slot ≡ Some o) × (o.organism ≡ organism)
-somebody None organism is = absurd cc
-somebody (Some o) organism is = (o, refl, cc)
+-- who is counted like this
+pub somebody : (slot : Option Occupant) (standing : Standing)
+    → standing_in (organism_in slot) ≡ Some standing
+    → (o : Occupant) × (slot ≡ Some o) × (standing_of o.organism ≡ standing)
+somebody None standing is = absurd cc
+somebody (Some o) standing is = (o, refl, cc)
 
--- nobody has none
-pub nobody : (slot : Option Occupant) → organism_in slot ≡ None → slot ≡ None
+-- nobody is not counted
+pub nobody : (slot : Option Occupant) → standing_in (organism_in slot) ≡ None → slot ≡ None
 nobody None is = refl
 nobody (Some o) is = absurd cc
 

@@ -1,10 +1,12 @@
 // The newborns of an update are placed, one after another.
 ghost use Rattle.std.specs.Prelude.{◌≡◌, ◌+◌, ◌*◌, ◌++◌, ◌<◌, ◌≤◌, ◌^◌, All, OnOk, IfOk, length, map};
 ghost use Rattle.cell_shards.specs.Finishing.{genome_in};
+ghost use Rattle.genome.specs.Genome.{letters};
 ghost use Rattle.lineage_log.specs.LogGrammar.{lines_text};
 ghost use Rattle.log_lines.specs.Line.{Birth};
 ghost use Rattle.log_lines.specs.LineText.{line_text};
 ghost use Rattle.mutations.specs.BirthRecord.{record_of};
+ghost use Rattle.organism.specs.OrganismState.{new_organism};
 ghost use Rattle.world_config.specs.Shown.{values_of};
 ghost use Rattle.world_rules.specs.LogText.{birth_line, birth_lines};
 ghost use Rattle.world_rules.specs.Scene.{next_id, standing_at};
@@ -22,10 +24,13 @@ use crate::settings::{placing_round_at, torus_of};
 use avida_port::Memory;
 use birth_board::{Occupants, Parents, Placing, Placings, place};
 use cell_shards::{BoxedOrganism, Delivered};
+use genome::Genome;
 use log_lines::write_birth;
+use logic_tasks::{Inputs, Tasks};
 use mutations::Origin;
 use organism::Organism;
 use std::alloc::Global;
+use std::sync::Arc;
 use world_config::Config;
 
 /// Places the newborns, with a line for each. After `Memory` drop the scene.
@@ -106,7 +111,7 @@ fn board_of(alloc: Global, cells: &Residents) -> Result<Occupants, Memory>
 }
 
 /// A newborn stands in the cell of its placing, with the next id, and has its line.
-#[tactic(auto, unfolding(world_rules::specs::Update::with_newborn, world_rules::specs::Scene::with_newcomer, organism::specs::OrganismState::new_organism))]
+#[tactic(auto, using(crate::proofs::SoundLemmas::set_over), unfolding(world_rules::specs::Update::with_newborn, world_rules::specs::Scene::with_death, world_rules::specs::Scene::with_newcomer, organism::specs::OrganismState::new_organism))]
 fn place_newborn(
     alloc: Global,
     config: &Config,
@@ -140,20 +145,43 @@ fn place_newborn(
     let cell = placing.cell;
     tell_birth(scene, parent, cell, &origin, text)?;
     scene.enroll(Some(parent), cell, Some(origin), &handle.genome)?;
-    let organism = Organism::found(
+    let organism = organism_over(
         alloc,
+        scene.die(cell)?,
         handle.genome,
         placing.inputs,
         merit,
         credited,
         config.memory_limit,
     )?;
-    scene.come(
-        id,
-        cell,
-        handle.number,
-        BoxedOrganism::new(alloc, organism)?,
-    )
+    scene.come(id, cell, handle.number, organism)
+}
+
+/// An organism at its beginning, in the memory of who stood in its cell, where somebody did.
+fn organism_over(
+    alloc: Global,
+    over: Option<BoxedOrganism>,
+    genome: Arc<Genome, Global>,
+    inputs: Inputs,
+    merit: u64,
+    credited: Tasks,
+    memory_limit: u32,
+) -> Result<BoxedOrganism, Memory>
+    requires genome_within { length (letters genome.value) ≤ memory_limit }
+    requires greatest { memory_limit ≤ 8192 }
+    ensures { IfOk result (λ organism. organism
+        ≡ new_organism (letters genome.value) inputs merit credited memory_limit) }
+{
+    match over {
+        Some(mut organism) => {
+            organism.replace(genome, inputs, merit, credited, memory_limit);
+            Ok(organism)
+        }
+        None => {
+            let organism = Organism::found(alloc, genome, inputs, merit, credited, memory_limit)?;
+            BoxedOrganism::new(alloc, organism)
+        }
+    }
 }
 
 /// The line of a birth.

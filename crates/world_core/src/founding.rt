@@ -78,7 +78,7 @@ fn pass_over(draws: &mut Draws, words: u32)
 
 /// Founder number `nth` of a run stands in the cell, and who stood there dies. After `Memory` drop
 /// the scene.
-#[tactic(auto, unfolding(world_rules::specs::Scene::with_newcomer, world_rules::specs::World::founder_of, organism::specs::OrganismState::new_organism))]
+#[tactic(auto, using(crate::proofs::SoundLemmas::set_over), unfolding(world_rules::specs::Scene::with_newcomer, world_rules::specs::Scene::with_death, world_rules::specs::World::founder_of, organism::specs::OrganismState::new_organism))]
 pub(crate) fn found_in<R: Wait>(
     rt: &R,
     alloc: Global,
@@ -105,6 +105,7 @@ pub(crate) fn found_in<R: Wait>(
     let handle = scene.intern(rt, alloc, genome)?;
     scene.enroll(None, cell, None, &handle.genome)?;
     let organism = founder(alloc, config, cell, nth, handle.genome)?;
+    scene.die(cell)?;
     scene.come(
         id,
         cell,

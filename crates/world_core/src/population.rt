@@ -5,7 +5,7 @@ ghost use Rattle.genome.specs.Genome.{letters};
 ghost use Rattle.genotype_bank.specs.BankHistory.{with_genome};
 ghost use Rattle.world_config.specs.Shown.{values_of};
 ghost use Rattle.world_rules.specs.Lives.{lives_of};
-ghost use Rattle.world_rules.specs.Statistics.{dominant_of, stats_in};
+ghost use Rattle.world_rules.specs.Statistics.{dominant_of, organism_in, stats_in};
 ghost use Rattle.world_rules.specs.Update.{births_of};
 ghost use Rattle.world_laws.specs.Keeping.{LiveOn};
 ghost use Rattle.world_core.specs.Genotypes.{TakesIn};
@@ -93,7 +93,7 @@ impl Population {
             ≡ option_map (λ genome. Some genome)
             (occupant_genome (slice_index_or self.now.cells cell None)) }
     {
-        match self.cells.organism_at(cell as usize) {
+        match self.cells.standing_at(cell as usize) {
             Some(_) => Some(self.keys[cell as usize]),
             None => None,
         }
@@ -117,19 +117,19 @@ impl Population {
         self.genotypes.intern(rt, alloc, genome)
     }
 
-    /// Nobody stands in the cell any longer.
-    pub(crate) fn remove(&mut self, cell: u32)
+    /// Nobody stands in the cell any longer; the result is who did.
+    pub(crate) fn take(&mut self, cell: u32) -> Option<BoxedOrganism>
         requires { cell < length self.old.cells }
-        ensures { self.new ≡ record self.old { cells = slice_set self.old.cells cell None } }
+        ensures after { self.new ≡ record self.old { cells = slice_set self.old.cells cell None } }
+        ensures who { result ≡ organism_in (slice_index_or self.old.cells cell None) }
     {
         one_index();
         let at = cell as usize;
-        if let Some(organism) = self.cells.organism_at(at) {
+        if let Some(was) = self.cells.standing_at(at) {
             let key = self.keys[at];
-            self.census
-                .remove(key, organism.merit(), organism.credited());
+            self.census.remove(key, was.merit, was.credited);
         }
-        self.cells.remove(at);
+        self.cells.take(at)
     }
 
     /// Somebody, whose genome has this number, stands in a cell that was empty. If memory runs out,
@@ -151,39 +151,11 @@ impl Population {
         ensures err { OnErr result (self.new ≡ self.old) }
     {
         one_index();
-        let newcomer = organism.get();
-        self.census.add(
-            number,
-            newcomer.genome(),
-            newcomer.merit(),
-            newcomer.credited(),
-        )?;
+        let standing = organism.standing();
+        self.census.add(number, organism.genome(), standing.merit, standing.credited)?;
         self.keys[cell as usize] = number;
         self.cells.put(cell as usize, id, organism);
         Ok(())
-    }
-
-    /// Somebody, whose genome has this number, stands in the cell in place of who stood there. If
-    /// memory runs out, nobody does.
-    #[tactic(auto, using(crate::proofs::SoundLemmas::set_over))]
-    pub(crate) fn replace(
-        &mut self,
-        cell: u32,
-        number: u64,
-        id: u64,
-        organism: BoxedOrganism,
-    ) -> Result<(), Memory>
-        requires cell { cell < length self.old.cells }
-        requires number { slice_get self.old.bank number ≡ Some organism.genome }
-        requires merit { organism.merit ≤ 2 ^ 38 }
-        ensures ok { OnOk result (self.new ≡ record self.old {
-          cells = slice_set self.old.cells cell (Some (record { id = id; organism = organism }));
-        }) }
-        ensures err { OnErr result (self.new
-            ≡ record self.old { cells = slice_set self.old.cells cell None }) }
-    {
-        self.remove(cell);
-        self.put(cell, number, id, organism)
     }
 
     /// The lives of all cells in the update after this one, in as many shards as there are workers.

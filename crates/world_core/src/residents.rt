@@ -1,13 +1,15 @@
 // Who stands in each cell, the organisms apart from their ids and from what is counted of them.
-ghost use Rattle.std.specs.Prelude.{◌≡◌, ◌<◌, None, Some, IfOk, length, replicate, slice_index_or, slice_set};
-ghost use Rattle.std.specs.Option.{option_copied};
+ghost use Rattle.std.specs.Prelude.{◌≡◌, ◌<◌, None, Some, IfOk, length, option_map, replicate, slice_index_or, slice_set};
+ghost use Rattle.cell_shards.specs.CellLives.{standing_in};
+ghost use Rattle.genome.specs.Genome.{letters};
 ghost use Rattle.world_rules.specs.Statistics.{organism_in};
 ghost use Rattle.world_rules.specs.World.{id_of, ids_of};
+ghost use Rattle.world_core.specs.Population.{occupant_genome};
 ghost use Rattle.world_core.specs.Resumed.{IsResidentIn};
 
 use avida_port::Memory;
 use cell_shards::{BoxedOrganism, Standing};
-use organism::Organism;
+use genome::Genome;
 use saved_lines::Resident;
 use std::alloc::{AllocError, Global};
 use std::marker::Model;
@@ -55,15 +57,24 @@ impl Residents {
         self.organisms.len()
     }
 
-    /// The organism in the cell.
-    pub(crate) fn organism_at(&self, cell: usize) -> Option<&Organism>
+    /// The genome of who stands in the cell.
+    pub(crate) fn genome_at(&self, cell: usize) -> Option<&Genome>
         requires { cell < length self.now }
-        ensures { option_copied result ≡ organism_in (slice_index_or self.now cell None) }
+        ensures { option_map (λ genome. letters genome.now) result
+            ≡ occupant_genome (slice_index_or self.now cell None) }
     {
         match &self.organisms[cell] {
-            Some(organism) => Some(organism.get()),
+            Some(organism) => Some(organism.genome()),
             None => None,
         }
+    }
+
+    /// What is counted of who stands in the cell.
+    pub(crate) fn standing_at(&self, cell: usize) -> Option<Standing>
+        requires { cell < length self.now }
+        ensures { result ≡ standing_in (organism_in (slice_index_or self.now cell None)) }
+    {
+        self.standings[cell]
     }
 
     /// The id of who stands in the cell.
@@ -86,7 +97,7 @@ impl Residents {
             Some(organism) => Ok(Some(Resident {
                 cell,
                 id: self.ids[cell as usize],
-                image: organism.get().image(alloc)?,
+                image: organism.image(alloc)?,
             })),
             None => Ok(None),
         }
@@ -103,13 +114,14 @@ impl Residents {
         Ok(ids)
     }
 
-    /// Nobody stands in the cell any longer.
-    pub(crate) fn remove(&mut self, cell: usize)
+    /// Nobody stands in the cell any longer; the result is who did.
+    pub(crate) fn take(&mut self, cell: usize) -> Option<BoxedOrganism>
         requires { cell < length self.old }
-        ensures { self.new ≡ slice_set self.old cell None }
+        ensures after { self.new ≡ slice_set self.old cell None }
+        ensures who { result ≡ organism_in (slice_index_or self.old cell None) }
     {
-        self.organisms[cell] = None;
         self.standings[cell] = None;
+        self.organisms[cell].take()
     }
 
     /// Somebody with this id stands in the cell.

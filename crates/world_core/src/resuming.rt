@@ -139,6 +139,7 @@ pub(crate) fn restore_all<R: Wait>(
 }
 
 /// An organism stands in its cell again, with its values. After `Memory` drop the scene.
+#[tactic(auto, using(crate::proofs::SoundLemmas::set_over), unfolding(world_rules::specs::Scene::with_death))]
 fn restore<R: Wait>(
     rt: &R,
     alloc: Global,
@@ -165,6 +166,7 @@ fn restore<R: Wait>(
     let handle = scene.intern(rt, alloc, image.genome.copy(alloc)?)?;
     image.genome = handle.genome;
     let organism = Organism::from_image(alloc, &image, memory_limit)?;
+    scene.die(cell)?;
     scene.come(
         id,
         cell,

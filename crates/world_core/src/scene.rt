@@ -1,13 +1,12 @@
 // A world within an update.
-ghost use Rattle.std.specs.Prelude.{◌≡◌, ◌+◌, ◌++◌, ◌∷◌, [], ◌<◌, ◌≤◌, ◌^◌, Some, IfOk, None, OnOk, drop, length, map, option_map, replicate, slice_get, slice_set};
-ghost use Rattle.std.specs.Option.{option_to_list};
+ghost use Rattle.std.specs.Prelude.{◌≡◌, ◌+◌, ◌++◌, ◌∷◌, [], ◌<◌, ◌≤◌, ◌^◌, Some, IfOk, None, OnOk, drop, length, map, option_map, replicate, slice_get, slice_index_or, slice_set};
 ghost use Rattle.genome.specs.Genome.{letters};
 ghost use Rattle.genotype_bank.specs.BankHistory.{with_genome};
 ghost use Rattle.mutations.specs.BirthRecord.{record_of};
 ghost use Rattle.saved_worlds.specs.Resuming.{forgotten};
 ghost use Rattle.world_config.specs.Shown.{values_of};
 ghost use Rattle.world_rules.specs.Scene.{next_id, standing_at, with_death};
-ghost use Rattle.world_rules.specs.Statistics.{scene_stats};
+ghost use Rattle.world_rules.specs.Statistics.{organism_in, scene_stats};
 ghost use Rattle.world_rules.specs.WorldRun.{world_after};
 ghost use Rattle.world_core.specs.Scenes.{scene_in};
 
@@ -67,11 +66,13 @@ impl Scene {
         self.cells.cells().id_at(cell as usize)
     }
 
-    /// Who stands in the cell dies. After `Memory` drop the scene.
+    /// Who stands in the cell dies, and is what the result has. After `Memory` drop the scene.
     #[tactic(auto, unfolding(world_rules::specs::Scene::with_death), using(crate::proofs::SoundLemmas::AreBounded_gone))]
-    pub(crate) fn die(&mut self, cell: u32) -> Result<(), Memory>
+    pub(crate) fn die(&mut self, cell: u32) -> Result<Option<BoxedOrganism>, Memory>
         requires { cell < length self.old.cells }
         ensures scene { OnOk result (scene_in self.new ≡ with_death (scene_in self.old) cell) }
+        ensures who { IfOk result
+            (λ who. who ≡ organism_in (slice_index_or self.old.cells cell None)) }
         ensures bank { OnOk result (self.new.bank ≡ self.old.bank) }
         ensures size { OnOk result (length self.new.cells ≡ length self.old.cells) }
         ensures everyone { OnOk result (self.new.everyone ≡ self.old.everyone) }
@@ -80,8 +81,7 @@ impl Scene {
         if let Some(id) = self.standing_at(cell) {
             self.gone.push(id)?;
         }
-        self.cells.remove(cell);
-        Ok(())
+        Ok(self.cells.take(cell))
     }
 
     /// Interns the genome of a founder. After `Memory` drop the scene.
@@ -130,8 +130,9 @@ impl Scene {
         self.everyone.push(ancestor)
     }
 
-    /// Somebody with this id, whose genome has this number, stands in the cell, and who stood there
-    /// dies. After `Memory` drop the scene.
+    /// Somebody with this id, whose genome has this number, stands in the cell, which was empty.
+    /// After `Memory` drop the scene.
+    #[tactic(auto, using(crate::proofs::SoundLemmas::AreBounded_come))]
     pub(crate) fn come(
         &mut self,
         id: u64,
@@ -140,19 +141,15 @@ impl Scene {
         organism: BoxedOrganism,
     ) -> Result<(), Memory>
         requires cell { cell < length self.old.cells }
+        requires empty { slice_index_or self.old.cells cell None ≡ None }
         requires number { slice_get self.old.bank number ≡ Some organism.genome }
         requires age { organism.age < 2 ^ 48 }
         requires merit { organism.merit ≤ 2 ^ 38 }
         ensures { OnOk result (self.new ≡ record self.old {
           cells = slice_set self.old.cells cell (Some (record { id = id; organism = organism }));
-          gone = self.old.gone ++ option_to_list (standing_at (scene_in self.old) cell);
         }) }
     {
-        if let Some(over) = self.standing_at(cell) {
-            self.gone.push(over)?;
-        }
-        self.cells.replace(cell, number, id, organism)?;
-        Ok(())
+        self.cells.put(cell, number, id, organism)
     }
 
     /// Who died of age is among the dead of this update; the cells have been left.

@@ -226,10 +226,7 @@ impl World {
         ensures { option_map (λ genome. letters genome.now) result
             ≡ genome_in_cell (world_in self.now) cell }
     {
-        match self.scene.cells.cells().organism_at(cell as usize) {
-            Some(organism) => Some(organism.genome()),
-            None => None,
-        }
+        self.scene.cells.cells().genome_at(cell as usize)
     }
 
     /// The number of the genome of who stands in the cell, which is its place in the bank; None

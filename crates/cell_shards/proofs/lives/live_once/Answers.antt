@@ -2,20 +2,23 @@ use Rattle.std.proofs.Common.{◌≡◌, ap, map}
 use Rattle.random_streams.specs.RandomStream.{word_of}
 use Rattle.organism.specs.Lived.{beginning}
 use Rattle.organism.specs.Newborns.{newborn_value}
+use Rattle.organism.specs.OrganismState.{OrganismState}
 use Rattle.organism.specs.UpdateLife.{life_state}
+use Rattle.cell_shards.specs.Bodies.{who_is}
 use Rattle.cell_shards.specs.CellLives.{round_numbers}
 use Rattle.cell_shards.proofs.LivesLemmas.{life_of-run}
 use Rattle.cell_shards.proofs.lives.live_once.Goals as goal
 
-pub returns : goal.returns
-returns c =
-    let begins : life_state c.args.organism.now c.none-births.result c.start-draws.result
-    ≡ beginning c.args.organism.now = λ i. record {
-      organism = c.args.organism.now;
+pub returns-clause-life : goal.returns-clause-life
+returns-clause-life c =
+    let o : OrganismState = who_is c.args.body.now.organism c.args.body.now.unmade in
+    let begins : life_state c.make.new.self.organism c.none-births.result c.start-draws.result
+    ≡ beginning o = λ i. record {
+      organism = c.in_ok-make.ensures.organism i;
       newborns = map newborn_value (c.none-births.ensures i);
       next = (c.start-draws.ensures i).taken;
     } in
-    life_of-run (round_numbers c.args.round.now) c.args.cell c.args.steps c.args.organism.now
+    life_of-run (round_numbers c.args.round.now) c.args.cell c.args.steps o
     (word_of c.start-draws.result) _
     (life_state c.run.new.self c.run.new.births c.run.new.draws) c.in_ok-ran.ran
     c.is_death.result (ap word_of c.start-draws.ensures) begins c.in_ok-ran.ensures.life

@@ -1,5 +1,4 @@
 use Rattle.std.proofs.Common.{◌≡◌, ◌∙◌, ap, sym, get_or, None, Some, length, ◌<◌, arith}
-use Rattle.std.specs.Option.{option_copied}
 use Rattle.std.specs.Prelude.{option_map, slice_get}
 use Rattle.std.proofs.lemmas.List.{get_or_read, length-map}
 use Rattle.world_core.specs.Population.{PopulationValue, occupant_genome}
@@ -18,7 +17,7 @@ returns-in-Some c =
     ap (λ (p : PopulationValue). p.bank) c.self.view_is in
     let within : c.args.cell < length cells = rw were c.requires in
     let who = somebody (get_or cells c.args.cell None) _
-    (sym c.organism_at.ensures ∙ ap option_copied c.in-Some.is) in
+    (sym c.standing_at.ensures ∙ c.in-Some.is) in
     let key : c.index.result.now ≡ get_or keys c.args.cell 0 =
     get_or_read keys c.args.cell c.index.result.now
     (omega (arith, within, c.self.invariant.genotypes.size, length-map cells occupant_genome))
@@ -38,7 +37,7 @@ returns-in-None c =
     let were : cells ≡ c.args.self.now.cells =
     ap (λ (p : PopulationValue). p.cells) c.self.view_is in
     let empty = nobody (get_or cells c.args.cell None)
-    (sym c.organism_at.ensures ∙ ap option_copied c.in-None.is) in
+    (sym c.standing_at.ensures ∙ c.in-None.is) in
     sym (ap (λ cells. option_map (λ genome. Some genome)
     (occupant_genome (get_or cells c.args.cell None))) (sym were)
     ∙ ap (λ slot. option_map (λ genome. Some genome) (occupant_genome slot)) empty)

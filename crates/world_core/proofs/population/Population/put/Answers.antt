@@ -1,7 +1,6 @@
 use Rattle.std.proofs.Common.{◌≡◌, ◌∙◌, ap, get_or, subst, sym, List, ℕ, None, Some, length, ◌<◌}
 use Rattle.std.specs.Prelude.{slice_get}
 use Rattle.instruction_set.specs.declared.letter.Letter.{Letter}
-use Rattle.organism.specs.OrganismState.{OrganismState}
 use Rattle.census.specs.Changes.{genotype_with_one, with_organism}
 use Rattle.world_rules.specs.World.{Occupant}
 use Rattle.world_core.specs.Population.{PopulationValue}
@@ -26,7 +25,7 @@ pub add-requires : goal.add-requires
 add-requires c =
     let o : Occupant = record { id = c.args.id; organism = c.args.organism } in
     let room = room_inside c.self.view_is c.requires.cell c.requires.empty c.requires.number in
-    rw (c.genome.ensures, c.merit.ensures, c.get-newcomer.ensures)
+    rw (c.genome.ensures, c.standing-standing.ensures)
     (can-add c.one_index.ensures.list c.self.inside.cells c.self.inside.genotypes
     c.self.inside.keys.items c.self.inside.census c.self.inside.census c.args.cell room.within o
     c.args.number room.number_is room.empty c.requires.merit c.self.invariant)
@@ -41,10 +40,7 @@ invariant_of-self-2 c =
     c.self.inside.genotypes c.self.inside.keys.items before c.add.new.self c.args.cell room.within
     o number room.number_is room.empty c.requires.merit c.self.invariant
     (c.in_ok-add.ensures.ok ∙ (λ i. with_organism before number (c.genome.ensures i)
-    (c.merit.ensures i) (c.credited.ensures i))
-    ∙ ap (λ (one : OrganismState). with_organism before number one.genome one.merit one.credited)
-    c.get-newcomer.ensures)
+    (c.standing-standing.ensures i).merit (c.standing-standing.ensures i).credited))
     (λ other. c.in_ok-add.ensures.under other
-    ∙ ap (λ g. genotype_with_one before.genotypes number g other)
-    (c.genome.ensures ∙ ap (λ (one : OrganismState). one.genome) c.get-newcomer.ensures))
+    ∙ ap (λ g. genotype_with_one before.genotypes number g other) c.genome.ensures)
     c.in_ok-add.ensures.living)

@@ -1,8 +1,6 @@
 use Rattle.std.proofs.Common.{◌∙◌, refl, Option, Some, None, ap, get_or, subst, sym}
-use Rattle.organism.specs.OrganismState.{OrganismState}
 use Rattle.saved_lines.specs.declared.resident.Resident.{Resident}
 use Rattle.world_rules.specs.World.{Occupant}
-use Rattle.world_core.specs.Residents.{with_id}
 use Rattle.world_core.specs.Resumed.{IsResidentIn}
 use Rattle.world_core.proofs.ResidentLemmas.{has-id, has-slot, read-id, read-slot, resident_is}
 use Rattle.world_core.proofs.residents.Residents.resident_at.Goals as goal
@@ -24,9 +22,8 @@ returns-in_ok-image-in-Some c =
       id = c.index-in-Some.result.now;
       image = c.in_ok-image-in-Some.field-0;
     } in
-    let stands = ap (λ (o : OrganismState). with_id id (Some o)) c.get.ensures in
-    subst (λ (slot : Option Occupant). IsResidentIn cell slot (Some resident)) (stands ∙ sym slot)
-    (resident_is cell id c.get.result.now resident refl named
+    subst (λ (slot : Option Occupant). IsResidentIn cell slot (Some resident)) (sym slot)
+    (resident_is cell id c.in-Some.organism resident refl named
     c.in_ok-image-in-Some.ensures.organism c.in_ok-image-in-Some.ensures.cpu)
 
 pub returns-in-None : goal.returns-in-None

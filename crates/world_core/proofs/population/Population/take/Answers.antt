@@ -1,14 +1,13 @@
 use Rattle.std.proofs.Common.{◌≡◌, ◌∙◌, List, Option, ap, subst, sym, get_or, None, length, ◌<◌, arith}
-use Rattle.std.specs.Option.{option_copied}
 use Rattle.std.proofs.lemmas.List.{get_or_read, length-map}
 use Rattle.census.specs.Changes.{genotype_without_one, without_organism}
+use Rattle.world_rules.specs.Statistics.{organism_in}
 use Rattle.world_rules.specs.World.{Occupant}
-use Rattle.organism.specs.OrganismState.{OrganismState}
 use Rattle.world_core.specs.Population.{IsKeptOf, PopulationValue, occupant_genome}
 use Rattle.world_core.proofs.KeptOfLemmas.{IsKeptOf-empty, IsKeptOf-removed, can-remove}
 use Rattle.world_core.proofs.ResidentLemmas.{nobody, somebody}
-use Rattle.world_core.proofs.population.Population.remove.Goals.{in-Some, in_default}
-use Rattle.world_core.proofs.population.Population.remove.Goals as goal
+use Rattle.world_core.proofs.population.Population.take.Goals.{in-Some, in_default}
+use Rattle.world_core.proofs.population.Population.take.Goals as goal
 
 pub remove-requires : goal.remove-requires
 remove-requires c =
@@ -17,12 +16,12 @@ remove-requires c =
     ap (λ (p : PopulationValue). p.cells) c.self.view_is in
     let within : c.args.cell < length cells = rw were c.requires in
     let who = somebody (get_or cells c.args.cell None) _
-    (sym c.organism_at.ensures ∙ ap option_copied c.in-Some.is) in
+    (sym c.standing_at.ensures ∙ c.in-Some.is) in
     let key : c.index-key.result.now ≡ get_or c.self.inside.keys.items c.args.cell 0 =
     get_or_read c.self.inside.keys.items c.args.cell c.index-key.result.now
     (omega (arith, within, c.self.invariant.genotypes.size, length-map cells occupant_genome))
     c.index-key.ensures 0 in
-    rw (key, c.merit.ensures, c.credited.ensures, sym who.2)
+    rw (key, sym who.2)
     (can-remove c.one_index.ensures.list cells c.self.inside.genotypes c.self.inside.keys.items
     c.self.inside.census c.self.inside.census c.args.cell within who.0 c.self.invariant who.1)
 
@@ -33,10 +32,10 @@ invariant_of-self c =
     ap (λ (p : PopulationValue). p.cells) c.self.view_is in
     let within : c.args.cell < length cells = rw were c.requires in
     let before = c.self.inside.census in
-    elim c.match-organism_at.branch [
+    elim c.match-standing_at.branch [
       | in-Some w ↦
           let who = somebody (get_or cells c.args.cell None) _
-          (sym c.organism_at.ensures ∙ ap option_copied w.in-Some.is) in
+          (sym c.standing_at.ensures ∙ w.in-Some.is) in
           let key : w.index-key.result.now ≡ get_or c.self.inside.keys.items c.args.cell 0 =
           get_or_read c.self.inside.keys.items c.args.cell w.index-key.result.now
           (omega (arith, within, c.self.invariant.genotypes.size, length-map cells occupant_genome))
@@ -44,24 +43,34 @@ invariant_of-self c =
           rw w.self-inside-is (subst
           (λ (cells : List (Option Occupant)).
           IsKeptOf cells c.self.inside.genotypes c.self.inside.keys.items w.remove.new.self)
-          (sym (rw w.self-inside-is at c.remove-2.ensures))
+          (sym (rw w.self-inside-is at c.take.ensures.after))
           (IsKeptOf-removed c.one_index.ensures.list cells c.self.inside.genotypes
           c.self.inside.keys.items before w.remove.new.self c.args.cell within who.0
           c.self.invariant who.1
           (w.remove.ensures.counts
           ∙ (λ i. without_organism before (key i)
-          ((w.merit.ensures ∙ ap (λ (o : OrganismState). o.merit) (sym who.2)) i)
-          ((w.credited.ensures ∙ ap (λ (o : OrganismState). o.credited) (sym who.2)) i)))
+          (sym who.2 i).merit (sym who.2 i).credited))
           (λ other. w.remove.ensures.under other
           ∙ ap (λ k. genotype_without_one before.genotypes k other) key)
           w.remove.ensures.living))
       | in_default w ↦
           let empty = nobody (get_or cells c.args.cell None)
-          (sym c.organism_at.ensures ∙ ap option_copied w.in_default.is) in
+          (sym c.standing_at.ensures ∙ w.in_default.is) in
           rw w.self-inside-is (subst
           (λ (cells : List (Option Occupant)).
           IsKeptOf cells c.self.inside.genotypes c.self.inside.keys.items before)
-          (sym (rw w.self-inside-is at c.remove-2.ensures))
+          (sym (rw w.self-inside-is at c.take.ensures.after))
           (IsKeptOf-empty c.one_index.ensures.list cells c.self.inside.genotypes
           c.self.inside.keys.items before before c.args.cell within empty c.self.invariant))
     ]
+
+pub returns-clause-who : goal.returns-clause-who
+returns-clause-who c =
+    let now = c.match-standing_at.self-inside in
+    let same : now.cells ≡ c.args.self.now.cells =
+    elim c.match-standing_at.branch [
+      | in-Some w ↦ rw w.self-inside-is (ap (λ (p : PopulationValue). p.cells) c.self.view_is)
+      | in_default w ↦ rw w.self-inside-is (ap (λ (p : PopulationValue). p.cells) c.self.view_is)
+    ] in
+    c.take.ensures.who
+    ∙ ap (λ (cells : List (Option Occupant)). organism_in (get_or cells c.args.cell None)) same

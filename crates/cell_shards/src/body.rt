@@ -1,0 +1,29 @@
+use crate::unmade::Unmade;
+use avida_port::Memory;
+use organism::Organism;
+use std::alloc::Global;
+
+/// An organism, and who is to be made in its place.
+#[derive(Drop)]
+pub(crate) struct Body {
+    pub(crate) organism: Organism,
+    pub(crate) unmade: Option<Unmade>,
+}
+
+impl Body {
+    ghost use Rattle.std.specs.Prelude.{◌≡◌, None, OnOk};
+    ghost use Rattle.cell_shards.specs.Bodies.{CanBeMade, who_is};
+
+    /// Who is to be made is made. After `Memory` the organism that was there stands there.
+    pub(crate) fn make(&mut self, alloc: Global) -> Result<(), Memory>
+        requires { CanBeMade self.old.unmade }
+        ensures made { self.new.unmade ≡ None }
+        ensures organism { OnOk result
+            (self.new.organism ≡ who_is self.old.organism self.old.unmade) }
+    {
+        if let Some(unmade) = self.unmade.take() {
+            unmade.replace(alloc, &mut self.organism)?;
+        }
+        Ok(())
+    }
+}
