@@ -170,3 +170,22 @@ fn a_reset_begins_anew_on_the_kept_letters(rt: HostRuntime) -> Result<(), Fail> 
     assert_eq!(rt; cpu.registers(), [0, 0, 0]);
     Ok(())
 }
+
+#[test]
+fn a_restart_begins_anew_on_a_genome_of_any_length(rt: HostRuntime) -> Result<(), Fail> {
+    let mut cpu = machine(rt.alloc(), "mammmmmm")?;
+    let ancestor = read_letters(rt.alloc(), ANCESTOR.as_bytes())?;
+    assert_eq!(rt; ancestor.len(), 100);
+    cpu.restart(rt.alloc(), &ancestor, GREATEST_LENGTH)?;
+    assert_eq!(rt; cpu.step(INPUT, None), StepAnswer::Allocated);
+    assert_eq!(rt; cpu.length(), 300);
+    assert_eq!(rt; cpu.registers(), [100, 0, 0]);
+    let shorter = read_letters(rt.alloc(), b"mammmmmm")?;
+    cpu.restart(rt.alloc(), &shorter, GREATEST_LENGTH)?;
+    assert_eq!(rt; cpu.length(), 8);
+    assert_eq!(rt; cpu.place(), 0);
+    assert_eq!(rt; cpu.registers(), [0, 0, 0]);
+    let _ = cpu.step(INPUT, None);
+    assert_eq!(rt; cpu.registers(), [1, 0, 0]);
+    Ok(())
+}

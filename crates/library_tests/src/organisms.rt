@@ -19,9 +19,13 @@ fn organism(alloc: Global, genome: Genome, limit: u32) -> Result<Organism, Fail>
         return Err("the genome is above the limit".into());
     }
     let genome = Arc::new(alloc, genome)?;
-    let inputs = Inputs::of([0x0F0F0F0F, 0x33333333, 0x55555555]);
     let merit = u64::from(length);
-    Ok(Organism::found(alloc, genome, inputs, merit, Tasks::none(), limit)?)
+    Ok(Organism::found(alloc, genome, trace_inputs(), merit, Tasks::none(), limit)?)
+}
+
+/// The inputs of a trace.
+fn trace_inputs() -> Inputs {
+    Inputs::of([0x0F0F0F0F, 0x33333333, 0x55555555])
 }
 
 /// The step of this number, from 1.
@@ -122,7 +126,27 @@ fn memory_grows_below_the_limit_alone(rt: HostRuntime) -> Result<(), Fail> {
 fn the_ancestor_divides_at_step_389(rt: HostRuntime) -> Result<(), Fail> {
     let ancestor = read_letters(rt.alloc(), ANCESTOR.as_bytes())?;
     let mut organism = organism(rt.alloc(), ancestor, 2048)?;
-    let step = traced(rt.alloc(), &mut organism, 389)?;
+    expect_divide(&rt, rt.alloc(), &mut organism)
+}
+
+#[test]
+fn the_ancestor_divides_alike_in_the_memory_of_another(rt: HostRuntime) -> Result<(), Fail> {
+    let program = read_letters(rt.alloc(), b"yopcuyyyy")?;
+    let mut organism = organism(rt.alloc(), program, 2048)?;
+    let step = traced(rt.alloc(), &mut organism, 5)?;
+    assert!(rt; step.remark == Remark::Task(Task::Not));
+    let ancestor = read_letters(rt.alloc(), ANCESTOR.as_bytes())?;
+    if ancestor.len() > 2048 {
+        return Err("the genome is above the limit".into());
+    }
+    let genome = Arc::new(rt.alloc(), ancestor)?;
+    organism.restart(rt.alloc(), genome, trace_inputs(), 100, Tasks::none(), 2048)?;
+    expect_divide(&rt, rt.alloc(), &mut organism)
+}
+
+/// The ancestor's first viable divide, by the row of its trace.
+fn expect_divide(rt: &impl Abort, alloc: Global, organism: &mut Organism) -> Result<(), Fail> {
+    let step = traced(alloc, organism, 389)?;
     assert_eq!(rt; step.place, 96);
     assert_eq!(rt; step.registers, [0, 0, 0]);
     let Remark::Divide {
