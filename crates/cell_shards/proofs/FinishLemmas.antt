@@ -1,88 +1,105 @@
--- The answers of all jobs, in their order.
-use Rattle.std.proofs.Common.{◌≡◌, ◌∙◌, refl, ap, sym, subst, ℕ, zero, suc, ◌<◌, All, List, [], ◌∷◌, ◌++◌, length, map, get_or, Result, Ok, Err, IfOk, arith}
-use Rattle.std.specs.List.{AllZip}
-use Rattle.std.proofs.lemmas.List.{get_or-map, length-map}
-use Rattle.avida_port.specs.declared.memory.Memory.{Memory}
+-- Jobs that have run, in order of their numbers.
+use Rattle.std.proofs.Common.{◌≡◌, ◌∙◌, ℕ, zero, suc, ◌<◌, ◌∷◌, All, IfOk, List, Option, Some, None, Result, Ok, Err, ap, arith, get_or, length, map, refl, replicate, set, slice_get, subst, sym}
+use mathlib.Core.Logic.{dite}
+use native.Mathlib.Decide.{ℕ_discrete}
+use Rattle.std.proofs.lemmas.List.{get_or-map, get_or-set_other, get_or-set_same, length-map, length-set}
+use Rattle.std.proofs.lemmas.List.Elements.{All-head, All-tail}
+use Rattle.std.proofs.lemmas.Option.{none-some, same_Some, slice_get-get_or, slice_get_within}
 use Rattle.cell_shards.specs.CellLives.{RoundNumbers}
-use Rattle.cell_shards.specs.Finishing.{AreFinished, HasAnswer, IsFinished}
+use Rattle.cell_shards.specs.Finishing.{AreFinished, HasRun, IsFinished}
+use Rattle.cell_shards.specs.declared.done.Done.{Done}
 use Rattle.cell_shards.specs.declared.finished.Finished.{Finished}
 use Rattle.cell_shards.specs.declared.job.Job.{Job}
-use Rattle.cell_shards.specs.declared.running.Task.{Task}
 
--- the job of a task
-abbrev pub job_of : Task → Job
-job_of task = task.job
+-- what stands in the place of a job's number is this job, finished
+abbrev pub ArePlaced : RoundNumbers → List Job → List (Option Finished) → Type 0
+ArePlaced round jobs places = (number : ℕ) (job : Job) (finished : Finished)
+    → slice_get jobs number ≡ Some job → get_or places number None ≡ Some finished
+    → IsFinished round job finished
 
--- what holds of every job holds of the job of every task
-pub All-tasks : (P : Job → Type 0) (tasks : List Task) (jobs : List Job) → map job_of tasks ≡ jobs
-    → All P jobs → All (λ task. P task.job) tasks
-All-tasks P tasks jobs same all place task within =
-    let long : length (map job_of tasks) ≡ length tasks = length-map tasks job_of in
-    subst P (ap (λ js. get_or js place task.job) (sym same)
-    ∙ get_or-map job_of tasks place task task.job within)
-    (all place task.job (omega (arith, long, ap length same, within)))
+-- an empty place
+abbrev nobody : Option Finished
+nobody = None
 
--- lists of which each two that stand in one place fit have one length
-pub AllZip-long : {A B : Type 0} (R : A → B → Type 0) (xs : List A) (ys : List B) → AllZip R xs ys
-    → length ys ≡ length xs
-AllZip-long R [] [] fit = refl
-AllZip-long R [] (y ∷ ys) fit = absurd fit
-AllZip-long R (x ∷ xs) [] fit = absurd fit
-AllZip-long R (x ∷ xs) (y ∷ ys) fit = ap suc (AllZip-long R xs ys fit.1)
+-- in places that are empty nothing stands
+nothing : (count number : ℕ) → get_or (replicate count nobody) number nobody ≡ nobody
+nothing zero number = refl
+nothing (suc count) zero = refl
+nothing (suc count) (suc number) = nothing count number
 
--- of lists of which each two that stand in one place fit, these two fit
-pub AllZip-at : {A B : Type 0} (R : A → B → Type 0) (xs : List A) (ys : List B) (place : ℕ) (x : A)
-    (y : B) → AllZip R xs ys → place < length xs → R (get_or xs place x) (get_or ys place y)
-AllZip-at R [] ys place x y fit within = let no : ⊥ = omega arith in absurd no
-AllZip-at R (a ∷ xs) [] place x y fit within = absurd fit
-AllZip-at R (a ∷ xs) (b ∷ ys) zero x y fit within = fit.0
-AllZip-at R (a ∷ xs) (b ∷ ys) (suc place) x y fit within =
-    AllZip-at R xs ys place x y fit.1 (omega arith)
+-- nothing is placed yet
+pub ArePlaced-none : (round : RoundNumbers) (jobs : List Job) (count : ℕ)
+    (places : List (Option Finished)) → places ≡ replicate count None
+    → ArePlaced round jobs places
+ArePlaced-none round jobs count places empty number job finished at stands =
+    absurd (none-some finished (sym (nothing count number)
+    ∙ sym (ap (λ (all : List (Option Finished)). get_or all number None) empty) ∙ stands))
 
--- two that fit, behind lists that fit
-AllZip-push : {A B : Type 0} (R : A → B → Type 0) (xs : List A) (ys : List B) (x : A) (y : B)
-    → AllZip R xs ys → R x y → AllZip R (xs ++ x ∷ []) (ys ++ y ∷ [])
-AllZip-push R [] [] x y fit one = (one, tt)
-AllZip-push R [] (b ∷ ys) x y fit one = absurd fit
-AllZip-push R (a ∷ xs) [] x y fit one = absurd fit
-AllZip-push R (a ∷ xs) (b ∷ ys) x y fit one = (fit.0, AllZip-push R xs ys x y fit.1 one)
+-- one more job is placed
+pub ArePlaced-more : (round : RoundNumbers) (jobs : List Job) (places : List (Option Finished))
+    (done : Done) → length places ≡ length jobs → HasRun round jobs done
+    → ArePlaced round jobs places
+    → ArePlaced round jobs (set places done.number (Some done.finished))
+ArePlaced-more round jobs places done long run placed number job finished at stands =
+    dite (ℕ_discrete number done.number)
+    (λ same. let within : done.number < length places =
+    let below : done.number < length jobs = slice_get_within jobs done.number run.0 run.1 in
+    omega (arith, long) in
+    let there : get_or (set places done.number (Some done.finished)) done.number None
+    ≡ Some finished =
+    subst (λ (n : ℕ). get_or (set places done.number (Some done.finished)) n None ≡ Some finished)
+    same stands in
+    let it : done.finished ≡ finished = same_Some done.finished finished
+    (sym (get_or-set_same places done.number (Some done.finished) None within) ∙ there) in
+    let its : run.0 ≡ job = same_Some run.0 job
+    (sym run.1 ∙ sym (ap (λ (n : ℕ). slice_get jobs n) same) ∙ at) in
+    subst (λ (f : Finished). IsFinished round job f) it
+    (subst (λ (j : Job). IsFinished round j done.finished) its run.2))
+    (λ apart. placed number job finished at
+    (sym (get_or-set_other places done.number number (Some done.finished) None apart) ∙ stands))
 
--- lists that fit, each with one more that fit
-pub AllZip-pushed : {A B : Type 0} (R : A → B → Type 0) (xs all_xs : List A) (ys all_ys : List B)
-    (x : A) (y : B) → all_xs ≡ xs ++ x ∷ [] → all_ys ≡ ys ++ y ∷ []
-    → AllZip R xs ys → R x y → AllZip R all_xs all_ys
-AllZip-pushed R xs all_xs ys all_ys x y first second fit one =
-    subst (λ both. AllZip R both all_ys) (sym first)
-    (subst (AllZip R (xs ++ x ∷ [])) (sym second) (AllZip-push R xs ys x y fit one))
-
--- where each task has its answer, and all answers are finished jobs
-pub AreFinished-all : (round : RoundNumbers) (jobs : List Job) (tasks : List Task)
-    (results : List (Result Finished Memory)) (all : List Finished)
-    → map job_of tasks ≡ jobs → AllZip (HasAnswer round) tasks results
-    → results ≡ map (λ finished. Ok finished) all
+-- where something stands in each place, all jobs are finished
+pub AreFinished-placed : (round : RoundNumbers) (jobs : List Job) (places : List (Option Finished))
+    (all : List Finished) → length places ≡ length jobs
+    → places ≡ map (λ finished. Some finished) all → ArePlaced round jobs places
     → AreFinished round jobs all
-AreFinished-all round jobs tasks results all same answers done =
-    let ok : Finished → Result Finished Memory = λ finished. Ok finished in
-    let long : length results ≡ length tasks =
-    AllZip-long (HasAnswer round) tasks results answers in
-    let tasks_long : length (map job_of tasks) ≡ length tasks = length-map tasks job_of in
-    let all_long : length (map ok all) ≡ length all = length-map all ok in
+AreFinished-placed round jobs places all long full placed =
+    let some : Finished → Option Finished = λ finished. Some finished in
+    let as_long : length (map some all) ≡ length all = length-map all some in
     record {
-      count = omega (arith, ap length done, all_long, long, tasks_long, ap length same);
+      count = omega (arith, ap length full, as_long, long);
       each = λ place job end within.
-          let task : Task = record { shard = 0; job = job } in
-          let inside : place < length tasks = omega (arith, tasks_long, ap length same, within) in
-          let finished : place < length all =
-          omega (arith, ap length done, all_long, long, inside) in
-          let answer : get_or results place (Ok end) ≡ Ok (get_or all place end) =
-          ap (λ rs. get_or rs place (Ok end)) done
-          ∙ get_or-map ok all place end (Ok end) finished in
-          let asked : (get_or tasks place task).job ≡ get_or jobs place job =
-          sym (get_or-map job_of tasks place task job inside)
-          ∙ ap (λ js. get_or js place job) same in
-          subst (λ (j : Job). IsFinished round j (get_or all place end)) asked
-          (subst (HasAnswer round (get_or tasks place task)) answer
-          (AllZip-at (HasAnswer round) tasks results place task (Ok end) answers inside));
+          placed place (get_or jobs place job) (get_or all place end)
+          (slice_get-get_or jobs place job within)
+          (ap (λ (ps : List (Option Finished)). get_or ps place None) full
+          ∙ get_or-map some all place end None
+          (omega (arith, ap length full, as_long, long, within)));
+    }
+
+-- as far as jobs that have run are gathered: some of all are left, and the others stand in places
+pub record Gathered (jobs : List Job) (all left : List Done)
+    (places : List (Option Finished)) : Type 0 where
+  pub long : length places ≡ length jobs
+  pub within : All (λ one. one.number < length jobs) left
+  pub placed : (round : RoundNumbers) → All (HasRun round jobs) all
+      → All (HasRun round jobs) left × ArePlaced round jobs places
+
+-- the next one is gathered
+pub Gathered-more : (jobs : List Job) (all left rest : List Done) (one : Done)
+    (places : List (Option Finished)) → left ≡ one ∷ rest → Gathered jobs all left places
+    → Gathered jobs all rest (set places one.number (Some one.finished))
+Gathered-more jobs all left rest one places is so_far =
+    let before : Gathered jobs all (one ∷ rest) places =
+    subst (λ (some : List Done). Gathered jobs all some places) is so_far in
+    record {
+      long = length-set places one.number (Some one.finished) ∙ before.long;
+      within = All-tail (λ (other : Done). other.number < length jobs) one rest before.within;
+      placed = λ round run.
+          let both = before.placed round run in (
+            All-tail (HasRun round jobs) one rest both.0,
+            ArePlaced-more round jobs places one before.long
+                (All-head (HasRun round jobs) one rest both.0) both.1,
+          );
     }
 
 -- what holds of an answer holds as far as it follows

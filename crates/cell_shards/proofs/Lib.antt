@@ -3,3 +3,4 @@ mod PartLemmas
 mod LivesLemmas
 mod InterningLemmas
 mod FinishLemmas
+mod PoolLemmas

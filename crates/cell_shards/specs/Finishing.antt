@@ -2,9 +2,8 @@
 -- shard, and a seat at the bank that numbers genomes. For example, if the organism of cell 41 bore
 -- a child and died of age, then cell 41 is left empty, it is among the dead, and the child is
 -- delivered with 41 as its parent's cell.
-use Rattle.std.specs.Prelude.{◌≡◌, ℕ, ◌+◌, ◌<◌, ◌≤◌, ◌^◌, ◌++◌, All, IfOk, List, Result, Some, length, map, slice_get, slice_index_or}
+use Rattle.std.specs.Prelude.{◌≡◌, ℕ, ◌+◌, ◌<◌, ◌≤◌, ◌^◌, ◌++◌, All, List, Some, length, map, slice_get, slice_index_or}
 use mathlib.Core.List.{IsPrefix}
-use Rattle.avida_port.specs.declared.memory.Memory.{Memory}
 use Rattle.genome.specs.Genome.{letters}
 use Rattle.genotype_bank.specs.BankHistory.{genotypes_of}
 use Rattle.genotype_bank.specs.Seats.{SeatValue, own_calls_of}
@@ -15,9 +14,9 @@ use Rattle.instruction_set.specs.declared.letter.Letter.{Letter}
 use Rattle.mutations.specs.BirthRecord.{record_of}
 use Rattle.cell_shards.specs.CellLives.{BirthValue, IsYoung, Part, RoundNumbers, births_from, deaths_from, left_in, part_from, shard_lives_of, standing_in}
 use Rattle.cell_shards.specs.declared.delivered.Delivered.{Delivered}
+use Rattle.cell_shards.specs.declared.done.Done.{Done}
 use Rattle.cell_shards.specs.declared.finished.Finished.{Finished}
 use Rattle.cell_shards.specs.declared.job.Job.{Job}
-use Rattle.cell_shards.specs.declared.running.Task.{Task}
 
 -- the cells of a job
 abbrev pub part_of : Job → Part
@@ -80,9 +79,10 @@ pub record IsFinished (round : RoundNumbers) (job : Job) (finished : Finished) :
   pub dead : finished.dead ≡ deaths_from job.first (shard_lives_of round (part_of job))
   pub seat : HasInterned job.seat finished.seat finished.births
 
--- what is answered to a task: its job, finished, where memory suffices
-abbrev pub HasAnswer : RoundNumbers → Task → Result Finished Memory → Type 0
-HasAnswer round task answer = IfOk answer (IsFinished round task.job)
+-- the job of this number has run
+abbrev pub HasRun : RoundNumbers → List Job → Done → Type 0
+HasRun round jobs done =
+    (job : Job) × (slice_get jobs done.number ≡ Some job) × IsFinished round job done.finished
 
 -- all jobs are finished, in their order
 pub record AreFinished (round : RoundNumbers) (jobs : List Job) (all : List Finished) : Type 0 where

@@ -4,3 +4,4 @@ pub mod Shards
 pub mod CellLives
 pub mod Bodies
 pub mod Finishing
+pub mod Pool

@@ -1,14 +1,17 @@
-//! The cells of a world in shards, each run by a thread of its own.
+//! The cells of a world in shards, which threads run.
 #![tactic(auto)]
 
 mod body;
 mod boxed_organism;
 mod delivered;
 mod delivering;
+mod done;
 mod finished;
+mod gathering;
 mod job;
 pub mod laws;
 mod lives;
+mod pool;
 mod round;
 mod running;
 mod shards;
@@ -20,6 +23,6 @@ pub use delivered::{Delivered, Deliveries};
 pub use finished::{Dead, Finished};
 pub use job::{Cells, Job, Slices};
 pub use round::Round;
-pub use running::run_all;
+pub use running::{run_all, run_by};
 pub use shards::bounds;
 pub use standing::{Standing, Standings};

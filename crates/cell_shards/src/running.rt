@@ -1,31 +1,26 @@
-// The jobs of an update, each in a thread of its own.
+// The jobs of an update, each run by the thread that takes it first.
 ghost use denote.Param.Send.{IsSync};
-ghost use Rattle.std.specs.Prelude.{◌≡◌, ◌++◌, ◌∷◌, [], All, IfOk, Ok, map};
-ghost use Rattle.std.specs.List.{AllZip};
+ghost use Rattle.std.specs.Prelude.{◌≡◌, ◌++◌, ◌<◌, ◌≤◌, All, IfOk, OnOk, length};
 ghost use Rattle.cell_shards.specs.CellLives.{round_numbers};
-ghost use Rattle.cell_shards.specs.Finishing.{AreFinished, CanRun, HasAnswer, IsFinished};
+ghost use Rattle.cell_shards.specs.Finishing.{AreFinished, CanRun, HasRun};
 
+use crate::done::Done;
 use crate::finished::Finished;
+use crate::gathering::in_order;
 use crate::job::Job;
 use crate::lives::live;
+use crate::pool::{Pool, PoolSeat};
 use crate::round::Round;
 use avida_port::{Gate, Memory};
 use genotype_bank::Bank;
-use std::alloc::{AllocError, Global};
+use std::alloc::Global;
 use std::sync::Wait;
 use std::thread;
 use std::thread::Threads;
 
-/// A job with its number among the jobs, from 0.
-#[derive(Drop)]
-pub(crate) struct Task {
-    pub(crate) shard: usize,
-    pub(crate) job: Job,
-}
-
-/// Runs the cells of each job in a thread of its own, and interns each newborn's genome; the list
-/// is in order of the jobs. Each job passes the gate once, before its cells. It may wait for other
-/// seats of the bank. After `Memory` the jobs and their seats are gone.
+/// Runs the cells of each job, and interns each newborn's genome, by as many threads as there are
+/// jobs; the list is in order of the jobs. Each thread passes the gate once, before its cells. It
+/// may wait for other seats of the bank. After `Memory` the jobs and their seats are gone.
 pub fn run_all<R: Threads + Wait + Sync, G: Gate + Sync>(
     rt: &R,
     alloc: Global,
@@ -39,98 +34,127 @@ pub fn run_all<R: Threads + Wait + Sync, G: Gate + Sync>(
     ensures { IfOk result
         (λ all. AreFinished (round_numbers round.now) jobs.items all.items) }
 {
-    let tasks = numbered(alloc, jobs)?;
-    let results = run_tasks(rt, alloc, tasks, bank, round, gate)?;
-    all_finished(alloc, results)
+    let workers = jobs.len();
+    run_by(rt, alloc, jobs, workers, bank, round, gate)
 }
 
-/// The jobs with their numbers.
-fn numbered(alloc: Global, jobs: Vec<Job>) -> Result<Vec<Task>, Memory>
-    ensures { IfOk result (λ tasks. map (λ task. task.job) tasks.items ≡ jobs.items) }
-{
-    let mut tasks = Vec::with_capacity(alloc, jobs.len())?;
-    for job in jobs {
-        let shard = tasks.len();
-        tasks.push(Task { shard, job })?;
-    }
-    Ok(tasks)
-}
-
-/// By as many threads as there are jobs, where they can be made: this thread starts all others, and
-/// runs the first job. The answers are in order of the tasks.
-#[cycle(tasks)]
-fn run_tasks<R: Threads + Wait + Sync, G: Gate + Sync>(
+/// The same by so many threads, but by one at least and by no more than there are jobs: each takes
+/// a job that nobody has taken, until all are taken. So one that is held up runs fewer of them.
+pub fn run_by<R: Threads + Wait + Sync, G: Gate + Sync>(
     rt: &R,
     alloc: Global,
-    mut tasks: Vec<Task>,
+    jobs: Vec<Job>,
+    workers: usize,
     bank: &Bank,
     round: &Round,
     gate: &G,
-) -> Result<Vec<Result<Finished, Memory>>, AllocError>
-    requires tasks { All (λ task. CanRun task.job × (task.job.seat.bank ≡ bank.now)) tasks.items }
-    ensures { IfOk result
-        (λ results. AllZip (HasAnswer (round_numbers round.now)) tasks.items results.items) }
-{
-    let Some(last) = tasks.pop() else {
-        return Ok(Vec::new(alloc));
-    };
-    if tasks.is_empty() {
-        let answer = run_task(rt, alloc, last, bank, round, gate);
-        return with_answer(Vec::new(alloc), answer);
-    }
-    let there = move || -> Result<Finished, Memory>
-        requires { IsSync R.row × IsSync G.row × CanRun last.job
-            × (last.job.seat.bank ≡ bank.now) }
-        ensures { HasAnswer (round_numbers round.entry.now) last result }
-    { run_task(rt, alloc, last, bank, round, gate) };
-    let here = move || -> Result<Vec<Result<Finished, Memory>>, AllocError>
-        requires { IsSync R.row × IsSync G.row
-            × All (λ task. CanRun task.job × (task.job.seat.bank ≡ bank.now)) tasks.items }
-        ensures { IfOk result (λ results.
-            AllZip (HasAnswer (round_numbers round.entry.now)) tasks.items results.items) }
-    { run_tasks(rt, alloc, tasks, bank, round, gate) };
-    let (answer, results) = thread::join(rt, there, here);
-    with_answer(results?, answer)
-}
-
-/// The answers, and this one after them.
-fn with_answer(
-    mut results: Vec<Result<Finished, Memory>>,
-    answer: Result<Finished, Memory>,
-) -> Result<Vec<Result<Finished, Memory>>, AllocError>
-    ensures { IfOk result (λ all. all.items ≡ results.items ++ answer ∷ []) }
-{
-    results.push(answer)?;
-    Ok(results)
-}
-
-/// Passes the gate, and then runs the job.
-fn run_task<R: Wait, G: Gate>(
-    rt: &R,
-    alloc: Global,
-    task: Task,
-    bank: &Bank,
-    round: &Round,
-    gate: &G,
-) -> Result<Finished, Memory>
-    requires job { CanRun task.job }
-    requires seat { task.job.seat.bank ≡ bank.now }
-    ensures { IfOk result (IsFinished (round_numbers round.now) task.job) }
-{
-    gate.pass(u64::from(round.update), task.shard);
-    live(rt, alloc, task.job, bank, round)
-}
-
-/// All jobs are finished, or memory ran out in one of them.
-fn all_finished(
-    alloc: Global,
-    results: Vec<Result<Finished, Memory>>,
 ) -> Result<Vec<Finished>, Memory>
-    ensures { IfOk result (λ all. results.items ≡ map (λ finished. Ok finished) all.items) }
+    requires jobs { All CanRun jobs.items }
+    requires seats { All (λ job. job.seat.bank ≡ bank.now) jobs.items }
+    ensures { IfOk result
+        (λ all. AreFinished (round_numbers round.now) jobs.items all.items) }
 {
-    let mut all = Vec::with_capacity(alloc, results.len())?;
-    for ended in results {
-        all.push(ended?)?;
+    let workers = workers.min(jobs.len());
+    let (pool, seat) = Pool::new(alloc, jobs)?;
+    let done = run_together(rt, alloc, &pool, seat, workers, bank, round, gate)?;
+    in_order(alloc, &pool, done)
+}
+
+/// By so many threads, where they can be made: this thread starts all others, and takes jobs as
+/// they do.
+#[cycle(workers)]
+fn run_together<R: Threads + Wait + Sync, G: Gate + Sync>(
+    rt: &R,
+    alloc: Global,
+    pool: &Pool,
+    mut seat: PoolSeat,
+    workers: usize,
+    bank: &Bank,
+    round: &Round,
+    gate: &G,
+) -> Result<Vec<Done>, Memory>
+    requires pool { seat ≡ pool.now }
+    requires few { workers ≤ length pool.now.jobs }
+    requires jobs { All (λ job. CanRun job × (job.seat.bank ≡ bank.now)) pool.now.jobs }
+    ensures { IfOk result
+        (λ done. All (HasRun (round_numbers round.now) pool.now.jobs) done.items) }
+{
+    if workers <= 1 {
+        return run_free(rt, alloc, pool, seat, 0, bank, round, gate);
     }
-    Ok(all)
+    let worker = workers - 1;
+    let theirs = pool.split(&mut seat);
+    let there = move || -> Result<Vec<Done>, Memory>
+        requires { IsSync R.row × IsSync G.row × (theirs ≡ pool.now)
+            × All (λ job. CanRun job × (job.seat.bank ≡ bank.now)) pool.now.jobs }
+        ensures { IfOk result (λ done.
+            All (HasRun (round_numbers round.entry.now) pool.entry.now.jobs) done.items) }
+    { run_free(rt, alloc, pool, theirs, worker, bank, round, gate) };
+    let here = move || -> Result<Vec<Done>, Memory>
+        requires { IsSync R.row × IsSync G.row × (seat ≡ pool.now)
+            × (worker ≤ length pool.now.jobs)
+            × All (λ job. CanRun job × (job.seat.bank ≡ bank.now)) pool.now.jobs }
+        ensures { IfOk result (λ done.
+            All (HasRun (round_numbers round.entry.now) pool.entry.now.jobs) done.items) }
+    { run_together(rt, alloc, pool, seat, worker, bank, round, gate) };
+    let (last, others) = thread::join(rt, there, here);
+    both(others?, last?)
+}
+
+/// What two threads have done.
+fn both(mut done: Vec<Done>, mut more: Vec<Done>) -> Result<Vec<Done>, Memory>
+    ensures { IfOk result (λ all. all.items ≡ done.items ++ more.items) }
+{
+    done.append(&mut more)?;
+    Ok(done)
+}
+
+/// Passes the gate, and then runs one job after another that nobody has taken.
+fn run_free<R: Wait, G: Gate>(
+    rt: &R,
+    alloc: Global,
+    pool: &Pool,
+    mut seat: PoolSeat,
+    worker: usize,
+    bank: &Bank,
+    round: &Round,
+    gate: &G,
+) -> Result<Vec<Done>, Memory>
+    requires pool { seat ≡ pool.now }
+    requires jobs { All (λ job. CanRun job × (job.seat.bank ≡ bank.now)) pool.now.jobs }
+    ensures { IfOk result
+        (λ done. All (HasRun (round_numbers round.now) pool.now.jobs) done.items) }
+{
+    gate.pass(u64::from(round.update), worker);
+    let mut done = Vec::new(alloc);
+    for number in 0..pool.len() {
+        run_if_free(rt, alloc, pool, &mut seat, number, bank, round, &mut done)?;
+    }
+    Ok(done)
+}
+
+/// Runs the job of this number, where nobody has taken it.
+fn run_if_free<R: Wait>(
+    rt: &R,
+    alloc: Global,
+    pool: &Pool,
+    seat: &mut PoolSeat,
+    number: usize,
+    bank: &Bank,
+    round: &Round,
+    done: &mut Vec<Done>,
+) -> Result<(), Memory>
+    requires pool { seat.old ≡ pool.now }
+    requires number { number < length pool.now.jobs }
+    requires jobs { All (λ job. CanRun job × (job.seat.bank ≡ bank.now)) pool.now.jobs }
+    ensures seat { seat.new ≡ seat.old }
+    ensures done { OnOk result (All (HasRun (round_numbers round.now) pool.now.jobs) done.old.items
+        → All (HasRun (round_numbers round.now) pool.now.jobs) done.new.items) }
+{
+    let Some(job) = pool.take(seat, number) else {
+        return Ok(());
+    };
+    let finished = live(rt, alloc, job, bank, round)?;
+    done.push(Done { number, finished })?;
+    Ok(())
 }
