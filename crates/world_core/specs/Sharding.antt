@@ -1,5 +1,5 @@
 -- How the jobs of an update part the cells and share a seat (docs/ARCHITECTURE.md, "Shards").
-use Rattle.std.specs.Prelude.{◌≡◌, ℕ, zero, suc, ◌+◌, ◌-◌, ◌<◌, ◌≤◌, ◌++◌, All, List, [], ◌∷◌, length, map, sum, take, Option}
+use Rattle.std.specs.Prelude.{◌≡◌, ℕ, zero, suc, ◌+◌, ◌-◌, ◌<◌, ◌≤◌, ◌++◌, All, List, [], ◌∷◌, if◌then◌else◌, length, map, max, nat_eq, sum, take, Option}
 use Rattle.std.specs.List.{flat_map, sum_by}
 use Rattle.std.specs.List.Sorted.{IsPermutation}
 use mathlib.Core.List.{IsPrefix}
@@ -34,26 +34,31 @@ pub record PartCells (jobs : List Job) (cells : List (Option OrganismState))
 abbrev pub load_before : List ℕ → ℕ → ℕ
 load_before slices cell = sum (take cell (map load_of slices))
 
--- the load before a shard, were each to have as much
+-- into how many shards the cells are cut: for one worker into one, and else into so many that who
+-- ends first can take another
+abbrev pub shards_for : ℕ → ℕ
+shards_for workers = if nat_eq workers 1 then 1 else max 32 workers
+
+-- the load before a shard, were each of so many to have as much
 abbrev pub share_before : ℕ → List ℕ → ℕ → ℕ
-share_before workers slices shard = first_cell (sum (map load_of slices)) workers shard
+share_before shards slices shard = first_cell (sum (map load_of slices)) shards shard
 
 -- a shard begins at the last cell before which there is no more load than that
-pub record StartsAtShare (workers : ℕ) (slices : List ℕ) (shard cell : ℕ) : Type 0 where
-  pub from : load_before slices cell ≤ share_before workers slices shard
+pub record StartsAtShare (shards : ℕ) (slices : List ℕ) (shard cell : ℕ) : Type 0 where
+  pub from : load_before slices cell ≤ share_before shards slices shard
   pub to : cell < length slices
-      → share_before workers slices shard < load_before slices (cell + 1)
+      → share_before shards slices shard < load_before slices (cell + 1)
 
 -- these jobs are the shards from this one to the last, and start at their shares
 abbrev pub StartAtShares : ℕ → List ℕ → ℕ → List Job → Type 0
-StartAtShares workers slices shard [] = shard ≡ workers
-StartAtShares workers slices shard (job ∷ jobs) =
-    StartsAtShare workers slices shard job.first × StartAtShares workers slices (shard + 1) jobs
+StartAtShares shards slices shard [] = shard ≡ shards
+StartAtShares shards slices shard (job ∷ jobs) =
+    StartsAtShare shards slices shard job.first × StartAtShares shards slices (shard + 1) jobs
 
--- as many jobs as workers, each but the first of which starts at its share
+-- as many jobs as shards, each but the first of which starts at its share
 abbrev pub ShareLoad : ℕ → List ℕ → List Job → Type 0
-ShareLoad workers slices [] = ⊥
-ShareLoad workers slices (job ∷ jobs) = StartAtShares workers slices 1 jobs
+ShareLoad shards slices [] = ⊥
+ShareLoad shards slices (job ∷ jobs) = StartAtShares shards slices 1 jobs
 
 -- a seat that another gave a share of 1
 abbrev pub seat_from : SeatValue → SeatValue

@@ -7,7 +7,7 @@ ghost use Rattle.cell_shards.specs.Finishing.{IsNumbered, birth_of};
 ghost use Rattle.genotype_bank.specs.Seats.{all_shares, own_calls_of};
 ghost use Rattle.world_core.specs.Genotypes.{TakesIn};
 ghost use Rattle.world_core.specs.Population.{AreDifferent};
-ghost use Rattle.world_core.specs.Sharding.{IsJoined, PartCells, ShareLoad, ShareSeat};
+ghost use Rattle.world_core.specs.Sharding.{IsJoined, PartCells, ShareLoad, ShareSeat, shards_for};
 
 use crate::genotypes::{Genotypes, len_after};
 use crate::loads::{loads_of, start_of};
@@ -15,7 +15,7 @@ use avida_port::{Gate, Memory};
 use cell_shards::laws::{parts_live_as_one, shards_part_the_cells};
 use cell_shards::{
     BoxedOrganism, Cells, Dead, Delivered, Deliveries, Finished, Job, Round, Slices, Standing,
-    Standings, bounds, run_all,
+    Standings, bounds, run_by,
 };
 use genotype_bank::laws::{calls_number_genotypes, genotypes_are_what_was_interned, numbers_agree};
 use genotype_bank::{Bank, Seat};
@@ -34,8 +34,8 @@ pub(crate) struct Ended {
     pub(crate) dead: Vec<u32>,
 }
 
-/// All cells live for an update, in as many shards as there are workers. One worker has the cells
-/// as they are, and nothing is moved. After `Memory` all is gone.
+/// All cells live for an update, in shards, by as many threads as there are workers. One worker has
+/// the cells as they are, and nothing is moved. After `Memory` all is gone.
 pub(crate) fn live_in_shards<R: Threads + Wait + Sync, G: Gate + Sync>(
     rt: &R,
     alloc: Global,
@@ -69,8 +69,8 @@ pub(crate) fn live_in_shards<R: Threads + Wait + Sync, G: Gate + Sync>(
     parts_live_as_one();
     let Genotypes { bank, seat, len } = genotypes;
     seat.owns_all();
-    let jobs = jobs_of(alloc, &bank, seat, cells, slices, workers)?;
-    let shards = run_all(rt, alloc, jobs, &bank, round, gate)?;
+    let jobs = jobs_of(alloc, &bank, seat, cells, slices, shards_for(workers))?;
+    let shards = run_by(rt, alloc, jobs, workers as usize, &bank, round, gate)?;
     let Finished {
         cells,
         standings,
@@ -91,7 +91,17 @@ pub(crate) fn live_in_shards<R: Threads + Wait + Sync, G: Gate + Sync>(
     Ok((genotypes, ended))
 }
 
-/// The cells cut into a job for each worker, cut off from the last to the first, so that each job
+/// Into how many shards the cells are cut. The threads take shard after shard, so the smaller the
+/// shards are, the less one waits for the others at the end.
+fn shards_for(workers: u32) -> u32
+    requires { (1 ≤ workers) × (workers ≤ 64) }
+    ensures count { result ≡ shards_for workers }
+    ensures few { (1 ≤ result) × (result ≤ 64) }
+{
+    if workers == 1 { 1 } else { workers.max(32) }
+}
+
+/// The cells cut into a job for each shard, cut off from the last to the first, so that each job
 /// is about as much work. The first job keeps the seat; each other has one that was split from it.
 fn jobs_of(
     alloc: Global,
@@ -99,16 +109,16 @@ fn jobs_of(
     seat: Seat,
     cells: Vec<Option<BoxedOrganism>>,
     slices: Vec<u64>,
-    workers: u32,
+    shards: u32,
 ) -> Result<Vec<Job>, Memory>
     requires cells { (1 ≤ length cells.items) × (length cells.items ≤ CELLS) }
     requires slices { length slices.items ≡ length cells.items }
     requires few { All (λ steps. steps < 2 ^ 27) slices.items }
     requires total { sum slices.items ≤ 65536000 }
-    requires workers { (1 ≤ workers) × (workers ≤ 64) }
+    requires shards { (1 ≤ shards) × (shards ≤ 64) }
     requires seat { (seat.bank ≡ bank.now) × (seat.share ≡ all_shares) }
     ensures cells { IfOk result (λ jobs. PartCells jobs.items cells.items slices.items) }
-    ensures load { IfOk result (λ jobs. ShareLoad workers slices.items jobs.items) }
+    ensures load { IfOk result (λ jobs. ShareLoad shards slices.items jobs.items) }
     ensures seats { IfOk result (λ jobs. ShareSeat seat jobs.items) }
     ensures few { IfOk result (λ jobs. length jobs.items ≤ 64) }
 {
@@ -119,10 +129,10 @@ fn jobs_of(
     let mut seat = seat;
     let mut cells = cells;
     let mut slices = slices;
-    let mut jobs = Vec::with_capacity(alloc, workers as usize)?;
-    let mut shard = workers - 1;
+    let mut jobs = Vec::with_capacity(alloc, shards as usize)?;
+    let mut shard = shards - 1;
     while shard > 0 {
-        let (share, _) = bounds(all.max(1) as u32, workers, shard);
+        let (share, _) = bounds(all.max(1) as u32, shards, shard);
         let start = start_of(&loads, before, u64::from(share));
         before = start.before;
         loads.truncate(start.cell);

@@ -19,12 +19,12 @@ loop-shard-preserved c =
     omega (arith, c.start_of-start.ensures.within, ap length same) in
     let within : start ≤ length left = omega (arith, below, c.loop-shard.invariant.loads, long) in
     let share : c.from.result
-    ≡ share_before c.args.workers c.args.slices.items c.loop-shard.shard =
+    ≡ share_before c.args.shards c.args.slices.items c.loop-shard.shard =
     c.from.ensures ∙ ap (λ (both : ℕ × ℕ). both.0) c.bounds-share.ensures
-    ∙ ap (λ n. first_cell n c.args.workers c.loop-shard.shard) c.max.ensures
-    ∙ shares-of_none _ c.args.workers c.loop-shard.shard
+    ∙ ap (λ n. first_cell n c.args.shards c.loop-shard.shard) c.max.ensures
+    ∙ shares-of_none _ c.args.shards c.loop-shard.shard
     (omega (arith, c.loop-shard.invariant.some))
-    ∙ ap (λ n. first_cell n c.args.workers c.loop-shard.shard) c.loop-shard.invariant.all in
+    ∙ ap (λ n. first_cell n c.args.shards c.loop-shard.shard) c.loop-shard.invariant.all in
     let job : Job = record {
       first = start;
       cells = c.from_vec.result;
@@ -51,7 +51,7 @@ loop-shard-preserved c =
           ∙ ap (λ (all : List ℕ). sum (take start all)) same
           ∙ ap sum (sym c.truncate.ensures.items);
       all = c.loop-shard.invariant.all;
-      started = started-more c.args.workers c.args.slices.items c.loop-shard.jobs.items
+      started = started-more c.args.shards c.args.slices.items c.loop-shard.jobs.items
           c.loop-shard.shard loads c.loop-shard.invariant.started job
           c.push.new.self.items (c.loop-shard.shard - 1) c.truncate.new.self.items
           (omega (arith, c.loop-shard-test.true)) below
@@ -69,7 +69,7 @@ loop-shard-preserved c =
             share,
           ))
           (c.shards_part_the_cells.ensures.rising (sum (map load_of c.args.slices.items))
-          c.args.workers c.loop-shard.shard c.requires.workers.0)
+          c.args.shards c.loop-shard.shard c.requires.shards.0)
           c.truncate.ensures.items c.in_ok-push.ensures.items;
       few = omega (
         arith,

@@ -12,9 +12,9 @@ invariant-loop-shard l = record {
   loads : length l.loads.items ≡ length l.slices.items;
   left : l.before ≡ sum l.loads.items;
   all : l.all ≡ sum (map load_of l.fn.slices.items);
-  started : HaveStarted l.workers l.fn.slices.items l.jobs.items l.shard l.loads.items;
+  started : HaveStarted l.shards l.fn.slices.items l.jobs.items l.shard l.loads.items;
   few : length l.cells.items ≤ 65536;
-  some : length l.jobs.items + l.shard + 1 ≡ l.workers;
+  some : length l.jobs.items + l.shard + 1 ≡ l.shards;
 }
 
 -- the shards to go
