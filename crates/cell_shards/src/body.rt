@@ -14,7 +14,7 @@ impl Body {
     ghost use Rattle.std.specs.Prelude.{◌≡◌, None, OnOk};
     ghost use Rattle.cell_shards.specs.Bodies.{CanBeMade, who_is};
 
-    /// Who is to be made is made. After `Memory` the organism that was there stands there.
+    /// Who is to be made is made. After `Memory` drop the body.
     pub(crate) fn make(&mut self, alloc: Global) -> Result<(), Memory>
         requires { CanBeMade self.old.unmade }
         ensures made { self.new.unmade ≡ None }

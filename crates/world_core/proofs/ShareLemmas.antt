@@ -4,7 +4,7 @@ use Rattle.std.proofs.Math.Nat.{div-eq_of_lt, eq-or-lt_of_le, max-eq_left}
 use Rattle.std.proofs.lemmas.List.{length-take-le, take-take}
 use Rattle.cell_shards.specs.Shards.{first_cell}
 use Rattle.cell_shards.specs.declared.job.Job.{Job}
-use Rattle.world_core.specs.Sharding.{StartAtShares, StartsAtShare, load_before, load_of, share_before}
+use Rattle.world_core.specs.Sharding.{FollowShares, StartsAtShare, load_before, load_of, share_before}
 use Rattle.world_core.proofs.CutLemmas.{jobs-push}
 
 -- where there is no load, a load of 1 has the same shares
@@ -18,7 +18,7 @@ shares-of_none (suc all) workers shard below =
 -- the jobs so far, the last one first, start at their shares, and so does what is left behind it
 pub record HaveStarted (workers : ℕ) (slices : List ℕ) (jobs : List Job) (shard : ℕ)
     (loads : List ℕ) : Type 0 where
-  pub behind : StartAtShares workers slices (shard + 1) (reverse jobs)
+  pub behind : FollowShares workers slices (shard + 1) (reverse jobs)
   pub left : loads ≡ take (length loads) (map load_of slices)
   pub to : length loads < length slices
       → share_before workers slices (shard + 1) < load_before slices (length loads + 1)
@@ -50,8 +50,8 @@ module _ (workers : ℕ) (slices : List ℕ) (jobs : List Job) (shard : ℕ) (lo
       } in
       let ordered : reverse next ≡ job ∷ reverse jobs = ap reverse next_is ∙ jobs-push jobs job in
       record {
-        behind = subst (StartAtShares workers slices (before + 1)) (sym ordered)
-            (subst (λ n. StartAtShares workers slices n (job ∷ reverse jobs)) shard_is
+        behind = subst (FollowShares workers slices (before + 1)) (sym ordered)
+            (subst (λ n. FollowShares workers slices n (job ∷ reverse jobs)) shard_is
             (starts, started.behind));
         left = fewer_is ∙ shorter job.first within ∙ ap (λ n. take n all) (sym size);
         to = subst

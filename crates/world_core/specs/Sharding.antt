@@ -50,15 +50,15 @@ pub record StartsAtShare (shards : ℕ) (slices : List ℕ) (shard cell : ℕ) :
       → share_before shards slices shard < load_before slices (cell + 1)
 
 -- these jobs are the shards from this one to the last, and start at their shares
-abbrev pub StartAtShares : ℕ → List ℕ → ℕ → List Job → Type 0
-StartAtShares shards slices shard [] = shard ≡ shards
-StartAtShares shards slices shard (job ∷ jobs) =
-    StartsAtShare shards slices shard job.first × StartAtShares shards slices (shard + 1) jobs
+abbrev pub FollowShares : ℕ → List ℕ → ℕ → List Job → Type 0
+FollowShares shards slices shard [] = shard ≡ shards
+FollowShares shards slices shard (job ∷ jobs) =
+    StartsAtShare shards slices shard job.first × FollowShares shards slices (shard + 1) jobs
 
 -- as many jobs as shards, each but the first of which starts at its share
 abbrev pub ShareLoad : ℕ → List ℕ → List Job → Type 0
 ShareLoad shards slices [] = ⊥
-ShareLoad shards slices (job ∷ jobs) = StartAtShares shards slices 1 jobs
+ShareLoad shards slices (job ∷ jobs) = FollowShares shards slices 1 jobs
 
 -- a seat that another gave a share of 1
 abbrev pub seat_from : SeatValue → SeatValue
