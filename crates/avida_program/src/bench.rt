@@ -22,7 +22,7 @@ use std::alloc::Global;
 use std::sync::Wait;
 use std::thread::Threads;
 use world_config::Config;
-use world_core::World;
+use world_core::{RunningWorld, World};
 
 /// How many updates are run.
 const UPDATES: u32 = 200;
@@ -49,10 +49,10 @@ fn config_with(alloc: Global, seed: u64) -> Result<Config, Memory>
 fn sum_update<R: Threads + Wait + Sync, G: Gate + Sync>(
     rt: &R,
     alloc: Global,
-    world: World,
+    world: RunningWorld,
     sums: Sums,
     gate: &G,
-) -> Result<(World, Sums), Memory>
+) -> Result<(RunningWorld, Sums), Memory>
     requires update { world.update < 1000000 }
     requires births { sums.births ≤ 2 ^ 100 }
     requires bytes { sums.bytes ≤ 2 ^ 100 }
@@ -75,7 +75,7 @@ fn sum_update<R: Threads + Wait + Sync, G: Gate + Sync>(
 fn sum_updates<R: Threads + Wait + Sync, G: Gate + Sync>(
     rt: &R,
     alloc: Global,
-    mut world: World,
+    world: World,
     updates: u32,
     gate: &G,
 ) -> Result<(World, Sums), Memory>
@@ -88,14 +88,15 @@ fn sum_updates<R: Threads + Wait + Sync, G: Gate + Sync>(
         after.1.bytes ≡ length (updates_text world.config updates)) }
     ensures few { IfOk result (λ after. after.1.bytes ≤ 2 ^ 100) }
 {
+    let mut running = world.into_running();
     let mut sums = Sums {
         births: 0,
         bytes: 0,
     };
     for _ in 0..updates {
-        (world, sums) = sum_update(rt, alloc, world, sums, gate)?;
+        (running, sums) = sum_update(rt, alloc, running, sums, gate)?;
     }
-    Ok((world, sums))
+    Ok((running.into_world()?, sums))
 }
 
 /// Runs a configuration to its end. The sums are its births and the bytes of its whole log.

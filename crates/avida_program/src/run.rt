@@ -15,16 +15,16 @@ use std::sync::Wait;
 use std::thread::Threads;
 use std::time::Clock;
 use world_config::Config;
-use world_core::World;
 use world_core::laws::replay_gives_living;
+use world_core::{RunningWorld, World};
 
 /// One update, whose text is dropped.
 fn pass_update<R: Threads + Wait + Sync, G: Gate + Sync>(
     rt: &R,
     alloc: Global,
-    world: World,
+    world: RunningWorld,
     gate: &G,
-) -> Result<World, Memory>
+) -> Result<RunningWorld, Memory>
     requires { world.update < 1000000 }
     ensures config { IfOk result (λ next. next.config ≡ world.config) }
     ensures update { IfOk result (λ next. next.update ≡ world.update + 1) }
@@ -37,7 +37,7 @@ fn pass_update<R: Threads + Wait + Sync, G: Gate + Sync>(
 fn pass_updates<R: Threads + Wait + Sync, G: Gate + Sync>(
     rt: &R,
     alloc: Global,
-    mut world: World,
+    world: World,
     updates: u32,
     gate: &G,
 ) -> Result<World, Memory>
@@ -46,10 +46,11 @@ fn pass_updates<R: Threads + Wait + Sync, G: Gate + Sync>(
     ensures config { IfOk result (λ after. after.config ≡ world.config) }
     ensures update { IfOk result (λ after. after.update ≡ updates) }
 {
+    let mut running = world.into_running();
     for _ in 0..updates {
-        world = pass_update(rt, alloc, world, gate)?;
+        running = pass_update(rt, alloc, running, gate)?;
     }
-    Ok(world)
+    running.into_world()
 }
 
 /// Runs a configuration to its last update, and gives the world then.

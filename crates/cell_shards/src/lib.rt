@@ -23,6 +23,6 @@ pub use delivered::{Delivered, Deliveries};
 pub use finished::{Dead, Finished};
 pub use job::{Cells, Job, Slices};
 pub use round::Round;
-pub use running::{run_all, run_by};
+pub use running::{run_all, run_with_errand};
 pub use shards::bounds;
 pub use standing::{Standing, Standings};

@@ -35,12 +35,15 @@ pub fn run_all<R: Threads + Wait + Sync, G: Gate + Sync>(
         (λ all. AreFinished (round_numbers round.now) jobs.items all.items) }
 {
     let workers = jobs.len();
-    run_by(rt, alloc, jobs, workers, bank, round, gate)
+    let (all, ()) = run_with_errand(rt, alloc, jobs, workers, bank, round, gate, || ())?;
+    Ok(all)
 }
 
 /// The same by so many threads, but by one at least and by no more than there are jobs: each takes
-/// a job that nobody has taken, until all are taken. So one that is held up runs fewer of them.
-pub fn run_by<R: Threads + Wait + Sync, G: Gate + Sync>(
+/// a job that nobody has taken, until all are taken. So one that is held up runs fewer of them. The
+/// calling thread has an errand, which it does once the others have begun; what comes of it is
+/// handed back.
+pub fn run_with_errand<R: Threads + Wait + Sync, G: Gate + Sync, T: Drop, F: FnOnce() -> T + Drop>(
     rt: &R,
     alloc: Global,
     jobs: Vec<Job>,
@@ -48,22 +51,25 @@ pub fn run_by<R: Threads + Wait + Sync, G: Gate + Sync>(
     bank: &Bank,
     round: &Round,
     gate: &G,
-) -> Result<Vec<Finished>, Memory>
+    errand: F,
+) -> Result<(Vec<Finished>, T), Memory>
     requires jobs { All CanRun jobs.items }
     requires seats { All (λ job. job.seat.bank ≡ bank.now) jobs.items }
-    ensures { IfOk result
-        (λ all. AreFinished (round_numbers round.now) jobs.items all.items) }
+    requires errand { F.pre errand }
+    ensures finished { IfOk result
+        (λ ran. AreFinished (round_numbers round.now) jobs.items ran.0.items) }
+    ensures errand { IfOk result (λ ran. F.post errand ran.1) }
 {
     let workers = workers.min(jobs.len());
     let (pool, seat) = Pool::new(alloc, jobs)?;
-    let done = run_together(rt, alloc, &pool, seat, workers, bank, round, gate)?;
-    in_order(alloc, &pool, done)
+    let (done, brought) = run_together(rt, alloc, &pool, seat, workers, bank, round, gate, errand)?;
+    Ok((in_order(alloc, &pool, done)?, brought))
 }
 
-/// By so many threads, where they can be made: this thread starts all others, and takes jobs as
-/// they do.
+/// By so many threads, where they can be made: this thread starts all others, does its errand, and
+/// then takes jobs as they do.
 #[cycle(workers)]
-fn run_together<R: Threads + Wait + Sync, G: Gate + Sync>(
+fn run_together<R: Threads + Wait + Sync, G: Gate + Sync, T: Drop, F: FnOnce() -> T + Drop>(
     rt: &R,
     alloc: Global,
     pool: &Pool,
@@ -72,15 +78,20 @@ fn run_together<R: Threads + Wait + Sync, G: Gate + Sync>(
     bank: &Bank,
     round: &Round,
     gate: &G,
-) -> Result<Vec<Done>, Memory>
+    errand: F,
+) -> Result<(Vec<Done>, T), Memory>
     requires pool { seat ≡ pool.now }
     requires few { workers ≤ length pool.now.jobs }
     requires jobs { All (λ job. CanRun job × (job.seat.bank ≡ bank.now)) pool.now.jobs }
-    ensures { IfOk result
-        (λ done. All (HasRun (round_numbers round.now) pool.now.jobs) done.items) }
+    requires errand { F.pre errand }
+    ensures done { IfOk result
+        (λ ran. All (HasRun (round_numbers round.now) pool.now.jobs) ran.0.items) }
+    ensures errand { IfOk result (λ ran. F.post errand ran.1) }
 {
     if workers <= 1 {
-        return run_free(rt, alloc, pool, seat, 0, bank, round, gate);
+        let brought = errand();
+        let done = run_free(rt, alloc, pool, seat, 0, bank, round, gate)?;
+        return Ok((done, brought));
     }
     let worker = workers - 1;
     let theirs = pool.split(&mut seat);
@@ -90,15 +101,17 @@ fn run_together<R: Threads + Wait + Sync, G: Gate + Sync>(
         ensures { IfOk result (λ done.
             All (HasRun (round_numbers round.entry.now) pool.entry.now.jobs) done.items) }
     { run_free(rt, alloc, pool, theirs, worker, bank, round, gate) };
-    let here = move || -> Result<Vec<Done>, Memory>
+    let here = move || -> Result<(Vec<Done>, T), Memory>
         requires { IsSync R.row × IsSync G.row × (seat ≡ pool.now)
-            × (worker ≤ length pool.now.jobs)
+            × (worker ≤ length pool.now.jobs) × F.pre errand
             × All (λ job. CanRun job × (job.seat.bank ≡ bank.now)) pool.now.jobs }
-        ensures { IfOk result (λ done.
-            All (HasRun (round_numbers round.entry.now) pool.entry.now.jobs) done.items) }
-    { run_together(rt, alloc, pool, seat, worker, bank, round, gate) };
+        ensures { IfOk result (λ ran.
+            All (HasRun (round_numbers round.entry.now) pool.entry.now.jobs) ran.0.items
+            × F.post errand ran.1) }
+    { run_together(rt, alloc, pool, seat, worker, bank, round, gate, errand) };
     let (last, others) = thread::join(rt, there, here);
-    both(others?, last?)
+    let (done, brought) = others?;
+    Ok((both(done, last?)?, brought))
 }
 
 /// What two threads have done.

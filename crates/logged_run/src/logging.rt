@@ -10,7 +10,7 @@ use std::alloc::Global;
 use std::sync::Wait;
 use std::thread::Threads;
 use world_config::Config;
-use world_core::World;
+use world_core::{RunningWorld, World};
 use written_texts::WriteStop;
 
 /// Puts the log's first line.
@@ -35,10 +35,10 @@ pub fn write_last<O: Sink>(alloc: Global, world: &World, out: &mut O) -> Result<
 pub fn write_update<R: Threads + Wait + Sync, O: Sink, G: Gate + Sync>(
     rt: &R,
     alloc: Global,
-    world: World,
+    world: RunningWorld,
     out: &mut O,
     gate: &G,
-) -> Result<World, WriteStop>
+) -> Result<RunningWorld, WriteStop>
     requires { world.update < 1000000 }
     ensures config { IfOk result (λ next. next.config ≡ world.config) }
     ensures update { IfOk result (λ next. next.update ≡ world.update + 1) }
@@ -54,7 +54,7 @@ pub fn write_update<R: Threads + Wait + Sync, O: Sink, G: Gate + Sync>(
 fn write_updates<R: Threads + Wait + Sync, O: Sink, G: Gate + Sync>(
     rt: &R,
     alloc: Global,
-    mut world: World,
+    world: World,
     updates: u32,
     out: &mut O,
     gate: &G,
@@ -66,10 +66,11 @@ fn write_updates<R: Threads + Wait + Sync, O: Sink, G: Gate + Sync>(
     ensures text { WritesAll (O.seen out.old) (O.seen out.new)
         (updates_text world.config updates) result }
 {
+    let mut running = world.into_running();
     for _ in 0..updates {
-        world = write_update(rt, alloc, world, out, gate)?;
+        running = write_update(rt, alloc, running, out, gate)?;
     }
-    Ok(world)
+    Ok(running.into_world()?)
 }
 
 /// Runs a configuration to its end, and writes the log.

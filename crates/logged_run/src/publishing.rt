@@ -66,7 +66,8 @@ fn publish_update<R: Threads + Wait + Sync, O: Sink, G: Gate + Sync>(
         (update_text progress.world.config (progress.world.update + 1)) result }
 {
     let Progress { world, .. } = progress;
-    let world = write_update(rt, alloc, world, out, gate)?;
+    let running = write_update(rt, alloc, world.into_running(), out, gate)?;
+    let world = running.into_world()?;
     let (picture, note) = publish_picture(rt, alloc, &world, publisher)?;
     Ok(Progress {
         world,

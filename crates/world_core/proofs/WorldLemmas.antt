@@ -1,14 +1,19 @@
 -- The world after an update is again the world of its configuration.
-use Rattle.std.proofs.Common.{◌≡◌, ◌∙◌, refl, sym, ap, ℕ, suc, ◌+◌, ◌<◌, ◌≤◌, ◌^◌, List, length, arith}
+use Rattle.std.proofs.Common.{◌≡◌, ◌∙◌, refl, sym, ap, subst, ℕ, suc, ◌+◌, ◌-◌, ◌<◌, ◌≤◌, ◌^◌, List, [], drop, length, arith}
+use Rattle.lineage_log.specs.Links.{Link}
+use Rattle.lineage_log.specs.Trees.{TreeValue}
 use Rattle.lineage_log.specs.LogGrammar.{lines_text}
 use Rattle.log_lines.specs.declared.stats.Stats.{Stats}
 use Rattle.world_config.specs.Values.{ConfigValues}
 use Rattle.world_config.specs.declared.limits.TheConstants.{GREATEST_UPDATES}
+use Rattle.world_rules.specs.Scene.{Scene}
 use Rattle.world_rules.specs.World.{World}
 use Rattle.world_rules.specs.Update.{next_scene, next_world, world_of}
 use Rattle.world_rules.specs.WorldRun.{world_after}
 use Rattle.world_rules.specs.Statistics.{next_stats, stats_of}
 use Rattle.world_rules.specs.LogText.{update_lines, update_text}
+use Rattle.world_tree.specs.WorldTrees.{IsTreeOf, newcomers_of, scene_after}
+use Rattle.world_core.specs.LateTrees.{IsBehind}
 use Rattle.world_core.specs.Scenes.{Grows, SceneValue, scene_in}
 use Rattle.world_core.specs.WorldValue.{IsWorldOf}
 
@@ -86,3 +91,53 @@ pub next_text_is : (config : ConfigValues) (before : SceneValue) (old : Stats) (
 next_text_is config before old text was is =
     is ∙ ap (λ (w : World). lines_text (update_lines config w)) was.world
     ∙ sym (update_text-more config before.update)
+
+-- who died in the update is no part of a world
+pub without_gone : (config : ConfigValues) (s : SceneValue) (stats : Stats)
+    → IsWorldOf config s stats → IsWorldOf config (record s { gone = [] }) stats
+without_gone config s stats is = record {
+  world = is.world;
+  counts = is.counts;
+  size = is.size;
+  few = is.few;
+  settled = is.settled;
+  updates = is.updates;
+  bank = is.bank;
+}
+
+-- the scene at the end of the update after a world
+pub scene_after_is : (config : ConfigValues) (before after : SceneValue) (old stats : Stats)
+    → IsWorldOf config before old → IsNext config before after stats
+    → scene_in after ≡ next_scene config (world_after config before.update)
+scene_after_is config before after old stats was is =
+    is.scene ∙ ap (next_scene config) was.world
+
+-- all organisms in it are those of the world that it leaves
+pub everyone_is : (config : ConfigValues) (before after : SceneValue) (old stats : Stats)
+    → IsWorldOf config before old → IsNext config before after stats
+    → after.everyone ≡ (world_after config after.update).everyone
+everyone_is config before after old stats was is =
+    ap (λ (s : Scene). s.everyone) (scene_after_is config before after old stats was is)
+    ∙ everyone_after config before.update
+    ∙ ap (λ n. (world_after config n).everyone) (sym is.update)
+
+-- a tree of the world before is one update behind, with those who came and those who died
+pub is_behind : (config : ConfigValues) (before after : SceneValue) (old stats : Stats)
+    (tree : TreeValue) (newcomers : List Link) (gone : List ℕ)
+    → IsWorldOf config before old → IsNext config before after stats
+    → IsTreeOf (world_after config before.update) tree
+    → newcomers ≡ drop after.first after.everyone → gone ≡ after.gone
+    → IsBehind config after.update tree newcomers gone
+is_behind config before after old stats tree newcomers gone was is tree_is came died =
+    let early : before.update ≡ after.update - 1 = omega (arith, is.update) in
+    let scene = scene_after_is config before after old stats was is in
+    let first = is.first ∙ was.settled ∙ ap (λ (w : World). length w.everyone) was.world in
+    record {
+      some = omega (arith, is.update);
+      tree_is = subst (λ n. IsTreeOf (world_after config n) tree) early tree_is;
+      came = came
+          ∙ (λ i. drop (first i) (scene i).everyone)
+          ∙ ap (newcomers_of config) early;
+      died = died ∙ ap (λ (s : Scene). s.gone) scene
+          ∙ ap (λ n. (scene_after config n).gone) early;
+    }

@@ -33,5 +33,6 @@ pub mod Residents
 pub mod Scenes
 pub mod Everyone
 pub mod Sharding
+pub mod LateTrees
 pub mod Lived
 pub mod Resumed

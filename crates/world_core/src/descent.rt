@@ -1,10 +1,10 @@
 // The tree of a world goes on with its scene.
-ghost use Rattle.std.specs.Prelude.{◌≡◌, ◌+◌, ◌≤◌, ◌^◌, IfOk, OnOk, length};
+ghost use Rattle.std.specs.Prelude.{◌≡◌, IfOk, OnOk, length};
 ghost use Rattle.world_config.specs.Shown.{values_of};
 ghost use Rattle.world_rules.specs.Update.{world_of};
 ghost use Rattle.world_rules.specs.WorldRun.{world_after};
 ghost use Rattle.world_core.specs.Scenes.{scene_in};
-ghost use Rattle.world_tree.specs.WorldTrees.{IsTreeOf, scene_after};
+ghost use Rattle.world_tree.specs.WorldTrees.{IsTreeOf};
 
 use crate::scene::Scene;
 use avida_port::Memory;
@@ -34,28 +34,4 @@ pub(crate) fn first_tree(
         Some(founder) => WorldTree::found(alloc, config, founder.genome),
         None => unreachable!(),
     }
-}
-
-/// The tree of the world after so many updates goes on to the one that the scene leaves. Who came
-/// in the update leaves the list of the latest. After `Memory` drop the scene and the tree.
-pub(crate) fn grow_tree(
-    alloc: Global,
-    config: &Arc<Config, Global>,
-    update: u32,
-    scene: &mut Scene,
-    tree: &mut WorldTree,
-) -> Result<(), Memory>
-    requires scene { scene_in scene.old ≡ scene_after (values_of config.now.value) update }
-    requires update { scene.old.update ≡ update + 1 }
-    requires first { scene.old.first
-        ≡ length (world_after (values_of config.now.value) update).everyone }
-    requires few { length scene.old.everyone ≤ 2 ^ 62 + 2 ^ 60 }
-    requires tree { IsTreeOf (world_after (values_of config.now.value) update) tree.old }
-    ensures scene { OnOk result
-        (scene.new ≡ record scene.old { first = length scene.old.everyone }) }
-    ensures tree { OnOk result
-        (IsTreeOf (world_after (values_of config.now.value) (update + 1)) tree.new) }
-{
-    let newcomers = scene.take_newcomers(alloc, config)?;
-    tree.grow(config, update, newcomers, &scene.gone)
 }

@@ -158,10 +158,10 @@ impl Population {
         Ok(())
     }
 
-    /// The lives of all cells in the update after this one, in as many shards as there are workers.
-    /// The dead leave their cells, and the genomes of the newborns are interned. After `Memory` no
-    /// population is left.
-    pub(crate) fn live<R: Threads + Wait + Sync, G: Gate + Sync>(
+    /// The lives of all cells in the update after this one, by as many threads as there are workers.
+    /// The dead leave their cells, and the genomes of the newborns are interned. The calling thread
+    /// does its errand once the others have begun. After `Memory` no population is left.
+    pub(crate) fn live<R: Threads + Wait + Sync, G: Gate + Sync, T: Drop, F: FnOnce() -> T + Drop>(
         self,
         rt: &R,
         alloc: Global,
@@ -169,13 +169,15 @@ impl Population {
         update: u32,
         workers: u32,
         gate: &G,
-    ) -> Result<(Population, Lived), Memory>
+        errand: F,
+    ) -> Result<(Population, Lived, T), Memory>
         requires some { 1 ≤ length self.cells }
         requires update { update < GREATEST_UPDATES }
         requires workers { (1 ≤ workers) × (workers ≤ 64) }
         requires sound { AreBounded update self.cells }
         requires lives { LiveOn (values_of config.now)
             (record { update = update; cells = self.cells; everyone = [] }) }
+        requires errand { F.pre errand }
         ensures cells { IfOk result (λ next. next.0.cells
             ≡ map staying_in (lives_of (values_of config.now) (update + 1) self.cells)) }
         ensures births { IfOk result (λ next. map delivery_in next.1.births.items
@@ -186,6 +188,7 @@ impl Population {
             (map (λ birth. birth.newborn) next.1.births.items)) }
         ensures bounds { IfOk result (λ next. AreBoundedLives (values_of config.now) (update + 1)
             next.0.cells (map delivery_in next.1.births.items)) }
+        ensures errand { IfOk result (λ next. F.post errand next.2) }
     {
         one_index();
         let Population {
@@ -201,8 +204,8 @@ impl Population {
         } = cells;
         let slices = slices_by(alloc, config, &before)?;
         let round = round_at(config, update + 1);
-        let (genotypes, ended) = live_in_shards(
-            rt, alloc, known, organisms, slices, &round, workers, gate,
+        let (genotypes, ended, brought) = live_in_shards(
+            rt, alloc, known, organisms, slices, &round, workers, gate, errand,
         )?;
         let Ended {
             organisms: left,
@@ -227,7 +230,7 @@ impl Population {
             genotypes,
             census,
         };
-        Ok((population, lived))
+        Ok((population, lived, brought))
     }
 
     /// What is counted after an update of so many births and deaths.

@@ -21,6 +21,7 @@ use log_lines::Stats;
 use mutations::Origin;
 use std::alloc::Global;
 use std::marker::Model;
+use std::mem;
 use std::sync::{Arc, Wait};
 use world_config::Config;
 
@@ -176,6 +177,14 @@ impl Scene {
             (λ newcomers. newcomers.items ≡ drop self.old.first self.old.everyone) }
     {
         self.everyone.take_newcomers(alloc, config, self.update)
+    }
+
+    /// The ids of those who died in the update leave.
+    pub(crate) fn take_gone(&mut self, alloc: Global) -> Vec<u64>
+        ensures scene { self.new ≡ record self.old { gone = [] } }
+        ensures gone { result.items ≡ self.old.gone }
+    {
+        mem::replace(&mut self.gone, Vec::new(alloc))
     }
 
     /// Of all organisms ever in the world nothing but their number is known from now on.

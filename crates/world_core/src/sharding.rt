@@ -15,7 +15,7 @@ use avida_port::{Gate, Memory};
 use cell_shards::laws::{parts_live_as_one, shards_part_the_cells};
 use cell_shards::{
     BoxedOrganism, Cells, Dead, Delivered, Deliveries, Finished, Job, Round, Slices, Standing,
-    Standings, bounds, run_by,
+    Standings, bounds, run_with_errand,
 };
 use genotype_bank::laws::{calls_number_genotypes, genotypes_are_what_was_interned, numbers_agree};
 use genotype_bank::{Bank, Seat};
@@ -35,8 +35,14 @@ pub(crate) struct Ended {
 }
 
 /// All cells live for an update, in shards, by as many threads as there are workers. One worker has
-/// the cells as they are, and nothing is moved. After `Memory` all is gone.
-pub(crate) fn live_in_shards<R: Threads + Wait + Sync, G: Gate + Sync>(
+/// the cells as they are, and nothing is moved. The calling thread does its errand once the others
+/// have begun. After `Memory` all is gone.
+pub(crate) fn live_in_shards<
+    R: Threads + Wait + Sync,
+    G: Gate + Sync,
+    T: Drop,
+    F: FnOnce() -> T + Drop,
+>(
     rt: &R,
     alloc: Global,
     genotypes: Genotypes,
@@ -45,13 +51,15 @@ pub(crate) fn live_in_shards<R: Threads + Wait + Sync, G: Gate + Sync>(
     round: &Round,
     workers: u32,
     gate: &G,
-) -> Result<(Genotypes, Ended), Memory>
+    errand: F,
+) -> Result<(Genotypes, Ended, T), Memory>
     requires cells { (1 ≤ length cells.items) × (length cells.items ≤ CELLS) }
     requires slices { length slices.items ≡ length cells.items }
     requires few { All (λ steps. steps < 2 ^ 27) slices.items }
     requires total { sum slices.items ≤ 65536000 }
     requires young { All IsYoung cells.items }
     requires workers { (1 ≤ workers) × (workers ≤ 64) }
+    requires errand { F.pre errand }
     ensures cells { IfOk result (λ next. next.1.organisms.items ≡ map left_in
         (shard_lives_of (round_numbers round.now) (part_from 0 cells.items slices.items))) }
     ensures standings { IfOk result
@@ -62,6 +70,7 @@ pub(crate) fn live_in_shards<R: Threads + Wait + Sync, G: Gate + Sync>(
         (shard_lives_of (round_numbers round.now) (part_from 0 cells.items slices.items))) }
     ensures bank { IfOk result (λ next. TakesIn genotypes next.0 next.1.births.items) }
     ensures different { IfOk result (λ next. AreDifferent next.0) }
+    ensures errand { IfOk result (λ next. F.post errand next.2) }
 {
     calls_number_genotypes();
     genotypes_are_what_was_interned();
@@ -70,7 +79,16 @@ pub(crate) fn live_in_shards<R: Threads + Wait + Sync, G: Gate + Sync>(
     let Genotypes { bank, seat, len } = genotypes;
     seat.owns_all();
     let jobs = jobs_of(alloc, &bank, seat, cells, slices, shards_for(workers))?;
-    let shards = run_by(rt, alloc, jobs, workers as usize, &bank, round, gate)?;
+    let (shards, brought) = run_with_errand(
+        rt,
+        alloc,
+        jobs,
+        workers as usize,
+        &bank,
+        round,
+        gate,
+        errand,
+    )?;
     let Finished {
         cells,
         standings,
@@ -88,7 +106,7 @@ pub(crate) fn live_in_shards<R: Threads + Wait + Sync, G: Gate + Sync>(
         births: births.into_vec(),
         dead: dead.into_vec(),
     };
-    Ok((genotypes, ended))
+    Ok((genotypes, ended, brought))
 }
 
 /// Into how many shards the cells are cut. The threads take shard after shard, so the smaller the

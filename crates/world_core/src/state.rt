@@ -94,7 +94,7 @@ impl State {
         } = self;
         sound_organisms_live_on(&config);
         states_go_on(&config);
-        let (mut scene, _, text) = next_scene(rt, alloc, &config, scene, workers, gate)?;
+        let (mut scene, _, text, ()) = next_scene(rt, alloc, &config, scene, workers, gate, || ())?;
         scene.forget();
         let state = State {
             config,

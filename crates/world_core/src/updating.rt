@@ -24,21 +24,29 @@ use std::sync::Wait;
 use std::thread::Threads;
 use world_config::{Config, GREATEST_UPDATES};
 
-/// The scene at the end of the next update, what is counted of it, and its lines.
+/// The scene at the end of the next update, what is counted of it, its lines, and what comes of the
+/// errand that the calling thread does once the others have begun.
 #[tactic(auto, unfolding(world_rules::specs::Update::next_scene, world_rules::specs::Update::scene_of_lives, world_rules::specs::Update::last_scene, world_rules::specs::Update::after_burials, world_rules::specs::LogText::update_lines, world_rules::specs::LogText::lines_of_lives, world_rules::specs::Statistics::next_stats))]
-pub(crate) fn next_scene<R: Threads + Wait + Sync, G: Gate + Sync>(
+pub(crate) fn next_scene<
+    R: Threads + Wait + Sync,
+    G: Gate + Sync,
+    T: Drop,
+    F: FnOnce() -> T + Drop,
+>(
     rt: &R,
     alloc: Global,
     config: &Config,
     scene: Scene,
     workers: u32,
     gate: &G,
-) -> Result<(Scene, Stats, Vec<u8>), Memory>
+    errand: F,
+) -> Result<(Scene, Stats, Vec<u8>, T), Memory>
     requires size { length scene.cells ≡ config.now.width * config.now.height }
     requires update { scene.update < GREATEST_UPDATES }
     requires few { length scene.everyone ≤ 2 ^ 62 + 2 ^ 60 }
     requires workers { (1 ≤ workers) × (workers ≤ 64) }
     requires lives { LiveOn (values_of config.now) (world_of (scene_in scene)) }
+    requires errand { F.pre errand }
     ensures scene { IfOk result (λ next. scene_in next.0
         ≡ next_scene (values_of config.now) (world_of (scene_in scene))) }
     ensures stats { IfOk result
@@ -51,8 +59,11 @@ pub(crate) fn next_scene<R: Threads + Wait + Sync, G: Gate + Sync>(
     ensures first { IfOk result (λ next. next.0.first ≡ scene.first) }
     ensures bank { IfOk result
         (λ next. Grows scene.bank next.0.bank scene.everyone next.0.everyone) }
+    ensures errand { IfOk result (λ next. F.post errand next.3) }
 {
-    let (mut scene, lived) = scene_of_lives(rt, alloc, config, scene, workers, gate)?;
+    let (mut scene, lived, brought) = scene_of_lives(
+        rt, alloc, config, scene, workers, gate, errand,
+    )?;
     let births = lived.births.len() as u64;
     let mut text = Vec::new(alloc);
     bury(&mut scene, &lived.dead, &mut text)?;
@@ -60,22 +71,24 @@ pub(crate) fn next_scene<R: Threads + Wait + Sync, G: Gate + Sync>(
     happen(rt, alloc, config, &mut scene, &mut text)?;
     let stats = scene.stats(births);
     write_line(&LogLine::Count(stats), &mut text)?;
-    Ok((scene, stats, text))
+    Ok((scene, stats, text, brought))
 }
 
 /// The scene as all lives of the next update have ended, and the dead have left their cells.
-fn scene_of_lives<R: Threads + Wait + Sync, G: Gate + Sync>(
+fn scene_of_lives<R: Threads + Wait + Sync, G: Gate + Sync, T: Drop, F: FnOnce() -> T + Drop>(
     rt: &R,
     alloc: Global,
     config: &Config,
     scene: Scene,
     workers: u32,
     gate: &G,
-) -> Result<(Scene, Lived), Memory>
+    errand: F,
+) -> Result<(Scene, Lived, T), Memory>
     requires size { length scene.cells ≡ config.now.width * config.now.height }
     requires update { scene.update < GREATEST_UPDATES }
     requires workers { (1 ≤ workers) × (workers ≤ 64) }
     requires lives { LiveOn (values_of config.now) (world_of (scene_in scene)) }
+    requires errand { F.pre errand }
     ensures scene { IfOk result (λ next. scene_in next.0 ≡ record {
       update = scene.update + 1;
       cells = map staying_in (lives_of (values_of config.now) (scene.update + 1) scene.cells);
@@ -92,6 +105,7 @@ fn scene_of_lives<R: Threads + Wait + Sync, G: Gate + Sync>(
         (map (λ birth. birth.newborn) next.1.births.items)) }
     ensures size { IfOk result (λ next. length next.0.cells ≡ length scene.cells) }
     ensures first { IfOk result (λ next. next.0.first ≡ scene.first) }
+    ensures errand { IfOk result (λ next. F.post errand next.2) }
 {
     let Scene {
         update,
@@ -99,7 +113,7 @@ fn scene_of_lives<R: Threads + Wait + Sync, G: Gate + Sync>(
         everyone,
         mut gone,
     } = scene;
-    let (cells, lived) = cells.live(rt, alloc, config, update, workers, gate)?;
+    let (cells, lived, brought) = cells.live(rt, alloc, config, update, workers, gate, errand)?;
     gone.clear();
     let scene = Scene {
         update: update + 1,
@@ -107,5 +121,5 @@ fn scene_of_lives<R: Threads + Wait + Sync, G: Gate + Sync>(
         everyone,
         gone,
     };
-    Ok((scene, lived))
+    Ok((scene, lived, brought))
 }

@@ -14,12 +14,13 @@ ghost use Rattle.world_tree.specs.WorldTrees.{living_and_ancestors};
 ghost use Rattle.world_core.specs.Genotypes.{genomes_ever};
 ghost use Rattle.world_core.specs.WorldValue.{WorldValue, world_in, genome_in_cell};
 
-use crate::descent::{first_tree, grow_tree};
+use crate::descent::first_tree;
 use crate::founding::first_scene;
+use crate::late_tree::LateTree;
 use crate::picture::WorldPicture;
+use crate::running_world::RunningWorld;
 use crate::scene::Scene;
 use crate::state::State;
-use crate::updating::next_scene;
 use avida_port::{Gate, Memory};
 use genome::Genome;
 use lineage_log::Path;
@@ -29,18 +30,19 @@ use std::marker::Model;
 use std::sync::{Arc, Wait};
 use std::thread::Threads;
 use world_config::Config;
-use world_laws::laws::{organisms_are_sound, organisms_live_on};
+use world_laws::laws::organisms_are_sound;
 use world_rules::laws::ids_are_places;
 use world_tree::WorldTree;
 
-/// The world of a configuration after so many updates. Only `found` and `advance` make one.
+/// The world of a configuration after so many updates. Only `found`, `advance` and
+/// `RunningWorld::into_world` make one.
 #[derive(Drop)]
 pub struct World {
-    config: Arc<Config, Global>,
-    scene: Scene,
-    stats: Stats,
-    tree: WorldTree,
-    workers: u32,
+    pub(crate) config: Arc<Config, Global>,
+    pub(crate) scene: Scene,
+    pub(crate) stats: Stats,
+    pub(crate) tree: WorldTree,
+    pub(crate) workers: u32,
 }
 
 impl Model for World {
@@ -105,25 +107,29 @@ impl World {
             (λ next. next.1.items ≡ update_text self.config (self.update + 1)) }
         ensures bank { IfOk result (λ next. IsPrefix self.bank next.0.bank) }
     {
+        let (running, text) = self.into_running().advance(rt, alloc, gate)?;
+        Ok((running.into_world()?, text))
+    }
+
+    /// The same world, to be advanced by many updates. Its tree need not have grown before the next
+    /// update begins.
+    pub fn into_running(self) -> RunningWorld
+        ensures { result ≡ self }
+    {
         let World {
-            config,
-            scene,
-            mut tree,
-            workers,
-            ..
-        } = self;
-        let update = scene.update;
-        organisms_live_on(&config, update);
-        let (mut scene, stats, text) = next_scene(rt, alloc, &config, scene, workers, gate)?;
-        grow_tree(alloc, &config, update, &mut scene, &mut tree)?;
-        let world = World {
             config,
             scene,
             stats,
             tree,
             workers,
-        };
-        Ok((world, text))
+        } = self;
+        RunningWorld {
+            config,
+            scene,
+            stats,
+            tree: LateTree::Grown { tree },
+            workers,
+        }
     }
 
     /// What the run leaves, as a saved world, which goes on without events.

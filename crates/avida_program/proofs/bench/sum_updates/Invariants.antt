@@ -6,8 +6,8 @@ use Rattle.avida_program.proofs.bench.sum_updates.Given as goal
 
 abbrev pub invariant-loop : goal.invariant-loop
 invariant-loop g l = record {
-  config : l.world.config ≡ l.fn.world.config;
-  update : l.world.update ≡ l.counter;
+  config : l.running.config ≡ l.fn.world.config;
+  update : l.running.update ≡ l.counter;
   births : l.sums.births ≡ births_until l.fn.world.config l.counter;
   bytes : l.sums.bytes ≡ length (updates_text l.fn.world.config l.counter);
   few_births : l.sums.births ≤ l.counter * 2 ^ 64;

@@ -4,6 +4,6 @@ use Rattle.avida_program.proofs.run.pass_updates.Given as goal
 
 abbrev pub invariant-loop : goal.invariant-loop
 invariant-loop g l = record {
-  config : l.world.config ≡ l.fn.world.config;
-  update : l.world.update ≡ l.counter;
+  config : l.running.config ≡ l.fn.world.config;
+  update : l.running.update ≡ l.counter;
 }

@@ -6,8 +6,8 @@ use Rattle.logged_run.proofs.logging.write_updates.Given as goal
 
 abbrev pub invariant-loop : goal.invariant-loop
 invariant-loop g l = record {
-  config : l.world.config ≡ l.fn.world.config;
-  update : l.world.update ≡ l.counter;
+  config : l.running.config ≡ l.fn.world.config;
+  update : l.running.update ≡ l.counter;
   written : WritesAll {T = Unit {0}} (g.O.Sink.seen l.fn.out) (g.O.Sink.seen l.out)
       (updates_text l.fn.world.config l.counter) (Ok tt);
 }

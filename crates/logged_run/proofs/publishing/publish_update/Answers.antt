@@ -2,8 +2,14 @@ use Rattle.std.proofs.lemmas.Result.{err_from_is_err_and}
 use Rattle.written_texts.proofs.WriteLemmas.{wanting_after}
 use Rattle.logged_run.proofs.publishing.publish_update.Goals as goal
 
+pub returns-in_err-world-clause-text : goal.returns-in_err-world-clause-text
+returns-in_err-world-clause-text g c =
+    let p = err_from_is_err_and c.from_residual-in_err-world.result
+    c.from_residual-in_err-world.ensures.1 in
+    rw (p.1, p.2) (wanting_after (rw c.into_running.ensures at c.in_ok-running.ensures.text))
+
 pub returns-in_err-picture-clause-text : goal.returns-in_err-picture-clause-text
 returns-in_err-picture-clause-text g c =
     let p = err_from_is_err_and c.from_residual-in_err-picture.result
     c.from_residual-in_err-picture.ensures.1 in
-    rw (p.1, p.2) (wanting_after c.in_ok-world.ensures.text)
+    rw (p.1, p.2) (wanting_after (rw c.into_running.ensures at c.in_ok-running.ensures.text))

@@ -22,7 +22,7 @@ ends g c =
     ends-as c.parts_live_as_one.ensures (round_numbers c.args.round.now) c.genotypes.inside.seat
     c.args.cells.items c.args.slices.items c.in_ok-jobs.jobs.items c.in_ok-shards.shards.items
     c.in_ok-cells.field-0 c.in_ok-jobs.ensures.cells c.in_ok-jobs.ensures.seats
-    (omega (arith, c.in_ok-jobs.ensures.few, c.genotypes.invariant.1)) c.in_ok-shards.ensures
+    (omega (arith, c.in_ok-jobs.ensures.few, c.genotypes.invariant.1)) c.in_ok-shards.ensures.finished
     c.in_ok-cells.ensures
 
 -- the bank has taken in their newborns
@@ -40,8 +40,8 @@ takes g c ends =
     (c.owns_all.ensures c.genotypes.invariant.1)
     (c.owns_all-2.ensures (ends.share ∙ c.genotypes.invariant.1)) ends
 
-pub run_by-requires-clause-jobs : goal.run_by-requires-clause-jobs
-run_by-requires-clause-jobs g c l b k d within =
+pub run_with_errand-requires-clause-jobs : goal.run_with_errand-requires-clause-jobs
+run_with_errand-requires-clause-jobs g c l b k d within =
     let parts = c.in_ok-jobs.ensures.cells in
     jobs-can-run 0 c.in_ok-jobs.jobs.items parts.beside
     (omega (arith, c.requires.cells, ap length parts.cells_are))
@@ -56,14 +56,14 @@ join_all-requires-clause-seats g c =
     let seat = c.genotypes.inside.seat in
     subst (λ bank. All (λ (one : Finished). one.seat.bank ≡ bank) all) c.genotypes.invariant.0
     (seats-finished round seat jobs all (seats-shared seat jobs c.in_ok-jobs.ensures.seats)
-    (each-finished round jobs all c.in_ok-shards.ensures))
+    (each-finished round jobs all c.in_ok-shards.ensures.finished))
 
 pub join_all-requires-clause-numbers : goal.join_all-requires-clause-numbers
 join_all-requires-clause-numbers g c =
     let round = round_numbers c.args.round.now in
     let jobs = c.in_ok-jobs.jobs.items in
     let all = c.in_ok-shards.shards.items in
-    numbers-finished round jobs all (each-finished round jobs all c.in_ok-shards.ensures)
+    numbers-finished round jobs all (each-finished round jobs all c.in_ok-shards.ensures.finished)
 
 pub len_after-len-requires : goal.len_after-len-requires
 len_after-len-requires g c =

@@ -1,4 +1,4 @@
-use Rattle.std.proofs.Common.{◌∙◌, refl, Option, Some, None, ap, get_or, subst, sym}
+use Rattle.std.proofs.Common.{refl, Option, Some, None, get_or, subst, sym}
 use Rattle.saved_lines.specs.declared.resident.Resident.{Resident}
 use Rattle.world_rules.specs.World.{Occupant}
 use Rattle.world_core.specs.Resumed.{IsResidentIn}

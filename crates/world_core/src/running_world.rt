@@ -1,0 +1,135 @@
+// A world that goes on.
+ghost use Rattle.std.specs.Prelude.{◌≡◌, ◌+◌, ◌<◌, IfOk};
+ghost use mathlib.Core.List.{IsPrefix};
+ghost use Rattle.world_config.specs.Shown.{values_of};
+ghost use Rattle.world_core.specs.LateTrees.{IsLateTreeOf};
+ghost use Rattle.world_core.specs.WorldValue.{WorldValue};
+ghost use Rattle.world_rules.specs.LogText.{update_text};
+ghost use Rattle.world_rules.specs.Statistics.{stats_of};
+ghost use Rattle.world_rules.specs.WorldRun.{world_after};
+ghost use Rattle.world_tree.specs.WorldTrees.{IsTreeOf};
+
+use crate::late_tree::LateTree;
+use crate::scene::Scene;
+use crate::updating::next_scene;
+use crate::world::World;
+use avida_port::{Gate, Memory};
+use log_lines::Stats;
+use std::alloc::Global;
+use std::marker::Model;
+use std::sync::{Arc, Wait};
+use std::thread::Threads;
+use world_config::Config;
+use world_laws::laws::organisms_live_on;
+use world_tree::WorldTree;
+
+/// A world that goes on: its tree may be one update behind. It grows in the next update, while the
+/// other threads have begun with the cells. Only `World::into_running` and `advance` make one.
+#[derive(Drop)]
+pub struct RunningWorld {
+    pub(crate) config: Arc<Config, Global>,
+    pub(crate) scene: Scene,
+    pub(crate) stats: Stats,
+    pub(crate) tree: LateTree,
+    pub(crate) workers: u32,
+}
+
+impl Model for RunningWorld {
+    ghost use Rattle.std.specs.Prelude.{◌≤◌};
+    ghost use Rattle.world_config.specs.Shown.{values_of};
+    ghost use Rattle.world_core.specs.LateTrees.{IsLateTreeOf};
+    ghost use Rattle.world_core.specs.WorldValue.{WorldValue, IsWorldOf};
+
+    ghost Value = { WorldValue };
+
+    ghost view = { λ w. record {
+      config = values_of w.config.value;
+      update = w.scene.update;
+      bank = w.scene.bank;
+    } };
+
+    ghost invariant = { λ w. IsWorldOf (values_of w.config.value) w.scene w.stats
+        × (1 ≤ w.workers) × (w.workers ≤ 64)
+        × IsLateTreeOf (values_of w.config.value) w.scene.update w.tree };
+}
+
+impl RunningWorld {
+    /// One update, and its lines, by as many threads as the world has workers. After `Memory` no
+    /// world is left. It may wait, since it interns the genomes of the newborns and of the
+    /// injected.
+    pub fn advance<R: Threads + Wait + Sync, G: Gate + Sync>(
+        self,
+        rt: &R,
+        alloc: Global,
+        gate: &G,
+    ) -> Result<(RunningWorld, Vec<u8>), Memory>
+        requires { self.update < 1000000 }
+        ensures config { IfOk result (λ next. next.0.config ≡ self.config) }
+        ensures update { IfOk result (λ next. next.0.update ≡ self.update + 1) }
+        ensures text { IfOk result
+            (λ next. next.1.items ≡ update_text self.config (self.update + 1)) }
+        ensures bank { IfOk result (λ next. IsPrefix self.bank next.0.bank) }
+    {
+        let RunningWorld {
+            config,
+            scene,
+            tree,
+            workers,
+            ..
+        } = self;
+        let update = scene.update;
+        let rules: &Config = &config;
+        organisms_live_on(rules, update);
+        let grow = move || -> Result<WorldTree, Memory>
+            requires { IsLateTreeOf (values_of rules.now) update tree }
+            ensures { IfOk result (IsTreeOf (world_after (values_of rules.entry.now) update)) }
+        { tree.grown(rules, update) };
+        let (mut scene, stats, text, grown) = next_scene(
+            rt, alloc, rules, scene, workers, gate, grow,
+        )?;
+        let tree = grown?;
+        let newcomers = scene.take_newcomers(alloc, &config)?;
+        let gone = scene.take_gone(alloc);
+        let tree = LateTree::Behind {
+            tree,
+            newcomers,
+            gone,
+        };
+        let world = RunningWorld {
+            config,
+            scene,
+            stats,
+            tree,
+            workers,
+        };
+        Ok((world, text))
+    }
+
+    /// What is counted after this update.
+    pub fn stats(&self) -> Stats
+        ensures { result ≡ stats_of self.now.config self.now.update }
+    {
+        self.stats
+    }
+
+    /// The world as it stands, whose tree has grown. After `Memory` no world is left.
+    pub fn into_world(self) -> Result<World, Memory>
+        ensures { IfOk result (λ world. world ≡ self) }
+    {
+        let RunningWorld {
+            config,
+            scene,
+            stats,
+            tree,
+            workers,
+        } = self;
+        let tree = tree.grown(&config, scene.update)?;
+        Ok(World {
+            config,
+            scene,
+            stats,
+            tree,
+            workers,
+        })
+    }
+}
