@@ -1,10 +1,7 @@
 -- How the counts change by one organism (docs/WORLD.md, "Statistics").
-use Rattle.std.specs.Prelude.{◌≡◌, ◌+◌, ◌-◌, ◌<◌, ◌≤◌, ◌^◌, ℕ, Bool, true, List, [], Option, None, Some, IsSome, All, map, nat_lt, slice_index, if◌then◌else◌}
-use Rattle.std.specs.BTreeMap.{insert_entry, is_at}
+use Rattle.std.specs.Prelude.{◌≡◌, ◌+◌, ◌-◌, ◌==◌, ◌<◌, ◌≤◌, ◌^◌, ℕ, Bool, true, List, [], Option, None, Some, IsSome, All, map, nat_lt, slice_index, if◌then◌else◌}
 use Rattle.std.specs.Int.{from_bool}
-use Rattle.std.specs.Map.{remove_entry, set_value}
 use Rattle.std.specs.Option.{option_map, unwrap_or}
-use Rattle.std.specs.Ordering.{nat_cmp}
 use Rattle.instruction_set.specs.declared.letter.Letter.{Letter}
 use Rattle.logic_tasks.specs.declared.task.Task.{Task}
 use Rattle.logic_tasks.specs.LogicTasks.{all_tasks, task_place}
@@ -21,35 +18,23 @@ abbrev pub genome_under : List (ℕ × GenotypeCount) → ℕ → List Letter
 genome_under genotypes key =
     unwrap_or (option_map (λ genotype. genotype.genome) (genotype_at genotypes key)) []
 
--- one organism more has the genome under a key, which may be new
-abbrev pub with_one : List (ℕ × GenotypeCount) → ℕ → List Letter → List (ℕ × GenotypeCount)
-with_one genotypes key genome =
-    insert_entry nat_cmp genotypes key
-    (record { genome = genome; count = count_under genotypes key + 1 })
-
 -- what is under a key once an organism goes, where others stay
 abbrev pub lowered : List (ℕ × GenotypeCount) → ℕ → GenotypeCount
 lowered genotypes key =
     record { genome = genome_under genotypes key; count = count_under genotypes key - 1 }
 
--- one organism fewer has the genome under a key, and with its last one the genotype goes
-abbrev pub without_one : List (ℕ × GenotypeCount) → ℕ → List (ℕ × GenotypeCount)
-without_one genotypes key =
-    if nat_lt 1 (count_under genotypes key)
-    then set_value (is_at (nat_cmp key)) genotypes (lowered genotypes key)
-    else remove_entry (is_at (nat_cmp key)) genotypes
-
 -- what is under a key once one organism more has the genome under another
 abbrev pub genotype_with_one : List (ℕ × GenotypeCount) → ℕ → List Letter → ℕ → Option GenotypeCount
 genotype_with_one genotypes key genome other =
-    if is_at (nat_cmp key) other
+    if key == other
     then Some (record { genome = genome; count = count_under genotypes key + 1 })
     else genotype_at genotypes other
 
--- what is under a key once one organism fewer has the genome under another
+-- what is under a key once one organism fewer has the genome under another: with its last one the
+-- genotype goes
 abbrev pub genotype_without_one : List (ℕ × GenotypeCount) → ℕ → ℕ → Option GenotypeCount
 genotype_without_one genotypes key other =
-    if is_at (nat_cmp key) other
+    if key == other
     then (if nat_lt 1 (count_under genotypes key) then Some (lowered genotypes key) else None)
     else genotype_at genotypes other
 
@@ -71,20 +56,21 @@ AreCounted counts credited =
     (task : Task) → has_task credited task ≡ true → 0 < slice_index counts (task_place task)
 
 -- one organism more is counted
-abbrev pub with_organism : Counts → ℕ → List Letter → ℕ → List Bool → Counts
-with_organism counts key genome merit credited = record {
-  genotypes = with_one counts.genotypes key genome;
-  merit = counts.merit + merit;
-  tasks = tasks_with counts.tasks credited;
-}
+pub record HasOneMore (before after : Counts) (key : ℕ) (genome : List Letter) (merit : ℕ)
+    (credited : List Bool) : Type 0 where
+  pub under : (other : ℕ) → genotype_at after.genotypes other
+      ≡ genotype_with_one before.genotypes key genome other
+  pub living : living_of after.genotypes ≡ living_of before.genotypes + 1
+  pub merits : after.merit ≡ before.merit + merit
+  pub tasks : after.tasks ≡ tasks_with before.tasks credited
 
 -- one organism fewer is counted
-abbrev pub without_organism : Counts → ℕ → ℕ → List Bool → Counts
-without_organism counts key merit credited = record {
-  genotypes = without_one counts.genotypes key;
-  merit = counts.merit - merit;
-  tasks = tasks_without counts.tasks credited;
-}
+pub record HasOneFewer (before after : Counts) (key merit : ℕ) (credited : List Bool) : Type 0 where
+  pub under : (other : ℕ) → genotype_at after.genotypes other
+      ≡ genotype_without_one before.genotypes key other
+  pub living : living_of after.genotypes + 1 ≡ living_of before.genotypes
+  pub merits : after.merit ≡ before.merit - merit
+  pub tasks : after.tasks ≡ tasks_without before.tasks credited
 
 -- an organism that is counted has another merit and credited set
 abbrev pub with_renewal : Counts → ℕ → List Bool → ℕ → List Bool → Counts

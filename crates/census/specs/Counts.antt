@@ -1,10 +1,7 @@
 -- What a census has counted (docs/WORLD.md, "Statistics").
-use Rattle.std.specs.Prelude.{◌≡◌, ◌<◌, ℕ, List, Option, Some}
-use Rattle.std.specs.BTreeMap.{is_at}
-use Rattle.std.specs.List.{sum_by}
-use Rattle.std.specs.List.Sorted.{IsStrictlySortedBy}
+use Rattle.std.specs.Prelude.{◌≡◌, ◌<◌, ℕ, List, Option, Some, nat_eq}
+use Rattle.std.specs.List.{IsDistinct, sum_by}
 use Rattle.std.specs.Map.{keys_of, values_of, lookup}
-use Rattle.std.specs.Ordering.{nat_cmp}
 use Rattle.instruction_set.specs.declared.letter.Letter.{Letter}
 
 -- a genome, and how many of the counted organisms have it
@@ -12,8 +9,8 @@ pub record GenotypeCount : Type 0 where
   pub genome : List Letter
   pub count : ℕ
 
--- the genotypes by their keys, in the order of the keys, the sum of the merits, and for each task
--- how many have it in their credited set
+-- the genotypes by their keys, in no order that matters, the sum of the merits, and for each task how
+-- many have it in their credited set
 pub record Counts : Type 0 where
   pub genotypes : List (ℕ × GenotypeCount)
   pub merit : ℕ
@@ -21,7 +18,7 @@ pub record Counts : Type 0 where
 
 -- what is counted under a key
 abbrev pub genotype_at : List (ℕ × GenotypeCount) → ℕ → Option GenotypeCount
-genotype_at genotypes key = lookup (is_at (nat_cmp key)) genotypes
+genotype_at genotypes key = lookup (nat_eq key) genotypes
 
 -- how many organisms are counted
 abbrev pub living_of : List (ℕ × GenotypeCount) → ℕ
@@ -29,7 +26,7 @@ living_of genotypes = sum_by (λ genotype. genotype.count) (values_of genotypes)
 
 -- each key stands once, for a genome that some organism has, and each genome has one key
 pub record AreGenotypes (genotypes : List (ℕ × GenotypeCount)) : Type 0 where
-  pub keys_rise : IsStrictlySortedBy nat_cmp (keys_of genotypes)
+  pub keys : IsDistinct nat_eq (keys_of genotypes)
   pub counted : (key : ℕ) (genotype : GenotypeCount)
       → genotype_at genotypes key ≡ Some genotype → 0 < genotype.count
   pub one_key : (key other : ℕ) (genotype twin : GenotypeCount)

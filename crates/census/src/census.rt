@@ -1,10 +1,10 @@
 // A census: what is counted of the living.
-ghost use Rattle.std.specs.Prelude.{◌≡◌, ◌+◌, ◌↔◌, ℕ, [], IfOk, None, Ok, OnErr, OnOk, length, replicate};
+ghost use Rattle.std.specs.Prelude.{◌≡◌, ◌↔◌, [], IfOk, None, Ok, OnErr, OnOk, length, replicate};
 ghost use Rattle.std.specs.Map.{values_of};
 ghost use Rattle.std.specs.Option.{option_map};
 ghost use Rattle.genome.specs.Genome.{letters};
-ghost use Rattle.census.specs.Counts.{AreGenotypes, genotype_at, living_of};
-ghost use Rattle.census.specs.Changes.{CanAdd, CanRemove, CanRenew, genotype_with_one, genotype_without_one, with_organism, with_renewal, without_organism};
+ghost use Rattle.census.specs.Counts.{AreGenotypes, living_of};
+ghost use Rattle.census.specs.Changes.{CanAdd, CanRemove, CanRenew, HasOneFewer, HasOneMore, with_renewal};
 ghost use Rattle.census.specs.Dominance.{dominant_among, dominant_value};
 
 use crate::Dominant;
@@ -14,7 +14,7 @@ use avida_port::Memory;
 use genome::Genome;
 use logic_tasks::{TASK_COUNT, Tasks};
 use std::alloc::Global;
-use std::collections::BTreeMap;
+use std::collections::HashMap;
 use std::marker::Model;
 use std::sync::Arc;
 
@@ -55,7 +55,7 @@ impl Census {
             living: 0,
             merit: 0,
             tasks: [0; TASK_COUNT],
-            genotypes: BTreeMap::new(alloc),
+            genotypes: HashMap::new(alloc),
         }
     }
 
@@ -68,12 +68,8 @@ impl Census {
         credited: Tasks,
     ) -> Result<(), Memory>
         requires { CanAdd self.old key (letters genome.now.value) merit }
-        ensures ok { OnOk result (self.new
-            ≡ with_organism self.old key (letters genome.now.value) merit credited) }
-        ensures under { OnOk result ((other : ℕ) → genotype_at self.new.genotypes other
-            ≡ genotype_with_one self.old.genotypes key (letters genome.now.value) other) }
-        ensures living { OnOk result
-            (living_of self.new.genotypes ≡ living_of self.old.genotypes + 1) }
+        ensures ok { OnOk result
+            (HasOneMore self.old self.new key (letters genome.now.value) merit credited) }
         ensures err { OnErr result (self.new ≡ self.old) }
     {
         raise(&mut self.genotypes, key, genome)?;
@@ -86,10 +82,7 @@ impl Census {
     /// Counts one organism fewer. It takes no memory.
     pub fn remove(&mut self, key: u64, merit: u64, credited: Tasks)
         requires { CanRemove self.old key merit credited }
-        ensures counts { self.new ≡ without_organism self.old key merit credited }
-        ensures under { (other : ℕ) → genotype_at self.new.genotypes other
-            ≡ genotype_without_one self.old.genotypes key other }
-        ensures living { living_of self.new.genotypes + 1 ≡ living_of self.old.genotypes }
+        ensures { HasOneFewer self.old self.new key merit credited }
     {
         lower(&mut self.genotypes, key);
         self.living -= 1;

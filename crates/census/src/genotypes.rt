@@ -1,22 +1,22 @@
 // The genotypes by their keys.
 ghost use Rattle.std.specs.Prelude.{◌≡◌, ◌+◌, ◌<◌, ◌^◌, ℕ, IsSome, OnErr, OnOk, Some};
-ghost use Rattle.std.specs.BTreeMap.{values};
+ghost use Rattle.std.specs.HashMap.{values};
 ghost use Rattle.std.specs.List.{best_of};
 ghost use Rattle.std.specs.Option.{option_copied};
 ghost use Rattle.genome.specs.Genome.{letters};
 ghost use Rattle.census.specs.Counts.{GenotypeCount, AreGenotypes, genotype_at, living_of};
-ghost use Rattle.census.specs.Changes.{genotype_with_one, genotype_without_one, with_one, without_one};
+ghost use Rattle.census.specs.Changes.{genotype_with_one, genotype_without_one};
 ghost use Rattle.census.specs.Dominance.{outranks, dominant_among};
 
 use crate::genotype::Genotype;
 use avida_port::Memory;
 use genome::Genome;
 use std::alloc::Global;
-use std::collections::BTreeMap;
-use std::collections::btree_map::{Entry, Values};
+use std::collections::HashMap;
+use std::collections::hash_map::{Entry, Values};
 use std::sync::Arc;
 
-pub(crate) type Genotypes = BTreeMap<u64, Genotype>;
+pub(crate) type Genotypes = HashMap<u64, Genotype>;
 
 /// Counts one organism more. If memory runs out, nothing changes.
 pub(crate) fn raise(
@@ -32,8 +32,6 @@ pub(crate) fn raise(
         → genotype_at genotypes.old.entries other ≡ Some genotype
         → genotype.genome ≡ letters genome.now.value → other ≡ key }
     requires room { living_of genotypes.old.entries < 2 ^ 32 }
-    ensures ok { OnOk result (genotypes.new.entries
-        ≡ with_one genotypes.old.entries key (letters genome.now.value)) }
     ensures under { OnOk result ((other : ℕ) → genotype_at genotypes.new.entries other
         ≡ genotype_with_one genotypes.old.entries key (letters genome.now.value) other) }
     ensures living { OnOk result (living_of genotypes.new.entries
@@ -55,7 +53,6 @@ pub(crate) fn raise(
 pub(crate) fn lower(genotypes: &mut Genotypes, key: u64)
     requires genotypes { AreGenotypes genotypes.old.entries }
     requires counted { IsSome (genotype_at genotypes.old.entries key) }
-    ensures value { genotypes.new.entries ≡ without_one genotypes.old.entries key }
     ensures under { (other : ℕ) → genotype_at genotypes.new.entries other
         ≡ genotype_without_one genotypes.old.entries key other }
     ensures living { living_of genotypes.new.entries + 1 ≡ living_of genotypes.old.entries }

@@ -1,16 +1,11 @@
 -- The genotypes that are counted, as one cell changes.
 use Rattle.std.proofs.Common.{◌≡◌, ◌∙◌, refl, sym, ap, ℕ, ◌+◌, ◌<◌, ◌≤◌, ◌≢◌, ◌⊎◌, Bool, true, false, cond, List, length, set, get_or, get_or-set_same, get_or-set_other, Option, Some, None, is_some, arith, inl, inr}
-use Rattle.std.specs.Prelude.{nat_lt, slice_get}
-use Rattle.std.specs.BTreeMap.{is_at}
+use Rattle.std.specs.Prelude.{nat_eq, nat_lt, slice_get}
 use Rattle.std.specs.List.{count_by}
-use Rattle.std.specs.Ordering.{nat_cmp, is_eq}
-use Rattle.std.proofs.lemmas.Bool.{cases_lt}
+use Rattle.std.proofs.lemmas.Bool.{cases_lt, eq-eqb, eqb-true}
 use Rattle.std.proofs.lemmas.Bool.Decides.{nat_tests}
-use Rattle.std.proofs.lemmas.Cmp.{tied_itself, nat_cmp_total}
 use Rattle.std.proofs.lemmas.List.{length-set}
 use Rattle.std.proofs.lemmas.List.Sums.{sum_by-set, get_or-le-sum_by}
-use Rattle.std.proofs.lemmas.Map.Lookups.{exact_unsigned}
-use Rattle.std.proofs.lemmas.Map.Views.{tells_apart}
 use Rattle.census.specs.Counts.{GenotypeCount, genotype_at, living_of}
 use Rattle.census.specs.Changes.{count_under, lowered, genotype_with_one, genotype_without_one}
 use Rattle.instruction_set.specs.declared.letter.Letter.{Letter}
@@ -31,14 +26,6 @@ read-set xs i k x d within = elim (cases_lt k i) [
         inl (same, ap (λ n. get_or (set xs i x) n d) same ∙ get_or-set_same xs i x d within)
   ]
 ]
-
--- a key is at its own place
-at_itself : (key : ℕ) → is_at (nat_cmp key) key ≡ true
-at_itself key = ap is_eq (tied_itself nat_cmp_total key)
-
--- a key that ties with another is that key
-tied : (key other : ℕ) → is_at (nat_cmp key) other ≡ true → other ≡ key
-tied key other same = sym (tells_apart exact_unsigned key other same)
 
 -- one number has one genome
 one-genome : (genomes : List (List Letter)) (number key : ℕ) (other genome : List Letter)
@@ -77,7 +64,7 @@ module _ (one_list : OneList) where
   -- another genome than the one with a number has another number
   other-number : (genomes : List (List Letter)) (key number : ℕ) (genome other : List Letter)
       → AreDifferent genomes → slice_get genomes key ≡ Some genome
-      → slice_get genomes number ≡ Some other → is_at (nat_cmp key) number ≡ false
+      → slice_get genomes number ≡ Some other → nat_eq key number ≡ false
       → same_letters other genome ≡ false
   other-number genomes key number genome other different here there apart =
       by (same_letters other genome) refl where
@@ -90,8 +77,8 @@ module _ (one_list : OneList) where
             let one_genome : other ≡ genome = (one_list other genome).0 is in
             let one_number : number ≡ key =
             different number key genome (there ∙ ap Some one_genome) here in
-            absurd (clash (is_at (nat_cmp key) number)
-            (ap (is_at (nat_cmp key)) one_number ∙ at_itself key) apart)
+            absurd (clash (nat_eq key number)
+            (eq-eqb key number (sym one_number)) apart)
 
   -- an organism goes
   pub AreCountedIn-removed : (standing : List (Option (List Letter))) (genomes : List (List Letter))
@@ -109,10 +96,10 @@ module _ (one_list : OneList) where
           | inl here ↦ absurd (apart _ g here.1 is)
           | inr there ↦ are.keyed k g (sym there.1 ∙ is)
         ];
-        named = λ number g is. named number g (is_at (nat_cmp key) number)
+        named = λ number g is. named number g (nat_eq key number)
             (nat_lt 1 (count_under genotypes key)) refl (sym (under number) ∙ is);
         counted = λ number g is. ap count_in (under number)
-            ∙ counted number g is (is_at (nat_cmp key) number) refl;
+            ∙ counted number g is (nat_eq key number) refl;
         living = omega
             (arith, living, are.living, living-set standing cell (Some genome) None within stands);
       }
@@ -136,12 +123,12 @@ module _ (one_list : OneList) where
         ap one (is_itself one_list genome),
       )
 
-      named : (number : ℕ) (g : GenotypeCount) (a b : Bool) → is_at (nat_cmp key) number ≡ a
+      named : (number : ℕ) (g : GenotypeCount) (a b : Bool) → nat_eq key number ≡ a
           → cond a (cond b (Some (lowered genotypes key)) None) (genotype_at genotypes number)
           ≡ Some g → slice_get genomes number ≡ Some g.genome
       named number g true true at is =
           let same : lowered genotypes key ≡ g = cc in
-          ap (slice_get genomes) (tied key number at)
+          ap (slice_get genomes) (sym (eqb-true key number at))
           ∙ genome-under one_list standing genomes keys genotypes key are least
           ∙ ap (λ (g : GenotypeCount). Some g.genome) same
       named number g true false at is = cc
@@ -156,12 +143,12 @@ module _ (one_list : OneList) where
           false_at_most n is = grind (arith, nat_tests)
 
       counted : (number : ℕ) (g : List Letter) → slice_get genomes number ≡ Some g → (a : Bool)
-          → is_at (nat_cmp key) number ≡ a
+          → nat_eq key number ≡ a
           → count_in (cond a (cond (nat_lt 1 (count_under genotypes key))
           (Some (lowered genotypes key)) None) (genotype_at genotypes number))
           ≡ cells_of (set standing cell None) g
       counted number g is true at =
-          let one_genome = one-genome genomes number key g genome (tied key number at) is key_is in
+          let one_genome = one-genome genomes number key g genome (sym (eqb-true key number at)) is key_is in
           omega (
             arith,
             lower (nat_lt 1 (count_under genotypes key)) refl,
@@ -199,10 +186,10 @@ module _ (one_list : OneList) where
               ∙ are.keyed k g (sym there.1 ∙ is)
         ];
         named =
-            λ number g is. named number g (is_at (nat_cmp key) number) refl
+            λ number g is. named number g (nat_eq key number) refl
             (sym (under number) ∙ is);
         counted = λ number g is. ap count_in (under number)
-            ∙ counted number g is (is_at (nat_cmp key) number) refl;
+            ∙ counted number g is (nat_eq key number) refl;
         living = omega
             (arith, living, are.living, living-set standing cell None (Some genome) within empty);
       }
@@ -210,21 +197,21 @@ module _ (one_list : OneList) where
       one_more : GenotypeCount
       one_more = record { genome = genome; count = count_under genotypes key + 1 }
 
-      named : (number : ℕ) (g : GenotypeCount) (a : Bool) → is_at (nat_cmp key) number ≡ a
+      named : (number : ℕ) (g : GenotypeCount) (a : Bool) → nat_eq key number ≡ a
           → cond a (Some one_more) (genotype_at genotypes number) ≡ Some g
           → slice_get genomes number ≡ Some g.genome
       named number g true at is =
           let same : one_more ≡ g = cc in
-          ap (slice_get genomes) (tied key number at) ∙ key_is
+          ap (slice_get genomes) (sym (eqb-true key number at)) ∙ key_is
           ∙ ap (λ (g : GenotypeCount). Some g.genome) same
       named number g false at is = are.named number g is
 
       counted : (number : ℕ) (g : List Letter) → slice_get genomes number ≡ Some g → (a : Bool)
-          → is_at (nat_cmp key) number ≡ a
+          → nat_eq key number ≡ a
           → count_in (cond a (Some one_more) (genotype_at genotypes number))
           ≡ cells_of (set standing cell (Some genome)) g
       counted number g is true at =
-          let one_genome = one-genome genomes number key g genome (tied key number at) is key_is in
+          let one_genome = one-genome genomes number key g genome (sym (eqb-true key number at)) is key_is in
           omega (
             arith,
             are.counted key genome key_is,

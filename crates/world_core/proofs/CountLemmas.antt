@@ -51,7 +51,7 @@ module _ (one_list : OneList) (cells : List (Option Occupant)) (genomes : List (
     clash is = cc
   counted-again (Some o) None here goes counted =
       IsKeptOf-removed one_list cells genomes keys before after cell within
-      (record { id = id; organism = o }) kept here counted.counts counted.under counted.living
+      (record { id = id; organism = o }) kept here counted
   counted-again (Some o) (Some next) here goes counted =
       let first : Occupant = record { id = id; organism = o } in
       let last : Occupant = record { id = id; organism = next } in

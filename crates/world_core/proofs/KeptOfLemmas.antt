@@ -1,10 +1,10 @@
 -- What is kept of who stands in the cells, as one of them changes.
-use Rattle.std.proofs.Common.{◌≡◌, ◌∙◌, refl, sym, ap, subst, Result, Ok, Err, OnOk, ℕ, zero, suc, ◌∷◌, ◌+◌, ◌<◌, ◌≤◌, ◌^◌, List, [], length, set, get_or, Option, Some, None, is_some, replicate, arith}
+use Rattle.std.proofs.Common.{◌≡◌, ◌∙◌, refl, sym, ap, subst, Result, Ok, Err, OnOk, ℕ, zero, suc, ◌∷◌, ◌<◌, ◌≤◌, ◌^◌, List, [], length, set, get_or, Option, Some, None, is_some, replicate, arith}
 use Rattle.std.proofs.lemmas.List.{get_or-map, map-set, length-map, set-get_or}
 use Rattle.std.specs.Prelude.{OnErr, slice_get}
 use Rattle.std.proofs.lemmas.List.Sums.{count_by-le-length}
-use Rattle.census.specs.Changes.{CanAdd, CanRemove, genotype_with_one, genotype_without_one, with_organism, without_organism}
-use Rattle.census.specs.Counts.{Counts, genotype_at, living_of}
+use Rattle.census.specs.Changes.{CanAdd, CanRemove, HasOneFewer, HasOneMore}
+use Rattle.census.specs.Counts.{Counts}
 use Rattle.instruction_set.specs.declared.letter.Letter.{Letter}
 use Rattle.world_rules.specs.World.{Occupant}
 use mathlib.Core.List.{IsPrefix}
@@ -79,21 +79,18 @@ module _ (one_list : OneList) (cells : List (Option Occupant)) (genomes : List (
     }
 
     -- once it has gone
-    pub IsKeptOf-removed : after ≡ without_organism before (get_or keys cell 0) o.organism.merit
-        o.organism.credited → ((other : ℕ)
-        → genotype_at after.genotypes other ≡ genotype_without_one before.genotypes
-        (get_or keys cell 0) other) → living_of after.genotypes + 1 ≡ living_of before.genotypes
-        → IsKeptOf (set cells cell None) genomes keys after
-    IsKeptOf-removed is under living = record {
+    pub IsKeptOf-removed : HasOneFewer before after (get_or keys cell 0) o.organism.merit
+        o.organism.credited → IsKeptOf (set cells cell None) genomes keys after
+    IsKeptOf-removed fewer = record {
       different = kept.different;
       genotypes = subst (λ (s : List (Option (List Letter))).
           AreCountedIn s genomes keys after.genotypes)
           (sym (map-set occupant_genome cells cell None))
           (AreCountedIn-removed one_list (occupant_genomes cells) genomes keys before.genotypes
-          after.genotypes cell o.organism.genome kept.different wide stands kept.genotypes under
-          living);
-      sums =
-          rw is (AreSummedIn-removed cells cell o before.merit before.tasks within here kept.sums);
+          after.genotypes cell o.organism.genome kept.different wide stands kept.genotypes
+          fewer.under fewer.living);
+      sums = rw (fewer.merits, fewer.tasks)
+          (AreSummedIn-removed cells cell o before.merit before.tasks within here kept.sums);
     }
 
   module _ (o : Occupant) (number : ℕ)
@@ -120,13 +117,10 @@ module _ (one_list : OneList) (cells : List (Option Occupant)) (genomes : List (
     }
 
     -- once it stands there
-    pub IsKeptOf-put : after ≡ with_organism before number o.organism.genome o.organism.merit
-        o.organism.credited → ((other : ℕ)
-        → genotype_at after.genotypes other
-        ≡ genotype_with_one before.genotypes number o.organism.genome other)
-        → living_of after.genotypes ≡ living_of before.genotypes + 1
+    pub IsKeptOf-put : HasOneMore before after number o.organism.genome o.organism.merit
+        o.organism.credited
         → IsKeptOf (set cells cell (Some o)) genomes (set keys cell number) after
-    IsKeptOf-put is under living = record {
+    IsKeptOf-put more = record {
       different = kept.different;
       genotypes = subst (λ (s : List (Option (List Letter))). AreCountedIn s genomes
           (set keys cell number) after.genotypes)
@@ -134,10 +128,10 @@ module _ (one_list : OneList) (cells : List (Option Occupant)) (genomes : List (
           (AreCountedIn-put one_list (occupant_genomes cells) genomes keys before.genotypes
           after.genotypes cell number o.organism.genome kept.different
           (omega (arith, within, length-map cells occupant_genome))
-          (standing-at cells cell within ∙ ap occupant_genome empty) number_is kept.genotypes under
-          living);
-      sums = rw is (AreSummedIn-put cells cell o before.merit before.tasks within empty fits
-          kept.sums);
+          (standing-at cells cell within ∙ ap occupant_genome empty) number_is kept.genotypes
+          more.under more.living);
+      sums = rw (more.merits, more.tasks)
+          (AreSummedIn-put cells cell o before.merit before.tasks within empty fits kept.sums);
     }
 
 -- where the bank grows what is kept stays

@@ -1,20 +1,18 @@
 -- What is kept of who stands in the cells shows what is counted of them anew.
 use Rattle.std.proofs.Common.{◌≡◌, ◌∙◌, refl, sym, ap, ℕ, zero, suc, ◌+◌, ◌<◌, Bool, true, false, not, List, [], ◌∷◌, length, map, filter, get_or, Option, Some, None, is_some, arith}
-use Rattle.std.specs.Prelude.{slice_get}
-use Rattle.std.specs.Cmp.{IsEquivalence}
+use Rattle.std.specs.Prelude.{nat_eq, slice_get}
+use Rattle.std.specs.Cmp.{IsEquivalence, nat_eq_equiv}
 use Rattle.std.specs.List.{Contains, IsDistinct, list_any, sum_by, count_by}
 use Rattle.std.specs.Map.{keys_of, values_of}
 use Rattle.std.specs.Option.{option_map, unwrap_or}
-use Rattle.std.specs.Ordering.{nat_cmp, eq_by_cmp}
-use Rattle.std.proofs.lemmas.Cmp.{eq_by_cmp_equiv, nat_cmp_total}
+use Rattle.std.proofs.lemmas.Bool.{eq-eqb, eqb-true}
 use Rattle.std.proofs.lemmas.List.{length-map, get_or-map}
 use Rattle.std.proofs.lemmas.List.Elements.{Contains-get_or}
 use Rattle.std.proofs.lemmas.List.Sums.{sum_by-cons, get_or-le-sum_by}
-use Rattle.std.proofs.lemmas.Map.Keys.{IsDistinct-from_apart, IsDistinct-from_sorted, below_from_sorted}
+use Rattle.std.proofs.lemmas.Map.Keys.{IsDistinct-from_apart, apart_from_distinct}
 use Rattle.std.proofs.lemmas.Map.Entries.{length-values_of}
-use Rattle.std.proofs.lemmas.Map.Lookups.{exact_unsigned}
 use Rattle.std.proofs.lemmas.Map.Made.{Contains-from_values_of, Contains-values_of, length-from_same_keys}
-use Rattle.std.proofs.lemmas.Map.Views.{Contains-from_lookup, lookup-from_Contains, list_any-from_Contains, Contains-from_any, tells_apart}
+use Rattle.std.proofs.lemmas.Map.Views.{Contains-from_lookup, lookup-from_Contains, list_any-from_Contains, Contains-from_any}
 use Rattle.census.specs.Changes.{count_under}
 use Rattle.census.specs.Counts.{AreGenotypes, GenotypeCount, genotype_at}
 use Rattle.census.specs.Dominance.{HaveSameMembers}
@@ -159,9 +157,6 @@ module _ (one_list : OneList) where
   module _ (cells : List (Option Occupant)) (genomes : List (List Letter)) (keys : List ℕ)
       (genotypes : List (ℕ × GenotypeCount)) (are : AreGenotypes genotypes)
       (kept : AreCountedIn (occupant_genomes cells) genomes keys genotypes) where
-    key-distinct : IsDistinct (eq_by_cmp nat_cmp) (keys_of genotypes)
-    key-distinct = IsDistinct-from_sorted nat_cmp (keys_of genotypes) are.keys_rise
-
     -- what is counted under a key is a genome of the living with its count
     counted-is : (number : ℕ) (genotype : GenotypeCount)
         → genotype_at genotypes number ≡ Some genotype
@@ -208,8 +203,8 @@ module _ (one_list : OneList) where
         (map (counted_in (genomes_of_cells cells)) (genomes_of_cells cells))
     same-members = record {
       forth = λ genotype has. (let entry = Contains-from_values_of genotypes genotype has in
-          let at = lookup-from_Contains (eq_by_cmp_equiv nat_cmp_total) entry.0 genotype genotypes
-          key-distinct entry.1 in
+          let at = lookup-from_Contains nat_eq_equiv entry.0 genotype genotypes
+          are.keys entry.1 in
           let is = counted-is entry.0 genotype at in
           let among = counted-among (genomes_of_cells cells) genotype.genome
           (omega (
@@ -242,7 +237,7 @@ module _ (one_list : OneList) where
           sym (get_or-map (counted_in (genomes_of_cells cells)) (genomes_of_cells cells) has.0
           genotype.genome genotype within) ∙ has.2 in
           Contains-values_of genotypes counted.0 genotype
-          (Contains-from_lookup (tells_apart exact_unsigned) counted.0 genotype genotypes
+          (Contains-from_lookup eqb-true counted.0 genotype genotypes
           (counted.1 ∙ ap Some is)));
     }
 
@@ -254,8 +249,8 @@ module _ (one_list : OneList) where
     entry-at : (i : ℕ) (d : ℕ × GenotypeCount) → i < length genotypes
         → genotype_at genotypes (get_or genotypes i d).0 ≡ Some (get_or genotypes i d).1
     entry-at i d within =
-        lookup-from_Contains (eq_by_cmp_equiv nat_cmp_total) (get_or genotypes i d).0
-        (get_or genotypes i d).1 genotypes key-distinct (Contains-get_or genotypes i d within)
+        lookup-from_Contains nat_eq_equiv (get_or genotypes i d).0
+        (get_or genotypes i d).1 genotypes are.keys (Contains-get_or genotypes i d within)
 
     -- the genome of an entry
     shown-at : (i : ℕ) (d : List Letter) → i < length genotypes
@@ -282,6 +277,9 @@ module _ (one_list : OneList) where
     shown-distinct = IsDistinct-from_apart same_letters shown
         (λ i j d upward within. apart i j d upward (omega (arith, within, shown-long))
         (same_letters (get_or shown i d) (get_or shown j d)) refl) where
+          unlike : (a b : ℕ) → a ≡ b → nat_eq a b ≡ false → ⊥
+          unlike a b same differ = let is = eq-eqb a b same in cc
+
           apart : (i j : ℕ) (d : List Letter) → i < j → j < length genotypes → (b : Bool)
               → same_letters (get_or shown i d) (get_or shown j d) ≡ b → b ≡ false
           apart i j d upward within false is = refl
@@ -293,14 +291,11 @@ module _ (one_list : OneList) where
               ∙ shown-at j d within in
               let key : (get_or genotypes i e).0 ≡ (get_or genotypes j e).0 =
               are.one_key _ _ _ _ (entry-at i e early) (entry-at j e within) same in
-              absurd (omega (
-                arith,
-                below_from_sorted (keys_of genotypes) i j 0 are.keys_rise upward
-                    (omega (arith, within, length-map genotypes (λ (e : ℕ × GenotypeCount). e.0))),
-                key-at i e early,
-                key-at j e within,
-                key,
-              ))
+              let long : j < length (keys_of genotypes) =
+              omega (arith, within, length-map genotypes (λ (e : ℕ × GenotypeCount). e.0)) in
+              absurd (unlike (get_or (keys_of genotypes) i 0) (get_or (keys_of genotypes) j 0)
+              (key-at i e early ∙ key ∙ sym (key-at j e within))
+              (apart_from_distinct nat_eq (keys_of genotypes) i j 0 are.keys upward long))
 
     -- two tests of which each follows from the other
     both : (a b : Bool) → (a ≡ true → b ≡ true) → (b ≡ true → a ≡ true) → a ≡ b
@@ -365,7 +360,7 @@ module _ (one_list : OneList) where
         (λ found. (let has = Contains-from_any decided q (genomes_of_cells cells) found in
         let counted = is-counted q has in
         let entry = Contains-values_of genotypes counted.0 (counted_in (genomes_of_cells cells) q)
-        (Contains-from_lookup (tells_apart exact_unsigned) counted.0
+        (Contains-from_lookup eqb-true counted.0
         (counted_in (genomes_of_cells cells) q) genotypes counted.1) in
         list_any-from_Contains letters-equal q shown (
           entry.0,

@@ -1,8 +1,8 @@
 -- What is kept of the living beside their cells (docs/WORLD.md, "Statistics").
-use Rattle.std.specs.Prelude.{◌≡◌, ◌⊎◌, ℕ, ◌+◌, ◌≤◌, ◌^◌, Bool, false, All, List, length, map, Option, None, Some, option_map, count_by, is_some, slice_get, slice_index, slice_index_or}
+use Rattle.std.specs.Prelude.{◌≡◌, ◌⊎◌, ℕ, ◌≤◌, ◌^◌, Bool, false, All, List, length, map, Option, None, Some, option_map, count_by, is_some, slice_get, slice_index, slice_index_or}
 use Rattle.std.specs.List.{sum_by}
 use Rattle.cell_shards.specs.declared.standing.Standing.{Standing}
-use Rattle.census.specs.Changes.{CanRemove, CanRenew, count_under, genotype_without_one, with_renewal, without_organism}
+use Rattle.census.specs.Changes.{CanRemove, CanRenew, HasOneFewer, count_under, with_renewal}
 use Rattle.census.specs.Counts.{Counts, GenotypeCount, genotype_at, living_of}
 use Rattle.instruction_set.specs.declared.letter.Letter.{Letter}
 use Rattle.instruction_set.specs.Letter.{same_letters}
@@ -85,13 +85,6 @@ CanCountAgain counts key (Some was) None = CanRemove counts key was.merit was.cr
 CanCountAgain counts key (Some was) (Some now) =
     CanRenew counts was.merit was.credited (2 ^ 38) × (now.merit ≤ 2 ^ 38)
 
--- one organism fewer is counted
-pub record IsWithout (before after : Counts) (key : ℕ) (was : Standing) : Type 0 where
-  pub counts : after ≡ without_organism before key was.merit was.credited
-  pub under : (other : ℕ)
-      → genotype_at after.genotypes other ≡ genotype_without_one before.genotypes key other
-  pub living : living_of after.genotypes + 1 ≡ living_of before.genotypes
-
 -- an organism is counted with the merit and the credited set that it has now
 abbrev pub IsRenewed : Counts → Counts → Standing → Standing → Type 0
 IsRenewed before after was now =
@@ -102,5 +95,5 @@ IsRenewed before after was now =
 -- life
 abbrev pub CountsAgain : Counts → Counts → ℕ → Option Standing → Option Standing → Type 0
 CountsAgain before after key None now = after ≡ before
-CountsAgain before after key (Some was) None = IsWithout before after key was
+CountsAgain before after key (Some was) None = HasOneFewer before after key was.merit was.credited
 CountsAgain before after key (Some was) (Some now) = IsRenewed before after was now

@@ -23,7 +23,7 @@ use world_config::Config;
 use world_laws::laws::organisms_live_on;
 use world_tree::WorldTree;
 
-/// A world that goes on: its tree may be one update behind. It grows in the next update, while the
+/// A world that goes on: its tree may be one update behind, and grows in the next update, once the
 /// other threads have begun with the cells. Only `World::into_running` and `advance` make one.
 #[derive(Drop)]
 pub struct RunningWorld {

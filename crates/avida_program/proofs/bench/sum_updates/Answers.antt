@@ -1,6 +1,7 @@
-use Rattle.std.proofs.Common.{◌∙◌, ◌+◌, ap, arith, refl, sym}
+use Rattle.std.proofs.Common.{◌≡◌, ◌∙◌, ◌+◌, ap, arith, length, refl, sym}
 use Rattle.assay.proofs.SumLemmas.{births_none}
 use Rattle.world_core.specs.WorldValue.{WorldValue}
+use Rattle.world_rules.specs.LogText.{updates_text}
 use Rattle.avida_program.proofs.BenchLemmas.{births_next, bytes_next}
 use Rattle.avida_program.proofs.bench.sum_updates.Goals as goal
 
@@ -13,6 +14,11 @@ loop-init g c = record {
   few_births = omega arith;
   few_bytes = omega arith;
 }
+
+pub returns-clause-bytes : goal.returns-clause-bytes
+returns-clause-bytes g c =
+    let all : c.loop.counter ≡ c.args.updates = omega arith in
+    c.loop.invariant.bytes ∙ ap (λ n. length (updates_text c.args.world.config n)) all
 
 pub loop-preserved : goal.loop-preserved
 loop-preserved g c =

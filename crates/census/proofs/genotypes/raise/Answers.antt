@@ -1,6 +1,7 @@
-use Rattle.std.proofs.Common.{rules, ◌≡◌, ◌∙◌, ap, arith, Option, Some}
+use Rattle.std.proofs.Common.{rules, ◌≡◌, ap, arith, Option, Some}
+use Rattle.std.specs.HashMap.Entry.{map_with_value}
 use Rattle.std.specs.Option.{option_map, unwrap_or}
-use Rattle.census.specs.Counts.{GenotypeCount, genotype_at, living_of}
+use Rattle.census.specs.Counts.{GenotypeCount, genotype_at}
 use Rattle.census.proofs.GenotypeLemmas.{count_under-le-living, living-with}
 use Rattle.census.proofs.genotypes.raise.Goals as goal
 
@@ -14,19 +15,19 @@ raise-requires c =
       ap (λ (o : Option GenotypeCount). unwrap_or (option_map (λ g. g.count) o) 0) found,
     )
 
-pub returns-in-Occupied-clause-ok : goal.returns-in-Occupied-clause-ok
-returns-in-Occupied-clause-ok c = search rules
-
 pub returns-in-Occupied-clause-living : goal.returns-in-Occupied-clause-living
 returns-in-Occupied-clause-living c =
-    ap living_of (returns-in-Occupied-clause-ok c)
-    ∙ living-with c.args.genotypes.now.entries c.args.key _ c.requires.genotypes.keys_rise
-
-pub returns-in_ok-genome-in-Vacant-clause-ok : goal.returns-in_ok-genome-in-Vacant-clause-ok
-returns-in_ok-genome-in-Vacant-clause-ok c = search rules
+    let genotype = c.raise.new.self in
+    let after = map_with_value c.in_ok-place.field-0 genotype in
+    let living = living-with c.args.genotypes.now after c.args.key genotype
+    (c.in_ok-place.ensures.update.1 genotype) (search rules) in
+    search (rules, living)
 
 pub returns-in_ok-genome-in-Vacant-clause-living :
     goal.returns-in_ok-genome-in-Vacant-clause-living
 returns-in_ok-genome-in-Vacant-clause-living c =
-    ap living_of (returns-in_ok-genome-in-Vacant-clause-ok c)
-    ∙ living-with c.args.genotypes.now.entries c.args.key _ c.requires.genotypes.keys_rise
+    let genotype = c.new.result in
+    let after = map_with_value c.in_ok-place.field-0 genotype in
+    let living = living-with c.args.genotypes.now after c.args.key genotype
+    (c.in_ok-place.ensures.update.1 genotype) (search rules) in
+    search (rules, living)

@@ -26,6 +26,13 @@ returns-in_err-into_world-clause-text g c =
     c.loop.invariant.written in
     rw (p.1, p.2) (wanting_after wrote)
 
+pub returns-clause-text : goal.returns-clause-text
+returns-clause-text g c =
+    let all : c.loop.counter ≡ c.args.updates = omega arith in
+    writes_same (subst (λ n. WritesAll {T = Unit {0}} (g.O.Sink.seen c.args.out.now)
+    (g.O.Sink.seen c.loop.out) (updates_text c.args.world.config n) (Ok tt)) all
+    c.loop.invariant.written)
+
 pub loop-preserved : goal.loop-preserved
 loop-preserved g c =
     let so = c.loop.invariant in

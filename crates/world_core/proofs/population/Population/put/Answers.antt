@@ -1,7 +1,8 @@
-use Rattle.std.proofs.Common.{◌≡◌, ◌∙◌, ap, get_or, subst, sym, List, ℕ, None, Some, length, ◌<◌}
+use Rattle.std.proofs.Common.{◌≡◌, get_or, subst, sym, List, ℕ, None, Some, length, ◌<◌}
 use Rattle.std.specs.Prelude.{slice_get}
 use Rattle.instruction_set.specs.declared.letter.Letter.{Letter}
-use Rattle.census.specs.Changes.{genotype_with_one, with_organism}
+use Rattle.census.specs.Changes.{HasOneMore}
+use Rattle.genome.specs.Genome.{letters}
 use Rattle.world_rules.specs.World.{Occupant}
 use Rattle.world_core.specs.Population.{PopulationValue}
 use Rattle.world_core.proofs.KeptOfLemmas.{IsKeptOf-put, can-add}
@@ -39,8 +40,7 @@ invariant_of-self-2 c =
     rw c.put.ensures (IsKeptOf-put c.one_index.ensures.list c.self.inside.cells
     c.self.inside.genotypes c.self.inside.keys.items before c.add.new.self c.args.cell room.within
     o number room.number_is room.empty c.requires.merit c.self.invariant
-    (c.in_ok-add.ensures.ok ∙ (λ i. with_organism before number (c.genome.ensures i)
-    (c.standing-standing.ensures i).merit (c.standing-standing.ensures i).credited))
-    (λ other. c.in_ok-add.ensures.under other
-    ∙ ap (λ g. genotype_with_one before.genotypes number g other) c.genome.ensures)
-    c.in_ok-add.ensures.living)
+    (subst (λ genome. HasOneMore before c.add.new.self number genome c.args.organism.merit
+    c.args.organism.credited) c.genome.ensures
+    (subst (λ standing. HasOneMore before c.add.new.self number (letters c.genome.result.now.value)
+    standing.merit standing.credited) c.standing-standing.ensures c.in_ok-add.ensures.ok)))

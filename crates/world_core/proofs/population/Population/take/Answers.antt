@@ -1,6 +1,6 @@
 use Rattle.std.proofs.Common.{◌≡◌, ◌∙◌, List, Option, ap, subst, sym, get_or, None, length, ◌<◌, arith}
 use Rattle.std.proofs.lemmas.List.{get_or_read, length-map}
-use Rattle.census.specs.Changes.{genotype_without_one, without_organism}
+use Rattle.census.specs.Changes.{HasOneFewer}
 use Rattle.world_rules.specs.Statistics.{organism_in}
 use Rattle.world_rules.specs.World.{Occupant}
 use Rattle.world_core.specs.Population.{IsKeptOf, PopulationValue, occupant_genome}
@@ -47,12 +47,10 @@ invariant_of-self c =
           (IsKeptOf-removed c.one_index.ensures.list cells c.self.inside.genotypes
           c.self.inside.keys.items before w.remove.new.self c.args.cell within who.0
           c.self.invariant who.1
-          (w.remove.ensures.counts
-          ∙ (λ i. without_organism before (key i)
-          (sym who.2 i).merit (sym who.2 i).credited))
-          (λ other. w.remove.ensures.under other
-          ∙ ap (λ k. genotype_without_one before.genotypes k other) key)
-          w.remove.ensures.living))
+          (subst (λ k. HasOneFewer before w.remove.new.self k who.0.organism.merit
+          who.0.organism.credited) key
+          (subst (λ standing. HasOneFewer before w.remove.new.self w.index-key.result.now
+          standing.merit standing.credited) (sym who.2) w.remove.ensures))))
       | in_default w ↦
           let empty = nobody (get_or cells c.args.cell None)
           (sym c.standing_at.ensures ∙ w.in_default.is) in
