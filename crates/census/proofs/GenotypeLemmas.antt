@@ -15,31 +15,14 @@ count_under-le-living genotypes key =
     omega (arith, sum_by-remove_entry (λ (g : GenotypeCount). g.count) (nat_eq key) genotypes)
 
 module _ {S : Type 0} (before after : HashMap ℕ GenotypeCount S) (key : ℕ) where
-  -- a genotype is put under a key, with one organism more than was counted there
-  pub living-with : (genotype : GenotypeCount)
+  -- a genotype is put under a key, in the place of the one that was counted there
+  pub living-put : (genotype : GenotypeCount)
       → PutsEntry nat_eq before after key genotype (get nat_eq before key)
-      → genotype.count ≡ count_under before.entries key + 1
-      → living_of after.entries ≡ living_of before.entries + 1
-  living-with genotype puts more =
-      omega (
-        arith,
-        more,
-        sum_by_puts_entry (λ (g : GenotypeCount). g.count) nat_eq before after key genotype
-            (get nat_eq before key) refl puts,
-      )
-
-  -- a genotype is put under a key, with one organism fewer than was counted there
-  pub living-lowered : (genotype : GenotypeCount)
-      → PutsEntry nat_eq before after key genotype (get nat_eq before key)
-      → genotype.count + 1 ≡ count_under before.entries key
-      → living_of after.entries + 1 ≡ living_of before.entries
-  living-lowered genotype puts fewer =
-      omega (
-        arith,
-        fewer,
-        sum_by_puts_entry (λ (g : GenotypeCount). g.count) nat_eq before after key genotype
-            (get nat_eq before key) refl puts,
-      )
+      → living_of after.entries + count_under before.entries key
+      ≡ living_of before.entries + genotype.count
+  living-put genotype puts =
+      sum_by_puts_entry (λ (g : GenotypeCount). g.count) nat_eq before after key genotype
+      (get nat_eq before key) refl puts
 
   -- the only organism that was counted under a key goes, and the key with it
   pub living-removed : IsPermutation (remove_entry (nat_eq key) before.entries) after.entries

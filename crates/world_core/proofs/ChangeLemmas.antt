@@ -148,7 +148,8 @@ module _ (one_list : OneList) where
           (Some (lowered genotypes key)) None) (genotype_at genotypes number))
           ≡ cells_of (set standing cell None) g
       counted number g is true at =
-          let one_genome = one-genome genomes number key g genome (sym (eqb-true key number at)) is key_is in
+          let same = sym (eqb-true key number at) in
+          let one_genome = one-genome genomes number key g genome same is key_is in
           omega (
             arith,
             lower (nat_lt 1 (count_under genotypes key)) refl,
@@ -211,7 +212,8 @@ module _ (one_list : OneList) where
           → count_in (cond a (Some one_more) (genotype_at genotypes number))
           ≡ cells_of (set standing cell (Some genome)) g
       counted number g is true at =
-          let one_genome = one-genome genomes number key g genome (sym (eqb-true key number at)) is key_is in
+          let same = sym (eqb-true key number at) in
+          let one_genome = one-genome genomes number key g genome same is key_is in
           omega (
             arith,
             are.counted key genome key_is,

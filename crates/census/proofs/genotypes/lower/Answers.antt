@@ -1,14 +1,14 @@
 use Rattle.std.proofs.Common.{rules}
 use Rattle.std.specs.HashMap.Entry.{map_with_value, map_without_entry}
-use Rattle.census.proofs.GenotypeLemmas.{living-lowered, living-removed}
+use Rattle.census.proofs.GenotypeLemmas.{living-put, living-removed}
 use Rattle.census.proofs.genotypes.lower.Goals as goal
 
 pub returns-then-count-gt1-clause-living : goal.returns-then-count-gt1-clause-living
 returns-then-count-gt1-clause-living c =
     let genotype = c.lower.new.self in
     let after = map_with_value c.in-Ok-Occupied.field-0 genotype in
-    let living = living-lowered c.args.genotypes.now after c.args.key genotype
-    (c.in-Ok-Occupied.ensures.update.1 genotype) (search rules) in
+    let living = living-put c.args.genotypes.now after c.args.key genotype
+    (c.in-Ok-Occupied.ensures.update.1 genotype) in
     search (rules, living)
 
 pub returns-else-count-gt1-clause-living : goal.returns-else-count-gt1-clause-living

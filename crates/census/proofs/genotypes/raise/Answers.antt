@@ -2,7 +2,7 @@ use Rattle.std.proofs.Common.{rules, ◌≡◌, ap, arith, Option, Some}
 use Rattle.std.specs.HashMap.Entry.{map_with_value}
 use Rattle.std.specs.Option.{option_map, unwrap_or}
 use Rattle.census.specs.Counts.{GenotypeCount, genotype_at}
-use Rattle.census.proofs.GenotypeLemmas.{count_under-le-living, living-with}
+use Rattle.census.proofs.GenotypeLemmas.{count_under-le-living, living-put}
 use Rattle.census.proofs.genotypes.raise.Goals as goal
 
 pub raise-requires : goal.raise-requires
@@ -19,8 +19,8 @@ pub returns-in-Occupied-clause-living : goal.returns-in-Occupied-clause-living
 returns-in-Occupied-clause-living c =
     let genotype = c.raise.new.self in
     let after = map_with_value c.in_ok-place.field-0 genotype in
-    let living = living-with c.args.genotypes.now after c.args.key genotype
-    (c.in_ok-place.ensures.update.1 genotype) (search rules) in
+    let living = living-put c.args.genotypes.now after c.args.key genotype
+    (c.in_ok-place.ensures.update.1 genotype) in
     search (rules, living)
 
 pub returns-in_ok-genome-in-Vacant-clause-living :
@@ -28,6 +28,6 @@ pub returns-in_ok-genome-in-Vacant-clause-living :
 returns-in_ok-genome-in-Vacant-clause-living c =
     let genotype = c.new.result in
     let after = map_with_value c.in_ok-place.field-0 genotype in
-    let living = living-with c.args.genotypes.now after c.args.key genotype
-    (c.in_ok-place.ensures.update.1 genotype) (search rules) in
+    let living = living-put c.args.genotypes.now after c.args.key genotype
+    (c.in_ok-place.ensures.update.1 genotype) in
     search (rules, living)
