@@ -125,6 +125,7 @@ impl Bank {
             ≡ with_call (genotypes_of seat.old.seen) (call_of (is_ok result) (letters genome)) }
     {
         one_index();
+        self.wait_for_others(rt);
         let ticket = self.draw(&mut seat.pass);
         let mut catalog = self.wait_for_turn(rt, &mut seat.pass, ticket);
         let result = catalog.serve(alloc, genome);

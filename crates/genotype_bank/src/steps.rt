@@ -16,6 +16,18 @@ use std::sync::Wait;
 use std::thread;
 
 impl Bank {
+    /// Waits until no turn is out, as far as a look can tell. A thread that loses its processor
+    /// with a turn of its own holds up all that drew after it.
+    pub(crate) fn wait_for_others<R: Wait>(&self, rt: &R) {
+        let shared = &self.table.shared;
+        for _ in rt.forever() {
+            if shared.peek(0) == shared.peek(1) {
+                break;
+            }
+            thread::yield_now();
+        }
+    }
+
     /// Draws a turn, and gives its number modulo 2^64.
     pub(crate) fn draw(&self, pass: &mut Pass) -> u64
         requires bank { pass.old.table_id ≡ self.now }
