@@ -158,9 +158,10 @@ impl Population {
         Ok(())
     }
 
-    /// The lives of all cells in the update after this one, by as many threads as there are workers.
-    /// The dead leave their cells, and the genomes of the newborns are interned. The calling thread
-    /// does its errand once the others have begun. After `Memory` no population is left.
+    /// The lives of all cells in the update after this one, by as many threads as there are
+    /// workers. The dead leave their cells, and the genomes of the newborns are interned. The
+    /// calling thread does its errand once the others have begun. After `Memory` no population is
+    /// left.
     pub(crate) fn live<R: Threads + Wait + Sync, G: Gate + Sync, T: Drop, F: FnOnce() -> T + Drop>(
         self,
         rt: &R,
