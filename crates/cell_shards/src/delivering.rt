@@ -11,7 +11,7 @@ use genotype_bank::laws::calls_number_genotypes;
 use genotype_bank::{Bank, Seat};
 use organism::{Births, Newborn};
 use std::alloc::Global;
-use std::sync::Wait;
+use std::sync::{Arc, Wait};
 
 /// The newborns of a cell, behind those of the cells before it, with the handles of their genomes,
 /// which the seat interns in this order.
@@ -62,10 +62,12 @@ fn deliver_one<R: Wait>(
         credited,
     } = newborn;
     let handle = bank.intern(rt, alloc, seat, genome)?;
+    let remembered = Arc::try_clone(&handle.genome)?;
     Ok(Delivered {
         cell,
         nth,
         handle,
+        remembered,
         origin,
         merit,
         credited,

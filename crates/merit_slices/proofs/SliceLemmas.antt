@@ -1,6 +1,6 @@
 -- Quotients that rise, and their differences.
-use Rattle.std.proofs.Common.{◌≡◌, ◌∙◌, ap, ℕ, zero, suc, ◌+◌, ◌*◌, ◌<◌, ◌≤◌, ◌^◌, List, length, take, map, sum, cond, get_or, subst, add-one, arith, inl, inr}
-use Rattle.std.proofs.Math.Nat.{div-mul-le_self, mul-le-mul_left, mul-le-mul, div-le_of_le-mul, mul-div_cancel}
+use Rattle.std.proofs.Common.{◌≡◌, ◌∙◌, sym, ap, ℕ, zero, suc, ◌+◌, ◌-◌, ◌*◌, ◌/◌, ◌<◌, ◌≤◌, ◌^◌, List, length, take, map, sum, cond, get_or, subst, add-one, arith, inl, inr}
+use Rattle.std.proofs.Math.Nat.{div-mul-le_self, mul-le-mul_left, mul-le-mul, div-le_of_le-mul, mul-div_cancel, mul-add-div_right}
 use Rattle.std.proofs.Math.Seq.{take-length}
 use Rattle.std.proofs.lemmas.Bool.{cases_lt}
 use Rattle.std.proofs.Math.ListN.{get_or-eq_default}
@@ -22,6 +22,23 @@ quota-le-quota steps part more all some h =
 -- and no part gets more than all
 pub quota-le : (steps part all : ℕ) → part ≤ all → quota steps part all ≤ steps
 quota-le steps part all h = div-le_of_le-mul all (omega (arith, mul-le-mul_left steps h))
+
+-- a quotient by an inverse that is rounded down is not too great
+pub low-quotient : (product all inverse : ℕ) → inverse * all < 2 ^ 64
+    → product * inverse / 2 ^ 64 * all ≤ product
+low-quotient product all inverse h =
+    let low = product * inverse / 2 ^ 64 in
+    let left = mul-le-mul_left all (div-mul-le_self (product * inverse) (2 ^ 64)) in
+    let least : inverse * all ≤ 2 ^ 64 = omega (arith, h) in
+    let right = mul-le-mul_left product least in
+    omega (arith, left, right)
+
+-- what is left over after a quotient that isn't too great is divided in its turn
+pub quotient-and-rest : (product all low : ℕ) → 0 < all → low * all ≤ product
+    → low + (product - low * all) / all ≡ product / all
+quotient-and-rest product all low some h =
+    sym (mul-add-div_right some low (product - low * all))
+    ∙ ap (λ n. n / all) (omega (arith, h))
 
 -- no share is above all steps
 pub share_of-le : (merits : List ℕ) (steps cell : ℕ) → share_of merits steps cell ≤ steps

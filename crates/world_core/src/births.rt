@@ -137,6 +137,7 @@ fn place_newborn(
     let Delivery { parent, newborn } = birth;
     let Delivered {
         handle,
+        remembered,
         origin,
         merit,
         credited,
@@ -144,7 +145,7 @@ fn place_newborn(
     } = newborn;
     let cell = placing.cell;
     tell_birth(scene, parent, cell, &origin, text)?;
-    scene.enroll(Some(parent), cell, Some(origin), &handle.genome)?;
+    scene.enroll(Some(parent), cell, Some(origin), remembered)?;
     let organism = organism_over(
         alloc,
         scene.die(cell)?,

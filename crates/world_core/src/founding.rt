@@ -103,7 +103,8 @@ pub(crate) fn found_in<R: Wait>(
 {
     let id = scene.next_id();
     let handle = scene.intern(rt, alloc, genome)?;
-    scene.enroll(None, cell, None, &handle.genome)?;
+    let remembered = Arc::try_clone(&handle.genome)?;
+    scene.enroll(None, cell, None, remembered)?;
     let organism = founder(alloc, config, cell, nth, handle.genome)?;
     scene.die(cell)?;
     scene.come(

@@ -107,7 +107,7 @@ impl Scene {
         parent: Option<u64>,
         cell: u32,
         origin: Option<Origin>,
-        genome: &Arc<Genome, Global>,
+        genome: Arc<Genome, Global>,
     ) -> Result<(), Memory>
         ensures { OnOk result (self.new ≡ record self.old {
           everyone = self.old.everyone ++ record {
@@ -116,7 +116,7 @@ impl Scene {
             update = self.old.update;
             cell = cell;
             origin = option_map record_of origin;
-            genome = letters genome.now.value;
+            genome = letters genome.value;
           } ∷ [];
         }) }
     {
@@ -126,7 +126,7 @@ impl Scene {
             update: self.update,
             cell,
             origin,
-            genome: Arc::try_clone(genome)?,
+            genome,
         };
         self.everyone.push(ancestor)
     }
