@@ -1,4 +1,5 @@
-//! Tests of the program from above: streams that fail, and the world that a run leaves.
+//! Tests of the program from above: shards and a watcher at work side by side, and the world that
+//! is left.
 #![tactic(auto)]
 
 #[cfg(test)]
@@ -6,14 +7,6 @@ mod left_worlds;
 #[cfg(test)]
 mod meetings;
 #[cfg(test)]
-mod one_cell;
-#[cfg(test)]
-mod run_faults;
-#[cfg(test)]
-mod saved_faults;
-#[cfg(test)]
 mod served;
-#[cfg(test)]
-mod trace_faults;
 #[cfg(test)]
 mod watched;

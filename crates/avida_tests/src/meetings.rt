@@ -1,5 +1,5 @@
 // Shards that run at the same time: each waits at the gate until the other one has come.
-use crate::served::{NO_FAULTS, serve_beside};
+use crate::served::serve_beside;
 use avida_port::{Gate, MemSink};
 use avida_program::Status;
 use std::hint::spin_loop;
@@ -67,16 +67,15 @@ fn two_shards_are_at_work_at_the_same_time(rt: HostRuntime) -> Result<(), Fail> 
     let alloc = rt.alloc();
     let meeting = Meeting::new();
     let mut watch = MemSink::new(alloc, Vec::new(alloc));
-    let answered = serve_beside(
+    let served = serve_beside(
         &rt,
         alloc,
         "run --workers 2",
         CONFIG.as_bytes(),
-        NO_FAULTS,
         &mut watch,
         &meeting,
     )?;
-    assert_eq!(rt; answered.status, Status::Done);
+    assert_eq!(rt; served.status, Status::Done);
     assert!(rt;
         meeting.first.load(Ordering::SeqCst),
         "the first shard never came"

@@ -4,7 +4,7 @@ ghost use Rattle.avida_port.specs.Memory.{sure_sink_seen};
 ghost use Rattle.avida_port.specs.Ports.{Puts};
 
 use crate::meetings::TURNS;
-use crate::served::{NO_FAULTS, serve_beside};
+use crate::served::serve_beside;
 use avida_port::{Gate, Sink, SinkStop, SureSink};
 use avida_program::Status;
 use std::hint::spin_loop;
@@ -78,16 +78,15 @@ fn a_watcher_looks_while_the_run_goes(rt: HostRuntime) -> Result<(), Fail> {
         passes: AtomicU64::new(0),
         in_vain: AtomicBool::new(false),
     };
-    let answered = serve_beside(
+    let served = serve_beside(
         &rt,
         alloc,
         "run --watch 1000000",
         CONFIG.as_bytes(),
-        NO_FAULTS,
         &mut watch,
         &holding,
     )?;
-    assert_eq!(rt; answered.status, Status::Done);
+    assert_eq!(rt; served.status, Status::Done);
     assert_eq!(rt;
         holding.passes.load(Ordering::SeqCst),
         2,

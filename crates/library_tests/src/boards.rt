@@ -1,5 +1,5 @@
 // Where newborns are placed.
-use birth_board::{Occupants, Parents, PlacingRound, Torus, gather, neighbours, place};
+use birth_board::{Occupants, PlacingRound, Torus, gather, neighbours, place};
 use std::test::Fail;
 
 #[test]
@@ -43,31 +43,6 @@ const SEASON: PlacingRound = PlacingRound {
 };
 
 #[test]
-fn newborns_replace_one_another_in_a_single_cell(rt: HostRuntime) -> Result<(), Fail> {
-    let alloc = rt.alloc();
-    let torus = Torus {
-        width: 1,
-        height: 1,
-    };
-    for (standing, first_over) in [(Some(0), Some(0)), (None, None)] {
-        let parents = gather(alloc, &[2])?;
-        let mut occupants = Occupants::empty(alloc, &torus)?;
-        occupants.set(0, standing);
-        assert_eq!(rt; parents.len(), 2);
-        let placings = place(alloc, &torus, &parents, &mut occupants, &SEASON)?;
-        assert_eq!(rt; placings.len(), 2);
-        for (nth, id, over) in [(0, 1, first_over), (1, 2, Some(1))] {
-            let placing = placings.get(nth).ok_or("no placing")?;
-            assert_eq!(rt; placing.cell, 0);
-            assert_eq!(rt; placing.id, id);
-            assert_eq!(rt; placing.over, over);
-        }
-        assert_eq!(rt; occupants.at(0), Some(2));
-    }
-    Ok(())
-}
-
-#[test]
 fn an_empty_neighbour_is_preferred(rt: HostRuntime) -> Result<(), Fail> {
     let alloc = rt.alloc();
     let torus = Torus {
@@ -83,27 +58,5 @@ fn an_empty_neighbour_is_preferred(rt: HostRuntime) -> Result<(), Fail> {
     assert_eq!(rt; placings[0].id, 1);
     assert_eq!(rt; placings[0].cell, 1);
     assert_eq!(rt; placings[0].over, None);
-    Ok(())
-}
-
-// The words of this stream are 0x9b682df2, 0xd21186f8, 0x6d39f1d6 and 0x3062481c.
-#[test]
-fn the_stream_of_the_parents_cell_chooses_the_cell_and_the_inputs(
-    rt: HostRuntime,
-) -> Result<(), Fail> {
-    let alloc = rt.alloc();
-    let torus = Torus {
-        width: 60,
-        height: 60,
-    };
-    let parents = Parents::from_vec([1805].to_vec(alloc)?);
-    let mut occupants = Occupants::empty(alloc, &torus)?;
-    let placings = place(alloc, &torus, &parents, &mut occupants, &SEASON)?;
-    let placing = placings.get(0).ok_or("no placing")?;
-    assert_eq!(rt; (placing.id, placing.cell), (1, 1806));
-    assert_eq!(rt; placing.inputs.value(0), 0x0F11_86F8);
-    assert_eq!(rt; placing.inputs.value(1), 0x3339_F1D6);
-    assert_eq!(rt; placing.inputs.value(2), 0x5562_481C);
-    assert_eq!(rt; occupants.at(1806), Some(1));
     Ok(())
 }

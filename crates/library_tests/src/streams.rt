@@ -1,5 +1,5 @@
 // The words of random streams.
-use random_streams::{Draws, MILLION, Purpose, WORDS, scaled};
+use random_streams::{Draws, Purpose, WORDS};
 
 /// A word of a stream by its number.
 fn word_number(seed: u64, update: u32, cell: u16, purpose: Purpose, number: u32) -> u32 {
@@ -60,29 +60,4 @@ fn the_words_are_those_of_an_independent_chacha(rt: HostRuntime) {
             "word {number} of update {update}, cell {cell}, {purpose:?} for seed {seed}"
         );
     }
-}
-
-#[test]
-fn a_rate_hits_below_its_share_of_all_words(rt: HostRuntime) {
-    for (word, n, value) in [
-        (0, 26, 0),
-        (4_294_967_295, 26, 25),
-        (32_212_254, MILLION, 7_499),
-        (32_212_255, MILLION, 7_500),
-        (4_294_967_295, MILLION, 999_999),
-    ] {
-        assert_eq!(rt; scaled(word, n), value, "{word} scaled to {n}");
-    }
-}
-
-// The first words of seed 0's first stream are 187,240, 836,919 and 909,063 parts per million.
-#[test]
-fn each_draw_takes_one_word(rt: HostRuntime) {
-    let mut draws = Draws::start(0, 0, 0, Purpose::Run);
-    assert_eq!(rt; draws.taken(), 0);
-    assert!(rt; draws.hits(187_241));
-    assert!(rt; !draws.hits(836_919));
-    assert_eq!(rt; draws.below(26), 23);
-    assert_eq!(rt; draws.word(), 0xa1a5091f);
-    assert_eq!(rt; draws.taken(), 4);
 }

@@ -6,8 +6,4 @@ mod banks;
 #[cfg(test)]
 mod publications;
 #[cfg(test)]
-mod states;
-#[cfg(test)]
-mod surveys;
-#[cfg(test)]
 mod worlds;

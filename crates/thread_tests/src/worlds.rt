@@ -66,7 +66,6 @@ fn shards_run_side_by_side_and_write_one_log(rt: HostRuntime) -> Result<(), Fail
     let one = first_update(&rt, alloc, 1)?;
     assert_eq!(rt; one.iter().filter(|byte| **byte == b'\n').count(), 3);
     assert_eq!(rt; first_update(&rt, alloc, 2)?, one);
-    assert_eq!(rt; first_update(&rt, alloc, 5)?, one);
     assert_eq!(rt; first_update(&rt, alloc, 17)?, one);
     Ok(())
 }

@@ -1,5 +1,0 @@
-// The organism that worlds begin with.
-
-/// The default ancestor.
-pub const ANCESTOR: &str =
-    "wzcagcccccccccccccccccccccccccccccccccccccccccccccccccccccccccccccccccccccccccccccccccccccczvfcaxgab";
