@@ -16,8 +16,8 @@ divide_delete = 0
 
 /// Words and an input, which may be the name of one, with the world that is left: how many live in
 /// it or are an ancestor, its cells, its counts, the length of its bank, and who lives where, with
-/// the genome's number. Of the last two worlds the text begins so: an independent program counted
-/// who lives, who is kept and the different genomes.
+/// the genome's number. Of the last world it is the begin: an independent program wrote its log, in
+/// which these organisms live at the end or are an ancestor, and so many genomes are different.
 const WORLDS: &str = "run
 =>
 updates = 0
@@ -127,25 +127,20 @@ mmmmmmmm
 =>
 no world
 ---
-bench 7
-=>
-=>
-649 nodes
-3600 cells
-U 200 384 37 17 285 38443 0 0 0 0 0 0 0 0 0
-bank of 658
----
 run --workers 4
 =>
-width = 60
-height = 60
-updates = 100
-seed = 42
+width = 5
+height = 5
+updates = 12
+seed = 4
+average_slices = 200
+ancestor = \"wzcagczvfcaxgab\"
+prefer_empty = false
 =>
-84 nodes
-3600 cells
-U 100 67 0 0 40 6484 0 0 0 0 0 0 0 0 0
-bank of 51
+88 nodes
+25 cells
+U 12 25 71 71 6 300 0 0 0 0 0 0 0 0 0
+bank of 132
 ";
 
 /// The world as a text, with its counts in the order of the log.
