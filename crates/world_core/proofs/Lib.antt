@@ -1,5 +1,6 @@
 pub mod ScanLemmas
 pub mod SoundLemmas
+mod ComingLemmas
 mod LifeLemmas
 mod CountLemmas
 mod TurnLemmas

@@ -1,7 +1,7 @@
 -- Cells in which each organism is bounded.
-use Rattle.std.proofs.Common.{◌^◌, ◌≡◌, refl, ap, ℕ, zero, suc, ◌<◌, ◌≤◌, List, [], ◌∷◌, Option, None, Some, arith}
+use Rattle.std.proofs.Common.{◌^◌, ◌≡◌, refl, ap, ℕ, zero, suc, ◌<◌, ◌≤◌, List, [], ◌∷◌, Option, None, Some, replicate, arith}
 use Rattle.std.proofs.Math.ListN.{set}
-use Rattle.std.proofs.lemmas.List.Elements.{All-set}
+use Rattle.std.proofs.lemmas.List.Elements.{All-replicate, All-set}
 use Rattle.world_rules.specs.World.{Occupant}
 use Rattle.world_core.specs.Soundness.{AreBounded, IsBoundedIn}
 
@@ -12,6 +12,10 @@ pub AreBounded_come : (update : ℕ) (cells : List (Option Occupant)) (cell : �
 AreBounded_come update cells cell o young fits sound =
     All-set (IsBoundedIn update) cells cell (Some o)
     (record { age = omega (arith, young); merit = fits }) sound
+
+-- so are cells in which nobody stands
+pub AreBounded_none : (update count : ℕ) → AreBounded update (replicate count None)
+AreBounded_none update count = All-replicate (IsBoundedIn update) count None tt
 
 -- so is a cell from which somebody went
 pub AreBounded_gone : (update : ℕ) (cells : List (Option Occupant)) (cell : ℕ)

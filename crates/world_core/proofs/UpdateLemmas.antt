@@ -83,10 +83,10 @@ after_events-update config scene =
     (events_at config scene.update)
 
 -- the texts of an update's phases are the text of its lines
-pub joined : (a b c : List Line) (d : Line)
-    → ((([] ++ lines_text a) ++ lines_text b) ++ lines_text c) ++ line_text d
-    ≡ lines_text (a ++ b ++ c ++ d ∷ [])
-joined a b c d = grind (arith, flat_map-append, append_assoc, append-nil)
+pub joined : (t : List ℕ) (a b c : List Line) (d : Line)
+    → (((t ++ lines_text a) ++ lines_text b) ++ lines_text c) ++ line_text d
+    ≡ t ++ lines_text (a ++ b ++ c ++ d ∷ [])
+joined t a b c d = grind (arith, flat_map-append, append_assoc, append-nil)
 
 -- each cell has its life
 pub length_lived : (config : ConfigValues) (update : ℕ) (cells : List (Option Occupant))

@@ -1,5 +1,6 @@
 -- The world after an update is again the world of its configuration.
-use Rattle.std.proofs.Common.{◌≡◌, ◌∙◌, refl, sym, ap, subst, ℕ, suc, ◌+◌, ◌-◌, ◌<◌, ◌≤◌, ◌^◌, List, [], drop, length, arith}
+use Rattle.std.proofs.Common.{◌≡◌, ◌∙◌, refl, sym, ap, subst, ℕ, suc, ◌+◌, ◌-◌, ◌<◌, List, [], Result, IfOk, drop, length, arith}
+use Rattle.std.proofs.lemmas.Result.{IfOk-at_ok}
 use Rattle.lineage_log.specs.Links.{Link}
 use Rattle.lineage_log.specs.Trees.{TreeValue}
 use Rattle.lineage_log.specs.LogGrammar.{lines_text}
@@ -13,8 +14,11 @@ use Rattle.world_rules.specs.WorldRun.{world_after}
 use Rattle.world_rules.specs.Statistics.{next_stats, stats_of}
 use Rattle.world_rules.specs.LogText.{update_lines, update_text}
 use Rattle.world_tree.specs.WorldTrees.{IsTreeOf, newcomers_of, scene_after}
-use Rattle.world_core.specs.LateTrees.{IsBehind}
-use Rattle.world_core.specs.Scenes.{Grows, SceneValue, scene_in}
+use Rattle.world_core.specs.Endings.{IsNext}
+use Rattle.world_core.specs.LateTrees.{IsBehind, IsLateTreeOf, IsLeftBehind}
+use Rattle.world_core.specs.Scenes.{SceneValue, scene_in}
+use Rattle.world_core.specs.declared.late_tree.LateTree.{LateTree}
+use Rattle.world_core.specs.declared.late_tree.LateTree.TheVariants.{Behind, Grown}
 use Rattle.world_core.specs.WorldValue.{IsWorldOf}
 
 -- one more is the next number
@@ -38,16 +42,6 @@ update_text-more : (config : ConfigValues) (n : ℕ)
     → update_text config (n + 1) ≡ lines_text (update_lines config (world_after config n))
 unfolding update_text
 update_text-more config n = rw one_more refl
-
--- an update after a scene
-pub record IsNext (config : ConfigValues) (before after : SceneValue) (stats : Stats) : Type 0 where
-  pub scene : scene_in after ≡ next_scene config (world_of (scene_in before))
-  pub counts : stats ≡ next_stats config (world_of (scene_in before))
-  pub update : after.update ≡ before.update + 1
-  pub size : length after.cells ≡ length before.cells
-  pub few : length after.everyone ≤ length before.everyone + 2 ^ 33
-  pub first : after.first ≡ before.first
-  pub bank : Grows before.bank after.bank before.everyone after.everyone
 
 -- the world that the next scene leaves
 pub world_of-next : (config : ConfigValues) (before : SceneValue)
@@ -141,3 +135,14 @@ is_behind config before after old stats tree newcomers gone was is tree_is came 
       died = died ∙ ap (λ (s : Scene). s.gone) scene
           ∙ ap (λ n. (scene_after config n).gone) early;
     }
+
+-- the tree that grew in the update is one update behind the scene at its end
+pub is_late : {E : Type 0} (config : ConfigValues) (before after : SceneValue) (old stats : Stats)
+    (grown : Result TreeValue E) (late : LateTree)
+    → IsWorldOf config before old → IsNext config before after stats
+    → IfOk grown (IsTreeOf (world_after config before.update))
+    → IsLeftBehind grown after late → IsLateTreeOf config after.update late
+is_late config before after old stats grown (Grown tree) was is trees left = absurd left
+is_late config before after old stats grown (Behind tree newcomers gone) was is trees left =
+    is_behind config before after old stats tree newcomers.items gone.items was is
+    (IfOk-at_ok (IsTreeOf (world_after config before.update)) left.0 trees) left.1 left.2

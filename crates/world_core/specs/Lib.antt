@@ -27,6 +27,7 @@ pub use Rattle.saved_worlds.specs.ValidState
 pub mod Soundness
 pub mod WorldValue
 pub mod Genotypes
+pub mod Endings
 pub mod Population
 pub mod Happening
 pub mod Residents

@@ -1,11 +1,12 @@
 -- A scene with the bank of its world (docs/WORLD.md, "Genotypes and their numbers").
-use Rattle.std.specs.Prelude.{ℕ, List, Option}
+use Rattle.std.specs.Prelude.{ℕ, ◌++◌, List, Option, Some, slice_set}
+use Rattle.std.specs.Option.{option_to_list}
 use mathlib.Core.List.{IsPrefix}
 use Rattle.genotype_bank.specs.BankHistory.{HasEachOnce}
 use Rattle.instruction_set.specs.declared.letter.Letter.{Letter}
 use Rattle.lineage_log.specs.Links.{Link}
 use Rattle.world_rules.specs.Scene.{Scene}
-use Rattle.world_rules.specs.World.{Occupant}
+use Rattle.world_rules.specs.World.{Occupant, id_at}
 use Rattle.world_core.specs.Genotypes.{genomes_ever}
 
 -- a scene, how many organisms there were as it began, and the genomes of the bank, each at the
@@ -21,6 +22,13 @@ pub record SceneValue : Type 0 where
 -- the scene alone
 abbrev pub scene_in : SceneValue → Scene
 scene_in s = record { update = s.update; cells = s.cells; everyone = s.everyone; gone = s.gone }
+
+-- the scene once somebody stands in the cell, and who stood there is among the dead
+abbrev pub comes_over : SceneValue → ℕ → Occupant → SceneValue
+comes_over s cell o = record s {
+  cells = slice_set s.cells cell (Some o);
+  gone = s.gone ++ option_to_list (id_at s.cells cell);
+}
 
 -- all numbers stay, and a bank that had each genome of these organisms once has each of those once
 pub record Grows (old new : List (List Letter)) (before after : List Link) : Type 0 where

@@ -112,7 +112,7 @@ fn inject<R: Wait>(
 {
     genotypes_are_what_was_interned();
     tell_injection(scene, cell, genome, text)?;
-    found_in(rt, alloc, config, scene, nth, cell, genome.copy(alloc)?)?;
+    found_in(rt, alloc, config, scene, nth, cell, genome)?;
     Ok(())
 }
 

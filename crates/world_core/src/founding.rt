@@ -1,5 +1,5 @@
 // Founders: the configuration's own, and those that events inject.
-ghost use Rattle.std.specs.Prelude.{◌≡◌, ◌+◌, ◌*◌, ◌^◌, ◌<◌, ◌≤◌, [], IfOk, OnOk, length};
+ghost use Rattle.std.specs.Prelude.{◌≡◌, ◌+◌, ◌++◌, ◌∷◌, ◌*◌, ◌^◌, ◌<◌, ◌≤◌, [], IfOk, OnOk, Some, length, slice_get};
 ghost use Rattle.genome.specs.Genome.{letters};
 ghost use Rattle.logic_tasks.specs.Inputs.{inputs_of};
 ghost use Rattle.random_streams.specs.RandomStream.{after};
@@ -12,11 +12,11 @@ ghost use Rattle.world_core.specs.Genotypes.{genomes_ever};
 ghost use Rattle.world_core.specs.Scenes.{scene_in};
 
 use crate::everyone::Everyone;
-use crate::population::Population;
 use crate::scene::Scene;
 use avida_port::Memory;
 use cell_shards::BoxedOrganism;
 use genome::Genome;
+use genotype_bank::Handle;
 use genotype_bank::laws::genotypes_are_what_was_interned;
 use logic_tasks::{Inputs, Tasks};
 use organism::Organism;
@@ -33,7 +33,7 @@ fn founder(
     cell: u32,
     nth: u32,
     genome: Arc<Genome, Global>,
-) -> Result<Organism, Memory>
+) -> Result<BoxedOrganism, Memory>
     requires cell { cell < CELLS }
     requires nth { nth ≤ MOST_EVENTS }
     requires genome { length (letters genome.value) ≤ config.now.greatest_length }
@@ -42,14 +42,9 @@ fn founder(
 {
     let inputs = founder_inputs(config.seed, cell, nth);
     let merit = u64::from(genome.len());
-    Organism::found(
-        alloc,
-        genome,
-        inputs,
-        merit,
-        Tasks::none(),
-        config.memory_limit,
-    )
+    let tasks = Tasks::none();
+    let organism = Organism::found(alloc, genome, inputs, merit, tasks, config.memory_limit)?;
+    BoxedOrganism::new(alloc, organism)
 }
 
 /// The inputs of founder number `nth`, by three words of update 0.
@@ -76,9 +71,8 @@ fn pass_over(draws: &mut Draws, words: u32)
     }
 }
 
-/// Founder number `nth` of a run stands in the cell, and who stood there dies. After `Memory` drop
-/// the scene.
-#[tactic(auto, using(crate::proofs::SoundLemmas::set_over), unfolding(world_rules::specs::Scene::with_newcomer, world_rules::specs::Scene::with_death, world_rules::specs::World::founder_of, organism::specs::OrganismState::new_organism))]
+/// Founder number `nth` of a run, of this genome, stands in the cell, and who stood there dies. After
+/// `Memory` drop the scene.
 pub(crate) fn found_in<R: Wait>(
     rt: &R,
     alloc: Global,
@@ -86,37 +80,49 @@ pub(crate) fn found_in<R: Wait>(
     scene: &mut Scene,
     nth: u32,
     cell: u32,
-    genome: Genome,
+    genome: &Genome,
 ) -> Result<(), Memory>
     requires cells { length scene.old.cells ≤ CELLS }
     requires cell { cell < length scene.old.cells }
     requires nth { nth ≤ MOST_EVENTS }
-    requires genome { length (letters genome) ≤ config.now.greatest_length }
+    requires genome { length (letters genome.now) ≤ config.now.greatest_length }
     ensures scene { OnOk result (scene_in scene.new ≡ with_newcomer (scene_in scene.old)
-        (founder_link (next_id (scene_in scene.old)) scene.old.update cell (letters genome))
-        (founder_of (values_of config.now) cell nth (letters genome))) }
+        (founder_link (next_id (scene_in scene.old)) scene.old.update cell (letters genome.now))
+        (founder_of (values_of config.now) cell nth (letters genome.now))) }
     ensures bank { OnOk result
-        (scene.new.bank ≡ with_genome scene.old.bank (letters genome)) }
-    ensures size { OnOk result (length scene.new.cells ≡ length scene.old.cells) }
-    ensures everyone { OnOk result (length scene.new.everyone ≡ length scene.old.everyone + 1) }
+        (scene.new.bank ≡ with_genome scene.old.bank (letters genome.now)) }
     ensures first { OnOk result (scene.new.first ≡ scene.old.first) }
 {
     let id = scene.next_id();
-    let handle = scene.intern(rt, alloc, genome)?;
+    let handle = enroll_founder(rt, alloc, scene, cell, genome)?;
+    let organism = founder(alloc, config, cell, nth, handle.genome)?;
+    scene.come_over(id, cell, handle.number, organism)
+}
+
+/// The next id goes to a founder of this genome, which is interned. After `Memory` drop the scene.
+fn enroll_founder<R: Wait>(
+    rt: &R,
+    alloc: Global,
+    scene: &mut Scene,
+    cell: u32,
+    genome: &Genome,
+) -> Result<Handle, Memory>
+    ensures scene { OnOk result (scene.new ≡ record scene.old {
+      everyone = scene.old.everyone ++ founder_link (next_id (scene_in scene.old))
+          scene.old.update cell (letters genome.now) ∷ [];
+      bank = with_genome scene.old.bank (letters genome.now);
+    }) }
+    ensures genome { IfOk result (λ handle. letters handle.genome.value ≡ letters genome.now) }
+    ensures number { IfOk result (λ handle.
+        slice_get scene.new.bank handle.number ≡ Some (letters genome.now)) }
+{
+    let handle = scene.intern(rt, alloc, genome.copy(alloc)?)?;
     let remembered = Arc::try_clone(&handle.genome)?;
     scene.enroll(None, cell, None, remembered)?;
-    let organism = founder(alloc, config, cell, nth, handle.genome)?;
-    scene.die(cell)?;
-    scene.come(
-        id,
-        cell,
-        handle.number,
-        BoxedOrganism::new(alloc, organism)?,
-    )
+    Ok(handle)
 }
 
 /// The scene of update 0: the configuration's founder alone.
-#[tactic(auto, unfolding(world_rules::specs::World::first_world, world_rules::specs::Scene::with_newcomer))]
 pub(crate) fn first_scene<R: Wait>(rt: &R, alloc: Global, config: &Config) -> Result<Scene, Memory>
     ensures world { IfOk result
         (λ scene. world_of (scene_in scene) ≡ first_world (values_of config.now)) }
@@ -128,13 +134,12 @@ pub(crate) fn first_scene<R: Wait>(rt: &R, alloc: Global, config: &Config) -> Re
     ensures bank { IfOk result (λ scene. HasEachOnce scene.bank (genomes_ever scene.everyone)) }
 {
     genotypes_are_what_was_interned();
-    let genome = config.ancestor.copy(alloc)?;
-    let mut scene = Scene {
-        update: 0,
-        cells: Population::none(alloc, config.width * config.height)?,
-        everyone: Everyone::none(alloc),
-        gone: Vec::new(alloc),
-    };
+    let mut scene = Scene::none(
+        alloc,
+        0,
+        config.width * config.height,
+        Everyone::none(alloc),
+    )?;
     found_in(
         rt,
         alloc,
@@ -142,7 +147,7 @@ pub(crate) fn first_scene<R: Wait>(rt: &R, alloc: Global, config: &Config) -> Re
         &mut scene,
         0,
         config.founder_cell,
-        genome,
+        &config.ancestor,
     )?;
     Ok(scene)
 }

@@ -8,7 +8,7 @@ ghost use Rattle.world_rules.specs.Settings.{settings_at};
 ghost use Rattle.world_core.specs.Lived.{departed_from};
 ghost use Rattle.world_core.specs.Population.{CanCountAgain, CountsAgain, IsRenewed, merit_or_zero};
 
-use crate::lived::{Delivery, Departed};
+use crate::lived::{Delivery, Departed, Lived};
 use crate::settings::settings_at;
 use avida_port::Memory;
 use cell_shards::{Delivered, Round, Standing};
@@ -74,8 +74,30 @@ fn merit_in(standing: Option<Standing>) -> u64
     }
 }
 
+/// What the lives of an update bring, with the ids of who stood in the cells.
+pub(crate) fn with_all_ids(
+    alloc: Global,
+    ids: &[u64],
+    births: Vec<Delivered>,
+    dead: &[u32],
+) -> Result<Lived, AllocError>
+    requires births { All (λ birth. birth.cell < length ids.now) births.items }
+    requires dead { All (λ cell. cell < length ids.now) dead.now }
+    ensures births { IfOk result (λ lived. lived.births.items ≡ map (λ birth. record {
+      parent = slice_index_or ids.now birth.cell 0;
+      newborn = birth;
+    }) births.items) }
+    ensures dead { IfOk result
+        (λ lived. lived.dead.items ≡ map (departed_from ids.now) dead.now) }
+{
+    Ok(Lived {
+        births: with_parents(alloc, ids, births)?,
+        dead: with_ids(alloc, ids, dead)?,
+    })
+}
+
 /// The newborns with the ids of their parents.
-pub(crate) fn with_parents(
+fn with_parents(
     alloc: Global,
     ids: &[u64],
     births: Vec<Delivered>,
@@ -95,11 +117,7 @@ pub(crate) fn with_parents(
 }
 
 /// The dead with their ids.
-pub(crate) fn with_ids(
-    alloc: Global,
-    ids: &[u64],
-    dead: &[u32],
-) -> Result<Vec<Departed>, AllocError>
+fn with_ids(alloc: Global, ids: &[u64], dead: &[u32]) -> Result<Vec<Departed>, AllocError>
     requires { All (λ cell. cell < length ids.now) dead.now }
     ensures { IfOk result (λ departed. departed.items ≡ map (departed_from ids.now) dead.now) }
 {

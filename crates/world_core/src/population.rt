@@ -15,7 +15,7 @@ ghost use Rattle.world_core.specs.Soundness.{AreBounded, AreBoundedLives};
 
 use crate::genotypes::Genotypes;
 use crate::lived::Lived;
-use crate::lives::{count_again, round_at, slices_by, with_ids, with_parents};
+use crate::lives::{count_again, round_at, slices_by, with_all_ids};
 use crate::residents::Residents;
 use crate::sharding::{Ended, live_in_shards};
 use avida_port::{Gate, Memory};
@@ -217,10 +217,7 @@ impl Population {
         for cell in 0..left.len() {
             count_again(&mut census, keys[cell], before[cell], standings[cell]);
         }
-        let lived = Lived {
-            births: with_parents(alloc, &ids, births)?,
-            dead: with_ids(alloc, &ids, &dead)?,
-        };
+        let lived = with_all_ids(alloc, &ids, births, &dead)?;
         let population = Population {
             cells: Residents {
                 organisms: left,

@@ -1,6 +1,7 @@
 // How a saved world is taken up again.
-ghost use Rattle.std.specs.Prelude.{◌≡◌, ◌+◌, ◌*◌, ◌<◌, ◌≤◌, ◌^◌, All, None, Some, IfOk, OnOk, fold, length, map, replicate, slice_set};
+ghost use Rattle.std.specs.Prelude.{◌≡◌, ◌+◌, ◌*◌, ◌<◌, ◌≤◌, ◌^◌, All, None, Some, IfOk, OnOk, ℕ, fold, length, map, replicate, slice_get, slice_set};
 ghost use Rattle.genome.specs.Genome.{letters};
+ghost use Rattle.genotype_bank.specs.BankHistory.{with_genome};
 ghost use Rattle.organism.specs.Image.{organism_of_image};
 ghost use Rattle.organism.specs.Lived.{IsSoundOrganism};
 ghost use Rattle.saved_lines.specs.SavedValues.{head_values};
@@ -13,17 +14,16 @@ ghost use Rattle.world_config.specs.Shown.{values_of};
 ghost use Rattle.world_laws.specs.Keeping.{AreSound};
 
 use crate::everyone::Everyone;
-use crate::population::Population;
 use crate::scene::Scene;
 use crate::settings::rates_at;
 use avida_port::Memory;
 use cell_shards::BoxedOrganism;
 use genome::Genome;
 use instruction_set::Letter;
-use organism::Organism;
+use organism::{Image, Organism};
 use saved_lines::{Resident, StateHead};
 use std::alloc::Global;
-use std::sync::Wait;
+use std::sync::{Arc, Wait};
 use world_config::{Config, Events};
 
 /// The values of a saved world besides its organisms. The rates are those of the next update.
@@ -54,7 +54,7 @@ pub(crate) fn head_at(config: &Config, update: u32, next_id: u64) -> StateHead
 /// A configuration without events that goes on as this head does. Of its ancestor a saved world
 /// tells nothing, so it is any genome.
 #[tactic(auto, unfolding(world_rules::specs::Settings::rates_at))]
-pub(crate) fn config_of(alloc: Global, head: &StateHead) -> Result<Config, Memory>
+fn config_of(alloc: Global, head: &StateHead) -> Result<Config, Memory>
     requires { IsHead (head_values head.now) }
     ensures head { IfOk result (λ config.
         head_at (values_of config) head.now.update head.now.next_id ≡ head_values head.now) }
@@ -97,7 +97,7 @@ fn any_genome(alloc: Global, count: u32) -> Result<Genome, Memory>
 }
 
 /// The world of a head in which nobody stands yet.
-pub(crate) fn resumed_scene(alloc: Global, head: &StateHead) -> Result<Scene, Memory>
+fn resumed_scene(alloc: Global, head: &StateHead) -> Result<Scene, Memory>
     requires { IsHead (head_values head.now) }
     ensures update { IfOk result (λ scene. scene.update ≡ head.now.update) }
     ensures cells { IfOk result
@@ -105,16 +105,49 @@ pub(crate) fn resumed_scene(alloc: Global, head: &StateHead) -> Result<Scene, Me
     ensures everyone { IfOk result
         (λ scene. scene.everyone ≡ replicate head.now.next_id forgotten) }
 {
-    Ok(Scene {
-        update: head.update,
-        cells: Population::none(alloc, head.width * head.height)?,
-        everyone: Everyone::forgotten(alloc, head.next_id),
-        gone: Vec::new(alloc),
-    })
+    let everyone = Everyone::forgotten(alloc, head.next_id);
+    Scene::none(alloc, head.update, head.width * head.height, everyone)
+}
+
+/// A configuration that goes on as this head does, on the heap.
+pub(crate) fn shared_config(alloc: Global, head: &StateHead) -> Result<Arc<Config, Global>, Memory>
+    requires { IsHead (head_values head.now) }
+    ensures head { IfOk result (λ config. head_at (values_of config.value) head.now.update
+        head.now.next_id ≡ head_values head.now) }
+    ensures over { IfOk result (λ config. config.value.updates ≡ 0) }
+{
+    let config = config_of(alloc, head)?;
+    Ok(Arc::new(alloc, config)?)
+}
+
+/// The scene of a saved world: nothing is known of its organisms ever but their number, and these
+/// stand in their cells.
+pub(crate) fn restored_scene<R: Wait>(
+    rt: &R,
+    alloc: Global,
+    head: &StateHead,
+    residents: Vec<Resident>,
+) -> Result<Scene, Memory>
+    requires head { IsHead (head_values head.now) }
+    requires each { All (MayStandThere (head_values head.now))
+        (map (placed_in (head_values head.now)) residents.items) }
+    ensures update { IfOk result (λ scene. scene.update ≡ head.now.update) }
+    ensures everyone { IfOk result
+        (λ scene. scene.everyone ≡ replicate head.now.next_id forgotten) }
+    ensures cells { IfOk result (λ scene. scene.cells
+        ≡ fold with_placed (replicate (head.now.width * head.now.height) None)
+        (map (placed_in (head_values head.now)) residents.items)) }
+    ensures size { IfOk result
+        (λ scene. length scene.cells ≡ head.now.width * head.now.height) }
+    ensures sound { IfOk result (λ scene. AreSound scene.cells) }
+{
+    let mut scene = resumed_scene(alloc, head)?;
+    restore_all(rt, alloc, &mut scene, head, residents)?;
+    Ok(scene)
 }
 
 /// The organisms stand in their cells again. After `Memory` drop the scene.
-pub(crate) fn restore_all<R: Wait>(
+fn restore_all<R: Wait>(
     rt: &R,
     alloc: Global,
     scene: &mut Scene,
@@ -139,7 +172,6 @@ pub(crate) fn restore_all<R: Wait>(
 }
 
 /// An organism stands in its cell again, with its values. After `Memory` drop the scene.
-#[tactic(auto, using(crate::proofs::SoundLemmas::set_over), unfolding(world_rules::specs::Scene::with_death))]
 fn restore<R: Wait>(
     rt: &R,
     alloc: Global,
@@ -163,14 +195,37 @@ fn restore<R: Wait>(
         id,
         mut image,
     } = resident;
+    let number = intern_again(rt, alloc, scene, &mut image)?;
+    let organism = organism_of(alloc, &image, memory_limit)?;
+    scene.come_over(id, cell, number, organism)
+}
+
+/// Interns the genome of an image, which from now on is that of the bank. After `Memory` drop the
+/// scene.
+fn intern_again<R: Wait>(
+    rt: &R,
+    alloc: Global,
+    scene: &mut Scene,
+    image: &mut Image,
+) -> Result<u64, Memory>
+    ensures scene { OnOk result (scene.new ≡ record scene.old {
+      bank = with_genome scene.old.bank (letters image.old.genome.value);
+    }) }
+    ensures same { OnOk result ((limit : ℕ)
+        → organism_of_image image.new limit ≡ organism_of_image image.old limit) }
+    ensures number { IfOk result (λ number.
+        slice_get scene.new.bank number ≡ Some (letters image.old.genome.value)) }
+{
     let handle = scene.intern(rt, alloc, image.genome.copy(alloc)?)?;
     image.genome = handle.genome;
-    let organism = Organism::from_image(alloc, &image, memory_limit)?;
-    scene.die(cell)?;
-    scene.come(
-        id,
-        cell,
-        handle.number,
-        BoxedOrganism::new(alloc, organism)?,
-    )
+    Ok(handle.number)
+}
+
+/// The organism with the values of an image.
+fn organism_of(alloc: Global, image: &Image, memory_limit: u32) -> Result<BoxedOrganism, Memory>
+    requires { IsSoundOrganism (organism_of_image image.now memory_limit) }
+    ensures { IfOk result (λ organism. organism ≡ organism_of_image image.now memory_limit) }
+{
+    let organism = Organism::from_image(alloc, image, memory_limit)?;
+    BoxedOrganism::new(alloc, organism)
 }

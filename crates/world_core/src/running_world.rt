@@ -1,8 +1,8 @@
 // A world that goes on.
-ghost use Rattle.std.specs.Prelude.{◌≡◌, ◌+◌, ◌<◌, IfOk};
+ghost use Rattle.std.specs.Prelude.{◌≡◌, ◌+◌, ◌^◌, ◌<◌, ◌≤◌, [], IfOk, OnOk, length};
 ghost use mathlib.Core.List.{IsPrefix};
 ghost use Rattle.world_config.specs.Shown.{values_of};
-ghost use Rattle.world_core.specs.LateTrees.{IsLateTreeOf};
+ghost use Rattle.world_core.specs.LateTrees.{IsLateTreeOf, IsLeftBehind};
 ghost use Rattle.world_core.specs.WorldValue.{WorldValue};
 ghost use Rattle.world_rules.specs.LogText.{update_text};
 ghost use Rattle.world_rules.specs.Statistics.{stats_of};
@@ -87,14 +87,7 @@ impl RunningWorld {
         let (mut scene, stats, text, grown) = next_scene(
             rt, alloc, rules, scene, workers, gate, grow,
         )?;
-        let tree = grown?;
-        let newcomers = scene.take_newcomers(alloc, &config)?;
-        let gone = scene.take_gone(alloc);
-        let tree = LateTree::Behind {
-            tree,
-            newcomers,
-            gone,
-        };
+        let tree = left_behind(alloc, &config, &mut scene, grown)?;
         let world = RunningWorld {
             config,
             scene,
@@ -132,4 +125,29 @@ impl RunningWorld {
             workers,
         })
     }
+}
+
+/// The tree, which grew in the update, is left one update behind the scene: who came and who died
+/// in it leave the scene. After `Memory` drop the scene.
+fn left_behind(
+    alloc: Global,
+    config: &Arc<Config, Global>,
+    scene: &mut Scene,
+    grown: Result<WorldTree, Memory>,
+) -> Result<LateTree, Memory>
+    requires world { scene.old.everyone
+        ≡ (world_after (values_of config.now.value) scene.old.update).everyone }
+    requires few { length scene.old.everyone ≤ 2 ^ 62 + 2 ^ 60 }
+    ensures scene { OnOk result (scene.new
+        ≡ record scene.old { first = length scene.old.everyone; gone = [] }) }
+    ensures tree { IfOk result (IsLeftBehind grown scene.old) }
+{
+    let tree = grown?;
+    let newcomers = scene.take_newcomers(alloc, config)?;
+    let gone = scene.take_gone(alloc);
+    Ok(LateTree::Behind {
+        tree,
+        newcomers,
+        gone,
+    })
 }

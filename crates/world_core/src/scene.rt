@@ -8,7 +8,7 @@ ghost use Rattle.world_config.specs.Shown.{values_of};
 ghost use Rattle.world_rules.specs.Scene.{next_id, standing_at, with_death};
 ghost use Rattle.world_rules.specs.Statistics.{organism_in, scene_stats};
 ghost use Rattle.world_rules.specs.WorldRun.{world_after};
-ghost use Rattle.world_core.specs.Scenes.{scene_in};
+ghost use Rattle.world_core.specs.Scenes.{comes_over, scene_in};
 
 use crate::everyone::Everyone;
 use crate::population::Population;
@@ -19,6 +19,7 @@ use genotype_bank::Handle;
 use lineage_log::Ancestor;
 use log_lines::Stats;
 use mutations::Origin;
+use random_streams::CELLS;
 use std::alloc::Global;
 use std::marker::Model;
 use std::mem;
@@ -53,6 +54,32 @@ impl Model for Scene {
 }
 
 impl Scene {
+    /// So many cells in which nobody stands, and an empty bank.
+    #[tactic(auto, using(crate::proofs::SoundLemmas::AreBounded_none))]
+    pub(crate) fn none(
+        alloc: Global,
+        update: u32,
+        cells: u32,
+        everyone: Everyone,
+    ) -> Result<Scene, Memory>
+        requires { cells ≤ CELLS }
+        ensures { IfOk result (λ scene. scene ≡ record {
+          update = update;
+          cells = replicate cells None;
+          everyone = everyone.links;
+          first = everyone.first;
+          gone = [];
+          bank = [];
+        }) }
+    {
+        Ok(Scene {
+            update,
+            cells: Population::none(alloc, cells)?,
+            everyone,
+            gone: Vec::new(alloc),
+        })
+    }
+
     pub(crate) fn next_id(&self) -> u64
         ensures { result ≡ next_id (scene_in self.now) }
     {
@@ -151,6 +178,26 @@ impl Scene {
         }) }
     {
         self.cells.put(cell, number, id, organism)
+    }
+
+    /// Somebody with this id, whose genome has this number, stands in the cell, and who stood there
+    /// dies. After `Memory` drop the scene.
+    pub(crate) fn come_over(
+        &mut self,
+        id: u64,
+        cell: u32,
+        number: u64,
+        organism: BoxedOrganism,
+    ) -> Result<(), Memory>
+        requires cell { cell < length self.old.cells }
+        requires number { slice_get self.old.bank number ≡ Some organism.genome }
+        requires age { organism.age < 2 ^ 48 }
+        requires merit { organism.merit ≤ 2 ^ 38 }
+        ensures { OnOk result (self.new ≡ comes_over self.old cell
+            (record { id = id; organism = organism })) }
+    {
+        self.die(cell)?;
+        self.come(id, cell, number, organism)
     }
 
     /// Who died of age is among the dead of this update; the cells have been left.

@@ -1,5 +1,5 @@
 // The cells of a world in shards, and what their lives leave as one again.
-ghost use Rattle.std.specs.Prelude.{◌≡◌, ◌+◌, ◌<◌, ◌≤◌, ◌^◌, ◌++◌, ◌∷◌, List, All, IfOk, length, map, sum};
+ghost use Rattle.std.specs.Prelude.{◌≡◌, ◌+◌, ◌<◌, ◌≤◌, ◌^◌, ◌++◌, ◌∷◌, List, All, IfOk, Ok, OnOk, drop, length, map, sum, take};
 ghost use Rattle.std.specs.List.Sorted.{IsPermutation};
 ghost use mathlib.Core.List.{IsPrefix};
 ghost use Rattle.cell_shards.specs.CellLives.{IsYoung, births_from, deaths_from, left_in, part_from, round_numbers, shard_lives_of, standing_in};
@@ -7,15 +7,15 @@ ghost use Rattle.cell_shards.specs.Finishing.{IsNumbered, birth_of};
 ghost use Rattle.genotype_bank.specs.Seats.{all_shares, own_calls_of};
 ghost use Rattle.world_core.specs.Genotypes.{TakesIn};
 ghost use Rattle.world_core.specs.Population.{AreDifferent};
-ghost use Rattle.world_core.specs.Sharding.{IsJoined, PartCells, ShareLoad, ShareSeat, shards_for};
+ghost use Rattle.world_core.specs.Sharding.{IsJoined, PartCells, ShareLoad, ShareSeat, seat_from, seat_without, shards_for};
 
 use crate::genotypes::{Genotypes, len_after};
 use crate::loads::{loads_of, start_of};
-use avida_port::{Gate, Memory};
+use avida_port::{Gate, Items, Memory};
 use cell_shards::laws::{parts_live_as_one, shards_part_the_cells};
 use cell_shards::{
-    BoxedOrganism, Cells, Dead, Delivered, Deliveries, Finished, Job, Round, Slices, Standing,
-    Standings, bounds, run_with_errand,
+    BoxedOrganism, Cells, Delivered, Finished, Job, Round, Slices, Standing, bounds,
+    run_with_errand,
 };
 use genotype_bank::laws::{calls_number_genotypes, genotypes_are_what_was_interned, numbers_agree};
 use genotype_bank::{Bank, Seat};
@@ -154,14 +154,8 @@ fn jobs_of(
         let start = start_of(&loads, before, u64::from(share));
         before = start.before;
         loads.truncate(start.cell);
-        let part = cells.split_off(start.cell)?;
-        let steps = slices.split_off(start.cell)?;
-        jobs.push(Job {
-            first: start.cell as u32,
-            cells: Cells::from_vec(part),
-            slices: Slices::from_vec(steps),
-            seat: bank.split(&mut seat),
-        })?;
+        let job = cut_off(bank, &mut seat, &mut cells, &mut slices, start.cell)?;
+        jobs.push(job)?;
         shard -= 1;
     }
     jobs.push(Job {
@@ -172,6 +166,40 @@ fn jobs_of(
     })?;
     jobs.reverse();
     Ok(jobs)
+}
+
+/// The cells from this one on leave as a job, which has a seat that was split from this one. After
+/// `Memory` drop all.
+fn cut_off(
+    bank: &Bank,
+    seat: &mut Seat,
+    cells: &mut Vec<Option<BoxedOrganism>>,
+    slices: &mut Vec<u64>,
+    start: usize,
+) -> Result<Job, Memory>
+    requires cells { start ≤ length cells.old.items }
+    requires slices { start ≤ length slices.old.items }
+    requires small { start < 2 ^ 32 }
+    requires bank { seat.old.bank ≡ bank.now }
+    requires share { 2 ≤ seat.old.share }
+    ensures job { IfOk result (λ job. job ≡ record {
+      first = start;
+      cells = drop start cells.old.items;
+      slices = drop start slices.old.items;
+      seat = seat_from seat.old;
+    }) }
+    ensures cells { OnOk result (cells.new.items ≡ take start cells.old.items) }
+    ensures slices { OnOk result (slices.new.items ≡ take start slices.old.items) }
+    ensures seat { OnOk result (seat.new ≡ seat_without seat.old 1) }
+{
+    let part = cells.split_off(start)?;
+    let steps = slices.split_off(start)?;
+    Ok(Job {
+        first: start as u32,
+        cells: Cells::from_vec(part),
+        slices: Slices::from_vec(steps),
+        seat: bank.split(seat),
+    })
 }
 
 /// All shards as one, joined in their order.
@@ -219,20 +247,40 @@ fn join_two(bank: &Bank, front: Finished, back: Finished) -> Result<Finished, Me
         dead,
         seat,
     } = front;
+    let cells = appended(cells, back.cells);
+    let standings = appended(standings, back.standings);
+    let births = appended(births, back.births);
+    let dead = appended(dead, back.dead);
+    let seat = bank.join(seat, back.seat);
+    let ((cells, standings), (births, dead)) = both(both(cells, standings), both(births, dead))?;
     Ok(Finished {
         first,
-        cells: Cells::from_vec(appended(cells.into_vec(), back.cells.into_vec())?),
-        standings: Standings::from_vec(appended(standings.into_vec(), back.standings.into_vec())?),
-        births: Deliveries::from_vec(appended(births.into_vec(), back.births.into_vec())?),
-        dead: Dead::from_vec(appended(dead.into_vec(), back.dead.into_vec())?),
-        seat: bank.join(seat, back.seat),
+        cells,
+        standings,
+        births,
+        dead,
+        seat,
     })
 }
 
 /// A list and then another.
-fn appended<T: Drop>(mut front: Vec<T>, mut back: Vec<T>) -> Result<Vec<T>, Memory>
-    ensures { IfOk result (λ all. all.items ≡ front.items ++ back.items) }
+fn appended<T: Drop>(front: Items<T>, back: Items<T>) -> Result<Items<T>, Memory>
+    ensures { IfOk result (λ all. all ≡ front ++ back) }
 {
+    let mut front = front.into_vec();
+    let mut back = back.into_vec();
     front.append(&mut back)?;
-    Ok(front)
+    Ok(Items::from_vec(front))
+}
+
+/// Two values, if there was memory for both.
+fn both<A: Drop, B: Drop>(
+    one: Result<A, Memory>,
+    other: Result<B, Memory>,
+) -> Result<(A, B), Memory>
+    ensures { IfOk result (λ all. (one ≡ Ok all.0) × (other ≡ Ok all.1)) }
+{
+    let one = one?;
+    let other = other?;
+    Ok((one, other))
 }

@@ -8,7 +8,7 @@ ghost use Rattle.saved_worlds.specs.ValidState.{AreSaved, placed_in};
 ghost use Rattle.world_rules.specs.World.{ids_of};
 ghost use Rattle.world_core.specs.Resumed.{IsResidentIn};
 
-use crate::resuming::{config_of, head_at, restore_all, resumed_scene};
+use crate::resuming::{head_at, restored_scene, shared_config};
 use crate::scene::Scene;
 use crate::updating::next_scene;
 use avida_port::{Gate, Items, Memory};
@@ -65,9 +65,8 @@ impl State {
         ensures { IfOk result (λ state. state ≡ state_of_lines (head_values head)
             (map (placed_in (head_values head)) residents)) }
     {
-        let config = Arc::new(alloc, config_of(alloc, &head)?)?;
-        let mut scene = resumed_scene(alloc, &head)?;
-        restore_all(rt, alloc, &mut scene, &head, residents.into_vec())?;
+        let config = shared_config(alloc, &head)?;
+        let scene = restored_scene(rt, alloc, &head, residents.into_vec())?;
         Ok(State {
             config,
             scene,

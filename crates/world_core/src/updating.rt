@@ -1,21 +1,23 @@
 // One update.
-ghost use Rattle.std.specs.Prelude.{◌≡◌, ◌+◌, ◌*◌, ◌<◌, ◌≤◌, ◌^◌, [], IfOk, length, map};
+ghost use Rattle.std.specs.Prelude.{◌≡◌, ◌+◌, ◌++◌, ◌*◌, ◌<◌, ◌≤◌, ◌^◌, [], All, IfOk, OnOk, length, map};
 ghost use Rattle.lineage_log.specs.LogGrammar.{lines_text};
+ghost use Rattle.log_lines.specs.Line.{Count};
+ghost use Rattle.log_lines.specs.LineText.{line_text};
 ghost use Rattle.world_config.specs.Shown.{values_of};
 ghost use Rattle.world_laws.specs.Keeping.{LiveOn};
 ghost use Rattle.world_rules.specs.Lives.{lives_of};
 ghost use Rattle.world_rules.specs.LogText.{update_lines};
-ghost use Rattle.world_rules.specs.Statistics.{next_stats};
-ghost use Rattle.world_rules.specs.Update.{births_of, next_scene, world_of};
-ghost use Rattle.world_core.specs.Genotypes.{TakesIn};
+ghost use Rattle.world_rules.specs.Update.{births_of, world_of};
+ghost use Rattle.world_core.specs.Endings.{Ends, IsNext, last_lines};
+ghost use Rattle.world_core.specs.Genotypes.{HasNumber, TakesIn};
 ghost use Rattle.world_core.specs.Lived.{delivery_in, departed_of, staying_in};
-ghost use Rattle.world_core.specs.Scenes.{Grows, scene_in};
+ghost use Rattle.world_core.specs.Scenes.{scene_in};
 ghost use Rattle.world_core.specs.Soundness.{AreDeliveries};
 
 use crate::births::place_births;
 use crate::burials::bury;
 use crate::events::happen;
-use crate::lived::Lived;
+use crate::lived::{Delivery, Departed, Lived};
 use crate::scene::Scene;
 use avida_port::{Gate, Memory};
 use log_lines::{LogLine, Stats, write_line};
@@ -26,7 +28,6 @@ use world_config::{Config, GREATEST_UPDATES};
 
 /// The scene at the end of the next update, what is counted of it, its lines, and what comes of the
 /// errand that the calling thread does once the others have begun.
-#[tactic(auto, unfolding(world_rules::specs::Update::next_scene, world_rules::specs::Update::scene_of_lives, world_rules::specs::Update::last_scene, world_rules::specs::Update::after_burials, world_rules::specs::LogText::update_lines, world_rules::specs::LogText::lines_of_lives, world_rules::specs::Statistics::next_stats))]
 pub(crate) fn next_scene<
     R: Threads + Wait + Sync,
     G: Gate + Sync,
@@ -47,31 +48,57 @@ pub(crate) fn next_scene<
     requires workers { (1 ≤ workers) × (workers ≤ 64) }
     requires lives { LiveOn (values_of config.now) (world_of (scene_in scene)) }
     requires errand { F.pre errand }
-    ensures scene { IfOk result (λ next. scene_in next.0
-        ≡ next_scene (values_of config.now) (world_of (scene_in scene))) }
-    ensures stats { IfOk result
-        (λ next. next.1 ≡ next_stats (values_of config.now) (world_of (scene_in scene))) }
+    ensures next { IfOk result
+        (λ next. IsNext (values_of config.now) scene next.0 next.1) }
     ensures text { IfOk result (λ next. next.2.items
         ≡ lines_text (update_lines (values_of config.now) (world_of (scene_in scene)))) }
-    ensures update { IfOk result (λ next. next.0.update ≡ scene.update + 1) }
-    ensures size { IfOk result (λ next. length next.0.cells ≡ length scene.cells) }
-    ensures few { IfOk result (λ next. length next.0.everyone ≤ length scene.everyone + 2 ^ 33) }
-    ensures first { IfOk result (λ next. next.0.first ≡ scene.first) }
-    ensures bank { IfOk result
-        (λ next. Grows scene.bank next.0.bank scene.everyone next.0.everyone) }
     ensures errand { IfOk result (λ next. F.post errand next.3) }
 {
     let (mut scene, lived, brought) = scene_of_lives(
         rt, alloc, config, scene, workers, gate, errand,
     )?;
-    let births = lived.births.len() as u64;
+    let Lived { births, dead } = lived;
     let mut text = Vec::new(alloc);
-    bury(&mut scene, &lived.dead, &mut text)?;
-    place_births(alloc, config, &mut scene, lived.births, &mut text)?;
-    happen(rt, alloc, config, &mut scene, &mut text)?;
-    let stats = scene.stats(births);
-    write_line(&LogLine::Count(stats), &mut text)?;
+    let stats = end_update(rt, alloc, config, &mut scene, births, &dead, &mut text)?;
     Ok((scene, stats, text, brought))
+}
+
+/// What follows the lives of an update: burials, births and events, with their lines, and what is
+/// counted at its end. After `Memory` drop the scene.
+fn end_update<R: Wait>(
+    rt: &R,
+    alloc: Global,
+    config: &Config,
+    scene: &mut Scene,
+    births: Vec<Delivery>,
+    dead: &[Departed],
+    text: &mut Vec<u8>,
+) -> Result<Stats, Memory>
+    requires size { length scene.old.cells ≡ config.now.width * config.now.height }
+    requires few { length scene.old.everyone ≤ 2 ^ 62 + 2 ^ 60 }
+    requires births { AreDeliveries (values_of config.now) (length scene.old.cells)
+        (map delivery_in births.items) }
+    requires numbers { All (λ birth. HasNumber scene.old.bank birth.newborn) births.items }
+    ensures ends { IfOk result (Ends (values_of config.now) dead.now births.items
+        scene.old scene.new) }
+    ensures text { IfOk result (λ stats. text.new.items ≡ text.old.items ++ lines_text
+        (last_lines (values_of config.now) (scene_in scene.old) dead.now
+        (map delivery_in births.items) stats)) }
+{
+    let count = births.len() as u64;
+    bury(scene, dead, text)?;
+    place_births(alloc, config, scene, births, text)?;
+    happen(rt, alloc, config, scene, text)?;
+    let stats = scene.stats(count);
+    tell_count(stats, text)?;
+    Ok(stats)
+}
+
+/// The line of what is counted.
+fn tell_count(stats: Stats, text: &mut Vec<u8>) -> Result<(), Memory>
+    ensures { OnOk result (text.new.items ≡ text.old.items ++ line_text (Count stats)) }
+{
+    write_line(&LogLine::Count(stats), text)
 }
 
 /// The scene as all lives of the next update have ended, and the dead have left their cells.

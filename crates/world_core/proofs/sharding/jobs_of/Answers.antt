@@ -1,8 +1,8 @@
-use Rattle.std.proofs.Common.{◌≡◌, ◌∙◌, ℕ, ◌+◌, ◌-◌, ◌≤◌, List, ap, arith, length, map, sum, sym, take}
+use Rattle.std.proofs.Common.{◌≡◌, ◌∙◌, ℕ, ◌+◌, ◌-◌, ◌≤◌, List, [], ◌∷◌, ◌++◌, ap, arith, drop, length, map, refl, sum, sym, take}
 use Rattle.std.proofs.lemmas.List.{length-take-le, length_push}
 use Rattle.cell_shards.specs.Shards.{first_cell}
 use Rattle.cell_shards.specs.declared.job.Job.{Job}
-use Rattle.world_core.specs.Sharding.{load_of, share_before}
+use Rattle.world_core.specs.Sharding.{load_of, seat_from, share_before}
 use Rattle.world_core.proofs.CutLemmas.{cut-more}
 use Rattle.world_core.proofs.ShareLemmas.{shares-of_none, started-more}
 use Rattle.world_core.proofs.sharding.jobs_of.Goals as goal
@@ -27,24 +27,25 @@ loop-shard-preserved c =
     ∙ ap (λ n. first_cell n c.args.shards c.loop-shard.shard) c.loop-shard.invariant.all in
     let job : Job = record {
       first = start;
-      cells = c.from_vec.result;
-      slices = c.from_vec-in-loop-shard.result;
-      seat = c.split.result;
+      cells = drop start left;
+      slices = drop start slices;
+      seat = seat_from c.loop-shard.seat;
     } in
+    let pushed : c.push.new.self.items ≡ c.loop-shard.jobs.items ++ job ∷ [] =
+    c.in_ok-push.ensures.items
+    ∙ ap (λ (one : Job). c.loop-shard.jobs.items ++ one ∷ []) c.in_ok-job.ensures.job in
     record {
       cut = cut-more c.args.seat c.args.cells.items c.args.slices.items c.loop-shard.jobs.items left
           slices c.loop-shard.seat c.loop-shard.invariant.cut job
-          c.push.new.self.items c.split_off.new.self.items c.split_off-in-loop-shard.new.self.items
-          c.split.new.seat within
-          c.in_ok-part.ensures.items c.in_ok-steps.ensures.items
-          (c.from_vec.ensures ∙ c.in_ok-part.ensures.tail)
-          (c.from_vec-in-loop-shard.ensures ∙ c.in_ok-steps.ensures.tail) c.split.ensures.new
-          c.split.ensures.kept c.in_ok-push.ensures.items;
+          c.push.new.self.items c.cut_off.new.cells.items c.cut_off.new.slices.items
+          c.cut_off.new.seat within
+          c.in_ok-job.ensures.cells c.in_ok-job.ensures.slices refl refl refl
+          c.in_ok-job.ensures.seat pushed;
       loads = omega (
         arith,
         ap length c.truncate.ensures.items,
         length-take-le start loads below,
-        ap length c.in_ok-steps.ensures.items,
+        ap length c.in_ok-job.ensures.slices,
         length-take-le start slices (omega (arith, within, long)),
       );
       left = c.start_of-start.ensures.before
@@ -70,17 +71,17 @@ loop-shard-preserved c =
           ))
           (c.shards_part_the_cells.ensures.rising (sum (map load_of c.args.slices.items))
           c.args.shards c.loop-shard.shard c.requires.shards.0)
-          c.truncate.ensures.items c.in_ok-push.ensures.items;
+          c.truncate.ensures.items pushed;
       few = omega (
         arith,
-        ap length c.in_ok-part.ensures.items,
+        ap length c.in_ok-job.ensures.cells,
         length-take-le start left within,
         within,
         c.loop-shard.invariant.few,
       );
       some = omega (
         arith,
-        ap length c.in_ok-push.ensures.items,
+        ap length pushed,
         length_push c.loop-shard.jobs.items job,
         c.loop-shard.invariant.some,
         c.loop-shard-test.true,

@@ -1,103 +1,91 @@
-use Rattle.std.proofs.Common.{◌∙◌, ◌++◌, [], ◌∷◌, All, ap, map, subst, sym, ℕ, List, arith}
+use Rattle.std.proofs.Common.{◌∙◌, ◌++◌, [], ◌∷◌, ap, length, map, refl, subst, sym, ℕ, List, arith}
 use Rattle.std.proofs.lemmas.List.{length-map}
-use Rattle.cell_shards.specs.Finishing.{genome_in}
-use Rattle.instruction_set.specs.declared.letter.Letter.{Letter}
+use Rattle.lineage_log.specs.Links.{Link}
 use Rattle.lineage_log.specs.LogGrammar.{lines_text}
 use Rattle.log_lines.specs.Line.{Count}
-use Rattle.log_lines.specs.LineText.{line_text}
 use Rattle.world_config.specs.Shown.{values_of}
 use Rattle.world_rules.specs.LogText.{birth_lines, event_lines}
 use Rattle.world_rules.specs.Scene.{Scene}
 use Rattle.world_rules.specs.Statistics.{scene_stats}
 use Rattle.world_rules.specs.Update.{world_of}
-use Rattle.world_core.specs.Genotypes.{HasNumber, genomes_ever}
+use Rattle.world_core.specs.Endings.{last_lines, with_births, with_departed}
+use Rattle.world_core.specs.Genotypes.{HasNumber}
 use Rattle.world_core.specs.Lived.{delivery_in, departure_line}
-use Rattle.world_core.specs.Scenes.{Grows, SceneValue, scene_in}
+use Rattle.world_core.specs.Scenes.{Grows, scene_in}
+use Rattle.world_core.specs.Soundness.{AreDeliveries}
 use Rattle.world_core.specs.declared.lived.Delivery.{Delivery}
-use Rattle.world_core.proofs.GrowLemmas.{Grows_births, Grows_on}
-use Rattle.world_core.proofs.LivesLemmas.{All-unmap, map-both}
-use Rattle.world_core.proofs.UpdateLemmas.{Phases, joined, lines_of_phases, scene_of_phases, stats_of_phases, update_of_phases}
+use Rattle.world_core.proofs.LivesLemmas.{All-unmap}
+use Rattle.world_core.proofs.UpdateLemmas.{Phases, lines_of_phases, scene_of_phases, stats_of_phases, update_of_phases}
+use Rattle.world_core.proofs.updating.next_scene.Given as given
+use Rattle.world_core.proofs.updating.next_scene.Goals.{In_ok-stats}
 use Rattle.world_core.proofs.updating.next_scene.Goals as goal
 
-phases : (g : _) (c : goal.After-drop-lived-2 g)
+phases : (g : given.Over) (c : In_ok-stats g)
     → Phases (values_of c.args.config.now) (world_of (scene_in c.args.scene)) c.deref.result.now
     (map delivery_in c.in_ok-scene.lived.births.items) (scene_in c.in_ok-scene.scene)
-    (scene_in c.bury.new.scene) (scene_in c.place_births.new.scene) (scene_in c.happen.new.scene)
-    c.stats-stats.result
+    (with_departed (scene_in c.in_ok-scene.scene) c.deref.result.now)
+    (with_births (values_of c.args.config.now) (scene_in c.in_ok-scene.scene) c.deref.result.now
+    (map delivery_in c.in_ok-scene.lived.births.items))
+    (scene_in c.end_update.new.scene) c.in_ok-stats.stats
 phases g c = record {
   lived = c.in_ok-scene.ensures.scene;
   dead_are = c.deref.ensures.value ∙ c.in_ok-scene.ensures.dead;
   births_are = c.in_ok-scene.ensures.births;
-  buried = ap scene_in c.in_ok-bury.ensures.scene;
-  placed = c.in_ok-place_births.ensures.scene;
-  happened = c.in_ok-happen.ensures.scene;
-  counted = c.stats-stats.ensures
-      ∙ ap (scene_stats (scene_in c.happen.new.scene))
-      (omega (
-        arith,
-        c.len-births.ensures,
-        length-map c.in_ok-scene.lived.births.items delivery_in,
-      ));
+  buried = refl;
+  placed = refl;
+  happened = c.in_ok-stats.ensures.ends.scene;
+  counted = c.in_ok-stats.ensures.ends.counts
+      ∙ ap (scene_stats (scene_in c.end_update.new.scene))
+      (sym (length-map c.in_ok-scene.lived.births.items delivery_in));
 }
 
-pub place_births-requires-clause-numbers : goal.place_births-requires-clause-numbers
-place_births-requires-clause-numbers g c =
-    let births = c.in_ok-scene.lived.births.items in
-    subst (λ (bank : List (List Letter)). All (λ (b : Delivery). HasNumber bank b.newborn) births)
-    (sym (ap (λ (s : SceneValue). s.bank) c.in_ok-bury.ensures.scene))
-    (All-unmap (HasNumber c.in_ok-scene.scene.bank) (λ (b : Delivery). b.newborn) births
-    c.in_ok-scene.ensures.bank.numbers)
+pub end_update-requires-clause-births : goal.end_update-requires-clause-births
+end_update-requires-clause-births g c =
+    subst (λ (n : ℕ). AreDeliveries (values_of c.args.config.now) n
+    (map delivery_in c.in_ok-scene.lived.births.items)) (sym c.in_ok-scene.ensures.size)
+    c.in_ok-scene.ensures.deliveries
 
-pub returns-clause-scene : goal.returns-clause-scene
-returns-clause-scene g c = scene_of_phases _ _ _ _ _ _ _ _ _ (phases g c)
+pub end_update-requires-clause-numbers : goal.end_update-requires-clause-numbers
+end_update-requires-clause-numbers g c =
+    All-unmap (HasNumber c.in_ok-scene.scene.bank) (λ (b : Delivery). b.newborn)
+    c.in_ok-scene.lived.births.items c.in_ok-scene.ensures.bank.numbers
 
-pub returns-clause-stats : goal.returns-clause-stats
-returns-clause-stats g c = stats_of_phases _ _ _ _ _ _ _ _ _ (phases g c)
-
-pub returns-clause-update : goal.returns-clause-update
-returns-clause-update g c = update_of_phases _ _ _ _ _ _ _ _ _ (phases g c)
+pub returns-clause-next : goal.returns-clause-next
+returns-clause-next g c =
+    let is = phases g (goal.at.returns-clause-next g c).In_ok-stats in
+    let ends = c.in_ok-stats.ensures.ends in
+    let all = ap (λ (s : Scene). s.everyone) c.in_ok-scene.ensures.scene in
+    record {
+      scene = scene_of_phases _ _ _ _ _ _ _ _ _ is;
+      counts = stats_of_phases _ _ _ _ _ _ _ _ _ is;
+      update = update_of_phases _ _ _ _ _ _ _ _ _ is;
+      size = ends.size ∙ c.in_ok-scene.ensures.size;
+      few = omega (
+        arith,
+        ends.few,
+        ap length all,
+        c.in_ok-scene.ensures.deliveries.few,
+        length-map c.in_ok-scene.lived.births.items delivery_in,
+      );
+      first = ends.first ∙ c.in_ok-scene.ensures.first;
+      bank = subst (λ (before : List Link). Grows c.args.scene.bank
+          c.end_update.new.scene.bank before c.end_update.new.scene.everyone) all
+          (ends.bank c.args.scene.bank c.in_ok-scene.ensures.bank);
+    }
 
 pub returns-clause-text : goal.returns-clause-text
 returns-clause-text g c =
     let config = values_of c.args.config.now in
-    let one = c.in_ok-bury.ensures.text
-    ∙ ap (λ (t : List ℕ). t ++ lines_text
-    (map (departure_line c.in_ok-scene.scene.update) c.deref.result.now))
-    c.new-text.ensures.items in
-    let two = c.in_ok-place_births.ensures.text
-    ∙ ap (λ (t : List ℕ). t ++ lines_text
-    (birth_lines config (scene_in c.bury.new.scene)
-    (map delivery_in c.in_ok-scene.lived.births.items))) one in
-    let three = c.in_ok-happen.ensures.text
-    ∙ ap (λ (t : List ℕ). t ++ lines_text
-    (event_lines config (scene_in c.place_births.new.scene))) two in
-    c.in_ok-write_line.ensures.ok
-    ∙ ap (λ (t : List ℕ). t ++ line_text (Count c.stats-stats.result)) three
-    ∙ joined _ _ _ _
-    ∙ ap (λ (n : ℕ). lines_text
-    (map (departure_line n) c.deref.result.now ++ birth_lines config (scene_in c.bury.new.scene)
-    (map delivery_in c.in_ok-scene.lived.births.items)
-    ++ event_lines config (scene_in c.place_births.new.scene) ++ Count c.stats-stats.result
-    ∷ [])) (ap (λ (s : Scene). s.update) c.in_ok-scene.ensures.scene)
-    ∙ ap lines_text (lines_of_phases _ _ _ _ _ _ _ _ _ (phases g c))
-
-pub returns-clause-bank : goal.returns-clause-bank
-returns-clause-bank g c =
-    let newborns = λ (b : Delivery). b.newborn in
-    let births = c.in_ok-scene.lived.births.items in
-    let before = c.args.scene in
-    let first = c.in_ok-scene.scene in
-    let last = c.place_births.new.scene in
-    let all = ap (λ (s : Scene). s.everyone) c.in_ok-scene.ensures.scene in
-    let buried = ap (λ (s : SceneValue). s.everyone) c.in_ok-bury.ensures.scene in
-    let genomes = c.in_ok-place_births.ensures.genomes
-    ∙ (λ i. genomes_ever ((buried ∙ all) i) ++ sym (map-both newborns genome_in births) i) in
-    let born : Grows before.bank first.bank before.everyone last.everyone =
-    Grows_births before.bank first.bank before.everyone last.everyone (map newborns births)
-    c.in_ok-scene.ensures.bank genomes in
-    let same = c.in_ok-place_births.ensures.bank
-    ∙ ap (λ (s : SceneValue). s.bank) c.in_ok-bury.ensures.scene in
-    Grows_on before.bank last.bank c.happen.new.scene.bank before.everyone last.everyone
-    c.happen.new.scene.everyone
-    (subst (λ bank. Grows before.bank bank before.everyone last.everyone) (sym same) born)
-    c.in_ok-happen.ensures.bank
+    let scene = scene_in c.in_ok-scene.scene in
+    let dead = c.deref.result.now in
+    let births = map delivery_in c.in_ok-scene.lived.births.items in
+    let stats = c.in_ok-stats.stats in
+    c.in_ok-stats.ensures.text
+    ∙ ap (λ (t : List ℕ). t ++ lines_text (last_lines config scene dead births stats))
+    c.new-text.ensures.items
+    ∙ ap (λ (n : ℕ). lines_text (map (departure_line n) dead
+    ++ birth_lines config (with_departed scene dead) births
+    ++ event_lines config (with_births config scene dead births) ++ Count stats ∷ []))
+    (ap (λ (s : Scene). s.update) c.in_ok-scene.ensures.scene)
+    ∙ ap lines_text (lines_of_phases _ _ _ _ _ _ _ _ _
+    (phases g (goal.at.returns-clause-text g c).In_ok-stats))

@@ -23,7 +23,7 @@ use Rattle.world_core.proofs.LivesLemmas.{map-both}
 use Rattle.world_core.proofs.ResidentLemmas.{occupants_of-length}
 use Rattle.world_core.proofs.TurnLemmas.{AreRead, IsRead, all-counted, can-count-here, counted-here}
 use Rattle.world_core.proofs.population.Population.live.Given as given
-use Rattle.world_core.proofs.population.Population.live.Goals.{After-index-in-loop-cell-2, In-loop-cell, In_ok-genotypes, In_ok-with_parents}
+use Rattle.world_core.proofs.population.Population.live.Goals.{After-index-in-loop-cell-2, In-loop-cell, In_ok-genotypes, In_ok-lived}
 use Rattle.world_core.proofs.population.Population.live.Goals as goal
 
 -- the cells as their shards had them
@@ -101,12 +101,12 @@ read g c = record {
 }
 
 -- the newborns with their parents
-parents : (g : given.Over) (c : In_ok-with_parents g) → c.in_ok-with_parents.field-0.items
+parents : (g : given.Over) (c : In_ok-lived g) → c.in_ok-lived.lived.births.items
     ≡ map (λ (birth : Delivered). record {
       parent = get_or c.cells.inside.ids.items birth.cell 0;
       newborn = birth;
     }) c.in_ok-genotypes.ended.births.items
-parents g c = c.in_ok-with_parents.ensures
+parents g c = c.in_ok-lived.ensures.births
     ∙ ap (λ (numbers : List ℕ). map (λ (birth : Delivered).
     record { parent = get_or numbers birth.cell 0; newborn = birth })
     c.in_ok-genotypes.ended.births.items) c.deref-2.ensures.value
@@ -214,22 +214,22 @@ loop-cell-preserved g c =
     c.loop-cell.cell (inside g at.In-loop-cell) (goes g before c.loop-cell.cell)
     c.loop-cell.invariant (read g at.After-index-in-loop-cell-2) c.count_again.ensures
 
-pub with_parents-requires : goal.with_parents-requires
-with_parents-requires g c =
-    let at = (goal.at.with_parents-requires g c).In_ok-genotypes in
+pub with_all_ids-requires-clause-births : goal.with_all_ids-requires-clause-births
+with_all_ids-requires-clause-births g c =
+    let at = (goal.at.with_all_ids-requires-clause-births g c).In_ok-genotypes in
     subst (λ (n : ℕ). All (λ (birth : Delivered). birth.cell < n)
     c.in_ok-genotypes.ended.births.items) (sym (ap length c.deref-2.ensures.value))
     (births-within (apart g at) c.in_ok-genotypes.ended.births.items
     c.in_ok-genotypes.ensures.births)
 
-pub with_ids-requires : goal.with_ids-requires
-with_ids-requires g c =
-    let at = (goal.at.with_ids-requires g c).In_ok-genotypes in
+pub with_all_ids-requires-clause-dead : goal.with_all_ids-requires-clause-dead
+with_all_ids-requires-clause-dead g c =
+    let at = (goal.at.with_all_ids-requires-clause-dead g c).In_ok-genotypes in
     let dead = c.in_ok-genotypes.ended.dead.items in
-    subst (λ (n : ℕ). All (λ (cell : ℕ). cell < n) c.deref-4.result.now)
-    (sym (ap length c.deref-3.ensures.value))
-    (All-same (λ (cell : ℕ). cell < length c.cells.inside.ids.items) c.deref-4.result.now dead
-    c.deref-4.ensures.value (dead-within (apart g at) dead c.in_ok-genotypes.ensures.dead))
+    subst (λ (n : ℕ). All (λ (cell : ℕ). cell < n) c.deref-3.result.now)
+    (sym (ap length c.deref-2.ensures.value))
+    (All-same (λ (cell : ℕ). cell < length c.cells.inside.ids.items) c.deref-3.result.now dead
+    c.deref-3.ensures.value (dead-within (apart g at) dead c.in_ok-genotypes.ensures.dead))
 
 pub invariant_of-population : goal.invariant_of-population
 invariant_of-population g c = record {
@@ -260,25 +260,25 @@ pub returns-clause-births : goal.returns-clause-births
 returns-clause-births g c =
     let at = goal.at.returns-clause-births g c in
     lived-births (apart g at.In_ok-genotypes) c.in_ok-genotypes.ended.births.items
-    c.in_ok-with_parents.field-0.items c.in_ok-genotypes.ensures.births
-    (parents g at.In_ok-with_parents)
+    c.in_ok-lived.lived.births.items c.in_ok-genotypes.ensures.births
+    (parents g at.In_ok-lived)
 
 pub returns-clause-dead : goal.returns-clause-dead
 returns-clause-dead g c =
     lived-dead (apart g (goal.at.returns-clause-dead g c).In_ok-genotypes)
-    c.in_ok-genotypes.ended.dead.items c.in_ok-with_ids.field-0.items c.in_ok-genotypes.ensures.dead
-    (c.in_ok-with_ids.ensures
-    ∙ (λ i. map (departed_from (c.deref-3.ensures.value i)) (c.deref-4.ensures.value i)))
+    c.in_ok-genotypes.ended.dead.items c.in_ok-lived.lived.dead.items c.in_ok-genotypes.ensures.dead
+    (c.in_ok-lived.ensures.dead
+    ∙ (λ i. map (departed_from (c.deref-2.ensures.value i)) (c.deref-3.ensures.value i)))
 
 pub returns-clause-bank : goal.returns-clause-bank
 returns-clause-bank g c =
     let delivered = c.in_ok-genotypes.ended.births.items in
-    let births = c.in_ok-with_parents.field-0.items in
+    let births = c.in_ok-lived.lived.births.items in
     let born_as : Delivered → Delivery = λ birth.
     record { parent = get_or c.cells.inside.ids.items birth.cell 0; newborn = birth } in
     let same : delivered ≡ map (λ (birth : Delivery). birth.newborn) births =
     sym (ap (map (λ (birth : Delivery). birth.newborn))
-    (parents g (goal.at.returns-clause-bank g c).In_ok-with_parents)
+    (parents g (goal.at.returns-clause-bank g c).In_ok-lived)
     ∙ map-both born_as (λ (birth : Delivery). birth.newborn) delivered ∙ map-id delivered) in
     subst (λ (old : List (List Letter)). TakesIn old c.in_ok-genotypes.genotypes
     (map (λ (birth : Delivery). birth.newborn) births))
@@ -310,8 +310,8 @@ returns-clause-bounds g c =
     let cells_are = lived-cells live c.in_ok-genotypes.ended.organisms.items
     c.in_ok-genotypes.ensures.cells in
     let births_are = lived-births live c.in_ok-genotypes.ended.births.items
-    c.in_ok-with_parents.field-0.items c.in_ok-genotypes.ensures.births
-    (parents g at.In_ok-with_parents) in
+    c.in_ok-lived.lived.births.items c.in_ok-genotypes.ensures.births
+    (parents g at.In_ok-lived) in
     subst (λ (all : List RulesDelivery). AreBoundedLives config (c.args.update + 1)
     (occupants_of c.in_ok-genotypes.ended.organisms.items c.cells.inside.ids.items) all)
     (sym births_are)

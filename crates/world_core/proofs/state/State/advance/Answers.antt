@@ -24,7 +24,7 @@ laws g c =
 leads : (g : _) (c : goal.After-forget g)
     → LeadsTo (values_of c.self.inside.config.value) c.self.inside.scene c.in_ok-scene.scene
 leads g c =
-    let told = c.in_ok-scene.ensures in
+    let told = c.in_ok-scene.ensures.next in
     let is : LeadsTo (values_of c.deref-3.result.now) c.self.inside.scene c.in_ok-scene.scene =
     record { scene = told.scene; update = told.update; size = told.size; few = told.few } in
     subst (λ (config : ConfigValues). LeadsTo config c.self.inside.scene c.in_ok-scene.scene)
@@ -43,7 +43,7 @@ next_scene-requires-clause-few g c =
 
 pub forget-requires : goal.forget-requires
 forget-requires g c =
-    omega (arith, c.in_ok-scene.ensures.few, c.self.invariant.0.few, c.self.invariant.0.updates)
+    omega (arith, c.in_ok-scene.ensures.next.few, c.self.invariant.0.few, c.self.invariant.0.updates)
 
 pub invariant_of-state : goal.invariant_of-state
 invariant_of-state g c =
