@@ -1,5 +1,5 @@
 -- What becomes of the seeds, one after another.
-use Rattle.std.proofs.Common.{◌≡◌, ℕ, suc, ◌<◌, List, [], ◌∷◌, length, map, get_or, Option, Result, Ok, refl, subst, arith}
+use Rattle.std.proofs.Common.{◌≡◌, ℕ, suc, ◌<◌, List, [], ◌∷◌, length, map, get_or, Option, Result, Ok, Err, refl, subst, arith, ◌∙◌}
 use Rattle.std.specs.Prelude.{IfOk}
 use Rattle.avida_port.specs.declared.memory.Memory.{Memory}
 use Rattle.instruction_set.specs.declared.letter.Letter.{Letter}
@@ -8,7 +8,7 @@ use Rattle.world_config.specs.Values.{ConfigValues}
 use Rattle.world_core.specs.WorldValue.{WorldValue}
 use Rattle.world_rules.specs.Statistics.{stats_of}
 use Rattle.assay.specs.Assay.{AssayValue, assay_of_seed, dominant_after}
-use Rattle.assay.specs.Sums.{AreSumsOf}
+use Rattle.assay.specs.Sums.{AreSumsOf, IsEndOf}
 use Rattle.assay.specs.declared.sums.Sums.{Sums}
 
 -- what is told of the world after the last update is what becomes of the seed's run
@@ -27,6 +27,16 @@ pub seed_is : (config : ConfigValues) (seed : ℕ) (world : WorldValue) (sums : 
     } ≡ assay_of_seed config seed
 seed_is config seed world sums last dominant same at so counted most =
     rw (most, counted, so.births, so.deaths, at, same) refl
+
+-- a new world's run came to its end, or memory ran out in it
+pub end_is : (config : ConfigValues) (first : WorldValue) (ran : Result (WorldValue × Sums) Memory)
+    → first.config ≡ config → IfOk ran (λ (r : WorldValue × Sums). r.0.config ≡ first.config)
+    → IfOk ran (λ (r : WorldValue × Sums). r.0.update ≡ config.updates)
+    → IfOk ran (λ (r : WorldValue × Sums). AreSumsOf r.0 r.1)
+    → IfOk ran (λ (r : WorldValue × Sums). IsEndOf config r.0 r.1)
+end_is config first (Ok r) founded same at so =
+    record { config_is = same ∙ founded; at_end = at; summed = so }
+end_is config first (Err e) founded same at so = tt
 
 -- a run that came to its end
 abbrev ended : AssayValue → Result AssayValue Memory

@@ -2,8 +2,9 @@
 ghost use Rattle.std.specs.Prelude.{◌≡◌, ◌+◌, ◌≤◌, ◌<◌, IfOk, option_map};
 ghost use Rattle.genome.specs.Genome.{letters};
 ghost use Rattle.world_config.specs.Shown.{values_of};
+ghost use Rattle.world_config.specs.Values.{ConfigValues};
 ghost use Rattle.assay.specs.Assay.{assay_of_seed, dominant_after};
-ghost use Rattle.assay.specs.Sums.{AreSumsOf};
+ghost use Rattle.assay.specs.Sums.{AreSumsOf, IsEndOf, with_seed};
 
 use crate::assayed::Assay;
 use crate::sums::{NONE, Sums};
@@ -67,6 +68,54 @@ fn dominant_in(alloc: Global, world: &World) -> Result<Option<Genome>, Memory>
     }
 }
 
+/// Runs a configuration to its end, and sums its updates.
+fn sum_run<R: Threads + Wait + Sync, G: Gate + Sync>(
+    rt: &R,
+    alloc: Global,
+    config: Config,
+    workers: u32,
+    gate: &G,
+) -> Result<(World, Sums), Memory>
+    requires { (1 ≤ workers) × (workers ≤ 64) }
+    ensures { IfOk result (λ ran. IsEndOf (values_of config) ran.0 ran.1) }
+{
+    let updates = config.updates;
+    let world = World::found(rt, alloc, config, workers)?;
+    sum_updates(rt, alloc, world, updates, gate)
+}
+
+/// The same of the configuration with this seed.
+fn sum_seed<R: Threads + Wait + Sync, G: Gate + Sync>(
+    rt: &R,
+    alloc: Global,
+    config: &Config,
+    seed: u64,
+    workers: u32,
+    gate: &G,
+) -> Result<(World, Sums), Memory>
+    requires seed { seed ≤ 9223372036854775807 }
+    requires workers { (1 ≤ workers) × (workers ≤ 64) }
+    ensures { IfOk result (λ ran. IsEndOf (with_seed (values_of config.now) seed) ran.0 ran.1) }
+{
+    let config = config.with_seed(alloc, seed)?;
+    sum_run(rt, alloc, config, workers, gate)
+}
+
+/// What became of a seed's run that came to this end.
+fn assay_of(alloc: Global, seed: u64, world: &World, sums: Sums) -> Result<Assay, Memory>
+    ensures { (config : ConfigValues) → IsEndOf (with_seed config seed) world.now sums
+        → IfOk result (λ assay. assay ≡ assay_of_seed config seed) }
+{
+    let dominant = dominant_in(alloc, world)?;
+    Ok(Assay {
+        seed,
+        births: sums.births,
+        deaths: sums.deaths,
+        last: world.stats(),
+        dominant,
+    })
+}
+
 /// Runs the configuration with this seed to its end.
 pub(crate) fn run_seed<R: Threads + Wait + Sync, G: Gate + Sync>(
     rt: &R,
@@ -80,15 +129,6 @@ pub(crate) fn run_seed<R: Threads + Wait + Sync, G: Gate + Sync>(
     requires workers { (1 ≤ workers) × (workers ≤ 64) }
     ensures { IfOk result (λ assay. assay ≡ assay_of_seed (values_of config.now) seed) }
 {
-    let config = config.with_seed(alloc, seed)?;
-    let updates = config.updates;
-    let world = World::found(rt, alloc, config, workers)?;
-    let (world, sums) = sum_updates(rt, alloc, world, updates, gate)?;
-    Ok(Assay {
-        seed,
-        births: sums.births,
-        deaths: sums.deaths,
-        last: world.stats(),
-        dominant: dominant_in(alloc, &world)?,
-    })
+    let (world, sums) = sum_seed(rt, alloc, config, seed, workers, gate)?;
+    assay_of(alloc, seed, &world, sums)
 }

@@ -1,18 +1,38 @@
 -- How the births and the bytes of a run add up, and the configuration that `bench` runs.
-use Rattle.std.proofs.Common.{◌≡◌, ◌∙◌, ◌+◌, ℕ, suc, [], ◌++◌, Ok, refl, sym, ap, subst, length, length-append, add-one, arith, rules}
+use Rattle.std.proofs.Common.{◌≡◌, ◌≢◌, ◌∙◌, ◌+◌, ℕ, suc, List, [], ◌++◌, Ok, Err, refl, sym, ap, subst, length, length-append, add-one, arith, rules}
+use Rattle.std.specs.Prelude.{codes, decimal}
 use Rattle.toml.specs.Data.{no_members}
+use Rattle.avida_port.specs.Ports.{Puts, SinkState}
+use Rattle.avida_port.specs.declared.sink.SinkStop.{SinkStop}
+use Rattle.avida_port.specs.declared.sink.SinkStop.TheVariants.{Fault, Memory}
 use Rattle.instruction_set.specs.Letter.{letter_of_byte}
+use Rattle.log_lines.specs.Line.{Count}
+use Rattle.log_lines.specs.LineText.{line_text}
+use Rattle.log_lines.specs.declared.stats.Stats.{Stats}
 use Rattle.world_config.specs.Config.{config_in, values_in_table}
 use Rattle.world_config.specs.Events.{AreEvents}
 use Rattle.world_config.specs.KeyTable.{Frame}
 use Rattle.world_config.specs.Lookup.{items_at, number_at}
 use Rattle.world_config.specs.Refusal.{refusal_at}
 use Rattle.world_config.specs.Values.{ConfigValues}
+use Rattle.world_core.specs.WorldValue.{WorldValue}
 use Rattle.world_rules.specs.LogText.{end_text, head_text, log_text, update_text, updates_text}
 use Rattle.world_rules.specs.Statistics.{stats_of}
+use Rattle.written_texts.specs.SinkChanges.{Stays, change}
 use Rattle.assay.specs.Assay.{births_until}
 use Rattle.assay.proofs.SumLemmas.{births_more}
-use Rattle.avida_program.specs.BenchText.{bench_config}
+use Rattle.avida_program.specs.declared.bench.Counted.{Counted}
+use Rattle.avida_program.specs.declared.bench.Sums.{Sums}
+use Rattle.avida_program.specs.declared.command.Command.TheVariants.{Bench}
+use Rattle.avida_program.specs.declared.outcome.Outcome.{Outcome}
+use Rattle.avida_program.specs.declared.outcome.Outcome.TheVariants as outcome
+use Rattle.avida_program.specs.BenchSums.{IsCounted, IsSummed}
+use Rattle.avida_program.specs.BenchText.{bench_config, bench_text, sums_text}
+use Rattle.avida_program.specs.Changes.{Work}
+use Rattle.avida_program.specs.FinalWorld.{LeavesFinal}
+use Rattle.avida_program.specs.Outcomes.{WritesText, stopped_by}
+use Rattle.avida_program.specs.Work.{CarriesOut}
+use Rattle.avida_program.proofs.StopLemmas.{put_stopped}
 
 -- one update more adds the bytes of its text
 bytes_more : (config : ConfigValues) (n : ℕ)
@@ -60,23 +80,68 @@ events_fit values frame is =
     subst (AreEvents frame) (sym (ap (λ (v : ConfigValues). v.event) (plain_values values is)))
     (no_events frame)
 
--- the births and the bytes of one more update
-pub births_next : (config here : ConfigValues) (n at sum next : ℕ) → sum ≡ births_until config n
-    → next ≡ sum + (stats_of here (at + 1)).births
-    → here ≡ config → at ≡ n → next ≡ births_until config (n + 1)
-births_next config here n at sum next p e same now =
-    e ∙ ap (λ s. s + (stats_of here (at + 1)).births) p
-    ∙ ap (λ k. births_until config n + (stats_of here (k + 1)).births) now
-    ∙ ap (λ (c : ConfigValues). births_until config n + (stats_of c (n + 1)).births) same
+-- the births of one more update, of a world that has come so far
+pub births_next : (config : ConfigValues) (n : ℕ) (here : WorldValue) (sum births next : ℕ)
+    → here.config ≡ config → here.update ≡ n + 1
+    → births ≡ (stats_of here.config here.update).births → sum ≡ births_until config n
+    → next ≡ sum + births → next ≡ births_until config (n + 1)
+births_next config n here sum births next same now told so is =
+    is ∙ ap (λ s. s + births) so
+    ∙ ap (λ b. births_until config n + b) (told
+    ∙ ap (λ (c : ConfigValues). (stats_of c here.update).births) same
+    ∙ ap (λ k. (stats_of config k).births) now)
     ∙ sym (births_more config n)
 
--- the bytes of the updates so far with those of the next one
-pub bytes_next : (config here : ConfigValues) (n at sum next : ℕ)
-    → sum ≡ length (updates_text config n) → next ≡ sum + length (update_text here (at + 1))
-    → here ≡ config → at ≡ n → next ≡ length (updates_text config (n + 1))
-bytes_next config here n at sum next p e same now =
-    e ∙ ap (λ s. s + length (update_text here (at + 1))) p
-    ∙ ap (λ k. length (updates_text config n) + length (update_text here (k + 1))) now
-    ∙ ap (λ (c : ConfigValues). length (updates_text config n) + length (update_text c (n + 1)))
-    same
-    ∙ sym (bytes_more config n)
+-- the bytes of the first line and of the updates so far, with those of one more
+pub bytes_next : (config : ConfigValues) (n sum bytes next : ℕ)
+    → bytes ≡ length (update_text config (n + 1))
+    → sum ≡ length (head_text config) + length (updates_text config n)
+    → next ≡ sum + bytes
+    → next ≡ length (head_text config) + length (updates_text config (n + 1))
+bytes_next config n sum bytes next told so is = omega (arith, bytes_more config n)
+
+-- a world that has come so far, said of itself
+pub counted_again : {config : ConfigValues} {n : ℕ} {counted : Counted}
+    → IsCounted config n counted
+    → IsCounted counted.world.config counted.world.update counted
+counted_again {config = config} {counted = counted} so =
+    subst (λ (of : ConfigValues). IsCounted of counted.world.update counted) (sym so.config_is)
+    (subst (λ (k : ℕ). IsCounted config k counted) (sym so.update_is) so)
+
+-- the three lines of a run
+pub sums_told : (config : ConfigValues) (world : WorldValue) (sums : Sums) (stats : Stats)
+    (text : List ℕ) → IsSummed config world sums → stats ≡ stats_of world.config world.update
+    → text ≡ line_text (Count stats)
+    ++ codes "births " ++ decimal sums.births ++ codes "\n"
+    ++ codes "bytes " ++ decimal sums.bytes ++ codes "\n"
+    → text ≡ sums_text config
+unfolding sums_text
+sums_told config world sums stats text so told is =
+    let counted : stats ≡ stats_of config config.updates =
+    told ∙ ap (λ (c : ConfigValues). stats_of c world.update) so.final.config
+    ∙ ap (stats_of config) so.final.update in
+    rw (← counted, ← so.births, ← so.bytes) is
+
+-- a put of `bench`'s text, or of a prefix of it
+pub put_wrote : {a b : SinkState} {text : List ℕ} (stop : SinkStop)
+    → Puts {T = Unit {0}} a b text (Err stop)
+    → WritesText text (change a b) (stopped_by stop)
+put_wrote Fault puts = put_stopped {T = Unit {0}} _ puts refl
+put_wrote Memory puts = put_stopped {T = Unit {0}} _ puts refl
+
+-- what writes the text of `bench`, and leaves its world where all is done, carries it out
+pub benched : (seed workers : ℕ) (work : Work) (told : Outcome)
+    → Stays work.source → Stays work.watch → WritesText (bench_text seed) work.out told
+    → (told ≡ outcome.Done → LeavesFinal work.last (bench_config seed))
+    → (told ≢ outcome.Done → Stays work.last)
+    → CarriesOut (Bench seed workers) work told
+benched seed workers work told unread unwatched wrote left kept =
+    let Writes : Outcome → Type 0 = WritesText (bench_text seed) work.out in
+    record {
+      words = λ e. subst Writes e wrote;
+      read_fault = λ e. absurd (subst Writes e wrote);
+      write_fault = λ e. (subst Writes e wrote).0;
+      watch_stays = λ e. unwatched;
+      last_stays = kept;
+      does = record { source_stays = unread; writes = wrote; leaves = left };
+    }

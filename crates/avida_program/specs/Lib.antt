@@ -13,4 +13,5 @@ pub mod Commands
 pub mod Outcomes
 pub mod FinalWorld
 pub mod BenchText
+pub mod BenchSums
 pub mod Work

@@ -1,17 +1,15 @@
 // The command `bench`.
-ghost use Rattle.std.specs.Prelude.{◌≡◌, ◌≤◌, ◌<◌, ◌+◌, ◌^◌, ◌++◌, IfOk, IfErr, OnOk, codes, decimal, length};
+ghost use Rattle.std.specs.Prelude.{◌≡◌, ◌≢◌, ◌≤◌, ◌<◌, ◌+◌, ◌^◌, ◌++◌, IfOk, OnOk, Some, codes, decimal, length};
 ghost use Rattle.avida_port.specs.Ports.{SinkState, SourceState};
 ghost use Rattle.log_lines.specs.Line.{Count};
 ghost use Rattle.log_lines.specs.LineText.{line_text};
 ghost use Rattle.world_config.specs.Shown.{values_of};
-ghost use Rattle.world_rules.specs.LogText.{update_text, updates_text};
-ghost use Rattle.world_rules.specs.Statistics.{stats_of};
-ghost use Rattle.assay.specs.Assay.{births_until};
 ghost use Rattle.avida_program.specs.declared.command.Command.TheVariants.{Bench};
+ghost use Rattle.avida_program.specs.BenchSums.{IsCounted, IsSummed};
 ghost use Rattle.avida_program.specs.BenchText.{bench_config, bench_text, sums_text};
-ghost use Rattle.written_texts.specs.SinkChanges.{GainedText, change, unchanged};
-ghost use Rattle.avida_program.specs.Outcomes.{StopsWithin};
-ghost use Rattle.logged_run.specs.RunText.{IsFinalWorld, run_text};
+ghost use Rattle.written_texts.specs.SinkChanges.{change, unchanged};
+ghost use Rattle.avida_program.specs.Outcomes.{WritesText};
+ghost use Rattle.logged_run.specs.RunText.{IsFinalWorld};
 ghost use Rattle.avida_program.specs.Work.{CarriesOut};
 
 use crate::outcome::Outcome;
@@ -29,9 +27,16 @@ const UPDATES: u32 = 200;
 
 /// The births and the bytes of some updates.
 #[derive(Clone, Copy)]
-struct Sums {
-    births: u128,
-    bytes: u128,
+pub(crate) struct Sums {
+    pub(crate) births: u128,
+    pub(crate) bytes: u128,
+}
+
+/// A world, with the births and the bytes of its log so far.
+#[derive(Drop)]
+pub(crate) struct Counted {
+    pub(crate) world: RunningWorld,
+    pub(crate) sums: Sums,
 }
 
 /// The configuration that is run.
@@ -45,62 +50,90 @@ fn config_with(alloc: Global, seed: u64) -> Result<Config, Memory>
     Ok(config)
 }
 
-/// One update, whose text is counted and dropped.
-fn sum_update<R: Threads + Wait + Sync, G: Gate + Sync>(
-    rt: &R,
-    alloc: Global,
-    world: RunningWorld,
-    sums: Sums,
-    gate: &G,
-) -> Result<(RunningWorld, Sums), Memory>
-    requires update { world.update < 1000000 }
+/// The sums with those of one more text.
+fn sums_with(sums: Sums, births: u64, bytes: usize) -> Sums
     requires births { sums.births ≤ 2 ^ 100 }
     requires bytes { sums.bytes ≤ 2 ^ 100 }
-    ensures config { IfOk result (λ next. next.0.config ≡ world.config) }
-    ensures update { IfOk result (λ next. next.0.update ≡ world.update + 1) }
-    ensures births { IfOk result (λ next.
-        next.1.births ≡ sums.births + (stats_of world.config (world.update + 1)).births) }
-    ensures bytes { IfOk result (λ next.
-        next.1.bytes ≡ sums.bytes + length (update_text world.config (world.update + 1))) }
-    ensures few_births { IfOk result (λ next. next.1.births ≤ sums.births + 2 ^ 64) }
-    ensures few_bytes { IfOk result (λ next. next.1.bytes ≤ sums.bytes + 2 ^ 64) }
+    ensures births { result.births ≡ sums.births + births }
+    ensures bytes { result.bytes ≡ sums.bytes + bytes }
+    ensures few_births { result.births ≤ sums.births + 2 ^ 64 }
+    ensures few_bytes { result.bytes ≤ sums.bytes + 2 ^ 64 }
 {
-    let (next, text) = world.advance(rt, alloc, gate)?;
-    let births = sums.births + u128::from(next.stats().births);
-    let bytes = sums.bytes + text.len() as u128;
-    Ok((next, Sums { births, bytes }))
+    Sums {
+        births: sums.births + u128::from(births),
+        bytes: sums.bytes + bytes as u128,
+    }
+}
+
+/// A new world, with the bytes of its log's first line.
+fn begin_counted<R: Wait>(
+    rt: &R,
+    alloc: Global,
+    config: Config,
+    workers: u32,
+) -> Result<Counted, Memory>
+    requires { (1 ≤ workers) × (workers ≤ 64) }
+    ensures { IfOk result (IsCounted (values_of config) 0) }
+{
+    let world = World::found(rt, alloc, config, workers)?;
+    let first = world.first_line(alloc)?;
+    Ok(Counted {
+        world: world.into_running(),
+        sums: Sums {
+            births: 0,
+            bytes: first.len() as u128,
+        },
+    })
+}
+
+/// One update, whose text is counted and dropped.
+fn count_update<R: Threads + Wait + Sync, G: Gate + Sync>(
+    rt: &R,
+    alloc: Global,
+    counted: Counted,
+    gate: &G,
+) -> Result<Counted, Memory>
+    requires update { counted.world.update < 1000000 }
+    requires counted { IsCounted counted.world.config counted.world.update counted }
+    ensures { IfOk result (IsCounted counted.world.config (counted.world.update + 1)) }
+{
+    let Counted { world, sums } = counted;
+    let (world, text) = world.advance(rt, alloc, gate)?;
+    let sums = sums_with(sums, world.stats().births, text.len());
+    Ok(Counted { world, sums })
 }
 
 /// The updates of a new world, whose texts are counted and dropped.
-fn sum_updates<R: Threads + Wait + Sync, G: Gate + Sync>(
+fn count_updates<R: Threads + Wait + Sync, G: Gate + Sync>(
     rt: &R,
     alloc: Global,
-    world: World,
+    mut counted: Counted,
     updates: u32,
     gate: &G,
-) -> Result<(World, Sums), Memory>
-    requires new { world.update ≡ 0 }
+) -> Result<Counted, Memory>
     requires updates { updates ≤ 1000000 }
-    ensures config { IfOk result (λ after. after.0.config ≡ world.config) }
-    ensures update { IfOk result (λ after. after.0.update ≡ updates) }
-    ensures births { IfOk result (λ after. after.1.births ≡ births_until world.config updates) }
-    ensures bytes { IfOk result (λ after.
-        after.1.bytes ≡ length (updates_text world.config updates)) }
-    ensures few { IfOk result (λ after. after.1.bytes ≤ 2 ^ 100) }
+    requires new { IsCounted counted.world.config 0 counted }
+    ensures { IfOk result (IsCounted counted.world.config updates) }
 {
-    let mut running = world.into_running();
-    let mut sums = Sums {
-        births: 0,
-        bytes: 0,
-    };
     for _ in 0..updates {
-        (running, sums) = sum_update(rt, alloc, running, sums, gate)?;
+        counted = count_update(rt, alloc, counted, gate)?;
     }
-    Ok((running.into_world()?, sums))
+    Ok(counted)
+}
+
+/// The world after a run's last update, and the sums with the bytes of the log's last line.
+fn end_counted(alloc: Global, counted: Counted) -> Result<(World, Sums), Memory>
+    requires updates { counted.world.update ≤ 1000000 }
+    requires counted { IsCounted counted.world.config counted.world.config.updates counted }
+    ensures { IfOk result (λ ran. IsSummed counted.world.config ran.0 ran.1) }
+{
+    let Counted { world, sums } = counted;
+    let world = world.into_world()?;
+    let last = world.last_line(alloc)?;
+    Ok((world, sums_with(sums, 0, last.len())))
 }
 
 /// Runs a configuration to its end. The sums are its births and the bytes of its whole log.
-#[tactic(auto, using(crate::proofs::BenchLemmas::log_bytes))]
 fn run_and_sum<R: Threads + Wait + Sync, G: Gate + Sync>(
     rt: &R,
     alloc: Global,
@@ -109,18 +142,12 @@ fn run_and_sum<R: Threads + Wait + Sync, G: Gate + Sync>(
     gate: &G,
 ) -> Result<(World, Sums), Memory>
     requires { (1 ≤ workers) × (workers ≤ 64) }
-    ensures world { IfOk result (λ ran. IsFinalWorld (values_of config) ran.0) }
-    ensures births { IfOk result (λ ran.
-        ran.1.births ≡ births_until (values_of config) config.updates) }
-    ensures bytes { IfOk result (λ ran. ran.1.bytes ≡ length (run_text (values_of config))) }
+    ensures { IfOk result (λ ran. IsSummed (values_of config) ran.0 ran.1) }
 {
     let updates = config.updates;
-    let world = World::found(rt, alloc, config, workers)?;
-    let first = world.first_line(alloc)?;
-    let (world, sums) = sum_updates(rt, alloc, world, updates, gate)?;
-    let last = world.last_line(alloc)?;
-    let bytes = first.len() as u128 + sums.bytes + last.len() as u128;
-    Ok((world, Sums { bytes, ..sums }))
+    let counted = begin_counted(rt, alloc, config, workers)?;
+    let counted = count_updates(rt, alloc, counted, updates, gate)?;
+    end_counted(alloc, counted)
 }
 
 /// Appends the line of a sum.
@@ -149,7 +176,6 @@ fn lines_of(alloc: Global, stats: Stats, sums: Sums) -> Result<Vec<u8>, Memory>
 }
 
 /// Runs a configuration to its end, and gives the last world and the three lines.
-#[tactic(auto, unfolding(crate::specs::BenchText::sums_text))]
 fn run_and_tell<R: Threads + Wait + Sync, G: Gate + Sync>(
     rt: &R,
     alloc: Global,
@@ -166,27 +192,38 @@ fn run_and_tell<R: Threads + Wait + Sync, G: Gate + Sync>(
     Ok((world, text))
 }
 
-/// Runs the world of a seed, and writes the three lines.
-fn write_bench<R: Threads + Wait + Sync, O: Sink, G: Gate + Sync>(
+/// Runs the world of a seed, and gives its last world and the three lines.
+fn run_seed<R: Threads + Wait + Sync, G: Gate + Sync>(
     rt: &R,
     alloc: Global,
     seed: u64,
     workers: u32,
-    out: &mut O,
     gate: &G,
-) -> Result<World, Outcome>
+) -> Result<(World, Vec<u8>), Memory>
     requires seed { seed ≤ 9223372036854775807 }
     requires workers { (1 ≤ workers) × (workers ≤ 64) }
-    ensures world { IfOk result (IsFinalWorld (bench_config seed)) }
-    ensures ok { OnOk result (GainedText (change (O.seen out.old) (O.seen out.new))
-        (bench_text seed)) }
-    ensures err { IfErr result (StopsWithin (bench_text seed)
-        (change (O.seen out.old) (O.seen out.new))) }
+    ensures world { IfOk result (λ ran. IsFinalWorld (bench_config seed) ran.0) }
+    ensures text { IfOk result (λ ran. ran.1.items ≡ bench_text seed) }
 {
     let config = config_with(alloc, seed)?;
-    let (world, text) = run_and_tell(rt, alloc, config, workers, gate)?;
-    out.put(&text)?;
-    Ok(world)
+    run_and_tell(rt, alloc, config, workers, gate)
+}
+
+/// Puts a text, and leaves the world in `last` where it is put.
+fn put_and_leave<O: Sink>(
+    text: &[u8],
+    world: World,
+    out: &mut O,
+    last: &mut Option<World>,
+) -> Outcome
+    ensures writes { WritesText text.now (change (O.seen out.old) (O.seen out.new)) result }
+    ensures left { result ≡ Outcome.Done → last.new ≡ Some world }
+    ensures stays { result ≢ Outcome.Done → last.new ≡ last.old }
+{
+    match out.put(text) {
+        Ok(()) => leave(world, last),
+        Err(stop) => Outcome::from(stop),
+    }
 }
 
 /// Runs the default configuration with this seed for 200 updates, and writes what is counted after
@@ -211,8 +248,8 @@ pub fn bench<R: Threads + Wait + Sync, O: Sink, G: Gate + Sync>(
           last = change last.old last.new;
         }) result }
 {
-    match write_bench(rt, alloc, seed, workers, out, gate) {
-        Ok(world) => leave(world, last),
-        Err(outcome) => outcome,
+    match run_seed(rt, alloc, seed, workers, gate) {
+        Ok((world, text)) => put_and_leave(&text, world, out, last),
+        Err(Memory) => Outcome::NoMemory,
     }
 }

@@ -1,91 +1,121 @@
 -- How a run with a watcher ends, by what the runner and the watcher answered.
-use Rattle.std.proofs.Common.{◌≡◌, ℕ, Option, Some, Result, Ok, Err, subst}
+use Rattle.std.proofs.Common.{◌≡◌, ℕ, List, Option, Some, IfOk, Result, Ok, Err, subst, sym}
+use Rattle.std.specs.Prelude.{IsErrAnd, OnOk}
+use Rattle.std.proofs.lemmas.Result.{err_from_is_err_and}
 use Rattle.avida_port.specs.Ports.{SinkState}
+use Rattle.world_config.specs.Shown.{values_of}
 use Rattle.world_config.specs.Values.{ConfigValues}
+use Rattle.world_core.specs.declared.picture.WorldPicture.{WorldPicture}
+use Rattle.world_core.specs.WorldValue.{WorldValue}
 use Rattle.written_texts.specs.declared.stop.WriteStop.{WriteStop}
-use Rattle.written_texts.specs.SinkChanges.{GainedText, change}
-use Rattle.logged_run.specs.RunStops.{StopsRun}
+use Rattle.written_texts.specs.declared.stop.WriteStop.TheVariants as stop
+use Rattle.written_texts.specs.SinkChanges.{Change, GainedText, change}
 use Rattle.written_texts.specs.WrittenText.{WritesAll}
-use Rattle.logged_run.specs.Publishing.{WritesLog}
-use Rattle.logged_run.specs.RunText.{run_text}
-use Rattle.logged_run.specs.Watching.{WritesLooks, news}
-use Rattle.logged_run.specs.WatchText.{GainedPictures, pictures_text}
-use Rattle.logged_run.proofs.WatchLemmas.{all_watched, last_stopped, runner_stopped, watcher_stopped}
+use Rattle.logged_run.specs.declared.publishing.Progress.{Progress}
+use Rattle.logged_run.specs.Publishing.{HasCome, WritesLog}
+use Rattle.logged_run.specs.RunStops.{StopsRun}
+use Rattle.logged_run.specs.RunText.{IsFinalWorld, run_text}
+use Rattle.logged_run.specs.Watching.{BeginsAs, WritesLooks, news}
+use Rattle.logged_run.specs.WatchText.{pictures_text}
+use Rattle.logged_run.specs.WatchedRun.{EndsRun, EndsWatched, IsAtEnd, RunsWatched}
+use Rattle.logged_run.proofs.PublishedLemmas.{last_heard}
+use Rattle.logged_run.proofs.WatchLemmas.{all_watched, last_stopped, nothing_run, runner_stopped, watcher_stopped}
 
-module _ {T : Type 0} {looks : ℕ} {config other : ConfigValues} {a b c d : SinkState}
-    {ran : Result T WriteStop} {watched : Result (Option ℕ) WriteStop}
-    (same : config ≡ other) (log : WritesLog config a b ran)
-    (lines : WritesLooks looks config c d watched) where
-  -- the log where the runner came to its end
-  whole : (t : T) → ran ≡ Ok t → GainedText (change a b) (run_text config)
-  whole t is =
-      let wrote : WritesLog {T = T} config a b (Ok t) =
-      subst (λ (r : Result T WriteStop). WritesLog config a b r) is log in
-      subst (GainedText (change a b)) wrote.is wrote.writes.ok
+-- where the runner and the watcher came to their end the run is at its end
+pub at_end : (ran : Result Progress WriteStop) (watched : Result (Option ℕ) WriteStop)
+    (config : ConfigValues) (published observed : List WorldPicture)
+    → OnOk watched (BeginsAs config observed) → IfOk ran (HasCome published)
+    → IfOk ran (λ after. IsFinalWorld config after.world)
+    → OnOk watched (IfOk ran (IsAtEnd observed))
+at_end ran (Err e) config published observed begins come final = tt
+at_end (Err e) (Ok newest) config published observed begins come final = tt
+at_end (Ok progress) (Ok newest) config published observed begins come final = record {
+  begins = subst (λ (of : ConfigValues). BeginsAs of observed) (sym final.config) begins;
+  config = come.config;
+  update = come.update;
+  heard = last_heard published progress come;
+}
 
-  -- the log where the runner stopped
-  stopped : (e : WriteStop) → ran ≡ Err e → WritesAll {T = T} a b (run_text config) (Err e)
-  stopped e is =
-      let wrote : WritesLog {T = T} config a b (Err e) =
-      subst (λ (r : Result T WriteStop). WritesLog config a b r) is log in
-      subst (λ text. WritesAll {T = T} a b text (Err e)) wrote.is wrote.writes
+-- the line of the last picture, said of the run's world
+pub line_at_end : {T : Type 0} {a b : SinkState} {r : Result T WriteStop}
+    {observed : List WorldPicture} {progress : Progress} (newest : Option ℕ)
+    → IsAtEnd observed progress
+    → WritesAll a b (pictures_text (values_of progress.picture.value.config.value)
+    (news newest progress.picture.value.update progress.picture.value.update)) r
+    → WritesAll a b (pictures_text progress.world.config
+    (news newest progress.world.update progress.world.update)) r
+line_at_end {T = T} {a = a} {b = b} {r = r} {progress = progress} newest so line =
+    subst (λ (of : ConfigValues). WritesAll {T = T} a b (pictures_text of
+    (news newest progress.world.update progress.world.update)) r) so.config
+    (subst (λ (n : ℕ). WritesAll {T = T} a b
+    (pictures_text (values_of progress.picture.value.config.value) (news newest n n)) r) so.update
+    line)
 
-  -- the runner stopped
-  pub runner_ended : (e : WriteStop) → ran ≡ Err e
-      → StopsRun (Some looks) other (change a b) (change c d) e
-  runner_ended e is =
-      subst (λ (of : ConfigValues). StopsRun (Some looks) of (change a b) (change c d) e) same
-      (runner_stopped looks config watched (stopped e is) lines)
+-- the line of the last picture, said of the run's configuration
+line_of : {T : Type 0} {a b : SinkState} {r : Result T WriteStop} {config : ConfigValues}
+    (progress : Progress) (newest : Option ℕ) → IsFinalWorld config progress.world
+    → WritesAll a b (pictures_text progress.world.config
+    (news newest progress.world.update progress.world.update)) r
+    → WritesAll a b (pictures_text config (news newest config.updates config.updates)) r
+line_of {T = T} {a = a} {b = b} {r = r} {config = config} progress newest final line =
+    subst (λ (of : ConfigValues). WritesAll {T = T} a b (pictures_text of
+    (news newest config.updates config.updates)) r) final.config
+    (subst (λ (n : ℕ). WritesAll {T = T} a b
+    (pictures_text progress.world.config (news newest n n)) r) final.update line)
 
-  -- the runner came to its end, and the watcher stopped
-  pub watcher_ended : (t : T) (e : WriteStop) → ran ≡ Ok t → watched ≡ Err e
-      → StopsRun (Some looks) other (change a b) (change c d) e
-  watcher_ended t e is halted =
-      subst (λ (of : ConfigValues). StopsRun (Some looks) of (change a b) (change c d) e) same
-      (watcher_stopped looks config (whole t is)
-      (subst (λ (r : Result (Option ℕ) WriteStop). WritesLooks looks config c d r) halted lines))
+-- a run that stopped
+run_stopped : {looks : ℕ} {config : ConfigValues} {out watch : Change SinkState} (e : WriteStop)
+    → StopsRun (Some looks) config out watch e → RunsWatched looks config out watch (Err e)
+run_stopped e stopped = record { world = tt; ok = tt; watched = tt; err = stopped }
 
-  -- the log is whole where the runner came to its end
-  pub log_ended : (t : T) → ran ≡ Ok t → GainedText (change a b) (run_text other)
-  log_ended t is =
-      subst (λ (of : ConfigValues). GainedText (change a b) (run_text of)) same (whole t is)
+-- the log where the runner came to its end
+whole : {T : Type 0} {a b : SinkState} {t : T} (config : ConfigValues)
+    → WritesLog config a b (Ok t) → GainedText (change a b) (run_text config)
+whole {a = a} {b = b} config wrote = subst (GainedText (change a b)) wrote.is wrote.writes.ok
 
-  -- the last line, said of the run's configuration
-  line_of : {U : Type 0} (f : SinkState) (shown : ConfigValues) (last : ℕ) (told newest : Option ℕ)
-      (r : Result U WriteStop)
-      → WritesAll d f (pictures_text shown (news told last last)) r → shown ≡ config
-      → last ≡ config.updates → told ≡ newest
-      → WritesAll d f (pictures_text config (news newest config.updates config.updates)) r
-  line_of {U = U} f shown last told newest r line here at_last answer =
-      subst (λ (n : Option ℕ). WritesAll {T = U} d f
-      (pictures_text config (news n config.updates config.updates)) r) answer
-      (subst (λ (of : ConfigValues). WritesAll {T = U} d f
-      (pictures_text of (news told config.updates config.updates)) r) here
-      (subst (λ (n : ℕ). WritesAll {T = U} d f (pictures_text shown (news told n n)) r) at_last
-      line))
+-- the log where the runner stopped
+stopped : {T : Type 0} {a b : SinkState} {e : WriteStop} (config : ConfigValues)
+    → WritesLog {T = T} config a b (Err e) → WritesAll {T = T} a b (run_text config) (Err e)
+stopped {T = T} {a = a} {b = b} {e = e} config wrote =
+    subst (λ text. WritesAll {T = T} a b text (Err e)) wrote.is wrote.writes
 
-  -- the last line stopped
-  pub last_ended : {U : Type 0} {f : SinkState} {shown : ConfigValues} {last : ℕ}
-      {told newest : Option ℕ} {t : T} {e : WriteStop} → ran ≡ Ok t → watched ≡ Ok newest
-      → WritesAll {T = U} d f (pictures_text shown (news told last last)) (Err e) → shown ≡ config
-      → last ≡ config.updates → told ≡ newest
-      → StopsRun (Some looks) other (change a b) (change c f) e
-  last_ended {U = U} {f = f} {shown = shown} {last = last} {told = told} {newest = newest} {t = t}
-      {e = e} came looked line here at_last answer =
-      subst (λ (of : ConfigValues). StopsRun (Some looks) of (change a b) (change c f) e) same
-      (last_stopped {U = U} looks config (whole t came)
-      (subst (λ (r : Result (Option ℕ) WriteStop). WritesLooks looks config c d r) looked lines)
-      (line_of f shown last told newest (Err e) line here at_last answer))
+-- both came to their end
+watched_ended : {a b c d f : SinkState} {progress : Progress} {newest : Option ℕ} (looks : ℕ)
+    (config : ConfigValues) (result : Result WorldValue WriteStop)
+    → GainedText (change a b) (run_text config) → WritesLooks looks config c d (Ok newest)
+    → IsFinalWorld config progress.world → EndsWatched progress newest d f result
+    → RunsWatched looks config (change a b) (change c f) result
+watched_ended {progress = progress} {newest = newest} looks config (Ok world) log lines final ends =
+    record {
+      world = subst (IsFinalWorld config) (sym ends.world) final;
+      ok = log;
+      watched = all_watched {U = WorldValue} {u = world} looks config lines
+          (line_of progress newest final ends.line);
+      err = tt;
+    }
+watched_ended {progress = progress} {newest = newest} looks config (Err e) log lines final ends =
+    run_stopped e (last_stopped {U = WorldValue} looks config log lines
+    (line_of progress newest final ends.line))
 
-  -- the last line is written
-  pub all_ended : {U : Type 0} {f : SinkState} {shown : ConfigValues} {last : ℕ}
-      {told newest : Option ℕ} {t : T} {u : U} → ran ≡ Ok t → watched ≡ Ok newest
-      → WritesAll {T = U} d f (pictures_text shown (news told last last)) (Ok u) → shown ≡ config
-      → last ≡ config.updates → told ≡ newest
-      → GainedPictures looks other (change c f)
-  all_ended {U = U} {f = f} {shown = shown} {last = last} {told = told} {newest = newest} {t = t}
-      {u = u} came looked line here at_last answer =
-      subst (λ (of : ConfigValues). GainedPictures looks of (change c f)) same
-      (all_watched {U = U} {u = u} looks config
-      (subst (λ (r : Result (Option ℕ) WriteStop). WritesLooks looks config c d r) looked lines)
-      (line_of f shown last told newest (Ok u) line here at_last answer))
+-- a run ends by how its runner and its watcher ended
+pub run_ended : {a b c d f : SinkState} (looks : ℕ) (config : ConfigValues)
+    (ran : Result Progress WriteStop) (watched : Result (Option ℕ) WriteStop)
+    (result : Result WorldValue WriteStop)
+    → WritesLog config a b ran → WritesLooks looks config c d watched
+    → IfOk ran (λ after. IsFinalWorld config after.world) → EndsRun ran watched d f result
+    → RunsWatched looks config (change a b) (change c f) result
+run_ended looks config (Err e) watched result log lines final ends =
+    rw (ends.0, ends.1)
+    (run_stopped e (runner_stopped looks config watched (stopped config log) lines))
+run_ended looks config (Ok progress) (Err e) result log lines final ends =
+    rw (ends.0, ends.1) (run_stopped e (watcher_stopped looks config (whole config log) lines))
+run_ended looks config (Ok progress) (Ok newest) result log lines final ends =
+    watched_ended looks config result (whole config log) lines final ends
+
+-- an error that memory ran out stops a run with a watcher before anything was written
+pub stopped_early : (looks : ℕ) (config : ConfigValues) (out watch : SinkState)
+    (result : Result WorldValue WriteStop) → IsErrAnd result (λ error. error ≡ stop.Memory)
+    → RunsWatched looks config (change out out) (change watch watch) result
+stopped_early looks config out watch result is =
+    let error = err_from_is_err_and result is in
+    rw (error.1, error.2) (run_stopped stop.Memory (nothing_run looks config out watch))

@@ -11,7 +11,8 @@ use Rattle.world_config.specs.Shown.{values_of}
 use Rattle.world_config.specs.Values.{ConfigValues}
 use Rattle.world_core.specs.declared.picture.WorldPicture.{WorldPicture}
 use Rattle.logged_run.specs.declared.publishing.Progress.{Progress}
-use Rattle.logged_run.specs.Publishing.{HasCome}
+use Rattle.logged_run.specs.Beginnings.{IsNew}
+use Rattle.logged_run.specs.Publishing.{HasCome, IsBegun}
 use Rattle.logged_run.specs.Watching.{ArePictures, BeginsAs, IsHeard}
 
 -- the configuration of a picture's run
@@ -101,21 +102,39 @@ heard config update history told begins so =
 -- the last note of a run that has come so far is of all pictures up to the last one
 pub last_heard : (published : List WorldPicture) (progress : Progress)
     → HasCome published progress
-    → IsHeard (config_in progress.picture.value) progress.picture.value.update progress.note
+    → IsHeard progress.world.config progress.world.update progress.note
 last_heard published progress come =
-    record { told = by progress.note come.note; untold = λ e. come.update ∙ come.first e } where
-      shown : ArePictures (config_in progress.picture.value)
-          (progress.picture.value.update + 1) published
-      shown =
-          subst (λ (k : ConfigValues).
-          ArePictures k (progress.picture.value.update + 1) published) (sym come.config)
-          (subst (λ (n : ℕ). ArePictures progress.world.config (n + 1) published)
-          (sym come.update) come.pictures)
-
+    record { told = by progress.note come.note; untold = come.first } where
       by : (note : Option (List WorldPicture)) → IfSome note (λ told. told ≡ published)
-          → IfSome note (ArePictures (config_in progress.picture.value)
-          (progress.picture.value.update + 1))
+          → IfSome note (ArePictures progress.world.config (progress.world.update + 1))
       by None h = tt
       by (Some told) same =
-          subst (ArePictures (config_in progress.picture.value)
-          (progress.picture.value.update + 1)) (sym same) shown
+          subst (ArePictures progress.world.config (progress.world.update + 1)) (sym same)
+          come.pictures
+
+-- a run was begun where the picture of a new world is all that was published
+pub new_begun : (published : List WorldPicture) (progress : Progress)
+    → IsNew progress.world.config progress → published ≡ progress.picture.value ∷ []
+    → IsBegun progress.world.config published (Some progress)
+new_begun published progress new is = record {
+  progress = progress;
+  is = refl;
+  come = record {
+    pictures = rw (new.world_new, is) (first_pictures progress.world.config
+        progress.picture.value new.picture_new new.picture_config);
+    update = new.picture_new ∙ sym new.world_new;
+    config = new.picture_config;
+    note = rw new.untold tt;
+    first = λ none. new.world_new;
+  };
+  config_is = refl;
+  new = new.world_new;
+}
+
+-- who observes this picture sees the first one of the run
+pub new_observed : (observed : List WorldPicture) (progress : Progress)
+    → IsNew progress.world.config progress → observed ≡ progress.picture.value ∷ []
+    → BeginsAs progress.world.config observed
+new_observed observed progress new is =
+    rw is (first_pictures progress.world.config progress.picture.value new.picture_new
+    new.picture_config).begins

@@ -1,7 +1,5 @@
 -- What a run with a watcher leaves, by how the runner and the watcher ended.
-use Rattle.std.proofs.Common.{◌≡◌, ℕ, List, [], ◌∷◌, ◌++◌, Option, None, Some, IfErr, IfSome, Result, Ok, Err, refl, sym, append-nil, arith, inl, inr, subst}
-use Rattle.std.specs.Prelude.{IsErrAnd}
-use Rattle.std.proofs.lemmas.Result.{err_from_is_err_and}
+use Rattle.std.proofs.Common.{◌≡◌, ℕ, List, [], ◌∷◌, ◌++◌, Option, None, Some, IfSome, Result, Ok, Err, refl, sym, append-nil, arith, inl, inr, subst}
 use Rattle.avida_port.specs.Ports.{SinkState}
 use Rattle.world_config.specs.Values.{ConfigValues}
 use Rattle.written_texts.specs.declared.stop.WriteStop.{WriteStop}
@@ -165,11 +163,3 @@ nothing_run looks config out watch =
     log_stopped (Some looks) config (change watch watch)
     (nothing_written {T = Unit {0}} out (run_text config))
     (no_pictures looks config (change watch watch) refl)
-
--- an error that memory ran out stops a run with a watcher before anything was written
-pub stopped_early : {T : Type 0} (looks : ℕ) (config : ConfigValues) (out watch : SinkState)
-    (result : Result T WriteStop) → IsErrAnd result (λ error. error ≡ stop.Memory)
-    → IfErr result (StopsRun (Some looks) config (change out out) (change watch watch))
-stopped_early looks config out watch result is =
-    let error = err_from_is_err_and result is in
-    rw (error.1, error.2) (nothing_run looks config out watch)

@@ -8,7 +8,6 @@ use Rattle.world_config.specs.Values.{ConfigValues}
 use Rattle.world_core.specs.declared.picture.WorldPicture.{WorldPicture}
 use Rattle.world_rules.specs.Picture.{picture_of, picture_text}
 use Rattle.written_texts.specs.declared.stop.WriteStop.{WriteStop}
-use Rattle.written_texts.specs.declared.stop.WriteStop.TheVariants as stop
 use Rattle.written_texts.specs.WrittenText.{WritesAll}
 use Rattle.logged_run.specs.Watching.{AreSeen, BeginsAs, WritesLooks, newest_after, news}
 use Rattle.logged_run.specs.WatchText.{pictures_text}

@@ -1,6 +1,7 @@
 //! A run that writes its log, alone or with a watcher beside it.
 #![tactic(auto)]
 
+mod beginning;
 mod logging;
 mod publishing;
 mod run;

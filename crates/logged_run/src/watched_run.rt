@@ -1,20 +1,20 @@
 // A run with a watcher beside it.
-ghost use Rattle.std.specs.Prelude.{◌≡◌, ◌≤◌, IfOk, IfErr, OnOk, Some};
+ghost use Rattle.std.specs.Prelude.{◌≤◌, IfOk, OnOk};
 ghost use Rattle.world_config.specs.Shown.{values_of};
-ghost use Rattle.written_texts.specs.SinkChanges.{GainedText, change};
-ghost use Rattle.logged_run.specs.RunStops.{StopsRun};
+ghost use Rattle.written_texts.specs.SinkChanges.{change};
 ghost use Rattle.logged_run.specs.Publishing.{HasCome, IsBegun, WritesLog};
-ghost use Rattle.logged_run.specs.RunText.{IsFinalWorld, run_text};
+ghost use Rattle.logged_run.specs.RunText.{IsFinalWorld};
 ghost use Rattle.logged_run.specs.Watching.{BeginsAs, WritesLooks};
-ghost use Rattle.logged_run.specs.WatchText.{GainedPictures};
+ghost use Rattle.logged_run.specs.WatchedRun.{EndsRun, EndsWatched, IsAtEnd, RunsWatched};
 
+use crate::beginning::{Beginning, begin};
 use crate::publishing::{Progress, publish_run};
 use crate::watching::{write_last_picture, write_looks};
 use avida_port::{Gate, Sink};
-use published_world::{Observer, Publisher, publication};
+use published_world::{Observer, Publisher};
 use std::alloc::Global;
+use std::sync::Wait;
 use std::sync::atomic::AtomicBool;
-use std::sync::{Arc, Wait};
 use std::thread::{Threads, join_mut};
 use std::time::Clock;
 use world_config::Config;
@@ -54,12 +54,49 @@ fn side_by_side<R: Threads + Wait + Clock + Sync, O: Sink, W: Sink + Send, G: Ga
     )
 }
 
-/// Runs a world that was begun to its end beside its watcher, and then writes the line of the last
-/// picture. How the runner ended comes before how the watcher ended.
+/// Writes the line of a run's last picture where it is news, and leaves the run's world.
+fn end_watched<W: Sink>(
+    alloc: Global,
+    progress: Progress,
+    newest: Option<u32>,
+    observer: &mut Observer<WorldPicture>,
+    watch: &mut W,
+) -> Result<World, WriteStop>
+    requires { IsAtEnd observer.old progress }
+    ensures { EndsWatched progress newest (W.seen watch.old) (W.seen watch.new) result }
+{
+    let Progress {
+        world,
+        picture,
+        note,
+    } = progress;
+    write_last_picture(alloc, observer, picture, note, newest, watch)?;
+    Ok(world)
+}
+
+/// Ends a run whose runner and watcher ended so. How the runner ended comes before how the watcher
+/// ended, and the line of the last picture after both.
+fn end_run<W: Sink>(
+    alloc: Global,
+    ran: Result<Progress, WriteStop>,
+    watched: Result<Option<u32>, WriteStop>,
+    observer: &mut Observer<WorldPicture>,
+    watch: &mut W,
+) -> Result<World, WriteStop>
+    requires { OnOk watched (IfOk ran (IsAtEnd observer.old)) }
+    ensures { EndsRun ran watched (W.seen watch.old) (W.seen watch.new) result }
+{
+    let progress = ran?;
+    let newest = watched?;
+    end_watched(alloc, progress, newest, observer, watch)
+}
+
+/// Runs what was begun to its end beside its watcher, and then writes the line of the last picture.
 fn run_beside<R: Threads + Wait + Clock + Sync, O: Sink, W: Sink + Send, G: Gate + Sync>(
     rt: &R,
     alloc: Global,
-    progress: Progress,
+    config: &Config,
+    begun: &mut Option<Progress>,
     publisher: &mut Publisher<WorldPicture>,
     observer: &mut Observer<WorldPicture>,
     looks: u32,
@@ -67,30 +104,16 @@ fn run_beside<R: Threads + Wait + Clock + Sync, O: Sink, W: Sink + Send, G: Gate
     watch: &mut W,
     gate: &G,
 ) -> Result<World, WriteStop>
-    requires new { progress.world.update ≡ 0 }
-    requires come { HasCome publisher.old progress }
-    requires observer { BeginsAs progress.world.config observer.old }
-    ensures world { IfOk result (IsFinalWorld progress.world.config) }
-    ensures ok { OnOk result (GainedText (change (O.seen out.old) (O.seen out.new))
-        (run_text progress.world.config)) }
-    ensures watched { OnOk result (GainedPictures looks progress.world.config
-        (change (W.seen watch.old) (W.seen watch.new))) }
-    ensures err { IfErr result (StopsRun (Some looks) progress.world.config
-        (change (O.seen out.old) (O.seen out.new)) (change (W.seen watch.old) (W.seen watch.new))) }
+    requires begun { IsBegun (values_of config.now) publisher.old begun.old }
+    requires observer { BeginsAs (values_of config.now) observer.old }
+    ensures { RunsWatched looks (values_of config.now)
+        (change (O.seen out.old) (O.seen out.new)) (change (W.seen watch.old) (W.seen watch.new))
+        result }
 {
-    let config = Arc::try_clone(&progress.picture.config)?;
-    let mut begun = Some(progress);
     let (watched, ran) = side_by_side(
-        rt, alloc, &config, &mut begun, publisher, observer, looks, out, watch, gate,
+        rt, alloc, config, begun, publisher, observer, looks, out, watch, gate,
     );
-    let Progress {
-        world,
-        picture,
-        note,
-    } = ran?;
-    let newest = watched?;
-    write_last_picture(alloc, observer, picture, note, newest, watch)?;
-    Ok(world)
+    end_run(alloc, ran, watched, observer, watch)
 }
 
 /// Runs a configuration to its end and writes the log, with a watcher beside the run.
@@ -105,30 +128,21 @@ pub fn write_watched<R: Threads + Wait + Clock + Sync, O: Sink, W: Sink + Send, 
     gate: &G,
 ) -> Result<World, WriteStop>
     requires { (1 ≤ workers) × (workers ≤ 64) }
-    ensures world { IfOk result (IsFinalWorld (values_of config)) }
-    ensures ok { OnOk result (GainedText (change (O.seen out.old) (O.seen out.new))
-        (run_text (values_of config))) }
-    ensures watched { OnOk result (GainedPictures looks (values_of config)
-        (change (W.seen watch.old) (W.seen watch.new))) }
-    ensures err { IfErr result (StopsRun (Some looks) (values_of config)
-        (change (O.seen out.old) (O.seen out.new)) (change (W.seen watch.old) (W.seen watch.new))) }
+    ensures { RunsWatched looks (values_of config)
+        (change (O.seen out.old) (O.seen out.new)) (change (W.seen watch.old) (W.seen watch.new))
+        result }
 {
-    let world = World::found(rt, alloc, config, workers)?;
-    let picture = world.picture(alloc)?;
-    let first = Arc::try_clone(&picture)?;
-    let (mut publisher, mut observers) = publication(rt, alloc, first, 1)?;
-    let Some(mut observer) = observers.pop() else {
-        unreachable!()
-    };
-    let progress = Progress {
-        world,
-        picture,
-        note: None,
-    };
+    let Beginning {
+        config,
+        mut progress,
+        mut publisher,
+        mut observer,
+    } = begin(rt, alloc, config, workers)?;
     let run = run_beside(
         rt,
         alloc,
-        progress,
+        &config,
+        &mut progress,
         &mut publisher,
         &mut observer,
         looks,

@@ -1,0 +1,14 @@
+use Rattle.std.proofs.Common.{IfOk, subst, sym}
+use Rattle.world_config.specs.Values.{ConfigValues}
+use Rattle.logged_run.specs.Beginnings.{IsBeginning, IsNew}
+use Rattle.logged_run.proofs.beginning.begin.Goals as goal
+
+pub begin_published-requires : goal.begin_published-requires
+begin_published-requires g c =
+    subst (λ (of : ConfigValues). IsNew of c.in_ok-progress.progress)
+    (sym c.in_ok-progress.ensures.world_config) c.in_ok-progress.ensures
+
+pub returns : goal.returns
+returns g c =
+    subst (λ (of : ConfigValues). IfOk c.begin_published.result (IsBeginning of))
+    c.in_ok-progress.ensures.world_config c.begin_published.ensures

@@ -1,0 +1,20 @@
+use Rattle.std.proofs.Common.{refl}
+use Rattle.std.proofs.lemmas.Result.{err_from_is_err_and}
+use Rattle.logged_run.proofs.watched_run.end_run.Goals as goal
+
+pub returns-in_err-progress : goal.returns-in_err-progress
+returns-in_err-progress g c =
+    let p = err_from_is_err_and c.from_residual.result c.from_residual.ensures.1 in
+    rw (p.1, p.2, c.in_err-progress.was) (refl, refl)
+
+pub returns-in_err-newest : goal.returns-in_err-newest
+returns-in_err-newest g c =
+    let p = err_from_is_err_and c.from_residual-in_err-newest.result
+    c.from_residual-in_err-newest.ensures.1 in
+    rw (p.1, p.2, c.in_ok-progress.was, c.in_err-newest.was) (refl, refl)
+
+pub end_watched-requires : goal.end_watched-requires
+end_watched-requires g c = rw (c.in_ok-newest.was, c.in_ok-progress.was) at c.requires
+
+pub returns : goal.returns
+returns g c = rw (c.in_ok-progress.was, c.in_ok-newest.was) c.end_watched.ensures
