@@ -217,7 +217,7 @@ impl Population {
         for cell in 0..left.len() {
             count_again(&mut census, keys[cell], before[cell], standings[cell]);
         }
-        let lived = with_all_ids(alloc, &ids, births, &dead)?;
+        let lived = with_all_ids(alloc, &ids, births, &dead);
         let population = Population {
             cells: Residents {
                 organisms: left,
@@ -228,6 +228,7 @@ impl Population {
             genotypes,
             census,
         };
+        let lived = lived?;
         Ok((population, lived, brought))
     }
 

@@ -165,8 +165,8 @@ fn restore_all<R: Wait>(
     ensures update { OnOk result (scene.new.update ≡ scene.old.update) }
     ensures everyone { OnOk result (scene.new.everyone ≡ scene.old.everyone) }
 {
-    for resident in residents {
-        restore(rt, alloc, scene, head.memory_limit, resident)?;
+    for mut resident in residents {
+        restore(rt, alloc, scene, head.memory_limit, &mut resident)?;
     }
     Ok(())
 }
@@ -177,27 +177,22 @@ fn restore<R: Wait>(
     alloc: Global,
     scene: &mut Scene,
     memory_limit: u32,
-    resident: Resident,
+    resident: &mut Resident,
 ) -> Result<(), Memory>
-    requires cell { resident.cell < length scene.old.cells }
-    requires sound { IsSoundOrganism (organism_of_image resident.image memory_limit) }
-    requires age { resident.image.age < 2 ^ 48 }
+    requires cell { resident.old.cell < length scene.old.cells }
+    requires sound { IsSoundOrganism (organism_of_image resident.old.image memory_limit) }
+    requires age { resident.old.image.age < 2 ^ 48 }
     ensures update { OnOk result (scene.new.update ≡ scene.old.update) }
-    ensures cells { OnOk result (scene.new.cells ≡ slice_set scene.old.cells resident.cell
+    ensures cells { OnOk result (scene.new.cells ≡ slice_set scene.old.cells resident.old.cell
         (Some (record {
-          id = resident.id;
-          organism = organism_of_image resident.image memory_limit;
+          id = resident.old.id;
+          organism = organism_of_image resident.old.image memory_limit;
         }))) }
     ensures everyone { OnOk result (scene.new.everyone ≡ scene.old.everyone) }
 {
-    let Resident {
-        cell,
-        id,
-        mut image,
-    } = resident;
-    let number = intern_again(rt, alloc, scene, &mut image)?;
-    let organism = organism_of(alloc, &image, memory_limit)?;
-    scene.come_over(id, cell, number, organism)
+    let number = intern_again(rt, alloc, scene, &mut resident.image)?;
+    let organism = organism_of(alloc, &resident.image, memory_limit)?;
+    scene.come_over(resident.id, resident.cell, number, organism)
 }
 
 /// Interns the genome of an image, which from now on is that of the bank. After `Memory` drop the

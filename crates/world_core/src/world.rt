@@ -78,8 +78,8 @@ impl World {
         requires workers { (1 ≤ workers) × (workers ≤ 64) }
         ensures { IfOk result (λ world. (world.config ≡ values_of config) × (world.update ≡ 0)) }
     {
-        let mut scene = first_scene(rt, alloc, &config)?;
         let config = Arc::new(alloc, config)?;
+        let mut scene = first_scene(rt, alloc, &config)?;
         let tree = first_tree(alloc, &config, &mut scene)?;
         let stats = scene.stats(0);
         Ok(World {

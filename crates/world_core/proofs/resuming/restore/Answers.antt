@@ -11,7 +11,7 @@ use Rattle.world_core.proofs.resuming.restore.Goals as goal
 
 -- the organism has the values of the resident's image
 made : (g : given.Over) (c : In_ok-organism g)
-    → c.in_ok-organism.organism ≡ organism_of_image c.args.resident.image c.args.memory_limit
+    → c.in_ok-organism.organism ≡ organism_of_image c.args.resident.now.image c.args.memory_limit
 made g c = c.in_ok-organism.ensures ∙ c.in_ok-number.ensures.same c.args.memory_limit
 
 pub organism_of-requires : goal.organism_of-requires
@@ -56,8 +56,8 @@ pub returns-clause-cells : goal.returns-clause-cells
 returns-clause-cells g c =
     let own = made g (goal.at.returns-clause-cells g c).In_ok-organism in
     on_ok_weaker c.come_over.result (λ came. ap (λ (s : SceneValue). s.cells) came
-    ∙ (λ i. set (c.in_ok-number.ensures.scene i).cells c.args.resident.cell
-    (Some (record { id = c.args.resident.id; organism = own i })))) c.come_over.ensures
+    ∙ (λ i. set (c.in_ok-number.ensures.scene i).cells c.args.resident.now.cell
+    (Some (record { id = c.args.resident.now.id; organism = own i })))) c.come_over.ensures
 
 pub returns-clause-everyone : goal.returns-clause-everyone
 returns-clause-everyone g c =

@@ -1,6 +1,7 @@
 use Rattle.std.proofs.Common.{◌≡◌, ◌∙◌, ◌+◌, ◌<◌, ◌≤◌, ◌^◌, All, List, None, Option, ap, arith, get_or, length, map, subst, sum, sym, ℕ}
 use Rattle.std.proofs.lemmas.List.{length-map, map-id}
 use Rattle.std.proofs.lemmas.List.Elements.{All-same}
+use Rattle.std.proofs.lemmas.Result.{IfOk-at_ok}
 use Rattle.cell_shards.specs.CellLives.{round_numbers, standing_in}
 use Rattle.cell_shards.specs.declared.delivered.Delivered.{Delivered}
 use Rattle.instruction_set.specs.declared.letter.Letter.{Letter}
@@ -106,7 +107,7 @@ parents : (g : given.Over) (c : In_ok-lived g) → c.in_ok-lived.lived.births.it
       parent = get_or c.cells.inside.ids.items birth.cell 0;
       newborn = birth;
     }) c.in_ok-genotypes.ended.births.items
-parents g c = c.in_ok-lived.ensures.births
+parents g c = IfOk-at_ok _ c.in_ok-lived.was c.with_all_ids-lived.ensures.births
     ∙ ap (λ (numbers : List ℕ). map (λ (birth : Delivered).
     record { parent = get_or numbers birth.cell 0; newborn = birth })
     c.in_ok-genotypes.ended.births.items) c.deref-2.ensures.value
@@ -214,17 +215,17 @@ loop-cell-preserved g c =
     c.loop-cell.cell (inside g at.In-loop-cell) (goes g before c.loop-cell.cell)
     c.loop-cell.invariant (read g at.After-index-in-loop-cell-2) c.count_again.ensures
 
-pub with_all_ids-requires-clause-births : goal.with_all_ids-requires-clause-births
-with_all_ids-requires-clause-births g c =
-    let at = (goal.at.with_all_ids-requires-clause-births g c).In_ok-genotypes in
+pub with_all_ids-lived-requires-clause-births : goal.with_all_ids-lived-requires-clause-births
+with_all_ids-lived-requires-clause-births g c =
+    let at = (goal.at.with_all_ids-lived-requires-clause-births g c).In_ok-genotypes in
     subst (λ (n : ℕ). All (λ (birth : Delivered). birth.cell < n)
     c.in_ok-genotypes.ended.births.items) (sym (ap length c.deref-2.ensures.value))
     (births-within (apart g at) c.in_ok-genotypes.ended.births.items
     c.in_ok-genotypes.ensures.births)
 
-pub with_all_ids-requires-clause-dead : goal.with_all_ids-requires-clause-dead
-with_all_ids-requires-clause-dead g c =
-    let at = (goal.at.with_all_ids-requires-clause-dead g c).In_ok-genotypes in
+pub with_all_ids-lived-requires-clause-dead : goal.with_all_ids-lived-requires-clause-dead
+with_all_ids-lived-requires-clause-dead g c =
+    let at = (goal.at.with_all_ids-lived-requires-clause-dead g c).In_ok-genotypes in
     let dead = c.in_ok-genotypes.ended.dead.items in
     subst (λ (n : ℕ). All (λ (cell : ℕ). cell < n) c.deref-3.result.now)
     (sym (ap length c.deref-2.ensures.value))
@@ -267,7 +268,7 @@ pub returns-clause-dead : goal.returns-clause-dead
 returns-clause-dead g c =
     lived-dead (apart g (goal.at.returns-clause-dead g c).In_ok-genotypes)
     c.in_ok-genotypes.ended.dead.items c.in_ok-lived.lived.dead.items c.in_ok-genotypes.ensures.dead
-    (c.in_ok-lived.ensures.dead
+    (IfOk-at_ok _ c.in_ok-lived.was c.with_all_ids-lived.ensures.dead
     ∙ (λ i. map (departed_from (c.deref-2.ensures.value i)) (c.deref-3.ensures.value i)))
 
 pub returns-clause-bank : goal.returns-clause-bank
