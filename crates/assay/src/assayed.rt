@@ -13,8 +13,8 @@ pub struct Assay {
     pub deaths: u128,
     /// What is counted after the last update.
     pub last: Stats,
-    /// The genome that most of the living have after the last update. None exactly where nobody
-    /// lives.
+    /// The genome that most of the living have after the last update. None exactly if the world is
+    /// empty.
     pub dominant: Option<Genome>,
 }
 

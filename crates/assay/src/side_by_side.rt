@@ -13,8 +13,8 @@ use std::thread;
 use std::thread::Threads;
 use world_config::Config;
 
-/// Runs the configuration with so many seeds, from the first one on, side by side: each in a thread
-/// of its own, where one can be made, and as a world of its own with so many workers. The
+/// Runs the configuration with `count` consecutive seeds side by side, each in a thread of its own
+/// where one can be made, and each as a world of its own with `workers` workers. The
 /// configuration's own seed isn't used. The list is in order of the seeds. It may wait, since a
 /// world may.
 #[tactic(auto, unfolding(crate::specs::Assay::assay_list))]

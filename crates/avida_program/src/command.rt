@@ -23,7 +23,7 @@ pub enum Command {
         steps: u32,
         spelling: Spelling,
     },
-    /// With `looks` there is a watcher, which looks at most so often.
+    /// With `looks` there is a watcher, which looks at most `looks` times.
     Run {
         workers: u32,
         looks: Option<u32>,
@@ -36,7 +36,7 @@ pub enum Command {
         seed: u64,
         workers: u32,
     },
-    /// So many seeds, from the first one on, each as a world of its own with so many workers.
+    /// `count` consecutive seeds, each as a world of its own with `workers` workers.
     Assay {
         count: u32,
         first: u64,
@@ -45,7 +45,7 @@ pub enum Command {
     Save {
         workers: u32,
     },
-    /// So many updates more of a saved world.
+    /// `more` further updates of a saved world.
     Resume {
         more: u32,
         workers: u32,

@@ -23,7 +23,7 @@ use world_core::State;
 /// A genome or a configuration with more bytes is rejected as too long.
 pub const INPUT_LIMIT: usize = 1_048_576;
 
-/// Worlds that run side by side have at most so many cells together.
+/// The greatest number of cells that worlds side by side may have together.
 pub const MOST_CELLS: u32 = 131_072;
 
 /// Reads a source to its end. More bytes than the limit are rejected with `TooLong`.
@@ -109,8 +109,8 @@ pub fn read_config_with<S: Source>(
     }
 }
 
-/// Reads a configuration. So many of its worlds are rejected if together they have more cells than
-/// run side by side.
+/// Reads a configuration. It is rejected if its worlds together have more cells than may run side
+/// by side.
 pub fn read_config_for<S: Source>(
     alloc: Global,
     source: &mut S,
@@ -183,8 +183,8 @@ fn read_state<R: Wait, S: Source>(
     }
 }
 
-/// Reads a saved world. One that would go past the greatest update in so many more is rejected. It
-/// may wait, since it interns the genomes of the organisms.
+/// Reads a saved world. It is rejected if it would go past the greatest update. It may wait, since
+/// it interns the genomes of the organisms.
 pub fn read_state_for<R: Wait, S: Source>(
     rt: &R,
     alloc: Global,

@@ -16,7 +16,7 @@ pub enum Refusal {
     Saved(SavedStop),
     /// This cell is outside the world.
     Cell(u32),
-    /// So many cells are more than worlds may have that run side by side.
+    /// The worlds have this many cells together, more than may run side by side.
     Cells(u32),
     /// A saved world would come to this update, which is past the greatest.
     Updates(u64),

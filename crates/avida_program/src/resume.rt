@@ -98,8 +98,7 @@ fn write_continued<R: Threads + Wait + Sync, O: Sink, G: Gate + Sync>(
     written(write_on(rt, alloc, state, more, out, gate))
 }
 
-/// Reads a saved world, and writes what becomes of it in so many updates more, and the last line
-/// of a log.
+/// Reads a saved world, and writes the log of `more` further updates, with its last line.
 pub fn resume<R: Threads + Wait + Sync, S: Source, O: Sink, G: Gate + Sync>(
     rt: &R,
     alloc: Global,

@@ -78,7 +78,7 @@ pub fn leave(world: World, last: &mut Option<World>) -> Outcome
     Outcome::Done
 }
 
-/// Reads a configuration, and writes the log of its run, which replays to who lives at its end.
+/// Reads a configuration, and writes the log of its run, which replays to the living at its end.
 /// With `looks` there is a watcher, which writes lines of pictures to `watch`. On `Done` the last
 /// world is left in `last`, and otherwise `last` stays as it was.
 pub fn run<

@@ -151,8 +151,8 @@ fn write_assay<R: Threads + Wait + Sync, O: Sink, G: Gate + Sync>(
     }
 }
 
-/// Reads a configuration, runs it with so many seeds, from the first one on, and writes what
-/// becomes of them.
+/// Reads a configuration, runs it with `count` consecutive seeds, and writes the totals of each
+/// run.
 pub fn assay<R: Threads + Wait + Sync, S: Source, O: Sink, G: Gate + Sync>(
     rt: &R,
     alloc: Global,

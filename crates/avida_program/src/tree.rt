@@ -117,7 +117,7 @@ fn write_tree<O: Sink>(alloc: Global, log: &Log, out: &mut O) -> Outcome
     }
 }
 
-/// Reads a log, and writes how those who live at its end descend from each other.
+/// Reads a log, and writes how the organisms alive at its end descend from each other.
 pub fn tree<S: Source, O: Sink>(alloc: Global, source: &mut S, out: &mut O) -> Outcome
     ensures { (watch : SinkState) (last : Option WorldValue) → CarriesOut Tree (record {
       source = change (S.seen source.old) (S.seen source.new);

@@ -15,7 +15,7 @@ use std::alloc::Global;
 use std::sync::Wait;
 use world_core::State;
 
-/// Reads the bytes of a saved world as a world that goes on with so many workers, or tells the
+/// Reads the bytes of a saved world as a world that goes on with `workers` workers, or names the
 /// first faulty line. It may wait, since it interns the genomes of the organisms.
 pub fn read_saved<R: Wait>(
     rt: &R,

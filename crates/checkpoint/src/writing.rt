@@ -19,7 +19,7 @@ pub fn head_text(state: &State, out: &mut Vec<u8>) -> Result<(), Memory>
     write_head(&state.head(), out)
 }
 
-/// Appends the lines of who stands in a cell of the world, and nothing for an empty cell. When
+/// Appends the lines of the organism in a cell of the world, and nothing for an empty cell. When
 /// memory runs out `out` stays as it was.
 pub fn cell_text(state: &State, alloc: Global, cell: u32, out: &mut Vec<u8>) -> Result<(), Memory>
     requires { cell < state.now.head.width * state.now.head.height }

@@ -62,8 +62,9 @@ fn write_news<W: Sink>(
     Ok(Some(picture.update))
 }
 
-/// Looks so often, and writes the line of each picture that is news. It gives the newest update
-/// that was written. After a look that showed no news it sleeps, or ends where the run has ended.
+/// Looks at most `looks` times, and writes the line of each newer picture. It gives the newest
+/// update that was written. After a look that showed nothing newer it sleeps, or ends if the run
+/// has ended.
 pub fn write_looks<R: Clock, W: Sink>(
     rt: &R,
     alloc: Global,

@@ -1,4 +1,4 @@
-//! The world, one cell after another.
+//! The world: it is founded, goes through updates with any number of workers, and is saved.
 #![tactic(auto)]
 
 mod births;

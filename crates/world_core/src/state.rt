@@ -110,7 +110,7 @@ impl State {
         head_at(&self.config, self.scene.update, self.scene.next_id())
     }
 
-    /// Who stands in the cell; `Ok(None)` exactly where it is empty.
+    /// The organism in the cell; `Ok(None)` exactly if it is empty.
     pub fn resident(&self, alloc: Global, cell: u32) -> Result<Option<Resident>, Memory>
         requires { cell < self.now.head.width * self.now.head.height }
         ensures { IfOk result

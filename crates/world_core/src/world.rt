@@ -34,7 +34,7 @@ use world_laws::laws::organisms_are_sound;
 use world_rules::laws::ids_are_places;
 use world_tree::WorldTree;
 
-/// The world of a configuration after so many updates. Only `found`, `advance` and
+/// The world of a configuration after some number of updates. Only `found`, `advance` and
 /// `RunningWorld::into_world` make one.
 #[derive(Drop)]
 pub struct World {
@@ -226,7 +226,7 @@ impl World {
         Ok(Arc::new(alloc, picture)?)
     }
 
-    /// The genome of who stands in the cell; None exactly where it is empty.
+    /// The genome of the organism in the cell; None exactly if it is empty.
     pub fn genome_at(&self, cell: u32) -> Option<&Genome>
         requires { cell < self.now.config.width * self.now.config.height }
         ensures { option_map (λ genome. letters genome.now) result
@@ -235,8 +235,8 @@ impl World {
         self.scene.cells.cells().genome_at(cell as usize)
     }
 
-    /// The number of the genome of who stands in the cell, which is its place in the bank; None
-    /// exactly where it is empty.
+    /// The number of the genome in the cell, which is its place in the bank; None exactly if the
+    /// cell is empty.
     pub fn handle_at(&self, cell: u32) -> Option<u64>
         requires { cell < self.now.config.width * self.now.config.height }
         ensures { option_map (λ number. slice_get self.now.bank number) result
@@ -245,7 +245,8 @@ impl World {
         self.scene.cells.number_at(cell)
     }
 
-    /// The line of who stands in the cell, its founder first; `Ok(None)` exactly where it is empty.
+    /// The line of descent of the organism in the cell, its founder first; `Ok(None)` exactly if it
+    /// is empty.
     pub fn lineage(&self, alloc: Global, cell: u32) -> Result<Option<Path>, Memory>
         requires { cell < self.now.config.width * self.now.config.height }
         ensures { IfOk result (λ path. path ≡ line_in (world_in self.now) cell) }
