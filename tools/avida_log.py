@@ -373,6 +373,10 @@ def name_of(path):
     return "standard input" if path == STANDARD_INPUT else str(path)
 
 
+def is_folder(path):
+    return not hasattr(path, "read") and path != STANDARD_INPUT and Path(path).is_dir()
+
+
 def watched(path):
     try:
         if path != STANDARD_INPUT:
@@ -401,15 +405,18 @@ def opened(path):
 
 @contextmanager
 def opened_plain(path):
-    """The same as a file of its own, which the program can read."""
-    with opened(path) as file:
-        if not isinstance(file, gzip.GzipFile):
-            yield file
-            return
-        with tempfile.TemporaryFile() as plain:
-            shutil.copyfileobj(file, plain)
-            plain.seek(0)
-            yield plain
+    """The same as a file of its own, which the program can read. Of a folder it is the whole log."""
+    with tempfile.TemporaryFile() as plain:
+        if is_folder(path):
+            plain.writelines(f"{line}\n".encode("latin-1") for line in Lines(path))
+        else:
+            with opened(path) as file:
+                if not isinstance(file, gzip.GzipFile):
+                    yield file
+                    return
+                shutil.copyfileobj(file, plain)
+        plain.seek(0)
+        yield plain
 
 
 def keep(path):
@@ -445,7 +452,7 @@ class Piece(NamedTuple):
 
 def pieces_of(path):
     """The pieces of a log in their order. In a folder hidden files and those that end in .part are left out."""
-    if hasattr(path, "read") or path == STANDARD_INPUT or not Path(path).is_dir():
+    if not is_folder(path):
         return [Piece(0, path)]
     files = [file for file in Path(path).iterdir() if file.is_file() and file.name[0] != "." and file.suffix != ".part"]
     pieces = sorted(filter(None, map(Piece.of, files)))
@@ -571,8 +578,7 @@ class World:
         start = Start.of(fields)
         self.width, self.height = start.width, start.height
         self.cells = [None] * (self.width * self.height)
-        if not start.cell < len(self.cells):
-            raise Misfit(f"cell {start.cell} isn't in a world of {self.width} by {self.height} cells")
+        self.holder(start.cell)
         self.cells[start.cell] = 0
         self.genomes = {0: start.letters}
         # Of each id that lives, and of each that died in this update, since a child may still name it.
@@ -581,7 +587,7 @@ class World:
         self.births, self.update = [0], None
 
     def settle(self, cell, over, id, parent, genome):
-        held = self.cells[cell] if cell >= 0 else None
+        held = self.holder(cell)
         if held is not None and over != "-" and held == int(over):
             self.gone.append(held)
         elif held is not None or over != "-":
@@ -591,8 +597,13 @@ class World:
         self.genomes[id], self.parents[id] = genome, parent
         self.births.append(id)
 
+    def holder(self, cell):
+        if not 0 <= cell < len(self.cells):
+            raise Misfit(f"cell {cell} isn't in a world of {len(self.cells)} cells")
+        return self.cells[cell]
+
     def leave(self, cell, id):
-        if self.cells[cell] != id:
+        if self.holder(cell) != id:
             raise Misfit(f"organism {id} doesn't stand in cell {cell}")
         self.cells[cell] = None
         self.gone.append(id)
@@ -644,8 +655,6 @@ def worlds_of(path):
                 world.take(fields)
         except Misfit as why:
             raise lines.fault(why) from None
-        except IndexError:
-            raise lines.fault("its cell isn't in the world") from None
         except ValueError:
             raise lines.fault(cause_of(line)) from None
         if fields[0] == "U" or fields[0] == "L":
@@ -766,6 +775,7 @@ def arguments(description, **how):
 
 def run(main):
     """Runs a tool, and says in one line what the user can mend."""
+    Progress.tool = Path(sys.argv[0]).name
     try:
         sys.exit(main())
     except Fault as fault:
