@@ -297,7 +297,7 @@ def cause_of(line):
     >>> cause_of("B 3 1 26")
     'a B line has 7 fields after its mark, and this one has 3'
     >>> cause_of("D 3 x 4")
-    "its update is 'x', and not a number"
+    "its field update has 'x', which is no number"
     """
     mark, *fields = line.split(" ")
     if mark not in FIELDS:
@@ -309,14 +309,14 @@ def cause_of(line):
         if name == "letters" or (name == "base" and field != "="):
             reason = fault_of_letters(field)
             if reason:
-                return f"its {name} is no genome: {reason}"
+                return f"its field {name} is no genome: {reason}"
         elif name == "changes":
             if field != "-" and not ARE_CHANGES(field):
-                return f"its changes are {field[:20]!r}, and not as p50q,i7z,d12"
+                return f"its field changes has {field[:20]!r}, which isn't as p50q,i7z,d12"
         elif name in ("name", "base") or (name == "over" and field == "-"):
             continue
         elif not re.fullmatch("[0-9]+", field):
-            return f"its {name} is {field[:20]!r}, and not a number"
+            return f"its field {name} has {field[:20]!r}, which is no number"
     return "it doesn't fit those before it"
 
 
@@ -584,22 +584,24 @@ class World:
         # Of each id that lives, and of each that died in this update, since a child may still name it.
         self.parents = {0: None}
         self.gone = []
-        self.births, self.update = [0], None
+        self.births, self.update, self.next_id, self.due = [0], None, 1, "1"
 
     def settle(self, cell, over, id, parent, genome):
+        if id != self.next_id:
+            raise Misfit(f"its organism is {id}, and the next one is {self.next_id}")
+        self.next_id += 1
         held = self.holder(cell)
         if held is not None and over != "-" and held == int(over):
             self.gone.append(held)
         elif held is not None or over != "-":
-            stands = "nobody" if held is None else f"organism {held}"
-            raise Misfit(f"its line has {over} for who stood in cell {cell}, where {stands} stands")
+            raise Misfit(f"its line has {over} for who stood in cell {cell}, where {'-' if held is None else held} stands")
         self.cells[cell] = id
         self.genomes[id], self.parents[id] = genome, parent
         self.births.append(id)
 
     def holder(self, cell):
         if not 0 <= cell < len(self.cells):
-            raise Misfit(f"cell {cell} isn't in a world of {len(self.cells)} cells")
+            raise Misfit("its cell isn't in the world")
         return self.cells[cell]
 
     def leave(self, cell, id):
@@ -611,7 +613,7 @@ class World:
     def take(self, fields):
         mark = fields[0]
         if mark == "B":
-            _, id, parent, _, cell, over, base, changes = fields
+            _, id, parent, update, cell, over, base, changes = fields
             above = int(parent)
             genome = self.genomes.get(above)
             if genome is None:
@@ -620,18 +622,24 @@ class World:
                 genome = applied(genome, base, changes)
             self.settle(int(cell), over, int(id), above, genome)
         elif mark == "U":
+            _, update, *_ = fields
             self.update = Update.of(fields)
         elif mark == "D" or mark == "X":
-            _, id, _, cell = fields
+            _, id, update, cell = fields
             self.leave(int(cell), int(id))
         elif mark == "I":
-            _, id, _, cell, over, letters = fields
+            _, id, update, cell, over, letters = fields
             self.settle(int(cell), over, int(id), None, letters)
-        elif mark != "R" and mark != "E":
+        elif mark == "R" or mark == "E":
+            return
+        else:
             raise ValueError(mark)
+        if update != self.due:
+            raise Misfit(f"its update is {update}, and {self.due} is due")
 
     def forget(self):
         """Drops what the next update doesn't need."""
+        self.due = str(self.update.number + 1 if self.update else 1)
         for id in self.gone:
             del self.genomes[id], self.parents[id]
         self.gone, self.births = [], []

@@ -1,9 +1,10 @@
-"""Installs Debian packages for a check, where it may."""
+"""What a check needs of Debian: whether it is there, and how it is installed, where that may be."""
 
 import os
 import shutil
 import signal
 import subprocess
+import sys
 import time
 from contextlib import contextmanager
 from pathlib import Path
@@ -78,3 +79,17 @@ def provide(missing, name, seconds=170):
         raise Left(f"missing packages, {' '.join(packages)}: {why}") from None
     if missing():
         raise Left(f"missing packages, {' '.join(missing())}: apt-get installed them elsewhere")
+
+
+def python_with(*modules):
+    """A Python that has these modules, or None: the one that runs this, or Debian's own."""
+    for python in (sys.executable, "/usr/bin/python3"):
+        words = [python, "-c", f"import {', '.join(modules)}"]
+        if os.path.exists(python) and subprocess.run(words, capture_output=True).returncode == 0:
+            return python
+    return None
+
+
+def has_r_package(name):
+    words = ["Rscript", "-e", f"library({name})"]
+    return bool(shutil.which("Rscript")) and subprocess.run(words, capture_output=True).returncode == 0

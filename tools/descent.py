@@ -109,6 +109,8 @@ class Descent:
                 if its_update != due:
                     raise Misfit(f"its update is {its_update}, and {due} is due")
                 cell = int(cell)
+                if not 0 <= cell < len(holders):
+                    raise Misfit("its cell isn't in the world")
                 stands = holders[cell]
                 if stands != over:
                     raise Misfit(f"its line has {over} for who stood in cell {cell}, where {stands} stands")
@@ -122,10 +124,9 @@ class Descent:
                 self.next_id += 1
                 holders[cell] = id
                 node_of[id] = node
-        except (Misfit, ValueError, IndexError) as why:
+        except ValueError as why:
             lines.number -= len(held) - 1 - at
-            cause = "its cell isn't in the world" if isinstance(why, IndexError) else cause_of(line)
-            raise lines.fault(why if isinstance(why, Misfit) else cause) from None
+            raise lines.fault(why if isinstance(why, Misfit) else cause_of(line)) from None
 
     def node_at(self, above, line, base, changes):
         """The node of a newborn whose parent is of that node. It is a new one but where the genome is the same."""
@@ -147,6 +148,8 @@ class Descent:
     def found(self, line):
         start = Start.of(line.split(" "))
         self.holders += [EMPTY] * (start.width * start.height)
+        if not start.cell < len(self.holders):
+            raise Misfit("its cell isn't in the world")
         self.holders[start.cell] = "0"
         self.node_of["0"], self.next_id = self.node_at(NOBODY, line, start.letters, "-"), 1
 

@@ -8,14 +8,17 @@ import gzip
 import io
 import json
 import os
+import pty
+import select
 import shutil
 import subprocess
 import sys
+from contextlib import suppress
 from pathlib import Path
 
 import debian
 from avida_log import TASKS, TOP, Births, Death, Update, applied, program, read_log, updates_of
-from debian import Left
+from debian import Left, has_r_package, python_with
 
 TOOLS = TOP / "tools"
 PROGRAM = program()
@@ -116,9 +119,12 @@ class Logs:
         self.module()
         self.kinds_of_logs()
         self.tables()
-        self.readers()
+        self.counts()
+        self.avida_files()
         self.long_lines()
+        self.progress()
         self.refusals()
+        self.readers()
 
     # The module.
 
@@ -262,7 +268,7 @@ class Logs:
 
     def readers(self):
         """The programs of others read what phylogeny writes, and agree with the command tree."""
-        missing = lambda: sorted([package for name, package in MODULES.items() if not python_with(name)] + [APE] * (not has_ape()))
+        missing = lambda: sorted([package for name, package in MODULES.items() if not python_with(name)] + [APE] * (not has_r_package("ape")))
         try:
             debian.provide(missing, NAME, SECONDS_TO_INSTALL)
         except Left as why:
@@ -274,7 +280,7 @@ class Logs:
             for name, code in (("dendropy", DENDROPY), ("Bio", BIOPYTHON)):
                 if python_with(name):
                     self.reads(name, [python_with(name), "-c", code, tree], log)
-            if has_ape():
+            if has_r_package("ape"):
                 self.reads("ape", ["Rscript", "-e", APE_LINES, tree], log)
             if python_with("pandas"):
                 self.pandas(log)
@@ -332,56 +338,195 @@ class Logs:
         self.check("phylogeny --all: everybody is a tip", tips.count("(") == count and tips.count(":0,") == count, tips[-100:])
         self.check("phylogeny --genotypes: one of them all", self.text_of([TOOLS / "phylogeny", log, "--genotypes", "--format", "newick"]) == "(0:0)0:0;\n")
 
-    # Bad input.
+    # Counts.
+
+    def counts(self):
+        """counts against the U lines."""
+        updates = updates_of(self.events)
+        rows = list(csv.DictReader(io.StringIO(self.text_of([TOOLS / "counts", self.events]))))
+        names = ["update", "living", "births", "deaths", "genotypes", "merit"]
+        wanted = [[*map(str, update[:6]), *map(str, update.tasks)] for update in updates]
+        tasks = [task.lower() for task in TASKS]
+        self.check("counts: the header", list(rows[0]) == [*names, "mean_merit", *tasks], list(rows[0]))
+        self.check("counts: what each U line has", [[row[name] for name in (*names, *tasks)] for row in rows] == wanted)
+        means = [update.merit / update.living for update in updates]
+        self.check("counts: mean merit", all(abs(float(row["mean_merit"]) / mean - 1) < 1e-9 for row, mean in zip(rows, means)))
+        few = self.text_of([TOOLS / "counts", self.events, "--every", "50", "--format", "tsv"]).splitlines()
+        self.check("counts --every 50, as TSV", [line.split("\t")[:6] for line in few[1:]] == [wanted[49][:6], wanted[99][:6]], few)
+        mean = self.text_of([TOOLS / "counts", self.events, "--every", "50", "--average"]).splitlines()
+        groups = [updates[:50], updates[50:100], updates[100:]]
+        ours = [[line.split(",")[0], *map(float, line.split(",")[1:3])] for line in mean[1:]]
+        by_hand = [[str(group[-1].number), *(sum(update[at] for update in group) / len(group) for at in (1, 2))] for group in groups]
+        self.check("counts --average: means of 50, 50 and 20 updates", ours == by_hand, mean)
+        cut = self.room / "short.log"
+        cut.write_bytes(self.events.read_bytes()[:-30])
+        self.check("counts of a cut log", self.text_of([TOOLS / "counts", cut]).count("\n") == len(updates_of(cut)) + 1)
+        empty = self.room / "empty.log"
+        empty.write_text("L 2 1 1 0 wzcagcvf\nD 0 1 0\nU 1 0 0 1 0 0 0 0 0 0 0 0 0 0 0\nE 1\n")
+        self.check("counts of an empty world: no mean merit", self.text_of([TOOLS / "counts", empty]).endswith("\n1,0,0,1,0,0,,0,0,0,0,0,0,0,0,0\n"))
+
+    def avida_files(self):
+        """The values of Avida's files, counted here once more from the records and from the program's own commands."""
+        data = self.room / "data"
+        self.text_of([TOOLS / "avida-files", self.events, "-o", data, "--every", "40", "--traces", "120"])
+        files = {name: self.columns(data / name) for name in ("count.dat", "tasks.dat", "average.dat", "dominant.dat")}
+        updates = {update.number: update for update in updates_of(self.events)}
+        # By Avida's column numbers.
+        for at, what in ((3, "living"), (4, "genotypes"), (9, "births"), (10, "deaths"), (14, "living")):
+            column = files["count.dat"][1][at - 1]
+            self.check(f"count.dat, column {at}", column[1:] == [str(getattr(updates[update], what)) for update in (40, 80, 120)], column)
+        for at in (2, 5, 16):
+            name, column = files["count.dat"][0][at - 1], files["count.dat"][1][at - 1]
+            self.check(f"count.dat: column {at} is left out by name", name.startswith("left out: number of ") and set(column) == {"nan"}, (name, column))
+        for name, (names, columns) in files.items():
+            self.check(f"{name}: the updates", columns[0] == ["0", "40", "80", "120"], columns[0])
+            self.check(f"{name}: a name for each column", len(names) == len(columns) and names[0].lower() == "update", names)
+        tasks = [list(column) for column in zip(*(map(str, updates[update].tasks) for update in (40, 80, 120)))]
+        self.check("tasks.dat: the nine tasks", [column[1:] for column in files["tasks.dat"][1][1:]] == tasks)
+        self.check("tasks.dat: Avida's names", files["tasks.dat"][0][1:] == "Not Nand And OrNot Or AndNot Nor Xor Equals".split())
+        self.counted_again(files)
+        self.traced(files)
+        plain = self.room / "plain"
+        self.text_of([TOOLS / "avida-files", "-", "-o", plain], self.events.read_bytes())
+        names, columns = self.columns(plain / "average.dat")
+        self.check("average.dat: a row for each hundredth update", columns[0] == ["0", "100"], columns[0])
+        self.check("average.dat: without traces gestation time is left out", names[2] == "left out: Gestation Time" and set(columns[2]) == {"nan"}, names)
+
+    def columns(self, path):
+        """The names in a file's comments, and its columns."""
+        lines = path.read_text().splitlines()
+        names = [line.split(": ", 1) for line in lines if line.startswith("#") and line[1:].split(":")[0].strip().isdigit()]
+        self.check(f"{path.name}: its columns are numbered", [int(number[1:]) for number, _ in names] == list(range(1, len(names) + 1)))
+        rows = [line.split() for line in lines if line and line[0] != "#"]
+        return [name for _, name in names], [list(column) for column in zip(*rows)]
+
+    def counted_again(self, files):
+        genomes, alive, mothers, true, divides, births = {}, {}, set(), set(), {}, 0
+        rows = []
+        for record in read_log(self.events):
+            if hasattr(record, "letters"):
+                id = getattr(record, "id", 0)
+                genomes[id], alive[record.cell], divides[id] = record.letters, id, 0
+            elif hasattr(record, "parent"):
+                genomes[record.id], alive[record.cell] = record.genome(genomes[record.parent]), record.id
+                mothers.add(record.parent)
+                divides[record.parent] += 1
+                divides[record.id] = divides[record.parent]
+                if genomes[record.id] == genomes[record.parent]:
+                    true.add(record.id)
+                    births += 1
+            elif hasattr(record, "cell"):
+                del alive[record.cell]
+            elif isinstance(record, Update):
+                if record.number % 40 == 0:
+                    ids = set(alive.values())
+                    rows.append((births, len(true & ids), len(ids - mothers), sum(divides[id] for id in ids) / len(ids)))
+                births = 0
+        counts, average = files["count.dat"][1], files["average.dat"][1]
+        seen = [tuple(map(float, row)) for row in zip(counts[10][1:], counts[11][1:], counts[12][1:], average[12][1:])]
+        same = all(abs(one - other) <= 1e-5 * other for row, wanted in zip(seen, rows) for one, other in zip(row, wanted))
+        self.check("count.dat and average.dat: breed true, without a birth, and generations", same and len(seen) == 3, (seen, rows))
+
+    def traced(self, files):
+        lines = self.text_of([PROGRAM, "replay"], self.events.read_bytes()).split()[2::3]
+        found = {}
+        for letters in set(lines):
+            trace = self.text_of([PROGRAM, "trace", 20 * len(letters)], letters.encode()).splitlines()
+            step = next((line.split() for line in trace if " divide " in line), None)
+            if step:
+                found[letters] = int(step[0]), *map(int, step[-4:-1])
+        most = max(map(lines.count, lines))
+        dominant = min(letters for letters in lines if lines.count(letters) == most)
+        step, executed, copied, merit = found[dominant]
+        wanted = [merit, step, merit / step, "nan", len(dominant), copied, executed, most]
+        row = [column[-1] for column in files["dominant.dat"][1][1:9]]
+        same = all(str(one) == other or abs(float(other) / one - 1) < 1e-5 for one, other in zip(wanted, row))
+        self.check("dominant.dat: the trace of the most frequent genome", same, (wanted, row))
+        divide = [found[letters] for letters in lines if letters in found]
+        wanted = [sum(each[0] for each in divide) / len(divide), sum(each[3] / each[0] for each in divide) / len(lines)]
+        row = [float(column[-1]) for column in files["average.dat"][1][2:4]]
+        same = all(abs(one / other - 1) < 1e-5 for one, other in zip(wanted, row))
+        self.check("average.dat: gestation time and fitness of all who live", same, (wanted, row))
+        self.check("average.dat: no traces in other rows", files["average.dat"][1][2][:3] == ["389", "nan", "nan"], files["average.dat"][1][2])
+
+    # Terminals and bad input.
+
+    def progress(self):
+        """On a terminal a tool says how much it has read, once that has taken a second, and then takes it away."""
+        leader, follower = pty.openpty()
+        text = self.events.read_bytes()
+        given = subprocess.Popen([TOOLS / "phylogeny", "-"], stdin=subprocess.PIPE, stdout=subprocess.DEVNULL, stderr=follower)
+        os.close(follower)
+        said, at = b"", 0
+        while not said and at < len(text):
+            given.stdin.write(text[at : at + 200])
+            given.stdin.flush()
+            at += 200
+            if select.select([leader], [], [], 0.2)[0]:
+                said += os.read(leader, 1000)
+        given.stdin.write(text[at:])
+        given.stdin.close()
+        # Linux ends the reading of a terminal that nobody holds any more by an error.
+        with suppress(OSError):
+            while block := os.read(leader, 1000):
+                said += block
+        os.close(leader)
+        self.check("phylogeny ends well on a terminal", given.wait() == 0, said)
+        self.check("phylogeny says on a terminal how much is read", b"\r\x1b[Kphylogeny: standard input: 0 MB, " in said and said.endswith(b"\r\x1b[K"), said)
 
     def refusals(self):
         """Each tool says what is wrong with a log in one line, with its name, its line and the cause."""
         good = "L 2 2 1 0 wzcagcvf\nB 1 0 1 1 - = p2q\nU 1 2 1 0 2 16 0 0 0 0 0 0 0 0 0\nB 2 1 2 0 0 = -\nU 2 2 1 1 1 16 0 0 0 0 0 0 0 0 0\nE 2\n"
         self.check("the good log of the wrong ones is good", ran([PROGRAM, "replay"], good.encode()).returncode == 0)
         log = self.room / "wrong.log"
-        for old, new, said in (
-            ("L 2 2 1 0", "A 2 2 1 0", "{log}: this isn't a log: its first line doesn't begin with L"),
-            (good, "", "{log}: this isn't a log: it is empty"),
-            (good, good[:9], "{log}: this log is cut in its first line"),
-            ("wzcagcvf", "wzcagcv", "{log}:1: its letters is no genome: short 7"),
-            ("wzcagcvf", "wzcagcvF", "{log}:1: its letters is no genome: letter at 7"),
-            ("B 1 0 1 1 - = p2q", "B 1 0 1 1 - =", "{log}:2: a B line has 7 fields after its mark, and this one has 6"),
-            ("B 1 0 1 1 - = p2q", "Q 1 0 1 1 - =", "{log}:2: no line of a log begins with 'Q'"),
-            ("B 1 0 1 1 - = p2q", "", "{log}:2: it is empty"),
-            ("B 1 0 1", "B 1 7 1", "{log}:2: its parent 7 doesn't live"),
-            ("1 1 - = p2q", "1 x - = p2q", "{log}:2: its cell is 'x', and not a number"),
-            ("1 1 - = p2q", "1 9 - = p2q", "{log}:2: its cell isn't in the world"),
-            ("1 1 - = p2q", "1 1 - = p8q", "{log}:2: the change p8q has no place in a genome of 8 letters"),
-            ("B 2 1 2 0 0", "B 2 1 2 0 -", "{log}:4: its line has - for who stood in cell 0, where 0 stands"),
-            ("B 2 1 2 0 0", "B 3 1 2 0 0", "{log}:4: its organism is 3, and the next one is 2"),
-            ("B 2 1 2 0 0", "B 2 1 3 0 0", "{log}:4: its update is 3, and 2 is due"),
-            ("U 2 2 1", "U 2 2 ä", "{log}:5: its births is 'Ã¤', and not a number"),
-            ("E 2\n", "E 2\nE 2\n", "{log}:7: a line stands after the E line"),
-            ("E 2\n", "E x\n", "{log}:6: its updates is 'x', and not a number"),
+        worlds = (["phylogeny", log], ["phylogeny", log, "--genotypes"], ["avida-files", log, "-o", self.room / "wrong"])
+        all = (*worlds, ["counts", log])
+        for old, new, said, tools in (
+            ("L 2 2 1 0", "A 2 2 1 0", "{log}: this isn't a log: its first line doesn't begin with L", all),
+            (good, "", "{log}: this isn't a log: it is empty", all),
+            (good, good[:9], "{log}: this log is cut in its first line", all),
+            ("wzcagcvf", "wzcagcv", "{log}:1: its field letters is no genome: short 7", worlds),
+            ("wzcagcvf", "wzcagcvF", "{log}:1: its field letters is no genome: letter at 7", worlds),
+            ("L 2 2 1 0", "L 2 2 1 2", "{log}:1: its cell isn't in the world", worlds),
+            ("B 1 0 1 1 - = p2q", "B 1 0 1 1 - =", "{log}:2: a B line has 7 fields after its mark, and this one has 6", worlds),
+            ("B 1 0 1 1 - = p2q", "Q 1 0 1 1 - =", "{log}:2: no line of a log begins with 'Q'", worlds),
+            ("B 1 0 1 1 - = p2q", "", "{log}:2: it is empty", worlds),
+            ("B 1 0 1", "B 1 7 1", "{log}:2: its parent 7 doesn't live", worlds),
+            ("1 1 - = p2q", "1 x - = p2q", "{log}:2: its field cell has 'x', which is no number", worlds),
+            ("1 1 - = p2q", "1 9 - = p2q", "{log}:2: its cell isn't in the world", worlds),
+            ("1 1 - = p2q", "1 1 - = p8q", "{log}:2: the change p8q has no place in a genome of 8 letters", worlds[1:]),
+            ("B 2 1 2 0 0", "B 2 1 2 0 -", "{log}:4: its line has - for who stood in cell 0, where 0 stands", worlds),
+            ("B 2 1 2 0 0", "B 3 1 2 0 0", "{log}:4: its organism is 3, and the next one is 2", worlds),
+            ("B 2 1 2 0 0", "B 2 1 3 0 0", "{log}:4: its update is 3, and 2 is due", worlds),
+            ("U 2 2 1", "U 2 2 ä", "{log}:5: its field births has 'Ã¤', which is no number", all),
+            ("E 2\n", "E 2\nE 2\n", "{log}:7: a line stands after the E line", all),
+            ("E 2\n", "E x\n", "{log}:6: its field updates has 'x', which is no number", all),
         ):
             log.write_text(good.replace(old, new, 1), encoding="utf-8")
-            for words in (["phylogeny", log, "--genotypes"],):
-                done = ran([TOOLS / words[0], *words[1:]])
-                wanted = f"{words[0]}: {said.format(log=log)}\n"
-                self.check(f"{words[0]}: {said}", (done.returncode, done.stderr.decode()) == (1, wanted), done.stderr.decode())
+            for name, *words in tools:
+                done = ran([TOOLS / name, *words])
+                wanted = f"{name}: {said.format(log=log)}\n"
+                self.check(f"{name}: {said}", (done.returncode, done.stderr.decode()) == (1, wanted), done.stderr.decode())
+        self.check("avida-files of a wrong log leaves no file", not list((self.room / "wrong").iterdir()))
+        self.wrong_words()
+
+    def wrong_words(self):
+        for name in ("phylogeny", "counts", "avida-files"):
+            done = ran([TOOLS / name, "--help"])
+            self.check(f"{name} --help", done.returncode == 0 and f"usage: {name}".encode() in done.stdout, done.stderr)
         for words, said in (
-            ([self.events, "--until", 121], f"{self.events}: it has no update 121: its last one is 120"),
-            ([self.events, "--until", -1], "--until -1: updates are counted from 0"),
-            ([self.events, "--genomes", "--format", "newick"], "--genomes is a column of the table, and a tree has none"),
-            ([TOP / "tools"], "tools: in a folder of one log one file begins with an L line, and here no file"),
-            (["no/such"], "no/such: No such file or directory"),
+            (["phylogeny", self.events, "--until", 121], f"{self.events}: it has no update 121: its last one is 120"),
+            (["phylogeny", self.events, "--until", -1], "--until -1: updates are counted from 0"),
+            (["phylogeny", self.events, "--genomes", "--format", "newick"], "--genomes is a column of the table, and a tree has none"),
+            (["phylogeny", TOP / "tools"], "tools: in a folder of one log one file begins with an L line, and here no file"),
+            (["phylogeny", "no/such"], "no/such: No such file or directory"),
+            (["counts", "no/such"], "no/such: No such file or directory"),
+            (["counts", self.events, "--every", 0], "--every 0: it is at least 1"),
+            (["avida-files", "no/such", "-o", self.room / "none"], "no/such: No such file or directory"),
+            (["avida-files", self.events, "-o", self.events], f"{self.events}: File exists"),
+            (["avida-files", self.events, "--every", 0], "--every 0: it is at least 1"),
+            (["avida-files", self.events, "--every", 40, "--traces", 50], "--traces 50: it is a multiple of --every, 40"),
         ):
-            done = ran([TOOLS / "phylogeny", *words])
-            self.check(f"phylogeny: {said}", done.returncode == 1 and said in done.stderr.decode() and done.stderr.count(b"\n") == 1, done.stderr)
-
-
-def python_with(module):
-    """A Python that has this module, or None: the one that runs this, or Debian's own."""
-    for python in (sys.executable, "/usr/bin/python3"):
-        if os.path.exists(python) and ran([python, "-c", f"import {module}"]).returncode == 0:
-            return python
-    return None
-
-
-def has_ape():
-    return bool(shutil.which("Rscript")) and ran(["Rscript", "-e", "library(ape)"]).returncode == 0
+            done = ran([TOOLS / words[0], *words[1:]])
+            wanted = done.returncode == 1 and said in done.stderr.decode() and done.stderr.count(b"\n") == 1
+            self.check(f"{words[0]}: {said}", wanted, done.stderr)
