@@ -578,7 +578,8 @@ class World:
         start = Start.of(fields)
         self.width, self.height = start.width, start.height
         self.cells = [None] * (self.width * self.height)
-        self.holder(start.cell)
+        if not start.cell < len(self.cells):
+            raise Misfit("its cell isn't in the world")
         self.cells[start.cell] = 0
         self.genomes = {0: start.letters}
         # Of each id that lives, and of each that died in this update, since a child may still name it.
@@ -590,22 +591,22 @@ class World:
         if id != self.next_id:
             raise Misfit(f"its organism is {id}, and the next one is {self.next_id}")
         self.next_id += 1
-        held = self.holder(cell)
+        cells = self.cells
+        if not 0 <= cell < len(cells):
+            raise Misfit("its cell isn't in the world")
+        held = cells[cell]
         if held is not None and over != "-" and held == int(over):
             self.gone.append(held)
         elif held is not None or over != "-":
             raise Misfit(f"its line has {over} for who stood in cell {cell}, where {'-' if held is None else held} stands")
-        self.cells[cell] = id
+        cells[cell] = id
         self.genomes[id], self.parents[id] = genome, parent
         self.births.append(id)
 
-    def holder(self, cell):
+    def leave(self, cell, id):
         if not 0 <= cell < len(self.cells):
             raise Misfit("its cell isn't in the world")
-        return self.cells[cell]
-
-    def leave(self, cell, id):
-        if self.holder(cell) != id:
+        if self.cells[cell] != id:
             raise Misfit(f"organism {id} doesn't stand in cell {cell}")
         self.cells[cell] = None
         self.gone.append(id)
@@ -785,7 +786,9 @@ def run(main):
     """Runs a tool, and says in one line what the user can mend."""
     Progress.tool = Path(sys.argv[0]).name
     try:
-        sys.exit(main())
+        status = main()
+        sys.stdout.flush()
+        sys.exit(status)
     except Fault as fault:
         print(f"{Path(sys.argv[0]).name}: {fault}", file=sys.stderr)
         sys.exit(1)
@@ -795,3 +798,7 @@ def run(main):
         # Whoever read the output has enough of it, as head does.
         os.dup2(os.open(os.devnull, os.O_WRONLY), 1)
         sys.exit(141)
+    except OSError as error:
+        print(f"{Path(sys.argv[0]).name}: {error.filename or 'its output'}: {error.strerror}", file=sys.stderr)
+        os.dup2(os.open(os.devnull, os.O_WRONLY), 1)
+        sys.exit(1)

@@ -220,11 +220,12 @@ def newick_of(tree):
     # The place after the last is that of a root above all founders, at update 0.
     origins.append(0)
     parents = array("q", (count if above == NOBODY else above for above in tree.parents))
-    # The first child of each node, and the next child of the same parent.
-    first, following = array("q", [NOBODY]) * (count + 1), array("q", [NOBODY]) * (count + 1)
-    for node in range(count - 1, -1, -1):
-        following[node], first[parents[node]] = first[parents[node]], node
+    first, following = children_of(parents)
     root = count if following[first[count]] != NOBODY else first[count]
+
+    def label(node):
+        return f"{ids[node]}:{origins[node] - origins[parents[node]]}"
+
     parts, node = [], root
     while True:
         # Down to a node without children, and then up to one that has a next one.
@@ -233,16 +234,14 @@ def newick_of(tree):
             parts.append("(")
             if node != count and (tree.is_all or tree.lives(node)):
                 parts.append(f"{ids[node]}:0" + ("," if child != NOBODY else ")"))
-        elif node != root:
-            parts.append(f"{ids[node]}:{origins[node] - origins[parents[node]]}")
+        else:
+            parts.append(label(node))
         if child != NOBODY:
             node = child
             continue
         while node != root and following[node] == NOBODY:
             node = parents[node]
-            parts.append(")")
-            if node != root:
-                parts.append(f"{ids[node]}:{origins[node] - origins[parents[node]]}")
+            parts.append(f"){label(node)}" if node != root else ")")
         if node == root:
             break
         node = following[node]
@@ -252,3 +251,13 @@ def newick_of(tree):
             parts = []
     parts.append("founders;" if root == count else f"{ids[root]}:{origins[root]};")
     yield "".join(parts)
+
+
+def children_of(parents):
+    """The first child of each node, and the next child of the same parent, where parents come before their children. The root
+    has the place after the last node.
+    """
+    first, following = array("q", [NOBODY]) * (len(parents) + 1), array("q", [NOBODY]) * (len(parents) + 1)
+    for node in range(len(parents) - 1, -1, -1):
+        following[node], first[parents[node]] = first[parents[node]], node
+    return first, following

@@ -194,8 +194,11 @@ class Logs:
         (folder / "world.saved").write_text("S 1 12 9\n")
         (folder / "next.log.part").write_text("U 3")
         self.check("phylogeny of a folder of pieces", self.text_of([TOOLS / "phylogeny", folder]) == whole)
-        line = [TOOLS / "lineage", self.events, "360"]
-        self.check("lineage of a folder of pieces", self.text_of([line[0], folder, "360"]) == self.text_of(line))
+        for name, more in (("lineage", ["360"]), ("tasks", []), ("counts", []), ("map", ["-o", self.room / "page.html", "--title", "a"])):
+            file = self.text_of([TOOLS / name, self.events, *more]).replace(str(self.events), str(folder))
+            page = (self.room / "page.html").read_bytes() if name == "map" else None
+            self.check(f"{name} of a folder of pieces", self.text_of([TOOLS / name, folder, *more]) == file)
+            self.check(f"{name} of a folder writes the same page", name != "map" or (self.room / "page.html").read_bytes() == page)
         (folder / "b.log.gz").unlink()
         done = ran([TOOLS / "phylogeny", folder])
         self.check("a piece that is missing is told", b"a.log: it begins with update 71, and the piece before it ends with update 40" in done.stderr, done.stderr)
@@ -335,8 +338,14 @@ class Logs:
         self.check("phylogeny: a tree as deep as a line of 200,000", tree.startswith("(" * count + f"{count}:1)") and tree.endswith(")0:0;\n"))
         self.check("phylogeny: the table of such a line", self.text_of([TOOLS / "phylogeny", log]).count("\n") == count + 2)
         tips = self.text_of([TOOLS / "phylogeny", log, "--format", "newick", "--all"])
+        self.check("phylogeny --all takes less than 1 KB for each of them", self.memory_of([TOOLS / "phylogeny", log, "--all"]) < 1024 * count)
         self.check("phylogeny --all: everybody is a tip", tips.count("(") == count and tips.count(":0,") == count, tips[-100:])
         self.check("phylogeny --genotypes: one of them all", self.text_of([TOOLS / "phylogeny", log, "--genotypes", "--format", "newick"]) == "(0:0)0:0;\n")
+
+    def memory_of(self, words):
+        """The most bytes of memory that a tool holds while it runs."""
+        code = "import resource, subprocess, sys; subprocess.run(sys.argv[1:], stdout=-3); print(resource.getrusage(resource.RUSAGE_CHILDREN).ru_maxrss)"
+        return 1024 * int(self.text_of([sys.executable, "-c", code, *words]))
 
     # Counts.
 
@@ -509,6 +518,11 @@ class Logs:
                 self.check(f"{name}: {said}", (done.returncode, done.stderr.decode()) == (1, wanted), done.stderr.decode())
         self.check("avida-files of a wrong log leaves no file", not list((self.room / "wrong").iterdir()))
         self.wrong_words()
+        if os.path.exists("/dev/full"):
+            with open("/dev/full", "w") as full:
+                done = subprocess.run([TOOLS / "counts", self.events], stdout=full, stderr=subprocess.PIPE)
+            said = b"counts: its output: No space left on device\n"
+            self.check("counts onto a full disk says so", (done.returncode, done.stderr) == (1, said), done.stderr)
 
     def wrong_words(self):
         for name in ("phylogeny", "counts", "avida-files"):
