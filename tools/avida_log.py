@@ -104,6 +104,11 @@ def fault_of_letters(text):
     return fault_of_length(text)
 
 
+def are_of_a_birth(base, changes):
+    """Whether these have the forms of a birth's base and changes."""
+    return (base == "=" or IS_GENOME(base)) and (changes == "-" or ARE_CHANGES(changes))
+
+
 def applied(parent, base, changes):
     """The genome that a birth's base and changes make of the parent's.
 
@@ -113,6 +118,8 @@ def applied(parent, base, changes):
     'aaaaaaaa'
     """
     letters = parent if base == "=" else base
+    if not are_of_a_birth(base, changes):
+        raise ValueError(base, changes)
     if changes == "-":
         return letters
     for change in changes.split(","):
@@ -124,10 +131,8 @@ def applied(parent, base, changes):
             letters = letters[:at] + change[-1] + letters[at + 1 :]
         elif kind == "i":
             letters = letters[:at] + change[-1] + letters[at:]
-        elif kind == "d":
-            letters = letters[:at] + letters[at + 1 :]
         else:
-            raise Misfit(f"{change} is no change")
+            letters = letters[:at] + letters[at + 1 :]
     return letters
 
 
@@ -185,7 +190,7 @@ class Birth(NamedTuple):
     @classmethod
     def of(cls, fields):
         _, id, parent, update, cell, over, base, changes = fields
-        if (base != "=" and not IS_GENOME(base)) or (changes != "-" and not ARE_CHANGES(changes)):
+        if not are_of_a_birth(base, changes):
             raise ValueError(base, changes)
         return cls(int(id), int(parent), int(update), int(cell), None if over == "-" else int(over), base, changes)
 
@@ -630,8 +635,15 @@ class World:
             self.leave(int(cell), int(id))
         elif mark == "I":
             _, id, update, cell, over, letters = fields
+            if not IS_GENOME(letters):
+                raise ValueError(letters)
             self.settle(int(cell), over, int(id), None, letters)
-        elif mark == "R" or mark == "E":
+        elif mark == "R":
+            return
+        elif mark == "E":
+            last = self.update.number if self.update else 0
+            if End.of(fields).updates != last:
+                raise Misfit(f"its update is {fields[1]}, and the last one is {last}")
             return
         else:
             raise ValueError(mark)

@@ -11,7 +11,7 @@
 from array import array
 from itertools import accumulate, compress
 
-from avida_log import RECORDS, Fault, Lines, Misfit, Start, Update, applied, cause_of, name_of
+from avida_log import IS_GENOME, RECORDS, End, Fault, Lines, Misfit, Start, Update, applied, are_of_a_birth, cause_of, name_of
 
 NOBODY, NO_END = -1, -1
 # Who stands in an empty cell, as the log has it.
@@ -89,9 +89,13 @@ class Descent:
                     above = node_of.get(parent)
                     if above is None:
                         raise Misfit(f"its parent {parent} doesn't live")
+                    if not are_of_a_birth(base, changes):
+                        raise ValueError(line)
                     node = self.node_at(above, line, base, changes)
                 elif mark == "I":
                     _, id, its_update, cell, over, letters = line.split(" ")
+                    if not IS_GENOME(letters):
+                        raise ValueError(line)
                     node = self.node_at(NOBODY, line, letters, "-")
                 elif mark == "D" or mark == "X":
                     _, id, its_update, cell = line.split(" ")
@@ -102,7 +106,10 @@ class Descent:
                 elif mark == "L":
                     self.found(line)
                     continue
-                elif mark == "R" or mark == "E":
+                elif mark == "E":
+                    self.end(line)
+                    continue
+                elif mark == "R":
                     continue
                 else:
                     raise ValueError(line)
@@ -169,6 +176,11 @@ class Descent:
         for id in self.gone:
             del self.node_of[id]
         self.gone = []
+
+    def end(self, line):
+        last = End.of(line.split(" ")).updates
+        if last != self.update:
+            raise Misfit(f"its update is {last}, and the last one is {self.update}")
 
     def drop_others(self):
         """Drops the nodes that don't live and have no living descendants."""

@@ -503,12 +503,15 @@ class Logs:
             ("B 1 0 1", "B 1 7 1", "{log}:2: its parent 7 doesn't live", worlds),
             ("1 1 - = p2q", "1 x - = p2q", "{log}:2: its field cell has 'x', which is no number", worlds),
             ("1 1 - = p2q", "1 9 - = p2q", "{log}:2: its cell isn't in the world", worlds),
+            ("1 1 - = p2q", "1 1 - = p2q,", "{log}:2: its field changes has 'p2q,', which isn't as p50q,i7z,d12", worlds),
+            ("1 1 - = p2q", "1 1 - wzc p2q", "{log}:2: its field base is no genome: short 3", worlds),
             ("1 1 - = p2q", "1 1 - = p8q", "{log}:2: the change p8q has no place in a genome of 8 letters", worlds[1:]),
             ("B 2 1 2 0 0", "B 2 1 2 0 -", "{log}:4: its line has - for who stood in cell 0, where 0 stands", worlds),
             ("B 2 1 2 0 0", "B 3 1 2 0 0", "{log}:4: its organism is 3, and the next one is 2", worlds),
             ("B 2 1 2 0 0", "B 2 1 3 0 0", "{log}:4: its update is 3, and 2 is due", worlds),
             ("U 2 2 1", "U 2 2 ä", "{log}:5: its field births has 'Ã¤', which is no number", all),
             ("E 2\n", "E 2\nE 2\n", "{log}:7: a line stands after the E line", all),
+            ("E 2\n", "E 3\n", "{log}:6: its update is 3, and the last one is 2", worlds),
             ("E 2\n", "E x\n", "{log}:6: its field updates has 'x', which is no number", all),
         ):
             log.write_text(good.replace(old, new, 1), encoding="utf-8")
