@@ -409,6 +409,16 @@ def opened(path):
 
 
 @contextmanager
+def as_text(file):
+    """The text of a file of bytes, which stays open. Each byte is one character, so that each line can be told of."""
+    text = io.TextIOWrapper(file, encoding="latin-1", newline="\n")
+    try:
+        yield text
+    finally:
+        text.detach()
+
+
+@contextmanager
 def opened_plain(path):
     """The same as a file of its own, which the program can read. Of a folder it is the whole log."""
     with tempfile.TemporaryFile() as plain:
@@ -491,8 +501,7 @@ class Lines:
                 end = f"ends with update {before}" if self.is_whole else "is cut"
                 raise Fault(f"{self.piece.path}: it begins with update {self.piece.update}, and the piece before it {end}")
             is_last, self.number, self.is_whole = at + 1 == len(self.pieces), 0, False
-            with opened(self.piece.path) as file:
-                text = io.TextIOWrapper(file, encoding="latin-1", newline="\n")
+            with opened(self.piece.path) as file, as_text(file) as text:
                 if not at:
                     self.number, first = 1, text.readline()
                     if not first.startswith("L "):

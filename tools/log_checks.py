@@ -488,7 +488,7 @@ class Logs:
         good = "L 2 2 1 0 wzcagcvf\nB 1 0 1 1 - = p2q\nU 1 2 1 0 2 16 0 0 0 0 0 0 0 0 0\nB 2 1 2 0 0 = -\nU 2 2 1 1 1 16 0 0 0 0 0 0 0 0 0\nE 2\n"
         self.check("the good log of the wrong ones is good", ran([PROGRAM, "replay"], good.encode()).returncode == 0)
         log = self.room / "wrong.log"
-        worlds = (["phylogeny", log], ["phylogeny", log, "--genotypes"], ["avida-files", log, "-o", self.room / "wrong"])
+        worlds = (["phylogeny", log], ["phylogeny", log, "--genotypes"], ["avida-files", log, "-o", self.room / "wrong"], ["map", log])
         all = (*worlds, ["counts", log])
         for old, new, said, tools in (
             ("L 2 2 1 0", "A 2 2 1 0", "{log}: this isn't a log: its first line doesn't begin with L", all),
