@@ -561,8 +561,8 @@ def read_log(log, marks=None):
 
 
 def updates_of(path):
-    """The `U` lines of a log."""
-    return list(read_log(path, "U"))
+    """The `U` lines of a log. Standard input can be read once more after it."""
+    return list(read_log(keep(path), "U"))
 
 
 def first_updates(updates):

@@ -166,7 +166,7 @@ class Logs:
         for name, more in (("tasks", []), ("lineage", ["360"]), ("plot", ["-o", self.room / "stdin.svg"]), ("map", ["-o", self.room / "stdin.html", "--title", "a"])):
             if name == "plot" and not shutil.which("gnuplot"):
                 continue
-            file = self.text_of([TOOLS / name, self.events, *more]).replace(str(self.events), "standard input")
+            file = self.text_of([TOOLS / name, self.events, *more]).replace(str(self.events), "-")
             self.check(f"{name} of standard input", self.text_of([TOOLS / name, "-", *more], text) == file)
         self.pieces(whole, text)
         cut = self.room / "cut.log"
