@@ -266,9 +266,7 @@ def newick_of(tree):
 
 
 def children_of(parents):
-    """The first child of each node, and the next child of the same parent, where parents come before their children. The root
-    has the place after the last node.
-    """
+    """The first child of each node, and the next child of the same parent. The root has the place after the last node."""
     first, following = array("q", [NOBODY]) * (len(parents) + 1), array("q", [NOBODY]) * (len(parents) + 1)
     for node in range(len(parents) - 1, -1, -1):
         following[node], first[parents[node]] = first[parents[node]], node

@@ -519,6 +519,10 @@ class Logs:
                 done = ran([TOOLS / name, *words])
                 wanted = f"{name}: {said.format(log=log)}\n"
                 self.check(f"{name}: {said}", (done.returncode, done.stderr.decode()) == (1, wanted), done.stderr.decode())
+        log.write_text(good.replace("p2q", "p8q"))
+        done = ran([TOOLS / "phylogeny", log, "--genomes"])
+        said = b"phylogeny: the line of organism 1: the change p8q has no place in a genome of 8 letters\n"
+        self.check("phylogeny --genomes: a change without a place", (done.returncode, done.stderr) == (1, said), done.stderr)
         self.check("avida-files of a wrong log leaves no file", not list((self.room / "wrong").iterdir()))
         self.wrong_words()
         if os.path.exists("/dev/full"):
