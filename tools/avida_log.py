@@ -1,6 +1,37 @@
-"""What the tools of this folder share: the lines of a log, the instructions, and how the program is run.
+"""The log of a run for other programs, and what the tools of this folder share.
 
-The forms are those of docs/FORMATS.md. A tool trusts a log's order, which the program's replay checks.
+`read_log` gives a log's lines one after another as records with names, and keeps none of them. It needs nothing but
+Python's own library, and this file alone can be copied elsewhere.
+
+    from avida_log import Birth, read_log
+
+    for record in read_log("seed5.log"):
+        if isinstance(record, Birth) and record.update > 9000:
+            print(record.id, record.parent, record.changes)
+
+A log is a file, perhaps compressed by gzip; `-`, standard input; a folder whose files are the pieces of one log; or an
+open file of bytes. Its forms are those of docs/FORMATS.md, "The log":
+
+- Times are updates. Update 0 is the founding, and the first update is 1.
+- Cells are numbered row by row from 0, places in a genome from 0, and ids from 0, which is the founder's.
+- A genome is a text of letters from a to z, one for each instruction.
+- Rates are in parts per million (ppm).
+
+A piece of a log is what `run` or `resume` writes: the first one begins with an `L` line, and each other one with the
+update after the last one of the piece before. The `E` lines between them are left out. A log may be cut: a last piece of
+a line is left out, and then no `E` line comes. A line that has no form raises a Fault, which names it. Whether the lines
+fit each other is for the program's replay to say; `worlds_of` names only what it can't go on from.
+
+    >>> log = TOP / "examples" / "events" / "output"
+    >>> records = list(read_log(log))
+    >>> records[0].width, records[0].height, len(records[0].letters)
+    (12, 9, 100)
+    >>> [record for record in records if isinstance(record, Rate)]
+    [Rate(update=30, name='copy_error', ppm=90000), Rate(update=90, name='site_insert', ppm=0)]
+    >>> records[-1]
+    End(updates=120)
+    >>> max(update.living for update in read_log(log, "U"))
+    56
 """
 
 import argparse
@@ -12,8 +43,10 @@ import shutil
 import subprocess
 import sys
 import tempfile
+import time
 import zlib
 from array import array
+from bisect import bisect
 from contextlib import contextmanager
 from pathlib import Path
 from typing import NamedTuple
@@ -39,11 +72,21 @@ LEAST_LENGTH, GREATEST_LENGTH = 8, 8192
 # it stood above 0, and the counts after the last update.
 TAPE_HEADER = ("seed", "from", "to", *(task.lower() for task in TASKS), *(f"{task.lower()}_end" for task in TASKS))
 
-CHANGES = re.compile(r"([pi])(\d+)([a-z])|(d)(\d+)")
+STANDARD_INPUT = "-"
 
 
 class Fault(Exception):
     """Something that the user can mend. Its text says what and where."""
+
+
+class Misfit(ValueError):
+    """Why a line doesn't fit those before it."""
+
+
+# Genomes.
+
+IS_GENOME = re.compile(f"[a-z]{{{LEAST_LENGTH},{GREATEST_LENGTH}}}").fullmatch
+ARE_CHANGES = re.compile(r"(?:p\d+[a-z]|i\d+[a-z]|d\d+)(?:,(?:p\d+[a-z]|i\d+[a-z]|d\d+))*").fullmatch
 
 
 def fault_of_length(letters):
@@ -61,24 +104,158 @@ def fault_of_letters(text):
     return fault_of_length(text)
 
 
+def are_of_a_birth(base, changes):
+    """Whether these have the forms of a birth's base and changes."""
+    return (base == "=" or IS_GENOME(base)) and (changes == "-" or ARE_CHANGES(changes))
+
+
 def applied(parent, base, changes):
-    """The genome that a birth's record makes of the parent's."""
+    """The genome that a birth's base and changes make of the parent's.
+
+    >>> applied("wzcagcvf", "=", "p0a,i8b,d1")
+    'acagcvfb'
+    >>> applied("wzcagcvf", "aaaaaaaa", "-")
+    'aaaaaaaa'
+    """
     letters = parent if base == "=" else base
+    if not are_of_a_birth(base, changes):
+        raise ValueError(base, changes)
     if changes == "-":
         return letters
-    letters = list(letters)
-    for kind, place, letter, delete, gone in CHANGES.findall(changes):
-        if delete:
-            del letters[int(gone)]
-        elif kind == "p":
-            letters[int(place)] = letter
+    for change in changes.split(","):
+        kind = change[0]
+        at = int(change[1:] if kind == "d" else change[1:-1])
+        if not 0 <= at < len(letters) + (kind == "i"):
+            raise Misfit(f"the change {change} has no place in a genome of {len(letters)} letters")
+        if kind == "p":
+            letters = letters[:at] + change[-1] + letters[at + 1 :]
+        elif kind == "i":
+            letters = letters[:at] + change[-1] + letters[at:]
         else:
-            letters.insert(int(place), letter)
-    return "".join(letters)
+            letters = letters[:at] + letters[at + 1 :]
+    return letters
+
+
+# Records: a log's lines.
+
+
+class Start(NamedTuple):
+    """An `L` line: the world's columns and rows, the founder's cell and its genome. The founder's id is 0."""
+
+    version: int
+    width: int
+    height: int
+    cell: int
+    letters: str
+
+    @classmethod
+    def of(cls, fields):
+        _, version, width, height, cell, letters = fields
+        if not IS_GENOME(letters):
+            raise ValueError(letters)
+        return cls(int(version), int(width), int(height), int(cell), letters)
+
+
+class Death(NamedTuple):
+    """A `D` line: an organism died of age in this update, and its cell became empty."""
+
+    id: int
+    update: int
+    cell: int
+
+    @classmethod
+    def of(cls, fields):
+        _, id, update, cell = fields
+        return cls(int(id), int(update), int(cell))
+
+
+class Birth(NamedTuple):
+    """A `B` line: an organism was born in this update, and put into this cell.
+
+    `over` is the id of the organism that stood there and so died, or None. `base` is `=` for the parent's genome, or the
+    letters that were copied; `changes` is `-`, or what then changed in them, as `p50q,i7z,d12`.
+
+    >>> Birth.of("B 7 3 12 45 - = p4k,d9".split(" "))
+    Birth(id=7, parent=3, update=12, cell=45, over=None, base='=', changes='p4k,d9')
+    """
+
+    id: int
+    parent: int
+    update: int
+    cell: int
+    over: int | None
+    base: str
+    changes: str
+
+    @classmethod
+    def of(cls, fields):
+        _, id, parent, update, cell, over, base, changes = fields
+        if not are_of_a_birth(base, changes):
+            raise ValueError(base, changes)
+        return cls(int(id), int(parent), int(update), int(cell), None if over == "-" else int(over), base, changes)
+
+    def genome(self, parent):
+        """The child's genome, of the parent's.
+
+        >>> Birth(1, 0, 13, 7, None, "=", "p2q").genome("wzcagcvf")
+        'wzqagcvf'
+        """
+        return applied(parent, self.base, self.changes)
+
+
+class Injection(NamedTuple):
+    """An `I` line: an event of this update put an organism with this genome into a cell. `over` is as in a birth."""
+
+    id: int
+    update: int
+    cell: int
+    over: int | None
+    letters: str
+
+    @classmethod
+    def of(cls, fields):
+        _, id, update, cell, over, letters = fields
+        if not IS_GENOME(letters):
+            raise ValueError(letters)
+        return cls(int(id), int(update), int(cell), None if over == "-" else int(over), letters)
+
+
+class Clearing(NamedTuple):
+    """An `X` line: an event of this update killed the organism in a cell."""
+
+    id: int
+    update: int
+    cell: int
+
+    @classmethod
+    def of(cls, fields):
+        _, id, update, cell = fields
+        return cls(int(id), int(update), int(cell))
+
+
+class Rate(NamedTuple):
+    """An `R` line: from the next update on the rate of this key is so many ppm."""
+
+    update: int
+    name: str
+    ppm: int
+
+    @classmethod
+    def of(cls, fields):
+        _, update, name, ppm = fields
+        return cls(int(update), name, int(ppm))
 
 
 class Update(NamedTuple):
-    """A `U` line."""
+    """A `U` line: what is counted at the end of an update.
+
+    `living`, `genotypes`, `merit` (the sum of all) and `tasks` are of those who live then; `births` and `deaths` are of
+    this update alone. `tasks` has a count of organisms for each of TASKS.
+
+    >>> update = Update.of("U 60 9 0 0 8 841 2 0 0 0 0 0 0 0 0".split(" "))
+    >>> update.number, update.living, round(update.mean_merit(), 3), dict(zip(TASKS, update.tasks))["NOT"]
+    (60, 9, 93.444, 2)
+    """
 
     number: int
     living: int
@@ -96,64 +273,296 @@ class Update(NamedTuple):
         return cls(*numbers[:6], tuple(numbers[6:]))
 
     def mean_merit(self):
+        """The mean merit of the living, or None in an empty world."""
         return self.merit / self.living if self.living else None
+
+
+class End(NamedTuple):
+    """The `E` line, which ends a log that is whole: the number of its updates."""
+
+    updates: int
+
+    @classmethod
+    def of(cls, fields):
+        _, updates = fields
+        return cls(int(updates))
+
+
+RECORDS = {"L": Start, "D": Death, "B": Birth, "I": Injection, "X": Clearing, "R": Rate, "U": Update, "E": End}
+# The fields of a line after its mark, and where a line of each mark has its update.
+FIELDS = {mark: record._fields for mark, record in RECORDS.items()} | {
+    "U": ("update", *Update._fields[1:6], *(f"count of {task}" for task in TASKS))
+}
+PLACE_OF_UPDATE = {"D": 2, "B": 3, "I": 2, "X": 2, "R": 1, "U": 1, "E": 1}
+
+
+def cause_of(line):
+    """Why a line isn't one of a log.
+
+    >>> cause_of("B 3 1 26")
+    'a B line has 7 fields after its mark, and this one has 3'
+    >>> cause_of("D 3 x 4")
+    "its field update has 'x', which is no number"
+    """
+    mark, *fields = line.split(" ")
+    if mark not in FIELDS:
+        return f"no line of a log begins with {mark[:20]!r}" if mark else "it is empty"
+    names = FIELDS[mark]
+    if len(fields) != len(names):
+        return f"a {mark} line has {len(names)} fields after its mark, and this one has {len(fields)}"
+    for name, field in zip(names, fields):
+        if name == "letters" or (name == "base" and field != "="):
+            reason = fault_of_letters(field)
+            if reason:
+                return f"its field {name} is no genome: {reason}"
+        elif name == "changes":
+            if field != "-" and not ARE_CHANGES(field):
+                return f"its field changes has {field[:20]!r}, which isn't as p50q,i7z,d12"
+        elif name in ("name", "base") or (name == "over" and field == "-"):
+            continue
+        elif not re.fullmatch("[0-9]+", field):
+            return f"its field {name} has {field[:20]!r}, which is no number"
+    return "it doesn't fit those before it"
+
+
+# Files.
+
+
+class Progress:
+    """Says on a terminal, in one line of standard error, how much of a file was read, once that has taken a second."""
+
+    # The name that the line begins with, which `run` gives. Without one nothing is said.
+    tool = None
+
+    def __init__(self, name, size):
+        self.name, self.size, self.done, self.is_shown = name, size, 0, False
+        self.is_on = bool(self.tool) and sys.stderr.isatty()
+        self.begun = self.last = time.monotonic()
+
+    def add(self, count):
+        self.done += count
+        now = time.monotonic()
+        if self.is_on and now - self.begun >= 1 and now - self.last >= 0.2:
+            share = f"{100 * self.done // self.size} % of {self.size / 1e6:.0f} MB" if self.size else f"{self.done / 1e6:.0f} MB"
+            sys.stderr.write(f"\r\033[K{self.tool}: {self.name}: {share}, {now - self.begun:.0f} s")
+            sys.stderr.flush()
+            self.last, self.is_shown = now, True
+
+    def end(self):
+        if self.is_shown:
+            sys.stderr.write("\r\033[K")
+            sys.stderr.flush()
+
+
+class Watched(io.FileIO):
+    """A file that tells a Progress what is read of it."""
+
+    def __init__(self, file, name, **how):
+        super().__init__(file, **how)
+        self.progress = Progress(name, os.fstat(self.fileno()).st_size)
+
+    def readinto(self, buffer):
+        count = super().readinto(buffer)
+        self.progress.add(count or 0)
+        return count
+
+
+BLOCK = 1 << 18
+# A copy of standard input, where a tool reads it more than once.
+kept_input = None
+
+
+def name_of(path):
+    if hasattr(path, "read"):
+        return "the log"
+    return "standard input" if path == STANDARD_INPUT else str(path)
+
+
+def is_folder(path):
+    return not hasattr(path, "read") and path != STANDARD_INPUT and Path(path).is_dir()
+
+
+def watched(path):
+    try:
+        if path != STANDARD_INPUT:
+            return Watched(path, Path(path).name)
+        return Watched(kept_input.name, name_of(path)) if kept_input else Watched(0, name_of(path), closefd=False)
+    except OSError as error:
+        raise Fault(f"{name_of(path)}: {error.strerror}") from None
 
 
 @contextmanager
 def opened(path):
-    """The bytes of a log. Those of a file whose name ends in .gz are compressed."""
-    try:
-        file = gzip.open(path) if str(path).endswith(".gz") else open(path, "rb")
-    except OSError as error:
-        raise Fault(f"{path}: {error.strerror}") from None
-    with file:
+    """The bytes of a file, or of standard input for -. What gzip has compressed is unpacked."""
+    if hasattr(path, "read"):
+        yield path
+        return
+    raw = watched(path)
+    with io.BufferedReader(raw, BLOCK) as file:
         try:
-            yield file
+            is_packed = file.peek(2)[:2] == b"\x1f\x8b" or str(path).endswith(".gz")
+            yield gzip.GzipFile(fileobj=file, mode="rb") if is_packed else file
         except (EOFError, zlib.error, gzip.BadGzipFile):
-            raise Fault(f"{path}: its compressed bytes are cut or damaged") from None
+            raise Fault(f"{name_of(path)}: its compressed bytes are cut or damaged") from None
+        finally:
+            raw.progress.end()
+
+
+@contextmanager
+def as_text(file):
+    """The text of a file of bytes, which stays open. Each byte is one character, so that each line can be told of."""
+    text = io.TextIOWrapper(file, encoding="latin-1", newline="\n")
+    try:
+        yield text
+    finally:
+        text.detach()
 
 
 @contextmanager
 def opened_plain(path):
-    """The same as a file of its own, which the program can read."""
-    with opened(path) as file:
-        if not isinstance(file, gzip.GzipFile):
-            yield file
-            return
-        with tempfile.TemporaryFile() as plain:
-            shutil.copyfileobj(file, plain)
-            plain.seek(0)
-            yield plain
+    """The same as a file of its own, which the program can read. Of a folder it is the whole log."""
+    with tempfile.TemporaryFile() as plain:
+        if is_folder(path):
+            plain.writelines(f"{line}\n".encode("latin-1") for line in Lines(path))
+        else:
+            with opened(path) as file:
+                if not isinstance(file, gzip.GzipFile):
+                    yield file
+                    return
+                shutil.copyfileobj(file, plain)
+        plain.seek(0)
+        yield plain
 
 
-def lines_of(path):
-    """The numbers and the fields of a log's lines. A last piece without an end isn't a line."""
-    try:
+def keep(path):
+    """Makes a log one that can be read several times: standard input is copied into a temporary file first."""
+    global kept_input
+    if path == STANDARD_INPUT and not kept_input:
         with opened(path) as file:
-            for number, line in enumerate(io.TextIOWrapper(file, encoding="ascii", newline="\n"), 1):
-                fields = line[:-1].split(" ")
-                if number == 1 and (fields[0] != "L" or len(fields) != 6):
-                    raise Fault(f"{path}: this isn't a log: its first line doesn't begin with L")
-                if line.endswith("\n"):
-                    yield number, fields
-    except UnicodeDecodeError:
-        raise Fault(f"{path}: this isn't a log: it has bytes outside ASCII") from None
+            copy = tempfile.NamedTemporaryFile()
+            shutil.copyfileobj(file, copy)
+            copy.flush()
+        kept_input = copy
+    return path
 
 
-def faulty(path, number):
-    return Fault(f"{path}:{number}: this line doesn't fit here: `./avida replay < {path}` names a log's first fault")
+class Piece(NamedTuple):
+    """A file of a log: its first update, and where it lies. The one that begins the log has update 0."""
+
+    update: int
+    path: Path
+
+    @classmethod
+    def of(cls, path):
+        """The piece in this file, or None where its first line isn't one of a log."""
+        with opened(path) as file:
+            fields = file.readline(100).decode("latin-1").split()
+        if fields[:1] == ["L"]:
+            return cls(0, path)
+        place = PLACE_OF_UPDATE.get(fields[0], 0) if fields else 0
+        if not place or len(fields) <= place or not fields[place].isdigit():
+            return None
+        return cls(int(fields[place]) + (fields[0] == "E"), path)
+
+
+def pieces_of(path):
+    """The pieces of a log in their order. In a folder hidden files and those that end in .part are left out."""
+    if not is_folder(path):
+        return [Piece(0, path)]
+    files = [file for file in Path(path).iterdir() if file.is_file() and file.name[0] != "." and file.suffix != ".part"]
+    pieces = sorted(filter(None, map(Piece.of, files)))
+    begins = [piece for piece in pieces if piece.update == 0]
+    if len(begins) != 1:
+        which = " and ".join(piece.path.name for piece in begins[:2]) if begins else "no file"
+        raise Fault(f"{path}: in a folder of one log one file begins with an L line, and here {which}")
+    return pieces
+
+
+class Lines:
+    """The whole lines of a log as texts without their ends; where marks are given, only those that begin with one of them.
+
+    While they are read, `where()` says where the last one stands. Afterwards `is_whole` says whether the log had its end.
+    """
+
+    def __init__(self, path, marks=None):
+        self.path, self.marks, self.pieces = path, marks, pieces_of(path)
+        self.piece, self.number, self.is_whole = self.pieces[0], 0, False
+
+    def where(self):
+        return f"{name_of(self.piece.path)}:{self.number}"
+
+    def fault(self, cause):
+        return Fault(f"{self.where()}: {cause}")
+
+    def __iter__(self):
+        marks, before = self.marks, 0
+        for at, self.piece in enumerate(self.pieces):
+            if at and not (self.is_whole and self.piece.update == before + 1):
+                end = f"ends with update {before}" if self.is_whole else "is cut"
+                raise Fault(f"{self.piece.path}: it begins with update {self.piece.update}, and the piece before it {end}")
+            is_last, self.number, self.is_whole = at + 1 == len(self.pieces), 0, False
+            with opened(self.piece.path) as file, as_text(file) as text:
+                if not at:
+                    self.number, first = 1, text.readline()
+                    if not first.startswith("L "):
+                        why = "its first line doesn't begin with L" if first else "it is empty"
+                        raise Fault(f"{name_of(self.piece.path)}: this isn't a log: {why}")
+                    if not first.endswith("\n"):
+                        raise Fault(f"{name_of(self.piece.path)}: this log is cut in its first line")
+                    if not marks or "L" in marks:
+                        yield first[:-1]
+                for self.number, line in enumerate(text, self.number + 1):
+                    if self.is_whole:
+                        raise self.fault("a line stands after the E line")
+                    if line[-1] != "\n":
+                        break
+                    if line[0] == "E":
+                        self.is_whole = True
+                        before = self.end_of(line[:-1])
+                        if not is_last:
+                            continue
+                    if not marks or line[0] in marks:
+                        yield line[:-1]
+
+    def end_of(self, line):
+        try:
+            return End.of(line.split(" ")).updates
+        except ValueError:
+            raise self.fault(cause_of(line)) from None
+
+
+def read_log(log, marks=None):
+    """The records of a log, one after another: a Start, then Death, Birth, Injection, Clearing, Rate and Update, and an End.
+
+    With marks, such as "U" or "BD", it gives only the records of lines that begin with one of these letters, and is faster.
+    From a program it reads as well as from a file:
+
+        with subprocess.Popen(["./avida", "run"], stdin=open("a.toml"), stdout=subprocess.PIPE) as run:
+            for update in read_log(run.stdout, "U"):
+                print(update.number, update.mean_merit())
+
+    >>> small = b"L 2 1 1 0 wzcagcvf\\nB 1 0 1 0 0 = p2q\\nU 1 1 1 1 1 8 0 0 0 0 0 0 0 0 0\\nE 1\\n"
+    >>> [type(record).__name__ for record in read_log(io.BytesIO(small))]
+    ['Start', 'Birth', 'Update', 'End']
+    >>> [update.births for update in read_log(io.BytesIO(small), "U")]
+    [1]
+    >>> next(read_log(io.BytesIO(b"a,b\\n1,2\\n")))
+    Traceback (most recent call last):
+    avida_log.Fault: the log: this isn't a log: its first line doesn't begin with L
+    """
+    lines = Lines(log, marks)
+    for line in lines:
+        fields = line.split(" ")
+        try:
+            record = RECORDS[fields[0]].of(fields)
+        except (ValueError, KeyError):
+            raise lines.fault(cause_of(line)) from None
+        yield record
 
 
 def updates_of(path):
-    """The `U` lines of a log."""
-    found = []
-    for number, fields in lines_of(path):
-        if fields[0] == "U":
-            try:
-                found.append(Update.of(fields))
-            except ValueError:
-                raise faulty(path, number) from None
-    return found
+    """The `U` lines of a log. Standard input can be read once more after it."""
+    return list(read_log(keep(path), "U"))
 
 
 def first_updates(updates):
@@ -173,131 +582,185 @@ def mean_of(group, value):
     return sum(found) / len(found) if found else None
 
 
+# Worlds.
+
+
 class World:
     """Who lives after each update of a log: the id in each cell, and the genome of each id."""
 
     def __init__(self, fields):
-        self.width, self.height, founder_cell = map(int, fields[2:5])
+        start = Start.of(fields)
+        self.width, self.height = start.width, start.height
         self.cells = [None] * (self.width * self.height)
-        self.cells[founder_cell] = 0
-        self.genomes = {0: fields[5]}
+        if not start.cell < len(self.cells):
+            raise Misfit("its cell isn't in the world")
+        self.cells[start.cell] = 0
+        self.genomes = {0: start.letters}
         # Of each id that lives, and of each that died in this update, since a child may still name it.
         self.parents = {0: None}
         self.gone = []
-        self.births, self.update = [0], None
+        self.births, self.update, self.next_id, self.due = [0], None, 1, "1"
 
     def settle(self, cell, over, id, parent, genome):
-        if (over == "-") != (self.cells[cell] is None):
-            raise ValueError(cell)
-        if over != "-":
-            self.leave(cell, int(over))
-        self.cells[cell] = id
+        if id != self.next_id:
+            raise Misfit(f"its organism is {id}, and the next one is {self.next_id}")
+        self.next_id += 1
+        cells = self.cells
+        if not 0 <= cell < len(cells):
+            raise Misfit("its cell isn't in the world")
+        held = cells[cell]
+        if held is not None and over != "-" and held == int(over):
+            self.gone.append(held)
+        elif held is not None or over != "-":
+            raise Misfit(f"its line has {over} for who stood in cell {cell}, where {'-' if held is None else held} stands")
+        cells[cell] = id
         self.genomes[id], self.parents[id] = genome, parent
         self.births.append(id)
 
     def leave(self, cell, id):
+        if not 0 <= cell < len(self.cells):
+            raise Misfit("its cell isn't in the world")
         if self.cells[cell] != id:
-            raise ValueError(cell)
+            raise Misfit(f"organism {id} doesn't stand in cell {cell}")
         self.cells[cell] = None
         self.gone.append(id)
 
     def take(self, fields):
         mark = fields[0]
         if mark == "B":
-            _, id, parent, _, cell, over, base, changes = fields
-            genome = applied(self.genomes[int(parent)], base, changes)
-            self.settle(int(cell), over, int(id), int(parent), genome)
-        elif mark in "DX":
-            self.leave(int(fields[3]), int(fields[1]))
-        elif mark == "I":
-            self.settle(int(fields[3]), fields[4], int(fields[1]), None, fields[5])
+            _, id, parent, update, cell, over, base, changes = fields
+            above = int(parent)
+            genome = self.genomes.get(above)
+            if genome is None:
+                raise Misfit(f"its parent {parent} doesn't live")
+            if base != "=" or changes != "-":
+                genome = applied(genome, base, changes)
+            self.settle(int(cell), over, int(id), above, genome)
         elif mark == "U":
+            _, update, *_ = fields
             self.update = Update.of(fields)
-        elif mark not in "RE":
+        elif mark == "D" or mark == "X":
+            _, id, update, cell = fields
+            self.leave(int(cell), int(id))
+        elif mark == "I":
+            _, id, update, cell, over, letters = fields
+            if not IS_GENOME(letters):
+                raise ValueError(letters)
+            self.settle(int(cell), over, int(id), None, letters)
+        elif mark == "R":
+            return
+        elif mark == "E":
+            last = self.update.number if self.update else 0
+            if End.of(fields).updates != last:
+                raise Misfit(f"its update is {fields[1]}, and the last one is {last}")
+            return
+        else:
             raise ValueError(mark)
+        if update != self.due:
+            raise Misfit(f"its update is {update}, and {self.due} is due")
 
     def forget(self):
         """Drops what the next update doesn't need."""
+        self.due = str(self.update.number + 1 if self.update else 1)
         for id in self.gone:
             del self.genomes[id], self.parents[id]
         self.gone, self.births = [], []
 
 
 def worlds_of(path):
-    """The world of a log at its founding and after each update. It is one World, which changes as the log is read."""
-    world = None
-    for number, fields in lines_of(path):
+    """The world of a log at its founding and after each update. It is one World, which changes as the log is read.
+
+    >>> for world in worlds_of(TOP / "examples" / "first_birth" / "output"):
+    ...     pass
+    >>> world.update.number, world.cells, len(world.genomes[1])
+    (13, [1], 100)
+    """
+    lines, world = Lines(path), None
+    for line in lines:
+        fields = line.split(" ")
         try:
             if world is None:
                 world = World(fields)
-                yield world
-                world.forget()
-                continue
-            world.take(fields)
-        except (ValueError, IndexError, KeyError):
-            raise faulty(path, number) from None
-        if fields[0] == "U":
+            else:
+                world.take(fields)
+        except Misfit as why:
+            raise lines.fault(why) from None
+        except ValueError:
+            raise lines.fault(cause_of(line)) from None
+        if fields[0] == "U" or fields[0] == "L":
             yield world
             world.forget()
 
 
 class Births:
-    """The parent of each organism of a log and where its line stands, for lines of descent."""
+    """The parent of each organism of a log and where its line stands, for lines of descent. It takes 16 bytes each."""
 
     def __init__(self, path):
-        self.path, self.parents, self.places = path, array("q"), array("q")
-        place = 0
-        with opened(path) as file:
-            for number, line in enumerate(file, 1):
-                mark = line[:1]
-                if not line.endswith(b"\n") and number > 1:
-                    break
-                if mark in (b"B", b"I") or number == 1:
-                    self.add(number, mark, line, place)
-                place += len(line)
+        self.path, self.parents, self.places = keep(path), array("q"), array("q")
+        # For each piece its first organism.
+        self.firsts, self.pieces = [], []
+        lines, place = Lines(path), 0
+        for line in lines:
+            if lines.piece is not (self.pieces and self.pieces[-1]):
+                self.firsts.append(len(self.parents))
+                self.pieces.append(lines.piece)
+                place = 0
+            if line[:1] in ("B", "I", "L"):
+                self.add(lines, line, place)
+            place += len(line) + 1
 
-    def add(self, number, mark, line, place):
-        id, parent = 0, -1
-        if number == 1 and not line.startswith(b"L "):
-            raise Fault(f"{self.path}: this isn't a log: its first line doesn't begin with L")
+    def add(self, lines, line, place):
         try:
-            if mark == b"B":
-                id, parent = map(int, line.split(b" ", 3)[1:3])
-            elif mark == b"I":
-                id = int(line.split(b" ", 2)[1])
+            mark, id, parent, _ = line.split(" ", 3)
+            id, parent = (0, -1) if mark == "L" else (int(id), int(parent) if mark == "B" else -1)
         except ValueError:
-            id = -1
-        if id != len(self.parents) or parent >= id:
-            raise faulty(self.path, number)
+            raise lines.fault(cause_of(line)) from None
+        if id != len(self.parents):
+            raise lines.fault(f"its organism is {id}, and the next one is {len(self.parents)}")
+        if parent >= id:
+            raise lines.fault(f"its parent {parent} comes after it")
         self.parents.append(parent)
         self.places.append(place)
 
     def ids_to(self, id):
         """The line of descent to an organism, its founder first."""
         if not 0 <= id < len(self.parents):
-            raise Fault(f"{self.path} has no organism {id}: its ids go from 0 to {len(self.parents) - 1}")
+            raise Fault(f"{name_of(self.path)} has no organism {id}: its ids go from 0 to {len(self.parents) - 1}")
         ids = [id]
         while self.parents[ids[-1]] >= 0:
             ids.append(self.parents[ids[-1]])
         return ids[::-1]
 
+    def lines_of(self, ids):
+        """The fields of the lines of these organisms, whose ids rise."""
+        at = 0
+        while at < len(ids):
+            piece = bisect(self.firsts, ids[at]) - 1
+            end = self.firsts[piece + 1] if piece + 1 < len(self.firsts) else len(self.parents)
+            with opened(self.pieces[piece].path) as file:
+                while at < len(ids) and ids[at] < end:
+                    file.seek(self.places[ids[at]])
+                    yield file.readline().decode("latin-1").split()
+                    at += 1
+
     def line_to(self, id):
         """The same, each with its parent, update, cell, base, changes and genome, as the command lineage writes them."""
-        genome = None
-        with opened(self.path) as file:
-            for each in self.ids_to(id):
-                file.seek(self.places[each])
-                fields = file.readline().decode("ascii").split()
-                try:
-                    if fields[0] == "B":
-                        parent, update, cell, _, base, changes = fields[2:]
-                        genome = applied(genome, base, changes)
-                    else:
-                        update, cell, genome = ("0", *fields[4:]) if fields[0] == "L" else (fields[2], fields[3], fields[5])
-                        parent = base = changes = "-"
-                except (ValueError, IndexError):
-                    raise Fault(f"{self.path}: the line of organism {each} isn't one of a log") from None
-                yield each, parent, update, cell, base, changes, genome
+        genome, ids = None, self.ids_to(id)
+        for each, fields in zip(ids, self.lines_of(ids)):
+            try:
+                if fields[0] == "B":
+                    parent, update, cell, _, base, changes = fields[2:]
+                    genome = applied(genome, base, changes)
+                else:
+                    update, cell, genome = ("0", *fields[4:]) if fields[0] == "L" else (fields[2], fields[3], fields[5])
+                    parent = base = changes = "-"
+            except (ValueError, IndexError) as why:
+                cause = why if isinstance(why, Misfit) else cause_of(" ".join(fields))
+                raise Fault(f"{name_of(self.path)}: the line of organism {each}: {cause}") from None
+            yield each, parent, update, cell, base, changes, genome
+
+
+# Programs.
 
 
 def program():
@@ -342,8 +805,11 @@ def arguments(description, **how):
 
 def run(main):
     """Runs a tool, and says in one line what the user can mend."""
+    Progress.tool = Path(sys.argv[0]).name
     try:
-        sys.exit(main())
+        status = main()
+        sys.stdout.flush()
+        sys.exit(status)
     except Fault as fault:
         print(f"{Path(sys.argv[0]).name}: {fault}", file=sys.stderr)
         sys.exit(1)
@@ -353,3 +819,7 @@ def run(main):
         # Whoever read the output has enough of it, as head does.
         os.dup2(os.open(os.devnull, os.O_WRONLY), 1)
         sys.exit(141)
+    except OSError as error:
+        print(f"{Path(sys.argv[0]).name}: {error.filename or 'its output'}: {error.strerror}", file=sys.stderr)
+        os.dup2(os.open(os.devnull, os.O_WRONLY), 1)
+        sys.exit(1)
