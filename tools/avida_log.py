@@ -18,8 +18,6 @@ from contextlib import contextmanager
 from pathlib import Path
 from typing import NamedTuple
 
-from files import shown
-
 TOP = Path(__file__).resolve().parent.parent
 
 TASKS = ("NOT", "NAND", "AND", "ORN", "OR", "ANDN", "NOR", "XOR", "EQU")
@@ -344,6 +342,9 @@ def arguments(description, **how):
 
 def run(main):
     """Runs a tool, and says in one line what the user can mend."""
+    # This module alone can be copied elsewhere, and then has no other beside it.
+    from files import shown
+
     sys.stderr = sys.stderr or open(os.devnull, "w")
     try:
         if sys.stdout is None:
