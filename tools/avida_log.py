@@ -805,21 +805,32 @@ def arguments(description, **how):
 
 def run(main):
     """Runs a tool, and says in one line what the user can mend."""
+    # This module alone can be copied elsewhere, and then has no other beside it.
+    from files import shown
+
     Progress.tool = Path(sys.argv[0]).name
+    sys.stderr = sys.stderr or open(os.devnull, "w")
     try:
+        if sys.stdout is None:
+            raise Fault("standard output is closed")
+        # The bytes of a name that isn't UTF-8 are written as they are.
+        sys.stdout.reconfigure(errors="surrogateescape")
         status = main()
         sys.stdout.flush()
         sys.exit(status)
     except Fault as fault:
-        print(f"{Path(sys.argv[0]).name}: {fault}", file=sys.stderr)
-        sys.exit(1)
+        told, status = str(fault), 1
     except KeyboardInterrupt:
-        sys.exit(130)
+        told, status = None, 130
     except BrokenPipeError:
         # Whoever read the output has enough of it, as head does.
-        os.dup2(os.open(os.devnull, os.O_WRONLY), 1)
-        sys.exit(141)
+        told, status = None, 141
     except OSError as error:
-        print(f"{Path(sys.argv[0]).name}: {error.filename or 'its output'}: {error.strerror}", file=sys.stderr)
-        os.dup2(os.open(os.devnull, os.O_WRONLY), 1)
-        sys.exit(1)
+        told, status = f"{error.filename or 'its output'}: {error.strerror}", 1
+    except MemoryError:
+        told, status = "out of memory", 1
+    if told:
+        print(f"{Path(sys.argv[0]).name}: {shown(told)}", file=sys.stderr)
+    # What couldn't be written is let go.
+    os.dup2(os.open(os.devnull, os.O_WRONLY), 1)
+    sys.exit(status)
