@@ -19,9 +19,7 @@ import subprocess
 import sys
 import zlib
 from contextlib import contextmanager, suppress
-from importlib.machinery import SourceFileLoader
 from pathlib import Path
-from types import ModuleType
 from typing import NamedTuple
 
 try:
@@ -33,18 +31,11 @@ TOOLS = Path(__file__).resolve().parent.parent.parent / "tools"
 sys.path.insert(0, str(TOOLS))
 
 from avida_log import COLOURS, TASKS, Births, Fault, Update, first_updates, program, run, thinned  # noqa: E402
+from firsts import firsts_of  # noqa: E402
+from scripts import script  # noqa: E402
+from traces import gestation_of  # noqa: E402
 
-
-def tool(name):
-    """A script of tools/ as a module."""
-    loader = SourceFileLoader(name.replace("-", "_"), str(TOOLS / name))
-    module = ModuleType(loader.name)
-    module.__file__ = loader.path
-    loader.exec_module(module)
-    return module
-
-
-check_config, traces = tool("check-config"), tool("tasks")
+check_config, tasks_tool = script("check-config"), script("tasks")
 
 COUNTS = ("update", "living", "births", "deaths", "genotypes", "merit", *(task.lower() for task in TASKS))
 NAME = re.compile(r"[A-Za-z0-9_-]+")
@@ -260,16 +251,21 @@ def whole_log(folder):
     return updates
 
 
-def line_of_equ(log, updates):
-    """The line of descent of the organism in the least cell whose trace does EQU, as the lines of tools/lineage."""
-    if not updates or not updates[-1].tasks[TASKS.index("EQU")]:
+def line_of_equ(folder, updates):
+    """The line of descent of one organism that does EQU, as the lines of tools/lineage.
+
+    It is the organism in the least cell at the end whose trace shows EQU, and where there is none the first organism
+    that was ever credited with it.
+    """
+    at = TASKS.index("EQU")
+    if not any(update.tasks[at] for update in updates):
         return ""
-    built = program()
-    living, _ = traces.living_of(built, log, updates[-1])
-    for _, id, letters in living:
-        if "EQU" in traces.gestation_of(built, letters).tasks:
-            return "".join(" ".join(map(str, ("P", *fields))) + "\n" for fields in Births(log).line_to(int(id)))
-    return ""
+    log, built = folder / "log.gz", program()
+    living = tasks_tool.living_of(built, log, updates[-1])[0] if updates[-1].tasks[at] else []
+    who = next((int(id) for _, id, letters in living if "EQU" in gestation_of(built, letters).tasks), None)
+    if who is None:
+        who = firsts_of(built, log, updates, folder / "log.toml", ("EQU",))["EQU"].birth.id
+    return "".join(" ".join(map(str, ("P", *fields))) + "\n" for fields in Births(log).line_to(who))
 
 
 def run_one(folder):
@@ -277,7 +273,7 @@ def run_one(folder):
         (folder / "fault.txt").unlink(missing_ok=True)
         try:
             updates = whole_log(folder)
-            line = line_of_equ(folder / "log.gz", updates)
+            line = line_of_equ(folder, updates)
         except (Fault, OSError) as fault:
             with suppress(OSError):
                 write(folder / "fault.txt", f"{fault}\n")
