@@ -8,7 +8,8 @@ from avida_cfg import MILLION, Finding, Line, Reader, is_same, parts_of, whole_o
 from avida_log import LETTER_OF, Fault, fault_of_length
 from avida_settings import FIXED, FIXED_FORMS, QUIET_ACTIONS, TRANSLATED
 
-MOST_EVENTS = 1000
+# A configuration's events; and so many are looked at, to take the first of them.
+MOST_EVENTS, MOST_LOOKED_AT = 1000, 100000
 
 
 def letters_of_organism(made, path, asked):
@@ -126,6 +127,8 @@ def cells_of(action, world):
 
 
 def add_event(made, action, update, **keys):
+    if len(made.events) == MOST_LOOKED_AT:
+        raise action.line.fault(f"up to this line there are more than {MOST_LOOKED_AT} events, and {MOST_EVENTS} are allowed")
     made.events.append({"kind": keys.pop("kind"), "update": max(update, 1), **keys, "from": action.line})
 
 
