@@ -31,7 +31,7 @@ MODULES = {"dendropy": "python3-dendropy", "Bio": "python3-biopython", "pandas":
 APE = "r-cran-ape"
 
 # Each reader writes JSON: for each tip its label, how many branches it is from the root, its distance from there and the
-# label of the node above it; and the label of the latest common ancestor of the tips whose labels standard input has.
+# label of the node above it; and for each line of standard input the label of the latest common ancestor of its tips.
 DENDROPY = """
 import dendropy, json, sys
 tree = dendropy.Tree.get(path=sys.argv[1], schema="newick", rooting="force-rooted")
@@ -39,12 +39,15 @@ tips = []
 for leaf in tree.leaf_node_iter():
     above = list(leaf.ancestor_iter())
     tips.append([leaf.taxon.label, len(above), leaf.distance_from_root(), above[0].label])
-asked = set(json.load(sys.stdin))
-common = tree.mrca(taxa=[leaf.taxon for leaf in tree.leaf_node_iter() if leaf.taxon.label in asked])
-# Of all tips DendroPy names the root, also where it has one child alone.
-while common.num_child_nodes() == 1:
-    common = common.child_nodes()[0]
-json.dump([tips, common.label or common.taxon.label], sys.stdout)
+latest = []
+for line in sys.stdin:
+    asked = set(line.split())
+    common = tree.mrca(taxa=[leaf.taxon for leaf in tree.leaf_node_iter() if leaf.taxon.label in asked])
+    # Of all tips DendroPy names the root, also where it has one child alone.
+    while common.num_child_nodes() == 1:
+        common = common.child_nodes()[0]
+    latest.append(common.label or common.taxon.label)
+json.dump([tips, latest], sys.stdout)
 """
 BIOPYTHON = """
 import json, sys
@@ -59,9 +62,9 @@ while below:
     if clade.is_terminal():
         tips.append([label(clade), depth, length, above])
     below += [(child, depth + 1, length + child.branch_length, label(clade)) for child in clade.clades]
-asked = set(json.load(sys.stdin))
-common = tree.common_ancestor([clade for clade in tree.get_terminals() if clade.name in asked])
-json.dump([tips, label(common)], sys.stdout)
+terminals = {clade.name: clade for clade in tree.get_terminals()}
+latest = [label(tree.common_ancestor([terminals[name] for name in line.split()])) for line in sys.stdin]
+json.dump([tips, latest], sys.stdout)
 """
 APE_LINES = """
 library(ape)
@@ -72,10 +75,10 @@ lengths <- node.depth.edgelength(tree)[seq_len(count)]
 tree$edge.length[] <- 1
 depths <- node.depth.edgelength(tree)[seq_len(count)]
 rows <- sprintf('["%s", %d, %.0f, "%s"]', tree$tip.label, depths, lengths, tree$node.label[above - count])
-asked <- scan(file("stdin"), what = "", sep = ",", quiet = TRUE)
-asked <- gsub('[^0-9]', '', asked)
-common <- getMRCA(tree, which(tree$tip.label %in% asked))
-cat('[[', paste(rows, collapse = ", "), '], "', tree$node.label[common - count], '"]', sep = "")
+latest <- sapply(strsplit(readLines(file("stdin")), " "), function(asked) {
+    tree$node.label[getMRCA(tree, which(tree$tip.label %in% asked)) - count]
+})
+cat('[[', paste(rows, collapse = ", "), '], [', paste0('"', latest, '"', collapse = ", "), ']]', sep = "")
 """
 PANDAS = """
 import json, sys
@@ -278,44 +281,31 @@ class Logs:
             self.checks.skip(f"readers of other programs: {why}")
         long = self.made("long", LONG)
         for log in (self.events, long):
-            tree = self.room / f"{log.stem}.nwk"
+            tree, truth = self.room / f"{log.stem}.nwk", Truth(log, *self.tree(log)[:2])
             tree.write_text(self.text_of([TOOLS / "phylogeny", log, "--format", "newick"]))
             for name, code in (("dendropy", DENDROPY), ("Bio", BIOPYTHON)):
                 if python_with(name):
-                    self.reads(name, [python_with(name), "-c", code, tree], log)
+                    self.reads(name, [python_with(name), "-c", code, tree], truth)
             if has_r_package("ape"):
-                self.reads("ape", ["Rscript", "-e", APE_LINES, tree], log)
+                self.reads("ape", ["Rscript", "-e", APE_LINES, tree], truth)
             if python_with("pandas"):
                 self.pandas(log)
 
-    def reads(self, name, words, log):
-        depths, common, _ = self.tree(log)
-        everyone = list(depths)
+    def reads(self, name, words, truth):
         # Biopython searches the whole tree for each tip.
-        few = everyone if len(everyone) < 200 else everyone[:: len(everyone) // 12]
-        births = Births(log)
-        origins = {str(record.id): record.update for record in read_log(log, "BI")} | {"0": 0}
-        for asked in (few, everyone) if name != "Bio" else (few,):
-            done = ran(words, json.dumps(asked).encode())
-            self.check(f"{name} reads the tree of {log.stem}", done.returncode == 0, done.stderr)
-            if done.returncode:
-                return
-            tips, latest = json.loads(done.stdout)
-            shared = set.intersection(*(set(births.ids_to(int(id))) for id in asked))
-            wanted = str(max(shared)) if shared else "founders"
-            self.check(f"{name}: the latest common ancestor of {len(asked)} in {log.stem}", latest == wanted, (latest, wanted))
-            if asked is everyone:
-                self.check(f"{name}: that of all of {log.stem} is what tree says", latest == common.replace("-", "founders"), latest)
+        sets = [truth.few] if name == "Bio" else [truth.few, truth.everyone]
+        done = ran(words, "".join(" ".join(each) + "\n" for each in sets).encode())
+        self.check(f"{name} reads the tree of {truth.name}", done.returncode == 0, done.stderr)
+        if done.returncode:
+            return
+        tips, latest = json.loads(done.stdout)
+        wanted = [truth.latest_of(each) for each in sets]
+        self.check(f"{name}: the latest common ancestor of some and of all of {truth.name}", latest == wanted, (latest, wanted))
         # A tip that has children stands below itself, and founders may have a root above them.
-        is_forest = common == "-"
-        seen = {label: depth - (above == label) - is_forest for label, depth, _, above in tips}
-        self.check(f"{name}: the tips of {log.stem} are those who live, at the depths that tree says", seen == depths)
+        seen = {label: depth - (above == label) - truth.is_forest for label, depth, _, above in tips}
+        self.check(f"{name}: the tips of {truth.name} are those who live, at the depths that tree says", seen == truth.depths)
         times = {label: length for label, _, length, _ in tips}
-        if is_forest:
-            self.check(f"{name}: a tip of {log.stem} is as far from the root as its update", times == {id: origins[id] for id in times})
-        else:
-            root = {id: origins[str(births.ids_to(int(id))[0])] for id in times}
-            self.check(f"{name}: a tip of {log.stem} is as far from the founder as its update", times == {id: origins[id] - root[id] for id in times})
+        self.check(f"{name}: a tip of {truth.name} is as far from the root as its update", times == truth.times)
 
     def pandas(self, log):
         table, updates = self.room / "all.csv", updates_of(log)
@@ -551,3 +541,25 @@ class Logs:
             done = ran([TOOLS / words[0], *words[1:]])
             wanted = done.returncode == 1 and said in done.stderr.decode() and done.stderr.count(b"\n") == 1
             self.check(f"{words[0]}: {said}", wanted, done.stderr)
+
+
+class Truth:
+    """What the command tree and the log itself say of who lives at a log's end."""
+
+    def __init__(self, log, depths, common):
+        self.name, self.depths, self.common = log.stem, depths, common
+        self.is_forest = common == "-"
+        self.births = Births(log)
+        self.everyone = list(depths)
+        self.few = self.everyone if len(self.everyone) < 200 else self.everyone[:: len(self.everyone) // 12]
+        origins = {str(record.id): record.update for record in read_log(log, "BI")} | {"0": 0}
+        # A single founder is the root itself.
+        root = 0 if self.is_forest else origins[str(self.births.ids_to(int(self.everyone[0]))[0])]
+        self.times = {id: origins[id] - root for id in self.everyone}
+
+    def latest_of(self, ids):
+        """The latest common ancestor: of all the one that tree says, and of some the last one of all their lines."""
+        if ids is self.everyone and not self.is_forest:
+            return self.common
+        shared = set.intersection(*(set(self.births.ids_to(int(id))) for id in ids))
+        return str(max(shared)) if shared else "founders"
