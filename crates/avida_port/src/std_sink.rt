@@ -4,12 +4,10 @@ ghost use Rattle.std.specs.Io.KnownBytes.{Appends};
 ghost use Rattle.avida_port.specs.Ports.{Puts};
 ghost use Rattle.avida_port.specs.Streams.{AppendsFront};
 
+use crate::retrying::{Failed, write_once};
 use crate::{Sink, SinkStop};
-use std::io::{ErrorKind, Stderr, Stdout, Write};
+use std::io::{Stderr, Stdout, Write};
 use std::marker::Model;
-
-// How often, within one piece, a write is made again that a signal interrupted; after that it has failed.
-const TRIES: u32 = 1_000_000;
 
 #[derive(Clone, Copy)]
 enum Stream {
@@ -55,25 +53,17 @@ impl StdSink {
     }
 }
 
-// A write failed, or took nothing.
-#[derive(Clone, Copy)]
-struct Stopped;
-
-// Writes the whole piece, or a prefix of it where the stream failed or took nothing. A write that a signal interrupted
-// has written nothing, and is made again.
-fn write_whole<W: Write>(to: &mut W, piece: &[u8]) -> Result<(), Stopped>
+// Writes the whole piece, or a prefix of it where the stream failed or took nothing.
+fn write_whole<W: Write>(to: &mut W, piece: &[u8]) -> Result<(), Failed>
     ensures ok { OnOk result (Appends (W.contents to.old) (W.contents to.new) piece.now) }
     ensures err { OnErr result (AppendsFront (W.contents to.old) (W.contents to.new) piece.now) }
     ensures empty { piece.now ≡ [] → IsOk result }
 {
     let mut rest = piece;
-    let mut tries = 0;
     while !rest.is_empty() {
-        match to.write(rest) {
-            Ok(0) => return Err(Stopped),
+        match write_once(to, rest) {
+            Ok(0) | Err(Failed) => return Err(Failed),
             Ok(n) => rest = &rest[n..],
-            Err(e) if e.kind() == ErrorKind::Interrupted && tries < TRIES => tries += 1,
-            Err(_) => return Err(Stopped),
         }
     }
     Ok(())
@@ -95,7 +85,7 @@ impl Sink for StdSink {
         };
         match result {
             Ok(()) => Ok(()),
-            Err(Stopped) => {
+            Err(Failed) => {
                 self.faults = self.faults.saturating_add(1);
                 Err(SinkStop::Fault)
             }

@@ -1,13 +1,10 @@
 // Standard input, part of the trusted edge.
 ghost use Rattle.std.specs.Prelude.{◌≡◌};
-ghost use Rattle.std.specs.Io.{ReadsAtMost};
 
+use crate::retrying::{Failed, read_once};
 use crate::{Source, SourceFail};
-use std::io::{ErrorKind, Read, Stdin};
+use std::io::Stdin;
 use std::marker::Model;
-
-// How often a read is made again that a signal interrupted; after that it has failed.
-const TRIES: u32 = 1_000_000;
 
 /// Standard input. Contracts can't see its bytes.
 #[derive(Drop)]
@@ -37,29 +34,15 @@ impl StdSource {
     }
 }
 
-// Reads once. A read that a signal interrupted has read nothing, and is made again.
-fn read_on<R: Read>(from: &mut R, room: &mut [u8]) -> Result<usize, SourceFail>
-    ensures bound { ReadsAtMost result room.new }
-{
-    for _ in 0..TRIES {
-        match from.read(room) {
-            Ok(n) => return Ok(n),
-            Err(e) if e.kind() == ErrorKind::Interrupted => {}
-            Err(_) => return Err(SourceFail),
-        }
-    }
-    Err(SourceFail)
-}
-
 impl Source for StdSource {
     ghost use Rattle.avida_port.specs.Streams.{std_source_seen};
 
     ghost seen = { std_source_seen };
 
     fn fill(&mut self, room: &mut [u8]) -> Result<usize, SourceFail> {
-        match read_on(&mut self.from, room) {
+        match read_once(&mut self.from, room) {
             Ok(n) => Ok(n),
-            Err(SourceFail) => {
+            Err(Failed) => {
                 self.faults = self.faults.saturating_add(1);
                 Err(SourceFail)
             }

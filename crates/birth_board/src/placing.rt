@@ -1,6 +1,6 @@
 use logic_tasks::Inputs;
 
-/// A newborn's id, its cell, who stood there and so died, and its inputs.
+/// A newborn's id, its cell, the organism that it replaces, if any, and its inputs.
 #[derive(Clone, Copy, Debug, PartialEq, Eq)]
 pub struct Placing {
     pub id: u64,

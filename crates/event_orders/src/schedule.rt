@@ -1,7 +1,7 @@
 // The events of a run.
 use avida_port::Items;
 
-/// What may happen next in a run. Cells, seats and observers are told by their numbers.
+/// An event that may happen next in a run. Cells, seats and observers are named by their numbers.
 #[derive(Drop)]
 pub enum ScheduleEvent {
     /// The cell lives, from the world as the update began.

@@ -1,6 +1,8 @@
 -- The first place at which a template stands.
-use Rattle.std.proofs.Common.{◌-◌, zero, suc, true, false, arith, ◌≡◌, sym, ap, refl, ℕ, ◌+◌, ◌<◌, ◌≤◌, List, Bool, cond, length, take, drop, Option, Some, None, subst, inl, inr, length-drop, length-take}
+use Rattle.std.proofs.Common.{◌-◌, zero, suc, true, false, arith, ◌≡◌, sym, ap, refl, ℕ, ◌+◌, ◌<◌, ◌≤◌, List, Bool, cond, length, take, drop, Option, Some, None, subst, inl, inr, length-drop, length-take, get_or}
 use Rattle.std.proofs.Math.Nat.{eq-or-lt_of_le}
+use Rattle.std.proofs.lemmas.List.{drop_more}
+use Rattle.std.specs.Cmp.Lexicographic.{pointwise}
 use Rattle.std.specs.Bool.{Decides}
 use Rattle.std.specs.List.{find, range_with_len}
 use Rattle.std.specs.Option.{MatchOption, IfSome}
@@ -92,3 +94,17 @@ module _ (one_list : (letters others : List Letter)
   first_match-before_end memory template some =
       MatchOption-map (first_match memory template) _ _ _ _ (λ _. tt) (λ first least. least.0.0)
       (first_match-least memory template some)
+
+-- lists that agree at a place compare as their rests do
+pub pointwise-next : (test : Letter → Letter → Bool) (xs ys : List Letter) (i : ℕ) (d : Letter)
+    → i < length xs → i < length ys → test (get_or xs i d) (get_or ys i d) ≡ true
+    → pointwise test (drop (i + 1) xs) (drop (i + 1) ys) ≡ pointwise test (drop i xs) (drop i ys)
+pointwise-next test xs ys i d hx hy same =
+    rw (drop_more xs i d hx, drop_more ys i d hy, same) refl
+
+-- lists that differ at a place
+pub pointwise-differ : (test : Letter → Letter → Bool) (xs ys : List Letter) (i : ℕ) (d : Letter)
+    → i < length xs → i < length ys → test (get_or xs i d) (get_or ys i d) ≡ false
+    → pointwise test (drop i xs) (drop i ys) ≡ false
+pointwise-differ test xs ys i d hx hy differ =
+    rw (drop_more xs i d hx, drop_more ys i d hy, differ) refl

@@ -1,23 +1,16 @@
 -- Lists of letters, compared and read after a place.
-use Rattle.std.proofs.Common.{◌-◌, suc, true, false, arith, ◌≡◌, ◌∙◌, ap, refl, ℕ, ◌+◌, ◌%◌, ◌<◌, List, [], ◌∷◌, ◌++◌, Bool, length, append-nil, ◌&&◌, map}
-use Rattle.std.specs.Cmp.Lexicographic.{pointwise}
+use Rattle.std.proofs.Common.{◌-◌, suc, true, false, arith, ◌≡◌, ◌∙◌, ap, refl, ℕ, ◌+◌, ◌%◌, ◌<◌, List, [], ◌∷◌, ◌++◌, Bool, length, append-nil, map, sym, get_or}
 use Rattle.std.specs.List.{take_while, prefix_len, range_with_len}
 use Rattle.std.specs.Prelude.{unwrap_or}
 use Rattle.std.proofs.Math.Nat.{mod-add-mod}
 use Rattle.std.proofs.lemmas.Grind.{common_steps}
+use Rattle.std.proofs.lemmas.List.{length-map}
 use Rattle.instruction_set.specs.declared.letter.Letter.{Letter}
 use Rattle.instruction_set.specs.declared.letter.Letter.TheVariants.{NopA, NopB, NopC}
 use Rattle.instruction_set.specs.Letter.{complement_of}
+use Rattle.label_search.specs.declared.site.Site.{Site}
+use Rattle.label_search.specs.Site.{letters_of}
 use Rattle.label_search.specs.Template.{is_nop, nops_read, letter_after}
-
--- two tests that agree compare lists alike
-pub pointwise_alike : {A : Type 0} (E F : A → A → Bool) → ((a b : A) → E a b ≡ F a b)
-    → (xs ys : List A) → pointwise E xs ys ≡ pointwise F xs ys
-pointwise_alike E F alike [] [] = refl
-pointwise_alike E F alike [] (y ∷ ys) = refl
-pointwise_alike E F alike (x ∷ xs) [] = refl
-pointwise_alike E F alike (x ∷ xs) (y ∷ ys) = ap (λ b. b && pointwise E xs ys) (alike x y)
-    ∙ ap (λ b. F x y && b) (pointwise_alike E F alike xs ys)
 
 -- a nop on a list that has room
 pub nops_read-room : (nops : List Letter) (letter : Letter) → is_nop letter ≡ true
@@ -29,6 +22,14 @@ pub next-place : (ip counter n place next : ℕ) → place ≡ (ip + counter) % 
     → next ≡ (place + 1) % n → next ≡ (ip + (counter + 1)) % n
 next-place ip counter n place next here further = further ∙ ap (λ k. (k + 1) % n) here
     ∙ mod-add-mod (ip + counter) n 1 ∙ ap (λ k. k % n) (omega arith)
+
+-- the letter at the place that is so many steps further
+pub letter-there : (sites : List Site) (ip steps place : ℕ) → place ≡ (ip + steps) % length sites
+    → get_or (letters_of sites) place NopA ≡ letter_after (letters_of sites) ip steps
+letter-there sites ip steps place here =
+    let long : length sites ≡ length (letters_of sites) =
+    sym (length-map sites (λ site. site.letter)) in
+    ap (λ k. get_or (letters_of sites) k NopA) (here ∙ ap (λ n. (ip + steps) % n) long)
 
 -- the letters from a step on, the first apart
 pub letters_from-next : (memory : List Letter) (ip counter left : ℕ) → 10 - counter ≡ left + 1

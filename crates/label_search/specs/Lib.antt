@@ -1,4 +1,5 @@
 pub mod Template
 pub mod PackedTemplate
 pub mod Search
+pub mod Site
 pub use Rattle.instruction_set.specs.Letter

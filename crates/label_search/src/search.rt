@@ -1,28 +1,32 @@
 // The search of h-search.
 ghost use Rattle.std.specs.Prelude.{◌≡◌, ◌<◌, ◌≤◌, ◌+◌, ℕ, IfSome, MatchOption, length};
+ghost use Rattle.instruction_set.specs.Letter.{same_letter};
 ghost use Rattle.label_search.specs.Search.{OccursAt, first_match, begins_with};
+ghost use Rattle.label_search.specs.Site.{letters_of};
 
 use crate::Template;
+use crate::site::{Site, letter_at};
 use instruction_set::Letter;
 use instruction_set::laws::one_index;
 
 /// The least place at which the whole template stands before the end of memory. None where it
 /// stands nowhere; a match never goes on across the end.
-pub fn find(memory: &[Letter], what: &Template) -> Option<usize>
+pub fn find(memory: &[Site], what: &Template) -> Option<usize>
     requires { 0 < length what.now }
-    ensures first { result ≡ first_match memory.now what.now }
+    ensures first { result ≡ first_match (letters_of memory.now) what.now }
     ensures least { MatchOption result
-        ((place : ℕ) → ¬ OccursAt memory.now what.now place)
-        (λ first. OccursAt memory.now what.now first
-        × ((place : ℕ) → place < first → ¬ OccursAt memory.now what.now place)) }
-    ensures before_end { IfSome result (λ first. first + length what.now ≤ length memory.now) }
+        ((place : ℕ) → ¬ OccursAt (letters_of memory.now) what.now place)
+        (λ first. OccursAt (letters_of memory.now) what.now first
+        × ((place : ℕ) → place < first → ¬ OccursAt (letters_of memory.now) what.now place)) }
+    ensures before_end { IfSome result (λ first. first + length what.now
+        ≤ length (letters_of memory.now)) }
 {
     one_index();
     least_match(memory, what.letters().as_slice())
 }
 
-fn least_match(memory: &[Letter], what: &[Letter]) -> Option<usize>
-    ensures { result ≡ first_match memory.now what.now }
+fn least_match(memory: &[Site], what: &[Letter]) -> Option<usize>
+    ensures { result ≡ first_match (letters_of memory.now) what.now }
 {
     for place in 0..memory.len() {
         if begins_with(&memory[place..], what) {
@@ -32,9 +36,25 @@ fn least_match(memory: &[Letter], what: &[Letter]) -> Option<usize>
     None
 }
 
-/// Whether the letters begin with the template.
-fn begins_with(letters: &[Letter], what: &[Letter]) -> bool
-    ensures { result ≡ begins_with letters.now what.now }
+/// Whether the letters of the sites begin with the template.
+#[inline(always)]
+fn begins_with(sites: &[Site], what: &[Letter]) -> bool
+    ensures { result ≡ begins_with (letters_of sites.now) what.now }
 {
-    letters.starts_with(what)
+    for (at, letter) in what.iter().enumerate() {
+        if at == sites.len() {
+            return false;
+        }
+        if !same_letter(*letter, letter_at(sites, at)) {
+            return false;
+        }
+    }
+    true
+}
+
+#[inline(always)]
+fn same_letter(letter: Letter, other: Letter) -> bool
+    ensures { result ≡ same_letter letter other }
+{
+    letter.index() == other.index()
 }

@@ -4,9 +4,11 @@ ghost use Rattle.std.specs.Option.{option_copied};
 ghost use Rattle.instruction_set.specs.Letter.{same_letters, complement_of};
 ghost use Rattle.label_search.specs.Template as spec;
 ghost use Rattle.label_search.specs.Template.{is_nop, nops_read, complements_of, IsTemplate};
+ghost use Rattle.label_search.specs.Site.{letters_of};
 ghost use Rattle.label_search.specs.PackedTemplate.{newest_first, nop_of, packed_after};
 ghost use Rattle.instruction_set.specs.declared.letter.Letter.TheVariants.{NopA};
 
+use crate::site::{Site, letter_at};
 use arrayvec::ArrayVec;
 use instruction_set::Letter;
 use instruction_set::laws::one_index;
@@ -236,9 +238,10 @@ pub struct Reading {
 
 /// The complement of the nops after a place.
 #[inline(always)]
-pub fn complement_after(memory: &[Letter], ip: usize) -> Reading
+pub fn complement_after(memory: &[Site], ip: usize) -> Reading
     requires { ip < length memory.now }
-    ensures complement { result.complement ≡ complements_of (spec.template_after memory.now ip) }
+    ensures complement { result.complement
+        ≡ complements_of (spec.template_after (letters_of memory.now) ip) }
     ensures last { result.last ≡ (ip + length result.complement) % length memory.now }
     ensures few { length result.complement ≤ 10 }
 {
@@ -246,7 +249,7 @@ pub fn complement_after(memory: &[Letter], ip: usize) -> Reading
     let mut last = ip;
     for _ in 0..LONGEST_TEMPLATE {
         let place = next_place(last, memory.len());
-        let letter = memory[place];
+        let letter = letter_at(memory, place);
         if !is_nop(letter) {
             return Reading { complement, last };
         }

@@ -6,15 +6,19 @@ use Rattle.organism.specs.OrganismState.{OrganismState, new_organism}
 use Rattle.organism.specs.TraceRules.{trace_greatest}
 use Rattle.organism.specs.TracedStep.{TracedStep, trace_step_of}
 
--- the inputs of a trace
+-- the organism that a trace with these inputs begins with: it has done no task, its merit is its
+-- length, and its memory may grow to the greatest length in the trace
+abbrev pub organism_alone : List Letter → List ℕ → OrganismState
+organism_alone letters inputs =
+    new_organism letters inputs (length letters) no_tasks (trace_greatest (length letters))
+
+-- the inputs of a trace to which none are given
 abbrev pub trace_inputs : List ℕ
 trace_inputs = 0x0F0F0F0F ∷ 0x33333333 ∷ 0x55555555 ∷ []
 
--- the organism that a trace begins with: it has done no task, its merit is its length, and its
--- memory may grow to the greatest length in the trace
+-- the organism that such a trace begins with
 abbrev pub traced_organism : List Letter → OrganismState
-traced_organism letters =
-    new_organism letters trace_inputs (length letters) no_tasks (trace_greatest (length letters))
+traced_organism letters = organism_alone letters trace_inputs
 
 -- the organism after so many of its steps
 abbrev pub organism_after : OrganismState → ℕ → OrganismState

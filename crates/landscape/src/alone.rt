@@ -2,7 +2,7 @@
 ghost use Rattle.std.specs.Prelude.{◌≡◌, IfOk, length};
 ghost use Rattle.genome.specs.Genome.{letters};
 ghost use Rattle.organism.specs.TraceRules.{trace_greatest};
-ghost use Rattle.landscape.specs.Trace.{traced_organism};
+ghost use Rattle.landscape.specs.Trace.{organism_alone, traced_organism};
 
 use avida_port::Memory;
 use genome::{GREATEST_LENGTH, Genome};
@@ -22,16 +22,25 @@ fn trace_limit(genome_length: u32) -> u32
     }
 }
 
-/// The organism that a trace of this genome begins with.
+/// The organism that a trace of this genome with these inputs begins with.
 #[tactic(auto, unfolding(organism::specs::OrganismState::new_organism))]
-pub fn traced_organism(alloc: Global, genome: Genome) -> Result<Organism, Memory>
-    ensures founded { IfOk result (λ organism. organism ≡ traced_organism (letters genome)) }
+pub fn organism_alone(alloc: Global, genome: Genome, inputs: Inputs) -> Result<Organism, Memory>
+    ensures founded { IfOk result (λ organism. organism
+        ≡ organism_alone (letters genome) inputs) }
     ensures age { IfOk result (λ organism. organism.age ≡ 0) }
 {
     let len = genome.len();
-    let inputs = Inputs::of([0x0F0F_0F0F, 0x3333_3333, 0x5555_5555]);
     let genome = Arc::new(alloc, genome)?;
     let merit = u64::from(len);
     let limit = trace_limit(len);
     Organism::found(alloc, genome, inputs, merit, Tasks::none(), limit)
+}
+
+/// The organism that a trace of this genome begins with where no inputs are given.
+pub(crate) fn traced_organism(alloc: Global, genome: Genome) -> Result<Organism, Memory>
+    ensures founded { IfOk result (λ organism. organism ≡ traced_organism (letters genome)) }
+    ensures age { IfOk result (λ organism. organism.age ≡ 0) }
+{
+    let inputs = Inputs::of([0x0F0F_0F0F, 0x3333_3333, 0x5555_5555]);
+    organism_alone(alloc, genome, inputs)
 }

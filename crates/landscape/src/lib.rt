@@ -9,7 +9,7 @@ mod surveyed;
 mod totals;
 mod trying;
 
-pub use alone::traced_organism;
+pub use alone::organism_alone;
 pub use entry::{Entries, Entry};
 pub use first_divide::Trial;
 pub use surveyed::Survey;

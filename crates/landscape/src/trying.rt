@@ -20,8 +20,8 @@ use rayon::prelude::*;
 use std::alloc::Global;
 use std::thread::Threads;
 
-/// Tries a genome: an organism of it takes so many steps at most, alone, as in a trace. None
-/// exactly where no divide is viable.
+/// Tries a genome: an organism of it takes at most `steps` steps, alone, as in a trace. None
+/// exactly if no divide is viable.
 pub fn trial(alloc: Global, genome: &Genome, steps: u32) -> Result<Option<Trial>, Memory>
     ensures { IfOk result (λ trial. trial ≡ trial_of (letters genome.now) steps) }
 {

@@ -2,7 +2,7 @@ use avida_port::Items;
 use genome::Genome;
 use std::marker::Model;
 
-/// Who lives in a cell at the end of a log.
+/// An organism that is alive at the end of a log, with its cell.
 #[derive(Debug, Drop)]
 pub struct Living {
     pub cell: u32,
@@ -19,5 +19,5 @@ impl Model for Living {
     ghost view = { λ a. record { cell = a.cell; id = a.id; genome = letters a.genome } };
 }
 
-/// Who lives at the end of a log, in order of cells.
+/// The organisms alive at the end of a log, in order of cells.
 pub type Livings = Items<Living>;

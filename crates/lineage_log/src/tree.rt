@@ -127,8 +127,8 @@ impl Tree {
         })
     }
 
-    /// An organism dies. Who is neither living nor an ancestor of one that lives is no longer in
-    /// the tree. It takes no memory.
+    /// An organism dies. Those that are neither living nor ancestors of the living leave the tree.
+    /// It takes no memory.
     pub fn died(&mut self, id: u64)
         requires { Contains self.old.living id }
         ensures { self.new ≡ tree_with_death self.old id }

@@ -232,27 +232,6 @@ pub no_first : (bytes : List ℕ) → length bytes < 1 → None ≡ read_first o
 no_first [] short = ap (option_map (λ a. (a, []))) (ap (option_map Some) (sym empty_word))
 no_first (b ∷ bs) short = absurd (omega (arith, short))
 
--- a number in front, where who stood there is asked for
-abbrev as_some : Option (ℕ × List (List ℕ)) → Option (Option ℕ × List (List ℕ))
-as_some found =
-    option_map (λ p. let pair : Option ℕ × List (List ℕ) = (Some p.0, p.1) in pair) found
-
--- a number that is read, read as who stood there
-some_read : (words : List (List ℕ)) (found : Option ℕ)
-    → as_some (option_map (λ a. (a, words)) found)
-    ≡ option_map (λ a. (a, words)) (option_map Some found)
-some_read words None = refl
-some_read words (Some n) = refl
-
--- a first word that is no dash
-word_other : (word : List ℕ) (words : List (List ℕ)) → bytes_eq word (45 ∷ []) ≡ false
-    → as_some (read_first (number_of 0 18446744073709551615) (word ∷ words))
-    ≡ read_first over_field.read (word ∷ words)
-word_other word words isnt =
-    let read = number_of 0 18446744073709551615 word in
-    some_read words read ∙ ap (option_map (λ a. (a, words)))
-    (sym (ap (λ (v : Bool). cond v (Some None) (option_map Some read)) isnt))
-
 -- ---- the mark of a line
 
 -- each form of a table has at least a word behind its mark

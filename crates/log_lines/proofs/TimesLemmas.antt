@@ -1,10 +1,10 @@
 -- Reading as many numbers as end a line, one by one.
-use Rattle.std.proofs.Common.{◌≡◌, ℕ, suc, ◌+◌, ◌<◌, Bool, true, false, cond, List, [], ◌∷◌, ◌++◌, length, get_or, take, set, Option, Some, None, refl, sym, ap, ◌∙◌, arith, inl, inr, ◌⊎◌, append_assoc, append-nil, length-append, length-set, eq-eqb}
+use Rattle.std.proofs.Common.{◌≡◌, ℕ, suc, ◌+◌, ◌<◌, true, false, cond, List, [], ◌∷◌, ◌++◌, length, get_or, take, set, Option, Some, None, refl, sym, ap, ◌∙◌, arith, append_assoc, append-nil, length-append, length-set, eq-eqb}
 use Rattle.std.specs.Prelude.{option_and_then, option_map, ◌==◌}
 use Rattle.std.proofs.lemmas.Bool.Decides.{nat_tests}
 use Rattle.std.proofs.lemmas.List.{take_more, take-set-le, get_or-set_same}
 use Rattle.log_lines.specs.Fields.{each}
-use Rattle.log_lines.specs.Rows.{read_last}
+use Rattle.log_lines.specs.Rows.{read_both, read_last}
 use Rattle.log_lines.specs.Words.{read_first}
 
 -- some words were read, as these numbers, and the others are left
@@ -18,7 +18,7 @@ abbrev pub read_times : (List ℕ → Option ℕ) → ℕ → List (List ℕ) �
 read_times read n words = cond (length words == n) (each read words) None
 
 -- nothing in front
-same_map : (o : Option (List ℕ)) → o ≡ option_map (λ others. [] ++ others) o
+pub same_map : {A : Type 0} (o : Option (List A)) → o ≡ option_map (λ others. [] ++ others) o
 same_map None = refl
 same_map (Some l) = refl
 
@@ -28,6 +28,26 @@ pub map_more : {A : Type 0} (front : List A) (a : A) (o : Option (List A))
     ≡ option_map (λ others. (front ++ a ∷ []) ++ others) o
 map_more front a None = refl
 map_more front a (Some l) = ap Some (sym (append_assoc front (a ∷ []) l))
+
+-- one item more is read
+pub each_more : {X A : Type 0} (read : X → Option A) (front : List A) (x : X) (a : A) (xs : List X)
+    (all : Option (List A)) → Some a ≡ read x
+    → option_map (λ others. front ++ others) (each read (x ∷ xs)) ≡ all
+    → option_map (λ others. (front ++ a ∷ []) ++ others) (each read xs) ≡ all
+each_more {A = A} read front x a xs all is so =
+    let both : option_map (λ others. a ∷ others) (each read xs) ≡ each read (x ∷ xs) =
+    ap (λ (o : Option A).
+    option_and_then (λ b. option_map (λ others. b ∷ others) (each read xs)) o) is in
+    sym (map_more front a (each read xs))
+    ∙ ap (λ (o : Option (List A)). option_map (λ others. front ++ others) o) both ∙ so
+
+-- an item that is not readable
+pub each_none : {X A : Type 0} (read : X → Option A) (front : List A) (x : X) (xs : List X)
+    (all : Option (List A)) → None ≡ read x
+    → option_map (λ others. front ++ others) (each read (x ∷ xs)) ≡ all → None ≡ all
+each_none {A = A} read front x xs all is so =
+    ap (λ (o : Option A). option_map (λ others. front ++ others)
+    (option_and_then (λ b. option_map (λ others. b ∷ others) (each read xs)) o)) is ∙ so
 
 -- the front of a list, an item of which was set
 pub front_more : {A : Type 0} (items : List A) (k : ℕ) (item : A) → k < length items
@@ -83,25 +103,17 @@ read_more read words left behind front n has is =
           both ∙ map_more front n (each read behind);
     }
 
--- what gives nothing was not there
-map_none : (words : List (List ℕ)) (o : Option ℕ)
-    → ◌≡◌ {A = Option (ℕ × List (List ℕ))} None (option_map (λ a. (a, words)) o) → o ≡ None
-map_none words None is = refl
-map_none words (Some a) is = absurd (some_none a words (sym is))
-
--- where no first word is read, none is left or not all are read
-each_fails : (read : List ℕ → Option ℕ) (left : List (List ℕ)) → None ≡ read_first read left
-    → (left ≡ []) ⊎ (each read left ≡ None)
-each_fails read [] is = inl refl
-each_fails read (word ∷ words) is =
-    let none = map_none words (read word) is in
-    inr (ap (λ (o : Option ℕ).
-    option_and_then (λ a. option_map (λ others. a ∷ others) (each read words)) o) none)
-
--- neither side gives anything
-either_none : (b : Bool) → ◌≡◌ {A = Option (List ℕ)} None (cond b None None)
-either_none true = refl
-either_none false = refl
+-- a first word that is read, and what is read from the words behind it
+pub both_read : {A : Type 0} (read : List ℕ → Option ℕ) (others : List (List ℕ) → Option A)
+    (words left : List (List ℕ)) (n : ℕ) (a : A) → Some (n, left) ≡ read_first read words
+    → Some a ≡ others left
+    → (let pair : ℕ × A = (n, a) in Some pair) ≡ read_both read others words
+both_read {A = A} read others words left n a is so =
+    let parts = first_parts read words left n is in
+    let with : ℕ → A → ℕ × A = λ m b. (m, b) in
+    sym (ap (λ (ws : List (List ℕ)). read_both read others ws) parts.1
+    ∙ ap (λ (o : Option ℕ). option_and_then (λ m. option_map (with m) (others left)) o) parts.2
+    ∙ ap (λ (o : Option A). option_map (with n) o) (sym so))
 
 -- as many words as are wanted
 pub read_all : (read : List ℕ → Option ℕ) (n : ℕ) (words : List (List ℕ)) (front : List ℕ)

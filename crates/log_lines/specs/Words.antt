@@ -4,13 +4,12 @@
 -- is None. Public functions cite the definitions up to `words_of`; the others are for the code's
 -- own.
 use Prim.Native.Char.{code}
-use Rattle.std.specs.Prelude.{ℕ, List, [], ◌∷◌, ◌++◌, Option, Some, None, ◌==◌, if◌then◌else◌, option_and_then, option_map}
+use Rattle.std.specs.Prelude.{ℕ, List, [], ◌∷◌, Option, Some, None, ◌==◌, if◌then◌else◌, option_and_then, option_map}
 use Rattle.std.specs.List.{slice_split}
 use Rattle.instruction_set.specs.declared.letter.Letter.{Letter}
 use Rattle.mutations.specs.declared.change.Change.{Change}
-use Rattle.log_lines.specs.Fields.{each}
 use Rattle.log_lines.specs.declared.reading.Arrival.{Arrival}
-use Rattle.log_lines.specs.Kinds.{small, over_field, read_change}
+use Rattle.log_lines.specs.Kinds.{small, over_field}
 
 -- the pieces of what is left of a text, cut at each such byte; no piece where nothing is left
 abbrev pub pieces_of : ℕ → Option (List ℕ) → List (List ℕ)
@@ -58,7 +57,3 @@ read_arrival words = update_behind (read_first small.read words)
 -- a way to make a change of a place and a letter: a point or an insertion
 abbrev pub ToChange : Type 0
 ToChange = ℕ → Letter → Change
-
--- the changes that were read already, and then those of other words; none where one is no change
-abbrev pub after_items : List Change → List (List ℕ) → Option (List Change)
-after_items front words = option_map (λ others. front ++ others) (each read_change words)

@@ -100,20 +100,20 @@ fn lettered(rest: &[u8]) -> Option<(u32, Letter)>
     }
 }
 
-/// One change, such as `p4k` or `d9`.
-fn item(word: &[u8]) -> Option<Change>
-    ensures { result ≡ read_change word.now }
+/// The change with this mark, such as `p`, and the text behind it.
+fn change_of(mark: u8, rest: &[u8]) -> Option<Change>
+    ensures { result ≡ read_change (mark ∷ rest.now) }
 {
-    match word {
-        [b'p', rest @ ..] => match lettered(rest) {
+    match mark {
+        b'p' => match lettered(rest) {
             Some((at, letter)) => Some(Change::Point { at, letter }),
             None => None,
         },
-        [b'i', rest @ ..] => match lettered(rest) {
+        b'i' => match lettered(rest) {
             Some((at, letter)) => Some(Change::Insert { at, letter }),
             None => None,
         },
-        [b'd', rest @ ..] => match small_number(0, u32::MAX, rest) {
+        b'd' => match small_number(0, u32::MAX, rest) {
             Some(at) => Some(Change::Delete { at }),
             None => None,
         },
@@ -121,33 +121,43 @@ fn item(word: &[u8]) -> Option<Change>
     }
 }
 
+/// One change, such as `p4k` or `d9`.
+fn item(word: &[u8]) -> Option<Change>
+    ensures { result ≡ read_change word.now }
+{
+    match word {
+        [mark, rest @ ..] => change_of(*mark, rest),
+        [] => None,
+    }
+}
+
+/// The changes that stand between commas, in any order.
+fn item_list(alloc: Global, word: &[u8]) -> Result<Option<Vec<Change>>, Memory>
+    ensures { IfOk result (λ found. option_map (λ v. v.items) found
+        ≡ each read_change (pieces_of 44 (Some word.now))) }
+{
+    let mut found = Vec::new(alloc);
+    let mut left = Some(word);
+    while let Some(rest) = left {
+        let (piece, others) = split_at(rest, b',');
+        let Some(one) = item(piece) else {
+            return Ok(None);
+        };
+        found.push(one)?;
+        left = others;
+    }
+    Ok(Some(found))
+}
+
 /// The changes in any order, or a dash for none.
 fn items(alloc: Global, word: &[u8]) -> Result<Option<Vec<Change>>, Memory>
     ensures { IfOk result (λ found. option_map (λ v. v.items) found
         ≡ (list_of change_field).read word.now) }
 {
-    let mut found: Vec<Change> = Vec::new(alloc);
     match word {
-        [b'-'] => return Ok(Some(found)),
-        _ => {}
+        [b'-'] => Ok(Some(Vec::new(alloc))),
+        _ => item_list(alloc, word),
     }
-    let mut rest = word;
-    for _ in 0..u64::MAX {
-        let (piece, others) = split_at(rest, b',');
-        match item(piece) {
-            Some(one) => {
-                if found.push(one).is_err() {
-                    return Err(Memory);
-                }
-            }
-            None => return Ok(None),
-        }
-        match others {
-            Some(behind) => rest = behind,
-            None => return Ok(Some(found)),
-        }
-    }
-    Err(Memory)
 }
 
 fn may_follow(first: &Change, next: &Change) -> bool
@@ -168,13 +178,11 @@ fn is_in_order(changes: &[Change]) -> bool
     ensures { result ≡ in_order changes.now }
 {
     let mut rest = changes;
-    while let [first, behind @ ..] = rest {
-        if let [next, ..] = behind {
-            if !may_follow(first, next) {
-                return false;
-            }
+    while let [first, next, ..] = rest {
+        if !may_follow(first, next) {
+            return false;
         }
-        rest = behind;
+        rest = &rest[1..];
     }
     true
 }

@@ -22,7 +22,7 @@ pub enum LogLine {
         update: u32,
         cell: u32,
     },
-    /// A birth, and who stood in the cell and so died.
+    /// A birth, with the organism that the newborn replaced, if any.
     Birth {
         id: u64,
         parent: u64,
@@ -31,7 +31,7 @@ pub enum LogLine {
         over: Option<u64>,
         origin: Origin,
     },
-    /// An injected organism, and who stood in the cell and so died.
+    /// An injected organism, with the organism that it replaced, if any.
     Injected {
         id: u64,
         update: u32,

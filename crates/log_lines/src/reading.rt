@@ -167,14 +167,26 @@ fn base_first<'a>(
         ≡ read_first base_field.read (words_of (option_copied rest.entry))) }
 {
     match rest {
-        Some(bytes) => {
+        Some(bytes) => base_in(alloc, bytes),
+        None => Ok(None),
+    }
+}
+
+/// As `base_first`. Most births have the parent's genome, so its sign is tried first.
+fn base_in(alloc: Global, bytes: &[u8]) -> Result<Option<(Base, Option<&[u8]>)>, Memory>
+    ensures { IfOk result (λ found.
+        option_map (λ p. (written_in p.0, words_of (option_copied p.1))) found
+        ≡ read_first base_field.read (words_of (Some bytes.now))) }
+{
+    match bytes {
+        [b'=', b' ', behind @ ..] => Ok(Some((Base::Parent, Some(behind)))),
+        _ => {
             let (word, others) = split_at(bytes, b' ');
             match base(alloc, word)? {
                 Some(value) => Ok(Some((value, others))),
                 None => Ok(None),
             }
         }
-        None => Ok(None),
     }
 }
 

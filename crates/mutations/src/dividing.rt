@@ -20,7 +20,7 @@ use instruction_set::laws::one_index;
 use random_streams::Draws;
 use std::alloc::{AllocError, Global};
 
-/// More words than any birth takes. So many must be left in the stream.
+/// More words than any birth takes. At least this many must be left in the stream.
 pub const BIRTH_WORDS: u64 = 65_536;
 
 /// Draws the errors of a divide: the child and the record of its birth. `clean` and `written` are

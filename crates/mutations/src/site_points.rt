@@ -1,5 +1,6 @@
 // The first part of a divide's errors: letters put in at places, and the points that tell them.
-ghost use Rattle.std.specs.Prelude.{◌≡◌, ◌+◌, ◌*◌, ◌≤◌, length, IfOk, OnOk};
+ghost use Rattle.std.specs.Prelude.{◌≡◌, ◌+◌, ◌*◌, ◌^◌, ◌<◌, ◌≤◌, List, ◌∷◌, ◌++◌, length, IfOk, OnOk};
+ghost use Rattle.instruction_set.specs.declared.letter.Letter.{Letter};
 ghost use Rattle.genome.specs.Genome.{IsGenome};
 ghost use Rattle.random_streams.specs.RandomStream.{word_of, word_count, million};
 ghost use Rattle.mutations.specs.DivideErrors.{site_text, after_sites, pointed_text, after_points, points_from};
@@ -81,12 +82,29 @@ pub(crate) fn points(
     one_index();
     let mut points = Vec::new(alloc);
     for (at, letter) in text.iter().enumerate() {
-        if clean[at] != *letter {
-            points.push(Change::Point {
-                at: at as u32,
-                letter: *letter,
-            })?;
-        }
+        note_point(&mut points, at, clean[at], *letter)?;
     }
     Ok(points)
+}
+
+/// Notes a point at a place where the letters differ.
+fn note_point(
+    points: &mut Vec<Change>,
+    at: usize,
+    was: Letter,
+    letter: Letter,
+) -> Result<(), AllocError>
+    requires { at < 2 ^ 32 }
+    ensures { OnOk result ((clean text : List Letter)
+        → points.new.items ++ points_from (at + 1) clean text
+        ≡ points.old.items ++ points_from at (was ∷ clean) (letter ∷ text)) }
+{
+    if was == letter {
+        return Ok(());
+    }
+    points.push(Change::Point {
+        at: at as u32,
+        letter,
+    })?;
+    Ok(())
 }

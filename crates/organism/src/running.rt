@@ -60,7 +60,7 @@ impl Organism {
         ensures { result ≡ age_of_death (setting_numbers settings.now) self.now }
     {
         if settings.death {
-            u64::from(settings.age_limit) * u64::from(self.genome.len())
+            u64::from(settings.age_limit) * u64::from(self.machine.birth_length())
         } else {
             u64::MAX
         }

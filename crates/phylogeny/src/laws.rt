@@ -5,8 +5,9 @@ ghost use Rattle.phylogeny.specs.CommonAncestor.{most_recent_common_ancestor};
 ghost use Rattle.phylogeny.specs.LatestCommon.{TellsLatestCommon};
 ghost use Rattle.phylogeny.specs.LogPedigree.{pedigree_of};
 
-/// In a good log the latest common ancestor is the greatest id in the lines of all who live. There
-/// is none exactly if nobody lives, or if two who live have different founders.
+/// In a good log the latest common ancestor is the greatest id in the lines of descent of all
+/// living organisms. There is none exactly if no organism lives, or if two of the living have
+/// different founders.
 pub fn common_ancestors_are_latest()
     ensures { (lines : List Line) → IsGoodLog lines
         → TellsLatestCommon (pedigree_of lines)

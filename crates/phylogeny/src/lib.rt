@@ -1,5 +1,5 @@
-//! Who descends from whom in a log: how far each who lives is from its founder, and the latest
-//! common ancestor of all who live.
+//! Who descends from whom in a log: the depth of each living organism, and the latest common
+//! ancestor of all living organisms.
 #![tactic(auto)]
 
 mod depths;

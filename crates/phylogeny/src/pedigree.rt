@@ -8,7 +8,7 @@ use avida_port::Memory;
 use lineage_log::{Log, LogLine};
 use std::alloc::Global;
 
-/// The parent of each organism ever, by id, and who stands in each cell.
+/// The parent of each organism ever, by id, and the organism in each cell.
 #[derive(Drop)]
 pub struct Pedigree {
     pub parents: Vec<Option<u64>>,

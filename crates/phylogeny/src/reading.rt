@@ -11,7 +11,7 @@ use avida_port::Memory;
 use lineage_log::Log;
 use std::alloc::Global;
 
-/// The phylogeny of who lives at the end of a log.
+/// The phylogeny of the organisms alive at the end of a log.
 pub fn phylogeny(alloc: Global, log: &Log) -> Result<Phylogeny, Memory>
     ensures depths { IfOk result (λ tree. tree.depths ≡ depths_of (pedigree_of log.now)) }
     ensures common { IfOk result

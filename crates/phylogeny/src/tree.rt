@@ -5,7 +5,7 @@ use crate::depths::Depths;
 pub struct Phylogeny {
     /// How far each is from its founder, in order of cells.
     pub depths: Depths,
-    /// The latest common ancestor. None where nobody lives, and where two have different founders.
+    /// The latest common ancestor. None if no organism lives, or if two have different founders.
     pub common: Option<u64>,
     /// How many organisms ever live or are ancestors of one that lives.
     pub kept: u64,

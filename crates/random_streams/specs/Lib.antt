@@ -1,1 +1,2 @@
 pub mod RandomStream
+pub mod Rows

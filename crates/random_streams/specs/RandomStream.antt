@@ -1,7 +1,7 @@
 -- The numbered streams of random words (docs/WORLD.md, "Random streams").
-use Rattle.std.specs.Prelude.{ℕ, ◌+◌, ◌*◌, ◌/◌, ◌^◌, Bool, List, ◌++◌, nat_lt, replicate}
+use Rattle.std.specs.Prelude.{◌≡◌, ℕ, ◌+◌, ◌*◌, ◌/◌, ◌%◌, ◌^◌, ◌<◌, Bool, List, ◌++◌, nat_lt, replicate, slice_index}
 use Rattle.std.specs.Int.{w64, to_le_bytes}
-use Rattle.rand_chacha.specs.ChaCha.{ChaCha, word_at, key_of}
+use Rattle.rand_chacha.specs.ChaCha.{word_at, key_of}
 use Rattle.random_streams.specs.declared.purpose.Purpose.{Purpose}
 use Rattle.random_streams.specs.declared.purpose.Purpose.TheVariants.{Run, Place}
 
@@ -77,10 +77,7 @@ next_word s = word_of s s.taken
 abbrev pub after : ℕ → Stream → Stream
 after n s = record s { taken = s.taken + n }
 
--- the generator that stands before word k of a stream
-unfoldable pub generator_at : ℕ → ℕ → ℕ → Purpose → ℕ → ChaCha
-generator_at seed update cell purpose k = record {
-  key = key_of (key_bytes seed);
-  stream = stream_number update cell purpose;
-  word_pos = k;
-}
+-- these are the words of the block in which word k stands, unless that is the block's first word
+abbrev pub HasBlock : List ℕ → ℕ → ℕ → ℕ → Purpose → ℕ → Type 0
+HasBlock words seed update cell purpose k = (i : ℕ) → i < 16 → 0 < k % 16
+    → slice_index words i ≡ draw seed update cell purpose (k / 16 * 16 + i)

@@ -1,10 +1,7 @@
-ghost use Rattle.std.specs.Prelude.{◌≡◌, ℕ, ◌+◌, ◌*◌, ◌<◌, ◌≤◌};
-ghost use Rattle.random_streams.specs.RandomStream.{key_bytes, first_of, next_word, after, scaled, hits, cell_count, word_count, million};
+ghost use Rattle.std.specs.Prelude.{◌≡◌, ℕ, ◌+◌, ◌*◌, ◌/◌, ◌<◌, ◌≤◌, slice_index};
+ghost use Rattle.random_streams.specs.RandomStream.{first_of, next_word, word_of, after, scaled, hits, cell_count, word_count, million};
 
-use crate::Purpose;
-use rand_chacha::ChaCha8Rng;
-use rand_core::SeedableRng;
-use rand_core::utils::NextWord;
+use crate::{Purpose, block};
 use std::marker::Model;
 
 /// The greatest width and the greatest height of a world.
@@ -22,7 +19,8 @@ pub const MILLION: u32 = 1_000_000;
 /// A numbered stream of words, read from its word 0 on.
 #[derive(Drop)]
 pub struct Draws {
-    generator: ChaCha8Rng,
+    // The words of the block in which the next word stands, unless that is the block's first word.
+    words: [u32; 16],
     seed: u64,
     update: u32,
     cell: u32,
@@ -32,7 +30,7 @@ pub struct Draws {
 
 impl Model for Draws {
     ghost use Rattle.std.specs.Prelude.{◌≡◌};
-    ghost use Rattle.random_streams.specs.RandomStream.{Stream, generator_at};
+    ghost use Rattle.random_streams.specs.RandomStream.{Stream, HasBlock};
 
     ghost Value = { Stream };
 
@@ -44,21 +42,18 @@ impl Model for Draws {
       taken = a.taken;
     } };
 
-    ghost invariant = { λ a. a.generator ≡ generator_at a.seed a.update a.cell a.purpose a.taken };
+    ghost invariant = { λ a. HasBlock a.words a.seed a.update a.cell a.purpose a.taken };
 }
 
 impl Draws {
     /// The stream before its word 0. No word is computed yet. Each seed, update, cell and purpose
     /// has a stream of its own.
-    #[tactic(auto, unfolding(crate::specs::RandomStream::generator_at))]
     pub fn start(seed: u64, update: u32, cell: u32, purpose: Purpose) -> Draws
         requires { cell < cell_count }
         ensures { result ≡ first_of seed update cell purpose }
     {
-        let mut generator = ChaCha8Rng::from_seed(key(seed));
-        generator.set_stream(u64::from(update) * 131_072 + u64::from(cell) * 2 + purpose.number());
         Draws {
-            generator,
+            words: [0; 16],
             seed,
             update,
             cell,
@@ -77,15 +72,30 @@ impl Draws {
 
     /// The word whose number is the count of words taken.
     #[inline]
-    #[tactic(auto, unfolding(crate::specs::RandomStream::draw, crate::specs::RandomStream::generator_at))]
     pub fn word(&mut self) -> u32
         requires { self.old.taken < word_count }
         ensures word { result ≡ next_word self.old }
         ensures takes_one { self.new ≡ after 1 self.old }
     {
-        let word = self.generator.next_word();
+        let place = (self.taken % 16) as usize;
+        if place == 0 {
+            self.words = self.block();
+        }
+        let word = self.words[place];
         self.taken += 1;
         word
+    }
+
+    /// The words of the block in which the next word stands.
+    #[tactic(auto, unfolding(crate::specs::RandomStream::draw))]
+    fn block(&self) -> [u32; 16]
+        ensures { (i : ℕ) → i < 16
+            → slice_index result i ≡ word_of self.now (self.now.taken / 16 * 16 + i) }
+    {
+        let stream = u64::from(self.update) * 131_072
+            + u64::from(self.cell) * 2
+            + self.purpose.number();
+        block::words(self.seed, stream, self.taken / 16)
     }
 
     /// The next word, scaled to the numbers below `n`.
@@ -121,14 +131,4 @@ pub fn scaled(word: u32, n: u32) -> u32
     ensures in_range { 1 ≤ n → result < n }
 {
     (u64::from(word) * u64::from(n) >> 32) as u32
-}
-
-fn key(seed: u64) -> [u8; 32]
-    ensures { result ≡ key_bytes seed }
-{
-    let [a, b, c, d, e, f, g, h] = seed.to_le_bytes();
-    [
-        a, b, c, d, e, f, g, h, 0, 0, 0, 0, 0, 0, 0, 0, 0, 0, 0, 0, 0, 0, 0, 0, 0, 0, 0, 0, 0, 0,
-        0, 0,
-    ]
 }

@@ -1,6 +1,7 @@
 //! Numbered streams of random words.
 #![tactic(auto)]
 
+mod block;
 mod draws;
 pub mod laws;
 mod purpose;

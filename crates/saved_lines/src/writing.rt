@@ -315,8 +315,8 @@ pub fn write_resident(who: &Resident, out: &mut Vec<u8>) -> Result<(), Memory>
     whole_or_nothing(written, start, out)
 }
 
-/// Appends the last line of a saved world of so many organisms. When memory runs out `out` stays as
-/// it was.
+/// Appends the last line of a saved world, with the number of its organisms. When memory runs out
+/// `out` stays as it was.
 pub fn write_count(organisms: u64, out: &mut Vec<u8>) -> Result<(), Memory>
     ensures ok { OnOk result (out.new.items ≡ out.old.items ++ count_text organisms) }
     ensures err { OnErr result (out.new.items ≡ out.old.items) }

@@ -1,11 +1,8 @@
-pub mod CountLemmas
 pub mod EffectLemmas
 pub mod MachineLemmas
-pub mod MarksLemmas
-pub mod OnesLemmas
 pub mod OperandLemmas
-pub mod PackedLemmas
 pub mod QuestionLemmas
+pub mod SiteLemmas
 pub mod StepLemmas
 pub mod TemplateLemmas
 pub mod WordLemmas

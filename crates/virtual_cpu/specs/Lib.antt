@@ -3,8 +3,8 @@ pub mod Heads
 pub mod Stack
 pub mod Machine
 pub mod Image
-pub mod Marks
-pub mod PackedMarks
+pub mod SiteLists
+pub mod Sites
 pub mod Operands
 pub mod RegisterEffects
 pub mod HeadEffects
@@ -20,3 +20,4 @@ pub mod View
 pub use Rattle.genome.specs.Genome
 pub use Rattle.label_search.specs.Template
 pub use Rattle.label_search.specs.Search
+pub use Rattle.label_search.specs.Site

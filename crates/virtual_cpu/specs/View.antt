@@ -1,15 +1,15 @@
 -- What contracts see of a `Cpu` (docs/MACHINE.md, "The machine").
-use Rattle.std.specs.Prelude.{ℕ, ◌*◌, ◌≤◌, min, vec_capacity}
+use Rattle.std.specs.Prelude.{ℕ, ◌*◌, ◌≤◌, min}
 use Rattle.virtual_cpu.specs.Machine.{Machine, IsMachine}
 use Rattle.virtual_cpu.specs.declared.cpu.Cpu.TheInside.{Inside}
 
 -- the machine that a `Cpu` is
 abbrev pub machine_view : Inside → Machine
 machine_view cpu = record {
-  memory = cpu.memory.items;
-  clean = cpu.clean.items;
-  executed = cpu.executed.places;
-  copied = cpu.copied.places;
+  memory = cpu.sites.letters;
+  clean = cpu.sites.clean;
+  executed = cpu.sites.executed;
+  copied = cpu.sites.copied;
   registers = cpu.registers;
   stacks = cpu.stacks;
   active = cpu.active;
@@ -27,7 +27,4 @@ room_of cpu = min cpu.limit (6 * cpu.birth_length)
 -- a machine, and room for all that it may grow to
 pub record IsMachineWithRoom (cpu : Inside) : Type 0 where
   pub machine : IsMachine (machine_view cpu)
-  pub memory : room_of cpu ≤ vec_capacity cpu.memory
-  pub clean : room_of cpu ≤ vec_capacity cpu.clean
-  pub executed : room_of cpu ≤ cpu.executed.room
-  pub copied : room_of cpu ≤ cpu.copied.room
+  pub room : room_of cpu ≤ cpu.sites.room

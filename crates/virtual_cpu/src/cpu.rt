@@ -15,10 +15,9 @@ ghost use Rattle.virtual_cpu.specs.Divide.{divide_question, parent_part, child_p
 use crate::cpu_image::{CpuImage, Letters, Marks};
 use crate::cut::Cut;
 use crate::heads::{Head, Heads};
-use crate::packed_marks::PackedMarks;
 use crate::places::{place_after, place_of_number};
 use crate::registers::{Register, Registers};
-use crate::reserved::{append_copies, append_letters, letters_with_room};
+use crate::sites::Sites;
 use crate::stack::Stack;
 use avida_port::Memory;
 use divide_rules::DivideAsk;
@@ -31,18 +30,15 @@ use std::marker::Model;
 /// A machine that steps through its own memory.
 #[derive(Drop)]
 pub struct Cpu {
-    pub(crate) memory: Vec<Letter>,
-    clean: Vec<Letter>,
-    pub(crate) executed: PackedMarks,
-    copied: PackedMarks,
-    registers: Registers,
-    stacks: [Stack; 2],
-    active: usize,
+    pub(crate) sites: Sites,
     pub(crate) heads: Heads,
+    registers: Registers,
     pub(crate) nops: Template,
     pending: bool,
     birth_length: usize,
     limit: usize,
+    active: usize,
+    stacks: [Stack; 2],
 }
 
 impl Model for Cpu {
@@ -69,23 +65,17 @@ impl Cpu {
         let birth_length = genome.len() as usize;
         let limit = memory_limit as usize;
         let room = (6 * birth_length).min(limit);
-        let memory = letters_with_room(alloc, genome.letters(), room)?;
-        let clean = letters_with_room(alloc, genome.letters(), room)?;
-        let executed = PackedMarks::unmarked(alloc, birth_length, room)?;
-        let copied = PackedMarks::unmarked(alloc, birth_length, room)?;
+        let sites = Sites::fresh(alloc, genome.letters(), room)?;
         Ok(Cpu {
-            memory,
-            clean,
-            executed,
-            copied,
-            registers: Registers::default(),
-            stacks: [Stack::new(), Stack::new()],
-            active: 0,
+            sites,
             heads: Heads::default(),
+            registers: Registers::default(),
             nops: Template::none(),
             pending: false,
             birth_length,
             limit,
+            active: 0,
+            stacks: [Stack::new(), Stack::new()],
         })
     }
 
@@ -104,23 +94,24 @@ impl Cpu {
         let birth_length = genome.len() as usize;
         let limit = memory_limit as usize;
         let room = (6 * birth_length).min(limit);
-        let memory = letters_with_room(alloc, image.memory.as_slice(), room)?;
-        let clean = letters_with_room(alloc, image.clean.as_slice(), room)?;
-        let executed = PackedMarks::packed(alloc, image.executed.as_slice(), room)?;
-        let copied = PackedMarks::packed(alloc, image.copied.as_slice(), room)?;
+        let sites = Sites::of_lists(
+            alloc,
+            image.memory.as_slice(),
+            image.clean.as_slice(),
+            image.executed.as_slice(),
+            image.copied.as_slice(),
+            room,
+        )?;
         Ok(Cpu {
-            memory,
-            clean,
-            executed,
-            copied,
-            registers: Registers::of(image.registers),
-            stacks: [Stack::of(image.first), Stack::of(image.second)],
-            active: image.active as usize,
+            sites,
             heads: Heads::of(image.heads),
+            registers: Registers::of(image.registers),
             nops: image.nops.copy(),
             pending: image.pending,
             birth_length,
             limit,
+            active: image.active as usize,
+            stacks: [Stack::of(image.first), Stack::of(image.second)],
         })
     }
 
@@ -129,10 +120,10 @@ impl Cpu {
         ensures image { IfOk result (λ image. image ≡ image_of self.now) }
         ensures machine { IsMachine self.now }
     {
-        let memory = copied_letters(alloc, self.memory.as_slice())?;
-        let clean = copied_letters(alloc, self.clean.as_slice())?;
-        let executed = Marks::from_vec(self.executed.unpacked(alloc)?);
-        let copied = Marks::from_vec(self.copied.unpacked(alloc)?);
+        let memory = Letters::from_vec(self.sites.all_letters(alloc)?);
+        let clean = Letters::from_vec(self.sites.all_clean(alloc)?);
+        let executed = Marks::from_vec(self.sites.all_executed(alloc)?);
+        let copied = Marks::from_vec(self.sites.all_copied(alloc)?);
         Ok(CpuImage {
             registers: self.registers(),
             active: self.active as u8,
@@ -156,12 +147,7 @@ impl Cpu {
         ensures { let kept = parent_part self.old.memory keep in
             self.new ≡ fresh_machine kept self.old.birth_length self.old.limit }
     {
-        let keep = keep as usize;
-        self.memory.truncate(keep);
-        self.clean.clear();
-        append_letters(&mut self.clean, self.memory.as_slice());
-        self.executed.reset(keep);
-        self.copied.reset(keep);
+        self.sites.reset(keep as usize);
         self.registers = Registers::default();
         let stacks = [Stack::new(), Stack::new()];
         self.stacks = stacks;
@@ -200,12 +186,7 @@ impl Cpu {
             self.new ≡ fresh_machine text (length text) self.old.limit }
     {
         let birth_length = genome.len() as usize;
-        self.memory.clear();
-        append_letters(&mut self.memory, genome.letters());
-        self.clean.clear();
-        append_letters(&mut self.clean, genome.letters());
-        self.executed.reset(birth_length);
-        self.copied.reset(birth_length);
+        self.sites.begin(genome.letters());
         self.registers = Registers::default();
         let stacks = [Stack::new(), Stack::new()];
         self.stacks = stacks;
@@ -227,16 +208,17 @@ impl Cpu {
     {
         let read = ask.read as usize;
         let end = ask.end as usize;
-        let clean = Genome::from_letters(alloc, &self.clean[read..end]).map_err(|_| Memory)?;
-        let written = Genome::from_letters(alloc, &self.memory[read..end]).map_err(|_| Memory)?;
+        let clean = genome_of(alloc, self.sites.clean(alloc, read, end)?)?;
+        let written = genome_of(alloc, self.sites.letters(alloc, read, end)?)?;
         Ok(Cut { clean, written })
     }
 
     /// The letter under IP.
+    #[inline(always)]
     pub fn next(&self) -> Letter
         ensures { result ≡ letter_under_ip self.now }
     {
-        self.memory[self.heads.ip]
+        self.sites.letter(self.heads.ip)
     }
 
     /// The place of IP.
@@ -254,26 +236,36 @@ impl Cpu {
         [self.registers.ax, self.registers.bx, self.registers.cx]
     }
 
+    /// The length of the genome that the machine was made for.
+    pub fn birth_length(&self) -> u32
+        ensures { result ≡ self.now.birth_length }
+    {
+        self.birth_length as u32
+    }
+
     /// The length of memory.
     pub fn length(&self) -> u32
         ensures value { result ≡ length self.now.memory }
         ensures machine { IsMachine self.now }
     {
-        self.memory.len() as u32
+        self.sites.len() as u32
     }
 
+    #[inline(always)]
     pub(crate) fn mark_executed(&mut self)
         ensures { self.new ≡ with_ip_marked self.old }
     {
-        self.executed.mark(self.heads.ip);
+        self.sites.mark_executed(self.heads.ip);
     }
 
+    #[inline(always)]
     pub(crate) fn advance(&mut self)
         ensures { self.new ≡ with_ip_advanced self.old }
     {
-        self.heads.ip = place_after(self.heads.ip, self.memory.len());
+        self.heads.ip = place_after(self.heads.ip, self.sites.len());
     }
 
+    #[inline(always)]
     pub(crate) fn head(&self, head: Head) -> usize
         ensures place { result ≡ head_place self.now.heads head }
         ensures within { result < 8192 }
@@ -282,13 +274,15 @@ impl Cpu {
     }
 
     /// Moves a head to the place of a number, by floor modulo.
+    #[inline(always)]
     pub(crate) fn move_head(&mut self, head: Head, number: i64)
         ensures { self.new ≡ with_head_at self.old head (place_of_number self.old number) }
     {
-        let place = place_of_number(number, self.memory.len());
+        let place = place_of_number(number, self.sites.len());
         self.heads.set(head, place);
     }
 
+    #[inline(always)]
     pub(crate) fn move_head_to_flow(&mut self, head: Head)
         ensures { self.new ≡ with_head_at self.old head self.old.heads.flow }
     {
@@ -297,13 +291,15 @@ impl Cpu {
     }
 
     /// Moves FLOW to the place of a number, by floor modulo.
+    #[inline(always)]
     pub(crate) fn move_flow(&mut self, number: i64)
         ensures { self.new ≡ with_flow_at self.old (place_of_number self.old number) }
     {
-        self.heads.flow = place_of_number(number, self.memory.len());
+        self.heads.flow = place_of_number(number, self.sites.len());
     }
 
     /// Moves FLOW to a place.
+    #[inline(always)]
     pub(crate) fn move_flow_to(&mut self, place: usize)
         requires { place < length self.old.memory }
         ensures { self.new ≡ with_flow_at self.old place }
@@ -311,32 +307,37 @@ impl Cpu {
         self.heads.flow = place;
     }
 
+    #[inline(always)]
     pub(crate) fn place_after_ip(&self) -> usize
         ensures place { result ≡ place_after self.now self.now.heads.ip }
         ensures within { result < length self.now.memory }
     {
-        place_after(self.heads.ip, self.memory.len())
+        place_after(self.heads.ip, self.sites.len())
     }
 
+    #[inline(always)]
     pub(crate) fn memory_length(&self) -> usize
         ensures value { result ≡ length self.now.memory }
         ensures machine { IsMachine self.now }
     {
-        self.memory.len()
+        self.sites.len()
     }
 
+    #[inline(always)]
     pub(crate) fn register(&self, register: Register) -> i32
         ensures { result ≡ value_of self.now.registers register }
     {
         self.registers.get(register)
     }
 
+    #[inline(always)]
     pub(crate) fn set_register(&mut self, register: Register, value: i32)
         ensures { self.new ≡ with_value self.old register value }
     {
         self.registers.set(register, value);
     }
 
+    #[inline(always)]
     pub(crate) fn push_number(&mut self, number: i32)
         ensures { self.new ≡ with_active_stack self.old (pushed number (active_stack self.old)) }
     {
@@ -344,6 +345,7 @@ impl Cpu {
         active.push(number);
     }
 
+    #[inline(always)]
     pub(crate) fn pop_number(&mut self) -> i32
         ensures top { result ≡ top_of (active_stack self.old) }
         ensures rest { self.new ≡ with_active_stack self.old (popped (active_stack self.old)) }
@@ -352,6 +354,7 @@ impl Cpu {
         active.pop()
     }
 
+    #[inline(always)]
     pub(crate) fn swap_stacks(&mut self)
         ensures { self.new ≡ record self.old { active = 1 - self.old.active } }
     {
@@ -359,26 +362,25 @@ impl Cpu {
     }
 
     /// Copies the letter at READ, or the letter of a copy error, to WRITE.
+    #[inline(always)]
     #[tactic(auto, unfolding(crate::specs::Copying::after_h_copy))]
     pub(crate) fn copy_letter(&mut self, copy: Option<Letter>)
         ensures { self.new ≡ after_h_copy self.old copy }
     {
         let from = self.heads.read;
         let to = self.heads.write;
-        let read = self.memory[from];
+        let read = self.sites.letter(from);
         self.nops.note(read);
-        self.memory[to] = copy.unwrap_or(read);
-        self.clean[to] = read;
-        self.copied.mark(to);
-        self.heads.read = place_after(from, self.memory.len());
-        self.heads.write = place_after(to, self.memory.len());
+        self.sites.copy(to, copy.unwrap_or(read), read);
+        self.heads.read = place_after(from, self.sites.len());
+        self.heads.write = place_after(to, self.sites.len());
     }
 
     /// Whether no allocation is pending and memory is below its limit.
     pub(crate) fn can_allocate(&self) -> bool
         ensures { result ≡ can_allocate self.now }
     {
-        !self.pending && self.memory.len() < self.limit
+        !self.pending && self.sites.len() < self.limit
     }
 
     #[inline(never)]
@@ -387,12 +389,9 @@ impl Cpu {
         requires { can_allocate self.old ≡ true }
         ensures { self.new ≡ with_allocation self.old }
     {
-        let length = self.memory.len();
+        let length = self.sites.len();
         let extra = (2 * length).min(self.limit - length);
-        append_copies(&mut self.memory, Letter::NopA, extra);
-        append_copies(&mut self.clean, Letter::NopA, extra);
-        self.executed.append(extra);
-        self.copied.append(extra);
+        self.sites.append(extra);
         self.registers.ax = length as i32;
         self.pending = true;
     }
@@ -404,13 +403,13 @@ impl Cpu {
     {
         let read = self.heads.read;
         let end = if self.heads.write == 0 {
-            self.memory.len()
+            self.sites.len()
         } else {
             self.heads.write
         };
-        let executed = self.executed.count(0, read);
+        let executed = self.sites.count_executed(read);
         let copied = if read < end {
-            self.copied.count(read, end)
+            self.sites.count_copied(read, end)
         } else {
             0
         };
@@ -424,12 +423,9 @@ impl Cpu {
     }
 }
 
-/// Letters, in a list of their own.
-fn copied_letters(alloc: Global, letters: &[Letter]) -> Result<Letters, Memory>
-    ensures { IfOk result (λ copy. copy ≡ letters.now) }
+/// The genome of a list of letters, whose length is that of a genome.
+fn genome_of(alloc: Global, text: Vec<Letter>) -> Result<Genome, Memory>
+    ensures { IfOk result (λ genome. letters genome ≡ text.items) }
 {
-    match Vec::from_slice(alloc, letters) {
-        Ok(copy) => Ok(Letters::from_vec(copy)),
-        Err(_) => Err(Memory),
-    }
+    Genome::from_letters(alloc, text.as_slice()).map_err(|_| Memory)
 }

@@ -46,6 +46,7 @@ impl Heads {
         ]
     }
 
+    #[inline(always)]
     pub(crate) fn get(&self, head: Head) -> usize
         ensures { result ≡ head_place self.now head }
     {
@@ -56,6 +57,7 @@ impl Heads {
         }
     }
 
+    #[inline(always)]
     pub(crate) fn set(&mut self, head: Head, place: usize)
         ensures { self.new ≡ with_head self.old head place }
     {

@@ -8,10 +8,10 @@ mod heads;
 mod instructions;
 pub mod laws;
 mod operands;
-mod packed_marks;
 mod places;
 mod registers;
 mod reserved;
+mod sites;
 mod stack;
 mod step_answer;
 

@@ -16,13 +16,16 @@ use label_search::{Reading, Template, complement_after};
 
 impl Cpu {
     /// The letter after IP, across the end.
+    #[inline(always)]
     pub(crate) fn letter_after_ip(&self) -> Letter
         ensures { result ≡ letter_in_memory self.now (place_after self.now self.now.heads.ip) }
     {
-        self.memory[place_after(self.heads.ip, self.memory.len())]
+        self.sites
+            .letter(place_after(self.heads.ip, self.sites.len()))
     }
 
     /// Moves IP onto a modifier, and gives the register that it picks.
+    #[inline(always)]
     #[tactic(auto, unfolding(crate::specs::Operands::on_modifier))]
     pub(crate) fn pick_register(&mut self, default: Register) -> Register
         ensures picked { result ≡ register_picked self.old default }
@@ -40,6 +43,7 @@ impl Cpu {
     }
 
     /// Moves IP onto a modifier, and gives the head that it picks.
+    #[inline(always)]
     #[tactic(auto, unfolding(crate::specs::Operands::on_modifier))]
     pub(crate) fn pick_head(&mut self, default: Head) -> Head
         ensures picked { result ≡ head_picked self.old default }
@@ -65,10 +69,10 @@ impl Cpu {
         ensures moved { self.new ≡ on_template self.old }
         ensures few { length result ≤ 10 }
     {
-        let Reading { complement, last } = complement_after(self.memory.as_slice(), self.heads.ip);
+        let Reading { complement, last } = complement_after(self.sites.as_slice(), self.heads.ip);
         if !complement.is_empty() {
             let first = self.place_after_ip();
-            self.executed.mark(first);
+            self.sites.mark_executed(first);
             self.heads.ip = last;
         }
         complement
@@ -86,6 +90,6 @@ impl Cpu {
         ensures first { result ≡ first_match self.now.memory what.now }
         ensures within { IfSome result (λ place. place + length what.now ≤ length self.now.memory) }
     {
-        label_search::find(self.memory.as_slice(), what)
+        label_search::find(self.sites.as_slice(), what)
     }
 }

@@ -3,6 +3,7 @@ ghost use Rattle.std.specs.Prelude.{◌≡◌, ◌+◌, ◌<◌, ◌≤◌, ◌%
 ghost use Rattle.std.specs.Int.{int_rem_euclid};
 
 /// The place after another, across the end to place 0.
+#[inline(always)]
 pub(crate) fn place_after(place: usize, length: usize) -> usize
     requires { place < length }
     ensures next { result ≡ (place + 1) % length }

@@ -11,6 +11,7 @@ pub enum Register {
 }
 
 impl Register {
+    #[inline(always)]
     pub(crate) fn next(self) -> Register
         ensures { result ≡ register_after self }
     {
@@ -39,6 +40,7 @@ impl Registers {
         Registers { ax, bx, cx }
     }
 
+    #[inline(always)]
     pub(crate) fn get(&self, register: Register) -> i32
         ensures { result ≡ value_of self.now register }
     {
@@ -49,6 +51,7 @@ impl Registers {
         }
     }
 
+    #[inline(always)]
     pub(crate) fn set(&mut self, register: Register, value: i32)
         ensures { self.new ≡ with_register self.old register value }
     {

@@ -16,7 +16,7 @@ pub struct Event {
 /// What an event does.
 #[derive(Drop)]
 pub enum What {
-    /// An organism stands in the cell; who stood there dies.
+    /// A new organism is put into the cell; an organism that stands there dies.
     Inject { cell: u32, genome: Genome },
     /// All organisms in these cells die.
     Clear { first: u32, last: u32 },

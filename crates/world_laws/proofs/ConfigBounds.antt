@@ -11,7 +11,7 @@ use Rattle.world_config.specs.Events.{EventValue, WhatValue, inject, clear, rate
 use Rattle.world_config.specs.KeyTable.{Frame}
 use Rattle.world_config.specs.Shown.{values_of}
 use Rattle.world_config.specs.Values.{ConfigValues}
-use Rattle.world_laws.proofs.Configs.{IsConfig, size_of, FitsWhat, FitsEvent}
+use Rattle.world_laws.specs.Bounds.{IsConfig, size_of, FitsWhat, FitsEvent}
 
 -- the frame of a configuration's events
 abbrev frame : ConfigValues → Frame

@@ -19,7 +19,7 @@ use Rattle.world_laws.proofs.ListLemmas.{get_last, get_more}
 use Rattle.world_laws.proofs.Mirror.{People}
 use Rattle.world_laws.proofs.Scenes.{IsScene}
 use Rattle.world_laws.proofs.UpdateLines.{IsTurn, scene_birth, scene_deaths}
-use Rattle.world_laws.proofs.Configs.{IsConfig, size_of}
+use Rattle.world_laws.specs.Bounds.{IsConfig, size_of}
 use Rattle.world_laws.proofs.Runs.{IsRun, ended, scene_ended, turns_are}
 use Rattle.world_laws.proofs.WholeLogs.{kept_after, run_after}
 

@@ -1,26 +1,31 @@
 -- How an update ends, from sound organisms alone.
-use Rattle.std.proofs.Common.{◌+◌, ◌*◌, length, arith}
+use Rattle.std.proofs.Common.{◌≡◌, ◌∙◌, sym, ◌+◌, ◌*◌, ◌≤◌, length, map, sum, arith}
+use Rattle.std.proofs.Math.Nat.{mul-le-mul}
+use Rattle.std.proofs.lemmas.List.{length-map}
+use Rattle.std.proofs.lemmas.List.FromFn.{length-map-range_with_len}
 use Rattle.random_streams.specs.declared.purpose.Purpose.TheVariants.{Run}
 use Rattle.random_streams.specs.RandomStream.{draw}
 use Rattle.organism.specs.Lived.{IsSoundOrganism}
 use Rattle.world_config.specs.Values.{ConfigValues}
 use Rattle.world_rules.specs.World.{World}
-use Rattle.world_rules.specs.Lives.{slice_at}
+use Rattle.world_rules.specs.Lives.{life_at, lives_of, merit_in, slice_at, slices_at}
 use Rattle.world_rules.specs.Scene.{Scene}
 use Rattle.world_rules.specs.Settings.{settings_at}
 use Rattle.world_rules.specs.Update.{after_lives, after_burials, deaths_of, births_of, placings_of, after_births, events_at, after_events, last_scene, scene_of_lives, lives_after, next_scene, next_world}
 use Rattle.world_laws.specs.Keeping.{LiveOn}
 use Rattle.world_laws.specs.LowerLaws.{LifeLaws}
+use Rattle.world_laws.specs.Ranges.{HaveOwnIds}
 use Rattle.world_laws.proofs.Scenes.{Each}
 use Rattle.world_laws.proofs.LivesLemmas.{AreLives, lives_are}
-use Rattle.world_laws.proofs.AfterLives.{births_born, sound_kept}
-use Rattle.world_laws.proofs.Configs.{IsConfig, events_fit, events_few, rules_are}
+use Rattle.world_laws.proofs.AfterLives.{births_born, births_few, entries_few, sound_kept, was_there}
+use Rattle.world_laws.specs.Bounds.{IsConfig, size_of}
+use Rattle.world_laws.proofs.Configs.{events_fit, events_few, few_cells, rules_are}
 use Rattle.world_laws.proofs.Sounds.{Goes, goes_on, goes_more, goes_deaths, goes_births, goes_events}
 
 module _ (laws : LifeLaws) (config : ConfigValues) (fit : IsConfig config) (w : World)
     (sound : Each IsSoundOrganism w.cells) where
   -- the lives of sound organisms
-  sound_lives : AreLives config (slice_at config w.cells) 0 w.cells (lives_after config w)
+  pub sound_lives : AreLives config (slice_at config w.cells) 0 w.cells (lives_after config w)
   sound_lives = lives_are laws config (rules_are config fit) (w.update + 1) w.cells sound
 
   -- sound organisms live on
@@ -63,3 +68,67 @@ module _ (laws : LifeLaws) (config : ConfigValues) (fit : IsConfig config) (w : 
   next_sound =
       end_goes.sound
       (sound_kept config (slice_at config w.cells) 0 w.cells (lives_after config w) sound_lives)
+
+  -- the lives leave each its id
+  own_begun : HaveOwnIds w.cells (length w.everyone)
+      → HaveOwnIds begun.cells (length w.everyone)
+  own_begun ids =
+      let was = was_there config (slice_at config w.cells) 0 w.cells (lives_after config w)
+      sound_lives in
+      record {
+        given = λ cell o h.
+            let a = was cell o h in omega (arith, ids.given cell a.who a.stood, a.id);
+        apart = λ cell other o x h k e.
+            let a = was cell o h in
+            let b = was other x k in
+            ids.apart cell other a.who b.who a.stood b.stood (a.id ∙ e ∙ sym b.id);
+      }
+
+  -- so does the update
+  pub next_own : HaveOwnIds w.cells (length w.everyone)
+      → HaveOwnIds (next_world config w).cells (length (next_world config w).everyone)
+  unfolding next_world next_scene scene_of_lives
+  next_own ids = end_goes.own (own_begun ids)
+
+  -- it has as many cells
+  pub next_sized : length (next_world config w).cells ≡ length w.cells
+  unfolding next_world next_scene scene_of_lives lives_of
+  next_sized =
+      end_goes.sized ∙ length-map (lives_after config w) (λ l. l.occupant)
+      ∙ length-map-range_with_len (life_at config (w.update + 1) w.cells) 0 (length w.cells)
+
+  module _ (sized : length w.cells ≡ size_of config) where
+    -- all cells together get few steps in it
+    pub all_steps : sum (slices_at config w.cells) ≤ 65536000
+    unfolding slices_at
+    all_steps =
+        let merits = map merit_in w.cells in
+        let all = laws.slices merits config.average_slices in
+        let cells : length merits ≤ 65536 =
+        omega (arith, length-map w.cells merit_in, sized, few_cells config fit) in
+        let bound : config.average_slices * length merits ≤ 1000 * 65536 =
+        mul-le-mul fit.average cells in
+        omega (arith, all, bound)
+
+    -- few are born in it
+    pub all_born : length (births_of (lives_after config w)) ≤ 65536000
+    all_born =
+        let lives = lives_after config w in
+        let few = births_few config (slice_at config w.cells) w.cells lives sound_lives in
+        let entries = entries_few (slices_at config w.cells) (length w.cells) in
+        omega (arith, few, entries, all_steps)
+
+    -- and few come in it
+    pub all_come : length (next_world config w).everyone ≤ length w.everyone + 65537000
+    unfolding next_world next_scene scene_of_lives
+    all_come = omega (arith, all_born, end_goes.few)
+
+  -- nobody is forgotten in it
+  pub all_grown : length w.everyone ≤ length (next_world config w).everyone
+  unfolding next_world next_scene scene_of_lives
+  all_grown = end_goes.grown
+
+  -- it is the update after
+  pub next_update : (next_world config w).update ≡ w.update + 1
+  unfolding next_world next_scene scene_of_lives
+  next_update = end_goes.update

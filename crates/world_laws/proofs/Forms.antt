@@ -18,7 +18,8 @@ use Rattle.world_laws.proofs.Scenes.{IsScene, who_stands, id_small, scene_death}
 use Rattle.world_laws.proofs.UpdateLines.{scene_birth, scene_what}
 use Rattle.world_laws.proofs.Placements.{all_append}
 use Rattle.world_laws.proofs.AfterLives.{IsDelivery}
-use Rattle.world_laws.proofs.Configs.{IsConfig, size_of, FitsWhat, FitsPlaced, genome_fits, few_cells}
+use Rattle.world_laws.specs.Bounds.{IsConfig, size_of, FitsWhat}
+use Rattle.world_laws.proofs.Configs.{FitsPlaced, genome_fits, few_cells}
 use Rattle.world_laws.proofs.FormLemmas.{record_form, letters_form, over_form}
 
 -- each line has its form

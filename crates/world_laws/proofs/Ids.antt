@@ -20,7 +20,8 @@ use Rattle.world_laws.specs.Ranges.{GivesSmallId, HasSmallId}
 use Rattle.world_laws.proofs.Mirror.{People}
 use Rattle.world_laws.proofs.Placements.{all_append}
 use Rattle.world_laws.proofs.AfterLives.{IsBorn, births_born}
-use Rattle.world_laws.proofs.Configs.{FitsPlaced, IsConfig, events_few, events_fit}
+use Rattle.world_laws.specs.Bounds.{IsConfig}
+use Rattle.world_laws.proofs.Configs.{FitsPlaced, events_few, events_fit}
 use Rattle.world_laws.proofs.Sounds.{goes_birth, goes_births, goes_deaths, goes_event}
 use Rattle.world_laws.proofs.Runs.{IsRun, few_born, lives_lawful}
 use Rattle.world_laws.proofs.WholeLogs.{kept_after, run_after, run_lines, updates_lines}

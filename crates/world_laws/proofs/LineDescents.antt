@@ -12,7 +12,7 @@ use Rattle.world_laws.specs.Heredity.{IsChildOf, ComesFrom, AreDescended, IsDesc
 use Rattle.world_laws.specs.LowerLaws.{LifeLaws, LineLaws}
 use Rattle.world_laws.proofs.Mirror.{written}
 use Rattle.world_laws.proofs.Scenes.{Known, Stands, who_stands}
-use Rattle.world_laws.proofs.Configs.{IsConfig}
+use Rattle.world_laws.specs.Bounds.{IsConfig}
 use Rattle.world_laws.proofs.WholeLogs.{run_after}
 use Rattle.world_laws.proofs.Descents.{descended_after}
 

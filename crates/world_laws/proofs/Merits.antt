@@ -11,7 +11,8 @@ use Rattle.world_rules.specs.Lives.{merit_in}
 use Rattle.world_rules.specs.WorldRun.{world_after}
 use Rattle.world_laws.specs.LowerLaws.{LifeLaws}
 use Rattle.world_laws.proofs.Scenes.{Each}
-use Rattle.world_laws.proofs.Configs.{IsConfig, few_cells}
+use Rattle.world_laws.specs.Bounds.{IsConfig}
+use Rattle.world_laws.proofs.Configs.{few_cells}
 use Rattle.world_laws.proofs.WholeLogs.{run_after}
 
 -- no cell has more than the greatest merit

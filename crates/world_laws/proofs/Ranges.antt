@@ -24,20 +24,20 @@ use Rattle.world_rules.specs.Settings.{settings_at, placing_round_at, torus_of}
 use Rattle.world_rules.specs.Update.{Delivery, after_births, after_burials, after_event, after_events, after_lives, after_what, birth_link, births_of, child_of_birth, deaths_of, events_at, last_scene, lives_after, next_scene, next_world, placings_of, scene_of_lives, with_newborn}
 use Rattle.world_rules.specs.World.{Occupant, World, first_world, founder_link, founder_of, founder_words, ids_of}
 use Rattle.world_rules.specs.WorldRun.{world_after}
-use Rattle.world_laws.specs.Ranges.{HasFewIds, IsInRange}
+use Rattle.world_laws.specs.Ranges.{HasFewIds, HaveOwnIds, IsInRange, StandInRange, StayInRange}
 use Rattle.world_laws.specs.LowerLaws.{LifeLaws}
-use Rattle.world_laws.proofs.Configs.{FitsPlaced, FitsWhat, IsConfig, events_fit, rules_are}
+use Rattle.world_laws.specs.Bounds.{FitsWhat, IsConfig}
+use Rattle.world_laws.proofs.Configs.{FitsPlaced, events_fit, rules_are}
 use Rattle.world_laws.proofs.Each.{all_births, all_lives, each_left, each_with, fails_test, life_there, stood_before}
 use Rattle.world_laws.proofs.AfterLives.{IsBorn, births_born}
+use Rattle.world_laws.proofs.Endings.{all_come, all_grown, all_steps, next_own, next_sized, next_sound, next_update, sound_lives}
 use Rattle.world_laws.proofs.LifeRanges.{BringsNine, KeepLimits, LeavesInRange, LivesWithNine, life-in-range}
 use Rattle.world_laws.proofs.ListLemmas.{got_some}
-use Rattle.world_laws.proofs.Mirror.{People, written}
+use Rattle.world_laws.proofs.Mirror.{written}
 use Rattle.world_laws.proofs.Placements.{IsEquipped, inputs_top, placements_equipped}
 use Rattle.world_laws.proofs.RunForms.{everyone_few}
-use Rattle.world_laws.proofs.Runs.{IsRun, few_steps, lives_lawful}
 use Rattle.world_laws.proofs.Scenes.{Each, id_below}
-use Rattle.world_laws.proofs.Turnovers.{turnover_after}
-use Rattle.world_laws.proofs.WholeLogs.{kept_after, only_founder, run_after}
+use Rattle.world_laws.proofs.WholeLogs.{only_founder, run_after}
 
 -- no cell gets more steps than all together
 entry_few : (xs : List ℕ) (i : ℕ) → slice_index_or xs i 0 ≤ sum xs
@@ -46,22 +46,22 @@ entry_few xs i = elim (cases_lt i (length xs)) [
   | inr past ↦ omega (arith, get_or_past xs i 0 past)
 ]
 
-module _ (config : ConfigValues) (fit : IsConfig config) (updates : ℕ) where
+module _ (config : ConfigValues) (fit : IsConfig config) (ages : ℕ) (some : 1 ≤ ages) where
   -- an organism that comes
   range_new : (letters : List Letter) (inputs : List ℕ) (merit : ℕ) (credited : List Bool)
       → config.least_length ≤ length letters → length letters ≤ config.greatest_length
       → length credited ≡ 9 → HasTopBytes inputs
-      → IsInRange config updates
+      → IsInRange config ages
       (new_organism letters inputs merit credited config.memory_limit)
   unfolding new_organism
   range_new letters inputs merit credited least greatest nine top =
       let long : 1 ≤ length letters = omega (arith, least, fit.least) in
-      let some : 1 * 1 ≤ config.age_limit * length letters = mul-le-mul fit.some_age long in
+      let limit : 1 * 1 ≤ config.age_limit * length letters = mul-le-mul fit.some_age long in
       record {
         least = least;
         greatest = greatest;
-        age = omega arith;
-        young = λ death. omega (arith, some);
+        age = some;
+        young = λ death. omega (arith, limit);
         limit = refl;
         credited = nine;
         gestation = length-replicate 9 false;
@@ -71,7 +71,7 @@ module _ (config : ConfigValues) (fit : IsConfig config) (updates : ℕ) where
   -- a founder of an allowed length is in range
   range_founder : (cell nth : ℕ) (letters : List Letter) → config.least_length ≤ length letters
       → length letters ≤ config.greatest_length
-      → IsInRange config updates (founder_of config cell nth letters)
+      → IsInRange config ages (founder_of config cell nth letters)
   unfolding founder_of
   range_founder cell nth letters least greatest =
       let words = founder_words config.seed cell nth in
@@ -98,7 +98,7 @@ module _ (config : ConfigValues) (fit : IsConfig config) (updates : ℕ) where
 
   -- each who stands in these cells is in range
   abbrev InRange : List (Option Occupant) → Type 0
-  InRange cells = Each (IsInRange config updates) cells
+  InRange cells = Each (IsInRange config ages) cells
 
   -- births of newborns that come in range leave all in range
   range_births : (scene : Scene) (turns : List (Delivery × Placing))
@@ -111,7 +111,7 @@ module _ (config : ConfigValues) (fit : IsConfig config) (updates : ℕ) where
       turn.0.newborn.credited come.0.born.born.least come.0.born.born.greatest come.0.nine
       come.0.equipped in
       range_births (with_newborn config scene turn) turns come.1
-      (each_with (IsInRange config updates) scene
+      (each_with (IsInRange config ages) scene
       (birth_link (next_id scene) scene.update turn.0 turn.1.cell)
       (child_of_birth config turn.0 turn.1) child each)
 
@@ -119,11 +119,11 @@ module _ (config : ConfigValues) (fit : IsConfig config) (updates : ℕ) where
   range_what : (scene : Scene) (nth : ℕ) (what : WhatValue) → FitsWhat config what
       → InRange scene.cells → InRange (after_what config scene nth what).cells
   range_what scene nth (inject cell letters) fits each =
-      each_with (IsInRange config updates) scene
+      each_with (IsInRange config ages) scene
       (founder_link (next_id scene) scene.update cell letters)
       (founder_of config cell nth letters) (range_founder cell nth letters fits.1 fits.2) each
   range_what scene nth (clear first last) fits each =
-      each_left (IsInRange config updates) scene (cells_from first last) each
+      each_left (IsInRange config ages) scene (cells_from first last) each
   range_what scene nth (rate name ppm) fits each = each
 
   -- so do events that fit, one after another
@@ -136,14 +136,31 @@ module _ (config : ConfigValues) (fit : IsConfig config) (updates : ℕ) where
       range_events (after_what config scene event.0 event.1.what) events fits.1
       (range_what scene event.0 event.1.what fits.0 each)
 
+module _ (laws : LifeLaws) (config : ConfigValues) (fit : IsConfig config) where
+  -- the ids of a run's world
+  own_after : (n : ℕ) → HaveOwnIds (world_after config n).cells
+      (length (world_after config n).everyone)
+  own_after n =
+      let w = world_after config n in
+      let is = (run_after laws config fit n).world in
+      record {
+        given = λ cell o h.
+            omega (
+              arith,
+              id_below (map written w.everyone) w.cells cell o is.kept h,
+              length-map w.everyone written,
+            );
+        apart = is.apart;
+      }
+
 module _ (laws : LifeLaws) (keep : KeepLimits) (config : ConfigValues) (fit : IsConfig config)
   where
     -- a life of who stands there in range
-    life_leaves : (n update cell steps : ℕ) (x : Occupant) → IsInRange config n x.organism
+    life_leaves : (ages update cell steps : ℕ) (x : Occupant) → IsInRange config ages x.organism
         → LeavesInRange (settings_at config update) (beginning x.organism)
         (life (settings_at config update) (draw config.seed update cell Run)
         (beginning x.organism) steps)
-    life_leaves n update cell steps x range =
+    life_leaves ages update cell steps x range =
         let has : LivesWithNine x.organism.machine.limit (beginning x.organism) = record {
           organism =
               record { limit = refl; credited = range.credited; gestation = range.gestation };
@@ -153,18 +170,18 @@ module _ (laws : LifeLaws) (keep : KeepLimits) (config : ConfigValues) (fit : Is
         (beginning x.organism) steps has
 
     -- who lives on after a life
-    range_ended : (n update cell steps : ℕ) (x : Occupant) → steps ≤ 65536000
-        → IsSoundOrganism x.organism → IsInRange config n x.organism
+    range_ended : (ages update cell steps : ℕ) (x : Occupant) → steps ≤ 65536000
+        → IsSoundOrganism x.organism → IsInRange config ages x.organism
         → (life_of config update cell steps (Some x)).died ≡ false
-        → IsInRange config (suc n) (life (settings_at config update)
+        → IsInRange config (ages + 65536000) (life (settings_at config update)
         (draw config.seed update cell Run) (beginning x.organism) steps).0.organism
     unfolding life_of settings_at
-    range_ended n update cell steps x few sound range alive =
+    range_ended ages update cell steps x few sound range alive =
         let words = draw config.seed update cell Run in
         let settings = settings_at config update in
         let lived = laws.lives settings words x.organism steps (rules_are config fit)
         (laws.words config.seed update cell Run) sound in
-        let left = life_leaves n update cell steps x range in
+        let left = life_leaves ages update cell steps x range in
         let genome = sym (ap length lived.genome) in
         record {
           least = subst (λ k. config.least_length ≤ k) genome range.least;
@@ -180,34 +197,33 @@ module _ (laws : LifeLaws) (keep : KeepLimits) (config : ConfigValues) (fit : Is
         }
 
     -- who is left by a life that was no death
-    range_left : (n update cell steps : ℕ) (slot : Option Occupant) (o : Occupant)
+    range_left : (ages update cell steps : ℕ) (slot : Option Occupant) (o : Occupant)
         → steps ≤ 65536000
         → ((x : Occupant) → slot ≡ Some x
-        → IsSoundOrganism x.organism × IsInRange config n x.organism)
+        → IsSoundOrganism x.organism × IsInRange config ages x.organism)
         → (life_of config update cell steps slot).occupant ≡ Some o
         → (life_of config update cell steps slot).died ≡ false
-        → IsInRange config (suc n) o.organism
+        → IsInRange config (ages + 65536000) o.organism
     unfolding life_of
-    range_left n update cell steps None o few stood there alive = absurd cc
-    range_left n update cell steps (Some x) o few stood there alive =
+    range_left ages update cell steps None o few stood there alive = absurd cc
+    range_left ages update cell steps (Some x) o few stood there alive =
         let ended = life (settings_at config update) (draw config.seed update cell Run)
         (beginning x.organism) steps in
         let who : Occupant = record { id = x.id; organism = ended.0.organism } in
         let is : who ≡ o = cc in
-        subst (λ (y : Occupant). IsInRange config (suc n) y.organism) is
-        (range_ended n update cell steps x few (stood x refl).0 (stood x refl).1 alive)
+        subst (λ (y : Occupant). IsInRange config (ages + 65536000) y.organism) is
+        (range_ended ages update cell steps x few (stood x refl).0 (stood x refl).1 alive)
 
     -- the newborns of a life
-    range_newborns : (n update cell steps : ℕ) (slot : Option Occupant)
-        → ((x : Occupant) → slot ≡ Some x → IsInRange config n x.organism)
+    range_newborns : (ages update cell steps : ℕ) (slot : Option Occupant)
+        → ((x : Occupant) → slot ≡ Some x → IsInRange config ages x.organism)
         → AllByRecursion BringsNine (life_of config update cell steps slot).newborns
     unfolding life_of
-    range_newborns n update cell steps None stood = tt
-    range_newborns n update cell steps (Some x) stood =
-        (life_leaves n update cell steps x (stood x refl)).nine.newborns
+    range_newborns ages update cell steps None stood = tt
+    range_newborns ages update cell steps (Some x) stood =
+        (life_leaves ages update cell steps x (stood x refl)).nine.newborns
 
-    module _ (n : ℕ) (start : People) (w : World) (is : IsRun config n start w)
-        (range : Each (IsInRange config n) w.cells) where
+    module _ (ages : ℕ) (w : World) (stand : StandInRange config ages w) where
       -- the scene as the lives have ended
       abbrev lived : Scene
       lived = after_lives (w.update + 1) w.everyone (lives_after config w)
@@ -218,11 +234,11 @@ module _ (laws : LifeLaws) (keep : KeepLimits) (config : ConfigValues) (fit : Is
           omega (
             arith,
             entry_few (slices_at config w.cells) cell,
-            few_steps laws config fit n start w is,
+            all_steps laws config fit w stand.sound stand.cells,
           )
 
       -- once the dead have left
-      range_buried : Each (IsInRange config (suc n))
+      range_buried : Each (IsInRange config (ages + 65536000))
           (after_burials lived (lives_after config w)).cells
       unfolding after_burials deaths_of lives_of
       range_buried cell o h =
@@ -236,10 +252,11 @@ module _ (laws : LifeLaws) (keep : KeepLimits) (config : ConfigValues) (fit : Is
           ap (λ (l : CellLife). l.died) (sym there.1)
           ∙ fails_test (λ (at : ℕ). (slice_index_or lives at no_life).died) 0 (length lives) cell
           stood.1 (omega arith) (omega (arith, there.0, long)) in
-          range_left n (w.update + 1) cell (slice_at config w.cells cell)
+          range_left ages (w.update + 1) cell (slice_at config w.cells cell)
           (slice_index_or w.cells cell None) o (steps_few cell)
           (λ x e.
-          let here = got_some w.cells cell x e in (is.sound cell x here, range cell x here))
+          let here = got_some w.cells cell x e in
+          (stand.sound cell x here, stand.each cell x here))
           there.2 alive
 
       -- all newborns of the update have sets of nine tasks
@@ -250,9 +267,9 @@ module _ (laws : LifeLaws) (keep : KeepLimits) (config : ConfigValues) (fit : Is
           let run = life_at config (w.update + 1) w.cells in
           all_births BringsNine 0 (lives_after config w)
           (all_lives (λ (l : CellLife). AllByRecursion BringsNine l.newborns) run (length w.cells)
-          (λ cell low. range_newborns n (w.update + 1) cell (slice_at config w.cells cell)
+          (λ cell low. range_newborns ages (w.update + 1) cell (slice_at config w.cells cell)
           (slice_index_or w.cells cell None)
-          (λ x e. range cell x (got_some w.cells cell x e))))
+          (λ x e. stand.each cell x (got_some w.cells cell x e))))
 
       -- all placings of newborns bring inputs with the top bytes
       equipped : (scene : Scene) (births : List Delivery)
@@ -263,7 +280,7 @@ module _ (laws : LifeLaws) (keep : KeepLimits) (config : ConfigValues) (fit : Is
           (placing_round_at config scene.update (next_id scene))
 
       -- the next world
-      range_next : Each (IsInRange config (suc n)) (next_world config w).cells
+      range_next : Each (IsInRange config (ages + 65536000)) (next_world config w).cells
       unfolding next_world next_scene scene_of_lives last_scene after_births after_events
       range_next =
           let lives = lives_after config w in
@@ -271,52 +288,74 @@ module _ (laws : LifeLaws) (keep : KeepLimits) (config : ConfigValues) (fit : Is
           let buried = after_burials lived lives in
           let placings = placings_of config buried births in
           let born = after_births config buried births in
-          range_events config fit (suc n) born (events_at config born.update)
+          let some : 1 ≤ ages + 65536000 = omega arith in
+          range_events config fit (ages + 65536000) some born (events_at config born.update)
           (events_fit config fit born.update)
-          (range_births config fit (suc n) buried (zip births placings)
-          (come_in_range config fit (suc n) births placings
+          (range_births config fit (ages + 65536000) some buried (zip births placings)
+          (come_in_range config fit (ages + 65536000) some births placings
           (births_born config (slice_at config w.cells) w.cells lives
-          (lives_lawful laws config fit n start w is)) births_nine (equipped buried births))
+          (sound_lives laws config fit w stand.sound)) births_nine (equipped buried births))
           range_buried)
 
+      -- so are they all one update later
+      pub stay_next : StayInRange config ages w (next_world config w)
+      stay_next = record {
+        stand = record {
+          cells = next_sized laws config fit w stand.sound ∙ stand.cells;
+          sound = next_sound laws config fit w stand.sound;
+          each = range_next;
+          own = next_own laws config fit w stand.sound stand.own;
+        };
+        update = next_update laws config fit w stand.sound;
+        grown = all_grown laws config fit w stand.sound;
+        few = all_come laws config fit w stand.sound stand.cells;
+      }
+
     -- the founder
-    range_first : Each (IsInRange config 0) (first_world config).cells
+    range_first : Each (IsInRange config 1) (first_world config).cells
     unfolding first_world
     range_first cell o h =
-        subst (λ (x : Occupant). IsInRange config 0 x.organism) (only_founder config cell o h).1
-        (range_founder config fit 0 config.founder_cell 0 config.ancestor fit.long_enough
-        fit.short_enough)
+        subst (λ (x : Occupant). IsInRange config 1 x.organism) (only_founder config cell o h).1
+        (range_founder config fit 1 (omega arith) config.founder_cell 0 config.ancestor
+        fit.long_enough fit.short_enough)
 
     -- each organism of a run
-    pub range_after : (n : ℕ) → Each (IsInRange config n) (world_after config n).cells
+    pub range_after : (n : ℕ)
+        → Each (IsInRange config (1 + 65536000 * n)) (world_after config n).cells
     unfolding world_after
     range_after zero = range_first
     range_after (suc n) =
-        range_next n (kept_after config n) (world_after config n) (run_after laws config fit n)
-        (range_after n)
+        let is = run_after laws config fit n in
+        let next = range_next (1 + 65536000 * n) (world_after config n) (record {
+          cells = is.world.sized;
+          sound = is.sound;
+          each = range_after n;
+          own = own_after laws config fit n;
+        }) in
+        let ages : 1 + 65536000 * n + 65536000 ≡ 1 + 65536000 * suc n = omega arith in
+        subst (λ (k : ℕ). Each (IsInRange config k) (next_world config (world_after config n)).cells)
+        ages next
 
 module _ (laws : LifeLaws) (config : ConfigValues) (fit : IsConfig config) where
   -- each world of a run has had somebody
   some_ids : (n : ℕ) → 1 ≤ length (world_after config n).everyone
-  unfolding world_after first_world next_world
+  unfolding world_after first_world
   some_ids zero = omega arith
-  some_ids (suc n) = omega (arith, some_ids n, (turnover_after laws config fit n).grown)
+  some_ids (suc n) =
+      omega (
+        arith,
+        some_ids n,
+        all_grown laws config fit (world_after config n) (run_after laws config fit n).sound,
+      )
 
   -- the ids of a run
   pub ids_after : (n : ℕ) → HasFewIds config n (world_after config n)
   ids_after n =
-      let w = world_after config n in
       let is = run_after laws config fit n in
       record {
         update = is.update;
         cells = is.world.sized;
         some = some_ids n;
         few = everyone_few laws config fit n;
-        given = λ cell o h.
-            omega (
-              arith,
-              id_below (map written w.everyone) w.cells cell o is.world.kept h,
-              length-map w.everyone written,
-            );
-        apart = is.world.apart;
+        own = own_after laws config fit n;
       }

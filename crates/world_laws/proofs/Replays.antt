@@ -7,7 +7,7 @@ use Rattle.world_config.specs.Values.{ConfigValues}
 use Rattle.world_rules.specs.LogText.{log_text}
 use Rattle.world_rules.specs.Laws.{ReplaysToLiving}
 use Rattle.world_laws.specs.LowerLaws.{LifeLaws}
-use Rattle.world_laws.proofs.Configs.{IsConfig}
+use Rattle.world_laws.specs.Bounds.{IsConfig}
 use Rattle.world_laws.proofs.WholeLogs.{run_lines, run_whole, run_replays}
 use Rattle.world_laws.proofs.RunForms.{run_forms, text_is}
 

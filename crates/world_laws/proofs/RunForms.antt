@@ -17,7 +17,8 @@ use Rattle.world_laws.proofs.UpdateLines.{scene_deaths, scene_births}
 use Rattle.world_laws.proofs.Updates.{scene_last}
 use Rattle.world_laws.proofs.Placements.{all_append}
 use Rattle.world_laws.proofs.AfterLives.{births_born, sound_kept}
-use Rattle.world_laws.proofs.Configs.{IsConfig, size_of, events_fit, events_few, few_cells, genome_fits}
+use Rattle.world_laws.specs.Bounds.{IsConfig, size_of}
+use Rattle.world_laws.proofs.Configs.{events_fit, events_few, few_cells, genome_fits}
 use Rattle.world_laws.proofs.Sounds.{Goes, goes_deaths, goes_births}
 use Rattle.world_laws.proofs.Runs.{IsRun, scene_ended, lives_lawful, deliveries_lawful, placed_lawful, update_goes, few_born, few_come}
 use Rattle.world_laws.proofs.WholeLogs.{updates_lines, run_lines, kept_after, run_after}

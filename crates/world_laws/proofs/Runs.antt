@@ -1,8 +1,7 @@
 -- The lines of a run take the reader from the founder's world to that after its updates.
-use Rattle.std.proofs.Common.{◌≡◌, ℕ, suc, ◌+◌, ◌*◌, ◌<◌, ◌≤◌, List, [], ◌∷◌, map, length, subst, sum, ◌∙◌, arith}
+use Rattle.std.proofs.Common.{◌≡◌, ℕ, suc, ◌+◌, ◌<◌, ◌≤◌, List, [], ◌∷◌, map, length, subst, ◌∙◌, arith}
 use Rattle.std.specs.Prelude.{slice_index_or}
 use Rattle.std.specs.List.{AllByRecursion, range_with_len}
-use Rattle.std.proofs.Math.Nat.{mul-le-mul}
 use Rattle.std.proofs.lemmas.List.{length-map}
 use Rattle.std.proofs.lemmas.List.FromFn.{length-range_with_len}
 use Rattle.std.proofs.lemmas.Slice.Zip.{length-zip}
@@ -14,7 +13,7 @@ use Rattle.world_config.specs.Events.{EventValue, WhatValue, inject, clear, rate
 use Rattle.world_config.specs.Values.{ConfigValues}
 use Rattle.world_rules.specs.World.{World, ids_of}
 use Rattle.world_rules.specs.Settings.{torus_of, placing_round_at}
-use Rattle.world_rules.specs.Lives.{no_life, merit_in, slices_at, slice_at, life_at, lives_of}
+use Rattle.world_rules.specs.Lives.{no_life, slice_at, life_at, lives_of}
 use Rattle.world_rules.specs.Scene.{Scene, next_id}
 use Rattle.world_rules.specs.Update.{Delivery, after_lives, after_burials, deaths_of, births_of, placings_of, events_at, last_scene, scene_of_lives, lives_after, next_scene, next_world}
 use Rattle.world_rules.specs.LogText.{lines_of_lives, update_lines}
@@ -25,10 +24,11 @@ use Rattle.world_laws.proofs.UpdateLines.{IsWhat, IsEvent}
 use Rattle.world_laws.proofs.Updates.{IsWorld, people_after, world_left, scene_begun, begun_is, seen_begun, AreTurns, scene_last, lives_tell}
 use Rattle.world_laws.proofs.Placements.{placements_in, placements_number}
 use Rattle.world_laws.proofs.LivesLemmas.{AreLives, lives_are}
-use Rattle.world_laws.proofs.AfterLives.{IsDelivery, left_by, folk_kept, births_lawful, births_few, entries_few, turns_lawful}
-use Rattle.world_laws.proofs.Configs.{IsConfig, filter_few, size_of, FitsWhat, FitsPlaced, events_fit, few_cells, rules_are}
+use Rattle.world_laws.proofs.AfterLives.{IsDelivery, left_by, folk_kept, births_lawful, turns_lawful}
+use Rattle.world_laws.specs.Bounds.{IsConfig, size_of, FitsWhat}
+use Rattle.world_laws.proofs.Configs.{filter_few, FitsPlaced, events_fit, few_cells, rules_are}
 use Rattle.world_laws.proofs.Sounds.{Goes, goes_more}
-use Rattle.world_laws.proofs.Endings.{end_goes, next_sound}
+use Rattle.world_laws.proofs.Endings.{all_born, all_come, end_goes, next_sound}
 
 -- the parents of lawful newborns are in cells of the world
 cells_in : (config : ConfigValues) (size : ℕ) (start : People) (births : List Delivery)
@@ -180,27 +180,10 @@ module _ (laws : LifeLaws) (config : ConfigValues) (fit : IsConfig config) (n : 
         update = omega (arith, goes.update, is.update);
       }
 
-  -- all cells together get few steps in it
-  pub few_steps : sum (slices_at config w.cells) ≤ 65536000
-  unfolding slices_at
-  few_steps =
-      let merits = map merit_in w.cells in
-      let all = laws.slices merits config.average_slices in
-      let cells : length merits ≤ 65536 =
-      omega (arith, length-map w.cells merit_in, is.world.sized, few_cells config fit) in
-      let bound : config.average_slices * length merits ≤ 1000 * 65536 =
-      mul-le-mul fit.average cells in
-      omega (arith, all, bound)
-
   -- few are born in it
   pub few_born : length (births_of (lives_after config w)) ≤ 65536000
-  few_born =
-      let lives = lives_after config w in
-      let few = births_few config (slice_at config w.cells) w.cells lives lives_lawful in
-      let entries = entries_few (slices_at config w.cells) (length w.cells) in
-      omega (arith, few, entries, few_steps)
+  few_born = all_born laws config fit w is.sound is.world.sized
 
   -- and few come in it
   pub few_come : length (next_world config w).everyone ≤ length w.everyone + 65537000
-  unfolding next_world next_scene scene_of_lives
-  few_come = omega (arith, few_born, update_goes.few)
+  few_come = all_come laws config fit w is.sound is.world.sized

@@ -1,8 +1,9 @@
--- Organisms stay sound as a world's update ends, and ids stay few.
-use Rattle.std.proofs.Common.{◌≡◌, ℕ, ◌+◌, ◌-◌, ◌*◌, ◌≤◌, List, [], ◌∷◌, ◌++◌, length, Option, Some, None, refl, subst, ◌∙◌, arith, length-append, inl, inr}
+-- Organisms stay sound as a world's update ends, and ids stay few and each of one organism.
+use Rattle.std.proofs.Common.{◌≡◌, ℕ, ◌+◌, ◌-◌, ◌*◌, ◌≤◌, List, [], ◌∷◌, ◌++◌, length, Option, Some, None, refl, sym, ap, subst, ◌∙◌, arith, length-append, inl, inr}
 use Rattle.std.specs.Prelude.{fold}
 use Rattle.std.specs.List.{AllByRecursion, zip}
 use Rattle.std.specs.Option.{option_to_list}
+use Rattle.std.proofs.lemmas.List.{length-set}
 use Rattle.std.proofs.lemmas.List.FromFn.{length-range_with_len}
 use Rattle.instruction_set.specs.declared.letter.Letter.{Letter}
 use Rattle.genome.specs.Genome.{IsGenome}
@@ -18,25 +19,46 @@ use Rattle.world_rules.specs.Settings.{rules_of}
 use Rattle.world_rules.specs.Scene.{Scene, next_id, standing_at, with_death, with_deaths, cells_from, with_newcomer}
 use Rattle.world_rules.specs.Update.{Delivery, child_of_birth, birth_link, with_newborn, after_what, after_event}
 use Rattle.world_laws.specs.LowerLaws.{LifeLaws}
+use Rattle.world_laws.specs.Ranges.{HaveOwnIds}
 use Rattle.world_laws.proofs.Scenes.{Each, stands_before, stands_with}
 use Rattle.world_laws.proofs.AfterLives.{IsBorn}
-use Rattle.world_laws.proofs.Configs.{IsConfig, few_cells, FitsWhat, FitsPlaced, genome_fits}
+use Rattle.world_laws.specs.Bounds.{IsConfig, FitsWhat}
+use Rattle.world_laws.proofs.Configs.{few_cells, FitsPlaced, genome_fits}
 
--- what holds as an update ends: organisms are sound, and so many came and died at most
+-- who stands in a scene has an id of its own
+abbrev pub HasOwnIds : Scene → Type 0
+HasOwnIds scene = HaveOwnIds scene.cells (length scene.everyone)
+
+-- what holds as an update ends: organisms are sound, each with its own id, and so many came and
+-- died at most
 pub record Goes (scene next : Scene) (count deaths : ℕ) : Type 0 where
   pub sound : Each IsSoundOrganism scene.cells → Each IsSoundOrganism next.cells
+  pub own : HasOwnIds scene → HasOwnIds next
+  pub sized : length next.cells ≡ length scene.cells
+  pub grown : length scene.everyone ≤ length next.everyone
   pub few : length next.everyone ≤ length scene.everyone + count
   pub gone : length next.gone ≤ length scene.gone + deaths
   pub update : next.update ≡ scene.update
 
 -- in a scene that stays nobody came and nobody died
 pub goes_nowhere : (scene : Scene) → Goes scene scene 0 0
-goes_nowhere scene = record { sound = λ s. s; few = omega arith; gone = omega arith; update = refl }
+goes_nowhere scene = record {
+  sound = λ s. s;
+  own = λ o. o;
+  sized = refl;
+  grown = omega arith;
+  few = omega arith;
+  gone = omega arith;
+  update = refl;
+}
 
 -- from a scene to a second and on to a third, numbers of newcomers and of deaths add up
 pub goes_on : {a b c : Scene} {m n k l : ℕ} → Goes a b m k → Goes b c n l → Goes a c (m + n) (k + l)
 goes_on {a} {b} {c} {m} {n} {k} {l} first second = record {
   sound = λ s. second.sound (first.sound s);
+  own = λ o. second.own (first.own o);
+  sized = second.sized ∙ first.sized;
+  grown = omega (arith, first.grown, second.grown);
   few = omega (arith, first.few, second.few);
   gone = omega (arith, first.gone, second.gone);
   update = second.update ∙ first.update;
@@ -47,6 +69,9 @@ pub goes_more : {a b : Scene} (m n k l : ℕ) → Goes a b m k → m ≤ n → k
 goes_more m n k l goes h i =
     record {
       sound = goes.sound;
+      own = goes.own;
+      sized = goes.sized;
+      grown = goes.grown;
       few = omega (arith, goes.few, h);
       gone = omega (arith, goes.gone, i);
       update = goes.update;
@@ -63,6 +88,13 @@ goes_death : (scene : Scene) (cell : ℕ) → Goes scene (with_death scene cell)
 unfolding with_death
 goes_death scene at = record {
   sound = λ s cell o h. s cell o (stands_before scene.cells cell at o h).0;
+  own = λ ids. record {
+    given = λ cell o h. ids.given cell o (stands_before scene.cells cell at o h).0;
+    apart = λ cell other o x h k e. ids.apart cell other o x
+        (stands_before scene.cells cell at o h).0 (stands_before scene.cells other at x k).0 e;
+  };
+  sized = length-set scene.cells at None;
+  grown = omega arith;
   few = omega arith;
   gone = gone_one scene.gone (standing_at scene at);
   update = refl;
@@ -77,11 +109,39 @@ goes_deaths scene (cell ∷ cells) =
     (goes_on (goes_death scene cell) (goes_deaths (with_death scene cell) cells)) (omega arith)
     (omega arith)
 
--- with a sound newcomer one came and at most one died
-goes_newcomer : (scene : Scene) (link : Link) (organism : OrganismState) → IsSoundOrganism organism
+-- a newcomer with the next id has its own, and so have the others
+own_newcomer : (scene : Scene) (link : Link) (organism : OrganismState)
+    → link.id ≡ length scene.everyone → HasOwnIds scene
+    → HasOwnIds (with_newcomer scene link organism)
+unfolding with_newcomer
+own_newcomer scene link organism next ids =
+    let new : Occupant = record { id = link.id; organism = organism } in
+    let grown = length-append scene.everyone (link ∷ []) in
+    let id = λ (o : Occupant) (is : new ≡ o). ap (λ (x : Occupant). x.id) is in
+    record {
+      given = λ cell o h. elim (stands_with scene.cells cell link.cell new o h) [
+        | inl here ↦ omega (arith, grown, next, id o here.1)
+        | inr there ↦ omega (arith, grown, ids.given cell o there.0)
+      ];
+      apart = λ cell other o x h k e. elim (stands_with scene.cells cell link.cell new o h) [
+        | inl here ↦ elim (stands_with scene.cells other link.cell new x k) [
+          | inl too ↦ here.0 ∙ sym too.0
+          | inr there ↦
+              absurd (omega (arith, ids.given other x there.0, e, next, id o here.1))
+        ]
+        | inr there ↦ elim (stands_with scene.cells other link.cell new x k) [
+          | inl too ↦ absurd (omega (arith, ids.given cell o there.0, e, next, id x too.1))
+          | inr both ↦ ids.apart cell other o x there.0 both.0 e
+        ]
+      ];
+    }
+
+-- with a sound newcomer that has the next id one came and at most one died
+goes_newcomer : (scene : Scene) (link : Link) (organism : OrganismState)
+    → link.id ≡ length scene.everyone → IsSoundOrganism organism
     → Goes scene (with_newcomer scene link organism) 1 1
 unfolding with_newcomer
-goes_newcomer scene link organism sound =
+goes_newcomer scene link organism next sound =
     let new : Occupant = record { id = link.id; organism = organism } in
     let grown = length-append scene.everyone (link ∷ []) in
     record {
@@ -89,6 +149,9 @@ goes_newcomer scene link organism sound =
         | inl here ↦ subst (λ (x : Occupant). IsSoundOrganism x.organism) here.1 sound
         | inr there ↦ s cell o there.0
       ];
+      own = own_newcomer scene link organism next;
+      sized = length-set scene.cells link.cell (Some new);
+      grown = omega (arith, grown);
       few = omega (arith, grown);
       gone = gone_one scene.gone (standing_at scene link.cell);
       update = refl;
@@ -119,7 +182,7 @@ module _ (laws : LifeLaws) (config : ConfigValues) (fit : IsConfig config) where
   unfolding with_newborn
   goes_birth scene turn is =
       goes_newcomer scene (birth_link (next_id scene) scene.update turn.0 turn.1.cell)
-      (child_of_birth config turn.0 turn.1) (sound_newborn turn.0 turn.1 is)
+      (child_of_birth config turn.0 turn.1) refl (sound_newborn turn.0 turn.1 is)
 
   -- with such births at most one came and at most one died for each newborn
   pub goes_births : (scene : Scene) (births : List Delivery) (placings : List Placing)
@@ -155,7 +218,7 @@ module _ (laws : LifeLaws) (config : ConfigValues) (fit : IsConfig config) where
   goes_what scene nth (inject cell letters) fits =
       goes_more 1 1 1 65536 (goes_newcomer scene
       (founder_link (next_id scene) scene.update cell letters) (founder_of config cell nth letters)
-      (sound_founder cell nth letters fits.1 fits.2)) (omega arith) (omega arith)
+      refl (sound_founder cell nth letters fits.1 fits.2)) (omega arith) (omega arith)
   goes_what scene nth (clear first last) fits =
       let few = few_cells config fit in
       goes_more 0 1 (length (cells_from first last)) 65536

@@ -26,7 +26,8 @@ use Rattle.world_laws.proofs.Mirror.{People}
 use Rattle.world_laws.proofs.Scenes.{IsScene, Stands, gone_more, scene_death, scene_newcomer, stands_before, stands_with, who_stands}
 use Rattle.world_laws.proofs.UpdateLines.{IsEvent, IsTurn, IsWhat, scene_birth, scene_births, scene_deaths, scene_what}
 use Rattle.world_laws.proofs.AfterLives.{folk_kept, left_by}
-use Rattle.world_laws.proofs.Configs.{IsConfig, events_fit, size_of}
+use Rattle.world_laws.specs.Bounds.{IsConfig, size_of}
+use Rattle.world_laws.proofs.Configs.{events_fit}
 use Rattle.world_laws.proofs.Runs.{IsRun, ended, events_are, lives_lawful, scene_ended, turns_are}
 use Rattle.world_laws.proofs.WholeLogs.{kept_after, run_after}
 use Rattle.world_laws.proofs.Parents.{parents_from, zip_parents}

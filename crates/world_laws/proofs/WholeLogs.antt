@@ -22,7 +22,7 @@ use Rattle.world_laws.proofs.ListLemmas.{map-replicate, eqb_same}
 use Rattle.world_laws.proofs.Mirror.{People, written, genomes_of, between, seen_in, Tells, one_line, more_lines, no_lines}
 use Rattle.world_laws.proofs.Scenes.{Stands, Known, Agree, stands_with}
 use Rattle.world_laws.proofs.Updates.{people_after}
-use Rattle.world_laws.proofs.Configs.{IsConfig, size_of}
+use Rattle.world_laws.specs.Bounds.{IsConfig, size_of}
 use Rattle.world_laws.proofs.Sounds.{sound_founder}
 use Rattle.world_laws.proofs.Runs.{IsRun, update_tells, run_next}
 

@@ -1,4 +1,5 @@
 pub use Rattle.world_rules.specs.Laws
+pub mod Bounds
 pub mod Heredity
 pub mod Keeping
 pub mod LowerLaws

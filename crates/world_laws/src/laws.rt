@@ -1,11 +1,12 @@
 // Laws of every run (docs/WORLD.md, "Time slices", "The log of a run" and "Lines of descent").
-ghost use Rattle.std.specs.Prelude.{◌≡◌, ℕ, ◌≤◌, ◌^◌, All, IfSome, List, Some, map, sum, slice_get};
+ghost use Rattle.std.specs.Prelude.{◌≡◌, ℕ, ◌+◌, ◌*◌, ◌≤◌, ◌^◌, All, IfSome, List, Some, map, sum, slice_get};
 ghost use Rattle.log_lines.specs.Line.{Line};
 ghost use Rattle.lineage_log.specs.LogGrammar.{Reads};
 ghost use Rattle.organism.specs.Lived.{IsSoundOrganism};
 ghost use Rattle.organism.specs.SettingNumbers.{SettingNumbers};
 ghost use Rattle.organism.specs.UpdateLife.{LifeState, life};
 ghost use Rattle.world_config.specs.Shown.{values_of};
+ghost use Rattle.world_config.specs.Values.{ConfigValues};
 ghost use Rattle.world_rules.specs.Descent.{line_in};
 ghost use Rattle.world_rules.specs.Laws.{ReplaysToLiving};
 ghost use Rattle.world_rules.specs.Lives.{merit_in};
@@ -15,7 +16,8 @@ ghost use Rattle.world_rules.specs.World.{Occupant, World};
 ghost use Rattle.world_rules.specs.WorldRun.{world_after};
 ghost use Rattle.world_laws.specs.Keeping.{AreSound, HasKept, LiveOn};
 ghost use Rattle.world_laws.specs.LowerLaws.{LifeLaws, LineLaws};
-ghost use Rattle.world_laws.specs.Ranges.{GivesSmallId, HasFewIds, HasSmallId, IsInRange};
+ghost use Rattle.world_laws.specs.Ranges.{GivesSmallId, HasFewIds, HasSmallId, IsInRange, StandInRange, StayInRange};
+ghost use Rattle.world_laws.specs.Bounds.{IsConfig};
 ghost use Rattle.world_laws.specs.Heredity.{AreDescended, IsDescent, IsLastOfLine};
 ghost use Rattle.world_laws.specs.Turnover.{IsTurnover};
 
@@ -39,7 +41,7 @@ fn lines_are_lawful()
     world_rules::laws::lines_come_from_parents();
 }
 
-/// The log of a run of so many updates is a good log, and replays to who lives at its end.
+/// The log of a run is a good log, and replays to the organisms that live at its end.
 pub fn replay_gives_living(config: &Config, updates: u32)
     ensures { ReplaysToLiving (values_of config.now) updates }
 {
@@ -115,11 +117,11 @@ pub fn sound_organisms_live_on(config: &Config)
 }
 
 /// Each organism of a world has a genome of an allowed length, is younger than the age of death,
-/// and keeps the memory limit of its world. Those in different cells have different ids.
+/// and keeps the memory limit of its world. Each has an id of its own.
 pub fn organisms_stay_in_range(config: &Config, updates: u32)
     ensures each { (cell : ℕ) (occupant : Occupant)
         → slice_get (world_after (values_of config.now) updates).cells cell ≡ Some (Some occupant)
-        → IsInRange (values_of config.now) updates occupant.organism }
+        → IsInRange (values_of config.now) (1 + 65536000 * updates) occupant.organism }
     ensures ids { HasFewIds (values_of config.now) updates
         (world_after (values_of config.now) updates) }
 {
@@ -127,8 +129,19 @@ pub fn organisms_stay_in_range(config: &Config, updates: u32)
     virtual_cpu::laws::steps_leave_machines();
 }
 
-/// Whoever is born or injected in a run has an id below 2^58: each of all who ever were in its
-/// world, and each of the births and injections in its log.
+/// Organisms in range stay so in each update, however they came into their world.
+pub fn ranges_are_kept()
+    ensures { (config : ConfigValues) (ages : ℕ) (w : World)
+        → IsConfig config
+        → StandInRange config ages w
+        → StayInRange config ages w (next_world config w) }
+{
+    lives_are_lawful();
+    virtual_cpu::laws::steps_leave_machines();
+}
+
+/// Each organism that is born or injected in a run has an id below 2^58: among all that were ever
+/// in its world, and in each birth and injection of its log.
 pub fn ids_are_few(config: &Config, updates: u32)
     ensures everyone { All HasSmallId (world_after (values_of config.now) updates).everyone }
     ensures log { (lines : List Line)

@@ -1,4 +1,4 @@
-//! The tree of a world: who lives in it, and their ancestors.
+//! The tree of a world: the living and their ancestors.
 #![tactic(auto)]
 
 mod burying;

@@ -18,7 +18,7 @@ use std::marker::Model;
 use std::sync::Arc;
 use world_config::Config;
 
-/// Who lives in a world, and their ancestors.
+/// The living organisms of a world, and their ancestors.
 #[derive(Drop)]
 pub struct WorldTree {
     tree: Tree,
@@ -47,8 +47,8 @@ impl WorldTree {
         Ok(WorldTree { tree })
     }
 
-    /// From the world after so many updates to the next one: those that come enter, and then those
-    /// that died leave. After `Memory` drop the tree.
+    /// From the world after an update to the next one: the organisms that came enter, and then
+    /// those that died leave. After `Memory` drop the tree.
     pub fn grow(
         &mut self,
         config: &Config,

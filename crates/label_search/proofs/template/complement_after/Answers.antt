@@ -3,8 +3,9 @@ use Rattle.std.specs.Prelude.{unwrap_or}
 use Rattle.std.proofs.Math.Nat.{mod-eq_of_lt}
 use Rattle.std.proofs.lemmas.Grind.{common_steps}
 use Rattle.instruction_set.specs.Letter.{complement_of}
+use Rattle.label_search.specs.Site.{letters_of}
 use Rattle.label_search.specs.Template.{is_nop, letter_after, template_after, complements_of}
-use Rattle.label_search.proofs.TemplateLemmas.{nops_read-room, next-place, nops-next, nops-end, is_nop-complement}
+use Rattle.label_search.proofs.TemplateLemmas.{letter-there, nops_read-room, next-place, nops-next, nops-end, is_nop-complement}
 use Rattle.label_search.proofs.template.complement_after.Goals as goal
 
 pub loop-init : goal.loop-init
@@ -19,9 +20,13 @@ pub returns-then-not-is_nop-clause-complement : goal.returns-then-not-is_nop-cla
 returns-then-not-is_nop-clause-complement c =
     let next = next-place c.args.ip c.loop.counter _ _ _ c.loop.invariant.place
     c.next_place-place.ensures in
-    let other : is_nop (letter_after c.args.memory.now c.args.ip (c.loop.counter + 1)) ≡ false =
-    rw (← next) (sym c.is_nop.ensures ∙ c.if-not-is_nop.true) in
-    let none = nops-end c.args.memory.now c.args.ip c.loop.counter (omega arith) other [] in
+    let letters = letters_of c.args.memory.now in
+    let letter = letter_after letters c.args.ip (c.loop.counter + 1) in
+    let read : c.letter_at-letter.result ≡ letter = c.letter_at-letter.ensures
+    ∙ letter-there c.args.memory.now c.args.ip (c.loop.counter + 1) _ next in
+    let other : is_nop letter ≡ false =
+    ap is_nop (sym read) ∙ sym c.is_nop.ensures ∙ c.if-not-is_nop.true in
+    let none = nops-end letters c.args.ip c.loop.counter (omega arith) other [] in
     sym (append-nil c.loop.complement)
     ∙ sym (ap (λ nops. c.loop.complement ++ complements_of nops) none) ∙ c.loop.invariant.nops
 
@@ -29,14 +34,18 @@ pub loop-preserved : goal.loop-preserved
 loop-preserved c =
     let next = next-place c.args.ip c.loop.counter _ _ _ c.loop.invariant.place
     c.next_place-place.ensures in
-    let letter = letter_after c.args.memory.now c.args.ip (c.loop.counter + 1) in
-    let nop : is_nop letter ≡ true = rw (← next) (sym c.is_nop.ensures ∙ c.if-not-is_nop.false) in
-    let rest = nops-next c.args.memory.now c.args.ip c.loop.counter (10 - (c.loop.counter + 1))
+    let letters = letters_of c.args.memory.now in
+    let letter = letter_after letters c.args.ip (c.loop.counter + 1) in
+    let read : c.letter_at-letter.result ≡ letter = c.letter_at-letter.ensures
+    ∙ letter-there c.args.memory.now c.args.ip (c.loop.counter + 1) _ next in
+    let nop : is_nop letter ≡ true =
+    ap is_nop (sym read) ∙ sym c.is_nop.ensures ∙ c.if-not-is_nop.false in
+    let rest = nops-next letters c.args.ip c.loop.counter (10 - (c.loop.counter + 1))
     (omega arith) nop in
     let nop-too : is_nop (unwrap_or (complement_of letter) letter) ≡ true =
     is_nop-complement letter nop in
     let other : c.complement_of.result ≡ unwrap_or (complement_of letter) letter =
-    rw next at c.complement_of.ensures in
+    c.complement_of.ensures ∙ ap (λ l. unwrap_or (complement_of l) l) read in
     let noted : c.note.new.self ≡ c.loop.complement ++ unwrap_or (complement_of letter) letter
     ∷ [] = rw other at c.note.ensures.read
     ∙ nops_read-room c.loop.complement (unwrap_or (complement_of letter) letter) nop-too

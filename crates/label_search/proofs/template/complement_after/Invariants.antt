@@ -1,5 +1,6 @@
 use Rattle.std.proofs.Common.{◌≡◌, ◌+◌, ◌-◌, ◌%◌, ◌++◌, length, map}
 use Rattle.std.specs.List.{take_while, range_with_len}
+use Rattle.label_search.specs.Site.{letters_of}
 use Rattle.label_search.specs.Template.{is_nop, letter_after, template_after, complements_of}
 use Rattle.label_search.proofs.template.complement_after.Given as goal
 
@@ -9,7 +10,7 @@ invariant-loop l = record {
   place : l.last ≡ (l.ip + l.counter) % length l.memory;
   count : length l.complement ≡ l.counter;
   nops : l.complement ++ complements_of
-      (take_while is_nop (map (letter_after l.memory l.ip)
+      (take_while is_nop (map (letter_after (letters_of l.memory) l.ip)
       (range_with_len (l.counter + 1) (10 - l.counter))))
-      ≡ complements_of (template_after l.memory l.ip);
+      ≡ complements_of (template_after (letters_of l.memory) l.ip);
 }

@@ -1,9 +1,10 @@
-use Rattle.std.proofs.Common.{[], get_or, ◌≡◌, ◌<◌, ◌∷◌, ℕ, List, Some, None, length, ap, ◌∙◌, sym, append_assoc, arith, cond}
+use Rattle.std.proofs.Common.{[], get_or, ◌≡◌, ◌<◌, ◌∷◌, ℕ, List, Some, None, length, ap, ◌∙◌, sym, append_assoc, arith, cond, take}
 use Rattle.std.specs.Prelude.{option_copied, slice_get, ◌==◌}
 use Rattle.std.proofs.lemmas.Option.{slice_get-get_or}
 use Rattle.std.proofs.lemmas.Bool.Decides.{nat_tests}
 use Rattle.mutations.specs.declared.change.Change.{Change}
-use Rattle.log_lines.proofs.TextLemmas.{items_text_more}
+use Rattle.log_lines.proofs.KeptLemmas.{keeps_behind}
+use Rattle.log_lines.proofs.TextLemmas.{items_text, items_text_more}
 use Rattle.log_lines.proofs.writing.changes.Goals.{in-Some+in_ok-change, then-at-eq0, else-at-eq0, in_default}
 use Rattle.log_lines.proofs.writing.changes.Goals as goal
 
@@ -35,3 +36,9 @@ loop-at-preserved c =
           let some = slice_get_some changes at within in
           absurd (cc (none, some.1))
     ]
+
+pub returns-in_err-change-clause-err : goal.returns-in_err-change-clause-err
+returns-in_err-change-clause-err c =
+    keeps_behind c.from_residual.result c.args.out.now.items
+    (items_text (take c.loop-at.at c.args.changes.now)) c.loop-at.out.items
+    c.change.new.out.items c.loop-at.invariant c.in_err-change.ensures.err

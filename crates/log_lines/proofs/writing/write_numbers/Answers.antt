@@ -1,4 +1,6 @@
-use Rattle.std.proofs.Common.{◌<◌, ℕ, length, decimal, append_assoc, arith}
+use Rattle.std.proofs.Common.{◌<◌, ◌∙◌, ℕ, length, take, decimal, append_assoc, arith}
+use Rattle.log_lines.specs.LineText.{numbers_text}
+use Rattle.log_lines.proofs.KeptLemmas.{keeps_before}
 use Rattle.log_lines.proofs.TextLemmas.{words_text_more}
 use Rattle.log_lines.proofs.writing.write_numbers.Goals as goal
 
@@ -9,3 +11,9 @@ loop-number-preserved c =
     let within : i < length numbers = omega arith in
     let more = words_text_more (λ (n : ℕ). decimal n) numbers i 0 within in
     rw (c.in_ok-write_number.ensures.ok, c.loop-number.invariant, more, append_assoc)
+
+pub returns-in_err-write_number-clause-err : goal.returns-in_err-write_number-clause-err
+returns-in_err-write_number-clause-err c =
+    keeps_before c.from_residual.result c.args.out.now.items
+    (numbers_text (take c.loop-number.number-index c.args.numbers.now))
+    c.write_number.new.out.items (c.in_err-write_number.ensures.err ∙ c.loop-number.invariant)

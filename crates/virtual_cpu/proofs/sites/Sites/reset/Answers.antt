@@ -1,0 +1,19 @@
+use Rattle.std.proofs.Common.{◌∙◌, ap}
+use Rattle.std.specs.Prelude.{vec_capacity}
+use Rattle.label_search.specs.declared.site.Site.{Site}
+use Rattle.label_search.specs.Site.{letters_of}
+use Rattle.virtual_cpu.specs.SiteLists.{SiteLists, fresh_site, fresh_lists}
+use Rattle.std.proofs.Common.{map, take}
+use Rattle.virtual_cpu.proofs.SiteLemmas.{lists-reset}
+use Rattle.virtual_cpu.proofs.sites.Sites.reset.Goals as goal
+
+pub returns : goal.returns
+returns c =
+    let items = c.self.inside.items.items in
+    let kept = c.refresh.new.items in
+    lists-reset items kept.items c.args.keep (vec_capacity kept)
+    (c.refresh.ensures.items
+    ∙ ap (map (λ (s : Site). fresh_site s.letter)) c.truncate.ensures.items)
+    ∙ ap (fresh_lists (take c.args.keep (letters_of items)))
+    (c.refresh.ensures.capacity ∙ c.truncate.ensures.capacity)
+    ∙ ap (λ (l : SiteLists). fresh_lists (take c.args.keep l.letters) l.room) c.self.view_is
