@@ -1,5 +1,6 @@
 -- How the births and the bytes of a run add up, and the configuration that `bench` runs.
 use Rattle.std.proofs.Common.{◌≡◌, ◌≢◌, ◌∙◌, ◌+◌, ℕ, suc, List, [], ◌++◌, Ok, Err, refl, sym, ap, subst, length, length-append, add-one, arith, rules}
+use Rattle.std.proofs.lemmas.Bool.{false≢true}
 use Rattle.std.specs.Prelude.{codes, decimal}
 use Rattle.toml.specs.Data.{no_members}
 use Rattle.avida_port.specs.Ports.{Puts, SinkState}
@@ -143,5 +144,6 @@ benched seed workers work told unread unwatched wrote left kept =
       write_fault = λ e. (subst Writes e wrote).0;
       watch_stays = λ e. unwatched;
       last_stays = kept;
+      no_world = λ e. absurd (false≢true (sym e));
       does = record { source_stays = unread; writes = wrote; leaves = left };
     }

@@ -1,5 +1,6 @@
 -- The causes of a status, and what stays, whatever the command.
-use Rattle.std.proofs.Common.{◌≡◌, ◌≢◌, Option, None, Some, ap, refl, inl, inr, option_and_then}
+use Rattle.std.proofs.Common.{◌≡◌, ◌≢◌, false, Option, None, Some, ap, refl, inl, inr, option_and_then}
+use Rattle.std.specs.Option.{option_map_or}
 use Rattle.avida_program.specs.declared.command.Command.{Command}
 use Rattle.avida_program.specs.declared.status.Status.TheVariants as status
 use Rattle.avida_program.specs.declared.outcome.Outcome.{Outcome}
@@ -8,7 +9,7 @@ use Rattle.avida_program.specs.Status.{status_of}
 use Rattle.avida_program.specs.Changes.{SourceFailed, Work}
 use Rattle.written_texts.specs.SinkChanges.{Stays}
 use Rattle.logged_run.specs.RunStops.{PutFailed}
-use Rattle.avida_program.specs.CommandLine.{looks_of}
+use Rattle.avida_program.specs.CommandLine.{leaves_world, looks_of}
 use Rattle.avida_program.specs.Work.{Obeys}
 use Rattle.avida_program.proofs.ServesRuns.{kept_by}
 
@@ -56,3 +57,9 @@ pub watch_kept : (command : Option Command) (work : Work) (told : Outcome) → O
     → option_and_then looks_of command ≡ None → Stays work.watch
 watch_kept None work told did e = did.watch_stays
 watch_kept (Some command) work told did e = did.watch_stays e
+
+-- where the command leaves no world, the last world stays
+pub world_kept : (command : Option Command) (work : Work) (told : Outcome) → Obeys command work told
+    → option_map_or leaves_world command false ≡ false → Stays work.last
+world_kept None work told did e = did.last_stays
+world_kept (Some command) work told did e = did.no_world e

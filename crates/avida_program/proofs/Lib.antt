@@ -7,6 +7,8 @@ pub mod BenchLemmas
 pub mod GrowingTexts
 pub mod ResumeLemmas
 pub mod SavedLemmas
+pub mod LongerRuns
+pub mod AdvanceLemmas
 pub mod ServesInputs
 pub mod ServesRuns
 pub mod Serves

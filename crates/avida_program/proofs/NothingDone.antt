@@ -5,7 +5,7 @@ use Rattle.world_core.specs.WorldValue.{WorldValue}
 use Rattle.avida_port.specs.Ports.{SinkState, SourceState}
 use Rattle.written_texts.proofs.GainedLemmas.{stays_front}
 use Rattle.avida_program.specs.declared.command.Command.{Command}
-use Rattle.avida_program.specs.declared.command.Command.TheVariants.{Trace, Run, Lineage, Bench, Assay, Save, Resume, Replay, Upgrade, Tree, Landscape}
+use Rattle.avida_program.specs.declared.command.Command.TheVariants.{Trace, Run, Lineage, Bench, Assay, Save, Resume, Advance, Replay, Upgrade, Tree, Landscape}
 use Rattle.avida_program.specs.declared.outcome.Outcome.TheVariants as outcome
 use Rattle.avida_program.specs.declared.refusal.Refusal.{Refusal}
 use Rattle.avida_program.specs.Input.{configuration_of}
@@ -32,7 +32,7 @@ untouched source out watch last = record {
 -- each command may run out of memory before anything was read, written or left
 does_nothing : (command : Command) (source : SourceState) (out watch : SinkState)
     (last : Option WorldValue) → Does command (untouched source out watch last) outcome.NoMemory
-does_nothing (Trace steps spelling) source out watch last =
+does_nothing (Trace steps spelling low) source out watch last =
     λ bytes is. record { reads = inl refl; last_stays = refl }
 does_nothing (Run workers looks) source out watch last = λ bytes is. record {
   reads = inl refl;
@@ -51,6 +51,8 @@ does_nothing (Assay count first workers) source out watch last =
 does_nothing (Save workers) source out watch last =
     λ bytes is. record { reads = inl refl; last_stays = refl }
 does_nothing (Resume more workers) source out watch last =
+    λ bytes is. record { reads = inl refl; last_stays = refl }
+does_nothing (Advance more workers) source out watch last =
     λ bytes is. record { reads = inl refl; last_stays = refl }
 does_nothing Replay source out watch last =
     λ bytes is. record { reads = inl refl; last_stays = refl }
@@ -77,5 +79,6 @@ nothing_done (Some command) source out watch last = record {
   write_fault = λ e. absurd (cc);
   watch_stays = λ e. refl;
   last_stays = λ e. refl;
+  no_world = λ e. refl;
   does = does_nothing command source out watch last;
 }

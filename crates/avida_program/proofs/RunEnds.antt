@@ -1,5 +1,6 @@
 -- A run whose configuration was read, by how it ended.
-use Rattle.std.proofs.Common.{◌≡◌, ℕ, List, Option, None, Some, IfSome, Ok, refl, inr}
+use Rattle.std.proofs.Common.{◌≡◌, ℕ, List, Option, None, Some, IfSome, Ok, refl, sym, inr}
+use Rattle.std.proofs.lemmas.Bool.{false≢true}
 use Rattle.world_config.specs.Values.{ConfigValues}
 use Rattle.world_rules.specs.Laws.{ReplaysToLiving}
 use Rattle.avida_program.specs.declared.command.Command.TheVariants.{Lineage, Run}
@@ -56,6 +57,7 @@ ran_to_end workers looks work config read wrote pictures unwatched left replays 
   write_fault = λ e. absurd (cc);
   watch_stays = unwatched;
   last_stays = λ other. absurd (other refl);
+  no_world = λ e. absurd (false≢true (sym e));
   does = λ bytes told. record {
     reads = (read.whole bytes told, (config, read.reads bytes told, wrote));
     watches = watched looks bytes work config (read.reads bytes told) pictures;
@@ -74,6 +76,7 @@ run_stopped workers looks work config stop.Fault read stops unwatched kept = rec
   write_fault = λ e. stops.fault refl;
   watch_stays = unwatched;
   last_stays = λ other. kept;
+  no_world = λ e. absurd (false≢true (sym e));
   does = λ bytes is. record {
     reads = (stops.fault refl, (config, read.reads bytes is, stops.front));
     watches = watch_faulted looks bytes work config (read.reads bytes is) stops;
@@ -86,6 +89,7 @@ run_stopped workers looks work config stop.Memory read stops unwatched kept = re
   write_fault = λ e. absurd (cc);
   watch_stays = unwatched;
   last_stays = λ other. kept;
+  no_world = λ e. absurd (false≢true (sym e));
   does = λ bytes is. record {
     reads = inr (config, read.reads bytes is, stops.front);
     watches = watch_wanted looks bytes work config (read.reads bytes is) stops;
@@ -109,6 +113,7 @@ descent_stopped cell workers work config outcome.WriteFault read unwatched kept 
   write_fault = λ e. stops.0;
   watch_stays = λ e. unwatched;
   last_stays = λ other. kept;
+  no_world = λ e. absurd (false≢true (sym e));
   does = λ bytes is. record {
     reads = (stops.0, (config, read.reads bytes is, stops.1));
     leaves = kept;
@@ -120,6 +125,7 @@ descent_stopped cell workers work config outcome.NoMemory read unwatched kept st
   write_fault = λ e. absurd (cc);
   watch_stays = λ e. unwatched;
   last_stays = λ other. kept;
+  no_world = λ e. absurd (false≢true (sym e));
   does = λ bytes is. record {
     reads = inr (config, read.reads bytes is, stops);
     leaves = kept;
@@ -137,6 +143,7 @@ descent_written cell workers work config read unwatched wrote left = record {
   write_fault = λ e. absurd (cc);
   watch_stays = λ e. unwatched;
   last_stays = λ other. absurd (other refl);
+  no_world = λ e. absurd (false≢true (sym e));
   does = λ bytes is. record {
     reads = (read.whole bytes is, (config, read.reads bytes is, wrote));
     leaves = (config, read.reads bytes is, left);

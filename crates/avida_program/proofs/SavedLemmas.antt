@@ -31,16 +31,23 @@ run_update : (config : ConfigValues) → (state_of config).head.update ≡ confi
 unfolding state_of
 run_update config = update_of config config.updates
 
--- `resume` reads what `save` wrote
-reads_again : (config : ConfigValues) (more : ℕ) → CanResume config more
+-- a saved world that is not too long and not too late is read
+pub read_again : (more : ℕ) (bytes : List ℕ) (state : SavedState) → saved_of bytes ≡ Ok state
+    → length bytes ≤ 536870912 → state.head.update + more ≤ 1000000
+    → resume_input_of more bytes ≡ Ok state
+read_again more bytes state again short early =
+    ap (with_more more)
+    (read_within 536870912 bytes (refused_as saved_refusal (saved_of bytes)) short
+    ∙ ap (refused_as saved_refusal) again)
+    ∙ more_within more state early
+
+-- `resume` and `advance` read what `save` wrote
+pub reads_again : (config : ConfigValues) (more : ℕ) → CanResume config more
     → saved_of (save_text config) ≡ Ok (state_of config)
     → resume_input_of more (save_text config) ≡ Ok (state_of config)
 reads_again config more can again =
-    ap (with_more more)
-    (read_within 536870912 (save_text config)
-    (refused_as saved_refusal (saved_of (save_text config))) can.short
-    ∙ ap (refused_as saved_refusal) again)
-    ∙ more_within more (state_of config) (omega (arith, run_update config, can.updates))
+    read_again more (save_text config) (state_of config) again can.short
+    (omega (arith, run_update config, can.updates))
 
 -- the first run's log, and its last line
 log_ends : (config : ConfigValues)

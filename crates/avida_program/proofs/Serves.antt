@@ -1,7 +1,7 @@
 -- From what the work leaves by its outcome to what `serve` promises by its status.
 use Rattle.std.proofs.Common.{Option, None, Some, refl, inl, inr}
 use Rattle.avida_program.specs.declared.command.Command.{Command}
-use Rattle.avida_program.specs.declared.command.Command.TheVariants.{Trace, Run, Lineage, Bench, Assay, Save, Resume, Replay, Upgrade, Tree, Landscape}
+use Rattle.avida_program.specs.declared.command.Command.TheVariants.{Trace, Run, Lineage, Bench, Assay, Save, Resume, Advance, Replay, Upgrade, Tree, Landscape}
 use Rattle.avida_program.specs.declared.outcome.Outcome.{Outcome}
 use Rattle.avida_program.specs.declared.outcome.Outcome.TheVariants as outcome
 use Rattle.avida_program.specs.Status.{status_of}
@@ -16,7 +16,7 @@ use Rattle.avida_program.proofs.ServesRuns.{kept_by, serves_bench, serves_lineag
 serves_command : (command : Command) (call : Call) (told : Outcome)
     → CarriesOut command (work_of call) told → TellsOf call.err told
     → ServesCommand command call (status_of told)
-serves_command (Trace steps spelling) call told did tells = λ bytes is. record {
+serves_command (Trace steps spelling low) call told did tells = λ bytes is. record {
   serves = serves_input None _ _ call told did.watch_stays (did.does bytes is).reads tells;
   last_stays = (did.does bytes is).last_stays;
 }
@@ -36,6 +36,10 @@ serves_command (Save workers) call told did tells = λ bytes is. record {
   last_stays = (did.does bytes is).last_stays;
 }
 serves_command (Resume more workers) call told did tells = λ bytes is. record {
+  serves = serves_input None _ _ call told did.watch_stays (did.does bytes is).reads tells;
+  last_stays = (did.does bytes is).last_stays;
+}
+serves_command (Advance more workers) call told did tells = λ bytes is. record {
   serves = serves_input None _ _ call told did.watch_stays (did.does bytes is).reads tells;
   last_stays = (did.does bytes is).last_stays;
 }

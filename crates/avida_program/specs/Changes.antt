@@ -6,7 +6,8 @@ use Rattle.world_core.specs.WorldValue.{WorldValue}
 use Rattle.written_texts.specs.SinkChanges.{Change, GainedFront, GainedText, SinkFailed, Stays}
 use Rattle.avida_program.specs.declared.outcome.Outcome.{Outcome}
 use Rattle.avida_program.specs.declared.outcome.Outcome.TheVariants as outcome
-use Rattle.avida_program.specs.Status.{fault_line}
+use Rattle.avida_program.specs.declared.status.Status.{Status}
+use Rattle.avida_program.specs.Status.{fault_line, status_of}
 
 -- what a call of the program finds and leaves
 pub record Call : Type 0 where
@@ -52,3 +53,7 @@ pub record TellsOf (err : Change SinkState) (told : Outcome) : Type 0 where
   pub front : told ≢ outcome.Done → GainedFront err (fault_line told)
   -- and the whole line where no put to `err` has failed or run out of memory
   pub whole : told ≢ outcome.Done → ¬ SinkStopped err → GainedText err (fault_line told)
+
+-- the fault line of an outcome with this status on `err`
+abbrev pub TellsOfStatus : Change SinkState → Status → Type 0
+TellsOfStatus err s = (told : Outcome) × (status_of told ≡ s) × TellsOf err told

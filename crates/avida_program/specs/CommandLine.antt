@@ -1,9 +1,10 @@
 -- What words give a command (docs/FORMATS.md, "The command line").
-use Rattle.std.specs.Prelude.{Bool, ℕ, List, [], ◌∷◌, Option, None, ◌≤◌, ⊤, codes, if◌then◌else◌, option_map, option_and_then}
+use Rattle.std.specs.Prelude.{Bool, true, false, ℕ, List, [], ◌∷◌, Option, None, ◌≤◌, ⊤, codes, if◌then◌else◌, option_map, option_and_then}
+use Rattle.std.specs.Option.{option_map_or}
 use Rattle.std.specs.Str.{bytes_eq}
 use Rattle.command_line.specs.Commands as told
 use Rattle.avida_program.specs.declared.command.Command.{Command}
-use Rattle.avida_program.specs.declared.command.Command.TheVariants.{Trace, Run, Lineage, Bench, Assay, Save, Resume, Replay, Upgrade, Tree, Landscape}
+use Rattle.avida_program.specs.declared.command.Command.TheVariants.{Trace, Run, Lineage, Bench, Assay, Save, Resume, Advance, Replay, Upgrade, Tree, Landscape}
 use Rattle.avida_program.specs.declared.command.Spelling.{Spelling}
 use Rattle.avida_program.specs.declared.command.Spelling.TheVariants.{Letters, Names}
 
@@ -14,7 +15,8 @@ spelling_of org = if org then Names else Letters
 -- `trace` by the words after the name
 abbrev pub trace_command : List (List ℕ) → Option Command
 trace_command words =
-    option_map (λ trace. Trace trace.steps (spelling_of trace.org)) (told.trace_told words)
+    option_map (λ trace. Trace trace.steps (spelling_of trace.org) trace.inputs)
+    (told.trace_told words)
 
 -- `run` by the words after the name
 abbrev pub run_command : List (List ℕ) → Option Command
@@ -47,6 +49,11 @@ abbrev pub resume_command : List (List ℕ) → Option Command
 resume_command words =
     option_map (λ resume. Resume resume.more resume.workers) (told.resume_told words)
 
+-- `advance` by the words after the name
+abbrev pub advance_command : List (List ℕ) → Option Command
+advance_command words =
+    option_map (λ advance. Advance advance.more advance.workers) (told.advance_told words)
+
 -- a command that takes no words
 abbrev pub bare_command : Command → List (List ℕ) → Option Command
 bare_command command words = option_map (λ nothing. command) (told.nothing_told words)
@@ -61,6 +68,7 @@ command_named name words =
     else if bytes_eq name (codes "assay") then assay_command words
     else if bytes_eq name (codes "save") then save_command words
     else if bytes_eq name (codes "resume") then resume_command words
+    else if bytes_eq name (codes "advance") then advance_command words
     else if bytes_eq name (codes "replay") then bare_command Replay words
     else if bytes_eq name (codes "upgrade") then bare_command Upgrade words
     else if bytes_eq name (codes "tree") then bare_command Tree words
@@ -74,13 +82,14 @@ command_of (name ∷ words) = command_named name words
 
 -- how often a command's watcher looks, where it has a watcher
 abbrev pub looks_of : Command → Option ℕ
-looks_of (Trace steps spelling) = None
+looks_of (Trace steps spelling low) = None
 looks_of (Run workers looks) = looks
 looks_of (Lineage cell workers) = None
 looks_of (Bench seed workers) = None
 looks_of (Assay count first workers) = None
 looks_of (Save workers) = None
 looks_of (Resume more workers) = None
+looks_of (Advance more workers) = None
 looks_of Replay = None
 looks_of Upgrade = None
 looks_of Tree = None
@@ -90,10 +99,29 @@ looks_of (Landscape steps) = None
 abbrev pub looks_told : List (List ℕ) → Option ℕ
 looks_told words = option_and_then looks_of (command_of words)
 
+-- a command that leaves the last world of a run
+abbrev pub leaves_world : Command → Bool
+leaves_world (Trace steps spelling low) = false
+leaves_world (Run workers looks) = true
+leaves_world (Lineage cell workers) = true
+leaves_world (Bench seed workers) = true
+leaves_world (Assay count first workers) = false
+leaves_world (Save workers) = false
+leaves_world (Resume more workers) = false
+leaves_world (Advance more workers) = false
+leaves_world Replay = false
+leaves_world Upgrade = false
+leaves_world Tree = false
+leaves_world (Landscape steps) = false
+
+-- the words ask for such a command
+abbrev pub world_told : List (List ℕ) → Bool
+world_told words = option_map_or leaves_world (command_of words) false
+
 -- a command that runs worlds has from 1 to 64 workers for each, `bench` has a seed of a
 -- configuration, and `assay` has from 1 to 64 of them
 abbrev pub HasNumbersInRange : Command → Type 0
-HasNumbersInRange (Trace steps spelling) = ⊤
+HasNumbersInRange (Trace steps spelling low) = ⊤
 HasNumbersInRange (Run workers looks) = (1 ≤ workers) × (workers ≤ 64)
 HasNumbersInRange (Lineage cell workers) = (1 ≤ workers) × (workers ≤ 64)
 HasNumbersInRange (Bench seed workers) =
@@ -102,6 +130,7 @@ HasNumbersInRange (Assay count first workers) = (1 ≤ count) × (count ≤ 64)
     × (first ≤ 9223372036854775744) × (1 ≤ workers) × (workers ≤ 64)
 HasNumbersInRange (Save workers) = (1 ≤ workers) × (workers ≤ 64)
 HasNumbersInRange (Resume more workers) = (1 ≤ workers) × (workers ≤ 64)
+HasNumbersInRange (Advance more workers) = (1 ≤ workers) × (workers ≤ 64)
 HasNumbersInRange Replay = ⊤
 HasNumbersInRange Upgrade = ⊤
 HasNumbersInRange Tree = ⊤

@@ -9,8 +9,9 @@ use Rattle.world_config.specs.Values.{ConfigValues}
 use Rattle.world_core.specs.WorldValue.{WorldValue}
 use Rattle.avida_program.specs.declared.command.Command.{Command}
 use Rattle.avida_program.specs.declared.command.Command.TheVariants.{Trace, Run, Lineage, Bench}
-use Rattle.avida_program.specs.declared.command.Command.TheVariants.{Assay, Save, Resume, Replay}
-use Rattle.avida_program.specs.declared.command.Command.TheVariants.{Upgrade, Tree, Landscape}
+use Rattle.avida_program.specs.declared.command.Command.TheVariants.{Assay, Save, Resume, Advance}
+use Rattle.avida_program.specs.declared.command.Command.TheVariants.{Replay, Upgrade, Tree}
+use Rattle.avida_program.specs.declared.command.Command.TheVariants.{Landscape}
 use Rattle.avida_program.specs.declared.command.Spelling.{Spelling}
 use Rattle.avida_program.specs.declared.command.Spelling.TheVariants.{Letters}
 use Rattle.avida_program.specs.declared.status.Status.{Status}
@@ -23,7 +24,7 @@ use Rattle.avida_program.specs.Input.{IsInputWith, assay_input_of, configuration
 use Rattle.avida_program.specs.Input.{lineage_input_of, log_input_of, resume_input_of}
 use Rattle.avida_program.specs.PathText.{path_text}
 use Rattle.avida_program.specs.ReplayText.{replay_text, upgrade_text}
-use Rattle.avida_program.specs.SaveText.{save_text}
+use Rattle.avida_program.specs.SaveText.{advanced_text, save_text}
 use Rattle.avida_program.specs.FinalWorld.{GainedLogOf, LeavesFinal}
 use Rattle.logged_run.specs.RunText.{run_text}
 use Rattle.avida_program.specs.ServesInput.{ServesInput, ServesNothing}
@@ -31,11 +32,12 @@ use Rattle.avida_program.specs.Status.{outcome_of_status}
 use Rattle.logged_run.specs.WatchText.{GainedPictures, GainedPicturesFront}
 use Rattle.avida_program.specs.TraceText.{trace_text}
 
--- `trace` of so many steps, on a source that tells these bytes
-pub record ServesTrace (steps : ℕ) (spelling : Spelling) (bytes : List ℕ)
+-- `trace` of so many steps, with the inputs of which these are the low bits, on a source that tells
+-- these bytes
+pub record ServesTrace (steps : ℕ) (spelling : Spelling) (low : List ℕ) (bytes : List ℕ)
     (call : Call) (s : Status) : Type 0 where
-  pub serves :
-      ServesInput None (genome_of_input spelling bytes) (λ genome. trace_text genome steps) call s
+  pub serves : ServesInput None (genome_of_input spelling bytes)
+      (λ genome. trace_text genome low steps) call s
   pub last_stays : Stays call.last
 
 -- the watcher of a run, which looks at most so often, where the configuration is read so
@@ -114,6 +116,13 @@ pub record ServesResume (more : ℕ) (bytes : List ℕ) (call : Call) (s : Statu
       ServesInput None (resume_input_of more bytes) (λ state. continued_text state more) call s
   pub last_stays : Stays call.last
 
+-- `advance` by so many more updates, on a source that tells these bytes
+pub record ServesAdvance (more : ℕ) (bytes : List ℕ) (call : Call) (s : Status) : Type 0 where
+  -- what is read and written; a saved world that would go past the greatest update is refused
+  pub serves :
+      ServesInput None (resume_input_of more bytes) (λ state. advanced_text state more) call s
+  pub last_stays : Stays call.last
+
 -- `replay`, on a source that tells these bytes
 pub record ServesReplay (bytes : List ℕ) (call : Call) (s : Status) : Type 0 where
   pub serves : ServesInput None (log_input_of bytes) replay_text call s
@@ -139,8 +148,8 @@ pub record ServesLandscape (steps : ℕ) (bytes : List ℕ) (call : Call) (s : S
 
 -- a call of each command; the number of workers changes nothing
 abbrev pub ServesCommand : Command → Call → Status → Type 0
-ServesCommand (Trace steps spelling) call s =
-    OnBytes call.source (λ bytes. ServesTrace steps spelling bytes call s)
+ServesCommand (Trace steps spelling low) call s =
+    OnBytes call.source (λ bytes. ServesTrace steps spelling low bytes call s)
 ServesCommand (Run workers looks) call s =
     OnBytes call.source (λ bytes. ServesRun looks bytes call s)
 ServesCommand (Lineage cell workers) call s =
@@ -151,6 +160,8 @@ ServesCommand (Assay count first workers) call s =
 ServesCommand (Save workers) call s = OnBytes call.source (λ bytes. ServesSave bytes call s)
 ServesCommand (Resume more workers) call s =
     OnBytes call.source (λ bytes. ServesResume more bytes call s)
+ServesCommand (Advance more workers) call s =
+    OnBytes call.source (λ bytes. ServesAdvance more bytes call s)
 ServesCommand Replay call s = OnBytes call.source (λ bytes. ServesReplay bytes call s)
 ServesCommand Upgrade call s = OnBytes call.source (λ bytes. ServesUpgrade bytes call s)
 ServesCommand Tree call s = OnBytes call.source (λ bytes. ServesTree bytes call s)

@@ -7,6 +7,7 @@ pub mod ReplayText
 pub mod TreeText
 pub mod SaveText
 pub mod ResumedRun
+pub mod AdvancedRun
 pub mod Changes
 pub mod ServesInput
 pub mod Commands

@@ -7,7 +7,8 @@ use Rattle.logic_tasks.specs.LogicTasks as tasks
 use Rattle.divide_rules.specs.RuleName.{rule_name_of}
 use Rattle.organism.specs.OrganismState.{OrganismState}
 use Rattle.organism.specs.TracedStep.{TracedStep, TracedRemark, nothing, task, refused, divide}
-use Rattle.landscape.specs.Trace.{step_after, traced_organism}
+use Rattle.landscape.specs.Trace.{organism_alone, step_after}
+use Rattle.logic_tasks.specs.Inputs.{inputs_of}
 use Rattle.written_texts.specs.NumberText.{spaced, spaced_value}
 
 -- what stands behind the registers
@@ -40,6 +41,6 @@ abbrev pub trace_lines : OrganismState → ℕ → List ℕ
 trace_lines organism steps =
     flat_map (λ n. trace_line (n + 1) (step_after organism n)) (numbers_below steps)
 
--- what the trace of a genome writes
-abbrev pub trace_text : List Letter → ℕ → List ℕ
-trace_text letters steps = trace_lines (traced_organism letters) steps
+-- what the trace of a genome writes, with the inputs of which these are the low bits
+abbrev pub trace_text : List Letter → List ℕ → ℕ → List ℕ
+trace_text letters low steps = trace_lines (organism_alone letters (inputs_of low)) steps

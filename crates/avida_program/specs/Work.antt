@@ -1,6 +1,6 @@
 -- What each command's function leaves, by the outcome (docs/FORMATS.md, "Statuses and fault
 -- lines").
-use Rattle.std.specs.Prelude.{◌≡◌, ◌≢◌, ◌⊎◌, ℕ, List, [], Option, None, Some, IfSome, Result, Err}
+use Rattle.std.specs.Prelude.{◌≡◌, ◌≢◌, ◌⊎◌, false, ℕ, List, [], Option, None, Some, IfSome, Result, Err}
 use Rattle.assay.specs.AssayText.{assay_text}
 use Rattle.landscape.specs.LandscapeText.{landscape_text}
 use Rattle.phylogeny.specs.TreeText.{tree_text}
@@ -9,7 +9,7 @@ use Rattle.world_config.specs.Values.{ConfigValues}
 use Rattle.world_core.specs.WorldValue.{WorldValue}
 use Rattle.world_rules.specs.Laws.{ReplaysToLiving}
 use Rattle.avida_program.specs.declared.command.Command.{Command}
-use Rattle.avida_program.specs.declared.command.Command.TheVariants.{Trace, Run, Lineage, Bench, Assay, Save, Resume, Replay, Upgrade, Tree, Landscape}
+use Rattle.avida_program.specs.declared.command.Command.TheVariants.{Trace, Run, Lineage, Bench, Assay, Save, Resume, Advance, Replay, Upgrade, Tree, Landscape}
 use Rattle.avida_program.specs.declared.command.Spelling.TheVariants.{Letters}
 use Rattle.avida_program.specs.declared.outcome.Outcome.{Outcome}
 use Rattle.avida_program.specs.declared.outcome.Outcome.TheVariants as outcome
@@ -18,12 +18,12 @@ use Rattle.avida_program.specs.BenchText.{bench_config, bench_text}
 use Rattle.written_texts.specs.SinkChanges.{Change, Stays, SinkFailed, GainedText, GainedFront}
 use Rattle.avida_program.specs.Changes.{OnBytes, SourceFailed, Work}
 use Rattle.logged_run.specs.RunStops.{PutFailed}
-use Rattle.avida_program.specs.CommandLine.{looks_of}
+use Rattle.avida_program.specs.CommandLine.{leaves_world, looks_of}
 use Rattle.avida_program.specs.Input.{IsInputWith, assay_input_of, configuration_of, genome_of_input, lineage_input_of, log_input_of, resume_input_of}
 use Rattle.avida_program.specs.Outcomes.{WritesText}
 use Rattle.avida_program.specs.PathText.{path_text}
 use Rattle.avida_program.specs.ReplayText.{replay_text, upgrade_text}
-use Rattle.avida_program.specs.SaveText.{save_text}
+use Rattle.avida_program.specs.SaveText.{advanced_text, save_text}
 use Rattle.avida_program.specs.FinalWorld.{LeavesFinal}
 use Rattle.logged_run.specs.RunText.{run_text}
 use Rattle.avida_program.specs.TraceText.{trace_text}
@@ -98,8 +98,9 @@ pub record Benches (seed : ℕ) (work : Work) (told : Outcome) : Type 0 where
 
 -- what each command reads, writes and leaves
 abbrev pub Does : Command → Work → Outcome → Type 0
-Does (Trace steps spelling) work told = OnBytes work.source (λ bytes.
-    ReadsAndWrites (genome_of_input spelling bytes) (λ genome. trace_text genome steps) work told)
+Does (Trace steps spelling low) work told = OnBytes work.source (λ bytes.
+    ReadsAndWrites (genome_of_input spelling bytes)
+    (λ genome. trace_text genome low steps) work told)
 Does (Run workers looks) work told = OnBytes work.source (λ bytes. Runs looks bytes work told)
 Does (Lineage cell workers) work told = OnBytes work.source (λ bytes. Descends cell bytes work told)
 Does (Bench seed workers) work told = Benches seed work told
@@ -109,6 +110,8 @@ Does (Save workers) work told = OnBytes work.source (λ bytes.
     ReadsAndWrites (configuration_of bytes) save_text work told)
 Does (Resume more workers) work told = OnBytes work.source (λ bytes.
     ReadsAndWrites (resume_input_of more bytes) (λ state. continued_text state more) work told)
+Does (Advance more workers) work told = OnBytes work.source (λ bytes.
+    ReadsAndWrites (resume_input_of more bytes) (λ state. advanced_text state more) work told)
 Does Replay work told =
     OnBytes work.source (λ bytes. ReadsAndWrites (log_input_of bytes) replay_text work told)
 Does Upgrade work told =
@@ -127,6 +130,7 @@ pub record CarriesOut (command : Command) (work : Work) (told : Outcome) : Type 
   pub write_fault : told ≡ outcome.WriteFault → PutFailed (looks_of command) work.out work.watch
   pub watch_stays : looks_of command ≡ None → Stays work.watch
   pub last_stays : told ≢ outcome.Done → Stays work.last
+  pub no_world : leaves_world command ≡ false → Stays work.last
   -- the command's own row
   pub does : Does command work told
 

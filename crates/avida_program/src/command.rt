@@ -1,11 +1,11 @@
 // The words of a command line.
 ghost use Rattle.std.specs.Prelude.{◌≡◌, ◌<◌, Some, MatchResult, IfOk, drop, length, map, string_bytes};
 ghost use Rattle.command_line.specs.Refusals.{Refuses};
-ghost use Rattle.avida_program.specs.CommandLine.{HasNumbersInRange, assay_command, bare_command, bench_command, command_named, command_of, landscape_command, lineage_command, resume_command, run_command, save_command, spelling_of, trace_command};
+ghost use Rattle.avida_program.specs.CommandLine.{HasNumbersInRange, advance_command, assay_command, bare_command, bench_command, command_named, command_of, landscape_command, lineage_command, resume_command, run_command, save_command, spelling_of, trace_command};
 
 use command_line::{
-    Refused, read_assay, read_bench, read_landscape, read_lineage, read_nothing, read_resume,
-    read_run, read_save, read_trace,
+    Refused, read_advance, read_assay, read_bench, read_landscape, read_lineage, read_nothing,
+    read_resume, read_run, read_save, read_trace,
 };
 use std::alloc::Global;
 
@@ -19,9 +19,11 @@ pub enum Spelling {
 /// What a command line asks for.
 #[derive(Clone, Copy, Debug, PartialEq, Eq)]
 pub enum Command {
+    /// `low` has the low 24 bits of each of the three inputs.
     Trace {
         steps: u32,
         spelling: Spelling,
+        low: [u32; 3],
     },
     /// With `looks` there is a watcher, which looks at most `looks` times.
     Run {
@@ -50,6 +52,11 @@ pub enum Command {
         more: u32,
         workers: u32,
     },
+    /// A saved world `more` updates later.
+    Advance {
+        more: u32,
+        workers: u32,
+    },
     Replay,
     Upgrade,
     Tree,
@@ -75,9 +82,11 @@ fn read_trace_words(alloc: Global, words: &[String]) -> Result<Command, Refused>
         (Refuses (trace_command (drop 1 (map string_bytes words.now)))) }
 {
     let trace = read_trace(alloc, words)?;
+    let low = trace.inputs;
     Ok(Command::Trace {
         steps: trace.steps,
         spelling: genome_spelling(trace.org),
+        low,
     })
 }
 
@@ -169,6 +178,19 @@ fn read_resume_words(alloc: Global, words: &[String]) -> Result<Command, Refused
     })
 }
 
+fn read_advance_words(alloc: Global, words: &[String]) -> Result<Command, Refused>
+    requires { 0 < length words.now }
+    ensures { MatchResult result
+        (λ command. advance_command (drop 1 (map string_bytes words.now)) ≡ Some command)
+        (Refuses (advance_command (drop 1 (map string_bytes words.now)))) }
+{
+    let advance = read_advance(alloc, words)?;
+    Ok(Command::Advance {
+        more: advance.more,
+        workers: advance.workers,
+    })
+}
+
 /// A command that takes no words.
 fn read_bare_words(alloc: Global, words: &[String], command: Command) -> Result<Command, Refused>
     requires { 0 < length words.now }
@@ -198,6 +220,7 @@ fn read_named(alloc: Global, name: &str, words: &[String]) -> Result<Command, Re
         "assay" => read_assay_words(alloc, words),
         "save" => read_save_words(alloc, words),
         "resume" => read_resume_words(alloc, words),
+        "advance" => read_advance_words(alloc, words),
         "replay" => read_bare_words(alloc, words, Command::Replay),
         "upgrade" => read_bare_words(alloc, words, Command::Upgrade),
         "tree" => read_bare_words(alloc, words, Command::Tree),

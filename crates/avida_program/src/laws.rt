@@ -1,7 +1,9 @@
 // The program's limits, and what holds of its commands together (docs/FORMATS.md, "The command
 // line" and "Statuses and fault lines"; docs/WORLD.md, "Saved worlds").
-ghost use Rattle.std.specs.Prelude.{◌≡◌};
+ghost use Rattle.std.specs.Prelude.{◌≡◌, ℕ};
+ghost use Rattle.saved_worlds.specs.SavedState.{SavedState};
 ghost use Rattle.world_config.specs.Shown.{values_of};
+ghost use Rattle.avida_program.specs.AdvancedRun.{AddsUp, AdvancesExactly, AdvancesInTwo, IsReadAgain, ResumesInTwo};
 ghost use Rattle.avida_program.specs.ResumedRun.{CanResume, ResumesExactly};
 
 use crate::input::{INPUT_LIMIT, MOST_CELLS};
@@ -25,3 +27,22 @@ pub fn saved_runs_go_on(config: &Config, more: u32)
     resumed_runs_go_on(config, more);
     runs_are_read_again(config);
 }
+
+/// A run that is saved and advanced goes on: `advance` reads what `save` wrote, and writes what
+/// `save` writes of the configuration with so many more updates. No event of a configuration comes
+/// after its last update, so the longer run has the same events.
+pub fn saved_runs_advance(config: &Config, more: u32)
+    ensures { CanResume (values_of config.now) more → AdvancesExactly (values_of config.now) more }
+{
+    resumed_runs_go_on(config, more);
+    runs_are_read_again(config);
+}
+
+/// Updates add up, in two calls of `advance` as in one: the worlds, what `resume` writes of them,
+/// and what is read and written where the world between is read again as it was written.
+pub fn updates_add_up()
+    ensures states { (state : SavedState) (first second : ℕ) → AddsUp state first second }
+    ensures resumed { (state : SavedState) (first second : ℕ) → ResumesInTwo state first second }
+    ensures advanced { (state : SavedState) (first second : ℕ)
+        → IsReadAgain state first second → AdvancesInTwo state first second }
+{}

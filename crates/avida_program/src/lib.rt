@@ -1,6 +1,7 @@
 //! All that the program does, over any source and sinks.
 #![tactic(auto)]
 
+mod advance;
 mod bench;
 mod command;
 mod fault_line;
@@ -14,6 +15,7 @@ mod replay;
 mod resume;
 mod run;
 mod save;
+mod saved_world;
 mod seeds;
 mod serving;
 mod status;

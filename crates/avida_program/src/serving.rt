@@ -1,14 +1,15 @@
 // The whole program.
-ghost use Rattle.std.specs.Prelude.{◌≡◌, ◌≢◌, None, map, string_bytes};
+ghost use Rattle.std.specs.Prelude.{◌≡◌, ◌≢◌, false, None, map, string_bytes};
 ghost use Rattle.avida_port.specs.Faults.{Rose};
-ghost use Rattle.avida_program.specs.CommandLine.{HasNumbersInRange, command_of, looks_told};
+ghost use Rattle.avida_program.specs.CommandLine.{HasNumbersInRange, command_of, looks_told, world_told};
 ghost use Rattle.logged_run.specs.RunStops.{PutFailed};
-ghost use Rattle.avida_program.specs.Changes.{TellsOf};
+ghost use Rattle.avida_program.specs.Changes.{TellsOf, TellsOfStatus};
 ghost use Rattle.written_texts.specs.SinkChanges.{change};
 ghost use Rattle.avida_program.specs.Commands.{Serves};
 ghost use Rattle.avida_program.specs.Work.{CarriesOut, Obeys};
 
 use crate::Status;
+use crate::advance::advance;
 use crate::bench::bench;
 use crate::command::{Command, read_words};
 use crate::fault_line::line_of;
@@ -68,7 +69,11 @@ fn carry_out<
     }) result }
 {
     match command {
-        Command::Trace { steps, spelling } => trace(alloc, steps, spelling, source, out),
+        Command::Trace {
+            steps,
+            spelling,
+            low,
+        } => trace(alloc, steps, spelling, low, source, out),
         Command::Run { workers, looks } => {
             run(rt, alloc, workers, looks, source, out, watch, last, gate)
         }
@@ -83,6 +88,9 @@ fn carry_out<
         } => assay(rt, alloc, count, first, workers, source, out, gate),
         Command::Save { workers } => save(rt, alloc, workers, source, out, gate),
         Command::Resume { more, workers } => { resume(rt, alloc, more, workers, source, out, gate) }
+        Command::Advance { more, workers } => {
+            advance(rt, alloc, more, workers, source, out, gate)
+        }
         Command::Replay => replay(alloc, source, out),
         Command::Upgrade => upgrade(alloc, source, out),
         Command::Tree => tree(alloc, source, out),
@@ -154,6 +162,8 @@ pub fn serve<
     ensures watch_stays { looks_told (map string_bytes words.now) ≡ None
         → W.seen watch.new ≡ W.seen watch.old }
     ensures last_stays { result ≢ Status.Done → last.new ≡ last.old }
+    ensures no_world { world_told (map string_bytes words.now) ≡ false → last.new ≡ last.old }
+    ensures tells { TellsOfStatus (change (E.seen err.old) (E.seen err.new)) result }
 
     // What the command did, by its row.
     ensures serves { Serves (command_of (map string_bytes words.now)) (record {

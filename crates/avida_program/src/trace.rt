@@ -15,7 +15,8 @@ use crate::outcome::{Outcome, ended};
 use crate::trace_line::write_line;
 use avida_port::{Memory, Sink, Source};
 use genome::Genome;
-use landscape::traced_organism;
+use landscape::organism_alone;
+use logic_tasks::Inputs;
 use organism::Organism;
 use std::alloc::Global;
 use written_texts::Piece;
@@ -38,26 +39,34 @@ fn write_steps<O: Sink>(alloc: Global, mut organism: Organism, steps: u32, out: 
     ended(out.put(piece.as_slice()))
 }
 
-fn write_trace<O: Sink>(alloc: Global, genome: Genome, steps: u32, out: &mut O) -> Outcome
-    ensures { WritesText (trace_text (letters genome) steps)
+fn write_trace<O: Sink>(
+    alloc: Global,
+    genome: Genome,
+    low: [u32; 3],
+    steps: u32,
+    out: &mut O,
+) -> Outcome
+    ensures { WritesText (trace_text (letters genome) low steps)
         (change (O.seen out.old) (O.seen out.new)) result }
 {
-    match traced_organism(alloc, genome) {
+    match organism_alone(alloc, genome, Inputs::of(low)) {
         Ok(organism) => write_steps(alloc, organism, steps, out),
         Err(Memory) => Outcome::NoMemory,
     }
 }
 
-/// Reads a genome, and writes a line for each of its organism's first `steps` steps.
+/// Reads a genome, and writes a line for each of its organism's first `steps` steps. `low` has the
+/// low 24 bits of each of its inputs.
 pub fn trace<S: Source, O: Sink>(
     alloc: Global,
     steps: u32,
     spelling: Spelling,
+    low: [u32; 3],
     source: &mut S,
     out: &mut O,
 ) -> Outcome
     ensures { (watch : SinkState) (last : Option WorldValue)
-        → CarriesOut (Trace steps spelling) (record {
+        → CarriesOut (Trace steps spelling low) (record {
           source = change (S.seen source.old) (S.seen source.new);
           out = change (O.seen out.old) (O.seen out.new);
           watch = unchanged watch;
@@ -65,7 +74,7 @@ pub fn trace<S: Source, O: Sink>(
         }) result }
 {
     match read_genome(alloc, spelling, source) {
-        Ok(genome) => write_trace(alloc, genome, steps, out),
+        Ok(genome) => write_trace(alloc, genome, low, steps, out),
         Err(outcome) => outcome,
     }
 }

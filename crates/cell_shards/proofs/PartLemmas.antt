@@ -1,12 +1,13 @@
 -- Cells that lie side by side, in two parts.
-use Rattle.std.proofs.Common.{◌≡◌, ◌∙◌, ap, ap₂, refl, sym, ℕ, zero, suc, ◌+◌, ◌-◌, ◌<◌, Bool, true, false, cond, Option, None, List, [], ◌∷◌, ◌++◌, length, map, filter, get_or, arith, add-zero, append-nil, append_assoc, length-append}
+use Rattle.std.proofs.Common.{◌≡◌, ◌∙◌, ap, ap₂, refl, sym, ℕ, zero, suc, ◌+◌, ◌-◌, ◌<◌, Option, None, List, [], ◌∷◌, ◌++◌, length, map, get_or, arith, add-zero, append-nil, append_assoc, length-append}
 use Rattle.std.specs.List.{range_with_len, enumerate_from, flat_map}
 use Rattle.std.proofs.lemmas.Grind.{flat_map-append}
-use Rattle.std.proofs.lemmas.List.{map-append, get_or_append_left, get_or-append_right}
-use Rattle.std.proofs.lemmas.List.Elements.{filter-append}
+use Rattle.std.proofs.lemmas.List.{get_or_append_left, get_or-append_right}
 use Rattle.std.proofs.lemmas.List.FromFn.{length-map-range_with_len, map-range_with_len_more}
 use Rattle.organism.specs.OrganismState.{OrganismState}
-use Rattle.cell_shards.specs.CellLives.{ShardLife, RoundNumbers, part_from, shard_life_of, shard_life_at, shard_lives_of, shard_births_in, births_from, deaths_from, has_died}
+use Rattle.world_rules.specs.Lives.{CellLife}
+use Rattle.world_rules.specs.Update.{births_in}
+use Rattle.cell_shards.specs.CellLives.{RoundNumbers, births_from, departed_in, departed_of, part_from, shard_life_at, shard_life_of, shard_lives_of}
 
 -- two lists, numbered one after the other
 enumerate_from-append : {X : Type 0} (k : ℕ) (xs ys : List X)
@@ -19,67 +20,52 @@ enumerate_from-append k (x ∷ xs) ys =
     ∙ ap (λ (n : ℕ). enumerate_from (k + 1) xs ++ enumerate_from n ys) next)
 
 -- the births of two parts
-pub births_from-append : (first : ℕ) (lives more : List ShardLife)
+pub births_from-append : (first : ℕ) (lives more : List CellLife)
     → births_from first (lives ++ more) ≡ births_from first lives
     ++ births_from (first + length lives) more
 unfolding births_from
 births_from-append first lives more =
-    ap (flat_map shard_births_in) (enumerate_from-append first lives more)
-    ∙ flat_map-append shard_births_in (enumerate_from first lives)
+    ap (flat_map births_in) (enumerate_from-append first lives more)
+    ∙ flat_map-append births_in (enumerate_from first lives)
     (enumerate_from (first + length lives) more)
 
--- the cell of a numbered life
-abbrev cell_in : ℕ × ShardLife → ℕ
-cell_in place = place.0
-
 -- the deaths of two parts
-pub deaths_from-append : (first : ℕ) (lives more : List ShardLife)
-    → deaths_from first (lives ++ more) ≡ deaths_from first lives
-    ++ deaths_from (first + length lives) more
-unfolding deaths_from
-deaths_from-append first lives more =
-    let front = enumerate_from first lives in
-    let back = enumerate_from (first + length lives) more in
-    ap (λ (places : List (ℕ × ShardLife)). map cell_in (filter has_died places))
-    (enumerate_from-append first lives more)
-    ∙ ap (map cell_in) (filter-append has_died front back)
-    ∙ map-append cell_in (filter has_died front) (filter has_died back)
+pub departed_of-append : (first : ℕ) (lives more : List CellLife)
+    → departed_of first (lives ++ more) ≡ departed_of first lives
+    ++ departed_of (first + length lives) more
+departed_of-append first [] more = ap (λ (n : ℕ). departed_of n more) (sym (add-zero first))
+departed_of-append first (l ∷ lives) more =
+    let next : first + 1 + length lives ≡ first + suc (length lives) = omega arith in
+    ap (λ dead. departed_in first l ++ dead)
+    (departed_of-append (first + 1) lives more
+    ∙ ap (λ (n : ℕ). departed_of (first + 1) lives ++ departed_of n more) next)
+    ∙ sym (append_assoc (departed_in first l) (departed_of (first + 1) lives)
+    (departed_of (first + suc (length lives)) more))
 
 -- the births of one cell
-births_from-one : (cell : ℕ) (l : ShardLife) → births_from cell (l ∷ []) ≡ shard_births_in (cell, l)
+births_from-one : (cell : ℕ) (l : CellLife) → births_from cell (l ∷ []) ≡ births_in (cell, l)
 unfolding births_from
-births_from-one cell l = append-nil (shard_births_in (cell, l))
+births_from-one cell l = append-nil (births_in (cell, l))
 
 -- the births with those of one more cell
-pub births_from-push : (first : ℕ) (lives : List ShardLife) (l : ShardLife) (cell : ℕ)
+pub births_from-push : (first : ℕ) (lives : List CellLife) (l : CellLife) (cell : ℕ)
     → first + length lives ≡ cell → births_from first (lives ++ l ∷ []) ≡ births_from first lives
-    ++ shard_births_in (cell, l)
+    ++ births_in (cell, l)
 births_from-push first lives l cell place =
     births_from-append first lives (l ∷ [])
     ∙ ap (λ births. births_from first lives ++ births)
     (births_from-one (first + length lives) l)
-    ∙ ap (λ (k : ℕ). births_from first lives ++ shard_births_in (k, l)) place
-
--- the cell of one life, where it ended by age
-cell_if : (died : Bool) (cell : ℕ) (l : ShardLife)
-    → map cell_in (cond died ((cell, l) ∷ []) []) ≡ cond died (cell ∷ []) []
-cell_if true cell l = refl
-cell_if false cell l = refl
-
--- the deaths of one cell
-deaths_from-one : (cell : ℕ) (l : ShardLife)
-    → deaths_from cell (l ∷ []) ≡ cond l.died (cell ∷ []) []
-unfolding deaths_from
-deaths_from-one cell l = cell_if l.died cell l
+    ∙ ap (λ (k : ℕ). births_from first lives ++ births_in (k, l)) place
 
 -- the deaths with that of one more cell
-pub deaths_from-push : (first : ℕ) (lives : List ShardLife) (l : ShardLife) (cell : ℕ)
-    → first + length lives ≡ cell → deaths_from first (lives ++ l ∷ []) ≡ deaths_from first lives
-    ++ cond l.died (cell ∷ []) []
-deaths_from-push first lives l cell place =
-    deaths_from-append first lives (l ∷ [])
-    ∙ ap (λ dead. deaths_from first lives ++ dead) (deaths_from-one (first + length lives) l)
-    ∙ ap (λ (k : ℕ). deaths_from first lives ++ cond l.died (k ∷ []) []) place
+pub departed_of-push : (first : ℕ) (lives : List CellLife) (l : CellLife) (cell : ℕ)
+    → first + length lives ≡ cell → departed_of first (lives ++ l ∷ []) ≡ departed_of first lives
+    ++ departed_in cell l
+departed_of-push first lives l cell place =
+    departed_of-append first lives (l ∷ [])
+    ∙ ap (λ dead. departed_of first lives ++ dead)
+    (append-nil (departed_in (first + length lives) l))
+    ∙ ap (λ (k : ℕ). departed_of first lives ++ departed_in k l) place
 
 -- functions that agree on two ranges
 map_range-agree : {X : Type 0} (f g : ℕ → X) (a b n : ℕ) → ((k : ℕ) → k < n → f (a + k) ≡ g (b + k))

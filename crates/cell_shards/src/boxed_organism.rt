@@ -45,8 +45,8 @@ impl BoxedOrganism {
         })
     }
 
-    /// A newborn takes over the memory of who is there. It takes no memory of its own before its
-    /// first update, in which the thread that runs it makes its machine.
+    /// A newborn takes over the memory of the organism that it replaces. It takes no memory of its
+    /// own before its first update, in which the thread that runs it makes its machine.
     pub fn replace(
         &mut self,
         genome: Arc<Genome, Global>,

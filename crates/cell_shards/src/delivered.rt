@@ -14,11 +14,13 @@ use std::sync::Arc;
 pub struct Delivered {
     /// The cell of its parent.
     pub cell: u32,
+    /// The id of its parent.
+    pub parent: u64,
     /// Its number among the newborns of its parent in this update, from 0.
     pub nth: u32,
     pub handle: Handle,
-    /// Its genome once more, for those who remember every organism. It is shared by the thread that
-    /// interned the genome and has it at hand, so the one that places newborns needn't wait for it.
+    /// Its genome once more, for the list of all organisms. The thread that interned the genome
+    /// shares it, since it has it at hand, so the one that places newborns needn't wait for it.
     pub remembered: Arc<Genome, Global>,
     pub origin: Origin,
     pub merit: u64,

@@ -2,7 +2,7 @@ use crate::boxed_organism::BoxedOrganism;
 use avida_port::Items;
 use genotype_bank::Seat;
 
-/// Who stands in each cell of a shard.
+/// The organism in each cell of a shard.
 pub type Cells = Items<Option<BoxedOrganism>>;
 
 /// The steps of each cell of a shard.

@@ -15,7 +15,9 @@ mod pool;
 mod round;
 mod running;
 mod shards;
+mod shared;
 mod standing;
+mod tenant;
 mod unmade;
 
 pub use boxed_organism::BoxedOrganism;
@@ -26,3 +28,4 @@ pub use round::Round;
 pub use running::{run_all, run_with_errand};
 pub use shards::bounds;
 pub use standing::{Standing, Standings};
+pub use tenant::Tenant;

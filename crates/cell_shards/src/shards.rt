@@ -2,8 +2,8 @@
 ghost use Rattle.std.specs.Prelude.{◌≡◌, ◌<◌, ◌≤◌, ◌^◌};
 ghost use Rattle.cell_shards.specs.Shards.{bounds_of, first_cell};
 
-/// Of so many cells those of a shard, from the first number up to, and without, the second. A world
-/// cuts the load of its cells in the same way.
+/// The cells of a shard among `cells`, from the first number up to, and without, the second. A
+/// world cuts the load of its cells in the same way.
 pub fn bounds(cells: u32, workers: u32, shard: u32) -> (u32, u32)
     requires cells { (1 ≤ cells) × (cells < 2 ^ 26) }
     requires workers { (1 ≤ workers) × (workers ≤ 64) }

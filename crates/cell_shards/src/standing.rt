@@ -8,5 +8,5 @@ pub struct Standing {
     pub credited: Tasks,
 }
 
-/// What is counted of who stands in each cell of a shard.
+/// The merit and the credited set of the organism in each cell of a shard.
 pub type Standings = Items<Option<Standing>>;

@@ -1,5 +1,5 @@
 -- A saved world that is written is read again.
-use Rattle.std.proofs.Common.{◌≡◌, ℕ, ◌+◌, ◌<◌, ◌≤◌, ◌==◌, Bool, true, false, List, [], ◌∷◌, ◌++◌, Option, Some, None, Result, Ok, length, replicate, refl, sym, ap, subst, ◌∙◌, arith, append_assoc, append-nil, length-append, eq-eqb}
+use Rattle.std.proofs.Common.{◌≡◌, ℕ, ◌+◌, ◌*◌, ◌<◌, ◌≤◌, ◌==◌, Bool, true, false, List, [], ◌∷◌, ◌++◌, Option, Some, None, Result, Ok, length, replicate, refl, sym, ap, subst, ◌∙◌, arith, append_assoc, append-nil, length-append, eq-eqb}
 use Rattle.std.specs.List.{enumerate_from, flat_map, AllByRecursion}
 use Rattle.std.specs.Prelude.{cond, fold, is_some}
 use Rattle.std.proofs.lemmas.List.Sums.{sum_by-cons}
@@ -18,10 +18,11 @@ use Rattle.saved_worlds.specs.SavedState.{SavedState}
 use Rattle.saved_worlds.specs.SavedGrammar.{SavedPlace, Before, Among, Halfway, After, Placed, SavedFault, after_saved_line, may_follow, may_stand, one_saved_piece, pieces_state, place_if, placed_of, saved_of, state_of_lines, told_saved_line, with_placed}
 use Rattle.saved_worlds.specs.SavedWorldText.{cell_text, saved_text, slot_text, values_in}
 use Rattle.saved_worlds.specs.ValidState.{AreSaved}
-use Rattle.checkpoint.specs.Standing.{HasKindsThere, IsWritable, standing_from}
+use Rattle.checkpoint.specs.Standing.{IsWritable}
 use Rattle.checkpoint.proofs.FormLemmas.{cells_fit, head_form, machine_form, organism_form}
 use Rattle.checkpoint.proofs.AgainLemmas.{above_those, follows_again, new_to_those, placed_again, stands_again, stands_itself}
 use Rattle.checkpoint.proofs.ReadLemmas.{cut, more_pieces}
+use Rattle.checkpoint.proofs.WritableLemmas.{standing_from, state_saved}
 
 -- the cells of those who stand in them
 pub cells_again : (front : List (Option Occupant)) (first : ℕ) (cells : List (Option Occupant))
@@ -175,12 +176,11 @@ WholeImages = (m : Machine) → IsMachine m → machine_of_image (image_of m) m.
 -- the lines of who stand in cells of a saved world are read again in their places
 pub all_read_back : OneSpelling → WholeImages → (head : HeadValues) (placed : List Placed)
     (first : ℕ) (cells : List (Option Occupant))
-    → AreSaved head (placed ++ standing_from first cells)
-    → AllByRecursion HasKindsThere (standing_from first cells) → AllReadBack head placed first cells
-all_read_back spell whole head placed first [] saved forms = tt
-all_read_back spell whole head placed first (None ∷ cells) saved forms =
-    all_read_back spell whole head placed (first + 1) cells saved forms
-all_read_back spell whole head placed first (Some o ∷ cells) saved forms =
+    → AreSaved head (placed ++ standing_from first cells) → AllReadBack head placed first cells
+all_read_back spell whole head placed first [] saved = tt
+all_read_back spell whole head placed first (None ∷ cells) saved =
+    all_read_back spell whole head placed (first + 1) cells saved
+all_read_back spell whole head placed first (Some o ∷ cells) saved =
     let one : Placed = record { cell = first; occupant = o } in
     let others = standing_from (first + 1) cells in
     let values = values_in first o in
@@ -188,7 +188,7 @@ all_read_back spell whole head placed first (Some o ∷ cells) saved forms =
     let stands = stands_itself head placed one others saved in
     let sound = stands.occupant.sound in
     let line : HasSavedForm (Organism values) =
-    organism_form head first o saved.values stands forms.0 in
+    organism_form head first o saved.values stands in
     let machine : HasSavedForm (MachineLine image) =
     machine_form o.organism.machine sound.machine sound.words in (
       record {
@@ -205,7 +205,7 @@ all_read_back spell whole head placed first (Some o ∷ cells) saved forms =
       all_read_back spell whole head (placed ++ one ∷ []) (first + 1) cells
           (subst (λ (l : List Placed). AreSaved head l)
           (sym (append_assoc placed (one ∷ []) others))
-          saved) forms.1,
+          saved),
     )
 
 -- as many stand in cells as are counted there
@@ -231,6 +231,8 @@ pub read_back : OneSpelling → WholeImages → (state : SavedState) → IsWrita
 unfolding saved_of saved_text saved_head_text count_text
 read_back spell whole state is =
     let head = state.head in
+    let saved = state_saved state is in
+    let size : length state.cells ≡ head.width * head.height = is.valid.stand.cells in
     let standing = standing_from 0 state.cells in
     let count = taken (ids_of state.cells) in
     let lines = flat_map cell_text (enumerate_from 0 state.cells) in
@@ -240,18 +242,18 @@ read_back spell whole state is =
     ≡ saved_row_text (Head head) ++ 10 ∷ (lines ++ last) =
     append_assoc (saved_row_text (Head head) ++ 10 ∷ []) lines last
     ∙ append_assoc (saved_row_text (Head head)) (10 ∷ []) (lines ++ last) in
-    let first : HasSavedForm (Head head) = head_form head is.saved.values in
+    let first : HasSavedForm (Head head) = head_form head saved.values in
     let few : count ≤ 18446744073709551615 =
     omega (
       arith,
       counted 0 state.cells,
       few_stand 0 state.cells,
-      is.size,
-      cells_fit head.width head.height is.saved.values.width.1 is.saved.values.height.1,
+      size,
+      cells_fit head.width head.height saved.values.width.1 saved.values.height.1,
     ) in
     let end : HasSavedForm (Count count) = (omega arith, few) in
     let cells = cells_on 2 head [] 0 state.cells last
-    (all_read_back spell whole head [] 0 state.cells is.saved is.kinds) in
+    (all_read_back spell whole head [] 0 state.cells saved) in
     let ends : told_saved_line (Among head standing) (Count count) ≡ Some (After after) =
     ap (λ (b : Bool). place_if b (After after))
     (eq-eqb count (length standing) (counted 0 state.cells)) in
@@ -259,7 +261,7 @@ read_back spell whole state is =
     let birth_length : SavedState = record { head = head; cells = cells } in birth_length in
     let again : after ≡ state =
     ap with_cells
-    (ap (λ (n : ℕ). fold with_placed (replicate n None) standing) (sym is.size)
+    (ap (λ (n : ℕ). fold with_placed (replicate n None) standing) (sym size)
     ∙ cells_again [] 0 state.cells refl) in
     ap (λ (l : List ℕ). pieces_state 1 Before (cut l)) text
     ∙ line_on 1 Before (Among head []) (saved_row_text (Head head)) (lines ++ last) (Head head)

@@ -19,7 +19,6 @@ use Rattle.saved_lines.specs.SavedText.{flag_number}
 use Rattle.saved_lines.specs.SavedValues.{HeadValues}
 use Rattle.saved_worlds.specs.SavedWorldText.{values_in}
 use Rattle.saved_worlds.specs.ValidState.{IsHead, MayStandThere}
-use Rattle.checkpoint.specs.Standing.{HasKinds}
 use Rattle.checkpoint.proofs.AgainLemmas.{both}
 
 -- 0 or 1
@@ -63,10 +62,10 @@ cells_fit width height wide high =
 
 -- the line of an organism
 pub organism_form : (head : HeadValues) (cell : ℕ) (o : Occupant) → IsHead head
-    → MayStandThere head (record { cell = cell; occupant = o }) → HasKinds o.organism
-    → IsOrganismLine (values_in cell o)
-organism_form head cell o in_range stands kinds =
+    → MayStandThere head (record { cell = cell; occupant = o }) → IsOrganismLine (values_in cell o)
+organism_form head cell o in_range stands =
     let lives = stands.occupant in
+    let kinds = lives.kinds in
     let low = low_fits o.organism.inputs in
     let cells = cells_fit head.width head.height in_range.width.1 in_range.height.1 in
     let is_cell : cell ≤ 4294967295 = omega (arith, stands.cell, cells) in

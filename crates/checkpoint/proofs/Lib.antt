@@ -6,6 +6,6 @@ pub mod PartLemmas
 pub mod ToldLemmas
 pub mod AgainLemmas
 pub mod FormLemmas
+pub mod WritableLemmas
 pub mod BackLemmas
-pub mod HeadLemmas
-pub mod RunLemmas
+pub mod ReadWorlds

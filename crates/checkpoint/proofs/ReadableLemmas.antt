@@ -98,6 +98,11 @@ image_is image form =
 -- the values of a line
 pub form_readable : (line : SavedLine) → HasSavedForm line → IsReadable line
 form_readable (Head head) form = head_is head form
-form_readable (Organism o) form = genome_is o.genome form.fields.1
+form_readable (Organism o) form = record {
+  genome = genome_is o.genome form.fields.1;
+  credited = form.credited;
+  gestation = form.gestation;
+  inputs = form.inputs;
+}
 form_readable (Machine image) form = image_is image form
 form_readable (Count organisms) form = tt

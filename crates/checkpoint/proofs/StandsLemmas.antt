@@ -5,7 +5,6 @@ use Rattle.std.specs.Prelude.{All, ◌&&◌, ◌^◌, nat_le, nat_lt, slice_inde
 use Rattle.std.specs.Int.{w32}
 use Rattle.std.proofs.lemmas.Bool.{and_parts, eqb-true, leb-true, ltb-true}
 use Rattle.std.proofs.lemmas.List.Elements.{All-cons}
-use Rattle.genome.specs.Genome.{IsGenome}
 use Rattle.virtual_cpu.specs.declared.cpu_image.CpuImage.{CpuImage}
 use Rattle.virtual_cpu.specs.Image.{machine_of_image}
 use Rattle.virtual_cpu.specs.Machine.{IsMachine}
@@ -13,7 +12,7 @@ use Rattle.virtual_cpu.specs.Words.{HoldsWords}
 use Rattle.saved_lines.specs.SavedValues.{HeadValues, OrganismValues}
 use Rattle.saved_worlds.specs.SavedGrammar.{Placed, are_within, is_above, is_new, is_young, may_follow, may_stand, placed_of}
 use Rattle.saved_worlds.specs.ValidState.{IsHead, MayStandThere}
-use Rattle.checkpoint.specs.Readable.{IsReadImage}
+use Rattle.checkpoint.specs.Readable.{IsReadImage, IsReadOrganism}
 
 -- what each rule of an organism's line says
 pub record Stands (head : HeadValues) (placed : List Placed) (o : OrganismValues) : Type 0 where
@@ -166,17 +165,17 @@ module _ (head : HeadValues) (o : OrganismValues) (image : CpuImage) where
       (subst (λ (b : Bool). (if b then nat_lt o.age most else true) ≡ true) death young)
 
   -- the organism of two lines may stand in its cell
-  pub may_stand_there : (placed : List Placed) → IsHead head → IsGenome o.genome
+  pub may_stand_there : (placed : List Placed) → IsHead head → IsReadOrganism o
       → IsReadImage image → Stands head placed o → Follows head o image
       → MayStandThere head (placed_of head o image)
-  may_stand_there placed in_range genome read stands follows = record {
+  may_stand_there placed in_range organism read stands follows = record {
     cell = stands.cell;
     occupant = record {
       sound = record {
         organism = record { birth_length = refl; read = stands.read };
         machine = is_machine in_range stands.greatest read follows;
         words = has_words read;
-        genome = genome;
+        genome = organism.genome;
         some_merit = stands.some_merit;
         merit = stands.merit;
       };
@@ -185,5 +184,10 @@ module _ (head : HeadValues) (o : OrganismValues) (image : CpuImage) where
       age = stands.age;
       young = λ death. young_there death stands.young;
       limit = refl;
+      kinds = record {
+        credited = organism.credited;
+        gestation = organism.gestation;
+        inputs = organism.inputs;
+      };
     };
   }

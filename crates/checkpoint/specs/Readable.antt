@@ -3,13 +3,22 @@ use Rattle.std.specs.Prelude.{◌≡◌, ◌<◌, ◌≤◌, ℕ, ℤ, All, Fits
 use Rattle.std.specs.Int.{w32}
 use Rattle.genome.specs.Genome.{IsGenome}
 use Rattle.label_search.specs.Template.{IsTemplate}
+use Rattle.logic_tasks.specs.Inputs.{HasTopBytes}
 use Rattle.virtual_cpu.specs.declared.cpu_image.CpuImage.{CpuImage}
 use Rattle.saved_lines.specs.SavedReading.{SavedLine, Head, Organism, Machine, Count}
+use Rattle.saved_lines.specs.SavedValues.{OrganismValues}
 use Rattle.saved_worlds.specs.ValidState.{IsHead}
 
 -- so many numbers of 32 bits
 abbrev pub AreWords : ℕ → List ℤ → Type 0
 AreWords count numbers = (length numbers ≡ count) × All (λ n. FitsSigned w32 n) numbers
+
+-- the values of an organism's line
+pub record IsReadOrganism (o : OrganismValues) : Type 0 where
+  pub genome : IsGenome o.genome
+  pub credited : length o.credited ≡ 9
+  pub gestation : length o.gestation ≡ 9
+  pub inputs : HasTopBytes o.inputs
 
 -- the values of a machine's line
 pub record IsReadImage (image : CpuImage) : Type 0 where
@@ -24,6 +33,6 @@ pub record IsReadImage (image : CpuImage) : Type 0 where
 -- the values of a line
 abbrev pub IsReadable : SavedLine → Type 0
 IsReadable (Head head) = IsHead head
-IsReadable (Organism o) = IsGenome o.genome
+IsReadable (Organism o) = IsReadOrganism o
 IsReadable (Machine image) = IsReadImage image
 IsReadable (Count organisms) = Unit {0}

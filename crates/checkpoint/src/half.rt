@@ -2,6 +2,7 @@
 ghost use Rattle.std.specs.Prelude.{IsTrue};
 ghost use Rattle.saved_lines.specs.SavedLines.{values_of_organism};
 ghost use Rattle.saved_worlds.specs.SavedGrammar.{may_stand};
+ghost use Rattle.checkpoint.specs.Readable.{IsReadOrganism};
 
 use crate::told::Told;
 use saved_lines::OrganismLine;
@@ -12,4 +13,5 @@ pub(crate) struct Half {
     pub(crate) told: Told,
     pub(crate) organism: OrganismLine,
     ghost stands: { IsTrue (may_stand told.head told.placed (values_of_organism organism)) },
+    ghost read: { IsReadOrganism (values_of_organism organism) },
 }

@@ -6,15 +6,17 @@ ghost use Rattle.world_rules.specs.World.{Occupant, ids_of};
 ghost use Rattle.world_rules.specs.WorldRun.{world_after};
 ghost use Rattle.saved_lines.specs.SavedText.{count_text, saved_head_text};
 ghost use Rattle.saved_worlds.specs.SavedState.{SavedState, state_of, state_of_world};
+ghost use Rattle.saved_worlds.specs.Resuming.{saved_state_after};
 ghost use Rattle.saved_worlds.specs.SavedGrammar.{saved_of};
 ghost use Rattle.saved_worlds.specs.SavedWorldText.{saved_text, slot_text};
+ghost use Rattle.saved_worlds.specs.ValidState.{FitsText, HasRoomFor};
 ghost use Rattle.checkpoint.specs.Parts.{first_cells_text};
 ghost use Rattle.checkpoint.specs.Standing.{IsWritable};
 
 use saved_lines::laws::one_spelling;
+use saved_worlds::laws::{lines_can_go_on, runs_can_go_on, states_stay_valid};
 use virtual_cpu::laws::images_are_whole;
 use world_config::Config;
-use world_laws::laws::{organisms_are_sound, organisms_stay_in_range};
 
 /// The text of a saved world is that of its head, then of each cell in rising order, then of the
 /// number of organisms.
@@ -43,8 +45,7 @@ pub fn runs_can_be_written(config: &Config, updates: u32)
     ensures { let run = values_of config.now in
         IsWritable (state_of_world run (world_after run updates)) }
 {
-    organisms_are_sound(config, updates);
-    organisms_stay_in_range(config, updates);
+    runs_can_go_on(config, updates);
 }
 
 /// What a run leaves is read again as it is written.
@@ -54,5 +55,36 @@ pub fn runs_are_read_again(config: &Config)
         saved_of (saved_text left) ≡ Ok left }
 {
     runs_can_be_written(config, config.updates);
+    written_is_read_again();
+}
+
+/// A saved world that is read can be written so that it is read again.
+pub fn read_worlds_can_be_written()
+    ensures { (bytes : List ℕ) (state : SavedState)
+        → saved_of bytes ≡ Ok state
+        → IsWritable state }
+{
+    one_spelling();
+    lines_can_go_on();
+}
+
+/// What a saved world that is read leaves after so many updates is read again as it is written,
+/// where its next id and its ages are still such as a saved world has. They are where it has room
+/// for so many updates.
+pub fn advanced_worlds_are_read_again()
+    ensures again { (bytes : List ℕ) (state : SavedState) (more : ℕ)
+        → saved_of bytes ≡ Ok state
+        → state.head.update + more ≤ 1000000
+        → FitsText (saved_state_after state more)
+        → saved_of (saved_text (saved_state_after state more))
+        ≡ Ok (saved_state_after state more) }
+    ensures room { (bytes : List ℕ) (state : SavedState) (more : ℕ)
+        → saved_of bytes ≡ Ok state
+        → state.head.update + more ≤ 1000000
+        → HasRoomFor state more
+        → FitsText (saved_state_after state more) }
+{
+    read_worlds_can_be_written();
+    states_stay_valid();
     written_is_read_again();
 }

@@ -4,7 +4,7 @@ ghost use Rattle.saved_lines.specs.SavedLines.{values_of_line, values_of_organis
 ghost use Rattle.saved_lines.specs.SavedReading.{Machine};
 ghost use Rattle.saved_worlds.specs.SavedGrammar.{told_among, told_halfway, told_head, told_saved_line};
 ghost use Rattle.checkpoint.specs.Places.{saved_place_of};
-ghost use Rattle.checkpoint.specs.Readable.{IsReadImage, IsReadable};
+ghost use Rattle.checkpoint.specs.Readable.{IsReadImage, IsReadOrganism, IsReadable};
 
 use crate::half::Half;
 use crate::told::Told;
@@ -55,6 +55,7 @@ fn told_first(alloc: Global, line: SavedLine) -> Option<ReadPlace>
 }
 
 fn told_among(told: Told, line: SavedLine) -> Option<ReadPlace>
+    requires { IsReadable (values_of_line line) }
     ensures { option_map saved_place_of result
         ≡ told_among told.head told.placed (values_of_line line) }
 {
@@ -66,6 +67,7 @@ fn told_among(told: Told, line: SavedLine) -> Option<ReadPlace>
 }
 
 fn told_organism(told: Told, organism: OrganismLine) -> Option<ReadPlace>
+    requires { IsReadOrganism (values_of_organism organism) }
     ensures { option_map saved_place_of result
         ≡ told_among told.head told.placed (values_of_line (SavedLine.Organism organism)) }
 {

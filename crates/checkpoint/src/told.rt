@@ -2,10 +2,9 @@
 ghost use Rattle.std.specs.Prelude.{◌≡◌, ◌∷◌, ◌++◌, ◌*◌, ◌&&◌, ◌==◌, ◌≤◌, [], IfOk, IsTrue, length, nat_le, nat_lt, not};
 ghost use Rattle.saved_lines.specs.SavedLines.{values_of_organism};
 ghost use Rattle.saved_lines.specs.SavedValues.{head_values, organism_values};
-ghost use Rattle.genome.specs.Genome.{IsGenome, letters};
 ghost use Rattle.saved_worlds.specs.SavedGrammar.{is_above, is_new, may_follow, may_stand, placed_of, state_of_lines};
 ghost use Rattle.saved_worlds.specs.ValidState.{IsHead};
-ghost use Rattle.checkpoint.specs.Readable.{IsReadImage};
+ghost use Rattle.checkpoint.specs.Readable.{IsReadImage, IsReadOrganism};
 
 use crate::rules::{has_age, has_length, has_merit, may_follow};
 use avida_port::Memory;
@@ -91,7 +90,7 @@ impl Told {
     ) -> Result<Told, Memory>
         requires stands { IsTrue (may_stand self.head self.placed (values_of_organism line)) }
         requires follows { IsTrue (may_follow self.head (values_of_organism line) cpu) }
-        requires genome { IsGenome (letters line.genome) }
+        requires organism { IsReadOrganism (values_of_organism line) }
         requires readable { IsReadImage cpu }
         ensures { IfOk result (λ told. told ≡ record {
           head = self.head;

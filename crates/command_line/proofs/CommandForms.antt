@@ -1,7 +1,7 @@
 -- Each command reads what its form says: its names are distinct, and a text that begins with `-` is
 -- none of its numbers.
-use Rattle.std.proofs.Common.{◌≡◌, ◌<◌, ◌||◌, ◌++◌, arith, refl, ap, inl, inr, Bool, true, ℕ, List, [], ◌∷◌, length, Option, Some, None, option_map, option_and_then}
-use Rattle.std.specs.List.{list_any}
+use Rattle.std.proofs.Common.{◌≡◌, ◌<◌, ◌+◌, ◌||◌, ◌++◌, arith, refl, ap, inl, inr, Bool, true, ℕ, suc, take, List, [], ◌∷◌, length, Option, Some, None, option_map, option_and_then}
+use Rattle.std.specs.List.{before_first, list_any, position_or_len}
 use Rattle.std.proofs.lemmas.Bool.{cases_Bool, eqb-true, false≢true}
 use Rattle.numerals.specs.Numeral.{number_of}
 use Rattle.clap.specs.Lexer.{usize_max}
@@ -9,11 +9,12 @@ use Rattle.clap.specs.Walk.{Text}
 use Rattle.clap.specs.Simple.{is_simple}
 use Rattle.clap.specs.Faults.{is_simple_and_free}
 use Rattle.command_line.specs.Form.{Told, are_distinct, option_names}
-use Rattle.command_line.specs.Words.{begins_dashed, has_dashed, is_dashed}
-use Rattle.command_line.specs.Commands.{assay_form, assay_of, assay_with, bare_form, landscape_form, landscape_of, nothing_of, positional_form, positional_of, run_form, run_of, run_with, save_of, trace_form, trace_of, workers_form}
+use Rattle.command_line.specs.Words.{begins_dashed, has_dashed, is_dashed, is_set}
+use Rattle.command_line.specs.Numbers.{is_comma, three_numbers_of}
+use Rattle.command_line.specs.Commands.{assay_form, assay_of, assay_with, bare_form, landscape_form, landscape_of, inputs_of_value, nothing_of, positional_form, positional_of, run_form, run_of, run_with, save_of, trace_form, trace_of, trace_with, workers_form}
 use Rattle.command_line.specs.Parsers.{app_by}
 use Rattle.command_line.specs.Reading.{IsOf, IsReadableRow, NoMinus}
-use Rattle.command_line.specs.Rows.{CommandRow, assay_row, bench_row, landscape_row, lineage_row, nothing_row, resume_row, run_row, save_row, trace_row}
+use Rattle.command_line.specs.Rows.{CommandRow, advance_row, assay_row, bench_row, landscape_row, lineage_row, nothing_row, resume_row, run_row, save_row, trace_row}
 
 -- a command that takes no words has no text that could begin with `-`
 nothing_refuses : NoMinus → (told : Told) → IsOf bare_form told → has_dashed told ≡ true
@@ -31,6 +32,14 @@ none_after : {X Y : Type 0} (f : X → Option Y) (o : Option X) → ((x : X) →
     → option_and_then f o ≡ None
 none_after f None none = refl
 none_after f (Some x) none = none x
+
+-- what stands before the first comma begins with `-` where the text does
+begins_so : (byte : ℕ) (bytes : Text) → begins_dashed (byte ∷ bytes) ≡ true
+    → begins_dashed (before_first is_comma (byte ∷ bytes)) ≡ true
+begins_so byte bytes d =
+    let one : 1 + position_or_len is_comma bytes ≡ suc (position_or_len is_comma bytes) =
+    omega arith in
+    rw (eqb-true byte 45 d) (ap (λ n. begins_dashed (take n (45 ∷ bytes))) one)
 
 module _ (no_minus : NoMinus) where
   -- a text that begins with `-` spells no number
@@ -65,12 +74,40 @@ module _ (no_minus : NoMinus) where
       go (p ∷ q ∷ ps) vs n m d = absurd (omega arith)
       go (p ∷ []) (v ∷ vs) n m d = absurd (omega arith)
 
-  -- `trace` refuses steps that begin with `-`
+  -- nor are there three numbers in a text that begins with `-`
+  dashed_numbers : (greatest : ℕ) (text : Text) → begins_dashed text ≡ true
+      → three_numbers_of greatest text ≡ None
+  dashed_numbers greatest [] d = absurd (false≢true d)
+  dashed_numbers greatest (byte ∷ bytes) d =
+      rw (dashed_number 0 greatest (before_first is_comma (byte ∷ bytes)) (begins_so byte bytes d))
+      refl
+
+  -- `trace` refuses steps or inputs that begin with `-`
   trace_refuses : (told : Told) → IsOf trace_form told → has_dashed told ≡ true
       → trace_of told ≡ None
   trace_refuses told is d =
-      text_refuses trace_of told (λ p a. rw (dashed_number 0 1000000 p a) refl) is.positionals
-      is.values d
+      go told.positionals told.values told.flags is.positionals is.values d
+    where
+      no_inputs : (org : Bool) (value : Option Text) (steps : ℕ) → is_dashed value ≡ true
+          → trace_with org (inputs_of_value value) steps ≡ None
+      no_inputs org None steps d = absurd (false≢true d)
+      no_inputs org (Some text) steps d = rw (dashed_numbers 16777215 text d) refl
+
+      go : (ps : List Text) (vs : List (Option Text)) (fs : List Bool) → length ps ≡ 1
+          → length vs ≡ 1 → (list_any begins_dashed ps || list_any is_dashed vs) ≡ true
+          → trace_of (record { positionals = ps; values = vs; flags = fs }) ≡ None
+      go (p ∷ []) (v ∷ []) fs n m d = elim (cases_Bool (begins_dashed p)) [
+        | inl a ↦ rw (dashed_number 0 1000000 p a) refl
+        | inr a ↦ elim (cases_Bool (is_dashed v)) [
+          | inl b ↦ none_after (trace_with (is_set fs 0) (inputs_of_value v))
+              (number_of 0 1000000 p) (λ steps. no_inputs (is_set fs 0) v steps b)
+          | inr b ↦ absurd (false≢true (rw (a, b) at d))
+        ]
+      ]
+      go [] vs fs n m d = absurd (omega arith)
+      go (p ∷ q ∷ ps) vs fs n m d = absurd (omega arith)
+      go (p ∷ []) [] fs n m d = absurd (omega arith)
+      go (p ∷ []) (v ∷ w ∷ vs) fs n m d = absurd (omega arith)
 
   -- `landscape` refuses steps that begin with `-`
   landscape_refuses : (told : Told) → IsOf landscape_form told → has_dashed told ≡ true
@@ -202,7 +239,7 @@ reads_by distinct count few simple free refuses = record {
 pub nothing_reads : IsReadableRow nothing_row
 nothing_reads = reads_by refl refl (omega arith) refl refl nothing_refuses
 
--- the parser knows `trace`, which refuses steps that begin with `-`
+-- the parser knows `trace`, which refuses steps or inputs that begin with `-`
 pub trace_reads : IsReadableRow trace_row
 trace_reads = reads_by refl refl (omega arith) refl refl trace_refuses
 
@@ -232,6 +269,12 @@ bench_reads = reads_by refl refl (omega arith) refl refl (λ no_minus.
 -- the parser knows `resume`, which refuses updates or workers that begin with `-`
 pub resume_reads : IsReadableRow resume_row
 resume_reads = reads_by refl refl (omega arith) refl refl (λ no_minus.
+    positional_refuses no_minus (λ more workers. record { more = more; workers = workers })
+    1000000)
+
+-- the parser knows `advance`, which refuses updates or workers that begin with `-`
+pub advance_reads : IsReadableRow advance_row
+advance_reads = reads_by refl refl (omega arith) refl refl (λ no_minus.
     positional_refuses no_minus (λ more workers. record { more = more; workers = workers })
     1000000)
 

@@ -17,4 +17,5 @@ pub mod DashedValues
 pub mod FormWords
 pub mod FormLaw
 pub mod ParserEnds
+pub mod NumberLemmas
 pub mod CommandForms

@@ -1,8 +1,10 @@
 -- The forms of the commands, and their numbers (docs/FORMATS.md, "The command line").
-use Rattle.std.specs.Prelude.{ℕ, List, [], ◌∷◌, Option, Some, None, codes, option_and_then, option_map, slice_get}
+use Rattle.std.specs.Prelude.{ℕ, Bool, List, [], ◌∷◌, Option, Some, None, codes, option_and_then, option_map, slice_get}
 use Rattle.command_line.specs.Form.{Form, Told, Valued}
 use Rattle.command_line.specs.Words.{is_set, told_by}
+use Rattle.command_line.specs.Numbers.{three_numbers_of}
 use Rattle.numerals.specs.Numeral.{number_of}
+use Rattle.command_line.specs.declared.advance.Advance.{Advance}
 use Rattle.command_line.specs.declared.assay.Assay.{Assay}
 use Rattle.command_line.specs.declared.bench.Bench.{Bench}
 use Rattle.command_line.specs.declared.run.Run.{Run}
@@ -10,9 +12,24 @@ use Rattle.command_line.specs.declared.lineage.Lineage.{Lineage}
 use Rattle.command_line.specs.declared.resume.Resume.{Resume}
 use Rattle.command_line.specs.declared.trace.Trace.{Trace}
 
--- `trace steps [--org]`
+-- `--inputs a,b,c`
+abbrev pub inputs_option : Valued
+inputs_option = record {
+  name = codes "inputs";
+  default = Some (codes "986895,3355443,5592405");
+}
+
+-- `--inputs a,b,c` alone
+abbrev pub inputs_form : Form
+inputs_form = record { options = inputs_option ∷ []; flags = []; positionals = 0 }
+
+-- `trace steps [--org] [--inputs a,b,c]`
 abbrev pub trace_form : Form
-trace_form = record { options = []; flags = codes "org" ∷ []; positionals = 1 }
+trace_form = record {
+  options = inputs_option ∷ [];
+  flags = codes "org" ∷ [];
+  positionals = 1;
+}
 
 -- `--workers k`
 abbrev pub workers_option : Valued
@@ -46,6 +63,10 @@ bench_form = positional_form
 abbrev pub resume_form : Form
 resume_form = positional_form
 
+-- `advance more [--workers k]`
+abbrev pub advance_form : Form
+advance_form = positional_form
+
 -- `save [--workers k]`
 abbrev pub save_form : Form
 save_form = workers_form
@@ -67,9 +88,23 @@ abbrev pub positional_number_at : ℕ → ℕ → ℕ → Told → Option ℕ
 positional_number_at least greatest place told =
     option_and_then (number_of least greatest) (slice_get told.positionals place)
 
--- `trace` with the steps that the positional spells
+-- the value of the option at this place
+abbrev pub option_value_at : ℕ → Told → Option (List ℕ)
+option_value_at place told = option_and_then (λ value. value) (slice_get told.values place)
+
+-- the low bits of three inputs that the value spells, where there is one
+abbrev pub inputs_of_value : Option (List ℕ) → Option (List ℕ)
+inputs_of_value = option_and_then (three_numbers_of 16777215)
+
+-- `trace` of so many steps, with the flag given or not, where there are inputs
+abbrev pub trace_with : Bool → Option (List ℕ) → ℕ → Option Trace
+trace_with org inputs steps =
+    option_map (λ low. record { steps = steps; org = org; inputs = low }) inputs
+
+-- `trace` with the steps and the inputs that its texts spell
 abbrev pub trace_of : Told → Option Trace
-trace_of told = option_map (λ steps. record { steps = steps; org = is_set told.flags 0 })
+trace_of told = option_and_then
+    (trace_with (is_set told.flags 0) (inputs_of_value (option_value_at 0 told)))
     (positional_number_at 0 1000000 0 told)
 
 -- what the words after the name tell `trace`
@@ -88,10 +123,6 @@ landscape_told words = option_and_then landscape_of (told_by landscape_form word
 abbrev pub looks_of_value : Option (List ℕ) → Option (Option ℕ)
 looks_of_value None = Some None
 looks_of_value (Some value) = option_map (λ looks. Some looks) (number_of 0 1000000 value)
-
--- the value of the option at this place
-abbrev pub option_value_at : ℕ → Told → Option (List ℕ)
-option_value_at place told = option_and_then (λ value. value) (slice_get told.values place)
 
 -- the workers that the value at this place spells
 abbrev pub workers_at : ℕ → Told → Option ℕ
@@ -140,6 +171,14 @@ resume_of = positional_of (λ more workers. record { more = more; workers = work
 -- what the words after the name tell `resume`
 abbrev pub resume_told : List (List ℕ) → Option Resume
 resume_told words = option_and_then resume_of (told_by resume_form words)
+
+-- `advance` by so many updates more, with the workers, that its texts spell
+abbrev pub advance_of : Told → Option Advance
+advance_of = positional_of (λ more workers. record { more = more; workers = workers }) 1000000
+
+-- what the words after the name tell `advance`
+abbrev pub advance_told : List (List ℕ) → Option Advance
+advance_told words = option_and_then advance_of (told_by advance_form words)
 
 -- the workers of `save` that its value spells
 abbrev pub save_of : Told → Option ℕ

@@ -1,5 +1,6 @@
 pub mod Form
 pub mod Words
+pub mod Numbers
 pub mod Commands
 pub mod Rows
 pub mod Refusals

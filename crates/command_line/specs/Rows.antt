@@ -2,7 +2,8 @@
 use Rattle.std.specs.Prelude.{ℕ, List, [], ◌∷◌, Option, codes, option_and_then}
 use Rattle.command_line.specs.Form.{Form, Told}
 use Rattle.command_line.specs.Words.{told_by}
-use Rattle.command_line.specs.Commands.{assay_form, assay_of, bare_form, bench_form, bench_of, landscape_form, landscape_of, lineage_form, lineage_of, nothing_of, resume_form, resume_of, run_form, run_of, save_form, save_of, trace_form, trace_of}
+use Rattle.command_line.specs.Commands.{advance_form, advance_of, assay_form, assay_of, bare_form, bench_form, bench_of, landscape_form, landscape_of, lineage_form, lineage_of, nothing_of, resume_form, resume_of, run_form, run_of, save_form, save_of, trace_form, trace_of}
+use Rattle.command_line.specs.declared.advance.Advance.{Advance}
 use Rattle.command_line.specs.declared.assay.Assay.{Assay}
 use Rattle.command_line.specs.declared.bench.Bench.{Bench}
 use Rattle.command_line.specs.declared.lineage.Lineage.{Lineage}
@@ -74,6 +75,15 @@ resume_row = record {
   form = resume_form;
   texts = codes "more" ∷ [];
   take = resume_of;
+}
+
+-- `advance`
+abbrev pub advance_row : CommandRow Advance
+advance_row = record {
+  name = codes "advance";
+  form = advance_form;
+  texts = codes "more" ∷ [];
+  take = advance_of;
 }
 
 -- `landscape`

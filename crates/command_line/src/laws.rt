@@ -10,7 +10,7 @@ use crate::landscape::MOST_TRIED_STEPS;
 use crate::lineage::MOST_CELL;
 use crate::resume::MOST_FURTHER_UPDATES;
 use crate::run::MOST_LOOKS;
-use crate::trace::MOST_STEPS;
+use crate::trace::{GREATEST_INPUT, MOST_STEPS};
 use crate::workers::{LEAST_WORKERS, MOST_WORKERS};
 
 /// For every form, the parser's result is the one that the form gives when the words are read from
@@ -36,6 +36,7 @@ pub fn limits()
     ensures least_workers { LEAST_WORKERS ≡ 1 }
     ensures most_workers { MOST_WORKERS ≡ 64 }
     ensures most_steps { MOST_STEPS ≡ 1000000 }
+    ensures greatest_input { GREATEST_INPUT ≡ 16777215 }
     ensures most_tried_steps { MOST_TRIED_STEPS ≡ 100000 }
     ensures most_cell { MOST_CELL ≡ 65535 }
     ensures most_further_updates { MOST_FURTHER_UPDATES ≡ 1000000 }

@@ -1,6 +1,7 @@
 //! The words of a command line, read by one simple command a name.
 #![tactic(auto)]
 
+mod advance;
 mod assay;
 mod bench;
 mod landscape;
@@ -17,6 +18,7 @@ mod save;
 mod trace;
 mod workers;
 
+pub use advance::{Advance, read_advance};
 pub use assay::{Assay, read_assay};
 pub use bench::{Bench, read_bench};
 pub use landscape::read_landscape;

@@ -1,9 +1,12 @@
 // Texts and numbers of the arguments of a command.
-ghost use Rattle.std.specs.Prelude.{◌≡◌, option_and_then, option_map};
+ghost use Rattle.std.specs.Prelude.{◌≡◌, [], MatchOption, option_and_then, option_map};
+ghost use Rattle.std.specs.List.{after_first, before_first};
 ghost use Rattle.clap.specs.Words.{first_of, found_of, rows_of};
 ghost use Rattle.numerals.specs.Numeral.{number_of};
+ghost use Rattle.command_line.specs.Numbers.{is_comma, three_numbers_of};
 
 use clap::ArgMatches;
+use numerals::laws::one_spelling;
 use numerals::{number, small_number};
 
 /// The text of the argument of this name.
@@ -40,4 +43,26 @@ pub(crate) fn wide_number_in(matches: &ArgMatches<'_>, name: &str, greatest: u64
         (first_of name.now (rows_of (found_of matches.now))) }
 {
     number(0, greatest, text_in(matches, name)?.as_bytes())
+}
+
+/// What stands before the first comma, and what stands behind it.
+fn cut_at_comma(text: &str) -> Option<(&str, &str)>
+    ensures { MatchOption result (after_first is_comma text.now ≡ [])
+        (λ cut. (cut.0.now ≡ before_first is_comma text.now)
+        × (cut.1.now ≡ after_first is_comma text.now)) }
+{
+    text.split_once(',')
+}
+
+/// The three numbers up to `greatest` that the text spells with a comma between each two.
+pub(crate) fn three_numbers(greatest: u32, text: &str) -> Option<[u32; 3]>
+    ensures { result ≡ three_numbers_of greatest text.now }
+{
+    one_spelling();
+    let (first, others) = cut_at_comma(text)?;
+    let (second, third) = cut_at_comma(others)?;
+    let first = spelled(0, greatest, first)?;
+    let second = spelled(0, greatest, second)?;
+    let third = spelled(0, greatest, third)?;
+    Some([first, second, third])
 }

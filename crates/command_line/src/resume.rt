@@ -11,7 +11,7 @@ use crate::workers::{positional_command, workers_in};
 use clap::{ArgMatches, Command};
 use std::alloc::{AllocError, Global};
 
-/// The greatest number of further updates that `resume` accepts.
+/// The greatest number of further updates that `resume` and `advance` accept.
 pub const MOST_FURTHER_UPDATES: u32 = 1_000_000;
 
 /// The values of `resume`: the number of further updates, and the number of workers.

@@ -1,11 +1,12 @@
 // The words of `trace`.
-ghost use Rattle.std.specs.Prelude.{◌≡◌, ◌<◌, length, option_map};
-ghost use Rattle.command_line.specs.Commands.{trace_told};
-ghost use Rattle.command_line.specs.Parsers.{is_given_true};
+ghost use Rattle.std.specs.Prelude.{◌≡◌, ◌<◌, [], IfOk, codes, length, option_map};
+ghost use Rattle.clap.specs.Words.{app_of, first_of, found_of, rows_of};
+ghost use Rattle.command_line.specs.Commands.{inputs_form, inputs_of_value, trace_told};
+ghost use Rattle.command_line.specs.Parsers.{app_by, is_given_true};
 ghost use Rattle.command_line.specs.Refusals.{IsTold};
 ghost use Rattle.command_line.specs.Rows.{trace_row};
 
-use crate::numbers::{number_in, text_in};
+use crate::numbers::{number_in, text_in, three_numbers};
 use crate::reading::{Arguments, read};
 use crate::refused::Refused;
 use clap::{Arg, ArgAction, ArgMatches, Command};
@@ -14,11 +15,16 @@ use std::alloc::{AllocError, Global};
 /// The greatest number of steps that `trace` accepts.
 pub const MOST_STEPS: u32 = 1_000_000;
 
-/// The values of `trace`: the number of steps, and whether the genome is written by names.
+/// The greatest input that `trace` accepts, which is a number of 24 bits.
+pub const GREATEST_INPUT: u32 = 16_777_215;
+
+/// The values of `trace`: the number of steps, whether the genome is written by names, and the low
+/// 24 bits of each of the three inputs.
 #[derive(Clone, Copy, Debug, PartialEq, Eq)]
 pub struct Trace {
     pub steps: u32,
     pub org: bool,
+    pub inputs: [u32; 3],
 }
 
 fn is_true(text: Option<&str>) -> bool
@@ -28,6 +34,25 @@ fn is_true(text: Option<&str>) -> bool
         Some(text) => text == "true",
         None => false,
     }
+}
+
+fn inputs_in(matches: &ArgMatches<'_>) -> Option<[u32; 3]>
+    ensures { result
+        ≡ inputs_of_value (first_of (codes "inputs") (rows_of (found_of matches.now))) }
+{
+    three_numbers(GREATEST_INPUT, text_in(matches, "inputs")?)
+}
+
+/// The command with `--inputs`.
+fn inputs_command<'a>(alloc: Global) -> Result<Command<'a>, AllocError>
+    ensures { IfOk result (λ c. app_of c ≡ app_by (codes "trace") inputs_form []) }
+{
+    let inputs = Arg::new(alloc, "inputs")
+        .long("inputs")
+        .default_value("986895,3355443,5592405");
+    Command::new(alloc, "trace")
+        .disable_help_flag(true)
+        .arg(inputs)
 }
 
 impl Arguments for Trace {
@@ -40,16 +65,14 @@ impl Arguments for Trace {
             .long("org")
             .action(ArgAction::SetTrue);
         let steps = Arg::new(alloc, "steps").required(true);
-        Command::new(alloc, "trace")
-            .disable_help_flag(true)
-            .arg(org)?
-            .arg(steps)
+        inputs_command(alloc)?.arg(org)?.arg(steps)
     }
 
     fn taken(matches: &ArgMatches<'_>) -> Option<Trace> {
         let steps = number_in(matches, "steps", 0, MOST_STEPS)?;
+        let inputs = inputs_in(matches)?;
         let org = is_true(text_in(matches, "org"));
-        Some(Trace { steps, org })
+        Some(Trace { steps, org, inputs })
     }
 }
 

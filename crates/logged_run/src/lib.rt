@@ -3,6 +3,7 @@
 
 mod beginning;
 mod logging;
+mod outcomes;
 mod publishing;
 mod run;
 mod watched_run;

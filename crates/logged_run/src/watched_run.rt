@@ -5,9 +5,10 @@ ghost use Rattle.written_texts.specs.SinkChanges.{change};
 ghost use Rattle.logged_run.specs.Publishing.{HasCome, IsBegun, WritesLog};
 ghost use Rattle.logged_run.specs.RunText.{IsFinalWorld};
 ghost use Rattle.logged_run.specs.Watching.{BeginsAs, WritesLooks};
-ghost use Rattle.logged_run.specs.WatchedRun.{EndsRun, EndsWatched, IsAtEnd, RunsWatched};
+ghost use Rattle.logged_run.specs.WatchedRun.{EndsWatched, IsAtEnd, RunsWatched};
 
 use crate::beginning::{Beginning, begin};
+use crate::outcomes::Outcomes;
 use crate::publishing::{Progress, publish_run};
 use crate::watching::{write_last_picture, write_looks};
 use avida_port::{Gate, Sink};
@@ -34,28 +35,29 @@ fn side_by_side<R: Threads + Wait + Clock + Sync, O: Sink, W: Sink + Send, G: Ga
     out: &mut O,
     watch: &mut W,
     gate: &G,
-) -> (Result<Option<u32>, WriteStop>, Result<Progress, WriteStop>)
+) -> Outcomes
     requires begun { IsBegun (values_of config.now) publisher.old begun.old }
     requires observer { BeginsAs (values_of config.now) observer.old }
-    ensures seen { OnOk result.0 (BeginsAs (values_of config.now) observer.new) }
+    ensures seen { OnOk result.watched (BeginsAs (values_of config.now) observer.new) }
     ensures lines { WritesLooks looks (values_of config.now)
-        (W.seen watch.old) (W.seen watch.new) result.0 }
-    ensures come { IfOk result.1 (HasCome publisher.new) }
-    ensures world { IfOk result.1 (λ after. IsFinalWorld (values_of config.now) after.world) }
-    ensures log { WritesLog (values_of config.now) (O.seen out.old) (O.seen out.new) result.1 }
+        (W.seen watch.old) (W.seen watch.new) result.watched }
+    ensures come { IfOk result.ran (HasCome publisher.new) }
+    ensures world { IfOk result.ran (λ after. IsFinalWorld (values_of config.now) after.world) }
+    ensures log { WritesLog (values_of config.now) (O.seen out.old) (O.seen out.new) result.ran }
 {
     let ended = AtomicBool::new(false);
-    join_mut(
+    let (watched, ran) = join_mut(
         rt,
         &mut || write_looks(rt, alloc, config, observer, looks, &ended, watch),
         &mut ||
             requires { IsBegun (values_of config.now) publisher.now begun.now }
         { publish_run(rt, alloc, config, begun, publisher, &ended, out, gate) },
-    )
+    );
+    Outcomes::of(ran, watched)
 }
 
 /// Writes the line of a run's last picture where it is news, and leaves the run's world.
-fn end_watched<W: Sink>(
+pub(crate) fn end_watched<W: Sink>(
     alloc: Global,
     progress: Progress,
     newest: Option<u32>,
@@ -72,23 +74,6 @@ fn end_watched<W: Sink>(
     } = progress;
     write_last_picture(alloc, observer, picture, note, newest, watch)?;
     Ok(world)
-}
-
-/// Ends a run whose runner and watcher ended so. How the runner ended comes before how the watcher
-/// ended, and the line of the last picture after both.
-fn end_run<W: Sink>(
-    alloc: Global,
-    ran: Result<Progress, WriteStop>,
-    watched: Result<Option<u32>, WriteStop>,
-    observer: &mut Observer<WorldPicture>,
-    watch: &mut W,
-) -> Result<World, WriteStop>
-    requires { OnOk watched (IfOk ran (IsAtEnd observer.old)) }
-    ensures { EndsRun ran watched (W.seen watch.old) (W.seen watch.new) result }
-{
-    let progress = ran?;
-    let newest = watched?;
-    end_watched(alloc, progress, newest, observer, watch)
 }
 
 /// Runs what was begun to its end beside its watcher, and then writes the line of the last picture.
@@ -110,10 +95,10 @@ fn run_beside<R: Threads + Wait + Clock + Sync, O: Sink, W: Sink + Send, G: Gate
         (change (O.seen out.old) (O.seen out.new)) (change (W.seen watch.old) (W.seen watch.new))
         result }
 {
-    let (watched, ran) = side_by_side(
+    let outcomes = side_by_side(
         rt, alloc, config, begun, publisher, observer, looks, out, watch, gate,
     );
-    end_run(alloc, ran, watched, observer, watch)
+    outcomes.end(alloc, observer, watch)
 }
 
 /// Runs a configuration to its end and writes the log, with a watcher beside the run.

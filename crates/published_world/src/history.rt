@@ -94,9 +94,10 @@ impl<P: Picture> History<P> {
         self.writer.published().count
     }
 
-    /// A reader finds a place.
-    pub fn has_room(&self) -> bool {
-        new_reader(&self.writer).is_some()
+    /// A reader that has seen nothing, whose place a sight may have. There is none where each place
+    /// is in use.
+    pub fn room(&self) -> Option<PictureReader<P>> {
+        new_reader(&self.writer)
     }
 
     /// A new reader that has seen the whole history. There is none where each place is in use.
@@ -110,13 +111,14 @@ impl<P: Picture> History<P> {
         Some(reader)
     }
 
-    /// A sight of the whole history, whose last picture is handed in. It tries until a reader
-    /// finds a place.
-    pub fn sight<R: Wait>(&mut self, rt: &R, last: Arc<P>) -> Sight<P>
+    /// A sight of the whole history, whose last picture is handed in, and a reader that gives up
+    /// its place. It tries until its own reader finds that place.
+    pub fn sight<R: Wait>(&mut self, rt: &R, last: Arc<P>, room: PictureReader<P>) -> Sight<P>
         requires { last_of self.old ≡ Some last.value }
         ensures history { self.new ≡ self.old }
         ensures sight { result ≡ self.old }
     {
+        drop(room);
         let last = Shown {
             picture: last,
             count: self.count(),
@@ -134,6 +136,7 @@ impl<P: Picture> History<P> {
         requires { MayFollow P.number P.of self next.value }
         ensures ok { OnOk result.1 (result.0 ≡ self ++ next.value ∷ []) }
         ensures err { OnErr result.1 (result.0 ≡ self) }
+        ensures publication { IsPublication P.number P.of result.0 }
     {
         let History { writer } = self;
         let Some(count) = writer.published().count.checked_add(1) else {

@@ -1,5 +1,5 @@
 // Who publishes.
-ghost use Rattle.std.specs.Prelude.{◌≡◌, ◌≤◌, [], ◌∷◌, ◌++◌, IfOk, OnErr, length, replicate};
+ghost use Rattle.std.specs.Prelude.{◌≡◌, ◌≤◌, [], ◌∷◌, ◌++◌, IfOk, OnErr, OnOk, length, replicate};
 ghost use Rattle.published_world.specs.PublicationHistory.{IsPublication, MayFollow};
 
 use crate::history::History;
@@ -15,8 +15,8 @@ use std::marker::Model;
 use std::mem::replace;
 use std::sync::{Arc, Wait};
 
-/// It publishes. Contracts see it as the history that was published. It is not `Drop`: end it by
-/// `end`.
+/// It publishes. Contracts see it as the history that was published, which its type keeps a
+/// publication. It is not `Drop`: end it by `end`.
 pub struct Publisher<P: Picture>
 where
     Shown<P>: Absorb<Shown<P>, State = (u64, P)>,
@@ -30,12 +30,14 @@ where
     Shown<P>: Absorb<Shown<P>, State = (u64, P)>,
 {
     ghost use Rattle.std.specs.Prelude.{List, [], IsSome, unwrap_or};
+    ghost use Rattle.published_world.specs.PublicationHistory.{IsPublication};
 
     ghost Value = { List P };
 
     ghost view = { λ p. unwrap_or p.history [] };
 
-    ghost invariant = { λ p. IsSome p.history };
+    ghost invariant = { λ p. IsSome p.history
+        × IsPublication P.number P.of (unwrap_or p.history []) };
 }
 
 impl<P: Picture> Publisher<P> {
@@ -46,6 +48,7 @@ impl<P: Picture> Publisher<P> {
         ensures ok { IfOk result (λ _. self.new ≡ self.old ++ next.value ∷ []) }
         ensures note { IfOk result (λ note. note ≡ self.new) }
         ensures err { OnErr result (self.new ≡ self.old) }
+        ensures publication { IsPublication P.number P.of self.new }
     {
         let Some(history) = self.history.take() else {
             unreachable!()
@@ -77,26 +80,27 @@ fn append<P: Picture, R: Wait>(
     ensures ok { IfOk result.1 (λ _. result.0 ≡ history ++ next.value ∷ []) }
     ensures note { IfOk result.1 (λ note. note ≡ result.0) }
     ensures err { OnErr result.1 (result.0 ≡ history) }
+    ensures publication { IsPublication P.number P.of result.0 }
 {
     let Ok(last) = Arc::try_clone(&next) else {
         return (history, Err(Memory));
     };
     // The note needs a place for its reader.
-    if !history.has_room() {
+    let Some(room) = history.room() else {
         return (history, Err(Memory));
-    }
+    };
     let (mut history, appended) = history.append(rt, next);
     if appended.is_err() {
         return (history, Err(Memory));
     }
-    let sight = history.sight(rt, last);
+    let sight = history.sight(rt, last, room);
     (history, Ok(Note { sight }))
 }
 
 // How many notes may be held at a time, beside the observers.
 const NOTES: usize = 64;
 
-/// A history of one picture, with its publisher and so many observers. It may wait for readers.
+/// A history of one picture, with its publisher and its observers. It may wait for readers.
 pub fn publication<P: Picture + Send + Sync, R: Wait>(
     rt: &R,
     alloc: Global,
@@ -108,14 +112,8 @@ pub fn publication<P: Picture + Send + Sync, R: Wait>(
     ensures observers { IfOk result
         (λ made. made.1.items ≡ replicate readers (first.value ∷ [])) }
 {
-    let next = Arc::try_clone(&first)?;
-    let history = History::new(alloc, &first, readers as usize + NOTES)?;
-    let (mut history, begun) = history.append(rt, next);
-    let observers = match begun {
-        Ok(()) => observers(alloc, &mut history, &first, readers),
-        Err(_) => Err(Memory),
-    };
-    match observers {
+    let mut history = begin(rt, alloc, &first, readers)?;
+    match observers(alloc, &mut history, &first, readers) {
         Ok(observers) => {
             let publisher = Publisher {
                 history: Some(history),
@@ -125,6 +123,30 @@ pub fn publication<P: Picture + Send + Sync, R: Wait>(
         Err(stop) => {
             history.end(rt);
             Err(stop)
+        }
+    }
+}
+
+/// A history of one picture, with room for so many observers and for notes. It may wait for
+/// readers.
+fn begin<P: Picture, R: Wait>(
+    rt: &R,
+    alloc: Global,
+    first: &Arc<P>,
+    readers: u32,
+) -> Result<History<P>, Memory>
+    requires { (1 ≤ readers) × (readers ≤ 64) }
+    ensures history { IfOk result (λ history. history ≡ first.now.value ∷ []) }
+    ensures publication { IfOk result (λ history. IsPublication P.number P.of history) }
+{
+    let next = Arc::try_clone(first)?;
+    let history = History::new(alloc, first, readers as usize + NOTES)?;
+    let (history, begun) = history.append(rt, next);
+    match begun {
+        Ok(()) => Ok(history),
+        Err(_) => {
+            history.end(rt);
+            Err(Memory)
         }
     }
 }
@@ -143,9 +165,23 @@ fn observers<P: Picture>(
 {
     let mut all = Vec::new(alloc);
     for _ in 0..readers {
-        all.push(observer(history, first)?)?;
+        join(history, first, &mut all)?;
     }
     Ok(all)
+}
+
+/// One more observer that has seen the one picture.
+fn join<P: Picture>(
+    history: &mut History<P>,
+    first: &Arc<P>,
+    all: &mut Vec<Observer<P>>,
+) -> Result<(), Memory>
+    requires { history.old ≡ first.now.value ∷ [] }
+    ensures history { history.new ≡ history.old }
+    ensures all { OnOk result (all.new.items ≡ all.old.items ++ (first.now.value ∷ []) ∷ []) }
+{
+    all.push(observer(history, first)?)?;
+    Ok(())
 }
 
 /// An observer that has seen the one picture.

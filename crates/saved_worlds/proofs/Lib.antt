@@ -2,3 +2,7 @@ pub mod Updates
 pub mod Alike
 pub mod Quiet
 pub mod Resumes
+mod Heads
+mod Valid
+mod Lines
+mod Runs

@@ -1,12 +1,17 @@
 -- Which saved worlds go on (docs/FORMATS.md, "Saved worlds").
-use Rattle.std.specs.Prelude.{◌≡◌, ◌≢◌, ℕ, ◌*◌, ◌<◌, ◌≤◌, ◌^◌, true, All, List, Some, length, slice_get}
+use Rattle.std.specs.Prelude.{◌≡◌, ◌≢◌, ℕ, ◌+◌, ◌*◌, ◌<◌, ◌≤◌, ◌^◌, true, All, List, Some, length, slice_get}
+use Rattle.logic_tasks.specs.Inputs.{HasTopBytes}
 use Rattle.organism.specs.Lived.{IsSoundOrganism}
+use Rattle.organism.specs.OrganismState.{OrganismState}
 use Rattle.mutations.specs.Rates.{RateNumbers}
 use Rattle.world_config.specs.Bounds.{IsWithin}
 use Rattle.world_rules.specs.World.{Occupant}
+use Rattle.world_laws.specs.Ranges.{StandInRange}
 use Rattle.saved_lines.specs.SavedValues.{HeadValues, organism_values}
 use Rattle.saved_lines.specs.declared.resident.Resident.{Resident}
+use Rattle.saved_worlds.specs.Resuming.{config_of_head, world_of_state}
 use Rattle.saved_worlds.specs.SavedGrammar.{Placed, placed_of}
+use Rattle.saved_worlds.specs.SavedState.{SavedState}
 
 -- six rates in parts per million
 pub record AreRates (rates : RateNumbers) : Type 0 where
@@ -17,12 +22,12 @@ pub record AreRates (rates : RateNumbers) : Type 0 where
   pub site_insert : rates.site_insert ≤ 1000000
   pub site_delete : rates.site_delete ≤ 1000000
 
--- the values of a first line
-pub record IsHead (head : HeadValues) : Type 0 where
+-- the values of a first line, with a next id of at most this
+pub record IsHeadUpTo (greatest_id : ℕ) (head : HeadValues) : Type 0 where
   pub width : IsWithin 1 256 head.width
   pub height : IsWithin 1 256 head.height
   pub update : head.update ≤ 1000000
-  pub next_id : IsWithin 1 (2 ^ 62) head.next_id
+  pub next_id : IsWithin 1 greatest_id head.next_id
   pub seed : head.seed < 2 ^ 63
   pub average_slices : IsWithin 1 1000 head.average_slices
   pub age_limit : IsWithin 1 1000 head.age_limit
@@ -33,6 +38,16 @@ pub record IsHead (head : HeadValues) : Type 0 where
   pub greatest_length : IsWithin head.least_length 8192 head.greatest_length
   pub memory_limit : IsWithin head.greatest_length 8192 head.memory_limit
 
+-- the values of a first line
+abbrev pub IsHead : HeadValues → Type 0
+IsHead head = IsHeadUpTo (2 ^ 62) head
+
+-- its sets are of nine tasks, and its inputs have the top bytes
+pub record HasKinds (o : OrganismState) : Type 0 where
+  pub credited : length o.credited ≡ 9
+  pub gestation : length o.gestation ≡ 9
+  pub inputs : HasTopBytes o.inputs
+
 -- an organism that may stand in a world with this head
 pub record MayLive (head : HeadValues) (o : Occupant) : Type 0 where
   pub sound : IsSoundOrganism o.organism
@@ -41,6 +56,7 @@ pub record MayLive (head : HeadValues) (o : Occupant) : Type 0 where
   pub age : o.organism.age < 2 ^ 48
   pub young : head.death ≡ true → o.organism.age < head.age_limit * length o.organism.genome
   pub limit : o.organism.machine.limit ≡ head.memory_limit
+  pub kinds : HasKinds o.organism
 
 -- so does who stands in a cell of the world
 pub record MayStandThere (head : HeadValues) (placed : Placed) : Type 0 where
@@ -65,3 +81,24 @@ pub record AreSaved (head : HeadValues) (placed : List Placed) : Type 0 where
 -- the organism of a resident, in its cell
 abbrev pub placed_in : HeadValues → Resident → Placed
 placed_in head resident = placed_of head (organism_values resident) resident.image.cpu
+
+-- a state that can go on: its head is in range, and who stand in its cells are sound and in range,
+-- each with its own id; the bounds of the next id and of ages rise with the update
+pub record CanGoOn (state : SavedState) : Type 0 where
+  pub head : IsHeadUpTo (2 ^ 62 + 2 ^ 32 * state.head.update) state.head
+  pub stand : StandInRange (config_of_head state.head) (2 ^ 48 + 2 ^ 27 * state.head.update)
+      (world_of_state state)
+
+-- its next id and its ages are such as a saved world's lines have
+pub record FitsText (state : SavedState) : Type 0 where
+  pub next_id : state.head.next_id ≤ 2 ^ 62
+  pub ages : (cell : ℕ) (o : Occupant)
+      → slice_get state.cells cell ≡ Some (Some o)
+      → o.organism.age < 2 ^ 48
+
+-- they still are after so many updates
+pub record HasRoomFor (state : SavedState) (more : ℕ) : Type 0 where
+  pub next_id : state.head.next_id + 65537000 * more ≤ 2 ^ 62
+  pub ages : (cell : ℕ) (o : Occupant)
+      → slice_get state.cells cell ≡ Some (Some o)
+      → o.organism.age + 65536000 * more < 2 ^ 48

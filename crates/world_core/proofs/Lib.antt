@@ -21,6 +21,7 @@ mod SettingsLemmas
 mod UpdateLemmas
 mod WorldLemmas
 mod ResumeLemmas
+mod BuildLemmas
 mod StandingLemmas
 mod ChangeLemmas
 mod KeptOfLemmas

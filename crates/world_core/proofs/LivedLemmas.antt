@@ -1,60 +1,26 @@
 -- What the shards leave is what a world's lives leave.
-use Rattle.std.proofs.Common.{◌≡◌, ◌∙◌, refl, sym, ap, subst, ℕ, ◌+◌, ◌<◌, ◌≤◌, ◌^◌, ◌⊎◌, Bool, true, false, cond, List, [], ◌∷◌, length, map, get_or, filter, Option, Some, None, arith, inl, inr}
-use Rattle.std.specs.List.{All, enumerate_from}
+use Rattle.std.proofs.Common.{◌≡◌, ◌∙◌, refl, sym, ap, subst, ℕ, ◌+◌, ◌<◌, ◌≤◌, ◌^◌, ◌⊎◌, Bool, true, false, cond, List, [], ◌∷◌, length, map, get_or, Option, Some, None, arith, inl, inr}
+use Rattle.std.specs.List.{All}
 use Rattle.std.proofs.lemmas.Bool.{cases_lt}
 use Rattle.std.proofs.lemmas.List.{get_or-map, get_or_past, length-map}
-use Rattle.std.proofs.lemmas.List.Elements.{All-append, All-cons, All-head, All-map, All-nil, All-same, All-tail}
-use Rattle.cell_shards.specs.CellLives.{BirthValue, IsYoung, RoundNumbers, ShardLife, birth_in, births_from as shard_births, deaths_from as shard_deaths, has_died, left_in, part_from, shard_lives_of, standing_in}
-use Rattle.cell_shards.specs.Finishing.{birth_of}
-use Rattle.cell_shards.specs.declared.delivered.Delivered.{Delivered}
+use Rattle.std.proofs.lemmas.List.Elements.{All-cons, All-head, All-map, All-nil, All-same, All-tail}
+use Rattle.cell_shards.specs.CellLives.{IsYoung, RoundNumbers, births_from, departed_of, left_in, part_from, shard_lives_of, standing_in, with_id}
 use Rattle.cell_shards.specs.declared.standing.Standing.{Standing}
+use Rattle.cell_shards.specs.declared.tenant.Tenant.{Tenant}
 use Rattle.merit_slices.specs.Slices.{slices_of}
 use Rattle.organism.specs.OrganismState.{OrganismState}
 use Rattle.world_config.specs.Values.{ConfigValues}
 use Rattle.world_rules.specs.Lives.{CellLife, lives_of, merit_in, no_life, slices_at}
 use Rattle.world_rules.specs.Statistics.{organism_in}
-use Rattle.world_rules.specs.Update.{births_of}
+use Rattle.world_rules.specs.Update.{Delivery, births_of}
 use Rattle.world_rules.specs.World.{Occupant}
-use Rattle.world_core.specs.Lived.{delivery_in, departed_from, departed_of, staying_in}
+use Rattle.world_core.specs.Lived.{round_of, staying_in}
 use Rattle.world_core.specs.Population.{merit_or_zero, occupant_genome}
-use Rattle.world_core.specs.Residents.{occupants_of, with_id}
+use Rattle.world_core.specs.Residents.{occupants_of}
 use Rattle.world_core.specs.Soundness.{AreBounded, IsBoundedIn}
-use Rattle.world_core.specs.declared.lived.Delivery.{Delivery}
-use Rattle.world_core.specs.declared.lived.Departed.{Departed}
 use Rattle.world_core.proofs.CountLemmas.{GoesOn}
-use Rattle.world_core.proofs.LivesLemmas.{All-unmap, map-both}
 use Rattle.world_core.proofs.ResidentLemmas.{merits-of, occupants_of-at, occupants_of-length}
-use Rattle.world_core.proofs.ShardLemmas.{HasId, HaveIds-all, bare, births-are, departed-are, lives-bare, lives-have_ids, lives-long, round_of, staying-are, with_parent}
-
--- the newborns of some cells stand in them
-shard-births-below : (first most : ℕ) (lives : List ShardLife) → first + length lives ≤ most
-    → All (λ (b : BirthValue). b.cell < most) (shard_births first lives)
-unfolding shard_births
-shard-births-below first most [] within = All-nil (λ (b : BirthValue). b.cell < most)
-shard-births-below first most (l ∷ lives) within =
-    All-append (λ (b : BirthValue). b.cell < most) (map (birth_in first) l.newborns)
-    (shard_births (first + 1) lives)
-    (All-map (λ (b : BirthValue). b.cell < most) (birth_in first) l.newborns
-    (λ k d inside. omega (arith, within)))
-    (shard-births-below (first + 1) most lives (omega (arith, within)))
-
--- so do their dead
-shard-deaths-below : (first most : ℕ) (lives : List ShardLife) → first + length lives ≤ most
-    → All (λ (cell : ℕ). cell < most) (shard_deaths first lives)
-unfolding shard_deaths
-shard-deaths-below first most [] within = All-nil (λ (cell : ℕ). cell < most)
-shard-deaths-below first most (l ∷ lives) within =
-    by l.died (shard-deaths-below (first + 1) most lives (omega (arith, within))) where
-      others : List (ℕ × ShardLife)
-      others = filter has_died (enumerate_from (first + 1) lives)
-
-      by : (b : Bool) → All (λ (cell : ℕ). cell < most)
-          (map (λ (place : ℕ × ShardLife). place.0) others)
-          → All (λ (cell : ℕ). cell < most)
-          (map (λ (place : ℕ × ShardLife). place.0) (cond b ((first, l) ∷ others) others))
-      by true later = All-cons (λ (cell : ℕ). cell < most) first
-          (map (λ (place : ℕ × ShardLife). place.0) others) (omega (arith, within)) later
-      by false later = later
+use Rattle.world_core.proofs.ShardLemmas.{HasId, lives-have_ids, lives-long, lives-same, staying-are}
 
 -- organisms that are bounded are not too old
 pub young-are : (update : ℕ) (os : List (Option OrganismState)) (ids : List ℕ)
@@ -102,7 +68,7 @@ pub record LiveApart (config : ConfigValues) (update : ℕ) (cells : List (Optio
   pub long : length ids ≡ length os
   pub were : occupants_of os ids ≡ cells
   pub bought : slices ≡ slices_at config cells
-  pub shared : round ≡ round_of config update
+  pub shared : round ≡ round_of config update ids
 
 module _ {config : ConfigValues} {update : ℕ} {cells : List (Option Occupant)}
     {os : List (Option OrganismState)} {ids slices : List ℕ} {round : RoundNumbers}
@@ -112,7 +78,7 @@ module _ {config : ConfigValues} {update : ℕ} {cells : List (Option Occupant)}
   lives = lives_of config update cells
 
   -- the lives of the shards
-  abbrev shard_lives : List ShardLife
+  abbrev shard_lives : List CellLife
   shard_lives = shard_lives_of round (part_from 0 os slices)
 
   -- there are as many cells as organisms and gaps
@@ -120,11 +86,11 @@ module _ {config : ConfigValues} {update : ℕ} {cells : List (Option Occupant)}
   cells-long = sym (ap length apart.were) ∙ occupants_of-length os ids apart.long
 
   -- the shards live as the cells do
-  lives_are : shard_lives ≡ map bare lives
+  lives_are : shard_lives ≡ lives
   lives_are = ap (λ (r : RoundNumbers). shard_lives_of r (part_from 0 os slices)) apart.shared
-      ∙ lives-bare config update os ids apart.long slices
+      ∙ lives-same config update os ids apart.long slices
       (apart.bought ∙ ap (slices_at config) (sym apart.were))
-      ∙ ap (λ (cells : List (Option Occupant)). map bare (lives_of config update cells)) apart.were
+      ∙ ap (lives_of config update) apart.were
 
   -- each cell has an id
   many : length ids ≡ length lives
@@ -149,54 +115,23 @@ module _ {config : ConfigValues} {update : ℕ} {cells : List (Option Occupant)}
   pub lived-length : (left : List (Option OrganismState)) → left ≡ map left_in shard_lives
       → length ids ≡ length left
   lived-length left are = many
-      ∙ sym (ap length (are ∙ ap (map left_in) lives_are) ∙ length-map (map bare lives) left_in
-      ∙ length-map lives bare)
+      ∙ sym (ap length (are ∙ ap (map left_in) lives_are) ∙ length-map lives left_in)
 
   -- the newborns
-  pub lived-births : (delivered : List Delivered) (births : List Delivery)
-      → map birth_of delivered ≡ shard_births 0 shard_lives
-      → births ≡ map (λ birth. record { parent = get_or ids birth.cell 0; newborn = birth })
-      delivered → map delivery_in births ≡ births_of lives
-  unfolding births_of
-  lived-births delivered births born are =
-      ap (map delivery_in) are
-      ∙ map-both (λ (birth : Delivered).
-      record { parent = get_or ids birth.cell 0; newborn = birth }) delivery_in delivered
-      ∙ sym (map-both birth_of (with_parent ids) delivered)
-      ∙ ap (map (with_parent ids)) (born ∙ ap (shard_births 0) lives_are)
-      ∙ births-are ids 0 lives (HaveIds-all ids lives have_ids)
-
-  -- stand in cells with an id
-  pub births-within : (delivered : List Delivered)
-      → map birth_of delivered ≡ shard_births 0 shard_lives
-      → All (λ birth. birth.cell < length ids) delivered
-  births-within delivered born =
-      let below = shard-births-below 0 (length ids) (map bare lives)
-      (omega (arith, many, length-map lives bare)) in
-      All-unmap (λ (b : BirthValue). b.cell < length ids) birth_of delivered
-      (All-same (λ (b : BirthValue). b.cell < length ids) (map birth_of delivered)
-      (shard_births 0 (map bare lives)) (born ∙ ap (shard_births 0) lives_are) below)
+  pub lived-births : (births : List Delivery) → births ≡ births_from 0 shard_lives
+      → births ≡ births_of lives
+  unfolding births_from births_of
+  lived-births births born = born ∙ ap (births_from 0) lives_are
 
   -- the dead
-  pub lived-dead : (dead : List ℕ) (departed : List Departed) → dead ≡ shard_deaths 0 shard_lives
-      → departed ≡ map (departed_from ids) dead → departed ≡ departed_of 0 lives
-  lived-dead dead departed died are =
-      are ∙ ap (map (departed_from ids)) (died ∙ ap (shard_deaths 0) lives_are)
-      ∙ departed-are ids 0 lives (HaveIds-all ids lives have_ids)
-
-  -- stood in such cells
-  pub dead-within : (dead : List ℕ) → dead ≡ shard_deaths 0 shard_lives
-      → All (λ cell. cell < length ids) dead
-  dead-within dead died =
-      All-same (λ (cell : ℕ). cell < length ids) dead (shard_deaths 0 (map bare lives))
-      (died ∙ ap (shard_deaths 0) lives_are)
-      (shard-deaths-below 0 (length ids) (map bare lives)
-      (omega (arith, many, length-map lives bare)))
+  pub lived-dead : (dead : List Tenant) → dead ≡ departed_of 0 shard_lives
+      → dead ≡ departed_of 0 lives
+  lived-dead dead died = died ∙ ap (departed_of 0) lives_are
 
   -- the life of one cell leaves the same organism with a merit that fits, or nobody
   goes-by : (was : Option OrganismState) (id : ℕ) (l : CellLife) → IsBoundedIn update l.occupant
       → occupant_genome l.occupant ≡ occupant_genome (with_id id was)
-      → GoesOn was (left_in (bare l))
+      → GoesOn was (left_in l)
   goes-by was id l bounded same = by l.died l.occupant bounded same where
     nobody : GoesOn was None
     nobody = record {
@@ -239,11 +174,8 @@ module _ {config : ConfigValues} {update : ℕ} {cells : List (Option Occupant)}
       (sym apart.were) ∙ ap occupant_genome (occupants_of-at os ids place apart.long)))
     where
       here : (place < length lives) ⊎ (length lives ≤ place)
-          → get_or (map left_in (map bare lives)) place None
-          ≡ left_in (bare (get_or lives place no_life))
-      here (inl within) = get_or-map left_in (map bare lives) place (bare no_life) None
-          (omega (arith, within, length-map lives bare))
-          ∙ ap left_in (get_or-map bare lives place no_life (bare no_life) within)
-      here (inr past) = get_or_past (map left_in (map bare lives)) place None
-          (omega (arith, past, length-map (map bare lives) left_in, length-map lives bare))
-          ∙ sym (ap (λ l. left_in (bare l)) (get_or_past lives place no_life past))
+          → get_or (map left_in lives) place None ≡ left_in (get_or lives place no_life)
+      here (inl within) = get_or-map left_in lives place no_life None within
+      here (inr past) = get_or_past (map left_in lives) place None
+          (omega (arith, past, length-map lives left_in))
+          ∙ sym (ap left_in (get_or_past lives place no_life past))

@@ -4,6 +4,8 @@ use Rattle.std.specs.List.{fold}
 use Rattle.std.proofs.lemmas.Grind.{flat_map-append}
 use Rattle.std.proofs.lemmas.List.{length-map}
 use Rattle.std.proofs.lemmas.List.FromFn.{length-map-range_with_len}
+use Rattle.cell_shards.specs.CellLives.{departed_of}
+use Rattle.cell_shards.specs.declared.tenant.Tenant.{Tenant}
 use Rattle.lineage_log.specs.LogGrammar.{lines_text}
 use Rattle.lineage_log.specs.Links.{Link}
 use Rattle.log_lines.specs.Line.{Line, Count}
@@ -19,8 +21,7 @@ use Rattle.world_rules.specs.Scene.{Scene, cells_from, with_death, with_deaths, 
 use Rattle.world_rules.specs.Statistics.{next_stats, scene_stats}
 use Rattle.world_rules.specs.LogText.{birth_lines, event_lines, lines_of_lives, update_lines}
 use Rattle.world_rules.specs.Update.{Delivery, after_lives, lives_after, births_of, turns_of, events_at, with_newborn, after_births, after_burials, after_what, after_event, after_events, last_scene, next_scene, scene_of_lives}
-use Rattle.world_core.specs.Lived.{departed_of, departure_line, staying_in}
-use Rattle.world_core.specs.declared.lived.Departed.{Departed}
+use Rattle.world_core.specs.Lived.{departure_line, staying_in}
 use Rattle.world_core.proofs.BurialLemmas.{burial-lines-are, burials-are}
 
 -- a death leaves the update
@@ -96,7 +97,7 @@ length_lived config update cells =
     length-map _ _ ∙ length-map-range_with_len (life_at config update cells) 0 (length cells)
 
 -- the scenes of an update's phases, from the lives on
-pub record Phases (config : ConfigValues) (w : World) (dead : List Departed)
+pub record Phases (config : ConfigValues) (w : World) (dead : List Tenant)
     (births : List Delivery) (s0 s1 s2 s3 : Scene) (stats : Stats) : Type 0 where
   pub lived : s0 ≡ record {
     update = w.update + 1;
@@ -111,7 +112,7 @@ pub record Phases (config : ConfigValues) (w : World) (dead : List Departed)
   pub happened : s3 ≡ after_events config s2
   pub counted : stats ≡ scene_stats s3 (length births)
 
-module _ (config : ConfigValues) (w : World) (dead : List Departed) (births : List Delivery)
+module _ (config : ConfigValues) (w : World) (dead : List Tenant) (births : List Delivery)
     (s0 s1 s2 s3 : Scene) (stats : Stats) (p : Phases config w dead births s0 s1 s2 s3 stats) where
   -- the lives
   abbrev lives : List CellLife

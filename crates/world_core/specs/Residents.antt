@@ -1,14 +1,10 @@
 -- Who stands in each cell, where organisms and ids are kept apart (docs/ARCHITECTURE.md, "Shards").
-use Rattle.std.specs.Prelude.{◌≡◌, ℕ, List, length, map, Option, option_map}
+use Rattle.std.specs.Prelude.{◌≡◌, ℕ, List, length, map, Option}
 use Rattle.std.specs.List.{zip}
-use Rattle.cell_shards.specs.CellLives.{standing_in}
+use Rattle.cell_shards.specs.CellLives.{standing_in, with_id}
 use Rattle.cell_shards.specs.declared.standing.Standing.{Standing}
 use Rattle.organism.specs.OrganismState.{OrganismState}
 use Rattle.world_rules.specs.World.{Occupant}
-
--- who stands in a cell, by the organism there and the id of the cell
-abbrev pub with_id : ℕ → Option OrganismState → Option Occupant
-with_id id slot = option_map (λ organism. record { id = id; organism = organism }) slot
 
 -- who stands in each cell, by the organisms and the ids of the cells
 abbrev pub occupants_of : List (Option OrganismState) → List ℕ → List (Option Occupant)

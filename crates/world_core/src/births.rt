@@ -1,6 +1,6 @@
 // The newborns of an update are placed, one after another.
 ghost use Rattle.std.specs.Prelude.{◌≡◌, ◌+◌, ◌*◌, ◌++◌, ◌<◌, ◌≤◌, ◌^◌, All, OnOk, IfOk, length, map};
-ghost use Rattle.cell_shards.specs.Finishing.{genome_in};
+ghost use Rattle.cell_shards.specs.Finishing.{birth_of, genome_in};
 ghost use Rattle.genome.specs.Genome.{letters};
 ghost use Rattle.lineage_log.specs.LogGrammar.{lines_text};
 ghost use Rattle.log_lines.specs.Line.{Birth};
@@ -13,11 +13,9 @@ ghost use Rattle.world_rules.specs.Scene.{next_id, standing_at};
 ghost use Rattle.world_rules.specs.Update.{placings_of, with_newborn, after_births};
 ghost use Rattle.world_rules.specs.World.{ids_of};
 ghost use Rattle.world_core.specs.Genotypes.{HasNumber, genomes_ever};
-ghost use Rattle.world_core.specs.Lived.{delivery_in};
 ghost use Rattle.world_core.specs.Scenes.{scene_in};
 ghost use Rattle.world_core.specs.Soundness.{IsDelivery, AreDeliveries};
 
-use crate::lived::Delivery;
 use crate::residents::Residents;
 use crate::scene::Scene;
 use crate::settings::{placing_round_at, torus_of};
@@ -38,22 +36,22 @@ pub(crate) fn place_births(
     alloc: Global,
     config: &Config,
     scene: &mut Scene,
-    births: Vec<Delivery>,
+    births: Vec<Delivered>,
     text: &mut Vec<u8>,
 ) -> Result<(), Memory>
     requires size { length scene.old.cells ≡ config.now.width * config.now.height }
     requires births { AreDeliveries (values_of config.now) (length scene.old.cells)
-        (map delivery_in births.items) }
-    requires numbers { All (λ birth. HasNumber scene.old.bank birth.newborn) births.items }
+        (map birth_of births.items) }
+    requires numbers { All (HasNumber scene.old.bank) births.items }
     requires few { length scene.old.everyone ≤ 2 ^ 62 + 2 ^ 60 }
     ensures scene { OnOk result (scene_in scene.new ≡ after_births (values_of config.now)
-        (scene_in scene.old) (map delivery_in births.items)) }
+        (scene_in scene.old) (map birth_of births.items)) }
     ensures text { OnOk result (text.new.items
         ≡ text.old.items ++ lines_text (birth_lines (values_of config.now)
-        (scene_in scene.old) (map delivery_in births.items))) }
+        (scene_in scene.old) (map birth_of births.items))) }
     ensures bank { OnOk result (scene.new.bank ≡ scene.old.bank) }
     ensures genomes { OnOk result (genomes_ever scene.new.everyone
-        ≡ genomes_ever scene.old.everyone ++ map (λ b. genome_in b.newborn) births.items) }
+        ≡ genomes_ever scene.old.everyone ++ map genome_in births.items) }
     ensures size { OnOk result (length scene.new.cells ≡ length scene.old.cells) }
     ensures everyone { OnOk result
         (length scene.new.everyone ≡ length scene.old.everyone + length births.items) }
@@ -72,14 +70,14 @@ fn placings_of(
     alloc: Global,
     config: &Config,
     scene: &Scene,
-    births: &[Delivery],
+    births: &[Delivered],
 ) -> Result<Placings, Memory>
     requires size { length scene.now.cells ≡ config.now.width * config.now.height }
     requires births { AreDeliveries (values_of config.now) (length scene.now.cells)
-        (map delivery_in births.now) }
+        (map birth_of births.now) }
     requires few { length scene.now.everyone ≤ 2 ^ 62 + 2 ^ 60 }
     ensures placings { IfOk result (λ placings. placings
-        ≡ placings_of (values_of config.now) (scene_in scene.now) (map delivery_in births.now)) }
+        ≡ placings_of (values_of config.now) (scene_in scene.now) (map birth_of births.now)) }
     ensures count { IfOk result (λ placings. length placings ≡ length births.now) }
     ensures in_world { IfOk result (λ placings.
         All (λ placing. placing.cell < length scene.now.cells) placings) }
@@ -92,13 +90,10 @@ fn placings_of(
 }
 
 /// The cells of the newborns' parents.
-fn parents_of(alloc: Global, births: &[Delivery]) -> Result<Parents, Memory>
-    ensures { IfOk result (λ parents. parents ≡ map (λ b. b.newborn.cell) births.now) }
+fn parents_of(alloc: Global, births: &[Delivered]) -> Result<Parents, Memory>
+    ensures { IfOk result (λ parents. parents ≡ map (λ b. b.cell) births.now) }
 {
-    let cells = births
-        .iter()
-        .map(|birth| birth.newborn.cell)
-        .collect(alloc)?;
+    let cells = births.iter().map(|birth| birth.cell).collect(alloc)?;
     Ok(Parents::from_vec(cells))
 }
 
@@ -116,33 +111,33 @@ fn place_newborn(
     alloc: Global,
     config: &Config,
     scene: &mut Scene,
-    birth: Delivery,
+    birth: Delivered,
     placing: &Placing,
     text: &mut Vec<u8>,
 ) -> Result<(), Memory>
     requires cell { placing.now.cell < length scene.old.cells }
     requires birth { IsDelivery (values_of config.now) (length scene.old.cells)
-        (delivery_in birth) }
-    requires number { HasNumber scene.old.bank birth.newborn }
+        (birth_of birth) }
+    requires number { HasNumber scene.old.bank birth }
     ensures scene { OnOk result (scene_in scene.new ≡ with_newborn (values_of config.now)
-        (scene_in scene.old) (delivery_in birth, placing.now)) }
+        (scene_in scene.old) (birth_of birth, placing.now)) }
     ensures text { OnOk result (text.new.items ≡ text.old.items
-        ++ line_text (birth_line (scene_in scene.old) (delivery_in birth, placing.now))) }
+        ++ line_text (birth_line (scene_in scene.old) (birth_of birth, placing.now))) }
     ensures bank { OnOk result (scene.new.bank ≡ scene.old.bank) }
     ensures size { OnOk result (length scene.new.cells ≡ length scene.old.cells) }
     ensures everyone { OnOk result (length scene.new.everyone ≡ length scene.old.everyone + 1) }
     ensures first { OnOk result (scene.new.first ≡ scene.old.first) }
 {
     let id = scene.next_id();
-    let Delivery { parent, newborn } = birth;
     let Delivered {
+        parent,
         handle,
         remembered,
         origin,
         merit,
         credited,
         ..
-    } = newborn;
+    } = birth;
     let cell = placing.cell;
     tell_birth(scene, parent, cell, &origin, text)?;
     scene.enroll(Some(parent), cell, Some(origin), remembered)?;

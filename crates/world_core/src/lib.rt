@@ -9,7 +9,6 @@ mod everyone;
 mod founding;
 mod genotypes;
 mod late_tree;
-mod lived;
 mod lives;
 mod loads;
 mod picture;

@@ -1,17 +1,15 @@
 // The lives of an update, all from one start.
-ghost use Rattle.std.specs.Prelude.{◌≡◌, ◌+◌, ◌<◌, ◌≤◌, ◌^◌, ℕ, All, IfOk, length, map, sum, slice_index_or};
+ghost use Rattle.std.specs.Prelude.{◌≡◌, ◌+◌, ◌<◌, ◌≤◌, ◌^◌, ℕ, All, List, IfOk, length, map, sum, slice_index_or};
 ghost use Rattle.cell_shards.specs.CellLives.{round_numbers};
 ghost use Rattle.census.specs.Changes.{CanRenew};
 ghost use Rattle.merit_slices.specs.Slices.{slices_of};
 ghost use Rattle.world_config.specs.Shown.{values_of};
-ghost use Rattle.world_rules.specs.Settings.{settings_at};
-ghost use Rattle.world_core.specs.Lived.{departed_from};
+ghost use Rattle.world_core.specs.Lived.{round_of};
 ghost use Rattle.world_core.specs.Population.{CanCountAgain, CountsAgain, IsRenewed, merit_or_zero};
 
-use crate::lived::{Delivery, Departed, Lived};
 use crate::settings::settings_at;
 use avida_port::Memory;
-use cell_shards::{Delivered, Round, Standing};
+use cell_shards::{Round, Standing};
 use census::Census;
 use merit_slices::share;
 use random_streams::CELLS;
@@ -20,11 +18,8 @@ use world_config::Config;
 
 /// What all lives of an update share.
 pub(crate) fn round_at(config: &Config, update: u32) -> Round
-    ensures { round_numbers result ≡ record {
-      seed = config.now.seed;
-      update = update;
-      settings = settings_at (values_of config.now) update;
-    } }
+    ensures { (ids : List ℕ)
+        → round_numbers result ids ≡ round_of (values_of config.now) update ids }
 {
     Round {
         seed: config.seed,
@@ -72,61 +67,6 @@ fn merit_in(standing: Option<Standing>) -> u64
         Some(one) => one.merit,
         None => 0,
     }
-}
-
-/// What the lives of an update bring, with the ids of who stood in the cells.
-pub(crate) fn with_all_ids(
-    alloc: Global,
-    ids: &[u64],
-    births: Vec<Delivered>,
-    dead: &[u32],
-) -> Result<Lived, AllocError>
-    requires births { All (λ birth. birth.cell < length ids.now) births.items }
-    requires dead { All (λ cell. cell < length ids.now) dead.now }
-    ensures births { IfOk result (λ lived. lived.births.items ≡ map (λ birth. record {
-      parent = slice_index_or ids.now birth.cell 0;
-      newborn = birth;
-    }) births.items) }
-    ensures dead { IfOk result
-        (λ lived. lived.dead.items ≡ map (departed_from ids.now) dead.now) }
-{
-    Ok(Lived {
-        births: with_parents(alloc, ids, births)?,
-        dead: with_ids(alloc, ids, dead)?,
-    })
-}
-
-/// The newborns with the ids of their parents.
-fn with_parents(
-    alloc: Global,
-    ids: &[u64],
-    births: Vec<Delivered>,
-) -> Result<Vec<Delivery>, AllocError>
-    requires { All (λ birth. birth.cell < length ids.now) births.items }
-    ensures { IfOk result (λ deliveries. deliveries.items ≡ map (λ birth. record {
-      parent = slice_index_or ids.now birth.cell 0;
-      newborn = birth;
-    }) births.items) }
-{
-    let mut deliveries = Vec::with_capacity(alloc, births.len())?;
-    for newborn in births {
-        let parent = ids[newborn.cell as usize];
-        deliveries.push(Delivery { parent, newborn })?;
-    }
-    Ok(deliveries)
-}
-
-/// The dead with their ids.
-fn with_ids(alloc: Global, ids: &[u64], dead: &[u32]) -> Result<Vec<Departed>, AllocError>
-    requires { All (λ cell. cell < length ids.now) dead.now }
-    ensures { IfOk result (λ departed. departed.items ≡ map (departed_from ids.now) dead.now) }
-{
-    let mut departed = Vec::with_capacity(alloc, dead.len())?;
-    for cell in dead {
-        let id = ids[*cell as usize];
-        departed.push(Departed { cell: *cell, id })?;
-    }
-    Ok(departed)
 }
 
 /// The counts once who stood in a cell has lived: whoever died goes, and whoever bore has another

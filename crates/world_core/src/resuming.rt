@@ -5,13 +5,15 @@ ghost use Rattle.genotype_bank.specs.BankHistory.{with_genome};
 ghost use Rattle.organism.specs.Image.{organism_of_image};
 ghost use Rattle.organism.specs.Lived.{IsSoundOrganism};
 ghost use Rattle.saved_lines.specs.SavedValues.{head_values};
-ghost use Rattle.saved_worlds.specs.Resuming.{forgotten};
-ghost use Rattle.saved_worlds.specs.SavedGrammar.{with_placed};
+ghost use Rattle.saved_worlds.specs.Resuming.{forgotten, world_of_state};
+ghost use Rattle.saved_worlds.specs.SavedGrammar.{state_of_lines, with_placed};
 ghost use Rattle.saved_worlds.specs.SavedState.{head_at};
 ghost use Rattle.saved_worlds.specs.ValidState.{IsHead, MayStandThere, placed_in};
 ghost use Rattle.world_config.specs.Bounds.{IsWithin};
 ghost use Rattle.world_config.specs.Shown.{values_of};
-ghost use Rattle.world_laws.specs.Keeping.{AreSound};
+ghost use Rattle.world_rules.specs.Update.{world_of};
+ghost use Rattle.world_core.specs.Resumed.{KeepsPast};
+ghost use Rattle.world_core.specs.Scenes.{scene_in};
 
 use crate::everyone::Everyone;
 use crate::scene::Scene;
@@ -104,6 +106,7 @@ fn resumed_scene(alloc: Global, head: &StateHead) -> Result<Scene, Memory>
         (λ scene. scene.cells ≡ replicate (head.now.width * head.now.height) None) }
     ensures everyone { IfOk result
         (λ scene. scene.everyone ≡ replicate head.now.next_id forgotten) }
+    ensures first { IfOk result (λ scene. scene.first ≡ head.now.next_id) }
 {
     let everyone = Everyone::forgotten(alloc, head.next_id);
     Scene::none(alloc, head.update, head.width * head.height, everyone)
@@ -131,15 +134,10 @@ pub(crate) fn restored_scene<R: Wait>(
     requires head { IsHead (head_values head.now) }
     requires each { All (MayStandThere (head_values head.now))
         (map (placed_in (head_values head.now)) residents.items) }
-    ensures update { IfOk result (λ scene. scene.update ≡ head.now.update) }
-    ensures everyone { IfOk result
-        (λ scene. scene.everyone ≡ replicate head.now.next_id forgotten) }
-    ensures cells { IfOk result (λ scene. scene.cells
-        ≡ fold with_placed (replicate (head.now.width * head.now.height) None)
-        (map (placed_in (head_values head.now)) residents.items)) }
-    ensures size { IfOk result
-        (λ scene. length scene.cells ≡ head.now.width * head.now.height) }
-    ensures sound { IfOk result (λ scene. AreSound scene.cells) }
+    ensures world { IfOk result (λ scene. world_of (scene_in scene)
+        ≡ world_of_state (state_of_lines (head_values head.now)
+        (map (placed_in (head_values head.now)) residents.items))) }
+    ensures settled { IfOk result (λ scene. scene.first ≡ length scene.everyone) }
 {
     let mut scene = resumed_scene(alloc, head)?;
     restore_all(rt, alloc, &mut scene, head, residents)?;
@@ -157,13 +155,9 @@ fn restore_all<R: Wait>(
     requires size { length scene.old.cells ≡ head.now.width * head.now.height }
     requires each { All (MayStandThere (head_values head.now))
         (map (placed_in (head_values head.now)) residents.items) }
-    requires sound { AreSound scene.old.cells }
     ensures cells { OnOk result (scene.new.cells ≡ fold with_placed scene.old.cells
         (map (placed_in (head_values head.now)) residents.items)) }
-    ensures size { OnOk result (length scene.new.cells ≡ length scene.old.cells) }
-    ensures sound { OnOk result (AreSound scene.new.cells) }
-    ensures update { OnOk result (scene.new.update ≡ scene.old.update) }
-    ensures everyone { OnOk result (scene.new.everyone ≡ scene.old.everyone) }
+    ensures past { OnOk result (KeepsPast scene.old scene.new) }
 {
     for mut resident in residents {
         restore(rt, alloc, scene, head.memory_limit, &mut resident)?;
@@ -182,13 +176,12 @@ fn restore<R: Wait>(
     requires cell { resident.old.cell < length scene.old.cells }
     requires sound { IsSoundOrganism (organism_of_image resident.old.image memory_limit) }
     requires age { resident.old.image.age < 2 ^ 48 }
-    ensures update { OnOk result (scene.new.update ≡ scene.old.update) }
     ensures cells { OnOk result (scene.new.cells ≡ slice_set scene.old.cells resident.old.cell
         (Some (record {
           id = resident.old.id;
           organism = organism_of_image resident.old.image memory_limit;
         }))) }
-    ensures everyone { OnOk result (scene.new.everyone ≡ scene.old.everyone) }
+    ensures past { OnOk result (KeepsPast scene.old scene.new) }
 {
     let number = intern_again(rt, alloc, scene, &mut resident.image)?;
     let organism = organism_of(alloc, &resident.image, memory_limit)?;

@@ -13,7 +13,7 @@ use crate::scene::Scene;
 use crate::updating::next_scene;
 use avida_port::{Gate, Items, Memory};
 use saved_lines::{Resident, StateHead};
-use saved_worlds::laws::states_go_on;
+use saved_worlds::laws::{lines_can_go_on, states_go_on, states_stay_valid};
 use std::alloc::Global;
 use std::marker::Model;
 use std::sync::{Arc, Wait};
@@ -24,8 +24,9 @@ use world_laws::laws::sound_organisms_live_on;
 /// The organisms of a saved world, in the order of their cells.
 pub type Residents = Items<Resident>;
 
-/// A saved world, which goes on by the rules of an update, without events. Only
-/// `World::into_state`, `build` and `advance` make one.
+/// A saved world, which goes on by the rules of an update, without events. Its type keeps that it
+/// is valid, so what `advance` leaves can be written and read again. Only `World::into_state`,
+/// `build` and `advance` make one.
 #[derive(Drop)]
 pub struct State {
     /// Its events are over, and its ancestor means nothing.
@@ -41,11 +42,11 @@ impl Model for State {
 
     ghost use Rattle.std.specs.Prelude.{◌≤◌};
     ghost use Rattle.world_config.specs.Shown.{values_of};
-    ghost use Rattle.world_core.specs.Resumed.{CanGoOn, state_in};
+    ghost use Rattle.world_core.specs.Resumed.{IsState, state_in};
 
     ghost view = { λ s. state_in (values_of s.config.value) s.scene };
 
-    ghost invariant = { λ s. CanGoOn (values_of s.config.value) s.scene
+    ghost invariant = { λ s. IsState (values_of s.config.value) s.scene
         × (1 ≤ s.workers) × (s.workers ≤ 64) };
 }
 
@@ -65,6 +66,7 @@ impl State {
         ensures { IfOk result (λ state. state ≡ state_of_lines (head_values head)
             (map (placed_in (head_values head)) residents)) }
     {
+        lines_can_go_on();
         let config = shared_config(alloc, &head)?;
         let scene = restored_scene(rt, alloc, &head, residents.into_vec())?;
         Ok(State {
@@ -93,6 +95,7 @@ impl State {
         } = self;
         sound_organisms_live_on(&config);
         states_go_on(&config);
+        states_stay_valid();
         let (mut scene, _, text, ()) = next_scene(rt, alloc, &config, scene, workers, gate, || ())?;
         scene.forget();
         let state = State {

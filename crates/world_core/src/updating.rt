@@ -1,5 +1,7 @@
 // One update.
 ghost use Rattle.std.specs.Prelude.{◌≡◌, ◌+◌, ◌++◌, ◌*◌, ◌<◌, ◌≤◌, ◌^◌, [], All, IfOk, OnOk, length, map};
+ghost use Rattle.cell_shards.specs.CellLives.{departed_of};
+ghost use Rattle.cell_shards.specs.Finishing.{birth_of};
 ghost use Rattle.lineage_log.specs.LogGrammar.{lines_text};
 ghost use Rattle.log_lines.specs.Line.{Count};
 ghost use Rattle.log_lines.specs.LineText.{line_text};
@@ -10,16 +12,16 @@ ghost use Rattle.world_rules.specs.LogText.{update_lines};
 ghost use Rattle.world_rules.specs.Update.{births_of, world_of};
 ghost use Rattle.world_core.specs.Endings.{Ends, IsNext, last_lines};
 ghost use Rattle.world_core.specs.Genotypes.{HasNumber, TakesIn};
-ghost use Rattle.world_core.specs.Lived.{delivery_in, departed_of, staying_in};
+ghost use Rattle.world_core.specs.Lived.{staying_in};
 ghost use Rattle.world_core.specs.Scenes.{scene_in};
 ghost use Rattle.world_core.specs.Soundness.{AreDeliveries};
 
 use crate::births::place_births;
 use crate::burials::bury;
 use crate::events::happen;
-use crate::lived::{Delivery, Departed, Lived};
 use crate::scene::Scene;
 use avida_port::{Gate, Memory};
+use cell_shards::{Delivered, Tenant};
 use log_lines::{LogLine, Stats, write_line};
 use std::alloc::Global;
 use std::sync::Wait;
@@ -54,10 +56,9 @@ pub(crate) fn next_scene<
         ≡ lines_text (update_lines (values_of config.now) (world_of (scene_in scene)))) }
     ensures errand { IfOk result (λ next. F.post errand next.3) }
 {
-    let (mut scene, lived, brought) = scene_of_lives(
+    let (mut scene, births, dead, brought) = scene_of_lives(
         rt, alloc, config, scene, workers, gate, errand,
     )?;
-    let Lived { births, dead } = lived;
     let mut text = Vec::new(alloc);
     let stats = end_update(rt, alloc, config, &mut scene, births, &dead, &mut text)?;
     Ok((scene, stats, text, brought))
@@ -70,20 +71,20 @@ fn end_update<R: Wait>(
     alloc: Global,
     config: &Config,
     scene: &mut Scene,
-    births: Vec<Delivery>,
-    dead: &[Departed],
+    births: Vec<Delivered>,
+    dead: &[Tenant],
     text: &mut Vec<u8>,
 ) -> Result<Stats, Memory>
     requires size { length scene.old.cells ≡ config.now.width * config.now.height }
     requires few { length scene.old.everyone ≤ 2 ^ 62 + 2 ^ 60 }
     requires births { AreDeliveries (values_of config.now) (length scene.old.cells)
-        (map delivery_in births.items) }
-    requires numbers { All (λ birth. HasNumber scene.old.bank birth.newborn) births.items }
+        (map birth_of births.items) }
+    requires numbers { All (HasNumber scene.old.bank) births.items }
     ensures ends { IfOk result (Ends (values_of config.now) dead.now births.items
         scene.old scene.new) }
     ensures text { IfOk result (λ stats. text.new.items ≡ text.old.items ++ lines_text
         (last_lines (values_of config.now) (scene_in scene.old) dead.now
-        (map delivery_in births.items) stats)) }
+        (map birth_of births.items) stats)) }
 {
     let count = births.len() as u64;
     bury(scene, dead, text)?;
@@ -110,7 +111,7 @@ fn scene_of_lives<R: Threads + Wait + Sync, G: Gate + Sync, T: Drop, F: FnOnce()
     workers: u32,
     gate: &G,
     errand: F,
-) -> Result<(Scene, Lived, T), Memory>
+) -> Result<(Scene, Vec<Delivered>, Vec<Tenant>, T), Memory>
     requires size { length scene.cells ≡ config.now.width * config.now.height }
     requires update { scene.update < GREATEST_UPDATES }
     requires workers { (1 ≤ workers) × (workers ≤ 64) }
@@ -122,17 +123,16 @@ fn scene_of_lives<R: Threads + Wait + Sync, G: Gate + Sync, T: Drop, F: FnOnce()
       everyone = scene.everyone;
       gone = [];
     }) }
-    ensures births { IfOk result (λ next. map delivery_in next.1.births.items
+    ensures births { IfOk result (λ next. map birth_of next.1.items
         ≡ births_of (lives_of (values_of config.now) (scene.update + 1) scene.cells)) }
     ensures deliveries { IfOk result (λ next. AreDeliveries (values_of config.now)
-        (length scene.cells) (map delivery_in next.1.births.items)) }
-    ensures dead { IfOk result (λ next. next.1.dead.items
+        (length scene.cells) (map birth_of next.1.items)) }
+    ensures dead { IfOk result (λ next. next.2.items
         ≡ departed_of 0 (lives_of (values_of config.now) (scene.update + 1) scene.cells)) }
-    ensures bank { IfOk result (λ next. TakesIn scene.bank next.0.bank
-        (map (λ birth. birth.newborn) next.1.births.items)) }
+    ensures bank { IfOk result (λ next. TakesIn scene.bank next.0.bank next.1.items) }
     ensures size { IfOk result (λ next. length next.0.cells ≡ length scene.cells) }
     ensures first { IfOk result (λ next. next.0.first ≡ scene.first) }
-    ensures errand { IfOk result (λ next. F.post errand next.2) }
+    ensures errand { IfOk result (λ next. F.post errand next.3) }
 {
     let Scene {
         update,
@@ -140,7 +140,9 @@ fn scene_of_lives<R: Threads + Wait + Sync, G: Gate + Sync, T: Drop, F: FnOnce()
         everyone,
         mut gone,
     } = scene;
-    let (cells, lived, brought) = cells.live(rt, alloc, config, update, workers, gate, errand)?;
+    let (cells, births, dead, brought) = cells.live(
+        rt, alloc, config, update, workers, gate, errand,
+    )?;
     gone.clear();
     let scene = Scene {
         update: update + 1,
@@ -148,5 +150,5 @@ fn scene_of_lives<R: Threads + Wait + Sync, G: Gate + Sync, T: Drop, F: FnOnce()
         everyone,
         gone,
     };
-    Ok((scene, lived, brought))
+    Ok((scene, births, dead, brought))
 }

@@ -25,12 +25,12 @@ use avida_port::{Gate, Memory};
 use genome::Genome;
 use lineage_log::Path;
 use log_lines::{LAST_VERSION, LogLine, Stats, write_line};
+use saved_worlds::laws::runs_can_go_on;
 use std::alloc::Global;
 use std::marker::Model;
 use std::sync::{Arc, Wait};
 use std::thread::Threads;
 use world_config::Config;
-use world_laws::laws::organisms_are_sound;
 use world_rules::laws::ids_are_places;
 use world_tree::WorldTree;
 
@@ -143,7 +143,7 @@ impl World {
             workers,
             ..
         } = self;
-        organisms_are_sound(&config, scene.update);
+        runs_can_go_on(&config, scene.update);
         State {
             config,
             scene,

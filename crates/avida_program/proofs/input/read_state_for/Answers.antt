@@ -1,6 +1,6 @@
 use Rattle.std.proofs.Common.{rules, ◌≡◌, ◌∙◌, ◌+◌, ◌<◌, Err, ap, arith, true}
 use Rattle.std.specs.Prelude.{nat_lt}
-use Rattle.std.proofs.lemmas.Bool.{cond-true}
+use Rattle.std.proofs.lemmas.Bool.{cond-true, lt-ltb}
 use Rattle.avida_program.specs.declared.refusal.Refusal.TheVariants.{Updates}
 use Rattle.avida_program.proofs.input.read_state_for.Goals as goal
 
@@ -9,6 +9,6 @@ returns-else-updates-from-clause-err g c = λ bytes told.
     let updates = c.in_ok-state.state.head.update + c.args.more in
     let same : updates ≡ c.from.result + c.from-2.result = search rules in
     let above : 1000000 < updates = omega arith in
-    let many : nat_lt 1000000 updates ≡ true = search (rules, above) in
+    let many = lt-ltb 1000000 updates above in
     rw (c.in_ok-state.ensures.ok.reads bytes told)
     (cond-true (nat_lt 1000000 updates) _ _ many ∙ ap (λ n. Err (Updates n)) same)

@@ -26,6 +26,10 @@ pub returns-in-Resume : goal.returns-in-Resume
 returns-in-Resume g c =
     rw c.in-Resume.is (c.resume.ensures (g.W.Sink.seen c.args.watch.now) c.args.last.now)
 
+pub returns-in-Advance : goal.returns-in-Advance
+returns-in-Advance g c =
+    rw c.in-Advance.is (c.advance.ensures (g.W.Sink.seen c.args.watch.now) c.args.last.now)
+
 pub returns-in-Replay : goal.returns-in-Replay
 returns-in-Replay g c =
     rw c.in-Replay.is (c.replay.ensures (g.W.Sink.seen c.args.watch.now) c.args.last.now)

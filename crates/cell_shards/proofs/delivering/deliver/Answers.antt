@@ -2,7 +2,7 @@ use Rattle.std.proofs.Common.{◌≡◌, ◌∙◌, ◌∷◌, ap, map, List, ru
 use Rattle.std.specs.Vec.Iter.{into_iter_items}
 use Rattle.organism.specs.Newborns.{newborn_value}
 use Rattle.organism.specs.declared.newborn.Newborn.{Newborn}
-use Rattle.cell_shards.specs.CellLives.{BirthValue, birth_in}
+use Rattle.world_rules.specs.Update.{Delivery, delivery_of}
 use Rattle.cell_shards.proofs.InterningLemmas.{HasInterned-more, births-more}
 use Rattle.cell_shards.proofs.delivering.deliver.Goals as goal
 
@@ -14,14 +14,14 @@ loop-newborn-preserved g c =
     let so_far = c.loop-newborn.invariant in
     let before = c.loop-newborn.births in
     let delivered = c.in_ok-delivered.delivered in
-    let births : List Newborn → List BirthValue =
-    λ newborns. map (birth_in c.args.cell) (map newborn_value newborns) in
+    let born = delivery_of c.args.parent.cell c.args.parent.id in
+    let births : List Newborn → List Delivery = λ newborns. map born (map newborn_value newborns) in
     let left = into_iter_items c.loop-newborn.newborn-iterator in
     let rest = into_iter_items c.next.new.self in
     let taken : left ≡ c.in-Some.newborn ∷ rest = search rules in
     record {
       births = births-more before c.push.new.self delivered
-          (birth_in c.args.cell (newborn_value c.in-Some.newborn)) (births rest) (births left)
+          (born (newborn_value c.in-Some.newborn)) (births rest) (births left)
           c.in_ok-push.ensures.ok told.birth (ap births taken) ∙ so_far.births;
       bank = kept.0 ∙ so_far.bank;
       seat = λ start has. HasInterned-more laws.seen laws.stay start c.loop-newborn.seat

@@ -2,14 +2,14 @@ use Rattle.world_config.specs.Shown.{values_of}
 use Rattle.logged_run.proofs.EndLemmas.{at_end, run_ended}
 use Rattle.logged_run.proofs.watched_run.run_beside.Goals as goal
 
-pub end_run-requires : goal.end_run-requires
-end_run-requires g c =
-    let both = c.side_by_side-watched.ensures in
-    at_end _ _ (values_of c.args.config.now) c.side_by_side-watched.new.publisher _ both.seen
+pub end-requires : goal.end-requires
+end-requires g c =
+    let both = c.side_by_side-outcomes.ensures in
+    at_end _ _ (values_of c.args.config.now) c.side_by_side-outcomes.new.publisher _ both.seen
     both.come both.world
 
 pub returns : goal.returns
 returns g c =
-    let both = c.side_by_side-watched.ensures in
-    run_ended c.args.looks (values_of c.args.config.now) _ _ c.end_run.result both.log both.lines
-    both.world c.end_run.ensures
+    let both = c.side_by_side-outcomes.ensures in
+    run_ended c.args.looks (values_of c.args.config.now) _ _ c.end.result both.log both.lines
+    both.world c.end.ensures

@@ -9,15 +9,15 @@ use Rattle.std.proofs.lemmas.Iterator.{YieldsList, YieldsList-from_zip, zips}
 use Rattle.std.proofs.lemmas.Iterator.Adapters.{YieldsList-from_vec}
 use Rattle.std.proofs.lemmas.Iterator.Consumers.{YieldsList-turn, YieldsList-end}
 use Rattle.birth_board.specs.declared.placing.Placing.{Placing}
+use Rattle.cell_shards.specs.Finishing.{birth_of}
+use Rattle.cell_shards.specs.declared.delivered.Delivered.{Delivered}
 use Rattle.lineage_log.specs.LogGrammar.{lines_text}
 use Rattle.log_lines.specs.LineText.{line_text}
 use Rattle.world_config.specs.Shown.{values_of}
 use Rattle.world_rules.specs.Scene.{Scene}
 use Rattle.world_rules.specs.Update.{placings_of}
 use Rattle.world_core.specs.Genotypes.{genomes_ever}
-use Rattle.world_core.specs.Lived.{delivery_in}
 use Rattle.world_core.specs.Scenes.{scene_in}
-use Rattle.world_core.specs.declared.lived.Delivery.{Delivery}
 use Rattle.world_core.proofs.BirthLemmas.{all-placed, all-told, genomes-beside, placed, placed-genomes, placed_line, turns_in}
 use Rattle.world_core.specs.Soundness.{IsDelivery}
 use Rattle.world_core.proofs.LivesLemmas.{All-unmap}
@@ -28,20 +28,20 @@ use Rattle.world_core.proofs.births.place_births.Goals as goal
 -- the placings are those of the births
 found : (c : After-into_iter-birth-iterator) → c.into_vec.result.items
     ≡ placings_of (values_of c.args.config.now) (scene_in c.args.scene.now)
-    (map delivery_in c.args.births.items)
+    (map birth_of c.args.births.items)
 found c = c.into_vec.ensures ∙ c.in_ok-placings.ensures.placings
     ∙ ap (λ births. placings_of (values_of c.args.config.now) (scene_in c.args.scene.now)
-    (map delivery_in births)) c.deref.ensures.value
+    (map birth_of births)) c.deref.ensures.value
 
 -- the loop goes over each newborn with its placing
 road : (c : After-into_iter-birth-iterator)
-    → YieldsList {B = Delivery × Placing} (zips into_iter_steps into_iter_steps) (λ turn. turn)
+    → YieldsList {B = Delivered × Placing} (zips into_iter_steps into_iter_steps) (λ turn. turn)
     c.into_iter-birth-iterator.result
     (turns_in (values_of c.args.config.now) (scene_in c.args.scene.now) c.args.births.items)
 road c =
     let births = c.args.births.items in
     let placings = placings_of (values_of c.args.config.now) (scene_in c.args.scene.now)
-    (map delivery_in births) in
+    (map birth_of births) in
     let same = c.into_iter-birth-iterator.ensures.into_iter_gives in
     let zipped = c.zip-birth-items.ensures in
     YieldsList-from_zip {s = c.into_iter-birth-iterator.result}
@@ -58,22 +58,22 @@ pub place_newborn-requires-clause-birth : goal.place_newborn-requires-clause-bir
 place_newborn-requires-clause-birth c =
     let config = values_of c.args.config.now in
     let births = c.args.births.items in
-    let placings = placings_of config (scene_in c.args.scene.now) (map delivery_in births) in
+    let placings = placings_of config (scene_in c.args.scene.now) (map birth_of births) in
     let n = length c.loop-birth.yielded in
-    let turn : Delivery × Placing = (c.in-Some.birth, c.in-Some.placing) in
+    let turn : Delivered × Placing = (c.in-Some.birth, c.in-Some.placing) in
     let here = YieldsList-turn
     (road (goal.at.place_newborn-requires-clause-birth c).After-into_iter-birth-iterator)
     c.loop-birth.yielded c.loop-birth.birth-iterator c.loop-birth.yielded_by c.next.result
     c.next.new.self turn c.in-Some.is c.next.ensures.steps in
     let many = length-zip births placings in
     let is : c.in-Some.birth ≡ get_or births n c.in-Some.birth =
-    ap (λ (pair : Delivery × Placing). pair.0)
+    ap (λ (pair : Delivered × Placing). pair.0)
     (here.1 ∙ get_or-zip births placings n turn (omega (arith, here.0, many))
     (omega (arith, here.0, many))) in
-    subst (λ cells. IsDelivery config cells (delivery_in c.in-Some.birth))
+    subst (λ cells. IsDelivery config cells (birth_of c.in-Some.birth))
     (sym c.loop-birth.invariant.size)
-    (subst (λ (b : Delivery). IsDelivery config (length c.args.scene.now.cells) (delivery_in b))
-    (sym is) (All-unmap (IsDelivery config (length c.args.scene.now.cells)) delivery_in births
+    (subst (λ (b : Delivered). IsDelivery config (length c.args.scene.now.cells) (birth_of b))
+    (sym is) (All-unmap (IsDelivery config (length c.args.scene.now.cells)) birth_of births
     c.requires.births.each n c.in-Some.birth (omega (arith, here.0, many))))
 
 pub loop-birth-preserved : goal.loop-birth-preserved
@@ -83,7 +83,7 @@ loop-birth-preserved c =
     let turns = turns_in config first c.args.births.items in
     let so_far = c.loop-birth.yielded in
     let n = length so_far in
-    let turn : Delivery × Placing = (c.in-Some.birth, c.in-Some.placing) in
+    let turn : Delivered × Placing = (c.in-Some.birth, c.in-Some.placing) in
     let before = c.loop-birth.invariant in
     let told = c.in_ok-place_newborn.ensures in
     let here = YieldsList-turn
@@ -98,7 +98,7 @@ loop-birth-preserved c =
           ∙ sym (fold_more (placed config) first turns n turn here.0));
       text = rw long (lines-step (placed config) line_text first turns n turn here.0
           c.args.text.now.items placed_line before.scene before.text (told.text ∙ ap
-          (λ (t : Delivery × Placing). c.loop-birth.text.items ++ line_text (placed_line scene t))
+          (λ (t : Delivered × Placing). c.loop-birth.text.items ++ line_text (placed_line scene t))
           here.1));
       bank = told.bank ∙ before.bank;
       size = told.size ∙ before.size;
@@ -111,7 +111,7 @@ returns c =
     let config = values_of c.args.config.now in
     let first = scene_in c.args.scene.now in
     let births = c.args.births.items in
-    let placings = placings_of config first (map delivery_in births) in
+    let placings = placings_of config first (map birth_of births) in
     let turns = turns_in config first births in
     let so_far = c.loop-birth.yielded in
     let at = (goal.at.returns c).After-into_iter-birth-iterator in
@@ -124,7 +124,7 @@ returns c =
       scene = c.loop-birth.invariant.scene ∙ ap (fold (placed config) first) all
           ∙ all-placed config first births;
       text = c.loop-birth.invariant.text
-          ∙ ap (λ (done : List (Delivery × Placing)). c.args.text.now.items
+          ∙ ap (λ (done : List (Delivered × Placing)). c.args.text.now.items
           ++ lines_text (scan (placed config) placed_line first done)) all
           ∙ ap (λ lines. c.args.text.now.items ++ lines_text lines) (all-told config first births);
       bank = c.loop-birth.invariant.bank;

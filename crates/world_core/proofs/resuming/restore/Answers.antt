@@ -47,11 +47,6 @@ come_over-requires-clause-merit g c =
       ap (λ (o : OrganismState). o.merit) (made g at.In_ok-organism),
     )
 
-pub returns-clause-update : goal.returns-clause-update
-returns-clause-update g c =
-    on_ok_weaker c.come_over.result (λ came. ap (λ (s : SceneValue). s.update) came
-    ∙ ap (λ (s : SceneValue). s.update) c.in_ok-number.ensures.scene) c.come_over.ensures
-
 pub returns-clause-cells : goal.returns-clause-cells
 returns-clause-cells g c =
     let own = made g (goal.at.returns-clause-cells g c).In_ok-organism in
@@ -59,7 +54,12 @@ returns-clause-cells g c =
     ∙ (λ i. set (c.in_ok-number.ensures.scene i).cells c.args.resident.now.cell
     (Some (record { id = c.args.resident.now.id; organism = own i })))) c.come_over.ensures
 
-pub returns-clause-everyone : goal.returns-clause-everyone
-returns-clause-everyone g c =
-    on_ok_weaker c.come_over.result (λ came. ap (λ (s : SceneValue). s.everyone) came
-    ∙ ap (λ (s : SceneValue). s.everyone) c.in_ok-number.ensures.scene) c.come_over.ensures
+pub returns-clause-past : goal.returns-clause-past
+returns-clause-past g c =
+    let before = c.in_ok-number.ensures.scene in
+    on_ok_weaker c.come_over.result (λ came. record {
+      update = ap (λ (s : SceneValue). s.update) came ∙ ap (λ (s : SceneValue). s.update) before;
+      everyone =
+          ap (λ (s : SceneValue). s.everyone) came ∙ ap (λ (s : SceneValue). s.everyone) before;
+      first = ap (λ (s : SceneValue). s.first) came ∙ ap (λ (s : SceneValue). s.first) before;
+    }) c.come_over.ensures

@@ -7,9 +7,8 @@ use Rattle.saved_lines.specs.SavedValues.{head_values}
 use Rattle.saved_lines.specs.declared.resident.Resident.{Resident}
 use Rattle.saved_worlds.specs.SavedGrammar.{with_placed}
 use Rattle.saved_worlds.specs.ValidState.{MayStandThere, placed_in}
-use Rattle.world_laws.specs.Keeping.{AreSound}
 use Rattle.world_rules.specs.World.{Occupant}
-use Rattle.world_core.proofs.ResumeLemmas.{sound_with}
+use Rattle.world_core.proofs.ResumeLemmas.{past_kept}
 use Rattle.world_core.proofs.resuming.restore_all.Given as given
 use Rattle.world_core.proofs.resuming.restore_all.Goals.{In-Some}
 use Rattle.world_core.proofs.resuming.restore_all.Goals as goal
@@ -68,9 +67,5 @@ loop-resident-preserved g c =
           (each g at);
       size = ap length restored ∙ length-set before next.cell (Some placed)
           ∙ c.loop-resident.invariant.size;
-      sound = subst AreSound (sym restored)
-          (sound_with before next.cell placed (here g at).occupant.sound
-          c.loop-resident.invariant.sound);
-      update = c.in_ok-restore.ensures.update ∙ c.loop-resident.invariant.update;
-      everyone = c.in_ok-restore.ensures.everyone ∙ c.loop-resident.invariant.everyone;
+      past = past_kept c.loop-resident.invariant.past c.in_ok-restore.ensures.past;
     }

@@ -4,10 +4,10 @@ use Rattle.std.specs.Vec.Iter.{into_iter_items}
 use Rattle.saved_lines.specs.SavedValues.{head_values}
 use Rattle.saved_worlds.specs.SavedGrammar.{with_placed}
 use Rattle.saved_worlds.specs.ValidState.{MayStandThere, placed_in}
-use Rattle.world_laws.specs.Keeping.{AreSound}
+use Rattle.world_core.specs.Resumed.{KeepsPast}
 use Rattle.world_core.proofs.resuming.restore_all.Given as goal
 
--- with those that are left the cells come to the same, and all so far are sound
+-- with those that are left the cells come to the same
 abbrev pub invariant-loop-resident : goal.invariant-loop-resident
 invariant-loop-resident g l = record {
   done : fold with_placed l.scene.cells
@@ -17,7 +17,5 @@ invariant-loop-resident g l = record {
   each : All (MayStandThere (head_values l.head))
       (map (placed_in (head_values l.head)) (into_iter_items l.resident-iterator));
   size : length l.scene.cells ≡ length l.fn.scene.cells;
-  sound : AreSound l.scene.cells;
-  update : l.scene.update ≡ l.fn.scene.update;
-  everyone : l.scene.everyone ≡ l.fn.scene.everyone;
+  past : KeepsPast l.fn.scene l.scene;
 }

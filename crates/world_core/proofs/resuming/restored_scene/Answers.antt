@@ -1,11 +1,11 @@
-use Rattle.std.proofs.Common.{◌∙◌, ◌*◌, None, List, Option, ap, fold, length, map, subst, sym}
+use Rattle.std.proofs.Common.{◌∙◌, ◌*◌, None, List, Option, ap, fold, length, map, sym}
 use Rattle.std.proofs.lemmas.List.{length-replicate}
 use Rattle.saved_lines.specs.SavedValues.{head_values}
+use Rattle.saved_worlds.specs.Resuming.{forgotten}
 use Rattle.saved_worlds.specs.SavedGrammar.{with_placed}
 use Rattle.saved_worlds.specs.ValidState.{placed_in}
-use Rattle.world_laws.specs.Keeping.{AreSound}
 use Rattle.world_rules.specs.World.{Occupant}
-use Rattle.world_core.proofs.ResumeLemmas.{sound_none}
+use Rattle.world_core.proofs.ResumeLemmas.{world_made}
 use Rattle.world_core.proofs.resuming.restored_scene.Goals as goal
 
 pub restore_all-requires-clause-size : goal.restore_all-requires-clause-size
@@ -13,19 +13,19 @@ restore_all-requires-clause-size g c =
     ap length c.in_ok-scene.ensures.cells
     ∙ length-replicate (c.args.head.now.width * c.args.head.now.height) None
 
-pub restore_all-requires-clause-sound : goal.restore_all-requires-clause-sound
-restore_all-requires-clause-sound g c =
-    subst AreSound (sym c.in_ok-scene.ensures.cells)
-    (sound_none (c.args.head.now.width * c.args.head.now.height))
-
-pub returns-clause-cells : goal.returns-clause-cells
-returns-clause-cells g c =
-    c.in_ok-restore_all.ensures.cells
+pub returns-clause-world : goal.returns-clause-world
+returns-clause-world g c =
+    let past = c.in_ok-restore_all.ensures.past in
+    world_made (past.update ∙ c.in_ok-scene.ensures.update)
+    (c.in_ok-restore_all.ensures.cells
     ∙ ap (λ (cells : List (Option Occupant)). fold with_placed cells
     (map (placed_in (head_values c.args.head.now)) c.args.residents.items))
-    c.in_ok-scene.ensures.cells
+    c.in_ok-scene.ensures.cells)
+    (past.everyone ∙ c.in_ok-scene.ensures.everyone)
 
-pub returns-clause-size : goal.returns-clause-size
-returns-clause-size g c =
-    c.in_ok-restore_all.ensures.size ∙ ap length c.in_ok-scene.ensures.cells
-    ∙ length-replicate (c.args.head.now.width * c.args.head.now.height) None
+pub returns-clause-settled : goal.returns-clause-settled
+returns-clause-settled g c =
+    let past = c.in_ok-restore_all.ensures.past in
+    past.first ∙ c.in_ok-scene.ensures.first
+    ∙ sym (length-replicate c.args.head.now.next_id forgotten)
+    ∙ ap length (sym (past.everyone ∙ c.in_ok-scene.ensures.everyone))

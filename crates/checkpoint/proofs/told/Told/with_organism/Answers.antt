@@ -20,7 +20,7 @@ invariant_of-result c =
     subst (λ (t : ToldValue). may_follow t.head o cpu ≡ true) (sym c.self.view_is)
     c.requires.follows in
     let kept = kept_more told c.self.inside.next_cell c.self.inside.ids c.insert.new.self o cpu
-    c.self.invariant stands follows c.requires.genome c.requires.readable
+    c.self.invariant stands follows c.requires.organism c.requires.readable
     c.in_ok-insert.ensures.updates in
     let value = ap (λ (l : List Resident). told_of head l) c.in_ok-push.ensures.items
     ∙ told_more head before c.in_ok-resident_of.field-0 o cpu

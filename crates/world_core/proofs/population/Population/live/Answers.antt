@@ -1,37 +1,33 @@
 use Rattle.std.proofs.Common.{◌≡◌, ◌∙◌, ◌+◌, ◌<◌, ◌≤◌, ◌^◌, All, List, None, Option, ap, arith, get_or, length, map, subst, sum, sym, ℕ}
-use Rattle.std.proofs.lemmas.List.{length-map, map-id}
-use Rattle.std.proofs.lemmas.List.Elements.{All-same}
-use Rattle.std.proofs.lemmas.Result.{IfOk-at_ok}
+use Rattle.std.proofs.lemmas.List.{length-map}
 use Rattle.cell_shards.specs.CellLives.{round_numbers, standing_in}
-use Rattle.cell_shards.specs.declared.delivered.Delivered.{Delivered}
+use Rattle.cell_shards.specs.Finishing.{birth_of}
 use Rattle.instruction_set.specs.declared.letter.Letter.{Letter}
 use Rattle.merit_slices.specs.Slices.{slices_of}
 use Rattle.world_config.specs.Shown.{values_of}
 use Rattle.world_rules.specs.Lives.{lives_of, merit_in, slices_at}
-use Rattle.world_rules.specs.Update.{Delivery as RulesDelivery, births_of}
+use Rattle.world_rules.specs.Update.{Delivery, births_of}
 use Rattle.world_rules.specs.World.{Occupant}
 use Rattle.world_core.specs.Genotypes.{TakesIn}
-use Rattle.world_core.specs.Lived.{departed_from}
+use Rattle.world_core.specs.Lived.{round_of}
 use Rattle.world_core.specs.Population.{IsKeptOf, PopulationValue, merit_or_zero, occupant_genome}
 use Rattle.world_core.specs.Residents.{occupants_of}
 use Rattle.world_core.specs.Soundness.{AreBounded, AreBoundedLives}
-use Rattle.world_core.specs.declared.lived.Delivery.{Delivery}
 use Rattle.world_core.proofs.BoundLemmas.{lives-bounded, lives-keep}
 use Rattle.world_core.proofs.CountLemmas.{GoesOn}
 use Rattle.world_core.proofs.KeptOfLemmas.{IsKeptOf-more}
-use Rattle.world_core.proofs.LivedLemmas.{LiveApart, births-within, cells-long, dead-within, goes-on, lived-births, lived-cells, lived-dead, lived-length, merits-fit, slices-are, young-are}
-use Rattle.world_core.proofs.LivesLemmas.{map-both}
+use Rattle.world_core.proofs.LivedLemmas.{LiveApart, cells-long, goes-on, lived-births, lived-cells, lived-dead, lived-length, merits-fit, slices-are, young-are}
 use Rattle.world_core.proofs.ResidentLemmas.{occupants_of-length}
 use Rattle.world_core.proofs.TurnLemmas.{AreRead, IsRead, all-counted, can-count-here, counted-here}
 use Rattle.world_core.proofs.population.Population.live.Given as given
-use Rattle.world_core.proofs.population.Population.live.Goals.{After-index-in-loop-cell-2, In-loop-cell, In_ok-genotypes, In_ok-lived}
+use Rattle.world_core.proofs.population.Population.live.Goals.{After-index-in-loop-cell-2, In-loop-cell, In_ok-genotypes}
 use Rattle.world_core.proofs.population.Population.live.Goals as goal
 
 -- the cells as their shards had them
 apart : (g : given.Over) (c : In_ok-genotypes g)
     → LiveApart (values_of c.args.config.now) (c.args.update + 1) c.args.self.cells
     c.cells.inside.organisms.items c.cells.inside.ids.items c.in_ok-slices.slices.items
-    (round_numbers c.round_at-round.result)
+    (round_numbers c.round_at-round.result c.deref-2.result.now)
 apart g c =
     let config = values_of c.args.config.now in
     let were = c.cells.view_is ∙ ap (λ (p : PopulationValue). p.cells) c.self.view_is in
@@ -44,7 +40,8 @@ apart g c =
           (c.in_ok-slices.ensures.slices
           ∙ ap (λ all. slices_of (map merit_or_zero all) config.average_slices)
           c.deref.ensures.value);
-      shared = c.round_at-round.ensures;
+      shared = c.round_at-round.ensures c.deref-2.result.now
+          ∙ ap (round_of config (c.args.update + 1)) c.deref-2.ensures.value;
     }
 
 -- no cell had too many steps
@@ -100,17 +97,6 @@ read g c = record {
   was_is = c.index-in-loop-cell.ensures;
   now_is = c.index-in-loop-cell-2.ensures;
 }
-
--- the newborns with their parents
-parents : (g : given.Over) (c : In_ok-lived g) → c.in_ok-lived.lived.births.items
-    ≡ map (λ (birth : Delivered). record {
-      parent = get_or c.cells.inside.ids.items birth.cell 0;
-      newborn = birth;
-    }) c.in_ok-genotypes.ended.births.items
-parents g c = IfOk-at_ok _ c.in_ok-lived.was c.with_all_ids-lived.ensures.births
-    ∙ ap (λ (numbers : List ℕ). map (λ (birth : Delivered).
-    record { parent = get_or numbers birth.cell 0; newborn = birth })
-    c.in_ok-genotypes.ended.births.items) c.deref-2.ensures.value
 
 pub slices_by-requires-clause-cells : goal.slices_by-requires-clause-cells
 slices_by-requires-clause-cells g c =
@@ -215,23 +201,6 @@ loop-cell-preserved g c =
     c.loop-cell.cell (inside g at.In-loop-cell) (goes g before c.loop-cell.cell)
     c.loop-cell.invariant (read g at.After-index-in-loop-cell-2) c.count_again.ensures
 
-pub with_all_ids-lived-requires-clause-births : goal.with_all_ids-lived-requires-clause-births
-with_all_ids-lived-requires-clause-births g c =
-    let at = (goal.at.with_all_ids-lived-requires-clause-births g c).In_ok-genotypes in
-    subst (λ (n : ℕ). All (λ (birth : Delivered). birth.cell < n)
-    c.in_ok-genotypes.ended.births.items) (sym (ap length c.deref-2.ensures.value))
-    (births-within (apart g at) c.in_ok-genotypes.ended.births.items
-    c.in_ok-genotypes.ensures.births)
-
-pub with_all_ids-lived-requires-clause-dead : goal.with_all_ids-lived-requires-clause-dead
-with_all_ids-lived-requires-clause-dead g c =
-    let at = (goal.at.with_all_ids-lived-requires-clause-dead g c).In_ok-genotypes in
-    let dead = c.in_ok-genotypes.ended.dead.items in
-    subst (λ (n : ℕ). All (λ (cell : ℕ). cell < n) c.deref-3.result.now)
-    (sym (ap length c.deref-2.ensures.value))
-    (All-same (λ (cell : ℕ). cell < length c.cells.inside.ids.items) c.deref-3.result.now dead
-    c.deref-3.ensures.value (dead-within (apart g at) dead c.in_ok-genotypes.ensures.dead))
-
 pub invariant_of-population : goal.invariant_of-population
 invariant_of-population g c = record {
   long = lived-length (apart g (goal.at.invariant_of-population g c).In_ok-genotypes)
@@ -259,33 +228,19 @@ returns-clause-cells g c =
 
 pub returns-clause-births : goal.returns-clause-births
 returns-clause-births g c =
-    let at = goal.at.returns-clause-births g c in
-    lived-births (apart g at.In_ok-genotypes) c.in_ok-genotypes.ended.births.items
-    c.in_ok-lived.lived.births.items c.in_ok-genotypes.ensures.births
-    (parents g at.In_ok-lived)
+    lived-births (apart g (goal.at.returns-clause-births g c).In_ok-genotypes)
+    (map birth_of c.in_ok-genotypes.ended.births.items) c.in_ok-genotypes.ensures.births
 
 pub returns-clause-dead : goal.returns-clause-dead
 returns-clause-dead g c =
     lived-dead (apart g (goal.at.returns-clause-dead g c).In_ok-genotypes)
-    c.in_ok-genotypes.ended.dead.items c.in_ok-lived.lived.dead.items c.in_ok-genotypes.ensures.dead
-    (IfOk-at_ok _ c.in_ok-lived.was c.with_all_ids-lived.ensures.dead
-    ∙ (λ i. map (departed_from (c.deref-2.ensures.value i)) (c.deref-3.ensures.value i)))
+    c.in_ok-genotypes.ended.dead.items c.in_ok-genotypes.ensures.dead
 
 pub returns-clause-bank : goal.returns-clause-bank
 returns-clause-bank g c =
-    let delivered = c.in_ok-genotypes.ended.births.items in
-    let births = c.in_ok-lived.lived.births.items in
-    let born_as : Delivered → Delivery = λ birth.
-    record { parent = get_or c.cells.inside.ids.items birth.cell 0; newborn = birth } in
-    let same : delivered ≡ map (λ (birth : Delivery). birth.newborn) births =
-    sym (ap (map (λ (birth : Delivery). birth.newborn))
-    (parents g (goal.at.returns-clause-bank g c).In_ok-lived)
-    ∙ map-both born_as (λ (birth : Delivery). birth.newborn) delivered ∙ map-id delivered) in
     subst (λ (old : List (List Letter)). TakesIn old c.in_ok-genotypes.genotypes
-    (map (λ (birth : Delivery). birth.newborn) births))
-    (ap (λ (p : PopulationValue). p.bank) c.self.view_is)
-    (subst (λ (all : List Delivered). TakesIn c.self.inside.genotypes c.in_ok-genotypes.genotypes
-    all) same c.in_ok-genotypes.ensures.bank)
+    c.in_ok-genotypes.ended.births.items) (ap (λ (p : PopulationValue). p.bank) c.self.view_is)
+    c.in_ok-genotypes.ensures.bank
 
 pub returns-clause-bounds : goal.returns-clause-bounds
 returns-clause-bounds g c =
@@ -310,10 +265,9 @@ returns-clause-bounds g c =
     (few g at.In_ok-genotypes) many total in
     let cells_are = lived-cells live c.in_ok-genotypes.ended.organisms.items
     c.in_ok-genotypes.ensures.cells in
-    let births_are = lived-births live c.in_ok-genotypes.ended.births.items
-    c.in_ok-lived.lived.births.items c.in_ok-genotypes.ensures.births
-    (parents g at.In_ok-lived) in
-    subst (λ (all : List RulesDelivery). AreBoundedLives config (c.args.update + 1)
+    let births_are = lived-births live (map birth_of c.in_ok-genotypes.ended.births.items)
+    c.in_ok-genotypes.ensures.births in
+    subst (λ (all : List Delivery). AreBoundedLives config (c.args.update + 1)
     (occupants_of c.in_ok-genotypes.ended.organisms.items c.cells.inside.ids.items) all)
     (sym births_are)
     (subst (λ (left : List (Option Occupant)). AreBoundedLives config (c.args.update + 1) left

@@ -7,52 +7,52 @@ use Rattle.world_config.specs.Values.{ConfigValues}
 use Rattle.world_laws.specs.Keeping.{LiveOn}
 use Rattle.world_rules.specs.LogText.{update_lines}
 use Rattle.world_rules.specs.Update.{world_of}
-use Rattle.world_core.specs.Resumed.{CanGoOn, state_in}
+use Rattle.world_core.specs.Resumed.{IsState, state_in}
 use Rattle.world_core.specs.Scenes.{scene_in}
-use Rattle.world_core.proofs.ResumeLemmas.{GoOnLaws, LeadsTo, can_go_on, go_on_laws, state_is, text_is}
+use Rattle.world_core.proofs.ResumeLemmas.{GoOnLaws, LeadsTo, go_on_laws, goes_on, state_is, text_is}
 use Rattle.world_core.proofs.state.State.advance.Goals as goal
 
 laws : (g : _) (c : goal.After-forget g)
     → GoOnLaws (values_of c.self.inside.config.value)
 laws g c =
-    let one = c.sound_organisms_live_on.ensures in
-    let other = c.states_go_on.ensures in
-    go_on_laws (values_of c.self.inside.config.value) (values_of c.deref.result.now)
-    (values_of c.deref-2.result.now) (ap values_of c.deref.ensures)
-    (ap values_of c.deref-2.ensures) one.next other.state other.text
+    go_on_laws (values_of c.self.inside.config.value) (values_of c.deref-2.result.now)
+    (ap values_of c.deref-2.ensures) c.states_go_on.ensures.state c.states_go_on.ensures.text
 
 leads : (g : _) (c : goal.After-forget g)
     → LeadsTo (values_of c.self.inside.config.value) c.self.inside.scene c.in_ok-scene.scene
 leads g c =
     let told = c.in_ok-scene.ensures.next in
     let is : LeadsTo (values_of c.deref-3.result.now) c.self.inside.scene c.in_ok-scene.scene =
-    record { scene = told.scene; update = told.update; size = told.size; few = told.few } in
+    record { scene = told.scene; update = told.update } in
     subst (λ (config : ConfigValues). LeadsTo config c.self.inside.scene c.in_ok-scene.scene)
     (ap values_of c.deref-3.ensures) is
 
 pub next_scene-requires-clause-lives : goal.next_scene-requires-clause-lives
 next_scene-requires-clause-lives g c l b =
     let lives = c.sound_organisms_live_on.ensures.lives (world_of (scene_in c.self.inside.scene))
-    c.self.invariant.0.sound in
+    c.self.invariant.0.valid.stand.sound in
     subst (λ (config : ConfigValues). LiveOn config (world_of (scene_in c.self.inside.scene)))
     (ap values_of c.deref.ensures ∙ sym (ap values_of c.deref-3.ensures)) lives
 
 pub next_scene-requires-clause-few : goal.next_scene-requires-clause-few
 next_scene-requires-clause-few g c =
-    omega (arith, c.self.invariant.0.few, c.self.invariant.0.updates)
+    omega (arith, c.self.invariant.0.valid.head.next_id.1, c.self.invariant.0.valid.head.update)
 
 pub forget-requires : goal.forget-requires
 forget-requires g c =
-    omega (arith, c.in_ok-scene.ensures.next.few, c.self.invariant.0.few, c.self.invariant.0.updates)
+    let head = c.self.invariant.0.valid.head in
+    omega (arith, c.in_ok-scene.ensures.next.few, head.next_id.1, head.update)
 
 pub invariant_of-state : goal.invariant_of-state
 invariant_of-state g c =
     let own = values_of c.self.inside.config.value in
     let early : c.self.inside.scene.update < 1000000 =
     omega (arith, c.requires, ap (λ (s : SavedState). s.head.update) c.self.view_is) in (
-      subst (CanGoOn own) (sym c.forget.ensures)
-          (can_go_on own c.self.inside.scene c.in_ok-scene.scene (laws g c)
-          c.self.invariant.0 (leads g c) early),
+      subst (IsState own) (sym c.forget.ensures)
+          (goes_on own c.self.inside.scene c.in_ok-scene.scene (laws g c)
+          c.self.invariant.0 (leads g c)
+          (c.states_stay_valid.ensures.next (state_in own c.self.inside.scene)
+          c.self.invariant.0.valid early)),
       c.self.invariant.1,
       c.self.invariant.2,
     )

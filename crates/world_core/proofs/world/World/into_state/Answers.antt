@@ -1,9 +1,9 @@
 use Rattle.std.proofs.Common.{◌≡◌, ◌∙◌, ℕ, ap, subst, sym}
 use Rattle.world_config.specs.Shown.{values_of}
 use Rattle.world_config.specs.Values.{ConfigValues}
-use Rattle.world_laws.specs.Keeping.{AreSound}
 use Rattle.world_rules.specs.WorldRun.{world_after}
-use Rattle.saved_worlds.specs.SavedState.{state_of}
+use Rattle.saved_worlds.specs.SavedState.{state_of, state_of_world}
+use Rattle.saved_worlds.specs.ValidState.{CanGoOn}
 use Rattle.world_core.specs.Scenes.{SceneValue}
 use Rattle.world_core.specs.WorldValue.{WorldValue}
 use Rattle.world_core.proofs.ResumeLemmas.{run_goes_on, run_leaves}
@@ -15,12 +15,13 @@ invariant_of-result c =
     let ended : c.self.inside.scene.update ≡ own.updates =
     ap (λ (v : WorldValue). v.update) c.self.view_is ∙ c.requires
     ∙ ap (λ (v : WorldValue). v.config.updates) (sym c.self.view_is) in
-    let sound : AreSound (world_after own c.self.inside.scene.update).cells =
-    subst (λ (n : ℕ). AreSound (world_after own n).cells)
+    let valid : CanGoOn (state_of_world own (world_after own c.self.inside.scene.update)) =
+    subst (λ (n : ℕ). CanGoOn (state_of_world own (world_after own n)))
     (ap (λ (s : SceneValue). s.update) c.scene.view_is)
-    (subst (λ (config : ConfigValues). AreSound (world_after config c.scene.inside.update).cells)
-    (ap values_of c.deref.ensures) c.organisms_are_sound.ensures.each) in (
-      run_goes_on own c.self.inside.scene c.self.inside.stats c.self.invariant.0 ended sound,
+    (subst (λ (config : ConfigValues).
+    CanGoOn (state_of_world config (world_after config c.scene.inside.update)))
+    (ap values_of c.deref.ensures) c.runs_can_go_on.ensures.valid) in (
+      run_goes_on own c.self.inside.scene c.self.inside.stats c.self.invariant.0 ended valid,
       c.self.invariant.1,
       c.self.invariant.2,
     )

@@ -2,7 +2,7 @@
 use Rattle.std.proofs.Common.{Ok}
 use Rattle.checkpoint.specs.Parts.{first_cells_text}
 use Rattle.written_texts.specs.WrittenText.{WritesAll}
-use Rattle.avida_program.proofs.save.write_cells.Given as goal
+use Rattle.avida_program.proofs.saved_world.write_cells.Given as goal
 
 abbrev pub invariant-loop-cell : goal.invariant-loop-cell
 invariant-loop-cell g l =

@@ -1,19 +1,23 @@
--- Each world of a run can be written so that it is read again.
-use Rattle.std.proofs.Common.{◌≡◌, ◌∙◌, refl, sym, ap, subst, ℕ, zero, suc, ◌+◌, ◌<◌, ◌≤◌, List, [], ◌∷◌, length, Option, Some, None, arith}
+-- What stands in a state that can be written may stand in a saved world.
+use Rattle.std.proofs.Common.{◌≡◌, ◌∙◌, refl, sym, ap, subst, ℕ, zero, suc, ◌+◌, ◌<◌, List, [], ◌∷◌, Option, Some, None, arith}
 use Rattle.std.specs.Prelude.{slice_get}
 use Rattle.std.specs.List.{AllByRecursion}
+use Rattle.std.proofs.lemmas.List.{length-replicate}
 use Rattle.std.proofs.lemmas.List.Elements.{All-from_recursion}
 use Rattle.std.proofs.lemmas.Option.{slice_get_within}
-use Rattle.organism.specs.Lived.{IsSoundOrganism}
-use Rattle.world_config.specs.declared.config.Config.{Config}
-use Rattle.world_config.specs.Shown.{values_of}
-use Rattle.world_rules.specs.World.{Occupant, World}
-use Rattle.world_laws.specs.Ranges.{HasFewIds, IsInRange}
+use Rattle.world_rules.specs.World.{Occupant}
+use Rattle.saved_worlds.specs.Resuming.{forgotten}
 use Rattle.saved_worlds.specs.SavedGrammar.{Placed}
-use Rattle.saved_worlds.specs.SavedState.{SavedState, head_at, state_of_world}
-use Rattle.saved_worlds.specs.ValidState.{IsBefore, IsHead, MayStandThere}
-use Rattle.checkpoint.specs.Standing.{HasKindsThere, IsWritable, standing_from}
-use Rattle.checkpoint.proofs.HeadLemmas.{head_of_run}
+use Rattle.saved_worlds.specs.SavedState.{SavedState}
+use Rattle.saved_worlds.specs.ValidState.{AreSaved, IsBefore, IsHead, MayStandThere}
+use Rattle.checkpoint.specs.Standing.{IsWritable}
+
+-- who stands in some cells, of which the first has this number
+abbrev pub standing_from : ℕ → List (Option Occupant) → List Placed
+standing_from first [] = []
+standing_from first (None ∷ cells) = standing_from (first + 1) cells
+standing_from first (Some o ∷ cells) =
+    record { cell = first; occupant = o } ∷ standing_from (first + 1) cells
 
 -- somebody stands in a cell
 abbrev Stands : List (Option Occupant) → ℕ → Occupant → Type 0
@@ -71,61 +75,71 @@ in_order first (Some o ∷ cells) zero (suc next) one other before h k =
 in_order first (Some o ∷ cells) (suc place) (suc next) one other before h k =
     in_order (first + 1) cells place next one other (omega (arith, before)) h k
 
-module _ (config : Config) (n : ℕ) (few : n ≤ 1000000) (w : World)
-    (ids : HasFewIds (values_of config) n w)
-    (sound : (cell : ℕ) (o : Occupant) → Stands w.cells cell o → IsSoundOrganism o.organism)
-    (range : (cell : ℕ) (o : Occupant) → Stands w.cells cell o
-    → IsInRange (values_of config) n o.organism) where
-  -- the state of the run's world
-  abbrev state : SavedState
-  state = state_of_world (values_of config) w
-
+module _ (state : SavedState) (is : IsWritable state) where
   -- who stands in a cell may stand there
-  stands_well : (cell : ℕ) (o : Occupant) → Stands w.cells cell o
+  stands_well : (cell : ℕ) (o : Occupant) → Stands state.cells cell o
       → MayStandThere state.head (record { cell = 0 + cell; occupant = o })
   stands_well cell o h =
-      let is = range cell o h in
+      let stand = is.valid.stand in
+      let range = stand.each cell o h in
+      let given = length-replicate state.head.next_id forgotten in
       record {
-        cell = omega (arith, slice_get_within w.cells cell (Some o) h, ids.cells);
+        cell = omega (arith, slice_get_within state.cells cell (Some o) h, stand.cells);
         occupant = record {
-          sound = sound cell o h;
-          id = ids.given cell o h;
-          genome = (is.least, is.greatest);
-          age = omega (arith, is.age, few);
-          young = is.young;
-          limit = is.limit;
+          sound = stand.sound cell o h;
+          id = omega (arith, stand.own.given cell o h, given);
+          genome = (range.least, range.greatest);
+          age = is.fits.ages cell o h;
+          young = range.young;
+          limit = range.limit;
+          kinds = record {
+            credited = range.credited;
+            gestation = range.gestation;
+            inputs = range.inputs;
+          };
         };
       }
 
   -- an id stands in one cell
   come_before : (place next : ℕ) (one other : Placed) → place < next
-      → slice_get (standing_from 0 w.cells) place ≡ Some one
-      → slice_get (standing_from 0 w.cells) next ≡ Some other → IsBefore one other
+      → slice_get (standing_from 0 state.cells) place ≡ Some one
+      → slice_get (standing_from 0 state.cells) next ≡ Some other → IsBefore one other
   come_before place next one other before h k =
-      let low = in_order 0 w.cells place next one other before h k in
-      let a = stood 0 w.cells place one h in
-      let b = stood 0 w.cells next other k in
+      let low = in_order 0 state.cells place next one other before h k in
+      let a = stood 0 state.cells place one h in
+      let b = stood 0 state.cells next other k in
       record {
         cell = low;
         id = λ same.
-            let cells = ids.apart a.0 b.0 one.occupant other.occupant a.2 b.2 same in
+            let cells = is.valid.stand.own.apart a.0 b.0 one.occupant other.occupant a.2 b.2 same in
             omega (arith, low, a.1, b.1, cells);
       }
 
-  -- the state can be written
-  pub state_written : IsWritable state
-  state_written = record {
-    size = ids.cells;
-    saved = record {
-      values = subst (λ (update : ℕ).
-          IsHead (head_at (values_of config) update (length w.everyone))) (sym ids.update)
-          (head_of_run config n (length w.everyone) few
-          (ids.some, omega (arith, ids.few, few)));
-      each = All-from_recursion (MayStandThere state.head) (standing_from 0 w.cells)
-          (all_standing (MayStandThere state.head) 0 w.cells stands_well);
-      rising = come_before;
-    };
-    kinds = all_standing HasKindsThere 0 w.cells (λ cell o h.
-        let is = range cell o h in
-        record { credited = is.credited; gestation = is.gestation; inputs = is.inputs });
+  -- the head is that of a saved world
+  head_writable : IsHead state.head
+  head_writable =
+      let head = is.valid.head in
+      record {
+        width = head.width;
+        height = head.height;
+        update = head.update;
+        next_id = (head.next_id.0, is.fits.next_id);
+        seed = head.seed;
+        average_slices = head.average_slices;
+        age_limit = head.age_limit;
+        rates = head.rates;
+        executed_percent = head.executed_percent;
+        copied_percent = head.copied_percent;
+        least_length = head.least_length;
+        greatest_length = head.greatest_length;
+        memory_limit = head.memory_limit;
+      }
+
+  -- so a saved world can be made of it
+  pub state_saved : AreSaved state.head (standing_from 0 state.cells)
+  state_saved = record {
+    values = head_writable;
+    each = All-from_recursion (MayStandThere state.head) (standing_from 0 state.cells)
+        (all_standing (MayStandThere state.head) 0 state.cells stands_well);
+    rising = come_before;
   }

@@ -5,7 +5,7 @@ use Rattle.saved_lines.specs.SavedText.{count_text}
 use Rattle.checkpoint.specs.Parts.{first_cells_text}
 use Rattle.world_rules.specs.World.{ids_of}
 use Rattle.written_texts.proofs.WriteLemmas.{writes_short, writes_then}
-use Rattle.avida_program.proofs.save.write_state.Goals as goal
+use Rattle.avida_program.proofs.saved_world.write_state.Goals as goal
 
 pub returns-in_err-write_head : goal.returns-in_err-write_head
 returns-in_err-write_head g c =

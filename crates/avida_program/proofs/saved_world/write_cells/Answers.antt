@@ -5,7 +5,7 @@ use Rattle.saved_worlds.specs.SavedWorldText.{slot_text}
 use Rattle.written_texts.specs.WrittenText.{WritesAll}
 use Rattle.written_texts.proofs.WriteLemmas.{writes_nothing, writes_same}
 use Rattle.avida_program.proofs.GrowingTexts.{part_stopped, part_written}
-use Rattle.avida_program.proofs.save.write_cells.Goals as goal
+use Rattle.avida_program.proofs.saved_world.write_cells.Goals as goal
 
 pub loop-cell-init : goal.loop-cell-init
 loop-cell-init g c = writes_nothing _

@@ -1,0 +1,100 @@
+-- A run that is saved and advanced goes on, and updates add up.
+use Rattle.std.proofs.Common.{◌≡◌, ◌+◌, ◌∙◌, ap, refl, sym, ◌++◌, append_assoc, append-nil, ℕ, zero, suc, List, [], Ok, arith, add-zero}
+use Rattle.saved_worlds.specs.Resuming.{continued_text, later_texts, next_state, next_text, saved_state_after}
+use Rattle.saved_worlds.specs.SavedGrammar.{saved_of}
+use Rattle.saved_worlds.specs.SavedState.{SavedState, state_of, state_of_world}
+use Rattle.saved_worlds.specs.SavedWorldText.{saved_text}
+use Rattle.world_config.specs.Values.{ConfigValues}
+use Rattle.world_rules.specs.LogText.{end_text}
+use Rattle.world_rules.specs.Settings.{rates_at}
+use Rattle.world_rules.specs.World.{World}
+use Rattle.world_rules.specs.WorldRun.{world_after}
+use Rattle.avida_program.specs.AdvancedRun.{AddsUp, AdvancesExactly, AdvancesInTwo, IsReadAgain, ResumesInTwo, longer_run}
+use Rattle.avida_program.specs.ResumedRun.{CanResume}
+use Rattle.avida_program.specs.SaveText.{advanced_text, save_text}
+use Rattle.avida_program.proofs.LongerRuns.{world_stays}
+use Rattle.avida_program.proofs.ResumeLemmas.{update_after}
+use Rattle.avida_program.proofs.SavedLemmas.{read_again, reads_again}
+
+-- updates add up
+pub adds_up : (state : SavedState) (first second : ℕ) → AddsUp state first second
+unfolding saved_state_after
+adds_up state first zero = ap (saved_state_after state) (sym (add-zero first))
+adds_up state first (suc n) =
+    ap next_state (adds_up state first n) ∙ ap (saved_state_after state) (one_more first n)
+  where
+    one_more : (m k : ℕ) → suc (m + k) ≡ m + suc k
+    one_more m k = omega arith
+
+-- and so do their texts
+texts_add_up : (state : SavedState) (first second : ℕ)
+    → later_texts state first ++ later_texts (saved_state_after state first) second
+    ≡ later_texts state (first + second)
+texts_add_up state first zero =
+    append-nil (later_texts state first) ∙ ap (later_texts state) (sym (add-zero first))
+texts_add_up state first (suc n) =
+    let between = saved_state_after state first in
+    sym (append_assoc (later_texts state first) (later_texts between n)
+    (next_text (saved_state_after between n)))
+    ∙ ap (λ texts. texts ++ next_text (saved_state_after between n)) (texts_add_up state first n)
+    ∙ ap (λ (s : SavedState). later_texts state (first + n) ++ next_text s) (adds_up state first n)
+    ∙ ap (later_texts state) (one_more first n)
+  where
+    one_more : (m k : ℕ) → suc (m + k) ≡ m + suc k
+    one_more m k = omega arith
+
+-- what is resumed in two parts
+pub resumes_in_two : (state : SavedState) (first second : ℕ) → ResumesInTwo state first second
+unfolding continued_text
+resumes_in_two state first second =
+    let between = saved_state_after state first in
+    let last : between.head.update + second ≡ state.head.update + (first + second) =
+    omega (arith, update_after state first) in
+    record {
+      log = later_texts state first;
+      is_log = refl;
+      goes_on = sym (append_assoc (later_texts state first) (later_texts between second)
+          (end_text (between.head.update + second)))
+          ∙ ap (λ texts. texts ++ end_text (between.head.update + second))
+          (texts_add_up state first second)
+          ∙ ap (λ n. later_texts state (first + second) ++ end_text n) last;
+    }
+
+-- what is advanced in two parts
+pub advances_in_two : (state : SavedState) (first second : ℕ) → IsReadAgain state first second
+    → AdvancesInTwo state first second
+advances_in_two state first second so =
+    let between = saved_state_after state first in
+    record {
+      between = between;
+      reads = read_again second (advanced_text state first) between so.again so.short
+          (omega (arith, update_after state first, so.updates));
+      goes_on = ap saved_text (adds_up state first second);
+    }
+
+-- the state of a world doesn't tell how long its run is
+states_same : (config : ConfigValues) (updates : ℕ) (w : World)
+    → state_of_world (record config { updates = updates }) w ≡ state_of_world config w
+unfolding rates_at
+states_same config updates w = refl
+
+-- the state that the longer run leaves
+longer_state : (config : ConfigValues) (more : ℕ) → state_of (longer_run config more)
+    ≡ state_of_world config (world_after config (config.updates + more))
+unfolding state_of
+longer_state config more =
+    let updates = config.updates + more in
+    ap (state_of_world (longer_run config more)) (world_stays config updates updates)
+    ∙ states_same config updates (world_after config updates)
+
+-- a run that is saved and advanced goes on
+pub run_advances : (config : ConfigValues) (more : ℕ) → CanResume config more
+    → saved_of (save_text config) ≡ Ok (state_of config)
+    → saved_state_after (state_of config) more
+    ≡ state_of_world config (world_after config (config.updates + more))
+    → AdvancesExactly config more
+run_advances config more can again goes = record {
+  state = state_of config;
+  reads = reads_again config more can again;
+  goes_on = ap saved_text (goes ∙ sym (longer_state config more));
+}

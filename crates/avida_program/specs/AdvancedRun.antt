@@ -1,0 +1,46 @@
+-- How a run goes on that is saved and advanced (docs/WORLD.md, "Saved worlds").
+use Rattle.std.specs.Prelude.{◌≡◌, ◌+◌, ◌≤◌, ℕ, List, ◌++◌, Ok, length}
+use Rattle.saved_worlds.specs.Resuming.{continued_text, saved_state_after}
+use Rattle.saved_worlds.specs.SavedGrammar.{saved_of}
+use Rattle.saved_worlds.specs.SavedState.{SavedState}
+use Rattle.world_config.specs.Values.{ConfigValues}
+use Rattle.world_rules.specs.LogText.{end_text}
+use Rattle.avida_program.specs.Input.{resume_input_of}
+use Rattle.avida_program.specs.SaveText.{advanced_text, save_text}
+
+-- the configuration of the same run with so many more updates
+abbrev pub longer_run : ConfigValues → ℕ → ConfigValues
+longer_run config more = record config { updates = config.updates + more }
+
+-- `advance` reads what `save` writes of a run, and writes what `save` writes of the run so much
+-- longer
+pub record AdvancesExactly (config : ConfigValues) (more : ℕ) : Type 0 where
+  pub state : SavedState
+  pub reads : resume_input_of more (save_text config) ≡ Ok state
+  pub goes_on : advanced_text state more ≡ save_text (longer_run config more)
+
+-- what a saved world is after some updates and then some more, it is after all of them
+abbrev pub AddsUp : SavedState → ℕ → ℕ → Type 0
+AddsUp state first second =
+    saved_state_after (saved_state_after state first) second
+    ≡ saved_state_after state (first + second)
+
+-- what `resume` writes of some updates without its last line, and then what it writes of some more
+-- once the world is advanced, is what it writes of all of them
+pub record ResumesInTwo (state : SavedState) (first second : ℕ) : Type 0 where
+  pub log : List ℕ
+  pub is_log : log ++ end_text (state.head.update + first) ≡ continued_text state first
+  pub goes_on : log ++ continued_text (saved_state_after state first) second
+      ≡ continued_text state (first + second)
+
+-- what `advance` writes of some updates is read again, not too long, and not too late for some more
+pub record IsReadAgain (state : SavedState) (first second : ℕ) : Type 0 where
+  pub again : saved_of (advanced_text state first) ≡ Ok (saved_state_after state first)
+  pub short : length (advanced_text state first) ≤ 536870912
+  pub updates : state.head.update + (first + second) ≤ 1000000
+
+-- `advance` by some more reads it, and writes what it writes of all updates at once
+pub record AdvancesInTwo (state : SavedState) (first second : ℕ) : Type 0 where
+  pub between : SavedState
+  pub reads : resume_input_of second (advanced_text state first) ≡ Ok between
+  pub goes_on : advanced_text between second ≡ advanced_text state (first + second)

@@ -1,0 +1,108 @@
+// The command `advance`.
+ghost use Rattle.std.specs.Prelude.{◌≡◌, ◌≤◌, ◌<◌, ◌+◌, IfOk, Option};
+ghost use Rattle.avida_port.specs.Ports.{SinkState};
+ghost use Rattle.saved_worlds.specs.Resuming.{next_state, saved_state_after};
+ghost use Rattle.world_core.specs.WorldValue.{WorldValue};
+ghost use Rattle.written_texts.specs.SinkChanges.{change, unchanged};
+ghost use Rattle.written_texts.specs.WrittenText.{WritesAll};
+ghost use Rattle.avida_program.specs.declared.command.Command.TheVariants.{Advance};
+ghost use Rattle.avida_program.specs.Outcomes.{WritesText};
+ghost use Rattle.avida_program.specs.SaveText.{advanced_text};
+ghost use Rattle.avida_program.specs.Work.{CarriesOut};
+
+use crate::input::read_state_for;
+use crate::outcome::{Outcome, written};
+use crate::saved_world::write_state;
+use avida_port::{Gate, Memory, Sink, Source};
+use std::alloc::Global;
+use std::sync::Wait;
+use std::thread::Threads;
+use world_core::State;
+use written_texts::WriteStop;
+
+/// One update, whose text is dropped.
+fn pass_update<R: Threads + Wait + Sync, G: Gate + Sync>(
+    rt: &R,
+    alloc: Global,
+    state: State,
+    gate: &G,
+) -> Result<State, Memory>
+    requires { state.head.update < 1000000 }
+    ensures { IfOk result (λ next. next ≡ next_state state) }
+{
+    let (next, _text) = state.advance(rt, alloc, gate)?;
+    Ok(next)
+}
+
+/// So many updates more, without their texts.
+fn pass_updates<R: Threads + Wait + Sync, G: Gate + Sync>(
+    rt: &R,
+    alloc: Global,
+    mut state: State,
+    more: u32,
+    gate: &G,
+) -> Result<State, Memory>
+    requires { state.head.update + more ≤ 1000000 }
+    ensures { IfOk result (λ after. after ≡ saved_state_after state more) }
+{
+    for _ in 0..more {
+        state = pass_update(rt, alloc, state, gate)?;
+    }
+    Ok(state)
+}
+
+/// Writes the saved world that is there so many updates later.
+fn advance_and_write<R: Threads + Wait + Sync, O: Sink, G: Gate + Sync>(
+    rt: &R,
+    alloc: Global,
+    state: State,
+    more: u32,
+    out: &mut O,
+    gate: &G,
+) -> Result<(), WriteStop>
+    requires { state.head.update + more ≤ 1000000 }
+    ensures { WritesAll (O.seen out.old) (O.seen out.new) (advanced_text state more) result }
+{
+    let after = pass_updates(rt, alloc, state, more, gate)?;
+    write_state(alloc, &after, out)
+}
+
+fn write_advanced<R: Threads + Wait + Sync, O: Sink, G: Gate + Sync>(
+    rt: &R,
+    alloc: Global,
+    state: State,
+    more: u32,
+    out: &mut O,
+    gate: &G,
+) -> Outcome
+    requires { state.head.update + more ≤ 1000000 }
+    ensures { WritesText (advanced_text state more)
+        (change (O.seen out.old) (O.seen out.new)) result }
+{
+    written(advance_and_write(rt, alloc, state, more, out, gate))
+}
+
+/// Reads a saved world, and writes the one that is there `more` updates later.
+pub fn advance<R: Threads + Wait + Sync, S: Source, O: Sink, G: Gate + Sync>(
+    rt: &R,
+    alloc: Global,
+    more: u32,
+    workers: u32,
+    source: &mut S,
+    out: &mut O,
+    gate: &G,
+) -> Outcome
+    requires { (1 ≤ workers) × (workers ≤ 64) }
+    ensures { (watch : SinkState) (last : Option WorldValue)
+        → CarriesOut (Advance more workers) (record {
+          source = change (S.seen source.old) (S.seen source.new);
+          out = change (O.seen out.old) (O.seen out.new);
+          watch = unchanged watch;
+          last = unchanged last;
+        }) result }
+{
+    match read_state_for(rt, alloc, source, more, workers) {
+        Ok(state) => write_advanced(rt, alloc, state, more, out, gate),
+        Err(outcome) => outcome,
+    }
+}

@@ -1,0 +1,140 @@
+-- A saved world that is read can be written.
+use Rattle.std.proofs.Common.{◌≡◌, ℕ, ◌+◌, ◌==◌, Bool, true, false, List, [], ◌∷◌, ◌++◌, length, Option, Some, None, Result, Ok, refl, subst}
+use Rattle.std.proofs.lemmas.List.Elements.{All-from_recursion}
+use Rattle.std.specs.List.{slice_split}
+use Rattle.virtual_cpu.specs.declared.cpu_image.CpuImage.{CpuImage}
+use Rattle.saved_lines.specs.SavedForms.{HasSavedForm}
+use Rattle.saved_lines.specs.SavedReading.{SavedLine, Head, Organism, Machine, Count, saved_line_of}
+use Rattle.saved_lines.specs.SavedValues.{HeadValues, OrganismValues}
+use Rattle.saved_worlds.specs.SavedGrammar.{SavedPlace, Before, Among, Halfway, After, Placed, SavedFault, after_saved_line, last_saved_piece, may_follow, may_stand, one_saved_piece, pieces_state, place_if, placed_of, saved_end, saved_of, state_of_lines, told_saved_line}
+use Rattle.saved_worlds.specs.SavedState.{SavedState}
+use Rattle.saved_worlds.specs.ValidState.{AreSaved, IsHead, MayStandThere}
+use Rattle.checkpoint.specs.Readable.{IsReadImage, IsReadOrganism, IsReadable}
+use Rattle.checkpoint.specs.Standing.{IsWritable}
+use Rattle.checkpoint.proofs.KeptLemmas.{saved_more}
+use Rattle.checkpoint.proofs.ReadableLemmas.{form_readable}
+use Rattle.checkpoint.proofs.StandsLemmas.{follows_by_rules, may_stand_there, stands_by_rules}
+
+-- what is known at each place of the lines
+abbrev IsGood : SavedPlace → Type 0
+IsGood Before = Unit {0}
+IsGood (Among head placed) = AreSaved head placed
+IsGood (Halfway head placed o) =
+    AreSaved head placed × (may_stand head placed o ≡ true) × IsReadOrganism o
+IsGood (After state) = IsWritable state
+
+-- what follows where a test holds
+if_holds : (test : Bool) (place next : SavedPlace) → place_if test place ≡ Some next
+    → (test ≡ true → IsGood place) → IsGood next
+if_holds true place next h good =
+    let same : place ≡ next = cc in subst IsGood same (good refl)
+if_holds false place next h good = absurd cc
+
+-- no organism was told yet
+none_saved : (head : HeadValues) → IsHead head → AreSaved head []
+none_saved head is = record {
+  values = is;
+  each = All-from_recursion (MayStandThere head) [] tt;
+  rising = λ place next one other before h k. absurd cc;
+}
+
+-- one organism more
+one_saved : (head : HeadValues) (placed : List Placed) (o : OrganismValues) (image : CpuImage)
+    → IsGood (Halfway head placed o) → IsReadImage image → may_follow head o image ≡ true
+    → AreSaved head (placed ++ placed_of head o image ∷ [])
+one_saved head placed o image good read follows =
+    let by_rules = stands_by_rules head placed o good.1 in
+    saved_more head placed (placed_of head o image) good.0
+    (may_stand_there head o image placed good.0.values good.2 read by_rules
+    (follows_by_rules head o image follows)) by_rules.above by_rules.fresh
+
+-- each line that was read has a form
+abbrev pub TakesForms : Type 0
+TakesForms = (bytes : List ℕ) (line : SavedLine) → saved_line_of bytes ≡ Some line
+    → HasSavedForm line
+
+-- a saved world that can be made of lines can be written
+abbrev pub LinesAreWritable : Type 0
+LinesAreWritable = (head : HeadValues) (placed : List Placed) → AreSaved head placed
+    → IsWritable (state_of_lines head placed)
+
+module _ (takes : TakesForms) (made : LinesAreWritable) where
+  -- the place after one line more
+  told_good : (place next : SavedPlace) (line : SavedLine) → IsReadable line → IsGood place
+      → told_saved_line place line ≡ Some next → IsGood next
+  told_good Before next (Head head) read good h =
+      let same : Among head [] ≡ next = cc in subst IsGood same (none_saved head read)
+  told_good Before next (Organism o) read good h = absurd cc
+  told_good Before next (Machine image) read good h = absurd cc
+  told_good Before next (Count organisms) read good h = absurd cc
+  told_good (Among head placed) next (Head other) read good h = absurd cc
+  told_good (Among head placed) next (Organism o) read good h =
+      if_holds (may_stand head placed o) (Halfway head placed o) next h
+      (λ stands. (good, stands, read))
+  told_good (Among head placed) next (Machine image) read good h = absurd cc
+  told_good (Among head placed) next (Count organisms) read good h =
+      if_holds (organisms == length placed) (After (state_of_lines head placed)) next h
+      (λ same. made head placed good)
+  told_good (Halfway head placed o) next (Head other) read good h = absurd cc
+  told_good (Halfway head placed o) next (Organism other) read good h = absurd cc
+  told_good (Halfway head placed o) next (Machine image) read good h =
+      if_holds (may_follow head o image) (Among head (placed ++ placed_of head o image ∷ [])) next h
+      (λ follows. one_saved head placed o image good read follows)
+  told_good (Halfway head placed o) next (Count organisms) read good h = absurd cc
+  told_good (After state) next line read good h = absurd cc
+
+  -- the end of the bytes
+  end_good : (number : ℕ) (place : SavedPlace) (state : SavedState) → IsGood place
+      → saved_end number place ≡ Ok state → IsWritable state
+  end_good number (After state) other good h =
+      let same : state ≡ other = cc in subst IsWritable same good
+  end_good number Before other good h = absurd cc
+  end_good number (Among head placed) other good h = absurd cc
+  end_good number (Halfway head placed o) other good h = absurd cc
+
+  -- the last piece
+  last_good : (number : ℕ) (place : SavedPlace) (piece : List ℕ) (state : SavedState)
+      → IsGood place → last_saved_piece number place piece ≡ Ok state → IsWritable state
+  last_good number place [] state good h = end_good number place state good h
+  last_good number place (b ∷ bs) state good h = absurd cc
+
+  -- what the others make of each place
+  abbrev Leads : (SavedPlace → Result SavedState SavedFault) → SavedState → Type 0
+  Leads others state = (next : SavedPlace) → IsGood next → others next ≡ Ok state → IsWritable state
+
+  -- a place, and others
+  after_good : (number : ℕ) (place : SavedPlace) (line : SavedLine) (found : Option SavedPlace)
+      (others : SavedPlace → Result SavedState SavedFault) (state : SavedState) → IsReadable line
+      → IsGood place → told_saved_line place line ≡ found → Leads others state
+      → after_saved_line number found others ≡ Ok state → IsWritable state
+  after_good number place line None others state read good is leads h = absurd cc
+  after_good number place line (Some next) others state read good is leads h =
+      leads next (told_good place next line read good is) h
+
+  -- a piece, and others
+  piece_good : (number : ℕ) (place : SavedPlace) (piece : List ℕ) (found : Option SavedLine)
+      (others : SavedPlace → Result SavedState SavedFault) (state : SavedState) → IsGood place
+      → saved_line_of piece ≡ found → Leads others state
+      → one_saved_piece number place found others ≡ Ok state → IsWritable state
+  piece_good number place piece None others state good is leads h = absurd cc
+  piece_good number place piece (Some line) others state good is leads h =
+      after_good number place line (told_saved_line place line) others state
+      (form_readable line (takes piece line is)) good refl leads h
+
+  -- all pieces
+  pieces_good : (number : ℕ) (place : SavedPlace) (pieces : List (List ℕ)) (state : SavedState)
+      → IsGood place → pieces_state number place pieces ≡ Ok state → IsWritable state
+  pieces_good number place [] state good h = absurd cc
+  pieces_good number place (piece ∷ []) state good h =
+      last_good number place piece state good h
+  pieces_good number place (piece ∷ next ∷ pieces) state good h =
+      piece_good number place piece (saved_line_of piece)
+      (λ p. pieces_state (number + 1) p (next ∷ pieces)) state good refl
+      (λ p is led. pieces_good (number + 1) p (next ∷ pieces) state is led) h
+
+  -- the state of the bytes of a saved world
+  pub read_writable : (bytes : List ℕ) (state : SavedState) → saved_of bytes ≡ Ok state
+      → IsWritable state
+  unfolding saved_of
+  read_writable bytes state h =
+      pieces_good 1 Before (slice_split (λ b. b == 10) bytes) state tt h
