@@ -35,6 +35,7 @@ REASONS = {
     "upgrade": LOG_REASON,
     "tree": LOG_REASON,
     "resume": SAVED_REASON + rb"|updates [1-9][0-9]*",
+    "advance": SAVED_REASON + rb"|updates [1-9][0-9]*",
 }
 
 
@@ -46,7 +47,7 @@ def reason_of(words, errors):
 
 
 # The first letters of the lines with which a piece of an output ends.
-PIECE_ENDS = {"run": b"LUE", "resume": b"UE", "save": b"SMZ"}
+PIECE_ENDS = {"run": b"LUE", "resume": b"UE", "save": b"SMZ", "advance": b"SMZ"}
 
 
 def pieces_of(words, output):

@@ -40,6 +40,7 @@ import io
 import os
 import re
 import shutil
+import stat
 import subprocess
 import sys
 import tempfile
@@ -51,12 +52,17 @@ from contextlib import contextmanager
 from pathlib import Path
 from typing import NamedTuple
 
+if sys.version_info < (3, 10):
+    sys.exit(f"{Path(sys.argv[0]).name}: it needs Python 3.11 or later, and this is {sys.version.split()[0]}")
+
 TOP = Path(__file__).resolve().parent.parent
 
 TASKS = ("NOT", "NAND", "AND", "ORN", "OR", "ANDN", "NOR", "XOR", "EQU")
 
-# Nine colours that stand apart also for who can't tell red from green.
-COLOURS = ("#999999", "#56B4E9", "#0072B2", "#44AA99", "#117733", "#8C564B", "#E69F00", "#D55E00", "#AA3377")
+# Nine colours, and one for no task. Any two stand apart by 15 or more in CIEDE2000, also for who can't tell red from green
+# (colour_checks.py). Within each three they go from light to dark.
+COLOURS = ("#8CC4A8", "#388C8C", "#005454", "#E0A8E0", "#7070FC", "#1C00C4", "#FCA800", "#A87000", "#70381C")
+NO_TASK = "#F0F0F0"
 
 # The instructions in the order of their letters, a to z.
 INSTRUCTIONS = (
@@ -267,9 +273,10 @@ class Update(NamedTuple):
 
     @classmethod
     def of(cls, fields):
-        numbers = [int(field) for field in fields[1:]]
-        if len(numbers) != 15:
+        _, *numbers = fields
+        if len(numbers) != 15 or not all(map(str.isdecimal, numbers)):
             raise ValueError(fields)
+        numbers = list(map(int, numbers))
         return cls(*numbers[:6], tuple(numbers[6:]))
 
     def mean_merit(self):
@@ -329,13 +336,16 @@ def cause_of(line):
 
 
 class Progress:
-    """Says on a terminal, in one line of standard error, how much of a file was read, once that has taken a second."""
+    """Says on a terminal, in one line of standard error, how far it is, once that has taken a second.
+
+    What is counted are bytes of a file, or what `unit` says. Without a size nothing says how much there is.
+    """
 
     # The name that the line begins with, which `run` gives. Without one nothing is said.
     tool = None
 
-    def __init__(self, name, size):
-        self.name, self.size, self.done, self.is_shown = name, size, 0, False
+    def __init__(self, name, size, unit=None):
+        self.name, self.size, self.unit, self.done, self.is_shown = name, size, unit, 0, False
         self.is_on = bool(self.tool) and sys.stderr.isatty()
         self.begun = self.last = time.monotonic()
 
@@ -343,10 +353,21 @@ class Progress:
         self.done += count
         now = time.monotonic()
         if self.is_on and now - self.begun >= 1 and now - self.last >= 0.2:
-            share = f"{100 * self.done // self.size} % of {self.size / 1e6:.0f} MB" if self.size else f"{self.done / 1e6:.0f} MB"
-            sys.stderr.write(f"\r\033[K{self.tool}: {self.name}: {share}, {now - self.begun:.0f} s")
+            sys.stderr.write(f"\r\033[K{self.tool}: {self.name}: {self.share()}, {now - self.begun:.0f} s")
             sys.stderr.flush()
             self.last, self.is_shown = now, True
+
+    def share(self):
+        if self.unit:
+            return f"{self.done} of {self.size} {self.unit}" if self.size else f"{self.done} {self.unit}"
+        return f"{100 * self.done // self.size} % of {self.size / 1e6:.0f} MB" if self.size else f"{self.done / 1e6:.0f} MB"
+
+    def over(self, results):
+        """The same results, each of which is counted once it has come."""
+        for result in results:
+            self.add(1)
+            yield result
+        self.end()
 
     def end(self):
         if self.is_shown:
@@ -368,8 +389,8 @@ class Watched(io.FileIO):
 
 
 BLOCK = 1 << 18
-# A copy of standard input, where a tool reads it more than once.
-kept_input = None
+# Copies of what can't be read twice, such as standard input or a pipe, by their paths.
+kept = {}
 
 
 def name_of(path):
@@ -384,9 +405,9 @@ def is_folder(path):
 
 def watched(path):
     try:
-        if path != STANDARD_INPUT:
-            return Watched(path, Path(path).name)
-        return Watched(kept_input.name, name_of(path)) if kept_input else Watched(0, name_of(path), closefd=False)
+        if str(path) in kept:
+            return Watched(kept[str(path)].name, Path(name_of(path)).name)
+        return Watched(0, name_of(path), closefd=False) if path == STANDARD_INPUT else Watched(path, Path(path).name)
     except OSError as error:
         raise Fault(f"{name_of(path)}: {error.strerror}") from None
 
@@ -418,31 +439,23 @@ def as_text(file):
         text.detach()
 
 
-@contextmanager
-def opened_plain(path):
-    """The same as a file of its own, which the program can read. Of a folder it is the whole log."""
-    with tempfile.TemporaryFile() as plain:
-        if is_folder(path):
-            plain.writelines(f"{line}\n".encode("latin-1") for line in Lines(path))
-        else:
-            with opened(path) as file:
-                if not isinstance(file, gzip.GzipFile):
-                    yield file
-                    return
-                shutil.copyfileobj(file, plain)
-        plain.seek(0)
-        yield plain
+def is_stream(path):
+    """Whether what is read from here is gone then."""
+    try:
+        mode = os.stat(path).st_mode
+    except OSError:
+        return path == STANDARD_INPUT
+    return path == STANDARD_INPUT or not (stat.S_ISREG(mode) or stat.S_ISDIR(mode))
 
 
 def keep(path):
-    """Makes a log one that can be read several times: standard input is copied into a temporary file first."""
-    global kept_input
-    if path == STANDARD_INPUT and not kept_input:
+    """Makes a log one that can be read several times: standard input or a pipe is copied into a temporary file first."""
+    if not hasattr(path, "read") and is_stream(path) and str(path) not in kept:
         with opened(path) as file:
             copy = tempfile.NamedTemporaryFile()
             shutil.copyfileobj(file, copy)
             copy.flush()
-        kept_input = copy
+        kept[str(path)] = copy
     return path
 
 
@@ -509,6 +522,8 @@ class Lines:
                         raise Fault(f"{name_of(self.piece.path)}: this isn't a log: {why}")
                     if not first.endswith("\n"):
                         raise Fault(f"{name_of(self.piece.path)}: this log is cut in its first line")
+                    if first.endswith("\r\n"):
+                        raise Fault(f"{name_of(self.piece.path)}: its lines end with CR LF, and those of a log with LF alone")
                     if not marks or "L" in marks:
                         yield first[:-1]
                 for self.number, line in enumerate(text, self.number + 1):
@@ -529,6 +544,45 @@ class Lines:
             return End.of(line.split(" ")).updates
         except ValueError:
             raise self.fault(cause_of(line)) from None
+
+    def blocks(self):
+        """The first line, and then for each update its lines with the U line at their end, each as one text.
+
+        This is faster than line by line, and raises a ValueError where a line isn't in its place, without
+        saying which. What is behind the last U line is only looked at for its form. Afterwards `ended` has the number of
+        the E line, or None.
+        """
+        before, self.ended = 0, None
+        for at, self.piece in enumerate(self.pieces):
+            if at and not (self.is_whole and self.piece.update == before + 1):
+                raise ValueError(self.piece)
+            with opened(self.piece.path) as file:
+                if not at:
+                    first = file.readline().decode("latin-1")
+                    if first[:2] != "L " or first[-1] != "\n":
+                        raise ValueError(first)
+                    yield first[:-1]
+                # What is read and has no U line yet, with the line end before it.
+                rest = b"\n"
+                for chunk in iter(lambda: file.read(4 * BLOCK), b""):
+                    rest, begun = rest + chunk, 0
+                    while True:
+                        update = rest.find(b"\nU ", begun)
+                        end = rest.find(b"\n", update + 1)
+                        if update < 0 or end < 0:
+                            break
+                        yield rest[begun + 1 : end].decode("latin-1")
+                        begun = end
+                    rest = rest[begun:]
+            # The last one is empty, or cut.
+            lines = rest[1:].decode("latin-1").split("\n")[:-1]
+            self.is_whole = bool(lines) and lines[-1][:1] == "E"
+            for line in lines:
+                fields = line.split(" ")
+                if fields[0] not in RECORDS or (fields[0] == "E") != (self.is_whole and line is lines[-1]):
+                    raise ValueError(line)
+                record = RECORDS[fields[0]].of(fields)
+            self.ended = before = record.updates if self.is_whole else None
 
 
 def read_log(log, marks=None):
@@ -563,6 +617,25 @@ def read_log(log, marks=None):
 def updates_of(path):
     """The `U` lines of a log. Standard input can be read once more after it."""
     return list(read_log(keep(path), "U"))
+
+
+def last_update(path):
+    """The number of a log's last update, or 0. Of a plain file only the end is read."""
+    end, size = b"", 4 * BLOCK
+    with opened(pieces_of(keep(path))[-1].path) as file:
+        if isinstance(file, gzip.GzipFile):
+            for chunk in iter(lambda: file.read(size), b""):
+                end += chunk
+                end = end[max(0, end.rfind(b"\nU ", 0, end.rfind(b"\n"))) :]
+        else:
+            whole = file.seek(0, os.SEEK_END)
+            while end.rfind(b"\nU ", 0, end.rfind(b"\n")) < 0 and len(end) < whole:
+                size *= 4
+                file.seek(max(0, whole - size))
+                end = file.read()
+    found = end.rfind(b"\nU ", 0, end.rfind(b"\n"))
+    number = end[found:].split(b" ", 2)[1] if found >= 0 else b"0"
+    return int(number) if number.isdigit() else 0
 
 
 def first_updates(updates):
@@ -724,6 +797,8 @@ class Births:
 
     def ids_to(self, id):
         """The line of descent to an organism, its founder first."""
+        if not self.parents:
+            raise Fault(f"{name_of(self.path)} has no organism")
         if not 0 <= id < len(self.parents):
             raise Fault(f"{name_of(self.path)} has no organism {id}: its ids go from 0 to {len(self.parents) - 1}")
         ids = [id]

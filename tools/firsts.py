@@ -5,13 +5,14 @@ each update, so the world of the update in which a count rises above 0 is made a
 cut to that update. Its `O` lines have each organism's credited set (docs/FORMATS.md, "Saved worlds").
 """
 
+import gzip
 import json
 import os
 from concurrent.futures import ThreadPoolExecutor
 from pathlib import Path
 from typing import NamedTuple
 
-from avida_log import TASKS, Births, Fault, answer, first_updates
+from avida_log import TASKS, Births, Fault, Progress, answer, first_updates
 from scripts import script
 
 
@@ -84,9 +85,12 @@ def in_toml(value):
 
 
 class Configuration:
-    """A configuration, which can be cut to an earlier end."""
+    """A configuration, which can be cut to an earlier end.
 
-    def __init__(self, path):
+    `worlds` is a folder of its saved worlds, as tools/staged-run makes them: a world is then made from the last one before it.
+    """
+
+    def __init__(self, path, worlds=None):
         tool = script("check-config")
         try:
             given = Path(path).read_bytes()
@@ -95,7 +99,7 @@ class Configuration:
             raise Fault(f"{path}: {error.strerror}") from None
         except tool.Refused as refused:
             raise Fault(f"{path}:{refused.line}: {refused.why}") from None
-        self.path = path
+        self.path, self.worlds = path, worlds and Path(worlds)
         self.document, _ = tool.document_of(given)
 
     def cut_to(self, update):
@@ -105,7 +109,17 @@ class Configuration:
         return "".join(f"{key} = {in_toml(value)}\n" for key, value in keys.items())
 
     def saved(self, program, update):
-        return Saved.of(answer([program, "save"], self.cut_to(update).encode("utf-8")))
+        return Saved.of(self.world_after(program, update))
+
+    def world_after(self, program, update):
+        """The text of the saved world after an update."""
+        ends = [int(path.stem) for path in self.worlds.glob("*.gz") if path.stem.isdigit()] if self.worlds else []
+        end = max((end for end in ends if end <= update), default=None)
+        if end is None:
+            return answer([program, "save"], self.cut_to(update).encode("utf-8"))
+        with gzip.open(self.worlds / f"{end}.gz") as file:
+            text = file.read()
+        return answer([program, "advance", update - end], text) if update > end else text.decode("ascii")
 
 
 def check_same(log, path, births, update, saved):
@@ -143,17 +157,31 @@ def first_of(births, at, update, saved):
     return First(TASKS[at], update.number, line[-1], change)
 
 
-def firsts_of(program, log, updates, path, tasks=TASKS):
-    """The First of each of these tasks that is ever counted in a log, whose U lines and whose configuration are given."""
-    configuration, births = Configuration(path), Births(log)
+def firsts_of(program, log, updates, path, tasks=TASKS, worlds=None):
+    """The First of each of these tasks that is ever counted in a log, whose U lines and whose configuration are given.
+
+    `worlds` is a folder of saved worlds, where there is one.
+    """
+    configuration, births = Configuration(path, worlds), Births(log)
     wanted = {at: first for at, first in enumerate(first_updates(updates)) if first and TASKS[at] in tasks}
     by_number = {update.number: update for update in updates}
     numbers = sorted(set(wanted.values()))
     with ThreadPoolExecutor(os.cpu_count()) as pool:
-        worlds = dict(zip(numbers, pool.map(lambda number: configuration.saved(program, number), numbers)))
+        saved = pool.map(lambda number: configuration.saved(program, number), numbers)
+        made = dict(zip(numbers, Progress("runs up to a first update", len(numbers), "runs").over(saved)))
     for number in numbers:
-        check_same(log, path, births, by_number[number], worlds[number])
-    return {TASKS[at]: first_of(births, at, by_number[number], worlds[number]) for at, number in wanted.items()}
+        check_same(log, path, births, by_number[number], made[number])
+    return {TASKS[at]: first_of(births, at, by_number[number], made[number]) for at, number in wanted.items()}
+
+
+def inputs_of(program, path, firsts):
+    """The inputs of the organism of each of these Firsts, which are those of the world after the update of its birth."""
+    configuration = Configuration(path)
+    births = {int(first.birth.update) for first in firsts.values()}
+    with ThreadPoolExecutor(os.cpu_count()) as pool:
+        worlds = dict(zip(births, pool.map(lambda update: configuration.saved(program, update), births)))
+    living = {update: {each.id: each for each in saved.living} for update, saved in worlds.items()}
+    return {task: living[int(first.birth.update)][first.birth.id].inputs for task, first in firsts.items()}
 
 
 def stays_from(updates, at):

@@ -17,8 +17,10 @@ from contextlib import suppress
 from pathlib import Path
 
 import debian
-from avida_log import TASKS, TOP, Births, Death, Update, applied, program, read_log, updates_of
+from avida_log import COLOURS, NO_TASK, TASKS, TOP, Births, Death, Progress, Update, applied, program, read_log, updates_of
+from colour_checks import nearest
 from debian import Left, has_r_package, python_with
+from scripts import script
 
 TOOLS = TOP / "tools"
 PROGRAM = program()
@@ -132,9 +134,14 @@ class Logs:
     # The module.
 
     def module(self):
-        for name in ("avida_log", "descent"):
+        for name in ("avida_log", "descent", "colour_checks"):
             done = ran([sys.executable, "-m", "doctest", TOOLS / f"{name}.py"], cwd=TOOLS)
             self.check(f"the examples in {name}.py", done.returncode == 0, done.stdout)
+        of_knockouts = script("knockouts")
+        grounds = ({"no task": NO_TASK}, {"kept": of_knockouts.GREYS["kept"], "no divide": of_knockouts.NO_DIVIDE_COLOUR})
+        for ground in grounds:
+            for sight, (far, one, other) in nearest({**dict(zip(TASKS, COLOURS)), **ground}).items():
+                self.check(f"the colours of {one} and {other}, the nearest for {sight}, stand apart", far >= 15, far)
         replayed = self.text_of([PROGRAM, "replay"], self.events.read_bytes())
         cells, genomes, counted = {}, {}, [0, 0]
         for record in read_log(self.events):
@@ -166,11 +173,14 @@ class Logs:
             self.check(f"phylogeny of {name.name}", self.text_of([*words, name]) == whole)
         for given in (text, gzip.compress(text)):
             self.check("phylogeny of standard input", self.text_of([*words, "-"], given) == whole)
+            self.check("phylogeny of a pipe by its name", self.text_of([*words, "/dev/stdin"], given) == whole)
         for name, more in (("tasks", []), ("lineage", ["360"]), ("plot", ["-o", self.room / "stdin.svg"]), ("map", ["-o", self.room / "stdin.html", "--title", "a"])):
             if name == "plot" and not shutil.which("gnuplot"):
                 continue
             file = self.text_of([TOOLS / name, self.events, *more]).replace(str(self.events), "-")
             self.check(f"{name} of standard input", self.text_of([TOOLS / name, "-", *more], text) == file)
+            piped = self.text_of([TOOLS / name, "/dev/stdin", *more], text).replace("/dev/stdin", "-")
+            self.check(f"{name} of a pipe by its name", piped == file)
         self.pieces(whole, text)
         cut = self.room / "cut.log"
         cut.write_bytes(text[:-30])
@@ -199,9 +209,9 @@ class Logs:
         self.check("phylogeny of a folder of pieces", self.text_of([TOOLS / "phylogeny", folder]) == whole)
         for name, more in (("lineage", ["360"]), ("tasks", []), ("counts", []), ("map", ["-o", self.room / "page.html", "--title", "a"])):
             file = self.text_of([TOOLS / name, self.events, *more]).replace(str(self.events), str(folder))
-            page = (self.room / "page.html").read_bytes() if name == "map" else None
+            page = (self.room / "page.html").read_text().replace(str(self.events), str(folder)) if name == "map" else None
             self.check(f"{name} of a folder of pieces", self.text_of([TOOLS / name, folder, *more]) == file)
-            self.check(f"{name} of a folder writes the same page", name != "map" or (self.room / "page.html").read_bytes() == page)
+            self.check(f"{name} of a folder writes the same page", name != "map" or (self.room / "page.html").read_text() == page)
         (folder / "b.log.gz").unlink()
         done = ran([TOOLS / "phylogeny", folder])
         self.check("a piece that is missing is told", b"a.log: it begins with update 71, and the piece before it ends with update 40" in done.stderr, done.stderr)
@@ -470,6 +480,9 @@ class Logs:
             while block := os.read(leader, 1000):
                 said += block
         os.close(leader)
+        traced = Progress("traces", 5, "genomes")
+        self.check("what is counted comes through", list(traced.over("abc")) == ["a", "b", "c"])
+        self.check("how many of what are done", traced.share() == "3 of 5 genomes", traced.share())
         self.check("phylogeny ends well on a terminal", given.wait() == 0, said)
         self.check("phylogeny says on a terminal how much is read", b"\r\x1b[Kphylogeny: standard input: 0 MB, " in said and said.endswith(b"\r\x1b[K"), said)
 
@@ -478,12 +491,13 @@ class Logs:
         good = "L 2 2 1 0 wzcagcvf\nB 1 0 1 1 - = p2q\nU 1 2 1 0 2 16 0 0 0 0 0 0 0 0 0\nB 2 1 2 0 0 = -\nU 2 2 1 1 1 16 0 0 0 0 0 0 0 0 0\nE 2\n"
         self.check("the good log of the wrong ones is good", ran([PROGRAM, "replay"], good.encode()).returncode == 0)
         log = self.room / "wrong.log"
-        worlds = (["phylogeny", log], ["phylogeny", log, "--genotypes"], ["avida-files", log, "-o", self.room / "wrong"], ["map", log])
-        all = (*worlds, ["counts", log])
+        worlds = (["phylogeny", log], ["tasks", log], ["phylogeny", log, "--genotypes"], ["avida-files", log, "-o", self.room / "wrong"], ["map", log])
+        all = (*worlds, ["counts", log], ["plot", log]) if shutil.which("gnuplot") else (*worlds, ["counts", log])
         for old, new, said, tools in (
             ("L 2 2 1 0", "A 2 2 1 0", "{log}: this isn't a log: its first line doesn't begin with L", all),
             (good, "", "{log}: this isn't a log: it is empty", all),
-            (good, good[:9], "{log}: this log is cut in its first line", all),
+            (good, good[:9], "{log}: this log is cut in its first line", (*all, ["lineage", log, "0"])),
+            (good, good.replace("\n", "\r\n"), "{log}: its lines end with CR LF, and those of a log with LF alone", (*all, ["lineage", log, "0"])),
             ("wzcagcvf", "wzcagcv", "{log}:1: its field letters is no genome: short 7", worlds),
             ("wzcagcvf", "wzcagcvF", "{log}:1: its field letters is no genome: letter at 7", worlds),
             ("L 2 2 1 0", "L 2 2 1 2", "{log}:1: its cell isn't in the world", worlds),
@@ -499,16 +513,22 @@ class Logs:
             ("B 2 1 2 0 0", "B 2 1 2 0 -", "{log}:4: its line has - for who stood in cell 0, where 0 stands", worlds),
             ("B 2 1 2 0 0", "B 3 1 2 0 0", "{log}:4: its organism is 3, and the next one is 2", worlds),
             ("B 2 1 2 0 0", "B 2 1 3 0 0", "{log}:4: its update is 3, and 2 is due", worlds),
+            ("U 2 2 1 1 1 16 0", "U 2 2 1 1 1 16 +0", "{log}:5: its field count of NOT has '+0', which is no number", all),
             ("U 2 2 1", "U 2 2 ä", "{log}:5: its field births has 'Ã¤', which is no number", all),
             ("E 2\n", "E 2\nE 2\n", "{log}:7: a line stands after the E line", all),
             ("E 2\n", "E 3\n", "{log}:6: its update is 3, and the last one is 2", worlds),
             ("E 2\n", "E x\n", "{log}:6: its field updates has 'x', which is no number", all),
         ):
-            log.write_text(good.replace(old, new, 1), encoding="utf-8")
+            log.write_text(good.replace(old, new, 1), encoding="utf-8", newline="")
             for name, *words in tools:
                 done = ran([TOOLS / name, *words])
                 wanted = f"{name}: {said.format(log=log)}\n"
                 self.check(f"{name}: {said}", (done.returncode, done.stderr.decode()) == (1, wanted), done.stderr.decode())
+        log.write_text(good.replace("U 2", "I 3 2 1 1 wzcagcvf\nB 4 1 2 0 2 = -\nU 2"))
+        for name in ("map", "tasks"):
+            done = ran([TOOLS / name, log])
+            said = f"{name}: {log}: the lines of an update aren't in the order of docs/FORMATS.md\n"
+            self.check(f"{name}: a birth behind an event", (done.returncode, done.stderr.decode()) == (1, said), done.stderr)
         log.write_text(good.replace("p2q", "p8q"))
         done = ran([TOOLS / "phylogeny", log, "--genomes"])
         said = b"phylogeny: the line of organism 1: the change p8q has no place in a genome of 8 letters\n"
@@ -533,6 +553,10 @@ class Logs:
             (["phylogeny", "no/such"], "no/such: No such file or directory"),
             (["counts", "no/such"], "no/such: No such file or directory"),
             (["counts", self.events, "--every", 0], "--every 0: it is at least 1"),
+            (["plot", self.events, "--points", 0], "--points 0: it is at least 2"),
+            (["map", self.events, "--frames", 1], "--frames 1: it is at least 2"),
+            (["tasks", "/dev/null"], "/dev/null: this isn't a log: it is empty"),
+            (["lineage", "/dev/null", 0], "/dev/null: this isn't a log: it is empty"),
             (["avida-files", "no/such", "-o", self.room / "none"], "no/such: No such file or directory"),
             (["avida-files", self.events, "-o", self.events], f"{self.events}: File exists"),
             (["avida-files", self.events, "--every", 0], "--every 0: it is at least 1"),
