@@ -1,9 +1,12 @@
 #!/usr/bin/env python3
 """The steps of a sweep, which the Snakefile beside it puts in order.
 
-    sweep.py check SWEEP           names what is wrong with a sweep's file
-    sweep.py run FOLDER            makes the log and the tables of one run from FOLDER/configuration.toml
-    sweep.py summary SWEEP         makes the tables and the plots over those runs of a sweep that are finished
+    sweep.py check SWEEP                    names what is wrong with a sweep's file
+    sweep.py stage FOLDER SIZE UPDATE       makes the stages of one run up to an update
+    sweep.py run FOLDER SIZE KEEP           makes the log and the tables of one run from FOLDER/configuration.toml
+    sweep.py summary SWEEP                  makes the tables and the plots over those runs of a sweep that are finished
+
+SIZE is the number of updates of a stage, or 0 for runs in one piece. KEEP is logs, births or counts: what is kept.
 
 A file gets its name only when it is whole, so a step can be killed at any point. What README.md says of the files
 holds at any time.
@@ -12,11 +15,14 @@ holds at any time.
 import fcntl
 import gzip
 import json
+import math
 import os
 import re
+import shutil
 import statistics
 import subprocess
 import sys
+import time
 import zlib
 from contextlib import contextmanager, suppress
 from pathlib import Path
@@ -30,16 +36,19 @@ except ImportError:
 TOOLS = Path(__file__).resolve().parent.parent.parent / "tools"
 sys.path.insert(0, str(TOOLS))
 
-from avida_log import COLOURS, TASKS, Births, Fault, Update, first_updates, program, run, thinned  # noqa: E402
+from avida_log import COLOURS, TASKS, Births, Fault, Lines, Update, first_updates, program, run, thinned  # noqa: E402
 from firsts import firsts_of  # noqa: E402
 from scripts import script  # noqa: E402
+from settled import Ending  # noqa: E402
 from traces import gestation_of  # noqa: E402
 
-check_config, tasks_tool = script("check-config"), script("tasks")
+check_config, staged_run = script("check-config"), script("staged-run")
 
 COUNTS = ("update", "living", "births", "deaths", "genotypes", "merit", *(task.lower() for task in TASKS))
 NAME = re.compile(r"[A-Za-z0-9_-]+")
-PARTS = ("base", "settings", "seeds")
+PARTS = ("base", "settings", "seeds", "stage", "keep")
+KEEPS = ("logs", "births", "counts")
+MOST_UPDATES = 1_000_000
 POINTS = 200
 BLOCK = 1 << 20
 
@@ -48,21 +57,56 @@ BLOCK = 1 << 20
 
 
 class Run(NamedTuple):
-    """One world of a sweep: the name of its setting, its seed, its folder and the text of its configuration."""
+    """One world of a sweep: the name of its setting, its seed, its folder, the text of its configuration, the number of
+    updates of a stage, or 0, and what is kept of it."""
 
     setting: str
     seed: int
     folder: Path
     configuration: str
+    stage: int
+    keep: str
 
     def name(self):
         return f"{self.setting}, seed {self.seed}"
+
+    def document(self):
+        return tomllib.loads(self.configuration)
+
+    def updates(self):
+        return staged_run.updates_of(self.document())
+
+    def ends(self):
+        """The last updates of its stages."""
+        return [stage.end for stage in staged_run.stages_of(self.document(), self.stage)] if self.stage else []
+
+    def mark(self, end):
+        """The file that says that the stage with this end is made."""
+        return self.folder / "marks" / str(end)
+
+    def updates_done(self):
+        if self.is_finished():
+            return self.updates()
+        return max((end for end in self.ends() if self.mark(end).exists()), default=0)
+
+    def memory(self):
+        """The megabytes that its largest step may take: docs/GUIDE.md, "Limits in practice"."""
+        document, ends = self.document(), self.ends() or [self.updates()]
+        cells = math.prod(document.get(key, check_config.KEYS[key][1]) for key in ("width", "height"))
+        longest = max(end - begin for begin, end in zip([0, *ends], ends))
+        # A world, the genomes of a stage, and the births of the whole run, which a line of descent needs.
+        needed = 250 + cells * (7.5e-3 + 6e-6 * longest + 6e-7 * self.updates())
+        return 100 * math.ceil(needed / 100)
 
     def table(self, name):
         """The rows of one of the run's tables, without its header."""
         return [line.split("\t") for line in (self.folder / name).read_text().splitlines()[1:]]
 
     def is_finished(self):
+        """Whether the tables over all runs can have it."""
+        return all((self.folder / name).exists() for name in TABLES[:2])
+
+    def is_whole(self):
         return all((self.folder / name).exists() for name in TABLES)
 
     def fault(self, begun):
@@ -122,6 +166,18 @@ def seeds_of(value):
     return value
 
 
+def stage_of(value):
+    if type(value) is not int or not 1 <= value <= MOST_UPDATES:
+        raise Fault(f"stage is {value!r}: it is a number of updates from 1 to {MOST_UPDATES:,}")
+    return value
+
+
+def keep_of(value):
+    if value not in KEEPS:
+        raise Fault(f"keep is {value!r}: it is {', '.join(KEEPS[:-1])} or {KEEPS[-1]}")
+    return value
+
+
 def runs_of(path):
     """The runs of a sweep, once each of their configurations is known to be good. Their folders go by the file's name."""
     try:
@@ -147,6 +203,8 @@ def checked_runs(document, folder):
     if missing is not None:
         raise Fault(f"{missing} is missing")
     base, seeds = table_of(document.get("base", {}), "base"), seeds_of(document["seeds"])
+    stage = stage_of(document["stage"]) if "stage" in document else 0
+    keep = keep_of(document.get("keep", KEEPS[0]))
     if not isinstance(document["settings"], dict) or not document["settings"]:
         raise Fault("settings has a table for each setting, as [settings.plain]")
     for name, keys in document["settings"].items():
@@ -160,7 +218,7 @@ def checked_runs(document, folder):
             except check_config.Refused as refused:
                 which = f"setting {name}, seed {seed}" if seed != seeds[0] else f"setting {name}"
                 raise Fault(f"{which}: {refused.why} (bad input: {refused.reason})") from None
-            yield Run(name, seed, folder / name / str(seed), text)
+            yield Run(name, seed, folder / name / str(seed), text, stage, keep)
 
 
 def write(path, text):
@@ -251,38 +309,98 @@ def whole_log(folder):
     return updates
 
 
-def line_of_equ(folder, updates):
+def make_stages(folder, size, until=MOST_UPDATES):
+    """Makes the stages of a folder up to an update, where there are none of its present configuration."""
+    stages, text = folder / "stages", (folder / "configuration.toml").read_text(encoding="utf-8")
+    made_from = [(stages / "configuration.toml", text), (stages / "stage", f"{size}\n")]
+    if any(path.exists() and path.read_text(encoding="utf-8") != value for path, value in made_from):
+        shutil.rmtree(stages)
+    words = [TOOLS / "staged-run", folder / "configuration.toml", "--stage", size, "-o", stages, "--jobs", 1, "--until", until]
+    told = subprocess.run([sys.executable, *map(str, words)], capture_output=True, text=True, env=os.environ | {"AVIDA": program()})
+    if told.returncode:
+        raise Fault((told.stderr.strip().splitlines() or ["it was stopped"])[-1].removeprefix("staged-run: "))
+
+
+class Made(NamedTuple):
+    """The log of a run, the configuration that it was made from, its U lines, and where its saved worlds are."""
+
+    log: Path
+    configuration: Path
+    updates: list
+    worlds: Path | None
+
+
+def made_of(folder, size):
+    """Makes what is missing of a run's log."""
+    if not size:
+        updates = whole_log(folder)
+        return Made(folder / "log.gz", folder / "log.toml", updates, None)
+    make_stages(folder, size)
+    log = folder / "stages" / "log"
+    updates = [Update.of(line.split()) for line in Lines(log, "U")]
+    return Made(log, folder / "stages" / "configuration.toml", updates, folder / "stages" / "worlds")
+
+
+def line_of_equ(made):
     """The line of descent of one organism that does EQU, as the lines of tools/lineage.
 
     It is the organism in the least cell at the end whose trace shows EQU, and where there is none the first organism
     that was ever credited with it.
     """
-    at = TASKS.index("EQU")
+    at, updates = TASKS.index("EQU"), made.updates
     if not any(update.tasks[at] for update in updates):
         return ""
-    log, built = folder / "log.gz", program()
-    living = tasks_tool.living_of(built, log, updates[-1])[0] if updates[-1].tasks[at] else []
-    who = next((int(id) for _, id, letters in living if "EQU" in gestation_of(built, letters).tasks), None)
+    built = program()
+    living = Ending(made.log).rows() if updates[-1].tasks[at] else []
+    who = next((id for _, id, letters in living if "EQU" in gestation_of(built, letters).tasks), None)
     if who is None:
-        who = firsts_of(built, log, updates, folder / "log.toml", ("EQU",))["EQU"].birth.id
-    return "".join(" ".join(map(str, ("P", *fields))) + "\n" for fields in Births(log).line_to(who))
+        who = firsts_of(built, made.log, updates, made.configuration, ("EQU",), made.worlds)["EQU"].birth.id
+    return "".join(" ".join(map(str, ("P", *fields))) + "\n" for fields in Births(made.log).line_to(who))
 
 
-def run_one(folder):
+def keep_only(folder, made, keep):
+    """Removes what isn't kept of a run whose tables are made."""
+    if keep == "births":
+        with open(folder / "births.part", "wb") as part:
+            with gzip.GzipFile("", "wb", 5, part, mtime=0) as file:
+                file.writelines(f"{line}\n".encode("ascii") for line in Lines(made.log, "LBIUE"))
+            part.flush()
+            os.fsync(part)
+        os.replace(folder / "births.part", folder / "births.gz")
+    if keep != "logs":
+        for name in ("log.gz", "log.toml"):
+            (folder / name).unlink(missing_ok=True)
+        shutil.rmtree(folder / "stages", ignore_errors=True)
+
+
+@contextmanager
+def step_in(folder):
+    """A step in a run's folder. Where it fails, the reason stands in the folder too."""
     with held(folder):
         (folder / "fault.txt").unlink(missing_ok=True)
         try:
-            updates = whole_log(folder)
-            line = line_of_equ(folder, updates)
+            yield
         except (Fault, OSError) as fault:
             with suppress(OSError):
                 write(folder / "fault.txt", f"{fault}\n")
             raise Fault(f"{folder}: {fault}") from None
+
+
+def stage_one(folder, size, update):
+    with step_in(folder):
+        make_stages(folder, size, update)
+
+
+def run_one(folder, size, keep):
+    with step_in(folder):
+        made = made_of(folder, size)
+        updates = made.updates
         ends = updates[-1].tasks if updates else len(TASKS) * (0,)
         write_table(folder / "counts.tsv", COUNTS, ((*update[:-1], *update.tasks) for update in updates))
         rows = zip(TASKS, (first or "-" for first in first_updates(updates)), ends)
         write_table(folder / "tasks.tsv", ("task", "first_update", "counted_at_end"), rows)
-        write(folder / "line.txt", line)
+        write(folder / "line.txt", line_of_equ(made))
+        keep_only(folder, made, keep)
 
 
 # All runs.
@@ -314,7 +432,7 @@ def spread_of(values):
 def row_of(each):
     """The row of a run in the table of all runs."""
     counts, tasks = each.table("counts.tsv"), each.table("tasks.tsv")
-    line = (each.folder / "line.txt").read_text().splitlines()
+    line = (each.folder / "line.txt").read_text().splitlines() if each.is_whole() else []
     living, genotypes, merit = (int(counts[-1][COUNTS.index(what)]) if counts else 0 for what in ("living", "genotypes", "merit"))
     births = sum(int(row[COUNTS.index("births")]) for row in counts)
     mean = f"{merit / living:.6g}" if living else "-"
@@ -421,16 +539,43 @@ def draw(path, settings, points, panel, key):
 
 def unfinished(runs, begun):
     """Names each run that isn't finished, and why."""
-    named = [f"sweep: {each.name()}: {each.fault(begun)}" for each in runs if not each.is_finished()]
+    named = [f"sweep: {each.name()}: {each.fault(begun)}" for each in runs if not each.is_whole()]
     return "\n".join([*named, f"sweep: {len(named)} of {len(runs)} runs aren't finished; the same command again runs these alone"])
 
 
+def time_of(seconds):
+    return f"{seconds / 3600:.1f} h" if seconds >= 5400 else f"{seconds / 60:.0f} min" if seconds >= 90 else f"{seconds:.0f} s"
+
+
+class SweepProgress:
+    """How far a sweep is, as a line for standard error."""
+
+    def __init__(self, runs):
+        self.runs, self.begun, self.before = runs, time.monotonic(), sum(each.updates_done() for each in runs)
+        self.work = sum(each.updates() for each in runs)
+
+    def told(self):
+        done, spent = sum(each.updates_done() for each in self.runs), time.monotonic() - self.begun
+        finished = sum(each.is_whole() for each in self.runs)
+        text = f"sweep: {finished} of {len(self.runs)} runs, {100 * done // max(1, self.work)} % of their updates"
+        if done > self.before:
+            rate = (done - self.before) / spent
+            text += f", {rate:,.0f} updates/s, {time_of((self.work - done) / rate)} left"
+        return text
+
+
 def main():
-    steps = {"check": runs_of, "run": lambda path: run_one(Path(path)), "summary": summary}
-    if len(sys.argv) != 3 or sys.argv[1] not in steps:
+    steps = {
+        "check": (runs_of, str),
+        "stage": (stage_one, Path, int, int),
+        "run": (run_one, Path, int, str),
+        "summary": (summary, str),
+    }
+    step, *kinds = steps.get(sys.argv[1] if len(sys.argv) > 1 else "", (None,))
+    if len(sys.argv) != 2 + len(kinds) or not step:
         print(__doc__, file=sys.stderr)
         return 2
-    steps[sys.argv[1]](sys.argv[2])
+    step(*(kind(word) for kind, word in zip(kinds, sys.argv[2:])))
     return 0
 
 
