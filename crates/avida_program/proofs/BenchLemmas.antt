@@ -32,7 +32,7 @@ use Rattle.avida_program.specs.BenchText.{bench_config, bench_text, sums_text}
 use Rattle.avida_program.specs.Changes.{Work}
 use Rattle.avida_program.specs.FinalWorld.{LeavesFinal}
 use Rattle.avida_program.specs.Outcomes.{WritesText, stopped_by}
-use Rattle.avida_program.specs.Work.{CarriesOut}
+use Rattle.avida_program.specs.Commands.{CarriesOut}
 use Rattle.avida_program.proofs.StopLemmas.{put_stopped}
 
 -- one update more adds the bytes of its text
@@ -145,5 +145,5 @@ benched seed workers work told unread unwatched wrote left kept =
       watch_stays = λ e. unwatched;
       last_stays = kept;
       no_world = λ e. absurd (false≢true (sym e));
-      does = record { source_stays = unread; writes = wrote; leaves = left };
+      does = record { source_stays = unread; writes = wrote; last_world = left };
     }

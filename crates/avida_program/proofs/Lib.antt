@@ -9,8 +9,4 @@ pub mod ResumeLemmas
 pub mod SavedLemmas
 pub mod LongerRuns
 pub mod AdvanceLemmas
-pub mod ServesInputs
-pub mod ServesRuns
-pub mod Serves
 pub mod NothingDone
-pub mod Causes

@@ -12,7 +12,7 @@ use Rattle.avida_program.specs.Input.{configuration_of}
 use Rattle.avida_program.specs.BenchText.{bench_text}
 use Rattle.avida_program.specs.Changes.{Work}
 use Rattle.written_texts.specs.SinkChanges.{Stays, unchanged}
-use Rattle.avida_program.specs.Work.{Does, Obeys, Watches}
+use Rattle.avida_program.specs.Commands.{Does, Obeys, Watches}
 
 -- a watcher that has written nothing
 nothing_watched : (looks : Option ℕ) (read : Result ConfigValues Refusal) (work : Work)
@@ -32,35 +32,29 @@ untouched source out watch last = record {
 -- each command may run out of memory before anything was read, written or left
 does_nothing : (command : Command) (source : SourceState) (out watch : SinkState)
     (last : Option WorldValue) → Does command (untouched source out watch last) outcome.NoMemory
-does_nothing (Trace steps spelling low) source out watch last =
-    λ bytes is. record { reads = inl refl; last_stays = refl }
-does_nothing (Run workers looks) source out watch last = λ bytes is. record {
-  reads = inl refl;
-  watches = nothing_watched looks (configuration_of bytes) (untouched source out watch last) refl;
-  leaves = refl;
+does_nothing (Trace steps spelling low) source out watch last = λ bytes is. inl refl
+does_nothing (Run workers looks) source out watch last = record {
+  reads = λ bytes is. inl refl;
+  watches = λ bytes is. nothing_watched looks (configuration_of bytes)
+      (untouched source out watch last) refl;
+  last_world = λ e. absurd (cc);
+  replays = λ e. absurd (cc);
 }
 does_nothing (Lineage cell workers) source out watch last =
-    λ bytes is. record { reads = inl refl; leaves = refl }
+    record { reads = λ bytes is. inl refl; last_world = λ e. absurd (cc) }
 does_nothing (Bench seed workers) source out watch last = record {
   source_stays = refl;
   writes = stays_front (unchanged out) (bench_text seed) refl;
-  leaves = λ e. absurd (cc);
+  last_world = λ e. absurd (cc);
 }
-does_nothing (Assay count first workers) source out watch last =
-    λ bytes is. record { reads = inl refl; last_stays = refl }
-does_nothing (Save workers) source out watch last =
-    λ bytes is. record { reads = inl refl; last_stays = refl }
-does_nothing (Resume more workers) source out watch last =
-    λ bytes is. record { reads = inl refl; last_stays = refl }
-does_nothing (Advance more workers) source out watch last =
-    λ bytes is. record { reads = inl refl; last_stays = refl }
-does_nothing Replay source out watch last =
-    λ bytes is. record { reads = inl refl; last_stays = refl }
-does_nothing Upgrade source out watch last =
-    λ bytes is. record { reads = inl refl; last_stays = refl }
-does_nothing Tree source out watch last = λ bytes is. record { reads = inl refl; last_stays = refl }
-does_nothing (Landscape steps) source out watch last =
-    λ bytes is. record { reads = inl refl; last_stays = refl }
+does_nothing (Assay count first workers) source out watch last = λ bytes is. inl refl
+does_nothing (Save workers) source out watch last = λ bytes is. inl refl
+does_nothing (Resume more workers) source out watch last = λ bytes is. inl refl
+does_nothing (Advance more workers) source out watch last = λ bytes is. inl refl
+does_nothing Replay source out watch last = λ bytes is. inl refl
+does_nothing Upgrade source out watch last = λ bytes is. inl refl
+does_nothing Tree source out watch last = λ bytes is. inl refl
+does_nothing (Landscape steps) source out watch last = λ bytes is. inl refl
 
 -- memory ran out before anything was done, whatever the words give
 pub nothing_done : (command : Option Command) (source : SourceState) (out watch : SinkState)

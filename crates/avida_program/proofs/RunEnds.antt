@@ -1,23 +1,34 @@
 -- A run whose configuration was read, by how it ended.
-use Rattle.std.proofs.Common.{◌≡◌, ℕ, List, Option, None, Some, IfSome, Ok, refl, sym, inr}
+use Rattle.std.proofs.Common.{◌≡◌, ◌∙◌, ℕ, List, Option, None, Some, IfSome, Ok, refl, sym, ap, inr}
 use Rattle.std.proofs.lemmas.Bool.{false≢true}
 use Rattle.world_config.specs.Values.{ConfigValues}
+use Rattle.avida_port.specs.Ports.{SinkState}
+use Rattle.world_core.specs.WorldValue.{WorldValue, world_in}
 use Rattle.world_rules.specs.Laws.{ReplaysToLiving}
+use Rattle.world_rules.specs.WorldRun.{residents_of_world, world_after}
 use Rattle.avida_program.specs.declared.command.Command.TheVariants.{Lineage, Run}
 use Rattle.avida_program.specs.declared.outcome.Outcome.{Outcome}
 use Rattle.avida_program.specs.declared.outcome.Outcome.TheVariants as outcome
 use Rattle.written_texts.specs.declared.stop.WriteStop.{WriteStop}
 use Rattle.written_texts.specs.declared.stop.WriteStop.TheVariants as stop
-use Rattle.written_texts.specs.SinkChanges.{GainedText, Stays}
+use Rattle.written_texts.specs.SinkChanges.{Change, GainedText, Stays}
 use Rattle.avida_program.specs.Changes.{Work}
 use Rattle.avida_program.specs.Input.{configuration_of, lineage_input_of}
 use Rattle.avida_program.specs.Outcomes.{GivesInput, StopsWithin, outcome_at}
 use Rattle.logged_run.specs.RunStops.{StopsRun}
-use Rattle.logged_run.specs.RunText.{run_text}
-use Rattle.avida_program.specs.FinalWorld.{LeavesFinal}
+use Rattle.logged_run.specs.RunText.{IsFinalWorld, run_text}
+use Rattle.avida_program.specs.FinalWorld.{GainedLogOf, LeavesFinal}
 use Rattle.avida_program.specs.PathText.{path_text}
 use Rattle.logged_run.specs.WatchText.{GainedPictures}
-use Rattle.avida_program.specs.Work.{CarriesOut, Watches}
+use Rattle.avida_program.specs.Commands.{CarriesOut, Watches}
+
+-- the world after the last update, by its value
+final_is : (config : ConfigValues) (final world : WorldValue) → IsFinalWorld config final
+    → final ≡ world → world_after config config.updates ≡ world_in world
+final_is config final world is same =
+    sym (ap (world_after config) is.update)
+    ∙ sym (ap (λ (c : ConfigValues). world_after c final.update) is.config)
+    ∙ ap world_in same
 
 -- what the watcher of a run that came to its end leaves
 watched : (looks : Option ℕ) (bytes : List ℕ) (work : Work) (config : ConfigValues)
@@ -44,6 +55,18 @@ watch_wanted : (looks : Option ℕ) (bytes : List ℕ) (work : Work) (config : C
 watch_wanted None bytes work config is stops = tt
 watch_wanted (Some n) bytes work config is stops = inr (config, is, stops.pictures)
 
+-- the log of a run that came to its end replays to who lives in the world that it left
+gained_log : (out : Change SinkState) (config : ConfigValues) (final world : WorldValue)
+    → GainedText out (run_text config) → ReplaysToLiving config config.updates
+    → IsFinalWorld config final → final ≡ world → GainedLogOf out world
+gained_log out config final world gained log is same = record {
+  text = run_text config;
+  gained = gained;
+  lines = log.lines;
+  reads = log.good;
+  replays = log.replays ∙ ap residents_of_world (final_is config final world is same);
+}
+
 -- the run came to its end
 pub ran_to_end : (workers : ℕ) (looks : Option ℕ) (work : Work) (config : ConfigValues)
     → GivesInput configuration_of work.source config
@@ -58,10 +81,11 @@ ran_to_end workers looks work config read wrote pictures unwatched left replays 
   watch_stays = unwatched;
   last_stays = λ other. absurd (other refl);
   no_world = λ e. absurd (false≢true (sym e));
-  does = λ bytes told. record {
-    reads = (read.whole bytes told, (config, read.reads bytes told, wrote));
-    watches = watched looks bytes work config (read.reads bytes told) pictures;
-    leaves = (config, read.reads bytes told, record { world = left; replays = replays });
+  does = record {
+    reads = λ bytes is. (read.whole bytes is, (config, read.reads bytes is, wrote));
+    watches = λ bytes is. watched looks bytes work config (read.reads bytes is) pictures;
+    last_world = λ e bytes is. (config, read.reads bytes is, left);
+    replays = λ e world is. gained_log work.out config left.0 world wrote replays left.2 (cc (left.1, is));
   };
 }
 
@@ -77,10 +101,11 @@ run_stopped workers looks work config stop.Fault read stops unwatched kept = rec
   watch_stays = unwatched;
   last_stays = λ other. kept;
   no_world = λ e. absurd (false≢true (sym e));
-  does = λ bytes is. record {
-    reads = (stops.fault refl, (config, read.reads bytes is, stops.front));
-    watches = watch_faulted looks bytes work config (read.reads bytes is) stops;
-    leaves = kept;
+  does = record {
+    reads = λ bytes is. (stops.fault refl, (config, read.reads bytes is, stops.front));
+    watches = λ bytes is. watch_faulted looks bytes work config (read.reads bytes is) stops;
+    last_world = λ e. absurd (cc);
+    replays = λ e. absurd (cc);
   };
 }
 run_stopped workers looks work config stop.Memory read stops unwatched kept = record {
@@ -90,10 +115,11 @@ run_stopped workers looks work config stop.Memory read stops unwatched kept = re
   watch_stays = unwatched;
   last_stays = λ other. kept;
   no_world = λ e. absurd (false≢true (sym e));
-  does = λ bytes is. record {
-    reads = inr (config, read.reads bytes is, stops.front);
-    watches = watch_wanted looks bytes work config (read.reads bytes is) stops;
-    leaves = kept;
+  does = record {
+    reads = λ bytes is. inr (config, read.reads bytes is, stops.front);
+    watches = λ bytes is. watch_wanted looks bytes work config (read.reads bytes is) stops;
+    last_world = λ e. absurd (cc);
+    replays = λ e. absurd (cc);
   };
 }
 
@@ -114,9 +140,9 @@ descent_stopped cell workers work config outcome.WriteFault read unwatched kept 
   watch_stays = λ e. unwatched;
   last_stays = λ other. kept;
   no_world = λ e. absurd (false≢true (sym e));
-  does = λ bytes is. record {
-    reads = (stops.0, (config, read.reads bytes is, stops.1));
-    leaves = kept;
+  does = record {
+    reads = λ bytes is. (stops.0, (config, read.reads bytes is, stops.1));
+    last_world = λ e. absurd (cc);
   };
 }
 descent_stopped cell workers work config outcome.NoMemory read unwatched kept stops = record {
@@ -126,9 +152,9 @@ descent_stopped cell workers work config outcome.NoMemory read unwatched kept st
   watch_stays = λ e. unwatched;
   last_stays = λ other. kept;
   no_world = λ e. absurd (false≢true (sym e));
-  does = λ bytes is. record {
-    reads = inr (config, read.reads bytes is, stops);
-    leaves = kept;
+  does = record {
+    reads = λ bytes is. inr (config, read.reads bytes is, stops);
+    last_world = λ e. absurd (cc);
   };
 }
 
@@ -144,8 +170,8 @@ descent_written cell workers work config read unwatched wrote left = record {
   watch_stays = λ e. unwatched;
   last_stays = λ other. absurd (other refl);
   no_world = λ e. absurd (false≢true (sym e));
-  does = λ bytes is. record {
-    reads = (read.whole bytes is, (config, read.reads bytes is, wrote));
-    leaves = (config, read.reads bytes is, left);
+  does = record {
+    reads = λ bytes is. (read.whole bytes is, (config, read.reads bytes is, wrote));
+    last_world = λ e bytes is. (config, read.reads bytes is, left);
   };
 }

@@ -1,6 +1,5 @@
 -- What words give a command (docs/FORMATS.md, "The command line").
-use Rattle.std.specs.Prelude.{Bool, true, false, ℕ, List, [], ◌∷◌, Option, None, ◌≤◌, ⊤, codes, if◌then◌else◌, option_map, option_and_then}
-use Rattle.std.specs.Option.{option_map_or}
+use Rattle.std.specs.Prelude.{Bool, true, false, ℕ, List, [], ◌∷◌, Option, None, ◌≤◌, ⊤, codes, if◌then◌else◌, option_map}
 use Rattle.std.specs.Str.{bytes_eq}
 use Rattle.command_line.specs.Commands as told
 use Rattle.avida_program.specs.declared.command.Command.{Command}
@@ -82,46 +81,19 @@ command_of (name ∷ words) = command_named name words
 
 -- how often a command's watcher looks, where it has a watcher
 abbrev pub looks_of : Command → Option ℕ
-looks_of (Trace steps spelling low) = None
 looks_of (Run workers looks) = looks
-looks_of (Lineage cell workers) = None
-looks_of (Bench seed workers) = None
-looks_of (Assay count first workers) = None
-looks_of (Save workers) = None
-looks_of (Resume more workers) = None
-looks_of (Advance more workers) = None
-looks_of Replay = None
-looks_of Upgrade = None
-looks_of Tree = None
-looks_of (Landscape steps) = None
-
--- how often a watcher looks, where the words ask for one
-abbrev pub looks_told : List (List ℕ) → Option ℕ
-looks_told words = option_and_then looks_of (command_of words)
+looks_of _ = None
 
 -- a command that leaves the last world of a run
 abbrev pub leaves_world : Command → Bool
-leaves_world (Trace steps spelling low) = false
 leaves_world (Run workers looks) = true
 leaves_world (Lineage cell workers) = true
 leaves_world (Bench seed workers) = true
-leaves_world (Assay count first workers) = false
-leaves_world (Save workers) = false
-leaves_world (Resume more workers) = false
-leaves_world (Advance more workers) = false
-leaves_world Replay = false
-leaves_world Upgrade = false
-leaves_world Tree = false
-leaves_world (Landscape steps) = false
-
--- the words ask for such a command
-abbrev pub world_told : List (List ℕ) → Bool
-world_told words = option_map_or leaves_world (command_of words) false
+leaves_world _ = false
 
 -- a command that runs worlds has from 1 to 64 workers for each, `bench` has a seed of a
 -- configuration, and `assay` has from 1 to 64 of them
 abbrev pub HasNumbersInRange : Command → Type 0
-HasNumbersInRange (Trace steps spelling low) = ⊤
 HasNumbersInRange (Run workers looks) = (1 ≤ workers) × (workers ≤ 64)
 HasNumbersInRange (Lineage cell workers) = (1 ≤ workers) × (workers ≤ 64)
 HasNumbersInRange (Bench seed workers) =
@@ -131,7 +103,4 @@ HasNumbersInRange (Assay count first workers) = (1 ≤ count) × (count ≤ 64)
 HasNumbersInRange (Save workers) = (1 ≤ workers) × (workers ≤ 64)
 HasNumbersInRange (Resume more workers) = (1 ≤ workers) × (workers ≤ 64)
 HasNumbersInRange (Advance more workers) = (1 ≤ workers) × (workers ≤ 64)
-HasNumbersInRange Replay = ⊤
-HasNumbersInRange Upgrade = ⊤
-HasNumbersInRange Tree = ⊤
-HasNumbersInRange (Landscape steps) = ⊤
+HasNumbersInRange _ = ⊤

@@ -1,174 +1,155 @@
--- What `serve` promises of each command: a record a command, with a field for each sentence
--- (docs/FORMATS.md, "The command line" and "Statuses and fault lines").
-use Rattle.std.specs.Prelude.{◌≡◌, ◌≢◌, ◌⊎◌, ℕ, List, Option, None, Some, IfSome, Result, Ok, Err}
+-- What a call of the program reads, writes and leaves, by how it ends (docs/FORMATS.md, "The
+-- command line" and "Statuses and fault lines"). The number of workers changes nothing.
+use Rattle.std.specs.Prelude.{◌≡◌, ◌≢◌, ◌⊎◌, false, ℕ, List, [], Option, None, Some, IfSome, Result, Err}
 use Rattle.assay.specs.AssayText.{assay_text}
 use Rattle.landscape.specs.LandscapeText.{landscape_text}
 use Rattle.phylogeny.specs.TreeText.{tree_text}
 use Rattle.saved_worlds.specs.Resuming.{continued_text}
 use Rattle.world_config.specs.Values.{ConfigValues}
 use Rattle.world_core.specs.WorldValue.{WorldValue}
+use Rattle.written_texts.specs.SinkChanges.{Change, Stays, SinkFailed, GainedText, GainedFront}
+use Rattle.avida_port.specs.Ports.{SinkState}
+use Rattle.logged_run.specs.RunStops.{PutFailed}
+use Rattle.logged_run.specs.RunText.{run_text}
+use Rattle.logged_run.specs.WatchText.{GainedPictures, GainedPicturesFront}
 use Rattle.avida_program.specs.declared.command.Command.{Command}
-use Rattle.avida_program.specs.declared.command.Command.TheVariants.{Trace, Run, Lineage, Bench}
-use Rattle.avida_program.specs.declared.command.Command.TheVariants.{Assay, Save, Resume, Advance}
-use Rattle.avida_program.specs.declared.command.Command.TheVariants.{Replay, Upgrade, Tree}
-use Rattle.avida_program.specs.declared.command.Command.TheVariants.{Landscape}
-use Rattle.avida_program.specs.declared.command.Spelling.{Spelling}
+use Rattle.avida_program.specs.declared.command.Command.TheVariants.{Trace, Run, Lineage, Bench, Assay, Save, Resume, Advance, Replay, Upgrade, Tree, Landscape}
 use Rattle.avida_program.specs.declared.command.Spelling.TheVariants.{Letters}
-use Rattle.avida_program.specs.declared.status.Status.{Status}
-use Rattle.avida_program.specs.declared.status.Status.TheVariants as status
+use Rattle.avida_program.specs.declared.outcome.Outcome.{Outcome}
+use Rattle.avida_program.specs.declared.outcome.Outcome.TheVariants as outcome
 use Rattle.avida_program.specs.declared.refusal.Refusal.{Refusal}
+use Rattle.avida_program.specs.declared.status.Status.{Status}
 use Rattle.avida_program.specs.BenchText.{bench_config, bench_text}
-use Rattle.avida_program.specs.Changes.{Call, OnBytes, TellsOf}
-use Rattle.written_texts.specs.SinkChanges.{Stays, SinkFailed, GainedText, GainedFront}
-use Rattle.avida_program.specs.Input.{IsInputWith, assay_input_of, configuration_of, genome_of_input}
-use Rattle.avida_program.specs.Input.{lineage_input_of, log_input_of, resume_input_of}
+use Rattle.avida_program.specs.Changes.{OnBytes, SourceFailed, TellsOf, Work}
+use Rattle.avida_program.specs.CommandLine.{leaves_world, looks_of}
+use Rattle.avida_program.specs.FinalWorld.{GainedLogOf, LeavesFinal}
+use Rattle.avida_program.specs.Input.{IsInputWith, assay_input_of, configuration_of, genome_of_input, lineage_input_of, log_input_of, resume_input_of}
+use Rattle.avida_program.specs.Outcomes.{WritesText}
 use Rattle.avida_program.specs.PathText.{path_text}
 use Rattle.avida_program.specs.ReplayText.{replay_text, upgrade_text}
 use Rattle.avida_program.specs.SaveText.{advanced_text, save_text}
-use Rattle.avida_program.specs.FinalWorld.{GainedLogOf, LeavesFinal}
-use Rattle.logged_run.specs.RunText.{run_text}
-use Rattle.avida_program.specs.ServesInput.{ServesInput, ServesNothing}
-use Rattle.avida_program.specs.Status.{outcome_of_status}
-use Rattle.logged_run.specs.WatchText.{GainedPictures, GainedPicturesFront}
+use Rattle.avida_program.specs.Status.{status_of}
 use Rattle.avida_program.specs.TraceText.{trace_text}
 
--- `trace` of so many steps, with the inputs of which these are the low bits, on a source that tells
--- these bytes
-pub record ServesTrace (steps : ℕ) (spelling : Spelling) (low : List ℕ) (bytes : List ℕ)
-    (call : Call) (s : Status) : Type 0 where
-  pub serves : ServesInput None (genome_of_input spelling bytes)
-      (λ genome. trace_text genome low steps) call s
-  pub last_stays : Stays call.last
+-- an input is read and its text is written. All is done where the source was read to its end and
+-- `out` gained exactly the text. Of an input that is refused, or not read, nothing is written; where
+-- a put fails, perhaps one of a watcher, or memory runs out, a prefix of the text is
+abbrev pub ReadsInput : {A : Type 0} →
+    Option ℕ → Result A Refusal → (A → List ℕ) → Work → Outcome → Type 0
+ReadsInput looks read text_of work outcome.Done = (work.source.after.left ≡ Some [])
+    × IsInputWith read (λ input. GainedText work.out (text_of input))
+ReadsInput looks read text_of work outcome.BadWords = ⊥
+ReadsInput looks read text_of work (outcome.BadInput why) = Stays work.out × (read ≡ Err why)
+ReadsInput looks read text_of work outcome.ReadFault = Stays work.out × SourceFailed work.source
+ReadsInput looks read text_of work outcome.WriteFault = PutFailed looks work.out work.watch
+    × IsInputWith read (λ input. GainedFront work.out (text_of input))
+ReadsInput looks read text_of work outcome.NoMemory =
+    Stays work.out ⊎ IsInputWith read (λ input. GainedFront work.out (text_of input))
 
--- the watcher of a run, which looks at most so often, where the configuration is read so
-pub record ServesWatcher (looks : ℕ) (read : Result ConfigValues Refusal)
-    (call : Call) (s : Status) : Type 0 where
-  -- Done: `watch` gained the lines of pictures in rising order, that of the last update last
-  pub lines : s ≡ status.Done → IsInputWith read (λ config. GainedPictures looks config call.watch)
-  -- nothing is written of a configuration that was refused or not read
-  pub nothing : (s ≡ status.BadInput) ⊎ (s ≡ status.ReadFault) → Stays call.watch
-  pub nothing_refused : (why : Refusal) → read ≡ Err why → Stays call.watch
-  -- a prefix of such lines is written where a put fails or memory runs out
-  pub front : (s ≡ status.WriteFault) ⊎ (s ≡ status.NoMemory)
-      → (config : ConfigValues) → read ≡ Ok config → GainedPicturesFront looks config call.watch
-  -- the log is written to its end where no put to `out` failed, though one to `watch` did
-  pub whole_log : s ≡ status.WriteFault → ¬ SinkFailed call.out
-      → (config : ConfigValues) → read ≡ Ok config → GainedText call.out (run_text config)
+-- a command that reads its input so, and writes this text of it
+abbrev pub Reads : {A : Type 0} →
+    (List ℕ → Result A Refusal) → (A → List ℕ) → Work → Outcome → Type 0
+Reads input_of text_of work told =
+    OnBytes work.source (λ bytes. ReadsInput None (input_of bytes) text_of work told)
 
--- `run`, perhaps with a watcher, on a source that tells these bytes
-pub record ServesRun (looks : Option ℕ) (bytes : List ℕ) (call : Call) (s : Status) : Type 0 where
-  -- what is read and written, and why the run ends
-  pub serves : ServesInput looks (configuration_of bytes) run_text call s
-  pub watched : IfSome looks (λ n. ServesWatcher n (configuration_of bytes) call s)
+-- where a put failed, a watcher of so many looks has written pictures or a prefix of their lines,
+-- and the log is whole unless a put to `out` failed
+pub record StopsWatched (looks : ℕ) (work : Work) (config : ConfigValues) : Type 0 where
+  pub pictures : GainedPicturesFront looks config work.watch
+  pub whole_log : ¬ SinkFailed work.out → GainedText work.out (run_text config)
+
+-- what the watcher of a run has written, where the configuration is read so
+abbrev pub Watches : ℕ → Result ConfigValues Refusal → Work → Outcome → Type 0
+Watches looks read work outcome.Done =
+    IsInputWith read (λ config. GainedPictures looks config work.watch)
+Watches looks read work outcome.BadWords = ⊥
+Watches looks read work (outcome.BadInput why) = Stays work.watch
+Watches looks read work outcome.ReadFault = Stays work.watch
+Watches looks read work outcome.WriteFault = IsInputWith read (StopsWatched looks work)
+Watches looks read work outcome.NoMemory = Stays work.watch
+    ⊎ IsInputWith read (λ config. GainedPicturesFront looks config work.watch)
+
+-- `run`, perhaps with a watcher
+pub record Runs (looks : Option ℕ) (work : Work) (told : Outcome) : Type 0 where
+  pub reads : OnBytes work.source (λ bytes.
+      ReadsInput looks (configuration_of bytes) run_text work told)
+  pub watches : OnBytes work.source (λ bytes.
+      IfSome looks (λ n. Watches n (configuration_of bytes) work told))
   -- Done: the world after the last update is left
-  pub last_world : s ≡ status.Done
-      → IsInputWith (configuration_of bytes) (LeavesFinal call.last)
+  pub last_world : told ≡ outcome.Done → OnBytes work.source (λ bytes.
+      IsInputWith (configuration_of bytes) (LeavesFinal work.last))
   -- Done: what `out` gained is a log that replays to who lives in the world that is left
-  pub replays : s ≡ status.Done → (world : WorldValue) → call.last.after ≡ Some world
-      → GainedLogOf call.out world
-  -- else what was there stays
-  pub last_stays : s ≢ status.Done → Stays call.last
+  pub replays : told ≡ outcome.Done → (world : WorldValue) → work.last.after ≡ Some world
+      → GainedLogOf work.out world
 
--- `lineage` of a cell, on a source that tells these bytes
-pub record ServesLineage (cell : ℕ) (bytes : List ℕ) (call : Call) (s : Status) : Type 0 where
-  -- what is read and written; a cell that is not in the world is refused
-  pub serves :
-      ServesInput None (lineage_input_of cell bytes) (λ config. path_text config cell) call s
+-- `lineage` of a cell
+pub record Descends (cell : ℕ) (work : Work) (told : Outcome) : Type 0 where
+  -- a cell that is not in the world is refused
+  pub reads : Reads (lineage_input_of cell) (λ config. path_text config cell) work told
   -- Done: the world after the last update is left
-  pub last_world : s ≡ status.Done
-      → IsInputWith (lineage_input_of cell bytes) (LeavesFinal call.last)
-  -- else what was there stays
-  pub last_stays : s ≢ status.Done → Stays call.last
+  pub last_world : told ≡ outcome.Done → OnBytes work.source (λ bytes.
+      IsInputWith (lineage_input_of cell bytes) (LeavesFinal work.last))
 
--- `bench` of a seed
-pub record ServesBench (seed : ℕ) (call : Call) (s : Status) : Type 0 where
-  -- nothing is read, so no read fails and no input is refused
-  pub source_stays : Stays call.source
-  pub ends : (s ≡ status.Done) ⊎ (s ≡ status.WriteFault) ⊎ (s ≡ status.NoMemory)
-  -- Done: `out` gained exactly the text of the seed, and the world after the last update is left
-  pub text : s ≡ status.Done → GainedText call.out (bench_text seed)
-  pub last_world : s ≡ status.Done → LeavesFinal call.last (bench_config seed)
-  -- else a prefix of the text is written, and what was there stays
-  pub front : s ≢ status.Done → GainedFront call.out (bench_text seed)
-  pub last_stays : s ≢ status.Done → Stays call.last
-  pub write_fault : s ≡ status.WriteFault → SinkFailed call.out
-  pub watch_stays : Stays call.watch
-  pub tells : TellsOf call.err (outcome_of_status {A = ℕ} (Ok seed) s)
+-- `bench` of a seed, which reads nothing
+pub record Benches (seed : ℕ) (work : Work) (told : Outcome) : Type 0 where
+  pub source_stays : Stays work.source
+  pub writes : WritesText (bench_text seed) work.out told
+  -- Done: the world after the last update is left
+  pub last_world : told ≡ outcome.Done → LeavesFinal work.last (bench_config seed)
 
--- `assay` of so many seeds, from the first one on, on a source that tells these bytes
-pub record ServesAssay (count first : ℕ) (bytes : List ℕ) (call : Call) (s : Status)
+-- what each command reads, writes and leaves
+abbrev pub Does : Command → Work → Outcome → Type 0
+Does (Trace steps spelling low) work told =
+    Reads (genome_of_input spelling) (λ genome. trace_text genome low steps) work told
+Does (Run workers looks) work told = Runs looks work told
+Does (Lineage cell workers) work told = Descends cell work told
+Does (Bench seed workers) work told = Benches seed work told
+Does (Assay count first workers) work told =
+    Reads (assay_input_of count) (λ config. assay_text config first count) work told
+Does (Save workers) work told = Reads configuration_of save_text work told
+Does (Resume more workers) work told =
+    Reads (resume_input_of more) (λ state. continued_text state more) work told
+Does (Advance more workers) work told =
+    Reads (resume_input_of more) (λ state. advanced_text state more) work told
+Does Replay work told = Reads log_input_of replay_text work told
+Does Upgrade work told = Reads log_input_of upgrade_text work told
+Does Tree work told = Reads log_input_of tree_text work told
+Does (Landscape steps) work told =
+    Reads (genome_of_input Letters) (λ genome. landscape_text genome steps) work told
+
+-- a command is carried out, and ends so
+pub record CarriesOut (command : Command) (work : Work) (told : Outcome) : Type 0 where
+  -- the words are good, and each fault has its cause, whatever the streams tell
+  pub words : told ≢ outcome.BadWords
+  pub read_fault : told ≡ outcome.ReadFault → SourceFailed work.source
+  pub write_fault : told ≡ outcome.WriteFault → PutFailed (looks_of command) work.out work.watch
+  -- what stays: the watch without a watcher, and the last world but where all is done and the
+  -- command leaves one
+  pub watch_stays : looks_of command ≡ None → Stays work.watch
+  pub last_stays : told ≢ outcome.Done → Stays work.last
+  pub no_world : leaves_world command ≡ false → Stays work.last
+  -- what the command itself does
+  pub does : Does command work told
+
+-- the words give no command: they are refused, unless memory runs out, and nothing is read, written
+-- or left
+pub record DoesNothing (work : Work) (told : Outcome) : Type 0 where
+  pub refused : (told ≡ outcome.BadWords) ⊎ (told ≡ outcome.NoMemory)
+  pub source_stays : Stays work.source
+  pub out_stays : Stays work.out
+  pub watch_stays : Stays work.watch
+  pub last_stays : Stays work.last
+
+-- what the words give is carried out, and ends so
+abbrev pub Obeys : Option Command → Work → Outcome → Type 0
+Obeys None work told = DoesNothing work told
+Obeys (Some command) work told = CarriesOut command work told
+
+-- a call ends with this status: what it did by its outcome, which is the status and the reason of a
+-- refusal, and the line on `err` that tells of it
+pub record Serves (command : Option Command) (work : Work) (err : Change SinkState) (s : Status)
     : Type 0 where
-  -- what is read and written; worlds that have too many cells together are refused
-  pub serves : ServesInput None (assay_input_of count bytes)
-      (λ config. assay_text config first count) call s
-  pub last_stays : Stays call.last
-
--- `save`, on a source that tells these bytes
-pub record ServesSave (bytes : List ℕ) (call : Call) (s : Status) : Type 0 where
-  -- what is read and written
-  pub serves : ServesInput None (configuration_of bytes) save_text call s
-  pub last_stays : Stays call.last
-
--- `resume` with so many more updates, on a source that tells these bytes
-pub record ServesResume (more : ℕ) (bytes : List ℕ) (call : Call) (s : Status) : Type 0 where
-  -- what is read and written; a saved world that would go past the greatest update is refused
-  pub serves :
-      ServesInput None (resume_input_of more bytes) (λ state. continued_text state more) call s
-  pub last_stays : Stays call.last
-
--- `advance` by so many more updates, on a source that tells these bytes
-pub record ServesAdvance (more : ℕ) (bytes : List ℕ) (call : Call) (s : Status) : Type 0 where
-  -- what is read and written; a saved world that would go past the greatest update is refused
-  pub serves :
-      ServesInput None (resume_input_of more bytes) (λ state. advanced_text state more) call s
-  pub last_stays : Stays call.last
-
--- `replay`, on a source that tells these bytes
-pub record ServesReplay (bytes : List ℕ) (call : Call) (s : Status) : Type 0 where
-  pub serves : ServesInput None (log_input_of bytes) replay_text call s
-  pub last_stays : Stays call.last
-
--- `upgrade`, on a source that tells these bytes
-pub record ServesUpgrade (bytes : List ℕ) (call : Call) (s : Status) : Type 0 where
-  pub serves : ServesInput None (log_input_of bytes) upgrade_text call s
-  pub last_stays : Stays call.last
-
--- `tree`, on a source that tells these bytes
-pub record ServesTree (bytes : List ℕ) (call : Call) (s : Status) : Type 0 where
-  pub serves : ServesInput None (log_input_of bytes) tree_text call s
-  pub last_stays : Stays call.last
-
--- `landscape` of so many steps, on a source that tells these bytes
-pub record ServesLandscape (steps : ℕ) (bytes : List ℕ) (call : Call) (s : Status)
-    : Type 0 where
-  pub serves :
-      ServesInput None (genome_of_input Letters bytes)
-      (λ genome. landscape_text genome steps) call s
-  pub last_stays : Stays call.last
-
--- a call of each command; the number of workers changes nothing
-abbrev pub ServesCommand : Command → Call → Status → Type 0
-ServesCommand (Trace steps spelling low) call s =
-    OnBytes call.source (λ bytes. ServesTrace steps spelling low bytes call s)
-ServesCommand (Run workers looks) call s =
-    OnBytes call.source (λ bytes. ServesRun looks bytes call s)
-ServesCommand (Lineage cell workers) call s =
-    OnBytes call.source (λ bytes. ServesLineage cell bytes call s)
-ServesCommand (Bench seed workers) call s = ServesBench seed call s
-ServesCommand (Assay count first workers) call s =
-    OnBytes call.source (λ bytes. ServesAssay count first bytes call s)
-ServesCommand (Save workers) call s = OnBytes call.source (λ bytes. ServesSave bytes call s)
-ServesCommand (Resume more workers) call s =
-    OnBytes call.source (λ bytes. ServesResume more bytes call s)
-ServesCommand (Advance more workers) call s =
-    OnBytes call.source (λ bytes. ServesAdvance more bytes call s)
-ServesCommand Replay call s = OnBytes call.source (λ bytes. ServesReplay bytes call s)
-ServesCommand Upgrade call s = OnBytes call.source (λ bytes. ServesUpgrade bytes call s)
-ServesCommand Tree call s = OnBytes call.source (λ bytes. ServesTree bytes call s)
-ServesCommand (Landscape steps) call s =
-    OnBytes call.source (λ bytes. ServesLandscape steps bytes call s)
-
--- a call of the program, by the command that the words give
-abbrev pub Serves : Option Command → Call → Status → Type 0
-Serves None call s = ServesNothing call s
-Serves (Some command) call s = ServesCommand command call s
+  pub told : Outcome
+  pub is_told : s ≡ status_of told
+  pub obeys : Obeys command work told
+  pub tells : TellsOf err told

@@ -9,10 +9,8 @@ pub mod SaveText
 pub mod ResumedRun
 pub mod AdvancedRun
 pub mod Changes
-pub mod ServesInput
-pub mod Commands
 pub mod Outcomes
 pub mod FinalWorld
 pub mod BenchText
 pub mod BenchSums
-pub mod Work
+pub mod Commands

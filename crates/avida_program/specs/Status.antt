@@ -1,5 +1,5 @@
 -- Statuses, and the lines that tell of them (docs/FORMATS.md, "Statuses and fault lines").
-use Rattle.std.specs.Prelude.{ℕ, ◌&&◌, nat_le, if◌then◌else◌, List, [], ◌++◌, Result, Ok, Err, map, take, codes, decimal}
+use Rattle.std.specs.Prelude.{ℕ, ◌&&◌, nat_le, if◌then◌else◌, List, [], ◌++◌, map, take, codes, decimal}
 use Rattle.std.specs.Fmt.{signed_decimal}
 use Rattle.avida_program.specs.declared.status.Status.{Status}
 use Rattle.avida_program.specs.declared.status.Status.TheVariants as status
@@ -34,21 +34,6 @@ status_of (outcome.BadInput why) = status.BadInput
 status_of outcome.ReadFault = status.ReadFault
 status_of outcome.WriteFault = status.WriteFault
 status_of outcome.NoMemory = status.NoMemory
-
--- the outcome that a status tells of, where the input reads so
-abbrev pub outcome_of_status : {A : Type 0} → Result A Refusal → Status → Outcome
-outcome_of_status read status.Done = outcome.Done
-outcome_of_status read status.BadWords = outcome.BadWords
-outcome_of_status (Ok input) status.BadInput = outcome.Done
-outcome_of_status (Err why) status.BadInput = outcome.BadInput why
-outcome_of_status read status.ReadFault = outcome.ReadFault
-outcome_of_status read status.WriteFault = outcome.WriteFault
-outcome_of_status read status.NoMemory = outcome.NoMemory
-
--- the outcome that a status tells of, where the words give no command
-abbrev pub told_by_words : Status → Outcome
-told_by_words status.NoMemory = outcome.NoMemory
-told_by_words _ = outcome.BadWords
 
 -- why letters, or a text, are no genome; running out of memory refuses no input
 abbrev pub genome_reason : GenomeStop → List ℕ

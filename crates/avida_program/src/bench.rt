@@ -10,7 +10,7 @@ ghost use Rattle.avida_program.specs.BenchText.{bench_config, bench_text, sums_t
 ghost use Rattle.written_texts.specs.SinkChanges.{change, unchanged};
 ghost use Rattle.avida_program.specs.Outcomes.{WritesText};
 ghost use Rattle.logged_run.specs.RunText.{IsFinalWorld};
-ghost use Rattle.avida_program.specs.Work.{CarriesOut};
+ghost use Rattle.avida_program.specs.Commands.{CarriesOut};
 
 use crate::outcome::Outcome;
 use crate::run::leave;

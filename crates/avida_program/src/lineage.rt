@@ -10,7 +10,7 @@ ghost use Rattle.written_texts.specs.SinkChanges.{GainedText, change, unchanged}
 ghost use Rattle.avida_program.specs.Outcomes.{StopsWithin, WritesText};
 ghost use Rattle.avida_program.specs.PathText.{origin_text, parent_text, path_line, path_lines, path_text, place_text};
 ghost use Rattle.logged_run.specs.RunText.{IsFinalWorld};
-ghost use Rattle.avida_program.specs.Work.{CarriesOut};
+ghost use Rattle.avida_program.specs.Commands.{CarriesOut};
 
 use crate::input::read_config_with;
 use crate::outcome::{Outcome, ended};

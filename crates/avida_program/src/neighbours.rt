@@ -9,7 +9,7 @@ ghost use Rattle.avida_program.specs.declared.command.Command.TheVariants.{Lands
 ghost use Rattle.written_texts.specs.SinkChanges.{change, unchanged};
 ghost use Rattle.avida_program.specs.Outcomes.{WritesText};
 ghost use Rattle.written_texts.specs.Pieces.{Writes};
-ghost use Rattle.avida_program.specs.Work.{CarriesOut};
+ghost use Rattle.avida_program.specs.Commands.{CarriesOut};
 
 use crate::Spelling;
 use crate::input::read_genome;

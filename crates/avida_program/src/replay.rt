@@ -10,7 +10,7 @@ ghost use Rattle.written_texts.specs.SinkChanges.{change, unchanged};
 ghost use Rattle.avida_program.specs.Outcomes.{WritesText};
 ghost use Rattle.written_texts.specs.Pieces.{Writes};
 ghost use Rattle.avida_program.specs.ReplayText.{replay_text, resident_line};
-ghost use Rattle.avida_program.specs.Work.{CarriesOut};
+ghost use Rattle.avida_program.specs.Commands.{CarriesOut};
 
 use crate::input::read_livings;
 use crate::outcome::{Outcome, ended};

@@ -8,7 +8,7 @@ ghost use Rattle.written_texts.specs.WrittenText.{WritesAll};
 ghost use Rattle.avida_program.specs.declared.command.Command.TheVariants.{Save};
 ghost use Rattle.avida_program.specs.Outcomes.{WritesText};
 ghost use Rattle.avida_program.specs.SaveText.{save_text};
-ghost use Rattle.avida_program.specs.Work.{CarriesOut};
+ghost use Rattle.avida_program.specs.Commands.{CarriesOut};
 
 use crate::input::read_config;
 use crate::outcome::{Outcome, written};

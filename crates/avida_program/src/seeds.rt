@@ -9,7 +9,7 @@ ghost use Rattle.assay.specs.AssayText.{assay_line, assay_numbers, assay_text, a
 ghost use Rattle.avida_program.specs.declared.command.Command.TheVariants as command;
 ghost use Rattle.written_texts.specs.SinkChanges.{change, unchanged};
 ghost use Rattle.avida_program.specs.Outcomes.{WritesText};
-ghost use Rattle.avida_program.specs.Work.{CarriesOut};
+ghost use Rattle.avida_program.specs.Commands.{CarriesOut};
 
 use crate::input::read_config_for;
 use crate::outcome::{Outcome, ended};

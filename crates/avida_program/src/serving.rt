@@ -1,12 +1,9 @@
 // The whole program.
-ghost use Rattle.std.specs.Prelude.{◌≡◌, ◌≢◌, false, None, map, string_bytes};
-ghost use Rattle.avida_port.specs.Faults.{Rose};
-ghost use Rattle.avida_program.specs.CommandLine.{HasNumbersInRange, command_of, looks_told, world_told};
-ghost use Rattle.logged_run.specs.RunStops.{PutFailed};
-ghost use Rattle.avida_program.specs.Changes.{TellsOf, TellsOfStatus};
+ghost use Rattle.std.specs.Prelude.{map, string_bytes};
+ghost use Rattle.avida_program.specs.Changes.{TellsOf};
+ghost use Rattle.avida_program.specs.CommandLine.{HasNumbersInRange, command_of};
+ghost use Rattle.avida_program.specs.Commands.{CarriesOut, Obeys, Serves};
 ghost use Rattle.written_texts.specs.SinkChanges.{change};
-ghost use Rattle.avida_program.specs.Commands.{Serves};
-ghost use Rattle.avida_program.specs.Work.{CarriesOut, Obeys};
 
 use crate::Status;
 use crate::advance::advance;
@@ -115,8 +112,7 @@ fn obey<
     last: &mut Option<World>,
     gate: &G,
 ) -> Outcome
-    ensures bad_words { result ≡ Outcome.BadWords → command_of (map string_bytes words.now) ≡ None }
-    ensures obeys { Obeys (command_of (map string_bytes words.now)) (record {
+    ensures { Obeys (command_of (map string_bytes words.now)) (record {
       source = change (S.seen source.old) (S.seen source.new);
       out = change (O.seen out.old) (O.seen out.new);
       watch = change (W.seen watch.old) (W.seen watch.new);
@@ -152,27 +148,12 @@ pub fn serve<
     last: &mut Option<World>,
     gate: &G,
 ) -> Status
-    // These hold also where the source and the sinks tell no bytes.
-    ensures read_fault { result ≡ Status.ReadFault
-        → Rose (S.seen source.old).faults (S.seen source.new).faults }
-    ensures write_fault { result ≡ Status.WriteFault
-        → PutFailed (looks_told (map string_bytes words.now))
-        (change (O.seen out.old) (O.seen out.new)) (change (W.seen watch.old) (W.seen watch.new)) }
-    ensures bad_words { result ≡ Status.BadWords → command_of (map string_bytes words.now) ≡ None }
-    ensures watch_stays { looks_told (map string_bytes words.now) ≡ None
-        → W.seen watch.new ≡ W.seen watch.old }
-    ensures last_stays { result ≢ Status.Done → last.new ≡ last.old }
-    ensures no_world { world_told (map string_bytes words.now) ≡ false → last.new ≡ last.old }
-    ensures tells { TellsOfStatus (change (E.seen err.old) (E.seen err.new)) result }
-
-    // What the command did, by its row.
     ensures serves { Serves (command_of (map string_bytes words.now)) (record {
       source = change (S.seen source.old) (S.seen source.new);
       out = change (O.seen out.old) (O.seen out.new);
       watch = change (W.seen watch.old) (W.seen watch.new);
-      err = change (E.seen err.old) (E.seen err.new);
       last = change last.old last.new;
-    }) result }
+    }) (change (E.seen err.old) (E.seen err.new)) result }
 {
     let outcome = obey(rt, alloc, words, source, out, watch, last, gate);
     write_fault_line(err, &outcome);

@@ -7,7 +7,7 @@ ghost use Rattle.avida_program.specs.declared.command.Command.TheVariants.{Trace
 ghost use Rattle.written_texts.specs.SinkChanges.{change, unchanged};
 ghost use Rattle.avida_program.specs.Outcomes.{WritesText};
 ghost use Rattle.avida_program.specs.TraceText.{trace_lines, trace_text};
-ghost use Rattle.avida_program.specs.Work.{CarriesOut};
+ghost use Rattle.avida_program.specs.Commands.{CarriesOut};
 
 use crate::Spelling;
 use crate::input::read_genome;

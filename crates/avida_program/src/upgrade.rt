@@ -8,7 +8,7 @@ ghost use Rattle.avida_program.specs.declared.command.Command.TheVariants.{Upgra
 ghost use Rattle.written_texts.specs.SinkChanges.{change, unchanged};
 ghost use Rattle.avida_program.specs.Outcomes.{WritesText};
 ghost use Rattle.avida_program.specs.ReplayText.{upgrade_text};
-ghost use Rattle.avida_program.specs.Work.{CarriesOut};
+ghost use Rattle.avida_program.specs.Commands.{CarriesOut};
 
 use crate::input::read_lines;
 use crate::outcome::{Outcome, ended};
