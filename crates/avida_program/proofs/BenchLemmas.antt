@@ -19,21 +19,20 @@ use Rattle.world_config.specs.Values.{ConfigValues}
 use Rattle.world_core.specs.WorldValue.{WorldValue}
 use Rattle.world_rules.specs.LogText.{end_text, head_text, log_text, update_text, updates_text}
 use Rattle.world_rules.specs.Statistics.{stats_of}
-use Rattle.written_texts.specs.SinkChanges.{Stays, change}
+use Rattle.written_texts.specs.SinkChanges.{Change, change, unchanged}
+use Rattle.written_texts.specs.WrittenText.{WritesAll}
+use Rattle.written_texts.specs.declared.stop.WriteStop.{WriteStop}
+use Rattle.written_texts.specs.declared.stop.WriteStop.TheVariants as stop
 use Rattle.assay.specs.Assay.{births_until}
 use Rattle.assay.proofs.SumLemmas.{births_more}
 use Rattle.avida_program.specs.declared.bench.Counted.{Counted}
 use Rattle.avida_program.specs.declared.bench.Sums.{Sums}
 use Rattle.avida_program.specs.declared.command.Command.TheVariants.{Bench}
-use Rattle.avida_program.specs.declared.outcome.Outcome.{Outcome}
-use Rattle.avida_program.specs.declared.outcome.Outcome.TheVariants as outcome
 use Rattle.avida_program.specs.BenchSums.{IsCounted, IsSummed}
 use Rattle.avida_program.specs.BenchText.{bench_config, bench_text, sums_text}
-use Rattle.avida_program.specs.Changes.{Work}
 use Rattle.avida_program.specs.FinalWorld.{LeavesFinal}
-use Rattle.avida_program.specs.Outcomes.{WritesText, stopped_by}
+use Rattle.avida_program.specs.Endings.{error_at}
 use Rattle.avida_program.specs.Commands.{CarriesOut}
-use Rattle.avida_program.proofs.StopLemmas.{put_stopped}
 
 -- one update more adds the bytes of its text
 bytes_more : (config : ConfigValues) (n : ℕ)
@@ -123,27 +122,51 @@ sums_told config world sums stats text so told is =
     ∙ ap (stats_of config) so.final.update in
     rw (← counted, ← so.births, ← so.bytes) is
 
--- a put of `bench`'s text, or of a prefix of it
-pub put_wrote : {a b : SinkState} {text : List ℕ} (stop : SinkStop)
-    → Puts {T = Unit {0}} a b text (Err stop)
-    → WritesText text (change a b) (stopped_by stop)
-put_wrote Fault puts = put_stopped {T = Unit {0}} _ puts refl
-put_wrote Memory puts = put_stopped {T = Unit {0}} _ puts refl
+-- all of `bench` is done
+pub benched : {a b : SinkState} (seed workers : ℕ) (source : SourceState) (watch : SinkState)
+    (last : Change (Option WorldValue))
+    → WritesAll {T = Unit {0}} a b (bench_text seed) (Ok tt) → LeavesFinal last (bench_config seed)
+    → CarriesOut (Bench seed workers) (record {
+      source = unchanged source;
+      out = change a b;
+      watch = unchanged watch;
+      last = last;
+    }) (Ok tt)
+benched seed workers source watch last wrote left = record {
+  words = λ e. cc;
+  read_fault = λ e. absurd (cc);
+  write_fault = λ e. absurd (cc);
+  watch_stays = λ e. refl;
+  last_stays = tt;
+  no_world = λ e. absurd (false≢true (sym e));
+  does = record { source_stays = refl; writes = wrote.ok; last_world = left };
+}
 
--- what writes the text of `bench`, and leaves its world where all is done, carries it out
-pub benched : (seed workers : ℕ) (work : Work) (told : Outcome)
-    → Stays work.source → Stays work.watch → WritesText (bench_text seed) work.out told
-    → (told ≡ outcome.Done → LeavesFinal work.last (bench_config seed))
-    → (told ≢ outcome.Done → Stays work.last)
-    → CarriesOut (Bench seed workers) work told
-benched seed workers work told unread unwatched wrote left kept =
-    let Writes : Outcome → Type 0 = WritesText (bench_text seed) work.out in
-    record {
-      words = λ e. subst Writes e wrote;
-      read_fault = λ e. absurd (subst Writes e wrote);
-      write_fault = λ e. (subst Writes e wrote).0;
-      watch_stays = λ e. unwatched;
-      last_stays = kept;
-      no_world = λ e. absurd (false≢true (sym e));
-      does = record { source_stays = unread; writes = wrote; last_world = left };
-    }
+-- `bench` stopped
+pub bench_stopped : {T : Type 0} {a b : SinkState} (seed workers : ℕ) (source : SourceState)
+    (watch : SinkState) (last : Option WorldValue) (e : WriteStop)
+    → WritesAll {T = T} a b (bench_text seed) (Err e)
+    → CarriesOut (Bench seed workers) (record {
+      source = unchanged source;
+      out = change a b;
+      watch = unchanged watch;
+      last = unchanged last;
+    }) (Err (error_at e))
+bench_stopped seed workers source watch last stop.Fault stops = record {
+  words = λ e. cc;
+  read_fault = λ e. absurd (cc);
+  write_fault = λ e. stops.fault refl;
+  watch_stays = λ e. refl;
+  last_stays = refl;
+  no_world = λ e. refl;
+  does = record { source_stays = refl; writes = (stops.fault refl, stops.err); last_world = tt };
+}
+bench_stopped seed workers source watch last stop.Memory stops = record {
+  words = λ e. cc;
+  read_fault = λ e. absurd (cc);
+  write_fault = λ e. absurd (cc);
+  watch_stays = λ e. refl;
+  last_stays = refl;
+  no_world = λ e. refl;
+  does = record { source_stays = refl; writes = stops.err; last_world = tt };
+}

@@ -1,7 +1,8 @@
 pub mod TraceLemmas
 pub mod ListTexts
 pub mod RangeLemmas
-pub mod StopLemmas
+pub mod TextEnds
+pub mod ReadEnds
 pub mod RunEnds
 pub mod BenchLemmas
 pub mod GrowingTexts

@@ -5,12 +5,12 @@ use Rattle.std.specs.List.{flat_map}
 use Rattle.std.proofs.lemmas.Grind.{flat_map-append}
 use Rattle.std.proofs.lemmas.List.{take_all}
 use Rattle.avida_port.specs.declared.sink.SinkStop.{SinkStop}
-use Rattle.avida_port.specs.Ports.{SinkState, Puts, GainedPrefix}
-use Rattle.written_texts.specs.SinkChanges.{change}
-use Rattle.avida_program.specs.Outcomes.{WritesText, outcome_of}
+use Rattle.avida_port.specs.Ports.{SinkState}
 use Rattle.written_texts.specs.Pieces.{Writes}
+use Rattle.written_texts.specs.WrittenText.{WritesAll, write_stop_of}
+use Rattle.written_texts.specs.declared.stop.WriteStop.TheVariants as stop
 use Rattle.written_texts.proofs.PieceLemmas.{writes_short, writes_then}
-use Rattle.avida_program.proofs.TraceLemmas.{front_put, piece_put, stopped_within}
+use Rattle.avida_program.proofs.TextEnds.{stopped_within, wanting_within}
 
 -- one more text
 texts_next : {X : Type 0} (text : X → List ℕ) (xs : List X) (i : ℕ) (d : X) → i < length xs
@@ -61,30 +61,25 @@ item_short {a = a} {c = c} {old = old} {other = other} {e = e} text xs i p =
     subst (λ l. Writes a c old other l (Err e)) (texts_cut text xs i)
     (writes_short (flat_map text (drop i xs)) p)
 
--- a put failed within the texts
-pub item_stopped : {X : Type 0} {a c : SinkState} {new : List ℕ} (text : X → List ℕ) (xs : List X)
-    (i : ℕ) (e : SinkStop)
-    → Writes a c [] new (flat_map text (take i xs)) (Err e)
-    → WritesText (flat_map text xs) (change a c) (outcome_of (Err e))
-item_stopped {a = a} {c = c} {new = new} text xs i e p =
-    stopped_within a c new (flat_map text (take i xs)) (flat_map text (drop i xs))
-    (flat_map text xs) e p (texts_cut text xs i)
+-- a put stopped within the texts
+pub item_stopped : {X : Type 0} {a c : SinkState} {new : List ℕ} {e : SinkStop} (text : X → List ℕ)
+    (xs : List X) (i : ℕ) → Writes a c [] new (flat_map text (take i xs)) (Err e)
+    → WritesAll {T = Unit {0}} a c (flat_map text xs) (Err (write_stop_of e))
+item_stopped text xs i p =
+    stopped_within (flat_map text (drop i xs)) (flat_map text xs) p (texts_cut text xs i)
 
--- what was put so far is a front of the texts
-pub items_front : {X : Type 0} {a b : SinkState} {kept : List ℕ} (text : X → List ℕ) (xs : List X)
-    (i : ℕ)
-    → Writes a b [] kept (flat_map text (take i xs)) (Ok tt) → GainedPrefix a b (flat_map text xs)
-items_front {a = a} {b = b} {kept = kept} text xs i p =
-    front_put a b kept (flat_map text (take i xs)) (flat_map text (drop i xs)) (flat_map text xs) p
-    (texts_cut text xs i)
+-- memory ran out within the texts
+pub items_wanting : {X : Type 0} {a b : SinkState} {kept : List ℕ} (text : X → List ℕ) (xs : List X)
+    (i : ℕ) → Writes a b [] kept (flat_map text (take i xs)) (Ok tt)
+    → WritesAll {T = Unit {0}} a b (flat_map text xs) (Err stop.Memory)
+items_wanting text xs i p =
+    wanting_within (flat_map text (drop i xs)) (flat_map text xs) p (texts_cut text xs i)
 
--- the last piece is put
-pub items_put : {X : Type 0} {a b c : SinkState} {kept held : List ℕ}
-    {r : Result (Unit {0}) SinkStop} (text : X → List ℕ) (xs : List X) (i : ℕ)
-    → Writes a b [] kept (flat_map text (take i xs)) (Ok tt) → i ≡ length xs → held ≡ kept
-    → Puts b c held r
-    → WritesText (flat_map text xs) (change a c) (outcome_of r)
-items_put {a = a} {b = b} {kept = kept} text xs i p at_end is q =
+-- the texts of all items
+pub items_whole : {X : Type 0} {a b : SinkState} {kept : List ℕ} (text : X → List ℕ) (xs : List X)
+    (i : ℕ) → Writes a b [] kept (flat_map text (take i xs)) (Ok tt) → i ≡ length xs
+    → Writes a b [] kept (flat_map text xs) (Ok tt)
+items_whole {a = a} {b = b} {kept = kept} text xs i p at_end =
     let full : take i xs ≡ xs =
     ap (λ n. take n xs) at_end ∙ take_all (length xs) xs (omega arith) in
-    piece_put (subst (λ l. Writes a b [] kept (flat_map text l) (Ok tt)) full p) is q
+    subst (λ l. Writes a b [] kept (flat_map text l) (Ok tt)) full p

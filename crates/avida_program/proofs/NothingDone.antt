@@ -1,12 +1,12 @@
 -- A call for which memory ran out before anything was done.
-use Rattle.std.proofs.Common.{ℕ, Option, None, Some, IfSome, Result, refl, inl, inr}
+use Rattle.std.proofs.Common.{ℕ, Option, None, Some, IfSome, Result, Err, refl, inl, inr}
 use Rattle.world_config.specs.Values.{ConfigValues}
 use Rattle.world_core.specs.WorldValue.{WorldValue}
 use Rattle.avida_port.specs.Ports.{SinkState, SourceState}
 use Rattle.written_texts.proofs.GainedLemmas.{stays_front}
 use Rattle.avida_program.specs.declared.command.Command.{Command}
 use Rattle.avida_program.specs.declared.command.Command.TheVariants.{Trace, Run, Lineage, Bench, Assay, Save, Resume, Advance, Replay, Upgrade, Tree, Landscape}
-use Rattle.avida_program.specs.declared.outcome.Outcome.TheVariants as outcome
+use Rattle.avida_program.specs.declared.call_error.CallError.TheVariants as error
 use Rattle.avida_program.specs.declared.refusal.Refusal.{Refusal}
 use Rattle.avida_program.specs.Input.{configuration_of}
 use Rattle.avida_program.specs.BenchText.{bench_text}
@@ -16,7 +16,7 @@ use Rattle.avida_program.specs.Commands.{Does, Obeys, Watches}
 
 -- a watcher that has written nothing
 nothing_watched : (looks : Option ℕ) (read : Result ConfigValues Refusal) (work : Work)
-    → Stays work.watch → IfSome looks (λ n. Watches n read work outcome.NoMemory)
+    → Stays work.watch → IfSome looks (λ n. Watches n read work (Err error.Memory))
 nothing_watched None read work stays = tt
 nothing_watched (Some n) read work stays = inl stays
 
@@ -31,21 +31,21 @@ untouched source out watch last = record {
 
 -- each command may run out of memory before anything was read, written or left
 does_nothing : (command : Command) (source : SourceState) (out watch : SinkState)
-    (last : Option WorldValue) → Does command (untouched source out watch last) outcome.NoMemory
+    (last : Option WorldValue) → Does command (untouched source out watch last) (Err error.Memory)
 does_nothing (Trace steps spelling low) source out watch last = λ bytes is. inl refl
 does_nothing (Run workers looks) source out watch last = record {
   reads = λ bytes is. inl refl;
   watches = λ bytes is. nothing_watched looks (configuration_of bytes)
       (untouched source out watch last) refl;
-  last_world = λ e. absurd (cc);
-  replays = λ e. absurd (cc);
+  last_world = tt;
+  replays = tt;
 }
 does_nothing (Lineage cell workers) source out watch last =
-    record { reads = λ bytes is. inl refl; last_world = λ e. absurd (cc) }
+    record { reads = λ bytes is. inl refl; last_world = tt }
 does_nothing (Bench seed workers) source out watch last = record {
   source_stays = refl;
   writes = stays_front (unchanged out) (bench_text seed) refl;
-  last_world = λ e. absurd (cc);
+  last_world = tt;
 }
 does_nothing (Assay count first workers) source out watch last = λ bytes is. inl refl
 does_nothing (Save workers) source out watch last = λ bytes is. inl refl
@@ -59,7 +59,7 @@ does_nothing (Landscape steps) source out watch last = λ bytes is. inl refl
 -- memory ran out before anything was done, whatever the words give
 pub nothing_done : (command : Option Command) (source : SourceState) (out watch : SinkState)
     (last : Option WorldValue)
-    → Obeys command (untouched source out watch last) outcome.NoMemory
+    → Obeys command (untouched source out watch last) (Err error.Memory)
 nothing_done None source out watch last = record {
   refused = inr refl;
   source_stays = refl;
@@ -72,7 +72,7 @@ nothing_done (Some command) source out watch last = record {
   read_fault = λ e. absurd (cc);
   write_fault = λ e. absurd (cc);
   watch_stays = λ e. refl;
-  last_stays = λ e. refl;
+  last_stays = refl;
   no_world = λ e. refl;
   does = does_nothing command source out watch last;
 }

@@ -1,26 +1,28 @@
 -- A run whose configuration was read, by how it ended.
-use Rattle.std.proofs.Common.{◌≡◌, ◌∙◌, ℕ, List, Option, None, Some, IfSome, Ok, refl, sym, ap, inr}
+use Rattle.std.proofs.Common.{◌≡◌, ◌∙◌, ℕ, List, Option, None, Some, IfSome, Ok, Err, refl, sym, ap, inl, inr}
 use Rattle.std.proofs.lemmas.Bool.{false≢true}
 use Rattle.world_config.specs.Values.{ConfigValues}
-use Rattle.avida_port.specs.Ports.{SinkState}
+use Rattle.avida_port.specs.Ports.{SinkState, SourceState}
 use Rattle.world_core.specs.WorldValue.{WorldValue, world_in}
 use Rattle.world_rules.specs.Laws.{ReplaysToLiving}
 use Rattle.world_rules.specs.WorldRun.{residents_of_world, world_after}
 use Rattle.avida_program.specs.declared.command.Command.TheVariants.{Lineage, Run}
-use Rattle.avida_program.specs.declared.outcome.Outcome.{Outcome}
-use Rattle.avida_program.specs.declared.outcome.Outcome.TheVariants as outcome
+use Rattle.avida_program.specs.declared.call_error.CallError.{CallError}
+use Rattle.avida_program.specs.declared.call_error.CallError.TheVariants as error
 use Rattle.written_texts.specs.declared.stop.WriteStop.{WriteStop}
 use Rattle.written_texts.specs.declared.stop.WriteStop.TheVariants as stop
-use Rattle.written_texts.specs.SinkChanges.{Change, GainedText, Stays}
+use Rattle.written_texts.specs.SinkChanges.{Change, GainedText, Stays, change, unchanged}
+use Rattle.written_texts.specs.WrittenText.{WritesAll}
 use Rattle.avida_program.specs.Changes.{Work}
 use Rattle.avida_program.specs.Input.{configuration_of, lineage_input_of}
-use Rattle.avida_program.specs.Outcomes.{GivesInput, StopsWithin, outcome_at}
+use Rattle.avida_program.specs.Endings.{GivesInput, GivesNoInput, error_at}
 use Rattle.logged_run.specs.RunStops.{StopsRun}
 use Rattle.logged_run.specs.RunText.{IsFinalWorld, run_text}
 use Rattle.avida_program.specs.FinalWorld.{GainedLogOf, LeavesFinal}
 use Rattle.avida_program.specs.PathText.{path_text}
 use Rattle.logged_run.specs.WatchText.{GainedPictures}
 use Rattle.avida_program.specs.Commands.{CarriesOut, Watches}
+use Rattle.avida_program.proofs.ReadEnds.{read_and_wrote}
 
 -- the world after the last update, by its value
 final_is : (config : ConfigValues) (final world : WorldValue) → IsFinalWorld config final
@@ -30,11 +32,16 @@ final_is config final world is same =
     ∙ sym (ap (λ (c : ConfigValues). world_after c final.update) is.config)
     ∙ ap world_in same
 
+-- what holds for each number of looks holds for those of a watcher
+where_watched : (looks : Option ℕ) (P : ℕ → Type 0) → ((n : ℕ) → P n) → IfSome looks P
+where_watched None P h = tt
+where_watched (Some n) P h = h n
+
 -- what the watcher of a run that came to its end leaves
 watched : (looks : Option ℕ) (bytes : List ℕ) (work : Work) (config : ConfigValues)
     → configuration_of bytes ≡ Ok config
     → IfSome looks (λ n. GainedPictures n config work.watch)
-    → IfSome looks (λ n. Watches n (configuration_of bytes) work outcome.Done)
+    → IfSome looks (λ n. Watches n (configuration_of bytes) work (Ok tt))
 watched None bytes work config is h = h
 watched (Some n) bytes work config is h = (config, is, h)
 
@@ -42,7 +49,7 @@ watched (Some n) bytes work config is h = (config, is, h)
 watch_faulted : (looks : Option ℕ) (bytes : List ℕ) (work : Work) (config : ConfigValues)
     → configuration_of bytes ≡ Ok config
     → StopsRun looks config work.out work.watch stop.Fault
-    → IfSome looks (λ n. Watches n (configuration_of bytes) work outcome.WriteFault)
+    → IfSome looks (λ n. Watches n (configuration_of bytes) work (Err error.WriteFault))
 watch_faulted None bytes work config is stops = tt
 watch_faulted (Some n) bytes work config is stops =
     (config, is, record { pictures = stops.pictures; whole_log = stops.whole_log refl })
@@ -51,9 +58,101 @@ watch_faulted (Some n) bytes work config is stops =
 watch_wanted : (looks : Option ℕ) (bytes : List ℕ) (work : Work) (config : ConfigValues)
     → configuration_of bytes ≡ Ok config
     → StopsRun looks config work.out work.watch stop.Memory
-    → IfSome looks (λ n. Watches n (configuration_of bytes) work outcome.NoMemory)
+    → IfSome looks (λ n. Watches n (configuration_of bytes) work (Err error.Memory))
 watch_wanted None bytes work config is stops = tt
 watch_wanted (Some n) bytes work config is stops = inr (config, is, stops.pictures)
+
+-- the configuration of a run was not read
+pub run_not_read : (workers : ℕ) (looks : Option ℕ) (source : Change SourceState) (out watch : SinkState)
+    (last : Option WorldValue) (e : CallError) → GivesNoInput configuration_of source e
+    → CarriesOut (Run workers looks) (read_and_wrote source (unchanged out) watch last) (Err e)
+run_not_read workers looks source out watch last error.BadWords h = absurd h
+run_not_read workers looks source out watch last (error.BadInput why) h = record {
+  words = λ e. cc;
+  read_fault = λ e. absurd (cc);
+  write_fault = λ e. absurd (cc);
+  watch_stays = λ e. refl;
+  last_stays = refl;
+  no_world = λ e. refl;
+  does = record {
+    reads = λ bytes is. (refl, h bytes is);
+    watches = λ bytes is. where_watched looks _ (λ n. refl);
+    last_world = tt;
+    replays = tt;
+  };
+}
+run_not_read workers looks source out watch last error.ReadFault h = record {
+  words = λ e. cc;
+  read_fault = λ e. h;
+  write_fault = λ e. absurd (cc);
+  watch_stays = λ e. refl;
+  last_stays = refl;
+  no_world = λ e. refl;
+  does = record {
+    reads = λ bytes is. (refl, h);
+    watches = λ bytes is. where_watched looks _ (λ n. refl);
+    last_world = tt;
+    replays = tt;
+  };
+}
+run_not_read workers looks source out watch last error.WriteFault h = absurd h
+run_not_read workers looks source out watch last error.Memory h = record {
+  words = λ e. cc;
+  read_fault = λ e. absurd (cc);
+  write_fault = λ e. absurd (cc);
+  watch_stays = λ e. refl;
+  last_stays = refl;
+  no_world = λ e. refl;
+  does = record {
+    reads = λ bytes is. inl refl;
+    watches = λ bytes is. where_watched looks _ (λ n. inl refl);
+    last_world = tt;
+    replays = tt;
+  };
+}
+
+-- the configuration of a line of descent was not read
+pub descent_not_read : (cell workers : ℕ) (source : Change SourceState) (out watch : SinkState)
+    (last : Option WorldValue) (e : CallError) → GivesNoInput (lineage_input_of cell) source e
+    → CarriesOut (Lineage cell workers) (read_and_wrote source (unchanged out) watch last) (Err e)
+descent_not_read cell workers source out watch last error.BadWords h = absurd h
+descent_not_read cell workers source out watch last (error.BadInput why) h = record {
+  words = λ e. cc;
+  read_fault = λ e. absurd (cc);
+  write_fault = λ e. absurd (cc);
+  watch_stays = λ e. refl;
+  last_stays = refl;
+  no_world = λ e. refl;
+  does = record {
+    reads = λ bytes is. (refl, h bytes is);
+    last_world = tt;
+  };
+}
+descent_not_read cell workers source out watch last error.ReadFault h = record {
+  words = λ e. cc;
+  read_fault = λ e. h;
+  write_fault = λ e. absurd (cc);
+  watch_stays = λ e. refl;
+  last_stays = refl;
+  no_world = λ e. refl;
+  does = record {
+    reads = λ bytes is. (refl, h);
+    last_world = tt;
+  };
+}
+descent_not_read cell workers source out watch last error.WriteFault h = absurd h
+descent_not_read cell workers source out watch last error.Memory h = record {
+  words = λ e. cc;
+  read_fault = λ e. absurd (cc);
+  write_fault = λ e. absurd (cc);
+  watch_stays = λ e. refl;
+  last_stays = refl;
+  no_world = λ e. refl;
+  does = record {
+    reads = λ bytes is. inl refl;
+    last_world = tt;
+  };
+}
 
 -- the log of a run that came to its end replays to who lives in the world that it left
 gained_log : (out : Change SinkState) (config : ConfigValues) (final world : WorldValue)
@@ -73,19 +172,19 @@ pub ran_to_end : (workers : ℕ) (looks : Option ℕ) (work : Work) (config : Co
     → GainedText work.out (run_text config) → IfSome looks (λ n. GainedPictures n config work.watch)
     → (looks ≡ None → Stays work.watch)
     → LeavesFinal work.last config → ReplaysToLiving config config.updates
-    → CarriesOut (Run workers looks) work outcome.Done
+    → CarriesOut (Run workers looks) work (Ok tt)
 ran_to_end workers looks work config read wrote pictures unwatched left replays = record {
   words = λ e. cc;
   read_fault = λ e. absurd (cc);
   write_fault = λ e. absurd (cc);
   watch_stays = unwatched;
-  last_stays = λ other. absurd (other refl);
+  last_stays = tt;
   no_world = λ e. absurd (false≢true (sym e));
   does = record {
     reads = λ bytes is. (read.whole bytes is, (config, read.reads bytes is, wrote));
     watches = λ bytes is. watched looks bytes work config (read.reads bytes is) pictures;
-    last_world = λ e bytes is. (config, read.reads bytes is, left);
-    replays = λ e world is. gained_log work.out config left.0 world wrote replays left.2 (cc (left.1, is));
+    last_world = λ bytes is. (config, read.reads bytes is, left);
+    replays = λ world is. gained_log work.out config left.0 world wrote replays left.2 (cc (left.1, is));
   };
 }
 
@@ -93,19 +192,19 @@ ran_to_end workers looks work config read wrote pictures unwatched left replays 
 pub run_stopped : (workers : ℕ) (looks : Option ℕ) (work : Work) (config : ConfigValues)
     (e : WriteStop) → GivesInput configuration_of work.source config
     → StopsRun looks config work.out work.watch e → (looks ≡ None → Stays work.watch)
-    → Stays work.last → CarriesOut (Run workers looks) work (outcome_at e)
+    → Stays work.last → CarriesOut (Run workers looks) work (Err (error_at e))
 run_stopped workers looks work config stop.Fault read stops unwatched kept = record {
   words = λ e. cc;
   read_fault = λ e. absurd (cc);
   write_fault = λ e. stops.fault refl;
   watch_stays = unwatched;
-  last_stays = λ other. kept;
+  last_stays = kept;
   no_world = λ e. absurd (false≢true (sym e));
   does = record {
     reads = λ bytes is. (stops.fault refl, (config, read.reads bytes is, stops.front));
     watches = λ bytes is. watch_faulted looks bytes work config (read.reads bytes is) stops;
-    last_world = λ e. absurd (cc);
-    replays = λ e. absurd (cc);
+    last_world = tt;
+    replays = tt;
   };
 }
 run_stopped workers looks work config stop.Memory read stops unwatched kept = record {
@@ -113,48 +212,46 @@ run_stopped workers looks work config stop.Memory read stops unwatched kept = re
   read_fault = λ e. absurd (cc);
   write_fault = λ e. absurd (cc);
   watch_stays = unwatched;
-  last_stays = λ other. kept;
+  last_stays = kept;
   no_world = λ e. absurd (false≢true (sym e));
   does = record {
     reads = λ bytes is. inr (config, read.reads bytes is, stops.front);
     watches = λ bytes is. watch_wanted looks bytes work config (read.reads bytes is) stops;
-    last_world = λ e. absurd (cc);
-    replays = λ e. absurd (cc);
+    last_world = tt;
+    replays = tt;
   };
 }
 
 -- a run stopped whose line of descent was to be written
-pub descent_stopped : (cell workers : ℕ) (work : Work) (config : ConfigValues) (told : Outcome)
-    → GivesInput (lineage_input_of cell) work.source config → Stays work.watch → Stays work.last
-    → StopsWithin (path_text config cell) work.out told
-    → CarriesOut (Lineage cell workers) work told
-descent_stopped cell workers work config outcome.Done read unwatched kept stops = absurd stops
-descent_stopped cell workers work config outcome.BadWords read unwatched kept stops = absurd stops
-descent_stopped cell workers work config (outcome.BadInput why) read unwatched kept stops =
-    absurd stops
-descent_stopped cell workers work config outcome.ReadFault read unwatched kept stops = absurd stops
-descent_stopped cell workers work config outcome.WriteFault read unwatched kept stops = record {
+pub descent_stopped : {T : Type 0} {a b : SinkState} (cell workers : ℕ)
+    (source : Change SourceState) (watch : SinkState) (last : Option WorldValue)
+    (config : ConfigValues) (e : WriteStop)
+    → GivesInput (lineage_input_of cell) source config
+    → WritesAll {T = T} a b (path_text config cell) (Err e)
+    → CarriesOut (Lineage cell workers) (read_and_wrote source (change a b) watch last)
+    (Err (error_at e))
+descent_stopped cell workers source watch last config stop.Fault read stops = record {
   words = λ e. cc;
   read_fault = λ e. absurd (cc);
-  write_fault = λ e. stops.0;
-  watch_stays = λ e. unwatched;
-  last_stays = λ other. kept;
-  no_world = λ e. absurd (false≢true (sym e));
+  write_fault = λ e. stops.fault refl;
+  watch_stays = λ e. refl;
+  last_stays = refl;
+  no_world = λ e. refl;
   does = record {
-    reads = λ bytes is. (stops.0, (config, read.reads bytes is, stops.1));
-    last_world = λ e. absurd (cc);
+    reads = λ bytes is. (stops.fault refl, (config, read.reads bytes is, stops.err));
+    last_world = tt;
   };
 }
-descent_stopped cell workers work config outcome.NoMemory read unwatched kept stops = record {
+descent_stopped cell workers source watch last config stop.Memory read stops = record {
   words = λ e. cc;
   read_fault = λ e. absurd (cc);
   write_fault = λ e. absurd (cc);
-  watch_stays = λ e. unwatched;
-  last_stays = λ other. kept;
-  no_world = λ e. absurd (false≢true (sym e));
+  watch_stays = λ e. refl;
+  last_stays = refl;
+  no_world = λ e. refl;
   does = record {
-    reads = λ bytes is. inr (config, read.reads bytes is, stops);
-    last_world = λ e. absurd (cc);
+    reads = λ bytes is. inr (config, read.reads bytes is, stops.err);
+    last_world = tt;
   };
 }
 
@@ -162,16 +259,16 @@ descent_stopped cell workers work config outcome.NoMemory read unwatched kept st
 pub descent_written : (cell workers : ℕ) (work : Work) (config : ConfigValues)
     → GivesInput (lineage_input_of cell) work.source config → Stays work.watch
     → GainedText work.out (path_text config cell) → LeavesFinal work.last config
-    → CarriesOut (Lineage cell workers) work outcome.Done
+    → CarriesOut (Lineage cell workers) work (Ok tt)
 descent_written cell workers work config read unwatched wrote left = record {
   words = λ e. cc;
   read_fault = λ e. absurd (cc);
   write_fault = λ e. absurd (cc);
   watch_stays = λ e. unwatched;
-  last_stays = λ other. absurd (other refl);
+  last_stays = tt;
   no_world = λ e. absurd (false≢true (sym e));
   does = record {
     reads = λ bytes is. (read.whole bytes is, (config, read.reads bytes is, wrote));
-    last_world = λ e bytes is. (config, read.reads bytes is, left);
+    last_world = λ bytes is. (config, read.reads bytes is, left);
   };
 }

@@ -1,14 +1,10 @@
--- The lines of a trace, cut at a step, and the outcome of their puts.
-use Rattle.std.proofs.Common.{◌≡◌, ◌<◌, ◌-◌, ◌+◌, ℕ, zero, suc, List, [], ◌∷◌, ◌++◌, Result, Ok, Err, refl, sym, ap, ◌∙◌, add-zero, add-one, append_assoc, append-nil, arith, subst}
+-- The lines of a trace, cut at a step.
+use Rattle.std.proofs.Common.{◌≡◌, ◌<◌, ◌-◌, ◌+◌, ℕ, zero, suc, List, [], ◌∷◌, ◌++◌, Result, Ok, refl, sym, ap, ◌∙◌, add-zero, add-one, append_assoc, append-nil, arith, subst}
 use Rattle.std.proofs.lemmas.Grind.{flat_map-append}
 use Rattle.avida_port.specs.declared.sink.SinkStop.{SinkStop}
-use Rattle.avida_port.specs.declared.sink.SinkStop.TheVariants.{Fault, Memory}
-use Rattle.avida_port.specs.Ports.{SinkState, Puts, GainedPrefix}
-use Rattle.written_texts.proofs.PutLemmas.{puts_short, puts_then}
+use Rattle.avida_port.specs.Ports.{SinkState}
 use Rattle.organism.specs.OrganismState.{OrganismState}
 use Rattle.organism.specs.TracedStep.{TracedStep, trace_step_of}
-use Rattle.written_texts.specs.SinkChanges.{change}
-use Rattle.avida_program.specs.Outcomes.{WritesText, outcome_of}
 use Rattle.written_texts.specs.Pieces.{Writes}
 use Rattle.landscape.specs.Trace.{organism_after, step_after}
 use Rattle.avida_program.specs.TraceText.{numbers_below, trace_line, trace_lines}
@@ -45,46 +41,12 @@ lines_front o n steps h =
     let same : n + (steps - n) ≡ steps = omega arith in
     (more.0, more.1 ∙ ap (trace_lines o) same)
 
--- what was put of a text so far is a front of all of it
-pub front_put : (a b : SinkState) (kept front rest all : List ℕ) → Writes a b [] kept front (Ok tt)
-    → front ++ rest ≡ all → GainedPrefix a b all
-front_put a b kept front rest all p e = (
-  p.ok.0,
-  (kept ++ rest, sym (append_assoc p.ok.0 kept rest) ∙ ap (λ l. l ++ rest) p.ok.1 ∙ e),
-  p.ok.2.ok,
-)
-
--- the outcome of puts
-pub writes_ended : (a b : SinkState) (text : List ℕ) (r : Result (Unit {0}) SinkStop)
-    → Puts a b text r → WritesText text (change a b) (outcome_of r)
-writes_ended a b text (Ok done) p = p.ok
-writes_ended a b text (Err Fault) p = (p.fault refl, p.err)
-writes_ended a b text (Err Memory) p = p.err
-
--- a put failed within the text
-pub stopped_within : (a c : SinkState) (new front rest all : List ℕ) (e : SinkStop)
-    → Writes a c [] new front (Err e) → front ++ rest ≡ all
-    → WritesText all (change a c) (outcome_of (Err e))
-stopped_within a c new front rest all e p whole =
-    writes_ended a c all (Err e)
-    (subst (λ l. Puts {T = Unit {0}} a c l (Err e)) whole (puts_short rest p.err))
-
--- the last piece of a text is put
-pub piece_put : {a b c : SinkState} {kept held text : List ℕ} {r : Result (Unit {0}) SinkStop}
-    → Writes a b [] kept text (Ok tt) → held ≡ kept → Puts b c held r
-    → WritesText text (change a c) (outcome_of r)
-piece_put {a = a} {b = b} {c = c} {kept = kept} {text = text} {r = r} p is q =
-    let put = subst (λ l. Puts {T = Unit {0}} b c l r) is q in
-    writes_ended a c text r (subst (λ l. Puts {T = Unit {0}} a c l r) p.ok.1
-    (puts_then kept p.ok.2 put))
-
--- the last piece is put
-pub last_put : (a b c : SinkState) (o : OrganismState) (n steps : ℕ) (kept held : List ℕ)
-    (r : Result (Unit {0}) SinkStop)
-    → Writes a b [] kept (trace_lines o n) (Ok tt) → n ≡ steps → held ≡ kept → Puts b c held r
-    → WritesText (trace_lines o steps) (change a c) (outcome_of r)
-last_put a b c o n steps kept held r p at_end is q =
-    piece_put (subst (λ m. Writes a b [] kept (trace_lines o m) (Ok tt)) at_end p) is q
+-- the lines of all steps
+pub lines_whole : {a b : SinkState} {kept : List ℕ} (o : OrganismState) (n steps : ℕ)
+    → Writes a b [] kept (trace_lines o n) (Ok tt) → n ≡ steps
+    → Writes a b [] kept (trace_lines o steps) (Ok tt)
+lines_whole {a = a} {b = b} {kept = kept} o n steps p at_end =
+    subst (λ m. Writes a b [] kept (trace_lines o m) (Ok tt)) at_end p
 
 -- one more line is written
 pub line_written : {a b c : SinkState} {kept new : List ℕ} {r : Result (Unit {0}) SinkStop}

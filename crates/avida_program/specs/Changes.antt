@@ -1,12 +1,11 @@
 -- What a call of the program changes (docs/FORMATS.md, "Statuses and fault lines").
-use Rattle.std.specs.Prelude.{◌≡◌, ◌≢◌, ◌⊎◌, ℕ, List, Option, Some}
+use Rattle.std.specs.Prelude.{◌≡◌, ◌⊎◌, ℕ, List, Option, Some, Ok, Err}
 use Rattle.avida_port.specs.Faults.{Rose}
 use Rattle.avida_port.specs.Ports.{SourceState, SinkState}
 use Rattle.world_core.specs.WorldValue.{WorldValue}
 use Rattle.written_texts.specs.SinkChanges.{Change, GainedFront, GainedText, SinkFailed, Stays}
-use Rattle.avida_program.specs.declared.outcome.Outcome.{Outcome}
-use Rattle.avida_program.specs.declared.outcome.Outcome.TheVariants as outcome
-use Rattle.avida_program.specs.Status.{fault_line}
+use Rattle.avida_program.specs.declared.call_error.CallError.{CallError}
+use Rattle.avida_program.specs.Status.{Ended, fault_line}
 
 -- what a call of the program finds and leaves, but for its fault line
 pub record Work : Type 0 where
@@ -27,11 +26,14 @@ SourceFailed source = Rose source.before.faults source.after.faults
 abbrev pub SinkStopped : Change SinkState → Type 0
 SinkStopped sink = SinkFailed sink ⊎ Rose sink.before.wants sink.after.wants
 
--- the fault line of an outcome on `err`
-pub record TellsOf (err : Change SinkState) (told : Outcome) : Type 0 where
-  -- nothing where all is done
-  pub done : told ≡ outcome.Done → Stays err
-  -- else a prefix of the line
-  pub front : told ≢ outcome.Done → GainedFront err (fault_line told)
+-- the fault line of an error on `err`
+pub record TellsFault (err : Change SinkState) (e : CallError) : Type 0 where
+  -- the line, or a prefix of it
+  pub front : GainedFront err (fault_line e)
   -- and the whole line where no put to `err` has failed or run out of memory
-  pub whole : told ≢ outcome.Done → ¬ SinkStopped err → GainedText err (fault_line told)
+  pub whole : ¬ SinkStopped err → GainedText err (fault_line e)
+
+-- `err` tells how a call ended: nothing where all is done, and else the fault line
+abbrev pub TellsOf : Change SinkState → Ended → Type 0
+TellsOf err (Ok done) = Stays err
+TellsOf err (Err e) = TellsFault err e

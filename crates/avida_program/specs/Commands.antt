@@ -1,6 +1,6 @@
 -- What a call of the program reads, writes and leaves, by how it ends (docs/FORMATS.md, "The
 -- command line" and "Statuses and fault lines"). The number of workers changes nothing.
-use Rattle.std.specs.Prelude.{◌≡◌, ◌≢◌, ◌⊎◌, false, ℕ, List, [], Option, None, Some, IfSome, Result, Err}
+use Rattle.std.specs.Prelude.{◌≡◌, ◌≢◌, ◌⊎◌, false, ℕ, List, [], Option, None, Some, IfSome, Result, Ok, Err, OnOk, OnErr}
 use Rattle.assay.specs.AssayText.{assay_text}
 use Rattle.landscape.specs.LandscapeText.{landscape_text}
 use Rattle.phylogeny.specs.TreeText.{tree_text}
@@ -15,8 +15,7 @@ use Rattle.logged_run.specs.WatchText.{GainedPictures, GainedPicturesFront}
 use Rattle.avida_program.specs.declared.command.Command.{Command}
 use Rattle.avida_program.specs.declared.command.Command.TheVariants.{Trace, Run, Lineage, Bench, Assay, Save, Resume, Advance, Replay, Upgrade, Tree, Landscape}
 use Rattle.avida_program.specs.declared.command.Spelling.TheVariants.{Letters}
-use Rattle.avida_program.specs.declared.outcome.Outcome.{Outcome}
-use Rattle.avida_program.specs.declared.outcome.Outcome.TheVariants as outcome
+use Rattle.avida_program.specs.declared.call_error.CallError.TheVariants as error
 use Rattle.avida_program.specs.declared.refusal.Refusal.{Refusal}
 use Rattle.avida_program.specs.declared.status.Status.{Status}
 use Rattle.avida_program.specs.BenchText.{bench_config, bench_text}
@@ -24,31 +23,30 @@ use Rattle.avida_program.specs.Changes.{OnBytes, SourceFailed, TellsOf, Work}
 use Rattle.avida_program.specs.CommandLine.{leaves_world, looks_of}
 use Rattle.avida_program.specs.FinalWorld.{GainedLogOf, LeavesFinal}
 use Rattle.avida_program.specs.Input.{IsInputWith, assay_input_of, configuration_of, genome_of_input, lineage_input_of, log_input_of, resume_input_of}
-use Rattle.avida_program.specs.Outcomes.{WritesText}
 use Rattle.avida_program.specs.PathText.{path_text}
 use Rattle.avida_program.specs.ReplayText.{replay_text, upgrade_text}
 use Rattle.avida_program.specs.SaveText.{advanced_text, save_text}
-use Rattle.avida_program.specs.Status.{status_of}
+use Rattle.avida_program.specs.Status.{Ended, status_of}
 use Rattle.avida_program.specs.TraceText.{trace_text}
 
 -- an input is read and its text is written. All is done where the source was read to its end and
 -- `out` gained exactly the text. Of an input that is refused, or not read, nothing is written; where
 -- a put fails, perhaps one of a watcher, or memory runs out, a prefix of the text is
 abbrev pub ReadsInput : {A : Type 0} →
-    Option ℕ → Result A Refusal → (A → List ℕ) → Work → Outcome → Type 0
-ReadsInput looks read text_of work outcome.Done = (work.source.after.left ≡ Some [])
+    Option ℕ → Result A Refusal → (A → List ℕ) → Work → Ended → Type 0
+ReadsInput looks read text_of work (Ok done) = (work.source.after.left ≡ Some [])
     × IsInputWith read (λ input. GainedText work.out (text_of input))
-ReadsInput looks read text_of work outcome.BadWords = ⊥
-ReadsInput looks read text_of work (outcome.BadInput why) = Stays work.out × (read ≡ Err why)
-ReadsInput looks read text_of work outcome.ReadFault = Stays work.out × SourceFailed work.source
-ReadsInput looks read text_of work outcome.WriteFault = PutFailed looks work.out work.watch
+ReadsInput looks read text_of work (Err error.BadWords) = ⊥
+ReadsInput looks read text_of work (Err (error.BadInput why)) = Stays work.out × (read ≡ Err why)
+ReadsInput looks read text_of work (Err error.ReadFault) = Stays work.out × SourceFailed work.source
+ReadsInput looks read text_of work (Err error.WriteFault) = PutFailed looks work.out work.watch
     × IsInputWith read (λ input. GainedFront work.out (text_of input))
-ReadsInput looks read text_of work outcome.NoMemory =
+ReadsInput looks read text_of work (Err error.Memory) =
     Stays work.out ⊎ IsInputWith read (λ input. GainedFront work.out (text_of input))
 
 -- a command that reads its input so, and writes this text of it
 abbrev pub Reads : {A : Type 0} →
-    (List ℕ → Result A Refusal) → (A → List ℕ) → Work → Outcome → Type 0
+    (List ℕ → Result A Refusal) → (A → List ℕ) → Work → Ended → Type 0
 Reads input_of text_of work told =
     OnBytes work.source (λ bytes. ReadsInput None (input_of bytes) text_of work told)
 
@@ -59,46 +57,55 @@ pub record StopsWatched (looks : ℕ) (work : Work) (config : ConfigValues) : Ty
   pub whole_log : ¬ SinkFailed work.out → GainedText work.out (run_text config)
 
 -- what the watcher of a run has written, where the configuration is read so
-abbrev pub Watches : ℕ → Result ConfigValues Refusal → Work → Outcome → Type 0
-Watches looks read work outcome.Done =
+abbrev pub Watches : ℕ → Result ConfigValues Refusal → Work → Ended → Type 0
+Watches looks read work (Ok done) =
     IsInputWith read (λ config. GainedPictures looks config work.watch)
-Watches looks read work outcome.BadWords = ⊥
-Watches looks read work (outcome.BadInput why) = Stays work.watch
-Watches looks read work outcome.ReadFault = Stays work.watch
-Watches looks read work outcome.WriteFault = IsInputWith read (StopsWatched looks work)
-Watches looks read work outcome.NoMemory = Stays work.watch
+Watches looks read work (Err error.BadWords) = ⊥
+Watches looks read work (Err (error.BadInput why)) = Stays work.watch
+Watches looks read work (Err error.ReadFault) = Stays work.watch
+Watches looks read work (Err error.WriteFault) = IsInputWith read (StopsWatched looks work)
+Watches looks read work (Err error.Memory) = Stays work.watch
     ⊎ IsInputWith read (λ config. GainedPicturesFront looks config work.watch)
 
 -- `run`, perhaps with a watcher
-pub record Runs (looks : Option ℕ) (work : Work) (told : Outcome) : Type 0 where
+pub record Runs (looks : Option ℕ) (work : Work) (told : Ended) : Type 0 where
   pub reads : OnBytes work.source (λ bytes.
       ReadsInput looks (configuration_of bytes) run_text work told)
   pub watches : OnBytes work.source (λ bytes.
       IfSome looks (λ n. Watches n (configuration_of bytes) work told))
   -- Done: the world after the last update is left
-  pub last_world : told ≡ outcome.Done → OnBytes work.source (λ bytes.
-      IsInputWith (configuration_of bytes) (LeavesFinal work.last))
+  pub last_world : OnOk told (OnBytes work.source (λ bytes.
+      IsInputWith (configuration_of bytes) (LeavesFinal work.last)))
   -- Done: what `out` gained is a log that replays to who lives in the world that is left
-  pub replays : told ≡ outcome.Done → (world : WorldValue) → work.last.after ≡ Some world
-      → GainedLogOf work.out world
+  pub replays : OnOk told ((world : WorldValue) → work.last.after ≡ Some world
+      → GainedLogOf work.out world)
 
 -- `lineage` of a cell
-pub record Descends (cell : ℕ) (work : Work) (told : Outcome) : Type 0 where
+pub record Descends (cell : ℕ) (work : Work) (told : Ended) : Type 0 where
   -- a cell that is not in the world is refused
   pub reads : Reads (lineage_input_of cell) (λ config. path_text config cell) work told
   -- Done: the world after the last update is left
-  pub last_world : told ≡ outcome.Done → OnBytes work.source (λ bytes.
-      IsInputWith (lineage_input_of cell bytes) (LeavesFinal work.last))
+  pub last_world : OnOk told (OnBytes work.source (λ bytes.
+      IsInputWith (lineage_input_of cell bytes) (LeavesFinal work.last)))
+
+-- a text is written whole, or a prefix of it where a put fails or memory runs out
+abbrev pub WritesText : List ℕ → Change SinkState → Ended → Type 0
+WritesText text out (Ok done) = GainedText out text
+WritesText text out (Err error.BadWords) = ⊥
+WritesText text out (Err (error.BadInput why)) = ⊥
+WritesText text out (Err error.ReadFault) = ⊥
+WritesText text out (Err error.WriteFault) = SinkFailed out × GainedFront out text
+WritesText text out (Err error.Memory) = GainedFront out text
 
 -- `bench` of a seed, which reads nothing
-pub record Benches (seed : ℕ) (work : Work) (told : Outcome) : Type 0 where
+pub record Benches (seed : ℕ) (work : Work) (told : Ended) : Type 0 where
   pub source_stays : Stays work.source
   pub writes : WritesText (bench_text seed) work.out told
   -- Done: the world after the last update is left
-  pub last_world : told ≡ outcome.Done → LeavesFinal work.last (bench_config seed)
+  pub last_world : OnOk told (LeavesFinal work.last (bench_config seed))
 
 -- what each command reads, writes and leaves
-abbrev pub Does : Command → Work → Outcome → Type 0
+abbrev pub Does : Command → Work → Ended → Type 0
 Does (Trace steps spelling low) work told =
     Reads (genome_of_input spelling) (λ genome. trace_text genome low steps) work told
 Does (Run workers looks) work told = Runs looks work told
@@ -118,38 +125,39 @@ Does (Landscape steps) work told =
     Reads (genome_of_input Letters) (λ genome. landscape_text genome steps) work told
 
 -- a command is carried out, and ends so
-pub record CarriesOut (command : Command) (work : Work) (told : Outcome) : Type 0 where
+pub record CarriesOut (command : Command) (work : Work) (told : Ended) : Type 0 where
   -- the words are good, and each fault has its cause, whatever the streams tell
-  pub words : told ≢ outcome.BadWords
-  pub read_fault : told ≡ outcome.ReadFault → SourceFailed work.source
-  pub write_fault : told ≡ outcome.WriteFault → PutFailed (looks_of command) work.out work.watch
+  pub words : told ≢ Err error.BadWords
+  pub read_fault : told ≡ Err error.ReadFault → SourceFailed work.source
+  pub write_fault : told ≡ Err error.WriteFault
+      → PutFailed (looks_of command) work.out work.watch
   -- what stays: the watch without a watcher, and the last world but where all is done and the
   -- command leaves one
   pub watch_stays : looks_of command ≡ None → Stays work.watch
-  pub last_stays : told ≢ outcome.Done → Stays work.last
+  pub last_stays : OnErr told (Stays work.last)
   pub no_world : leaves_world command ≡ false → Stays work.last
   -- what the command itself does
   pub does : Does command work told
 
 -- the words give no command: they are refused, unless memory runs out, and nothing is read, written
 -- or left
-pub record DoesNothing (work : Work) (told : Outcome) : Type 0 where
-  pub refused : (told ≡ outcome.BadWords) ⊎ (told ≡ outcome.NoMemory)
+pub record DoesNothing (work : Work) (told : Ended) : Type 0 where
+  pub refused : (told ≡ Err error.BadWords) ⊎ (told ≡ Err error.Memory)
   pub source_stays : Stays work.source
   pub out_stays : Stays work.out
   pub watch_stays : Stays work.watch
   pub last_stays : Stays work.last
 
 -- what the words give is carried out, and ends so
-abbrev pub Obeys : Option Command → Work → Outcome → Type 0
+abbrev pub Obeys : Option Command → Work → Ended → Type 0
 Obeys None work told = DoesNothing work told
 Obeys (Some command) work told = CarriesOut command work told
 
--- a call ends with this status: what it did by its outcome, which is the status and the reason of a
--- refusal, and the line on `err` that tells of it
+-- a call ends with this status: what it did, by how it ended, which is the status and the reason of
+-- a refusal, and the line on `err` that tells of it
 pub record Serves (command : Option Command) (work : Work) (err : Change SinkState) (s : Status)
     : Type 0 where
-  pub told : Outcome
+  pub told : Ended
   pub is_told : s ≡ status_of told
   pub obeys : Obeys command work told
   pub tells : TellsOf err told

@@ -9,7 +9,7 @@ pub mod SaveText
 pub mod ResumedRun
 pub mod AdvancedRun
 pub mod Changes
-pub mod Outcomes
+pub mod Endings
 pub mod FinalWorld
 pub mod BenchText
 pub mod BenchSums

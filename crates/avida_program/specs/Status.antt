@@ -1,10 +1,10 @@
 -- Statuses, and the lines that tell of them (docs/FORMATS.md, "Statuses and fault lines").
-use Rattle.std.specs.Prelude.{ℕ, ◌&&◌, nat_le, if◌then◌else◌, List, [], ◌++◌, map, take, codes, decimal}
+use Rattle.std.specs.Prelude.{ℕ, ◌&&◌, nat_le, if◌then◌else◌, List, [], ◌++◌, Result, Ok, Err, map, take, codes, decimal}
 use Rattle.std.specs.Fmt.{signed_decimal}
 use Rattle.avida_program.specs.declared.status.Status.{Status}
 use Rattle.avida_program.specs.declared.status.Status.TheVariants as status
-use Rattle.avida_program.specs.declared.outcome.Outcome.{Outcome}
-use Rattle.avida_program.specs.declared.outcome.Outcome.TheVariants as outcome
+use Rattle.avida_program.specs.declared.call_error.CallError.{CallError}
+use Rattle.avida_program.specs.declared.call_error.CallError.TheVariants as error
 use Rattle.avida_program.specs.declared.refusal.Refusal.{Refusal}
 use Rattle.avida_program.specs.declared.refusal.Refusal.TheVariants.{TooLong, Genome, Config, Log, Saved, Cell, Cells, Updates}
 use Rattle.genome.specs.declared.stop.GenomeStop.{GenomeStop}
@@ -26,14 +26,18 @@ number_of_status status.ReadFault = 4
 number_of_status status.WriteFault = 5
 number_of_status status.NoMemory = 6
 
--- an outcome without the reason of a refusal
-abbrev pub status_of : Outcome → Status
-status_of outcome.Done = status.Done
-status_of outcome.BadWords = status.BadWords
-status_of (outcome.BadInput why) = status.BadInput
-status_of outcome.ReadFault = status.ReadFault
-status_of outcome.WriteFault = status.WriteFault
-status_of outcome.NoMemory = status.NoMemory
+-- how a call ends: all is done, or this is why not
+abbrev pub Ended : Type 0
+Ended = Result (Unit {0}) CallError
+
+-- how a call ends, without the reason of a refusal
+abbrev pub status_of : Ended → Status
+status_of (Ok done) = status.Done
+status_of (Err error.BadWords) = status.BadWords
+status_of (Err (error.BadInput why)) = status.BadInput
+status_of (Err error.ReadFault) = status.ReadFault
+status_of (Err error.WriteFault) = status.WriteFault
+status_of (Err error.Memory) = status.NoMemory
 
 -- why letters, or a text, are no genome; running out of memory refuses no input
 abbrev pub genome_reason : GenomeStop → List ℕ
@@ -89,11 +93,10 @@ reason_of (Cell cell) = codes "cell " ++ decimal cell
 reason_of (Cells cells) = codes "cells " ++ decimal cells
 reason_of (Updates updates) = codes "updates " ++ decimal updates
 
--- the line that tells of an outcome
-abbrev pub fault_line : Outcome → List ℕ
-fault_line outcome.Done = []
-fault_line outcome.BadWords = codes "avida: bad words\n"
-fault_line (outcome.BadInput why) = codes "avida: bad input: " ++ reason_of why ++ codes "\n"
-fault_line outcome.ReadFault = codes "avida: read fault\n"
-fault_line outcome.WriteFault = codes "avida: write fault\n"
-fault_line outcome.NoMemory = codes "avida: no memory\n"
+-- the line that tells why a call isn't done
+abbrev pub fault_line : CallError → List ℕ
+fault_line error.BadWords = codes "avida: bad words\n"
+fault_line (error.BadInput why) = codes "avida: bad input: " ++ reason_of why ++ codes "\n"
+fault_line error.ReadFault = codes "avida: read fault\n"
+fault_line error.WriteFault = codes "avida: write fault\n"
+fault_line error.Memory = codes "avida: no memory\n"

@@ -6,12 +6,11 @@ ghost use Rattle.world_core.specs.WorldValue.{WorldValue};
 ghost use Rattle.written_texts.specs.SinkChanges.{change, unchanged};
 ghost use Rattle.written_texts.specs.WrittenText.{WritesAll};
 ghost use Rattle.avida_program.specs.declared.command.Command.TheVariants.{Advance};
-ghost use Rattle.avida_program.specs.Outcomes.{WritesText};
 ghost use Rattle.avida_program.specs.SaveText.{advanced_text};
 ghost use Rattle.avida_program.specs.Commands.{CarriesOut};
 
+use crate::call_error::CallError;
 use crate::input::read_state_for;
-use crate::outcome::{Outcome, written};
 use crate::saved_world::write_state;
 use avida_port::{Gate, Memory, Sink, Source};
 use std::alloc::Global;
@@ -67,21 +66,6 @@ fn advance_and_write<R: Threads + Wait + Sync, O: Sink, G: Gate + Sync>(
     write_state(alloc, &after, out)
 }
 
-fn write_advanced<R: Threads + Wait + Sync, O: Sink, G: Gate + Sync>(
-    rt: &R,
-    alloc: Global,
-    state: State,
-    more: u32,
-    out: &mut O,
-    gate: &G,
-) -> Outcome
-    requires { state.head.update + more ≤ 1000000 }
-    ensures { WritesText (advanced_text state more)
-        (change (O.seen out.old) (O.seen out.new)) result }
-{
-    written(advance_and_write(rt, alloc, state, more, out, gate))
-}
-
 /// Reads a saved world, and writes the one that is there `more` updates later.
 pub fn advance<R: Threads + Wait + Sync, S: Source, O: Sink, G: Gate + Sync>(
     rt: &R,
@@ -91,7 +75,7 @@ pub fn advance<R: Threads + Wait + Sync, S: Source, O: Sink, G: Gate + Sync>(
     source: &mut S,
     out: &mut O,
     gate: &G,
-) -> Outcome
+) -> Result<(), CallError>
     requires { (1 ≤ workers) × (workers ≤ 64) }
     ensures { (watch : SinkState) (last : Option WorldValue)
         → CarriesOut (Advance more workers) (record {
@@ -101,8 +85,7 @@ pub fn advance<R: Threads + Wait + Sync, S: Source, O: Sink, G: Gate + Sync>(
           last = unchanged last;
         }) result }
 {
-    match read_state_for(rt, alloc, source, more, workers) {
-        Ok(state) => write_advanced(rt, alloc, state, more, out, gate),
-        Err(outcome) => outcome,
-    }
+    let state = read_state_for(rt, alloc, source, more, workers)?;
+    advance_and_write(rt, alloc, state, more, out, gate)?;
+    Ok(())
 }

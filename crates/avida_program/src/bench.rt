@@ -1,5 +1,5 @@
 // The command `bench`.
-ghost use Rattle.std.specs.Prelude.{◌≡◌, ◌≢◌, ◌≤◌, ◌<◌, ◌+◌, ◌^◌, ◌++◌, IfOk, OnOk, Some, codes, decimal, length};
+ghost use Rattle.std.specs.Prelude.{◌≡◌, ◌≤◌, ◌<◌, ◌+◌, ◌^◌, ◌++◌, IfOk, OnOk, Some, codes, decimal, length};
 ghost use Rattle.avida_port.specs.Ports.{SinkState, SourceState};
 ghost use Rattle.log_lines.specs.Line.{Count};
 ghost use Rattle.log_lines.specs.LineText.{line_text};
@@ -8,12 +8,11 @@ ghost use Rattle.avida_program.specs.declared.command.Command.TheVariants.{Bench
 ghost use Rattle.avida_program.specs.BenchSums.{IsCounted, IsSummed};
 ghost use Rattle.avida_program.specs.BenchText.{bench_config, bench_text, sums_text};
 ghost use Rattle.written_texts.specs.SinkChanges.{change, unchanged};
-ghost use Rattle.avida_program.specs.Outcomes.{WritesText};
 ghost use Rattle.logged_run.specs.RunText.{IsFinalWorld};
 ghost use Rattle.avida_program.specs.Commands.{CarriesOut};
 
-use crate::outcome::Outcome;
-use crate::run::leave;
+use crate::call_error::CallError;
+use crate::puts::put_text;
 use avida_port::{Gate, Memory, Sink};
 use log_lines::{LogLine, Stats, write_line};
 use std::alloc::Global;
@@ -209,25 +208,8 @@ fn run_seed<R: Threads + Wait + Sync, G: Gate + Sync>(
     run_and_tell(rt, alloc, config, workers, gate)
 }
 
-/// Puts a text, and leaves the world in `last` where it is put.
-fn put_and_leave<O: Sink>(
-    text: &[u8],
-    world: World,
-    out: &mut O,
-    last: &mut Option<World>,
-) -> Outcome
-    ensures writes { WritesText text.now (change (O.seen out.old) (O.seen out.new)) result }
-    ensures left { result ≡ Outcome.Done → last.new ≡ Some world }
-    ensures stays { result ≢ Outcome.Done → last.new ≡ last.old }
-{
-    match out.put(text) {
-        Ok(()) => leave(world, last),
-        Err(stop) => Outcome::from(stop),
-    }
-}
-
 /// Runs the default configuration with this seed for 200 updates, and writes what is counted after
-/// the last one, its births and the length of its log. On `Done` the last world is left in `last`,
+/// the last one, its births and the length of its log. At its end the last world is left in `last`,
 /// and otherwise `last` stays as it was.
 pub fn bench<R: Threads + Wait + Sync, O: Sink, G: Gate + Sync>(
     rt: &R,
@@ -237,7 +219,7 @@ pub fn bench<R: Threads + Wait + Sync, O: Sink, G: Gate + Sync>(
     out: &mut O,
     last: &mut Option<World>,
     gate: &G,
-) -> Outcome
+) -> Result<(), CallError>
     requires seed { seed ≤ 9223372036854775807 }
     requires workers { (1 ≤ workers) × (workers ≤ 64) }
     ensures { (source : SourceState) (watch : SinkState)
@@ -248,8 +230,8 @@ pub fn bench<R: Threads + Wait + Sync, O: Sink, G: Gate + Sync>(
           last = change last.old last.new;
         }) result }
 {
-    match run_seed(rt, alloc, seed, workers, gate) {
-        Ok((world, text)) => put_and_leave(&text, world, out, last),
-        Err(Memory) => Outcome::NoMemory,
-    }
+    let (world, text) = run_seed(rt, alloc, seed, workers, gate)?;
+    put_text(&text, out)?;
+    *last = Some(world);
+    Ok(())
 }

@@ -1,4 +1,4 @@
-// The line that tells of an outcome, made in a fixed text.
+// The line that tells why a call isn't done, made in a fixed text.
 ghost use Rattle.std.specs.Prelude.{◌≡◌, ◌≤◌, ◌+◌, ◌++◌, length, codes, decimal, map};
 ghost use Rattle.std.specs.Fmt.{signed_decimal};
 ghost use Rattle.arrayvec.specs.ArrayVec.{array_vec_len};
@@ -6,7 +6,7 @@ ghost use Rattle.world_config.specs.KeyTable.{key_name};
 ghost use Rattle.avida_program.specs.Status.{config_reason, fault_line, genome_reason, log_reason, reason_of, saved_reason, shown_byte, shown_key};
 
 use crate::Refusal;
-use crate::outcome::Outcome;
+use crate::call_error::CallError;
 use arrayvec::ArrayVec;
 use checkpoint::SavedStop;
 use genome::GenomeStop;
@@ -182,22 +182,21 @@ fn push_reason(line: &mut Line, refusal: &Refusal)
     }
 }
 
-/// The fault line of an outcome; `Done` has none.
-pub fn line_of(outcome: &Outcome) -> Line
-    ensures { result.items ≡ fault_line outcome.now }
+/// The fault line of a call that isn't done.
+pub fn line_of(error: &CallError) -> Line
+    ensures { result.items ≡ fault_line error.now }
 {
     let mut line = Line::new();
-    match outcome {
-        Outcome::Done => {}
-        Outcome::BadWords => push_text(&mut line, "avida: bad words\n"),
-        Outcome::BadInput(refusal) => {
+    match error {
+        CallError::BadWords => push_text(&mut line, "avida: bad words\n"),
+        CallError::BadInput(refusal) => {
             push_text(&mut line, "avida: bad input: ");
             push_reason(&mut line, refusal);
             push_text(&mut line, "\n");
         }
-        Outcome::ReadFault => push_text(&mut line, "avida: read fault\n"),
-        Outcome::WriteFault => push_text(&mut line, "avida: write fault\n"),
-        Outcome::NoMemory => push_text(&mut line, "avida: no memory\n"),
+        CallError::ReadFault => push_text(&mut line, "avida: read fault\n"),
+        CallError::WriteFault => push_text(&mut line, "avida: write fault\n"),
+        CallError::Memory => push_text(&mut line, "avida: no memory\n"),
     }
     line
 }

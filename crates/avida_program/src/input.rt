@@ -7,9 +7,9 @@ ghost use Rattle.log_lines.specs.Line.{Line};
 ghost use Rattle.world_config.specs.Shown.{values_of};
 ghost use Rattle.written_texts.specs.SinkChanges.{change};
 ghost use Rattle.avida_program.specs.Input.{assay_input_of, configuration_of, genome_of_input, genome_spelled, lineage_input_of, log_input_of, resume_input_of, saved_input_of};
-ghost use Rattle.avida_program.specs.Outcomes.{GivesInput, GivesNoInput, StopsReading};
+ghost use Rattle.avida_program.specs.Endings.{GivesInput, GivesNoInput, StopsReading};
 
-use crate::outcome::Outcome;
+use crate::call_error::CallError;
 use crate::{Refusal, Spelling};
 use avida_port::{LONGEST_INPUT, ReadStop, Source, read_all};
 use checkpoint::{SavedStop, read_saved};
@@ -27,7 +27,7 @@ pub const INPUT_LIMIT: usize = 1_048_576;
 pub const MOST_CELLS: u32 = 131_072;
 
 /// Reads a source to its end. More bytes than the limit are rejected with `TooLong`.
-fn read_bytes<S: Source>(alloc: Global, source: &mut S, limit: usize) -> Result<Vec<u8>, Outcome>
+fn read_bytes<S: Source>(alloc: Global, source: &mut S, limit: usize) -> Result<Vec<u8>, CallError>
     requires { limit ≤ 536870912 }
     ensures within { IfOk result (λ bytes. length bytes.items ≤ limit) }
     ensures all { IfOk result (λ bytes. IsAllOf (S.seen source.old) bytes.items) }
@@ -38,9 +38,9 @@ fn read_bytes<S: Source>(alloc: Global, source: &mut S, limit: usize) -> Result<
 {
     match read_all(alloc, source, limit) {
         Ok(bytes) => Ok(bytes),
-        Err(ReadStop::Memory) => Err(Outcome::NoMemory),
-        Err(ReadStop::Fault) => Err(Outcome::ReadFault),
-        Err(ReadStop::TooLong) => Err(Outcome::BadInput(Refusal::TooLong)),
+        Err(ReadStop::Memory) => Err(CallError::Memory),
+        Err(ReadStop::Fault) => Err(CallError::ReadFault),
+        Err(ReadStop::TooLong) => Err(CallError::BadInput(Refusal::TooLong)),
     }
 }
 
@@ -60,7 +60,7 @@ pub fn read_genome<S: Source>(
     alloc: Global,
     spelling: Spelling,
     source: &mut S,
-) -> Result<Genome, Outcome>
+) -> Result<Genome, CallError>
     ensures ok { IfOk result (λ genome. GivesInput (genome_of_input spelling)
         (change (S.seen source.old) (S.seen source.new)) (letters genome)) }
     ensures err { IfErr result (GivesNoInput (genome_of_input spelling)
@@ -69,13 +69,13 @@ pub fn read_genome<S: Source>(
     let bytes = read_bytes(alloc, source, INPUT_LIMIT)?;
     match read_spelled(alloc, spelling, bytes.as_slice()) {
         Ok(genome) => Ok(genome),
-        Err(GenomeStop::Memory) => Err(Outcome::NoMemory),
-        Err(stop) => Err(Outcome::BadInput(Refusal::Genome(stop))),
+        Err(GenomeStop::Memory) => Err(CallError::Memory),
+        Err(stop) => Err(CallError::BadInput(Refusal::Genome(stop))),
     }
 }
 
 /// Reads a configuration.
-pub fn read_config<S: Source>(alloc: Global, source: &mut S) -> Result<Config, Outcome>
+pub fn read_config<S: Source>(alloc: Global, source: &mut S) -> Result<Config, CallError>
     ensures ok { IfOk result (λ config. GivesInput configuration_of
         (change (S.seen source.old) (S.seen source.new)) (values_of config)) }
     ensures err { IfErr result (GivesNoInput configuration_of
@@ -84,8 +84,8 @@ pub fn read_config<S: Source>(alloc: Global, source: &mut S) -> Result<Config, O
     let bytes = read_bytes(alloc, source, INPUT_LIMIT)?;
     match world_config::read(alloc, bytes.as_slice()) {
         Ok(config) => Ok(config),
-        Err(ConfigStop::Memory) => Err(Outcome::NoMemory),
-        Err(stop) => Err(Outcome::BadInput(Refusal::Config(stop))),
+        Err(ConfigStop::Memory) => Err(CallError::Memory),
+        Err(stop) => Err(CallError::BadInput(Refusal::Config(stop))),
     }
 }
 
@@ -94,7 +94,7 @@ pub fn read_config_with<S: Source>(
     alloc: Global,
     source: &mut S,
     cell: u32,
-) -> Result<Config, Outcome>
+) -> Result<Config, CallError>
     ensures ok { IfOk result (λ config. GivesInput (lineage_input_of cell)
         (change (S.seen source.old) (S.seen source.new)) (values_of config)) }
     ensures cell { IfOk result (λ config. cell < config.width * config.height) }
@@ -105,7 +105,7 @@ pub fn read_config_with<S: Source>(
     if cell < config.width * config.height {
         Ok(config)
     } else {
-        Err(Outcome::BadInput(Refusal::Cell(cell)))
+        Err(CallError::BadInput(Refusal::Cell(cell)))
     }
 }
 
@@ -115,7 +115,7 @@ pub fn read_config_for<S: Source>(
     alloc: Global,
     source: &mut S,
     count: u32,
-) -> Result<Config, Outcome>
+) -> Result<Config, CallError>
     requires { count ≤ 64 }
     ensures ok { IfOk result (λ config. GivesInput (assay_input_of count)
         (change (S.seen source.old) (S.seen source.new)) (values_of config)) }
@@ -127,12 +127,12 @@ pub fn read_config_for<S: Source>(
     if cells <= MOST_CELLS {
         Ok(config)
     } else {
-        Err(Outcome::BadInput(Refusal::Cells(cells)))
+        Err(CallError::BadInput(Refusal::Cells(cells)))
     }
 }
 
 /// Reads a log.
-pub fn read_lines<S: Source>(alloc: Global, source: &mut S) -> Result<Log, Outcome>
+pub fn read_lines<S: Source>(alloc: Global, source: &mut S) -> Result<Log, CallError>
     ensures ok { IfOk result (λ log. GivesInput log_input_of
         (change (S.seen source.old) (S.seen source.new)) log) }
     ensures err { IfErr result (GivesNoInput log_input_of
@@ -141,13 +141,13 @@ pub fn read_lines<S: Source>(alloc: Global, source: &mut S) -> Result<Log, Outco
     let bytes = read_bytes(alloc, source, LONGEST_INPUT)?;
     match read_log(alloc, bytes.as_slice()) {
         Ok(log) => Ok(log),
-        Err(LogStop::Memory) => Err(Outcome::NoMemory),
-        Err(stop) => Err(Outcome::BadInput(Refusal::Log(stop))),
+        Err(LogStop::Memory) => Err(CallError::Memory),
+        Err(stop) => Err(CallError::BadInput(Refusal::Log(stop))),
     }
 }
 
 /// Replays a log. No line of it is kept.
-pub fn read_livings<S: Source>(alloc: Global, source: &mut S) -> Result<Livings, Outcome>
+pub fn read_livings<S: Source>(alloc: Global, source: &mut S) -> Result<Livings, CallError>
     ensures ok { IfOk result (λ livings. (lines : List Line)
         × GivesInput log_input_of (change (S.seen source.old) (S.seen source.new)) lines
         × (livings ≡ replay_of lines)) }
@@ -157,8 +157,8 @@ pub fn read_livings<S: Source>(alloc: Global, source: &mut S) -> Result<Livings,
     let bytes = read_bytes(alloc, source, LONGEST_INPUT)?;
     match living_at_end(alloc, bytes.as_slice()) {
         Ok(livings) => Ok(livings),
-        Err(LogStop::Memory) => Err(Outcome::NoMemory),
-        Err(stop) => Err(Outcome::BadInput(Refusal::Log(stop))),
+        Err(LogStop::Memory) => Err(CallError::Memory),
+        Err(stop) => Err(CallError::BadInput(Refusal::Log(stop))),
     }
 }
 
@@ -168,7 +168,7 @@ fn read_state<R: Wait, S: Source>(
     alloc: Global,
     source: &mut S,
     workers: u32,
-) -> Result<State, Outcome>
+) -> Result<State, CallError>
     requires { (1 ≤ workers) × (workers ≤ 64) }
     ensures ok { IfOk result (λ state. GivesInput saved_input_of
         (change (S.seen source.old) (S.seen source.new)) state) }
@@ -178,8 +178,8 @@ fn read_state<R: Wait, S: Source>(
     let bytes = read_bytes(alloc, source, LONGEST_INPUT)?;
     match read_saved(rt, alloc, bytes.as_slice(), workers) {
         Ok(state) => Ok(state),
-        Err(SavedStop::Memory) => Err(Outcome::NoMemory),
-        Err(stop) => Err(Outcome::BadInput(Refusal::Saved(stop))),
+        Err(SavedStop::Memory) => Err(CallError::Memory),
+        Err(stop) => Err(CallError::BadInput(Refusal::Saved(stop))),
     }
 }
 
@@ -191,7 +191,7 @@ pub fn read_state_for<R: Wait, S: Source>(
     source: &mut S,
     more: u32,
     workers: u32,
-) -> Result<State, Outcome>
+) -> Result<State, CallError>
     requires { (1 ≤ workers) × (workers ≤ 64) }
     ensures ok { IfOk result (λ state. GivesInput (resume_input_of more)
         (change (S.seen source.old) (S.seen source.new)) state) }
@@ -204,6 +204,6 @@ pub fn read_state_for<R: Wait, S: Source>(
     if updates <= u64::from(GREATEST_UPDATES) {
         Ok(state)
     } else {
-        Err(Outcome::BadInput(Refusal::Updates(updates)))
+        Err(CallError::BadInput(Refusal::Updates(updates)))
     }
 }

@@ -3,13 +3,14 @@
 
 mod advance;
 mod bench;
+mod call_error;
 mod command;
 mod fault_line;
 mod input;
 pub mod laws;
 mod lineage;
 mod neighbours;
-mod outcome;
+mod puts;
 mod refusal;
 mod replay;
 mod resume;

@@ -1,20 +1,21 @@
 // The command `lineage`.
-ghost use Rattle.std.specs.Prelude.{◌≡◌, ◌≤◌, ◌<◌, ◌*◌, ◌++◌, IfOk, IfErr, OnOk, flat_map, option_map};
+ghost use Rattle.std.specs.Prelude.{◌≡◌, ◌≤◌, ◌<◌, ◌*◌, ◌++◌, IfOk, OnOk, flat_map, option_map};
 ghost use Rattle.avida_port.specs.Ports.{SinkState};
 ghost use Rattle.mutations.specs.BirthRecord.{record_of};
 ghost use Rattle.world_config.specs.Shown.{values_of};
 ghost use Rattle.world_core.specs.WorldValue.{world_in};
 ghost use Rattle.world_rules.specs.Descent.{line_in};
 ghost use Rattle.avida_program.specs.declared.command.Command.TheVariants.{Lineage};
-ghost use Rattle.written_texts.specs.SinkChanges.{GainedText, change, unchanged};
-ghost use Rattle.avida_program.specs.Outcomes.{StopsWithin, WritesText};
+ghost use Rattle.written_texts.specs.SinkChanges.{change, unchanged};
+ghost use Rattle.written_texts.specs.WrittenText.{WritesAll};
 ghost use Rattle.avida_program.specs.PathText.{origin_text, parent_text, path_line, path_lines, path_text, place_text};
 ghost use Rattle.logged_run.specs.RunText.{IsFinalWorld};
 ghost use Rattle.avida_program.specs.Commands.{CarriesOut};
 
+use crate::call_error::CallError;
 use crate::input::read_config_with;
-use crate::outcome::{Outcome, ended};
-use crate::run::{leave, run_to_end};
+use crate::puts::{put_rest, put_text};
+use crate::run::run_to_end;
 use avida_port::{Gate, Memory, Sink, Source};
 use genome::letters_text;
 use lineage_log::{Link, Path};
@@ -25,7 +26,7 @@ use std::sync::Wait;
 use std::thread::Threads;
 use world_config::Config;
 use world_core::World;
-use written_texts::{Piece, write_text};
+use written_texts::{Piece, WriteStop, write_text};
 
 fn add_parent(text: &mut Vec<u8>, parent: Option<u64>) -> Result<(), Memory>
     ensures { OnOk result (text.new.items ≡ text.old.items ++ parent_text parent) }
@@ -74,47 +75,44 @@ fn add_link(text: &mut Vec<u8>, link: &Link) -> Result<(), Memory>
     Ok(())
 }
 
-fn write_links<O: Sink>(alloc: Global, links: &[Link], out: &mut O) -> Outcome
-    ensures { WritesText (flat_map path_line links.now)
-        (change (O.seen out.old) (O.seen out.new)) result }
+fn write_links<O: Sink>(alloc: Global, links: &[Link], out: &mut O) -> Result<(), WriteStop>
+    ensures { WritesAll (O.seen out.old) (O.seen out.new) (flat_map path_line links.now) result }
 {
     let mut piece = Piece::new();
     let mut text = Vec::new(alloc);
     for link in links {
         text.clear();
-        let Ok(()) = add_link(&mut text, link) else {
-            return Outcome::NoMemory;
-        };
-        if let Err(stop) = write_text(&mut piece, &text, out) {
-            return ended(Err(stop));
-        }
+        add_link(&mut text, link)?;
+        write_text(&mut piece, &text, out)?;
     }
-    ended(out.put(piece.as_slice()))
+    put_rest(&piece, out)
 }
 
-fn write_path<O: Sink>(alloc: Global, path: Option<Path>, out: &mut O) -> Outcome
-    ensures { WritesText (path_lines path)
-        (change (O.seen out.old) (O.seen out.new)) result }
+fn write_path<O: Sink>(alloc: Global, path: Option<Path>, out: &mut O) -> Result<(), WriteStop>
+    ensures { WritesAll (O.seen out.old) (O.seen out.new) (path_lines path) result }
 {
     match path {
         Some(path) => {
             let links = path.into_vec();
             write_links(alloc, &links, out)
         }
-        None => ended(out.put(b"-\n")),
+        None => put_text(b"-\n", out),
     }
 }
 
 /// Writes the line of descent of who stands in the cell.
-fn write_descent<O: Sink>(alloc: Global, world: &World, cell: u32, out: &mut O) -> Outcome
+fn write_descent<O: Sink>(
+    alloc: Global,
+    world: &World,
+    cell: u32,
+    out: &mut O,
+) -> Result<(), WriteStop>
     requires { cell < world.now.config.width * world.now.config.height }
-    ensures { WritesText (path_lines (line_in (world_in world.now) cell))
-        (change (O.seen out.old) (O.seen out.new)) result }
+    ensures { WritesAll (O.seen out.old) (O.seen out.new)
+        (path_lines (line_in (world_in world.now) cell)) result }
 {
-    match world.lineage(alloc, cell) {
-        Ok(path) => write_path(alloc, path, out),
-        Err(Memory) => Outcome::NoMemory,
-    }
+    let path = world.lineage(alloc, cell)?;
+    write_path(alloc, path, out)
 }
 
 /// Runs a configuration to its end, and writes the line of descent of who stands in the cell then.
@@ -126,24 +124,20 @@ fn run_and_write<R: Threads + Wait + Sync, O: Sink, G: Gate + Sync>(
     workers: u32,
     out: &mut O,
     gate: &G,
-) -> Result<World, Outcome>
+) -> Result<World, WriteStop>
     requires workers { (1 ≤ workers) × (workers ≤ 64) }
     requires cell { cell < config.width * config.height }
     ensures world { IfOk result (IsFinalWorld (values_of config)) }
-    ensures ok { OnOk result (GainedText (change (O.seen out.old) (O.seen out.new))
-        (path_text (values_of config) cell)) }
-    ensures err { IfErr result (StopsWithin (path_text (values_of config) cell)
-        (change (O.seen out.old) (O.seen out.new))) }
+    ensures text { WritesAll (O.seen out.old) (O.seen out.new)
+        (path_text (values_of config) cell) result }
 {
     let world = run_to_end(rt, alloc, config, workers, gate)?;
-    match write_descent(alloc, &world, cell, out) {
-        Outcome::Done => Ok(world),
-        stopped => Err(stopped),
-    }
+    write_descent(alloc, &world, cell, out)?;
+    Ok(world)
 }
 
 /// Reads a configuration, runs it to its end, and writes the line of descent of the organism in the
-/// cell. On `Done` the last world is left in `last`, and otherwise `last` stays as it was.
+/// cell. At its end the last world is left in `last`, and otherwise `last` stays as it was.
 pub fn lineage<R: Threads + Wait + Sync, S: Source, O: Sink, G: Gate + Sync>(
     rt: &R,
     alloc: Global,
@@ -153,7 +147,7 @@ pub fn lineage<R: Threads + Wait + Sync, S: Source, O: Sink, G: Gate + Sync>(
     out: &mut O,
     last: &mut Option<World>,
     gate: &G,
-) -> Outcome
+) -> Result<(), CallError>
     requires { (1 ≤ workers) × (workers ≤ 64) }
     ensures { (watch : SinkState) → CarriesOut (Lineage cell workers) (record {
       source = change (S.seen source.old) (S.seen source.new);
@@ -162,11 +156,8 @@ pub fn lineage<R: Threads + Wait + Sync, S: Source, O: Sink, G: Gate + Sync>(
       last = change last.old last.new;
     }) result }
 {
-    match read_config_with(alloc, source, cell) {
-        Ok(config) => match run_and_write(rt, alloc, config, cell, workers, out, gate) {
-            Ok(world) => leave(world, last),
-            Err(outcome) => outcome,
-        },
-        Err(outcome) => outcome,
-    }
+    let config = read_config_with(alloc, source, cell)?;
+    let world = run_and_write(rt, alloc, config, cell, workers, out, gate)?;
+    *last = Some(world);
+    Ok(())
 }

@@ -7,20 +7,23 @@ ghost use Rattle.landscape.specs.LandscapeText.{base_line, entry_line, landscape
 ghost use Rattle.world_core.specs.WorldValue.{WorldValue};
 ghost use Rattle.avida_program.specs.declared.command.Command.TheVariants.{Landscape};
 ghost use Rattle.written_texts.specs.SinkChanges.{change, unchanged};
-ghost use Rattle.avida_program.specs.Outcomes.{WritesText};
 ghost use Rattle.written_texts.specs.Pieces.{Writes};
+ghost use Rattle.written_texts.specs.WrittenText.{WritesAll};
 ghost use Rattle.avida_program.specs.Commands.{CarriesOut};
 
 use crate::Spelling;
+use crate::call_error::CallError;
 use crate::input::read_genome;
-use crate::outcome::{Outcome, ended};
-use avida_port::{Memory, Sink, SinkStop, Source};
+use crate::puts::put_rest;
+use avida_port::{Sink, SinkStop, Source};
 use genome::Genome;
 use instruction_set::Letter;
 use landscape::{Entry, Survey, Totals, Trial, survey};
 use std::alloc::Global;
 use std::thread::Threads;
-use written_texts::{PIECE_SIZE, Piece, make_room, push_natural, push_spaced, push_text};
+use written_texts::{
+    PIECE_SIZE, Piece, WriteStop, make_room, push_natural, push_spaced, push_text,
+};
 
 /// No line is longer.
 const LINE_ROOM: usize = 96;
@@ -125,21 +128,17 @@ fn write_parts<O: Sink>(
     entries: &[Entry],
     totals: &Totals,
     out: &mut O,
-) -> Outcome
-    ensures { WritesText
-        (base_line base.now ++ flat_map entry_line entries.now ++ totals_line totals.now)
-        (change (O.seen out.old) (O.seen out.new)) result }
+) -> Result<(), WriteStop>
+    ensures { WritesAll (O.seen out.old) (O.seen out.new)
+        (base_line base.now ++ flat_map entry_line entries.now ++ totals_line totals.now) result }
 {
     let mut piece = Piece::new();
-    if let Err(stop) = write_lines(&mut piece, base, entries, totals, out) {
-        return ended(Err(stop));
-    }
-    ended(out.put(piece.as_slice()))
+    write_lines(&mut piece, base, entries, totals, out)?;
+    put_rest(&piece, out)
 }
 
-fn write_found<O: Sink>(found: &Survey, out: &mut O) -> Outcome
-    ensures { WritesText (survey_text found.now)
-        (change (O.seen out.old) (O.seen out.new)) result }
+fn write_found<O: Sink>(found: &Survey, out: &mut O) -> Result<(), WriteStop>
+    ensures { WritesAll (O.seen out.old) (O.seen out.new) (survey_text found.now) result }
 {
     let totals = found.totals();
     write_parts(&found.base, found.entries.as_slice(), &totals, out)
@@ -152,14 +151,12 @@ fn write_landscape<R: Threads + Sync, O: Sink>(
     genome: &Genome,
     steps: u32,
     out: &mut O,
-) -> Outcome
-    ensures { WritesText (landscape_text (letters genome.now) steps)
-        (change (O.seen out.old) (O.seen out.new)) result }
+) -> Result<(), WriteStop>
+    ensures { WritesAll (O.seen out.old) (O.seen out.new)
+        (landscape_text (letters genome.now) steps) result }
 {
-    match survey(rt, alloc, genome, steps) {
-        Ok(found) => write_found(&found, out),
-        Err(Memory) => Outcome::NoMemory,
-    }
+    let found = survey(rt, alloc, genome, steps)?;
+    write_found(&found, out)
 }
 
 /// Reads a genome, and writes how it and each genome that differs from it in one letter do alone.
@@ -169,7 +166,7 @@ pub fn landscape<R: Threads + Sync, S: Source, O: Sink>(
     steps: u32,
     source: &mut S,
     out: &mut O,
-) -> Outcome
+) -> Result<(), CallError>
     ensures { (watch : SinkState) (last : Option WorldValue)
         → CarriesOut (Landscape steps) (record {
           source = change (S.seen source.old) (S.seen source.new);
@@ -178,8 +175,7 @@ pub fn landscape<R: Threads + Sync, S: Source, O: Sink>(
           last = unchanged last;
         }) result }
 {
-    match read_genome(alloc, Spelling::Letters, source) {
-        Ok(genome) => write_landscape(rt, alloc, &genome, steps, out),
-        Err(outcome) => outcome,
-    }
+    let genome = read_genome(alloc, Spelling::Letters, source)?;
+    write_landscape(rt, alloc, &genome, steps, out)?;
+    Ok(())
 }

@@ -7,17 +7,20 @@ ghost use Rattle.log_lines.specs.Line.{Line};
 ghost use Rattle.world_core.specs.WorldValue.{WorldValue};
 ghost use Rattle.avida_program.specs.declared.command.Command.TheVariants.{Replay};
 ghost use Rattle.written_texts.specs.SinkChanges.{change, unchanged};
-ghost use Rattle.avida_program.specs.Outcomes.{WritesText};
 ghost use Rattle.written_texts.specs.Pieces.{Writes};
+ghost use Rattle.written_texts.specs.WrittenText.{WritesAll};
 ghost use Rattle.avida_program.specs.ReplayText.{replay_text, resident_line};
 ghost use Rattle.avida_program.specs.Commands.{CarriesOut};
 
+use crate::call_error::CallError;
 use crate::input::read_livings;
-use crate::outcome::{Outcome, ended};
+use crate::puts::put_rest;
 use avida_port::{Sink, SinkStop, Source};
 use lineage_log::{Living, Livings};
 use std::alloc::Global;
-use written_texts::{PIECE_SIZE, Piece, make_room, push_natural, write_byte, write_letters};
+use written_texts::{
+    PIECE_SIZE, Piece, WriteStop, make_room, push_natural, write_byte, write_letters,
+};
 
 /// No line is longer before its letters.
 const LINE_ROOM: usize = 64;
@@ -43,28 +46,30 @@ fn write_living<O: Sink>(piece: &mut Piece, living: &Living, out: &mut O) -> Res
     write_byte(piece, b'\n', out)
 }
 
-fn write_livings<O: Sink>(livings: &[Living], out: &mut O) -> Outcome
-    ensures { WritesText (flat_map resident_line livings.now)
-        (change (O.seen out.old) (O.seen out.new)) result }
+fn write_livings<O: Sink>(livings: &[Living], out: &mut O) -> Result<(), WriteStop>
+    ensures { WritesAll (O.seen out.old) (O.seen out.new)
+        (flat_map resident_line livings.now) result }
 {
     let mut piece = Piece::new();
     for living in livings {
-        if let Err(stop) = write_living(&mut piece, living, out) {
-            return ended(Err(stop));
-        }
+        write_living(&mut piece, living, out)?;
     }
-    ended(out.put(piece.as_slice()))
+    put_rest(&piece, out)
 }
 
-fn write_replayed<O: Sink>(livings: Livings, out: &mut O) -> Outcome
+fn write_replayed<O: Sink>(livings: Livings, out: &mut O) -> Result<(), WriteStop>
     ensures { (lines : List Line) → livings ≡ replay_of lines
-        → WritesText (replay_text lines) (change (O.seen out.old) (O.seen out.new)) result }
+        → WritesAll (O.seen out.old) (O.seen out.new) (replay_text lines) result }
 {
     write_livings(livings.as_slice(), out)
 }
 
 /// Reads a log, and writes a line for each organism that lives at its end.
-pub fn replay<S: Source, O: Sink>(alloc: Global, source: &mut S, out: &mut O) -> Outcome
+pub fn replay<S: Source, O: Sink>(
+    alloc: Global,
+    source: &mut S,
+    out: &mut O,
+) -> Result<(), CallError>
     ensures { (watch : SinkState) (last : Option WorldValue) → CarriesOut Replay (record {
       source = change (S.seen source.old) (S.seen source.new);
       out = change (O.seen out.old) (O.seen out.new);
@@ -72,8 +77,7 @@ pub fn replay<S: Source, O: Sink>(alloc: Global, source: &mut S, out: &mut O) ->
       last = unchanged last;
     }) result }
 {
-    match read_livings(alloc, source) {
-        Ok(livings) => write_replayed(livings, out),
-        Err(outcome) => outcome,
-    }
+    let livings = read_livings(alloc, source)?;
+    write_replayed(livings, out)?;
+    Ok(())
 }

@@ -7,11 +7,10 @@ ghost use Rattle.world_rules.specs.LogText.{end_text};
 ghost use Rattle.written_texts.specs.SinkChanges.{change, unchanged};
 ghost use Rattle.written_texts.specs.WrittenText.{WritesAll};
 ghost use Rattle.avida_program.specs.declared.command.Command.TheVariants.{Resume};
-ghost use Rattle.avida_program.specs.Outcomes.{WritesText};
 ghost use Rattle.avida_program.specs.Commands.{CarriesOut};
 
+use crate::call_error::CallError;
 use crate::input::read_state_for;
-use crate::outcome::{Outcome, written};
 use avida_port::{Gate, Sink, Source};
 use log_lines::{LogLine, write_line};
 use std::alloc::Global;
@@ -83,21 +82,6 @@ fn write_on<R: Threads + Wait + Sync, O: Sink, G: Gate + Sync>(
     write_end(alloc, after.update(), out)
 }
 
-fn write_continued<R: Threads + Wait + Sync, O: Sink, G: Gate + Sync>(
-    rt: &R,
-    alloc: Global,
-    state: State,
-    more: u32,
-    out: &mut O,
-    gate: &G,
-) -> Outcome
-    requires { state.head.update + more ≤ 1000000 }
-    ensures { WritesText (continued_text state more)
-        (change (O.seen out.old) (O.seen out.new)) result }
-{
-    written(write_on(rt, alloc, state, more, out, gate))
-}
-
 /// Reads a saved world, and writes the log of `more` further updates, with its last line.
 pub fn resume<R: Threads + Wait + Sync, S: Source, O: Sink, G: Gate + Sync>(
     rt: &R,
@@ -107,7 +91,7 @@ pub fn resume<R: Threads + Wait + Sync, S: Source, O: Sink, G: Gate + Sync>(
     source: &mut S,
     out: &mut O,
     gate: &G,
-) -> Outcome
+) -> Result<(), CallError>
     requires { (1 ≤ workers) × (workers ≤ 64) }
     ensures { (watch : SinkState) (last : Option WorldValue)
         → CarriesOut (Resume more workers) (record {
@@ -117,8 +101,7 @@ pub fn resume<R: Threads + Wait + Sync, S: Source, O: Sink, G: Gate + Sync>(
           last = unchanged last;
         }) result }
 {
-    match read_state_for(rt, alloc, source, more, workers) {
-        Ok(state) => write_continued(rt, alloc, state, more, out, gate),
-        Err(outcome) => outcome,
-    }
+    let state = read_state_for(rt, alloc, source, more, workers)?;
+    write_on(rt, alloc, state, more, out, gate)?;
+    Ok(())
 }

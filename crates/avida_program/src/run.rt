@@ -6,8 +6,8 @@ ghost use Rattle.logged_run.specs.RunText.{IsFinalWorld};
 ghost use Rattle.avida_program.specs.declared.command.Command.TheVariants.{Run};
 ghost use Rattle.avida_program.specs.Commands.{CarriesOut};
 
+use crate::call_error::CallError;
 use crate::input::read_config;
-use crate::outcome::Outcome;
 use avida_port::{Gate, Memory, Sink, Source};
 use logged_run::write_run;
 use std::alloc::Global;
@@ -69,18 +69,9 @@ pub fn run_to_end<R: Threads + Wait + Sync, G: Gate + Sync>(
     pass_updates(rt, alloc, world, updates, gate)
 }
 
-/// Stores the world of a run that came to its end in `last`.
-pub fn leave(world: World, last: &mut Option<World>) -> Outcome
-    ensures done { result ≡ Outcome.Done }
-    ensures left { last.new ≡ Some world }
-{
-    *last = Some(world);
-    Outcome::Done
-}
-
 /// Reads a configuration, and writes the log of its run, which replays to the living at its end.
-/// With `looks` there is a watcher, which writes lines of pictures to `watch`. On `Done` the last
-/// world is left in `last`, and otherwise `last` stays as it was.
+/// With `looks` there is a watcher, which writes lines of pictures to `watch`. At its end the
+/// last world is left in `last`, and otherwise `last` stays as it was.
 pub fn run<
     R: Threads + Wait + Clock + Sync,
     S: Source,
@@ -97,7 +88,7 @@ pub fn run<
     watch: &mut W,
     last: &mut Option<World>,
     gate: &G,
-) -> Outcome
+) -> Result<(), CallError>
     requires { (1 ≤ workers) × (workers ≤ 64) }
     ensures { CarriesOut (Run workers looks) (record {
       source = change (S.seen source.old) (S.seen source.new);
@@ -106,14 +97,9 @@ pub fn run<
       last = change last.old last.new;
     }) result }
 {
-    match read_config(alloc, source) {
-        Ok(config) => {
-            replay_gives_living(&config, config.updates);
-            match write_run(rt, alloc, config, workers, looks, out, watch, gate) {
-                Ok(world) => leave(world, last),
-                Err(stop) => Outcome::from(stop),
-            }
-        }
-        Err(outcome) => outcome,
-    }
+    let config = read_config(alloc, source)?;
+    replay_gives_living(&config, config.updates);
+    let world = write_run(rt, alloc, config, workers, looks, out, watch, gate)?;
+    *last = Some(world);
+    Ok(())
 }

@@ -6,12 +6,11 @@ ghost use Rattle.world_core.specs.WorldValue.{WorldValue};
 ghost use Rattle.written_texts.specs.SinkChanges.{change, unchanged};
 ghost use Rattle.written_texts.specs.WrittenText.{WritesAll};
 ghost use Rattle.avida_program.specs.declared.command.Command.TheVariants.{Save};
-ghost use Rattle.avida_program.specs.Outcomes.{WritesText};
 ghost use Rattle.avida_program.specs.SaveText.{save_text};
 ghost use Rattle.avida_program.specs.Commands.{CarriesOut};
 
+use crate::call_error::CallError;
 use crate::input::read_config;
-use crate::outcome::{Outcome, written};
 use crate::run::run_to_end;
 use crate::saved_world::write_state;
 use avida_port::{Gate, Sink, Source};
@@ -38,21 +37,6 @@ fn run_and_write<R: Threads + Wait + Sync, O: Sink, G: Gate + Sync>(
     write_state(alloc, &state, out)
 }
 
-fn write_saved<R: Threads + Wait + Sync, O: Sink, G: Gate + Sync>(
-    rt: &R,
-    alloc: Global,
-    config: Config,
-    workers: u32,
-    out: &mut O,
-    gate: &G,
-) -> Outcome
-    requires { (1 ≤ workers) × (workers ≤ 64) }
-    ensures { WritesText (save_text (values_of config))
-        (change (O.seen out.old) (O.seen out.new)) result }
-{
-    written(run_and_write(rt, alloc, config, workers, out, gate))
-}
-
 /// Reads a configuration, runs it to its end, and writes the world then as a saved world.
 pub fn save<R: Threads + Wait + Sync, S: Source, O: Sink, G: Gate + Sync>(
     rt: &R,
@@ -61,7 +45,7 @@ pub fn save<R: Threads + Wait + Sync, S: Source, O: Sink, G: Gate + Sync>(
     source: &mut S,
     out: &mut O,
     gate: &G,
-) -> Outcome
+) -> Result<(), CallError>
     requires { (1 ≤ workers) × (workers ≤ 64) }
     ensures { (watch : SinkState) (last : Option WorldValue) → CarriesOut (Save workers) (record {
       source = change (S.seen source.old) (S.seen source.new);
@@ -70,8 +54,7 @@ pub fn save<R: Threads + Wait + Sync, S: Source, O: Sink, G: Gate + Sync>(
       last = unchanged last;
     }) result }
 {
-    match read_config(alloc, source) {
-        Ok(config) => write_saved(rt, alloc, config, workers, out, gate),
-        Err(outcome) => outcome,
-    }
+    let config = read_config(alloc, source)?;
+    run_and_write(rt, alloc, config, workers, out, gate)?;
+    Ok(())
 }

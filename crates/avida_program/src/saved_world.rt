@@ -7,6 +7,7 @@ ghost use Rattle.saved_worlds.specs.SavedWorldText.{saved_text, slot_text};
 ghost use Rattle.checkpoint.specs.Parts.{first_cells_text};
 ghost use Rattle.written_texts.specs.WrittenText.{WritesAll};
 
+use crate::puts::put_text;
 use avida_port::Sink;
 use checkpoint::laws::texts_are_written_by_cells;
 use checkpoint::{cell_text, head_text, tail_text};
@@ -20,8 +21,7 @@ fn write_head<O: Sink>(alloc: Global, state: &State, out: &mut O) -> Result<(), 
 {
     let mut line = Vec::new(alloc);
     head_text(state, &mut line)?;
-    out.put(&line)?;
-    Ok(())
+    put_text(&line, out)
 }
 
 /// Puts the lines of a cell. They take the place of what is in `lines`.
@@ -38,8 +38,7 @@ fn write_cell<O: Sink>(
 {
     lines.clear();
     cell_text(state, alloc, cell, lines)?;
-    out.put(lines)?;
-    Ok(())
+    put_text(lines, out)
 }
 
 fn write_cells<O: Sink>(alloc: Global, state: &State, out: &mut O) -> Result<(), WriteStop>
@@ -60,8 +59,7 @@ fn write_tail<O: Sink>(alloc: Global, state: &State, out: &mut O) -> Result<(), 
 {
     let mut line = Vec::new(alloc);
     tail_text(state, &mut line)?;
-    out.put(&line)?;
-    Ok(())
+    put_text(&line, out)
 }
 
 /// Writes a saved world, its first line, each cell and its last line one after another.

@@ -8,11 +8,12 @@ ghost use Rattle.world_core.specs.WorldValue.{WorldValue};
 ghost use Rattle.assay.specs.AssayText.{assay_line, assay_numbers, assay_text, assays_text, dominant_word, tally_line};
 ghost use Rattle.avida_program.specs.declared.command.Command.TheVariants as command;
 ghost use Rattle.written_texts.specs.SinkChanges.{change, unchanged};
-ghost use Rattle.avida_program.specs.Outcomes.{WritesText};
+ghost use Rattle.written_texts.specs.WrittenText.{WritesAll};
 ghost use Rattle.avida_program.specs.Commands.{CarriesOut};
 
+use crate::call_error::CallError;
 use crate::input::read_config_for;
-use crate::outcome::{Outcome, ended};
+use crate::puts::put_text;
 use assay::{Assay, seeds_with_each};
 use avida_port::{Gate, Memory, Sink, Source};
 use genome::{Genome, letters_text};
@@ -21,6 +22,7 @@ use std::alloc::Global;
 use std::sync::Wait;
 use std::thread::Threads;
 use world_config::Config;
+use written_texts::WriteStop;
 
 /// Appends a space and a sum.
 fn add_sum(text: &mut Vec<u8>, sum: u128) -> Result<(), Memory>
@@ -138,17 +140,15 @@ fn write_assay<R: Threads + Wait + Sync, O: Sink, G: Gate + Sync>(
     workers: u32,
     out: &mut O,
     gate: &G,
-) -> Outcome
+) -> Result<(), WriteStop>
     requires count { (1 ≤ count) × (count ≤ 64) }
     requires first { first ≤ 9223372036854775744 }
     requires workers { (1 ≤ workers) × (workers ≤ 64) }
-    ensures { WritesText (assay_text (values_of config.now) first count)
-        (change (O.seen out.old) (O.seen out.new)) result }
+    ensures { WritesAll (O.seen out.old) (O.seen out.new)
+        (assay_text (values_of config.now) first count) result }
 {
-    match run_and_tell(rt, alloc, config, count, first, workers, gate) {
-        Ok(text) => ended(out.put(&text)),
-        Err(Memory) => Outcome::NoMemory,
-    }
+    let text = run_and_tell(rt, alloc, config, count, first, workers, gate)?;
+    put_text(&text, out)
 }
 
 /// Reads a configuration, runs it with `count` consecutive seeds, and writes the totals of each
@@ -162,7 +162,7 @@ pub fn assay<R: Threads + Wait + Sync, S: Source, O: Sink, G: Gate + Sync>(
     source: &mut S,
     out: &mut O,
     gate: &G,
-) -> Outcome
+) -> Result<(), CallError>
     requires count { (1 ≤ count) × (count ≤ 64) }
     requires first { first ≤ 9223372036854775744 }
     requires workers { (1 ≤ workers) × (workers ≤ 64) }
@@ -174,8 +174,7 @@ pub fn assay<R: Threads + Wait + Sync, S: Source, O: Sink, G: Gate + Sync>(
           last = unchanged last;
         }) result }
 {
-    match read_config_for(alloc, source, count) {
-        Ok(config) => write_assay(rt, alloc, &config, count, first, workers, out, gate),
-        Err(outcome) => outcome,
-    }
+    let config = read_config_for(alloc, source, count)?;
+    write_assay(rt, alloc, &config, count, first, workers, out, gate)?;
+    Ok(())
 }

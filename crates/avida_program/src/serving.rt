@@ -8,11 +8,11 @@ ghost use Rattle.written_texts.specs.SinkChanges.{change};
 use crate::Status;
 use crate::advance::advance;
 use crate::bench::bench;
+use crate::call_error::CallError;
 use crate::command::{Command, read_words};
 use crate::fault_line::line_of;
 use crate::lineage::lineage;
 use crate::neighbours::landscape;
-use crate::outcome::Outcome;
 use crate::replay::replay;
 use crate::resume::resume;
 use crate::run::run;
@@ -30,14 +30,13 @@ use std::time::Clock;
 use world_core::World;
 
 /// Writes the fault line to `err`. A failure there changes no status.
-fn write_fault_line<E: Sink>(err: &mut E, outcome: &Outcome)
-    ensures { TellsOf (change (E.seen err.old) (E.seen err.new)) outcome.now }
+fn write_fault_line<E: Sink>(err: &mut E, ended: &Result<(), CallError>)
+    ensures { TellsOf (change (E.seen err.old) (E.seen err.new)) ended.now }
 {
-    if let Outcome::Done = outcome {
-        return;
+    if let Err(error) = ended {
+        let line = line_of(error);
+        let _ = err.put(line.as_slice());
     }
-    let line = line_of(outcome);
-    let _ = err.put(line.as_slice());
 }
 
 /// Calls the function of the command.
@@ -56,7 +55,7 @@ fn carry_out<
     watch: &mut W,
     last: &mut Option<World>,
     gate: &G,
-) -> Outcome
+) -> Result<(), CallError>
     requires { HasNumbersInRange command }
     ensures { CarriesOut command (record {
       source = change (S.seen source.old) (S.seen source.new);
@@ -111,7 +110,7 @@ fn obey<
     watch: &mut W,
     last: &mut Option<World>,
     gate: &G,
-) -> Outcome
+) -> Result<(), CallError>
     ensures { Obeys (command_of (map string_bytes words.now)) (record {
       source = change (S.seen source.old) (S.seen source.new);
       out = change (O.seen out.old) (O.seen out.new);
@@ -121,8 +120,8 @@ fn obey<
 {
     match read_words(alloc, words) {
         Ok(command) => carry_out(rt, alloc, command, source, out, watch, last, gate),
-        Err(Refused::BadWords) => Outcome::BadWords,
-        Err(Refused::Memory) => Outcome::NoMemory,
+        Err(Refused::BadWords) => Err(CallError::BadWords),
+        Err(Refused::Memory) => Err(CallError::Memory),
     }
 }
 
@@ -155,7 +154,7 @@ pub fn serve<
       last = change last.old last.new;
     }) (change (E.seen err.old) (E.seen err.new)) result }
 {
-    let outcome = obey(rt, alloc, words, source, out, watch, last, gate);
-    write_fault_line(err, &outcome);
-    outcome.status()
+    let ended = obey(rt, alloc, words, source, out, watch, last, gate);
+    write_fault_line(err, &ended);
+    Status::of(&ended)
 }

@@ -1,6 +1,8 @@
 // How the program ends.
 ghost use Rattle.std.specs.Prelude.{◌≡◌};
-ghost use Rattle.avida_program.specs.Status.{number_of_status};
+ghost use Rattle.avida_program.specs.Status.{number_of_status, status_of};
+
+use crate::call_error::CallError;
 
 /// How a call of the program ended.
 #[derive(Clone, Copy, Debug, PartialEq, Eq)]
@@ -14,6 +16,20 @@ pub enum Status {
 }
 
 impl Status {
+    /// The status of a call that ended so.
+    pub(crate) fn of(ended: &Result<(), CallError>) -> Status
+        ensures { result ≡ status_of ended.now }
+    {
+        match ended {
+            Ok(()) => Status::Done,
+            Err(CallError::BadWords) => Status::BadWords,
+            Err(CallError::BadInput(_)) => Status::BadInput,
+            Err(CallError::ReadFault) => Status::ReadFault,
+            Err(CallError::WriteFault) => Status::WriteFault,
+            Err(CallError::Memory) => Status::NoMemory,
+        }
+    }
+
     /// The exit status of the process.
     pub fn number(self) -> u8
         ensures { result ≡ number_of_status self }

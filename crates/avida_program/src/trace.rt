@@ -3,40 +3,41 @@ ghost use Rattle.std.specs.Prelude.{◌≡◌, Option};
 ghost use Rattle.avida_port.specs.Ports.{SinkState};
 ghost use Rattle.genome.specs.Genome.{letters};
 ghost use Rattle.world_core.specs.WorldValue.{WorldValue};
-ghost use Rattle.avida_program.specs.declared.command.Command.TheVariants.{Trace};
 ghost use Rattle.written_texts.specs.SinkChanges.{change, unchanged};
-ghost use Rattle.avida_program.specs.Outcomes.{WritesText};
-ghost use Rattle.avida_program.specs.TraceText.{trace_lines, trace_text};
+ghost use Rattle.written_texts.specs.WrittenText.{WritesAll};
+ghost use Rattle.avida_program.specs.declared.command.Command.TheVariants.{Trace};
 ghost use Rattle.avida_program.specs.Commands.{CarriesOut};
+ghost use Rattle.avida_program.specs.TraceText.{trace_lines, trace_text};
 
 use crate::Spelling;
+use crate::call_error::CallError;
 use crate::input::read_genome;
-use crate::outcome::{Outcome, ended};
+use crate::puts::put_rest;
 use crate::trace_line::write_line;
-use avida_port::{Memory, Sink, Source};
+use avida_port::{Sink, Source};
 use genome::Genome;
 use landscape::organism_alone;
 use logic_tasks::Inputs;
 use organism::Organism;
 use std::alloc::Global;
-use written_texts::Piece;
+use written_texts::{Piece, WriteStop};
 
 /// Steps an organism of age 0, and writes a line a step.
-fn write_steps<O: Sink>(alloc: Global, mut organism: Organism, steps: u32, out: &mut O) -> Outcome
+fn write_steps<O: Sink>(
+    alloc: Global,
+    mut organism: Organism,
+    steps: u32,
+    out: &mut O,
+) -> Result<(), WriteStop>
     requires { organism.age ≡ 0 }
-    ensures { WritesText (trace_lines organism steps)
-        (change (O.seen out.old) (O.seen out.new)) result }
+    ensures { WritesAll (O.seen out.old) (O.seen out.new) (trace_lines organism steps) result }
 {
     let mut piece = Piece::new();
     for step in 0..steps {
-        let Ok(traced) = organism.trace_step(alloc) else {
-            return Outcome::NoMemory;
-        };
-        if let Err(stop) = write_line(&mut piece, step + 1, &traced, out) {
-            return ended(Err(stop));
-        }
+        let traced = organism.trace_step(alloc)?;
+        write_line(&mut piece, step + 1, &traced, out)?;
     }
-    ended(out.put(piece.as_slice()))
+    put_rest(&piece, out)
 }
 
 fn write_trace<O: Sink>(
@@ -45,14 +46,12 @@ fn write_trace<O: Sink>(
     low: [u32; 3],
     steps: u32,
     out: &mut O,
-) -> Outcome
-    ensures { WritesText (trace_text (letters genome) low steps)
-        (change (O.seen out.old) (O.seen out.new)) result }
+) -> Result<(), WriteStop>
+    ensures { WritesAll (O.seen out.old) (O.seen out.new)
+        (trace_text (letters genome) low steps) result }
 {
-    match organism_alone(alloc, genome, Inputs::of(low)) {
-        Ok(organism) => write_steps(alloc, organism, steps, out),
-        Err(Memory) => Outcome::NoMemory,
-    }
+    let organism = organism_alone(alloc, genome, Inputs::of(low))?;
+    write_steps(alloc, organism, steps, out)
 }
 
 /// Reads a genome, and writes a line for each of its organism's first `steps` steps. `low` has the
@@ -64,7 +63,7 @@ pub fn trace<S: Source, O: Sink>(
     low: [u32; 3],
     source: &mut S,
     out: &mut O,
-) -> Outcome
+) -> Result<(), CallError>
     ensures { (watch : SinkState) (last : Option WorldValue)
         → CarriesOut (Trace steps spelling low) (record {
           source = change (S.seen source.old) (S.seen source.new);
@@ -73,8 +72,7 @@ pub fn trace<S: Source, O: Sink>(
           last = unchanged last;
         }) result }
 {
-    match read_genome(alloc, spelling, source) {
-        Ok(genome) => write_trace(alloc, genome, low, steps, out),
-        Err(outcome) => outcome,
-    }
+    let genome = read_genome(alloc, spelling, source)?;
+    write_trace(alloc, genome, low, steps, out)?;
+    Ok(())
 }

@@ -6,18 +6,19 @@ ghost use Rattle.phylogeny.specs.TreeText.{ancestor_line, depth_line, tree_text}
 ghost use Rattle.world_core.specs.WorldValue.{WorldValue};
 ghost use Rattle.avida_program.specs.declared.command.Command.TheVariants.{Tree};
 ghost use Rattle.written_texts.specs.SinkChanges.{change, unchanged};
-ghost use Rattle.avida_program.specs.Outcomes.{WritesText};
 ghost use Rattle.written_texts.specs.Pieces.{Writes};
+ghost use Rattle.written_texts.specs.WrittenText.{WritesAll};
 ghost use Rattle.avida_program.specs.TreeText.{counts_line, last_lines, lines_of_tree};
 ghost use Rattle.avida_program.specs.Commands.{CarriesOut};
 
+use crate::call_error::CallError;
 use crate::input::read_lines;
-use crate::outcome::{Outcome, ended};
-use avida_port::{Memory, Sink, SinkStop, Source};
+use crate::puts::put_rest;
+use avida_port::{Sink, SinkStop, Source};
 use lineage_log::Log;
 use phylogeny::{Depth, Phylogeny, phylogeny};
 use std::alloc::Global;
-use written_texts::{PIECE_SIZE, Piece, make_room, push_spaced, push_text};
+use written_texts::{PIECE_SIZE, Piece, WriteStop, make_room, push_spaced, push_text};
 
 /// No line is longer, and the last two together aren't either.
 const LINE_ROOM: usize = 96;
@@ -96,29 +97,28 @@ fn write_lines<O: Sink>(piece: &mut Piece, found: &Phylogeny, out: &mut O) -> Re
     Ok(())
 }
 
-fn write_found<O: Sink>(found: &Phylogeny, out: &mut O) -> Outcome
-    ensures { WritesText (lines_of_tree found.now)
-        (change (O.seen out.old) (O.seen out.new)) result }
+fn write_found<O: Sink>(found: &Phylogeny, out: &mut O) -> Result<(), WriteStop>
+    ensures { WritesAll (O.seen out.old) (O.seen out.new) (lines_of_tree found.now) result }
 {
     let mut piece = Piece::new();
-    if let Err(stop) = write_lines(&mut piece, found, out) {
-        return ended(Err(stop));
-    }
-    ended(out.put(piece.as_slice()))
+    write_lines(&mut piece, found, out)?;
+    put_rest(&piece, out)
 }
 
 /// Writes the tree of a log.
-fn write_tree<O: Sink>(alloc: Global, log: &Log, out: &mut O) -> Outcome
-    ensures { WritesText (tree_text log.now) (change (O.seen out.old) (O.seen out.new)) result }
+fn write_tree<O: Sink>(alloc: Global, log: &Log, out: &mut O) -> Result<(), WriteStop>
+    ensures { WritesAll (O.seen out.old) (O.seen out.new) (tree_text log.now) result }
 {
-    match phylogeny(alloc, log) {
-        Ok(found) => write_found(&found, out),
-        Err(Memory) => Outcome::NoMemory,
-    }
+    let found = phylogeny(alloc, log)?;
+    write_found(&found, out)
 }
 
 /// Reads a log, and writes how the organisms alive at its end descend from each other.
-pub fn tree<S: Source, O: Sink>(alloc: Global, source: &mut S, out: &mut O) -> Outcome
+pub fn tree<S: Source, O: Sink>(
+    alloc: Global,
+    source: &mut S,
+    out: &mut O,
+) -> Result<(), CallError>
     ensures { (watch : SinkState) (last : Option WorldValue) → CarriesOut Tree (record {
       source = change (S.seen source.old) (S.seen source.new);
       out = change (O.seen out.old) (O.seen out.new);
@@ -126,8 +126,7 @@ pub fn tree<S: Source, O: Sink>(alloc: Global, source: &mut S, out: &mut O) -> O
       last = unchanged last;
     }) result }
 {
-    match read_lines(alloc, source) {
-        Ok(log) => write_tree(alloc, &log, out),
-        Err(outcome) => outcome,
-    }
+    let log = read_lines(alloc, source)?;
+    write_tree(alloc, &log, out)?;
+    Ok(())
 }

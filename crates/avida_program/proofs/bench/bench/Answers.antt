@@ -1,23 +1,28 @@
-use Rattle.std.proofs.Common.{◌∙◌, List, ℕ, refl, subst}
-use Rattle.written_texts.specs.SinkChanges.{change, unchanged}
-use Rattle.written_texts.proofs.GainedLemmas.{stays_front}
+use Rattle.std.proofs.Common.{◌∙◌, List, ℕ, refl, subst, Ok, Err}
+use Rattle.std.proofs.lemmas.Result.{err_from_is_err_and}
+use Rattle.written_texts.proofs.WriteLemmas.{nothing_written}
 use Rattle.avida_program.specs.BenchText.{bench_text}
-use Rattle.avida_program.specs.Outcomes.{WritesText}
-use Rattle.avida_program.proofs.BenchLemmas.{benched}
+use Rattle.avida_program.proofs.BenchLemmas.{bench_stopped, benched}
 use Rattle.avida_program.proofs.bench.bench.Goals as goal
 
-pub returns-in-Ok : goal.returns-in-Ok
-returns-in-Ok g c = λ source watch.
-    let put = c.put_and_leave.ensures in
-    let shown = c.deref.ensures.value ∙ c.in-Ok.ensures.text in
-    benched c.args.seed c.args.workers _ c.put_and_leave.result refl refl
-    (subst (λ (text : List ℕ). WritesText text
-    (change (g.O.Sink.seen c.args.out.now) (g.O.Sink.seen c.put_and_leave.new.out))
-    c.put_and_leave.result) shown put.writes)
-    (λ done. (c.in-Ok.world, put.left done, c.in-Ok.ensures.world)) put.stays
+pub returns-in_err-world : goal.returns-in_err-world
+returns-in_err-world g c = λ source watch.
+    let p = err_from_is_err_and c.from_residual.result c.from_residual.ensures.1 in
+    let none = nothing_written {T = Unit {0}} (g.O.Sink.seen c.args.out.now)
+    (bench_text c.args.seed) in
+    rw (p.1, p.2) (bench_stopped c.args.seed c.args.workers source watch _ _ none)
 
-pub returns-in-Err : goal.returns-in-Err
-returns-in-Err g c = λ source watch.
-    benched c.args.seed c.args.workers _ _ refl refl
-    (stays_front (unchanged (g.O.Sink.seen c.args.out.now)) (bench_text c.args.seed) refl)
-    (λ done. absurd (cc)) (λ other. refl)
+pub returns-in_err-put_text : goal.returns-in_err-put_text
+returns-in_err-put_text g c = λ source watch.
+    let p = err_from_is_err_and c.from_residual-in_err-put_text.result
+    c.from_residual-in_err-put_text.ensures.1 in
+    let wrote = rw (c.deref.ensures.value ∙ c.in_ok-world.ensures.text)
+    at c.in_err-put_text.ensures in
+    rw (p.1, p.2) (bench_stopped c.args.seed c.args.workers source watch _ _ wrote)
+
+pub returns : goal.returns
+returns g c = λ source watch.
+    let wrote = rw (c.deref.ensures.value ∙ c.in_ok-world.ensures.text)
+    at c.in_ok-put_text.ensures in
+    benched c.args.seed c.args.workers source watch _ wrote
+    (c.in_ok-world.world, refl, c.in_ok-world.ensures.world)

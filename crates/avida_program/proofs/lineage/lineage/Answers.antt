@@ -1,16 +1,24 @@
 use Rattle.std.proofs.Common.{refl}
+use Rattle.std.proofs.lemmas.Result.{err_from_is_err_and}
 use Rattle.world_config.specs.Shown.{values_of}
-use Rattle.avida_program.proofs.RunEnds.{descent_stopped, descent_written}
+use Rattle.avida_program.proofs.RunEnds.{descent_not_read, descent_stopped, descent_written}
 use Rattle.avida_program.proofs.lineage.lineage.Goals as goal
 
-pub returns-in-Ok-run_and_write : goal.returns-in-Ok-run_and_write
-returns-in-Ok-run_and_write g c = λ watch.
-    let ran = c.in-Ok-run_and_write.ensures in
-    rw c.leave.ensures.done
-    (descent_written c.args.cell c.args.workers _ (values_of c.in-Ok.config) c.in-Ok.ensures.ok refl
-    ran.ok (c.in-Ok-run_and_write.world, c.leave.ensures.left, ran.world))
+pub returns-in_err-config : goal.returns-in_err-config
+returns-in_err-config g c = λ watch.
+    let p = err_from_is_err_and c.from_residual.result c.from_residual.ensures.1 in
+    rw (p.1, p.2)
+    (descent_not_read c.args.cell c.args.workers _ _ watch _ _ c.in_err-config.ensures.err)
 
-pub returns-in-Err-run_and_write : goal.returns-in-Err-run_and_write
-returns-in-Err-run_and_write g c = λ watch.
-    descent_stopped c.args.cell c.args.workers _ (values_of c.in-Ok.config)
-    c.in-Err-run_and_write.outcome c.in-Ok.ensures.ok refl refl c.in-Err-run_and_write.ensures.err
+pub returns-in_err-world : goal.returns-in_err-world
+returns-in_err-world g c = λ watch.
+    let p = err_from_is_err_and c.from_residual-in_err-world.result
+    c.from_residual-in_err-world.ensures.1 in
+    rw (p.1, p.2) (descent_stopped c.args.cell c.args.workers _ watch _
+    (values_of c.in_ok-config.config) _ c.in_ok-config.ensures.ok c.in_err-world.ensures.text)
+
+pub returns : goal.returns
+returns g c = λ watch.
+    let ran = c.in_ok-world.ensures in
+    descent_written c.args.cell c.args.workers _ (values_of c.in_ok-config.config)
+    c.in_ok-config.ensures.ok refl ran.text.ok (c.in_ok-world.world, refl, ran.world)

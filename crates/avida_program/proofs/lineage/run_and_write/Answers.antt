@@ -1,31 +1,39 @@
-use Rattle.std.proofs.Common.{◌≡◌, ◌∙◌, ap, subst, ℕ, List}
+use Rattle.std.proofs.Common.{◌≡◌, ◌∙◌, ap, sym, ℕ}
+use Rattle.std.proofs.lemmas.Result.{err_from_is_err_and}
 use Rattle.world_config.specs.Shown.{values_of}
 use Rattle.world_config.specs.Values.{ConfigValues}
-use Rattle.world_core.specs.WorldValue.{world_in}
+use Rattle.world_core.specs.WorldValue.{WorldValue, world_in}
 use Rattle.world_rules.specs.Descent.{line_in}
 use Rattle.world_rules.specs.WorldRun.{world_after}
-use Rattle.written_texts.specs.SinkChanges.{change}
-use Rattle.avida_program.specs.Outcomes.{WritesText}
+use Rattle.written_texts.specs.WrittenText.{WritesAll}
+use Rattle.written_texts.proofs.WriteLemmas.{nothing_written, stopped_same, writes_same}
+use Rattle.logged_run.specs.RunText.{IsFinalWorld}
 use Rattle.avida_program.specs.PathText.{path_lines, path_text}
-use Rattle.avida_program.proofs.StopLemmas.{text_stopped}
 use Rattle.avida_program.proofs.lineage.run_and_write.Goals as goal
 
-pub returns-in_default : goal.returns-in_default
-returns-in_default g c =
-    let out = change (g.O.Sink.seen c.args.out.now) (g.O.Sink.seen c.write_descent.new.out) in
-    let text : path_lines (line_in (world_in c.in_ok-world.world) c.args.cell)
-    ≡ path_text (values_of c.args.config) c.args.cell =
-    ap (λ (k : ConfigValues).
-    path_lines (line_in (world_after k c.in_ok-world.world.update) c.args.cell))
-    c.in_ok-world.ensures.config
-    ∙ ap (λ (n : ℕ).
-    path_lines (line_in (world_after (values_of c.args.config) n) c.args.cell))
-    c.in_ok-world.ensures.update in
-    record {
-      world = tt;
-      ok = tt;
-      err = text_stopped (path_text (values_of c.args.config) c.args.cell) out
-          c.write_descent.result c.in_default.not-Done
-          (subst (λ (t : List ℕ). WritesText t out c.write_descent.result) text
-          c.write_descent.ensures);
-    }
+-- the line of descent in the last world is that of the configuration
+text_is : (config : ConfigValues) (cell : ℕ) (world : WorldValue) → IsFinalWorld config world
+    → path_lines (line_in (world_in world) cell) ≡ path_text config cell
+text_is config cell world is =
+    ap (λ (k : ConfigValues). path_lines (line_in (world_after k world.update) cell)) is.config
+    ∙ ap (λ (n : ℕ). path_lines (line_in (world_after config n) cell)) is.update
+
+pub returns-in_err-world-clause-text : goal.returns-in_err-world-clause-text
+returns-in_err-world-clause-text g c =
+    let p = err_from_is_err_and c.from_residual.result c.from_residual.ensures.1 in
+    rw (p.1, p.2) (nothing_written (g.O.Sink.seen c.args.out.now)
+    (path_text (values_of c.args.config) c.args.cell))
+
+pub returns-in_err-write_descent-clause-text : goal.returns-in_err-write_descent-clause-text
+returns-in_err-write_descent-clause-text g c =
+    let p = err_from_is_err_and c.from_residual-in_err-write_descent.result
+    c.from_residual-in_err-write_descent.ensures.1 in
+    let same = text_is (values_of c.args.config) c.args.cell c.in_ok-world.world
+    c.in_ok-world.ensures in
+    rw (p.1, p.2, sym same) (stopped_same c.in_err-write_descent.ensures)
+
+pub returns-clause-text : goal.returns-clause-text
+returns-clause-text g c =
+    let same = text_is (values_of c.args.config) c.args.cell c.in_ok-world.world
+    c.in_ok-world.ensures in
+    rw (sym same) (writes_same c.in_ok-write_descent.ensures)

@@ -6,8 +6,7 @@ use Rattle.landscape.specs.declared.totals.Totals.{Totals}
 use Rattle.landscape.specs.Landscape.{Landscape}
 use Rattle.landscape.specs.LandscapeText.{base_line, entry_line, survey_text, totals_line}
 use Rattle.landscape.specs.Totals.{totals_of}
-use Rattle.written_texts.specs.SinkChanges.{change}
-use Rattle.avida_program.specs.Outcomes.{WritesText}
+use Rattle.written_texts.specs.WrittenText.{WritesAll}
 use Rattle.avida_program.proofs.neighbours.write_found.Goals as goal
 
 -- the lines of a survey's parts are its text
@@ -25,6 +24,5 @@ returns g c =
     let same_base = ap (λ (s : Landscape). s.base) c.found.view_is in
     let same_entries = c.as_slice.ensures ∙ ap (λ (s : Landscape). s.entries) c.found.view_is in
     let same = parts_text c.args.found.now _ _ _ same_base same_entries c.totals-totals.ensures in
-    subst (λ text. WritesText text
-    (change (g.O.Sink.seen c.args.out.now) (g.O.Sink.seen c.write_parts.new.out))
-    c.write_parts.result) same c.write_parts.ensures
+    subst (λ text. WritesAll {T = Unit {0}} (g.O.Sink.seen c.args.out.now)
+    (g.O.Sink.seen c.write_parts.new.out) text c.write_parts.result) same c.write_parts.ensures

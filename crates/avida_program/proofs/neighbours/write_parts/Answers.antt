@@ -1,17 +1,17 @@
-use Rattle.std.proofs.Common.{◌++◌, Err}
+use Rattle.std.proofs.Common.{[], ◌++◌, append-nil}
 use Rattle.std.specs.Prelude.{flat_map}
+use Rattle.std.proofs.lemmas.Result.{err_from_is_err_and}
 use Rattle.landscape.specs.LandscapeText.{base_line, entry_line, totals_line}
-use Rattle.avida_program.proofs.TraceLemmas.{piece_put, writes_ended}
+use Rattle.avida_program.proofs.TextEnds.{stopped_within}
 use Rattle.avida_program.proofs.neighbours.write_parts.Goals as goal
 
-pub returns-in-Err : goal.returns-in-Err
-returns-in-Err g c =
+pub returns-in_err-write_lines : goal.returns-in_err-write_lines
+returns-in_err-write_lines g c =
+    let p = err_from_is_err_and c.from_residual.result c.from_residual.ensures.1 in
     let text = base_line c.args.base.now ++ flat_map entry_line c.args.entries.now
     ++ totals_line c.args.totals.now in
-    let wrote = rw c.new-piece.ensures at c.in-Err.ensures in
-    rw c.ended.ensures (writes_ended _ _ text (Err c.in-Err.stop) wrote.err)
+    let wrote = rw c.new-piece.ensures at c.in_err-write_lines.ensures in
+    rw (p.1, p.2) (stopped_within [] text wrote (append-nil text))
 
 pub returns : goal.returns
-returns g c =
-    let wrote = rw c.new-piece.ensures at c.in_default.ensures in
-    rw c.ended-2.ensures (piece_put wrote c.as_slice.ensures.value c.put.ensures.puts)
+returns g c = c.put_rest.ensures _ _ (rw c.new-piece.ensures at c.in_ok-write_lines.ensures)

@@ -1,19 +1,25 @@
 use Rattle.std.proofs.Common.{refl}
+use Rattle.std.proofs.lemmas.Result.{err_from_is_err_and}
 use Rattle.world_config.specs.Shown.{values_of}
-use Rattle.avida_program.proofs.RunEnds.{ran_to_end, run_stopped}
+use Rattle.avida_program.proofs.RunEnds.{ran_to_end, run_not_read, run_stopped}
 use Rattle.avida_program.proofs.run.run.Goals as goal
 
-pub returns-in-Ok-write_run : goal.returns-in-Ok-write_run
-returns-in-Ok-write_run g c =
-    let ran = c.in-Ok-write_run.ensures in
-    rw c.leave.ensures.done
-    (ran_to_end c.args.workers c.args.looks _ (values_of c.in-Ok.config) c.in-Ok.ensures.ok ran.ok
-    ran.watched ran.unwatched (c.in-Ok-write_run.world, c.leave.ensures.left, ran.world)
-    c.replay_gives_living.ensures)
+pub returns-in_err-config : goal.returns-in_err-config
+returns-in_err-config g c =
+    let p = err_from_is_err_and c.from_residual.result c.from_residual.ensures.1 in
+    rw (p.1, p.2) (run_not_read c.args.workers c.args.looks _ _ _ _ _ c.in_err-config.ensures.err)
 
-pub returns-in-Err-write_run : goal.returns-in-Err-write_run
-returns-in-Err-write_run g c =
-    let ran = c.in-Err-write_run.ensures in
-    rw c.from.ensures
-    (run_stopped c.args.workers c.args.looks _ (values_of c.in-Ok.config) c.in-Err-write_run.stop
-    c.in-Ok.ensures.ok ran.err ran.unwatched refl)
+pub returns-in_err-world : goal.returns-in_err-world
+returns-in_err-world g c =
+    let p = err_from_is_err_and c.from_residual-in_err-world.result
+    c.from_residual-in_err-world.ensures.1 in
+    let ran = c.in_err-world.ensures in
+    rw (p.1, p.2) (run_stopped c.args.workers c.args.looks _ (values_of c.in_ok-config.config) _
+    c.in_ok-config.ensures.ok ran.err ran.unwatched refl)
+
+pub returns : goal.returns
+returns g c =
+    let ran = c.in_ok-world.ensures in
+    ran_to_end c.args.workers c.args.looks _ (values_of c.in_ok-config.config)
+    c.in_ok-config.ensures.ok ran.ok ran.watched ran.unwatched
+    (c.in_ok-world.world, refl, ran.world) c.replay_gives_living.ensures

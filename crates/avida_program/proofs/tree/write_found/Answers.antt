@@ -1,15 +1,15 @@
-use Rattle.std.proofs.Common.{Err}
+use Rattle.std.proofs.Common.{[], append-nil}
+use Rattle.std.proofs.lemmas.Result.{err_from_is_err_and}
 use Rattle.avida_program.specs.TreeText.{lines_of_tree}
-use Rattle.avida_program.proofs.TraceLemmas.{piece_put, writes_ended}
+use Rattle.avida_program.proofs.TextEnds.{stopped_within}
 use Rattle.avida_program.proofs.tree.write_found.Goals as goal
 
-pub returns-in-Err : goal.returns-in-Err
-returns-in-Err g c =
-    let wrote = rw c.new-piece.ensures at c.in-Err.ensures in
-    rw c.ended.ensures (writes_ended _ _ (lines_of_tree c.args.found.now) (Err c.in-Err.stop)
-    wrote.err)
+pub returns-in_err-write_lines : goal.returns-in_err-write_lines
+returns-in_err-write_lines g c =
+    let p = err_from_is_err_and c.from_residual.result c.from_residual.ensures.1 in
+    let text = lines_of_tree c.args.found.now in
+    let wrote = rw c.new-piece.ensures at c.in_err-write_lines.ensures in
+    rw (p.1, p.2) (stopped_within [] text wrote (append-nil text))
 
 pub returns : goal.returns
-returns g c =
-    let wrote = rw c.new-piece.ensures at c.in_default.ensures in
-    rw c.ended-2.ensures (piece_put wrote c.as_slice.ensures.value c.put.ensures.puts)
+returns g c = c.put_rest.ensures _ _ (rw c.new-piece.ensures at c.in_ok-write_lines.ensures)

@@ -1,12 +1,13 @@
 use Rattle.std.proofs.Common.{◌≡◌, ◌∙◌, List, ◌++◌, ap, sym, subst, append_assoc, length}
 use Rattle.std.specs.Prelude.{flat_map}
+use Rattle.std.proofs.lemmas.Result.{err_from_is_err_and}
 use Rattle.log_lines.specs.Line.{Line}
 use Rattle.phylogeny.specs.declared.tree.Phylogeny.{Phylogeny}
 use Rattle.phylogeny.specs.CommonAncestor.{branches_of, depths_of, kept_ids_of, most_recent_common_ancestor}
 use Rattle.phylogeny.specs.LogPedigree.{pedigree_of}
 use Rattle.phylogeny.specs.TreeText.{ancestor_line, depth_line, shape_line, tree_text}
-use Rattle.written_texts.specs.SinkChanges.{change}
-use Rattle.avida_program.specs.Outcomes.{WritesText}
+use Rattle.written_texts.specs.WrittenText.{WritesAll}
+use Rattle.written_texts.proofs.WriteLemmas.{nothing_written}
 use Rattle.avida_program.specs.TreeText.{counts_line, last_lines, lines_of_tree}
 use Rattle.avida_program.proofs.tree.write_tree.Goals as goal
 
@@ -26,10 +27,15 @@ lines_are found lines depths common kept branches =
     branches
     ∙ sym (append_assoc living ancestor (shape_line (pedigree_of lines)))
 
-pub returns-in-Ok : goal.returns-in-Ok
-returns-in-Ok g c =
-    let so = c.in-Ok.ensures in
-    let same = lines_are c.in-Ok.found c.args.log.now so.depths so.common so.kept so.branches in
-    subst (λ l. WritesText l
-    (change (g.O.Sink.seen c.args.out.now) (g.O.Sink.seen c.write_found.new.out))
-    c.write_found.result) same c.write_found.ensures
+pub returns-in_err-found : goal.returns-in_err-found
+returns-in_err-found g c =
+    let p = err_from_is_err_and c.from_residual.result c.from_residual.ensures.1 in
+    rw (p.1, p.2) (nothing_written (g.O.Sink.seen c.args.out.now) (tree_text c.args.log.now))
+
+pub returns : goal.returns
+returns g c =
+    let so = c.in_ok-found.ensures in
+    let same = lines_are c.in_ok-found.found c.args.log.now so.depths so.common so.kept so.branches
+    in
+    subst (λ l. WritesAll {T = Unit {0}} (g.O.Sink.seen c.args.out.now)
+    (g.O.Sink.seen c.write_found.new.out) l c.write_found.result) same c.write_found.ensures

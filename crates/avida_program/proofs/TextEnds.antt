@@ -1,0 +1,44 @@
+-- How a text that goes through a piece ends.
+use Rattle.std.proofs.Common.{◌≡◌, ◌∙◌, Result, Ok, Err, List, ℕ, [], ◌++◌, append_assoc, ap, sym, subst}
+use Rattle.avida_port.specs.Ports.{SinkState, Puts}
+use Rattle.avida_port.specs.declared.sink.SinkStop.{SinkStop}
+use Rattle.written_texts.specs.Pieces.{Writes}
+use Rattle.written_texts.specs.WrittenText.{WritesAll, write_stop_of}
+use Rattle.written_texts.specs.declared.stop.WriteStop.{WriteStop}
+use Rattle.written_texts.specs.declared.stop.WriteStop.TheVariants as stop
+use Rattle.written_texts.proofs.PutLemmas.{puts_short}
+use Rattle.written_texts.proofs.WriteLemmas.{put_ended, writes_then}
+
+-- a text that is put whole is written
+pub text_put : {a b : SinkState} {text : List ℕ} → Puts {T = Unit {0}} a b text (Ok tt)
+    → WritesAll {T = Unit {0}} a b text (Ok tt)
+text_put p = record { ok = p.ok; err = tt; fault = tt; counts = p.counts }
+
+-- what a piece holds of a text is written, or stops
+pub rest_put : {a b c : SinkState} {kept held : List ℕ} {r : Result (Unit {0}) WriteStop}
+    (text : List ℕ) → Writes a b [] kept text (Ok tt) → held ≡ kept → WritesAll b c held r
+    → WritesAll a c text r
+rest_put {a = a} {b = b} {c = c} {kept = kept} {r = r} text p is q =
+    let rest = subst (λ l. WritesAll {T = Unit {0}} b c l r) is q in
+    subst (λ l. WritesAll {T = Unit {0}} a c l r) p.ok.1 (writes_then kept (text_put p.ok.2) rest)
+
+-- memory ran out within a text
+pub wanting_within : {a b : SinkState} {kept front : List ℕ} (rest all : List ℕ)
+    → Writes a b [] kept front (Ok tt) → front ++ rest ≡ all
+    → WritesAll {T = Unit {0}} a b all (Err stop.Memory)
+wanting_within {kept = kept} rest all p whole = record {
+  ok = tt;
+  err = (
+    p.ok.0,
+    (kept ++ rest, sym (append_assoc p.ok.0 kept rest) ∙ ap (λ l. l ++ rest) p.ok.1 ∙ whole),
+    p.ok.2.ok,
+  );
+  fault = λ is. absurd (cc);
+  counts = p.ok.2.counts;
+}
+
+-- a put stopped within a text
+pub stopped_within : {a c : SinkState} {new front : List ℕ} {e : SinkStop} (rest all : List ℕ)
+    → Writes a c [] new front (Err e) → front ++ rest ≡ all
+    → WritesAll {T = Unit {0}} a c all (Err (write_stop_of e))
+stopped_within rest all p whole = put_ended all (puts_short rest p.err) whole

@@ -1,0 +1,41 @@
+-- How reading and writing below `serve` end (docs/FORMATS.md, "Statuses and fault lines").
+use Rattle.std.specs.Prelude.{◌≡◌, ◌<◌, ⊤, ℕ, List, [], length, Some, Result, Ok, Err}
+use Rattle.avida_port.specs.Ports.{SourceState}
+use Rattle.avida_program.specs.declared.call_error.CallError.{CallError}
+use Rattle.avida_program.specs.declared.call_error.CallError.TheVariants as error
+use Rattle.avida_program.specs.declared.refusal.Refusal.{Refusal}
+use Rattle.avida_program.specs.declared.refusal.Refusal.TheVariants.{TooLong}
+use Rattle.written_texts.specs.declared.stop.WriteStop.{WriteStop}
+use Rattle.written_texts.specs.declared.stop.WriteStop.TheVariants.{Fault, Memory}
+use Rattle.written_texts.specs.SinkChanges.{Change}
+use Rattle.avida_program.specs.Changes.{OnBytes, SourceFailed}
+
+-- why a call isn't done whose text is not written whole
+abbrev pub error_at : WriteStop → CallError
+error_at Fault = error.WriteFault
+error_at Memory = error.Memory
+
+-- how the reading of bytes stops, of which there may be so many
+abbrev pub StopsReading : ℕ → Change SourceState → CallError → Type 0
+StopsReading limit source error.BadWords = ⊥
+StopsReading limit source (error.BadInput why) =
+    (why ≡ TooLong) × ((bytes : List ℕ) → source.before.left ≡ Some bytes → limit < length bytes)
+StopsReading limit source error.ReadFault = SourceFailed source
+StopsReading limit source error.WriteFault = ⊥
+StopsReading limit source error.Memory = ⊤
+
+-- a source is read to its end, and its bytes are this input
+pub record GivesInput {A : Type 0} (input_of : List ℕ → Result A Refusal)
+    (source : Change SourceState) (input : A) : Type 0 where
+  pub reads : OnBytes source (λ bytes. input_of bytes ≡ Ok input)
+  pub whole : OnBytes source (λ bytes. source.after.left ≡ Some [])
+
+-- how a source gives no input: its bytes are refused, a read fails, or memory runs out
+abbrev pub GivesNoInput : {A : Type 0}
+    → (List ℕ → Result A Refusal) → Change SourceState → CallError → Type 0
+GivesNoInput input_of source error.BadWords = ⊥
+GivesNoInput input_of source (error.BadInput why) =
+    OnBytes source (λ bytes. input_of bytes ≡ Err why)
+GivesNoInput input_of source error.ReadFault = SourceFailed source
+GivesNoInput input_of source error.WriteFault = ⊥
+GivesNoInput input_of source error.Memory = ⊤

@@ -1,0 +1,42 @@
+// Why a call isn't done.
+
+use crate::Refusal;
+use avida_port::Memory;
+use written_texts::WriteStop;
+
+/// Why a call isn't done: what its status tells, and for a rejected input the reason.
+#[derive(Drop)]
+pub enum CallError {
+    /// The words give no command.
+    BadWords,
+    BadInput(Refusal),
+    ReadFault,
+    WriteFault,
+    /// Out of memory: an allocation failed.
+    Memory,
+}
+
+impl From<Memory> for CallError {
+    ghost use Rattle.std.specs.Prelude.{◌≡◌};
+    ghost use Rattle.avida_program.specs.declared.call_error.CallError.TheVariants as error;
+
+    ghost from_gives = { λ _ given. given ≡ error.Memory };
+
+    fn from(_e: Memory) -> CallError {
+        CallError::Memory
+    }
+}
+
+impl From<WriteStop> for CallError {
+    ghost use Rattle.std.specs.Prelude.{◌≡◌};
+    ghost use Rattle.avida_program.specs.Endings.{error_at};
+
+    ghost from_gives = { λ stop given. given ≡ error_at stop };
+
+    fn from(stop: WriteStop) -> CallError {
+        match stop {
+            WriteStop::Fault => CallError::WriteFault,
+            WriteStop::Memory => CallError::Memory,
+        }
+    }
+}

@@ -1,0 +1,25 @@
+// Texts that are put whole.
+ghost use Rattle.std.specs.Prelude.{ℕ, List, [], Ok};
+ghost use Rattle.avida_port.specs.Ports.{SinkState};
+ghost use Rattle.written_texts.specs.Pieces.{Writes};
+ghost use Rattle.written_texts.specs.WrittenText.{WritesAll};
+
+use avida_port::Sink;
+use written_texts::{Piece, WriteStop};
+
+/// Puts a text.
+pub fn put_text<O: Sink>(text: &[u8], out: &mut O) -> Result<(), WriteStop>
+    ensures { WritesAll (O.seen out.old) (O.seen out.new) text.now result }
+{
+    out.put(text)?;
+    Ok(())
+}
+
+/// Puts what a piece still holds of a text, which is then written whole.
+pub fn put_rest<O: Sink>(piece: &Piece, out: &mut O) -> Result<(), WriteStop>
+    ensures { (begun : SinkState) (text : List ℕ)
+        → Writes begun (O.seen out.old) [] piece.now.items text (Ok tt)
+        → WritesAll begun (O.seen out.new) text result }
+{
+    put_text(piece.as_slice(), out)
+}
