@@ -1,6 +1,6 @@
 // Why a call isn't done.
 
-use crate::Refusal;
+use crate::refusal::Refusal;
 use avida_port::Memory;
 use written_texts::WriteStop;
 

@@ -5,8 +5,8 @@ ghost use Rattle.arrayvec.specs.ArrayVec.{array_vec_len};
 ghost use Rattle.world_config.specs.KeyTable.{key_name};
 ghost use Rattle.avida_program.specs.Status.{config_reason, fault_line, genome_reason, log_reason, reason_of, saved_reason, shown_byte, shown_key};
 
-use crate::Refusal;
 use crate::call_error::CallError;
+use crate::refusal::Refusal;
 use arrayvec::ArrayVec;
 use checkpoint::SavedStop;
 use genome::GenomeStop;

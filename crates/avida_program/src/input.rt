@@ -10,7 +10,8 @@ ghost use Rattle.avida_program.specs.Input.{assay_input_of, configuration_of, ge
 ghost use Rattle.avida_program.specs.Endings.{GivesInput, GivesNoInput, StopsReading};
 
 use crate::call_error::CallError;
-use crate::{Refusal, Spelling};
+use crate::command::Spelling;
+use crate::refusal::Refusal;
 use avida_port::{LONGEST_INPUT, ReadStop, Source, read_all};
 use checkpoint::{SavedStop, read_saved};
 use genome::{Genome, GenomeStop, read_letters, read_names};

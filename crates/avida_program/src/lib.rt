@@ -25,7 +25,5 @@ mod trace_line;
 mod tree;
 mod upgrade;
 
-pub use command::{Command, Spelling};
-pub use refusal::Refusal;
 pub use serving::serve;
 pub use status::Status;

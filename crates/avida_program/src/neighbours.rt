@@ -11,8 +11,8 @@ ghost use Rattle.written_texts.specs.Pieces.{Writes};
 ghost use Rattle.written_texts.specs.WrittenText.{WritesAll};
 ghost use Rattle.avida_program.specs.Commands.{CarriesOut};
 
-use crate::Spelling;
 use crate::call_error::CallError;
+use crate::command::Spelling;
 use crate::input::read_genome;
 use crate::puts::put_rest;
 use avida_port::{Sink, SinkStop, Source};

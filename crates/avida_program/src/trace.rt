@@ -9,8 +9,8 @@ ghost use Rattle.avida_program.specs.declared.command.Command.TheVariants.{Trace
 ghost use Rattle.avida_program.specs.Commands.{CarriesOut};
 ghost use Rattle.avida_program.specs.TraceText.{trace_lines, trace_text};
 
-use crate::Spelling;
 use crate::call_error::CallError;
+use crate::command::Spelling;
 use crate::input::read_genome;
 use crate::puts::put_rest;
 use crate::trace_line::write_line;
