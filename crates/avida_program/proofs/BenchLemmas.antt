@@ -27,7 +27,8 @@ use Rattle.assay.specs.Assay.{births_until}
 use Rattle.assay.proofs.SumLemmas.{births_more}
 use Rattle.avida_program.specs.declared.bench.Counted.{Counted}
 use Rattle.avida_program.specs.declared.bench.Sums.{Sums}
-use Rattle.avida_program.specs.declared.command.Command.TheVariants.{Bench}
+use Rattle.command_line.specs.declared.bench.Bench.{Bench}
+use Rattle.avida_program.specs.declared.command.Command.TheVariants as command
 use Rattle.avida_program.specs.BenchSums.{IsCounted, IsSummed}
 use Rattle.avida_program.specs.BenchText.{bench_config, bench_text, sums_text}
 use Rattle.avida_program.specs.FinalWorld.{LeavesFinal}
@@ -123,16 +124,16 @@ sums_told config world sums stats text so told is =
     rw (← counted, ← so.births, ← so.bytes) is
 
 -- all of `bench` is done
-pub benched : {a b : SinkState} (seed workers : ℕ) (source : SourceState) (watch : SinkState)
+pub benched : {a b : SinkState} (asked : Bench) (source : SourceState) (watch : SinkState)
     (last : Change (Option WorldValue))
-    → WritesAll {T = Unit {0}} a b (bench_text seed) (Ok tt) → LeavesFinal last (bench_config seed)
-    → CarriesOut (Bench seed workers) (record {
+    → WritesAll {T = Unit {0}} a b (bench_text asked.seed) (Ok tt) → LeavesFinal last (bench_config asked.seed)
+    → CarriesOut (command.Bench asked) (record {
       source = unchanged source;
       out = change a b;
       watch = unchanged watch;
       last = last;
     }) (Ok tt)
-benched seed workers source watch last wrote left = record {
+benched asked source watch last wrote left = record {
   words = λ e. cc;
   read_fault = λ e. absurd (cc);
   write_fault = λ e. absurd (cc);
@@ -143,16 +144,16 @@ benched seed workers source watch last wrote left = record {
 }
 
 -- `bench` stopped
-pub bench_stopped : {T : Type 0} {a b : SinkState} (seed workers : ℕ) (source : SourceState)
+pub bench_stopped : {T : Type 0} {a b : SinkState} (asked : Bench) (source : SourceState)
     (watch : SinkState) (last : Option WorldValue) (e : WriteStop)
-    → WritesAll {T = T} a b (bench_text seed) (Err e)
-    → CarriesOut (Bench seed workers) (record {
+    → WritesAll {T = T} a b (bench_text asked.seed) (Err e)
+    → CarriesOut (command.Bench asked) (record {
       source = unchanged source;
       out = change a b;
       watch = unchanged watch;
       last = unchanged last;
     }) (Err (error_at e))
-bench_stopped seed workers source watch last stop.Fault stops = record {
+bench_stopped asked source watch last stop.Fault stops = record {
   words = λ e. cc;
   read_fault = λ e. absurd (cc);
   write_fault = λ e. stops.fault refl;
@@ -161,7 +162,7 @@ bench_stopped seed workers source watch last stop.Fault stops = record {
   no_world = λ e. refl;
   does = record { source_stays = refl; writes = (stops.fault refl, stops.err); last_world = tt };
 }
-bench_stopped seed workers source watch last stop.Memory stops = record {
+bench_stopped asked source watch last stop.Memory stops = record {
   words = λ e. cc;
   read_fault = λ e. absurd (cc);
   write_fault = λ e. absurd (cc);

@@ -32,25 +32,25 @@ untouched source out watch last = record {
 -- each command may run out of memory before anything was read, written or left
 does_nothing : (command : Command) (source : SourceState) (out watch : SinkState)
     (last : Option WorldValue) → Does command (untouched source out watch last) (Err error.Memory)
-does_nothing (Trace steps spelling low) source out watch last = λ bytes is. inl refl
-does_nothing (Run workers looks) source out watch last = record {
+does_nothing (Trace trace) source out watch last = λ bytes is. inl refl
+does_nothing (Run run) source out watch last = record {
   reads = λ bytes is. inl refl;
-  watches = λ bytes is. nothing_watched looks (configuration_of bytes)
+  watches = λ bytes is. nothing_watched run.watch (configuration_of bytes)
       (untouched source out watch last) refl;
   last_world = tt;
   replays = tt;
 }
-does_nothing (Lineage cell workers) source out watch last =
+does_nothing (Lineage lineage) source out watch last =
     record { reads = λ bytes is. inl refl; last_world = tt }
-does_nothing (Bench seed workers) source out watch last = record {
+does_nothing (Bench bench) source out watch last = record {
   source_stays = refl;
-  writes = stays_front (unchanged out) (bench_text seed) refl;
+  writes = stays_front (unchanged out) (bench_text bench.seed) refl;
   last_world = tt;
 }
-does_nothing (Assay count first workers) source out watch last = λ bytes is. inl refl
+does_nothing (Assay assay) source out watch last = λ bytes is. inl refl
 does_nothing (Save workers) source out watch last = λ bytes is. inl refl
-does_nothing (Resume more workers) source out watch last = λ bytes is. inl refl
-does_nothing (Advance more workers) source out watch last = λ bytes is. inl refl
+does_nothing (Resume resume) source out watch last = λ bytes is. inl refl
+does_nothing (Advance advance) source out watch last = λ bytes is. inl refl
 does_nothing Replay source out watch last = λ bytes is. inl refl
 does_nothing Upgrade source out watch last = λ bytes is. inl refl
 does_nothing Tree source out watch last = λ bytes is. inl refl

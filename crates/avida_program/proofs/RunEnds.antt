@@ -6,7 +6,9 @@ use Rattle.avida_port.specs.Ports.{SinkState, SourceState}
 use Rattle.world_core.specs.WorldValue.{WorldValue, world_in}
 use Rattle.world_rules.specs.Laws.{ReplaysToLiving}
 use Rattle.world_rules.specs.WorldRun.{residents_of_world, world_after}
-use Rattle.avida_program.specs.declared.command.Command.TheVariants.{Lineage, Run}
+use Rattle.command_line.specs.declared.lineage.Lineage.{Lineage}
+use Rattle.command_line.specs.declared.run.Run.{Run}
+use Rattle.avida_program.specs.declared.command.Command.TheVariants as command
 use Rattle.avida_program.specs.declared.call_error.CallError.{CallError}
 use Rattle.avida_program.specs.declared.call_error.CallError.TheVariants as error
 use Rattle.written_texts.specs.declared.stop.WriteStop.{WriteStop}
@@ -63,11 +65,11 @@ watch_wanted None bytes work config is stops = tt
 watch_wanted (Some n) bytes work config is stops = inr (config, is, stops.pictures)
 
 -- the configuration of a run was not read
-pub run_not_read : (workers : ℕ) (looks : Option ℕ) (source : Change SourceState) (out watch : SinkState)
+pub run_not_read : (asked : Run) (source : Change SourceState) (out watch : SinkState)
     (last : Option WorldValue) (e : CallError) → GivesNoInput configuration_of source e
-    → CarriesOut (Run workers looks) (read_and_wrote source (unchanged out) watch last) (Err e)
-run_not_read workers looks source out watch last error.BadWords h = absurd h
-run_not_read workers looks source out watch last (error.BadInput why) h = record {
+    → CarriesOut (command.Run asked) (read_and_wrote source (unchanged out) watch last) (Err e)
+run_not_read asked source out watch last error.BadWords h = absurd h
+run_not_read asked source out watch last (error.BadInput why) h = record {
   words = λ e. cc;
   read_fault = λ e. absurd (cc);
   write_fault = λ e. absurd (cc);
@@ -76,12 +78,12 @@ run_not_read workers looks source out watch last (error.BadInput why) h = record
   no_world = λ e. refl;
   does = record {
     reads = λ bytes is. (refl, h bytes is);
-    watches = λ bytes is. where_watched looks _ (λ n. refl);
+    watches = λ bytes is. where_watched asked.watch _ (λ n. refl);
     last_world = tt;
     replays = tt;
   };
 }
-run_not_read workers looks source out watch last error.ReadFault h = record {
+run_not_read asked source out watch last error.ReadFault h = record {
   words = λ e. cc;
   read_fault = λ e. h;
   write_fault = λ e. absurd (cc);
@@ -90,13 +92,13 @@ run_not_read workers looks source out watch last error.ReadFault h = record {
   no_world = λ e. refl;
   does = record {
     reads = λ bytes is. (refl, h);
-    watches = λ bytes is. where_watched looks _ (λ n. refl);
+    watches = λ bytes is. where_watched asked.watch _ (λ n. refl);
     last_world = tt;
     replays = tt;
   };
 }
-run_not_read workers looks source out watch last error.WriteFault h = absurd h
-run_not_read workers looks source out watch last error.Memory h = record {
+run_not_read asked source out watch last error.WriteFault h = absurd h
+run_not_read asked source out watch last error.Memory h = record {
   words = λ e. cc;
   read_fault = λ e. absurd (cc);
   write_fault = λ e. absurd (cc);
@@ -105,18 +107,18 @@ run_not_read workers looks source out watch last error.Memory h = record {
   no_world = λ e. refl;
   does = record {
     reads = λ bytes is. inl refl;
-    watches = λ bytes is. where_watched looks _ (λ n. inl refl);
+    watches = λ bytes is. where_watched asked.watch _ (λ n. inl refl);
     last_world = tt;
     replays = tt;
   };
 }
 
 -- the configuration of a line of descent was not read
-pub descent_not_read : (cell workers : ℕ) (source : Change SourceState) (out watch : SinkState)
-    (last : Option WorldValue) (e : CallError) → GivesNoInput (lineage_input_of cell) source e
-    → CarriesOut (Lineage cell workers) (read_and_wrote source (unchanged out) watch last) (Err e)
-descent_not_read cell workers source out watch last error.BadWords h = absurd h
-descent_not_read cell workers source out watch last (error.BadInput why) h = record {
+pub descent_not_read : (asked : Lineage) (source : Change SourceState) (out watch : SinkState)
+    (last : Option WorldValue) (e : CallError) → GivesNoInput (lineage_input_of asked.cell) source e
+    → CarriesOut (command.Lineage asked) (read_and_wrote source (unchanged out) watch last) (Err e)
+descent_not_read asked source out watch last error.BadWords h = absurd h
+descent_not_read asked source out watch last (error.BadInput why) h = record {
   words = λ e. cc;
   read_fault = λ e. absurd (cc);
   write_fault = λ e. absurd (cc);
@@ -128,7 +130,7 @@ descent_not_read cell workers source out watch last (error.BadInput why) h = rec
     last_world = tt;
   };
 }
-descent_not_read cell workers source out watch last error.ReadFault h = record {
+descent_not_read asked source out watch last error.ReadFault h = record {
   words = λ e. cc;
   read_fault = λ e. h;
   write_fault = λ e. absurd (cc);
@@ -140,8 +142,8 @@ descent_not_read cell workers source out watch last error.ReadFault h = record {
     last_world = tt;
   };
 }
-descent_not_read cell workers source out watch last error.WriteFault h = absurd h
-descent_not_read cell workers source out watch last error.Memory h = record {
+descent_not_read asked source out watch last error.WriteFault h = absurd h
+descent_not_read asked source out watch last error.Memory h = record {
   words = λ e. cc;
   read_fault = λ e. absurd (cc);
   write_fault = λ e. absurd (cc);
@@ -167,13 +169,13 @@ gained_log out config final world gained log is same = record {
 }
 
 -- the run came to its end
-pub ran_to_end : (workers : ℕ) (looks : Option ℕ) (work : Work) (config : ConfigValues)
+pub ran_to_end : (asked : Run) (work : Work) (config : ConfigValues)
     → GivesInput configuration_of work.source config
-    → GainedText work.out (run_text config) → IfSome looks (λ n. GainedPictures n config work.watch)
-    → (looks ≡ None → Stays work.watch)
+    → GainedText work.out (run_text config) → IfSome asked.watch (λ n. GainedPictures n config work.watch)
+    → (asked.watch ≡ None → Stays work.watch)
     → LeavesFinal work.last config → ReplaysToLiving config config.updates
-    → CarriesOut (Run workers looks) work (Ok tt)
-ran_to_end workers looks work config read wrote pictures unwatched left replays = record {
+    → CarriesOut (command.Run asked) work (Ok tt)
+ran_to_end asked work config read wrote pictures unwatched left replays = record {
   words = λ e. cc;
   read_fault = λ e. absurd (cc);
   write_fault = λ e. absurd (cc);
@@ -182,18 +184,18 @@ ran_to_end workers looks work config read wrote pictures unwatched left replays 
   no_world = λ e. absurd (false≢true (sym e));
   does = record {
     reads = λ bytes is. (read.whole bytes is, (config, read.reads bytes is, wrote));
-    watches = λ bytes is. watched looks bytes work config (read.reads bytes is) pictures;
+    watches = λ bytes is. watched asked.watch bytes work config (read.reads bytes is) pictures;
     last_world = λ bytes is. (config, read.reads bytes is, left);
     replays = λ world is. gained_log work.out config left.0 world wrote replays left.2 (cc (left.1, is));
   };
 }
 
 -- the run stopped
-pub run_stopped : (workers : ℕ) (looks : Option ℕ) (work : Work) (config : ConfigValues)
+pub run_stopped : (asked : Run) (work : Work) (config : ConfigValues)
     (e : WriteStop) → GivesInput configuration_of work.source config
-    → StopsRun looks config work.out work.watch e → (looks ≡ None → Stays work.watch)
-    → Stays work.last → CarriesOut (Run workers looks) work (Err (error_at e))
-run_stopped workers looks work config stop.Fault read stops unwatched kept = record {
+    → StopsRun asked.watch config work.out work.watch e → (asked.watch ≡ None → Stays work.watch)
+    → Stays work.last → CarriesOut (command.Run asked) work (Err (error_at e))
+run_stopped asked work config stop.Fault read stops unwatched kept = record {
   words = λ e. cc;
   read_fault = λ e. absurd (cc);
   write_fault = λ e. stops.fault refl;
@@ -202,12 +204,12 @@ run_stopped workers looks work config stop.Fault read stops unwatched kept = rec
   no_world = λ e. absurd (false≢true (sym e));
   does = record {
     reads = λ bytes is. (stops.fault refl, (config, read.reads bytes is, stops.front));
-    watches = λ bytes is. watch_faulted looks bytes work config (read.reads bytes is) stops;
+    watches = λ bytes is. watch_faulted asked.watch bytes work config (read.reads bytes is) stops;
     last_world = tt;
     replays = tt;
   };
 }
-run_stopped workers looks work config stop.Memory read stops unwatched kept = record {
+run_stopped asked work config stop.Memory read stops unwatched kept = record {
   words = λ e. cc;
   read_fault = λ e. absurd (cc);
   write_fault = λ e. absurd (cc);
@@ -216,21 +218,21 @@ run_stopped workers looks work config stop.Memory read stops unwatched kept = re
   no_world = λ e. absurd (false≢true (sym e));
   does = record {
     reads = λ bytes is. inr (config, read.reads bytes is, stops.front);
-    watches = λ bytes is. watch_wanted looks bytes work config (read.reads bytes is) stops;
+    watches = λ bytes is. watch_wanted asked.watch bytes work config (read.reads bytes is) stops;
     last_world = tt;
     replays = tt;
   };
 }
 
 -- a run stopped whose line of descent was to be written
-pub descent_stopped : {T : Type 0} {a b : SinkState} (cell workers : ℕ)
+pub descent_stopped : {T : Type 0} {a b : SinkState} (asked : Lineage)
     (source : Change SourceState) (watch : SinkState) (last : Option WorldValue)
     (config : ConfigValues) (e : WriteStop)
-    → GivesInput (lineage_input_of cell) source config
-    → WritesAll {T = T} a b (path_text config cell) (Err e)
-    → CarriesOut (Lineage cell workers) (read_and_wrote source (change a b) watch last)
+    → GivesInput (lineage_input_of asked.cell) source config
+    → WritesAll {T = T} a b (path_text config asked.cell) (Err e)
+    → CarriesOut (command.Lineage asked) (read_and_wrote source (change a b) watch last)
     (Err (error_at e))
-descent_stopped cell workers source watch last config stop.Fault read stops = record {
+descent_stopped asked source watch last config stop.Fault read stops = record {
   words = λ e. cc;
   read_fault = λ e. absurd (cc);
   write_fault = λ e. stops.fault refl;
@@ -242,7 +244,7 @@ descent_stopped cell workers source watch last config stop.Fault read stops = re
     last_world = tt;
   };
 }
-descent_stopped cell workers source watch last config stop.Memory read stops = record {
+descent_stopped asked source watch last config stop.Memory read stops = record {
   words = λ e. cc;
   read_fault = λ e. absurd (cc);
   write_fault = λ e. absurd (cc);
@@ -256,11 +258,11 @@ descent_stopped cell workers source watch last config stop.Memory read stops = r
 }
 
 -- a run came to its end, and its line of descent is written
-pub descent_written : (cell workers : ℕ) (work : Work) (config : ConfigValues)
-    → GivesInput (lineage_input_of cell) work.source config → Stays work.watch
-    → GainedText work.out (path_text config cell) → LeavesFinal work.last config
-    → CarriesOut (Lineage cell workers) work (Ok tt)
-descent_written cell workers work config read unwatched wrote left = record {
+pub descent_written : (asked : Lineage) (work : Work) (config : ConfigValues)
+    → GivesInput (lineage_input_of asked.cell) work.source config → Stays work.watch
+    → GainedText work.out (path_text config asked.cell) → LeavesFinal work.last config
+    → CarriesOut (command.Lineage asked) work (Ok tt)
+descent_written asked work config read unwatched wrote left = record {
   words = λ e. cc;
   read_fault = λ e. absurd (cc);
   write_fault = λ e. absurd (cc);

@@ -13,22 +13,19 @@ spelling_of org = if org then Names else Letters
 
 -- `trace` by the words after the name
 abbrev pub trace_command : List (List ℕ) → Option Command
-trace_command words =
-    option_map (λ trace. Trace trace.steps (spelling_of trace.org) trace.inputs)
-    (told.trace_told words)
+trace_command words = option_map (λ trace. Trace trace) (told.trace_told words)
 
 -- `run` by the words after the name
 abbrev pub run_command : List (List ℕ) → Option Command
-run_command words = option_map (λ run. Run run.workers run.watch) (told.run_told words)
+run_command words = option_map (λ run. Run run) (told.run_told words)
 
 -- `lineage` by the words after the name
 abbrev pub lineage_command : List (List ℕ) → Option Command
-lineage_command words =
-    option_map (λ lineage. Lineage lineage.cell lineage.workers) (told.lineage_told words)
+lineage_command words = option_map (λ lineage. Lineage lineage) (told.lineage_told words)
 
 -- `bench` by the words after the name
 abbrev pub bench_command : List (List ℕ) → Option Command
-bench_command words = option_map (λ bench. Bench bench.seed bench.workers) (told.bench_told words)
+bench_command words = option_map (λ bench. Bench bench) (told.bench_told words)
 
 -- `landscape` by the words after the name
 abbrev pub landscape_command : List (List ℕ) → Option Command
@@ -36,8 +33,7 @@ landscape_command words = option_map (λ steps. Landscape steps) (told.landscape
 
 -- `assay` by the words after the name
 abbrev pub assay_command : List (List ℕ) → Option Command
-assay_command words =
-    option_map (λ assay. Assay assay.count assay.first assay.workers) (told.assay_told words)
+assay_command words = option_map (λ assay. Assay assay) (told.assay_told words)
 
 -- `save` by the words after the name
 abbrev pub save_command : List (List ℕ) → Option Command
@@ -45,13 +41,11 @@ save_command words = option_map (λ workers. Save workers) (told.save_told words
 
 -- `resume` by the words after the name
 abbrev pub resume_command : List (List ℕ) → Option Command
-resume_command words =
-    option_map (λ resume. Resume resume.more resume.workers) (told.resume_told words)
+resume_command words = option_map (λ resume. Resume resume) (told.resume_told words)
 
 -- `advance` by the words after the name
 abbrev pub advance_command : List (List ℕ) → Option Command
-advance_command words =
-    option_map (λ advance. Advance advance.more advance.workers) (told.advance_told words)
+advance_command words = option_map (λ advance. Advance advance) (told.advance_told words)
 
 -- a command that takes no words
 abbrev pub bare_command : Command → List (List ℕ) → Option Command
@@ -81,26 +75,26 @@ command_of (name ∷ words) = command_named name words
 
 -- how often a command's watcher looks, where it has a watcher
 abbrev pub looks_of : Command → Option ℕ
-looks_of (Run workers looks) = looks
+looks_of (Run run) = run.watch
 looks_of _ = None
 
 -- a command that leaves the last world of a run
 abbrev pub leaves_world : Command → Bool
-leaves_world (Run workers looks) = true
-leaves_world (Lineage cell workers) = true
-leaves_world (Bench seed workers) = true
+leaves_world (Run run) = true
+leaves_world (Lineage lineage) = true
+leaves_world (Bench bench) = true
 leaves_world _ = false
 
 -- a command that runs worlds has from 1 to 64 workers for each, `bench` has a seed of a
 -- configuration, and `assay` has from 1 to 64 of them
 abbrev pub HasNumbersInRange : Command → Type 0
-HasNumbersInRange (Run workers looks) = (1 ≤ workers) × (workers ≤ 64)
-HasNumbersInRange (Lineage cell workers) = (1 ≤ workers) × (workers ≤ 64)
-HasNumbersInRange (Bench seed workers) =
-    (seed ≤ 9223372036854775807) × (1 ≤ workers) × (workers ≤ 64)
-HasNumbersInRange (Assay count first workers) = (1 ≤ count) × (count ≤ 64)
-    × (first ≤ 9223372036854775744) × (1 ≤ workers) × (workers ≤ 64)
+HasNumbersInRange (Run run) = (1 ≤ run.workers) × (run.workers ≤ 64)
+HasNumbersInRange (Lineage lineage) = (1 ≤ lineage.workers) × (lineage.workers ≤ 64)
+HasNumbersInRange (Bench bench) =
+    (bench.seed ≤ 9223372036854775807) × (1 ≤ bench.workers) × (bench.workers ≤ 64)
+HasNumbersInRange (Assay assay) = (1 ≤ assay.count) × (assay.count ≤ 64)
+    × (assay.first ≤ 9223372036854775744) × (1 ≤ assay.workers) × (assay.workers ≤ 64)
 HasNumbersInRange (Save workers) = (1 ≤ workers) × (workers ≤ 64)
-HasNumbersInRange (Resume more workers) = (1 ≤ workers) × (workers ≤ 64)
-HasNumbersInRange (Advance more workers) = (1 ≤ workers) × (workers ≤ 64)
+HasNumbersInRange (Resume resume) = (1 ≤ resume.workers) × (resume.workers ≤ 64)
+HasNumbersInRange (Advance advance) = (1 ≤ advance.workers) × (advance.workers ≤ 64)
 HasNumbersInRange _ = ⊤

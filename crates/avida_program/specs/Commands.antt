@@ -20,7 +20,7 @@ use Rattle.avida_program.specs.declared.refusal.Refusal.{Refusal}
 use Rattle.avida_program.specs.declared.status.Status.{Status}
 use Rattle.avida_program.specs.BenchText.{bench_config, bench_text}
 use Rattle.avida_program.specs.Changes.{OnBytes, SourceFailed, TellsOf, Work}
-use Rattle.avida_program.specs.CommandLine.{leaves_world, looks_of}
+use Rattle.avida_program.specs.CommandLine.{leaves_world, looks_of, spelling_of}
 use Rattle.avida_program.specs.FinalWorld.{GainedLogOf, LeavesFinal}
 use Rattle.avida_program.specs.Input.{IsInputWith, assay_input_of, configuration_of, genome_of_input, lineage_input_of, log_input_of, resume_input_of}
 use Rattle.avida_program.specs.PathText.{path_text}
@@ -106,18 +106,18 @@ pub record Benches (seed : ℕ) (work : Work) (told : Ended) : Type 0 where
 
 -- what each command reads, writes and leaves
 abbrev pub Does : Command → Work → Ended → Type 0
-Does (Trace steps spelling low) work told =
-    Reads (genome_of_input spelling) (λ genome. trace_text genome low steps) work told
-Does (Run workers looks) work told = Runs looks work told
-Does (Lineage cell workers) work told = Descends cell work told
-Does (Bench seed workers) work told = Benches seed work told
-Does (Assay count first workers) work told =
-    Reads (assay_input_of count) (λ config. assay_text config first count) work told
+Does (Trace trace) work told = Reads (genome_of_input (spelling_of trace.org))
+    (λ genome. trace_text genome trace.inputs trace.steps) work told
+Does (Run run) work told = Runs run.watch work told
+Does (Lineage lineage) work told = Descends lineage.cell work told
+Does (Bench bench) work told = Benches bench.seed work told
+Does (Assay assay) work told = Reads (assay_input_of assay.count)
+    (λ config. assay_text config assay.first assay.count) work told
 Does (Save workers) work told = Reads configuration_of save_text work told
-Does (Resume more workers) work told =
-    Reads (resume_input_of more) (λ state. continued_text state more) work told
-Does (Advance more workers) work told =
-    Reads (resume_input_of more) (λ state. advanced_text state more) work told
+Does (Resume resume) work told = Reads (resume_input_of resume.more)
+    (λ state. continued_text state resume.more) work told
+Does (Advance advance) work told = Reads (resume_input_of advance.more)
+    (λ state. advanced_text state advance.more) work told
 Does Replay work told = Reads log_input_of replay_text work told
 Does Upgrade work told = Reads log_input_of upgrade_text work told
 Does Tree work told = Reads log_input_of tree_text work told

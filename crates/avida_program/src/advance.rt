@@ -5,7 +5,7 @@ ghost use Rattle.saved_worlds.specs.Resuming.{next_state, saved_state_after};
 ghost use Rattle.world_core.specs.WorldValue.{WorldValue};
 ghost use Rattle.written_texts.specs.SinkChanges.{change, unchanged};
 ghost use Rattle.written_texts.specs.WrittenText.{WritesAll};
-ghost use Rattle.avida_program.specs.declared.command.Command.TheVariants.{Advance};
+ghost use Rattle.avida_program.specs.declared.command.Command.TheVariants as command;
 ghost use Rattle.avida_program.specs.SaveText.{advanced_text};
 ghost use Rattle.avida_program.specs.Commands.{CarriesOut};
 
@@ -13,6 +13,7 @@ use crate::call_error::CallError;
 use crate::input::read_state_for;
 use crate::saved_world::write_state;
 use avida_port::{Gate, Memory, Sink, Source};
+use command_line::Advance;
 use std::alloc::Global;
 use std::sync::Wait;
 use std::thread::Threads;
@@ -66,26 +67,25 @@ fn advance_and_write<R: Threads + Wait + Sync, O: Sink, G: Gate + Sync>(
     write_state(alloc, &after, out)
 }
 
-/// Reads a saved world, and writes the one that is there `more` updates later.
+/// Reads a saved world, and writes the one that is there so many updates later.
 pub fn advance<R: Threads + Wait + Sync, S: Source, O: Sink, G: Gate + Sync>(
     rt: &R,
     alloc: Global,
-    more: u32,
-    workers: u32,
+    asked: Advance,
     source: &mut S,
     out: &mut O,
     gate: &G,
 ) -> Result<(), CallError>
-    requires { (1 ≤ workers) × (workers ≤ 64) }
+    requires { (1 ≤ asked.workers) × (asked.workers ≤ 64) }
     ensures { (watch : SinkState) (last : Option WorldValue)
-        → CarriesOut (Advance more workers) (record {
+        → CarriesOut (command.Advance asked) (record {
           source = change (S.seen source.old) (S.seen source.new);
           out = change (O.seen out.old) (O.seen out.new);
           watch = unchanged watch;
           last = unchanged last;
         }) result }
 {
-    let state = read_state_for(rt, alloc, source, more, workers)?;
-    advance_and_write(rt, alloc, state, more, out, gate)?;
+    let state = read_state_for(rt, alloc, source, asked.more, asked.workers)?;
+    advance_and_write(rt, alloc, state, asked.more, out, gate)?;
     Ok(())
 }

@@ -4,7 +4,7 @@ ghost use Rattle.avida_port.specs.Ports.{SinkState, SourceState};
 ghost use Rattle.log_lines.specs.Line.{Count};
 ghost use Rattle.log_lines.specs.LineText.{line_text};
 ghost use Rattle.world_config.specs.Shown.{values_of};
-ghost use Rattle.avida_program.specs.declared.command.Command.TheVariants.{Bench};
+ghost use Rattle.avida_program.specs.declared.command.Command.TheVariants as command;
 ghost use Rattle.avida_program.specs.BenchSums.{IsCounted, IsSummed};
 ghost use Rattle.avida_program.specs.BenchText.{bench_config, bench_text, sums_text};
 ghost use Rattle.written_texts.specs.SinkChanges.{change, unchanged};
@@ -14,6 +14,7 @@ ghost use Rattle.avida_program.specs.Commands.{CarriesOut};
 use crate::call_error::CallError;
 use crate::puts::put_text;
 use avida_port::{Gate, Memory, Sink};
+use command_line::Bench;
 use log_lines::{LogLine, Stats, write_line};
 use std::alloc::Global;
 use std::sync::Wait;
@@ -208,29 +209,28 @@ fn run_seed<R: Threads + Wait + Sync, G: Gate + Sync>(
     run_and_tell(rt, alloc, config, workers, gate)
 }
 
-/// Runs the default configuration with this seed for 200 updates, and writes what is counted after
+/// Runs the default configuration with the seed for 200 updates, and writes what is counted after
 /// the last one, its births and the length of its log. At its end the last world is left in `last`,
 /// and otherwise `last` stays as it was.
 pub fn bench<R: Threads + Wait + Sync, O: Sink, G: Gate + Sync>(
     rt: &R,
     alloc: Global,
-    seed: u64,
-    workers: u32,
+    asked: Bench,
     out: &mut O,
     last: &mut Option<World>,
     gate: &G,
 ) -> Result<(), CallError>
-    requires seed { seed ≤ 9223372036854775807 }
-    requires workers { (1 ≤ workers) × (workers ≤ 64) }
+    requires seed { asked.seed ≤ 9223372036854775807 }
+    requires workers { (1 ≤ asked.workers) × (asked.workers ≤ 64) }
     ensures { (source : SourceState) (watch : SinkState)
-        → CarriesOut (Bench seed workers) (record {
+        → CarriesOut (command.Bench asked) (record {
           source = unchanged source;
           out = change (O.seen out.old) (O.seen out.new);
           watch = unchanged watch;
           last = change last.old last.new;
         }) result }
 {
-    let (world, text) = run_seed(rt, alloc, seed, workers, gate)?;
+    let (world, text) = run_seed(rt, alloc, asked.seed, asked.workers, gate)?;
     put_text(&text, out)?;
     *last = Some(world);
     Ok(())

@@ -4,8 +4,9 @@ ghost use Rattle.command_line.specs.Refusals.{Refuses};
 ghost use Rattle.avida_program.specs.CommandLine.{HasNumbersInRange, advance_command, assay_command, bare_command, bench_command, command_named, command_of, landscape_command, lineage_command, resume_command, run_command, save_command, spelling_of, trace_command};
 
 use command_line::{
-    Refused, read_advance, read_assay, read_bench, read_landscape, read_lineage, read_nothing,
-    read_resume, read_run, read_save, read_trace,
+    Advance, Assay, Bench, Lineage, Refused, Resume, Run, Trace, read_advance, read_assay,
+    read_bench, read_landscape, read_lineage, read_nothing, read_resume, read_run, read_save,
+    read_trace,
 };
 use std::alloc::Global;
 
@@ -17,46 +18,18 @@ pub enum Spelling {
 }
 
 /// What a command line asks for.
-#[derive(Clone, Copy, Debug, PartialEq, Eq)]
+#[derive(Clone, Copy, Debug)]
 pub enum Command {
-    /// `low` has the low 24 bits of each of the three inputs.
-    Trace {
-        steps: u32,
-        spelling: Spelling,
-        low: [u32; 3],
-    },
-    /// With `looks` there is a watcher, which looks at most `looks` times.
-    Run {
-        workers: u32,
-        looks: Option<u32>,
-    },
-    Lineage {
-        cell: u32,
-        workers: u32,
-    },
-    Bench {
-        seed: u64,
-        workers: u32,
-    },
-    /// `count` consecutive seeds, each as a world of its own with `workers` workers.
-    Assay {
-        count: u32,
-        first: u64,
-        workers: u32,
-    },
+    Trace(Trace),
+    Run(Run),
+    Lineage(Lineage),
+    Bench(Bench),
+    Assay(Assay),
     Save {
         workers: u32,
     },
-    /// `more` further updates of a saved world.
-    Resume {
-        more: u32,
-        workers: u32,
-    },
-    /// A saved world `more` updates later.
-    Advance {
-        more: u32,
-        workers: u32,
-    },
+    Resume(Resume),
+    Advance(Advance),
     Replay,
     Upgrade,
     Tree,
@@ -65,7 +38,8 @@ pub enum Command {
     },
 }
 
-fn genome_spelling(org: bool) -> Spelling
+/// The spelling that `--org` asks for.
+pub fn genome_spelling(org: bool) -> Spelling
     ensures { result ≡ spelling_of org }
 {
     if org {
@@ -82,12 +56,7 @@ fn read_trace_words(alloc: Global, words: &[String]) -> Result<Command, Refused>
         (Refuses (trace_command (drop 1 (map string_bytes words.now)))) }
 {
     let trace = read_trace(alloc, words)?;
-    let low = trace.inputs;
-    Ok(Command::Trace {
-        steps: trace.steps,
-        spelling: genome_spelling(trace.org),
-        low,
-    })
+    Ok(Command::Trace(trace))
 }
 
 #[tactic(auto, unfolding(numerals::specs::Numeral::number_of))]
@@ -99,10 +68,7 @@ fn read_run_words(alloc: Global, words: &[String]) -> Result<Command, Refused>
     ensures range { IfOk result HasNumbersInRange }
 {
     let run = read_run(alloc, words)?;
-    Ok(Command::Run {
-        workers: run.workers,
-        looks: run.watch,
-    })
+    Ok(Command::Run(run))
 }
 
 fn read_lineage_words(alloc: Global, words: &[String]) -> Result<Command, Refused>
@@ -112,10 +78,7 @@ fn read_lineage_words(alloc: Global, words: &[String]) -> Result<Command, Refuse
         (Refuses (lineage_command (drop 1 (map string_bytes words.now)))) }
 {
     let lineage = read_lineage(alloc, words)?;
-    Ok(Command::Lineage {
-        cell: lineage.cell,
-        workers: lineage.workers,
-    })
+    Ok(Command::Lineage(lineage))
 }
 
 fn read_bench_words(alloc: Global, words: &[String]) -> Result<Command, Refused>
@@ -125,10 +88,7 @@ fn read_bench_words(alloc: Global, words: &[String]) -> Result<Command, Refused>
         (Refuses (bench_command (drop 1 (map string_bytes words.now)))) }
 {
     let bench = read_bench(alloc, words)?;
-    Ok(Command::Bench {
-        seed: bench.seed,
-        workers: bench.workers,
-    })
+    Ok(Command::Bench(bench))
 }
 
 fn read_landscape_words(alloc: Global, words: &[String]) -> Result<Command, Refused>
@@ -148,11 +108,7 @@ fn read_assay_words(alloc: Global, words: &[String]) -> Result<Command, Refused>
         (Refuses (assay_command (drop 1 (map string_bytes words.now)))) }
 {
     let assay = read_assay(alloc, words)?;
-    Ok(Command::Assay {
-        count: assay.count,
-        first: assay.first,
-        workers: assay.workers,
-    })
+    Ok(Command::Assay(assay))
 }
 
 fn read_save_words(alloc: Global, words: &[String]) -> Result<Command, Refused>
@@ -172,10 +128,7 @@ fn read_resume_words(alloc: Global, words: &[String]) -> Result<Command, Refused
         (Refuses (resume_command (drop 1 (map string_bytes words.now)))) }
 {
     let resume = read_resume(alloc, words)?;
-    Ok(Command::Resume {
-        more: resume.more,
-        workers: resume.workers,
-    })
+    Ok(Command::Resume(resume))
 }
 
 fn read_advance_words(alloc: Global, words: &[String]) -> Result<Command, Refused>
@@ -185,10 +138,7 @@ fn read_advance_words(alloc: Global, words: &[String]) -> Result<Command, Refuse
         (Refuses (advance_command (drop 1 (map string_bytes words.now)))) }
 {
     let advance = read_advance(alloc, words)?;
-    Ok(Command::Advance {
-        more: advance.more,
-        workers: advance.workers,
-    })
+    Ok(Command::Advance(advance))
 }
 
 /// A command that takes no words.

@@ -5,7 +5,7 @@ ghost use Rattle.mutations.specs.BirthRecord.{record_of};
 ghost use Rattle.world_config.specs.Shown.{values_of};
 ghost use Rattle.world_core.specs.WorldValue.{world_in};
 ghost use Rattle.world_rules.specs.Descent.{line_in};
-ghost use Rattle.avida_program.specs.declared.command.Command.TheVariants.{Lineage};
+ghost use Rattle.avida_program.specs.declared.command.Command.TheVariants as command;
 ghost use Rattle.written_texts.specs.SinkChanges.{change, unchanged};
 ghost use Rattle.written_texts.specs.WrittenText.{WritesAll};
 ghost use Rattle.avida_program.specs.PathText.{origin_text, parent_text, path_line, path_lines, path_text, place_text};
@@ -17,6 +17,7 @@ use crate::input::read_config_with;
 use crate::puts::{put_rest, put_text};
 use crate::run::run_to_end;
 use avida_port::{Gate, Memory, Sink, Source};
+use command_line::Lineage;
 use genome::letters_text;
 use lineage_log::{Link, Path};
 use log_lines::{write_number, write_record};
@@ -141,23 +142,22 @@ fn run_and_write<R: Threads + Wait + Sync, O: Sink, G: Gate + Sync>(
 pub fn lineage<R: Threads + Wait + Sync, S: Source, O: Sink, G: Gate + Sync>(
     rt: &R,
     alloc: Global,
-    cell: u32,
-    workers: u32,
+    asked: Lineage,
     source: &mut S,
     out: &mut O,
     last: &mut Option<World>,
     gate: &G,
 ) -> Result<(), CallError>
-    requires { (1 ≤ workers) × (workers ≤ 64) }
-    ensures { (watch : SinkState) → CarriesOut (Lineage cell workers) (record {
+    requires { (1 ≤ asked.workers) × (asked.workers ≤ 64) }
+    ensures { (watch : SinkState) → CarriesOut (command.Lineage asked) (record {
       source = change (S.seen source.old) (S.seen source.new);
       out = change (O.seen out.old) (O.seen out.new);
       watch = unchanged watch;
       last = change last.old last.new;
     }) result }
 {
-    let config = read_config_with(alloc, source, cell)?;
-    let world = run_and_write(rt, alloc, config, cell, workers, out, gate)?;
+    let config = read_config_with(alloc, source, asked.cell)?;
+    let world = run_and_write(rt, alloc, config, asked.cell, asked.workers, out, gate)?;
     *last = Some(world);
     Ok(())
 }

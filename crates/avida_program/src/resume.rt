@@ -6,12 +6,13 @@ ghost use Rattle.world_core.specs.WorldValue.{WorldValue};
 ghost use Rattle.world_rules.specs.LogText.{end_text};
 ghost use Rattle.written_texts.specs.SinkChanges.{change, unchanged};
 ghost use Rattle.written_texts.specs.WrittenText.{WritesAll};
-ghost use Rattle.avida_program.specs.declared.command.Command.TheVariants.{Resume};
+ghost use Rattle.avida_program.specs.declared.command.Command.TheVariants as command;
 ghost use Rattle.avida_program.specs.Commands.{CarriesOut};
 
 use crate::call_error::CallError;
 use crate::input::read_state_for;
 use avida_port::{Gate, Sink, Source};
+use command_line::Resume;
 use log_lines::{LogLine, write_line};
 use std::alloc::Global;
 use std::sync::Wait;
@@ -82,26 +83,25 @@ fn write_on<R: Threads + Wait + Sync, O: Sink, G: Gate + Sync>(
     write_end(alloc, after.update(), out)
 }
 
-/// Reads a saved world, and writes the log of `more` further updates, with its last line.
+/// Reads a saved world, and writes the log of so many further updates, with its last line.
 pub fn resume<R: Threads + Wait + Sync, S: Source, O: Sink, G: Gate + Sync>(
     rt: &R,
     alloc: Global,
-    more: u32,
-    workers: u32,
+    asked: Resume,
     source: &mut S,
     out: &mut O,
     gate: &G,
 ) -> Result<(), CallError>
-    requires { (1 ≤ workers) × (workers ≤ 64) }
+    requires { (1 ≤ asked.workers) × (asked.workers ≤ 64) }
     ensures { (watch : SinkState) (last : Option WorldValue)
-        → CarriesOut (Resume more workers) (record {
+        → CarriesOut (command.Resume asked) (record {
           source = change (S.seen source.old) (S.seen source.new);
           out = change (O.seen out.old) (O.seen out.new);
           watch = unchanged watch;
           last = unchanged last;
         }) result }
 {
-    let state = read_state_for(rt, alloc, source, more, workers)?;
-    write_on(rt, alloc, state, more, out, gate)?;
+    let state = read_state_for(rt, alloc, source, asked.more, asked.workers)?;
+    write_on(rt, alloc, state, asked.more, out, gate)?;
     Ok(())
 }

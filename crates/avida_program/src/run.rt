@@ -3,12 +3,13 @@ ghost use Rattle.std.specs.Prelude.{◌≡◌, ◌≤◌, ◌<◌, ◌+◌, Some
 ghost use Rattle.world_config.specs.Shown.{values_of};
 ghost use Rattle.written_texts.specs.SinkChanges.{change};
 ghost use Rattle.logged_run.specs.RunText.{IsFinalWorld};
-ghost use Rattle.avida_program.specs.declared.command.Command.TheVariants.{Run};
+ghost use Rattle.avida_program.specs.declared.command.Command.TheVariants as command;
 ghost use Rattle.avida_program.specs.Commands.{CarriesOut};
 
 use crate::call_error::CallError;
 use crate::input::read_config;
 use avida_port::{Gate, Memory, Sink, Source};
+use command_line::Run;
 use logged_run::write_run;
 use std::alloc::Global;
 use std::sync::Wait;
@@ -70,7 +71,7 @@ pub fn run_to_end<R: Threads + Wait + Sync, G: Gate + Sync>(
 }
 
 /// Reads a configuration, and writes the log of its run, which replays to the living at its end.
-/// With `looks` there is a watcher, which writes lines of pictures to `watch`. At its end the
+/// If it is asked for, there is a watcher, which writes lines of pictures to `watch`. At its end the
 /// last world is left in `last`, and otherwise `last` stays as it was.
 pub fn run<
     R: Threads + Wait + Clock + Sync,
@@ -81,16 +82,15 @@ pub fn run<
 >(
     rt: &R,
     alloc: Global,
-    workers: u32,
-    looks: Option<u32>,
+    asked: Run,
     source: &mut S,
     out: &mut O,
     watch: &mut W,
     last: &mut Option<World>,
     gate: &G,
 ) -> Result<(), CallError>
-    requires { (1 ≤ workers) × (workers ≤ 64) }
-    ensures { CarriesOut (Run workers looks) (record {
+    requires { (1 ≤ asked.workers) × (asked.workers ≤ 64) }
+    ensures { CarriesOut (command.Run asked) (record {
       source = change (S.seen source.old) (S.seen source.new);
       out = change (O.seen out.old) (O.seen out.new);
       watch = change (W.seen watch.old) (W.seen watch.new);
@@ -99,7 +99,16 @@ pub fn run<
 {
     let config = read_config(alloc, source)?;
     replay_gives_living(&config, config.updates);
-    let world = write_run(rt, alloc, config, workers, looks, out, watch, gate)?;
+    let world = write_run(
+        rt,
+        alloc,
+        config,
+        asked.workers,
+        asked.watch,
+        out,
+        watch,
+        gate,
+    )?;
     *last = Some(world);
     Ok(())
 }

@@ -151,29 +151,31 @@ fn write_assay<R: Threads + Wait + Sync, O: Sink, G: Gate + Sync>(
     put_text(&text, out)
 }
 
-/// Reads a configuration, runs it with `count` consecutive seeds, and writes the totals of each
-/// run.
+/// Reads a configuration, runs it with consecutive seeds, and writes the totals of each run.
 pub fn assay<R: Threads + Wait + Sync, S: Source, O: Sink, G: Gate + Sync>(
     rt: &R,
     alloc: Global,
-    count: u32,
-    first: u64,
-    workers: u32,
+    asked: command_line::Assay,
     source: &mut S,
     out: &mut O,
     gate: &G,
 ) -> Result<(), CallError>
-    requires count { (1 ≤ count) × (count ≤ 64) }
-    requires first { first ≤ 9223372036854775744 }
-    requires workers { (1 ≤ workers) × (workers ≤ 64) }
+    requires count { (1 ≤ asked.count) × (asked.count ≤ 64) }
+    requires first { asked.first ≤ 9223372036854775744 }
+    requires workers { (1 ≤ asked.workers) × (asked.workers ≤ 64) }
     ensures { (watch : SinkState) (last : Option WorldValue)
-        → CarriesOut (command.Assay count first workers) (record {
+        → CarriesOut (command.Assay asked) (record {
           source = change (S.seen source.old) (S.seen source.new);
           out = change (O.seen out.old) (O.seen out.new);
           watch = unchanged watch;
           last = unchanged last;
         }) result }
 {
+    let command_line::Assay {
+        count,
+        first,
+        workers,
+    } = asked;
     let config = read_config_for(alloc, source, count)?;
     write_assay(rt, alloc, &config, count, first, workers, out, gate)?;
     Ok(())

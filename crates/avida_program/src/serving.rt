@@ -65,28 +65,14 @@ fn carry_out<
     }) result }
 {
     match command {
-        Command::Trace {
-            steps,
-            spelling,
-            low,
-        } => trace(alloc, steps, spelling, low, source, out),
-        Command::Run { workers, looks } => {
-            run(rt, alloc, workers, looks, source, out, watch, last, gate)
-        }
-        Command::Lineage { cell, workers } => {
-            lineage(rt, alloc, cell, workers, source, out, last, gate)
-        }
-        Command::Bench { seed, workers } => bench(rt, alloc, seed, workers, out, last, gate),
-        Command::Assay {
-            count,
-            first,
-            workers,
-        } => assay(rt, alloc, count, first, workers, source, out, gate),
+        Command::Trace(asked) => trace(alloc, asked, source, out),
+        Command::Run(asked) => run(rt, alloc, asked, source, out, watch, last, gate),
+        Command::Lineage(asked) => lineage(rt, alloc, asked, source, out, last, gate),
+        Command::Bench(asked) => bench(rt, alloc, asked, out, last, gate),
+        Command::Assay(asked) => assay(rt, alloc, asked, source, out, gate),
         Command::Save { workers } => save(rt, alloc, workers, source, out, gate),
-        Command::Resume { more, workers } => { resume(rt, alloc, more, workers, source, out, gate) }
-        Command::Advance { more, workers } => {
-            advance(rt, alloc, more, workers, source, out, gate)
-        }
+        Command::Resume(asked) => resume(rt, alloc, asked, source, out, gate),
+        Command::Advance(asked) => advance(rt, alloc, asked, source, out, gate),
         Command::Replay => replay(alloc, source, out),
         Command::Upgrade => upgrade(alloc, source, out),
         Command::Tree => tree(alloc, source, out),

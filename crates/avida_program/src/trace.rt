@@ -5,16 +5,17 @@ ghost use Rattle.genome.specs.Genome.{letters};
 ghost use Rattle.world_core.specs.WorldValue.{WorldValue};
 ghost use Rattle.written_texts.specs.SinkChanges.{change, unchanged};
 ghost use Rattle.written_texts.specs.WrittenText.{WritesAll};
-ghost use Rattle.avida_program.specs.declared.command.Command.TheVariants.{Trace};
+ghost use Rattle.avida_program.specs.declared.command.Command.TheVariants as command;
 ghost use Rattle.avida_program.specs.Commands.{CarriesOut};
 ghost use Rattle.avida_program.specs.TraceText.{trace_lines, trace_text};
 
 use crate::call_error::CallError;
-use crate::command::Spelling;
+use crate::command::genome_spelling;
 use crate::input::read_genome;
 use crate::puts::put_rest;
 use crate::trace_line::write_line;
 use avida_port::{Sink, Source};
+use command_line::Trace;
 use genome::Genome;
 use landscape::organism_alone;
 use logic_tasks::Inputs;
@@ -54,25 +55,22 @@ fn write_trace<O: Sink>(
     write_steps(alloc, organism, steps, out)
 }
 
-/// Reads a genome, and writes a line for each of its organism's first `steps` steps. `low` has the
-/// low 24 bits of each of its inputs.
+/// Reads a genome, and writes a line for each of its organism's first steps.
 pub fn trace<S: Source, O: Sink>(
     alloc: Global,
-    steps: u32,
-    spelling: Spelling,
-    low: [u32; 3],
+    asked: Trace,
     source: &mut S,
     out: &mut O,
 ) -> Result<(), CallError>
     ensures { (watch : SinkState) (last : Option WorldValue)
-        → CarriesOut (Trace steps spelling low) (record {
+        → CarriesOut (command.Trace asked) (record {
           source = change (S.seen source.old) (S.seen source.new);
           out = change (O.seen out.old) (O.seen out.new);
           watch = unchanged watch;
           last = unchanged last;
         }) result }
 {
-    let genome = read_genome(alloc, spelling, source)?;
-    write_trace(alloc, genome, low, steps, out)?;
+    let genome = read_genome(alloc, genome_spelling(asked.org), source)?;
+    write_trace(alloc, genome, asked.inputs, asked.steps, out)?;
     Ok(())
 }

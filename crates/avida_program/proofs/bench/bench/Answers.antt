@@ -9,8 +9,8 @@ pub returns-in_err-world : goal.returns-in_err-world
 returns-in_err-world g c = λ source watch.
     let p = err_from_is_err_and c.from_residual.result c.from_residual.ensures.1 in
     let none = nothing_written {T = Unit {0}} (g.O.Sink.seen c.args.out.now)
-    (bench_text c.args.seed) in
-    rw (p.1, p.2) (bench_stopped c.args.seed c.args.workers source watch _ _ none)
+    (bench_text c.args.asked.seed) in
+    rw (p.1, p.2) (bench_stopped c.args.asked source watch _ _ none)
 
 pub returns-in_err-put_text : goal.returns-in_err-put_text
 returns-in_err-put_text g c = λ source watch.
@@ -18,11 +18,11 @@ returns-in_err-put_text g c = λ source watch.
     c.from_residual-in_err-put_text.ensures.1 in
     let wrote = rw (c.deref.ensures.value ∙ c.in_ok-world.ensures.text)
     at c.in_err-put_text.ensures in
-    rw (p.1, p.2) (bench_stopped c.args.seed c.args.workers source watch _ _ wrote)
+    rw (p.1, p.2) (bench_stopped c.args.asked source watch _ _ wrote)
 
 pub returns : goal.returns
 returns g c = λ source watch.
     let wrote = rw (c.deref.ensures.value ∙ c.in_ok-world.ensures.text)
     at c.in_ok-put_text.ensures in
-    benched c.args.seed c.args.workers source watch _ wrote
+    benched c.args.asked source watch _ wrote
     (c.in_ok-world.world, refl, c.in_ok-world.ensures.world)
