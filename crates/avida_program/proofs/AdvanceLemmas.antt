@@ -1,5 +1,5 @@
 -- A run that is saved and advanced goes on, and updates add up.
-use Rattle.std.proofs.Common.{◌≡◌, ◌+◌, ◌∙◌, ap, refl, sym, ◌++◌, append_assoc, append-nil, ℕ, zero, suc, List, [], Ok, arith, add-zero}
+use Rattle.std.proofs.Common.{◌≡◌, ◌+◌, ◌∙◌, ap, refl, sym, ◌++◌, append_assoc, append-nil, ℕ, zero, suc, List, Ok, arith, add-zero}
 use Rattle.saved_worlds.specs.Resuming.{continued_text, later_texts, next_state, next_text, saved_state_after}
 use Rattle.saved_worlds.specs.SavedGrammar.{saved_of}
 use Rattle.saved_worlds.specs.SavedState.{SavedState, state_of, state_of_world}
@@ -9,12 +9,12 @@ use Rattle.world_rules.specs.LogText.{end_text}
 use Rattle.world_rules.specs.Settings.{rates_at}
 use Rattle.world_rules.specs.World.{World}
 use Rattle.world_rules.specs.WorldRun.{world_after}
-use Rattle.avida_program.specs.AdvancedRun.{AddsUp, AdvancesExactly, AdvancesInTwo, IsReadAgain, ResumesInTwo, longer_run}
+use Rattle.avida_program.specs.AdvancedRun.{AddsUp, AdvancesExactly, AdvancesInTwo, CanAdvanceInTwo, ResumesInTwo, longer_run}
 use Rattle.avida_program.specs.ResumedRun.{CanResume}
 use Rattle.avida_program.specs.SaveText.{advanced_text, save_text}
 use Rattle.avida_program.proofs.LongerRuns.{world_stays}
 use Rattle.avida_program.proofs.ResumeLemmas.{update_after}
-use Rattle.avida_program.proofs.SavedLemmas.{read_again, reads_again}
+use Rattle.avida_program.proofs.SavedLemmas.{IsReadAs, read_again, reads_again}
 
 -- updates add up
 pub adds_up : (state : SavedState) (first second : ℕ) → AddsUp state first second
@@ -60,15 +60,18 @@ resumes_in_two state first second =
           ∙ ap (λ n. later_texts state (first + second) ++ end_text n) last;
     }
 
--- what is advanced in two parts
-pub advances_in_two : (state : SavedState) (first second : ℕ) → IsReadAgain state first second
-    → AdvancesInTwo state first second
-advances_in_two state first second so =
+-- what is advanced in two parts, where the world between is read again
+pub advances_in_two : (bytes : List ℕ) (state : SavedState) (first second : ℕ)
+    → CanAdvanceInTwo bytes state first second → IsReadAs bytes state (first + second)
+    → saved_of (advanced_text state first) ≡ Ok (saved_state_after state first)
+    → AdvancesInTwo bytes state first second
+advances_in_two bytes state first second so read again =
     let between = saved_state_after state first in
     record {
+      begins = read_again first bytes state read.is read.short (omega (arith, read.early));
       between = between;
-      reads = read_again second (advanced_text state first) between so.again so.short
-          (omega (arith, update_after state first, so.updates));
+      reads = read_again second (advanced_text state first) between again so.short
+          (omega (arith, update_after state first, read.early));
       goes_on = ap saved_text (adds_up state first second);
     }
 

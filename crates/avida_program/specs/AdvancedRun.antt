@@ -1,8 +1,8 @@
 -- How a run goes on that is saved and advanced (docs/WORLD.md, "Saved worlds").
 use Rattle.std.specs.Prelude.{◌≡◌, ◌+◌, ◌≤◌, ℕ, List, ◌++◌, Ok, length}
 use Rattle.saved_worlds.specs.Resuming.{continued_text, saved_state_after}
-use Rattle.saved_worlds.specs.SavedGrammar.{saved_of}
 use Rattle.saved_worlds.specs.SavedState.{SavedState}
+use Rattle.saved_worlds.specs.ValidState.{FitsText}
 use Rattle.world_config.specs.Values.{ConfigValues}
 use Rattle.world_rules.specs.LogText.{end_text}
 use Rattle.avida_program.specs.Input.{resume_input_of}
@@ -33,14 +33,17 @@ pub record ResumesInTwo (state : SavedState) (first second : ℕ) : Type 0 where
   pub goes_on : log ++ continued_text (saved_state_after state first) second
       ≡ continued_text state (first + second)
 
--- what `advance` writes of some updates is read again, not too long, and not too late for some more
-pub record IsReadAgain (state : SavedState) (first second : ℕ) : Type 0 where
-  pub again : saved_of (advanced_text state first) ≡ Ok (saved_state_after state first)
+-- `advance` reads this input for all these updates; what it writes of the first ones is not too
+-- long, and its next id and its ages are such as the lines of a saved world have
+pub record CanAdvanceInTwo (bytes : List ℕ) (state : SavedState) (first second : ℕ) : Type 0 where
+  pub reads : resume_input_of (first + second) bytes ≡ Ok state
+  pub fits : FitsText (saved_state_after state first)
   pub short : length (advanced_text state first) ≤ 536870912
-  pub updates : state.head.update + (first + second) ≤ 1000000
 
--- `advance` by some more reads it, and writes what it writes of all updates at once
-pub record AdvancesInTwo (state : SavedState) (first second : ℕ) : Type 0 where
+-- `advance` by the first updates reads the input too; by the second ones it reads what the first
+-- call wrote, and writes what it writes of all updates at once
+pub record AdvancesInTwo (bytes : List ℕ) (state : SavedState) (first second : ℕ) : Type 0 where
+  pub begins : resume_input_of first bytes ≡ Ok state
   pub between : SavedState
   pub reads : resume_input_of second (advanced_text state first) ≡ Ok between
   pub goes_on : advanced_text between second ≡ advanced_text state (first + second)

@@ -1,13 +1,13 @@
 // The program's limits, and what holds of its commands together (docs/FORMATS.md, "The command
 // line" and "Statuses and fault lines"; docs/WORLD.md, "Saved worlds").
-ghost use Rattle.std.specs.Prelude.{◌≡◌, ℕ};
+ghost use Rattle.std.specs.Prelude.{◌≡◌, ℕ, List};
 ghost use Rattle.saved_worlds.specs.SavedState.{SavedState};
 ghost use Rattle.world_config.specs.Shown.{values_of};
-ghost use Rattle.avida_program.specs.AdvancedRun.{AddsUp, AdvancesExactly, AdvancesInTwo, IsReadAgain, ResumesInTwo};
+ghost use Rattle.avida_program.specs.AdvancedRun.{AddsUp, AdvancesExactly, AdvancesInTwo, CanAdvanceInTwo, ResumesInTwo};
 ghost use Rattle.avida_program.specs.ResumedRun.{CanResume, ResumesExactly};
 
 use crate::input::{INPUT_LIMIT, MOST_CELLS};
-use checkpoint::laws::runs_are_read_again;
+use checkpoint::laws::{advanced_worlds_are_read_again, runs_are_read_again};
 use saved_worlds::laws::resumed_runs_go_on;
 use world_config::Config;
 use written_texts::PIECE_SIZE;
@@ -39,10 +39,12 @@ pub fn saved_runs_advance(config: &Config, more: u32)
 }
 
 /// Updates add up, in two calls of `advance` as in one: the worlds, what `resume` writes of them,
-/// and what is read and written where the world between is read again as it was written.
+/// and what is read and written.
 pub fn updates_add_up()
     ensures states { (state : SavedState) (first second : ℕ) → AddsUp state first second }
     ensures resumed { (state : SavedState) (first second : ℕ) → ResumesInTwo state first second }
-    ensures advanced { (state : SavedState) (first second : ℕ)
-        → IsReadAgain state first second → AdvancesInTwo state first second }
-{}
+    ensures advanced { (bytes : List ℕ) (state : SavedState) (first second : ℕ)
+        → CanAdvanceInTwo bytes state first second → AdvancesInTwo bytes state first second }
+{
+    advanced_worlds_are_read_again();
+}
