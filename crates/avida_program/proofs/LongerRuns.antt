@@ -3,7 +3,7 @@ use Rattle.std.proofs.Common.{◌≡◌, ℕ, ◌+◌, zero, suc, List, [], ◌�
 use Rattle.std.specs.Prelude.{fold}
 use Rattle.world_config.specs.Events.{EventValue, WhatValue, inject, clear, rate}
 use Rattle.world_config.specs.Values.{ConfigValues}
-use Rattle.world_rules.specs.Lives.{CellLife, life_at, life_of, lives_of, slice_at, slices_at}
+use Rattle.world_rules.specs.Lives.{CellLife, life_of, lives_of, slice_at, slices_at}
 use Rattle.world_rules.specs.Scene.{Scene}
 use Rattle.world_rules.specs.Settings.{rates_at, settings_at}
 use Rattle.world_rules.specs.Update.{Delivery, after_births, after_burials, after_event, after_events, after_lives, after_what, births_of, events_at, last_scene, next_scene, next_world, placings_of, scene_of_lives, turns_of, with_newborn}
