@@ -99,6 +99,8 @@ class Descent:
                     node = self.node_at(NOBODY, line, letters, "-")
                 elif mark == "D" or mark == "X":
                     _, id, its_update, cell = line.split(" ")
+                    if id == EMPTY:
+                        raise ValueError(line)
                     over, node = id, None
                 elif mark == "U":
                     self.end_update(line, update)

@@ -4,17 +4,23 @@ The page is shown by chromium, where that is installed. What somebody would do w
 """
 
 import json
+import os
 import random
 import re
 import shutil
+import signal
 import struct
 import subprocess
 import zlib
 from base64 import b64decode
 from html import unescape
 from pathlib import Path
+from unittest import mock
 
-from avida_log import INSTRUCTIONS, TASKS, TOP, applied, program, updates_of, worlds_of
+import processes
+import settled
+from avida_log import INSTRUCTIONS, TASKS, TOP, Fault, applied, program, updates_of, worlds_of
+from scripts import script
 from traces import gestations_of
 
 TOOLS = TOP / "tools"
@@ -174,6 +180,7 @@ class Maps:
         last = updates_of(log)[-1]
         for name, words in (("events.html", ["--title", "a <b> & c"]), ("thin.html", ["--frames", 5])):
             self.data_of(log, Page(self.made(log, name, *words)), name, last)
+        self.processes(log)
         browser = next(filter(None, map(shutil.which, ("chromium", "chromium-browser", "google-chrome"))), None)
         if not browser:
             return self.checks.skip("the page of tools/map in a browser, as chromium isn't installed (a Debian package)")
@@ -195,6 +202,40 @@ class Maps:
                 continue
             cells = [None if id is None else (id, world.genomes[id], world.parents[id]) for id in world.cells]
             self.check(f"map: id, genome and parent of each cell of {name} after update {number}", frames[number] == cells)
+
+    def processes(self, log):
+        """However many processes read a log, and wherever they cut it, the page is the same; and no process is left."""
+        make, pages = script("map").page_of, {}
+        for count, size in ((1, settled.MOST_BYTES), (2, settled.MOST_BYTES), (2, 3000), (5, 1)):
+            with mock.patch.object(processes, "processors", lambda: count), mock.patch.object(settled, "MOST_BYTES", size):
+                pages[count, size] = [make(str(log), "a", frames) for frames in (5, 201)]
+        self.check("map: two processes write the page of one", all(each == pages[1, settled.MOST_BYTES] for each in pages.values()))
+        with mock.patch.object(processes, "processors", lambda: 2):
+            self.results()
+        try:
+            left = os.waitpid(-1, os.WNOHANG)
+        except ChildProcessError:
+            left = None
+        self.check("processes: none is left", left is None, left)
+
+    def results(self):
+        """What two processes hand on of nine tasks: results, a fault, nothing where one is killed; or only the first is taken."""
+        def work(number, wrong=None, killed=None):
+            if number == wrong:
+                raise ValueError(number)
+            if number == killed:
+                os.kill(os.getpid(), signal.SIGKILL)
+            return number * number
+
+        for wrong, killed, wanted in ((None, None, ""), (4, None, "ValueError: 4"), (None, 4, "Fault: a process at work was killed")):
+            seen, told = [], ""
+            try:
+                seen.extend(processes.in_order(work, ((number, wrong, killed) for number in range(9))))
+            except (ValueError, Fault) as fault:
+                told = f"{type(fault).__name__}: {fault}"
+            squares = [number * number for number in range(4 if wanted else 9)]
+            self.check(f"processes: what comes of nine tasks, with {wanted or 'no fault'}", (seen, told) == (squares, wanted), (seen, told))
+        self.check("processes: who takes the first result alone", next(processes.in_order(work, ((number,) for number in range(9)))) == 0)
 
     def dump(self, page, width=1060):
         done = subprocess.run([*self.how, f"--window-size={width},900", "--dump-dom", f"file://{page}"], capture_output=True)
