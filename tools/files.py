@@ -24,15 +24,20 @@ def beside(path, suffix):
     return str(Path(path).with_suffix(suffix))
 
 
+def is_plain(path):
+    """Whether a plain file stands here, or nothing."""
+    return Path(path).is_file() or not Path(path).exists()
+
+
 @contextmanager
 def written(path, encoding="utf-8"):
     """A file to write, of bytes where `encoding` is None. It stands under its name once all of it is written."""
     target = Path(path).resolve()
-    # What is no plain file, as a device, can't be replaced.
-    is_replaced = target.is_file() or not target.exists()
+    # What is no plain file, as a device or a pipe, can't be replaced.
+    is_replaced = is_plain(path)
     if target.is_file() and not os.access(target, os.W_OK):
         raise PermissionError(errno.EACCES, os.strerror(errno.EACCES), str(path))
-    part = target.with_name(f".{os.getpid()}.part") if is_replaced else target
+    part = target.with_name(f".{os.getpid()}.part") if is_replaced else Path(path)
     try:
         with open(part, "w" if encoding else "wb", encoding=encoding) as file:
             yield file
