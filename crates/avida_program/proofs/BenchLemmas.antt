@@ -1,11 +1,9 @@
 -- How the births and the bytes of a run add up, and the configuration that `bench` runs.
-use Rattle.std.proofs.Common.{◌≡◌, ◌≢◌, ◌∙◌, ◌+◌, ℕ, suc, List, [], ◌++◌, Ok, Err, refl, sym, ap, subst, length, length-append, add-one, arith, rules}
+use Rattle.std.proofs.Common.{◌≡◌, ◌∙◌, ◌+◌, ℕ, suc, List, [], ◌++◌, Option, Ok, Err, refl, sym, ap, subst, length, length-append, add-one, arith, rules}
 use Rattle.std.proofs.lemmas.Bool.{false≢true}
 use Rattle.std.specs.Prelude.{codes, decimal}
 use Rattle.toml.specs.Data.{no_members}
-use Rattle.avida_port.specs.Ports.{Puts, SinkState}
-use Rattle.avida_port.specs.declared.sink.SinkStop.{SinkStop}
-use Rattle.avida_port.specs.declared.sink.SinkStop.TheVariants.{Fault, Memory}
+use Rattle.avida_port.specs.Ports.{SinkState, SourceState}
 use Rattle.instruction_set.specs.Letter.{letter_of_byte}
 use Rattle.log_lines.specs.Line.{Count}
 use Rattle.log_lines.specs.LineText.{line_text}

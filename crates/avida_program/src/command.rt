@@ -25,17 +25,13 @@ pub enum Command {
     Lineage(Lineage),
     Bench(Bench),
     Assay(Assay),
-    Save {
-        workers: u32,
-    },
+    Save { workers: u32 },
     Resume(Resume),
     Advance(Advance),
     Replay,
     Upgrade,
     Tree,
-    Landscape {
-        steps: u32,
-    },
+    Landscape { steps: u32 },
 }
 
 /// The spelling that `--org` asks for.

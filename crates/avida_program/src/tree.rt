@@ -114,11 +114,7 @@ fn write_tree<O: Sink>(alloc: Global, log: &Log, out: &mut O) -> Result<(), Writ
 }
 
 /// Reads a log, and writes how the organisms alive at its end descend from each other.
-pub fn tree<S: Source, O: Sink>(
-    alloc: Global,
-    source: &mut S,
-    out: &mut O,
-) -> Result<(), CallError>
+pub fn tree<S: Source, O: Sink>(alloc: Global, source: &mut S, out: &mut O) -> Result<(), CallError>
     ensures { (watch : SinkState) (last : Option WorldValue) → CarriesOut Tree (record {
       source = change (S.seen source.old) (S.seen source.new);
       out = change (O.seen out.old) (O.seen out.new);

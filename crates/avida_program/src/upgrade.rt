@@ -18,11 +18,7 @@ use lineage_log::{Log, LogLine, write_line};
 use std::alloc::Global;
 use written_texts::{Piece, WriteStop, write_text};
 
-fn write_lines<O: Sink>(
-    alloc: Global,
-    lines: &[LogLine],
-    out: &mut O,
-) -> Result<(), WriteStop>
+fn write_lines<O: Sink>(alloc: Global, lines: &[LogLine], out: &mut O) -> Result<(), WriteStop>
     ensures { WritesAll (O.seen out.old) (O.seen out.new) (lines_text (lines_of lines.now)) result }
 {
     let mut piece = Piece::new();

@@ -1,4 +1,4 @@
-use Rattle.std.proofs.Common.{◌∙◌, List, ℕ, refl, subst, Ok, Err}
+use Rattle.std.proofs.Common.{◌∙◌, refl}
 use Rattle.std.proofs.lemmas.Result.{err_from_is_err_and}
 use Rattle.written_texts.proofs.WriteLemmas.{nothing_written}
 use Rattle.avida_program.specs.BenchText.{bench_text}

@@ -5,7 +5,6 @@ use Rattle.world_config.specs.Values.{ConfigValues}
 use Rattle.world_core.specs.WorldValue.{WorldValue, world_in}
 use Rattle.world_rules.specs.Descent.{line_in}
 use Rattle.world_rules.specs.WorldRun.{world_after}
-use Rattle.written_texts.specs.WrittenText.{WritesAll}
 use Rattle.written_texts.proofs.WriteLemmas.{nothing_written, stopped_same, writes_same}
 use Rattle.logged_run.specs.RunText.{IsFinalWorld}
 use Rattle.avida_program.specs.PathText.{path_lines, path_text}

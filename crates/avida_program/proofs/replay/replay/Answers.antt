@@ -17,10 +17,10 @@ returns-in_err-write_replayed g c = λ watch last.
     c.from_residual-in_err-write_replayed.ensures.1 in
     let read = c.in_ok-livings.ensures.ok in
     rw (p.1, p.2) (not_written _ log_input_of replay_text (λ work told h. h) _ watch last read.0 _
-    refl read.1.0 (c.in_err-write_replayed.ensures read.0 read.1.1))
+    refl read.1 (c.in_err-write_replayed.ensures read.0 read.2))
 
 pub returns : goal.returns
 returns g c = λ watch last.
     let read = c.in_ok-livings.ensures.ok in
-    written _ log_input_of replay_text (λ work told h. h) _ watch last read.0 read.1.0
-    (c.in_ok-write_replayed.ensures read.0 read.1.1)
+    written _ log_input_of replay_text (λ work told h. h) _ watch last read.0 read.1
+    (c.in_ok-write_replayed.ensures read.0 read.2)

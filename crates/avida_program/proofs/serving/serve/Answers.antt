@@ -1,9 +1,21 @@
+use Rattle.std.proofs.Common.{◌≡◌, Option}
+use Rattle.avida_port.specs.Ports.{SinkState}
+use Rattle.written_texts.specs.SinkChanges.{Change}
+use Rattle.avida_program.specs.declared.command.Command.{Command}
+use Rattle.avida_program.specs.declared.status.Status.{Status}
+use Rattle.avida_program.specs.Changes.{TellsOf, Work}
+use Rattle.avida_program.specs.Commands.{Obeys, Serves}
+use Rattle.avida_program.specs.Status.{Ended, status_of}
 use Rattle.avida_program.proofs.serving.serve.Goals as goal
 
-pub returns-clause-serves : goal.returns-clause-serves
-returns-clause-serves g c = record {
-  told = c.obey-outcome.result;
-  is_told = c.status.ensures;
-  obeys = c.obey-outcome.ensures;
-  tells = c.write_fault_line.ensures;
+-- what was done, and what tells of it, is what the status promises
+served : {command : Option Command} {work : Work} {err : Change SinkState} {s : Status}
+    (told : Ended)
+    → s ≡ status_of told → Obeys command work told → TellsOf err told → Serves command work err s
+served told is obeys tells = record { told = told; is_told = is; obeys = obeys; tells = tells }
+
+pub returns : goal.returns
+returns g c = record {
+  serves =
+      served c.obey-ended.result c.of.ensures c.obey-ended.ensures c.write_fault_line.ensures;
 }
