@@ -513,7 +513,7 @@ class Logs:
             ("B 2 1 2 0 0", "B 2 1 2 0 -", "{log}:4: its line has - for who stood in cell 0, where 0 stands", worlds),
             ("B 2 1 2 0 0", "B 3 1 2 0 0", "{log}:4: its organism is 3, and the next one is 2", worlds),
             ("B 2 1 2 0 0", "B 2 1 3 0 0", "{log}:4: its update is 3, and 2 is due", worlds),
-            ("B 2 1 2 0 0 = -", "D 0 2 0\nD 0 2 0", "{log}:5: organism 0 doesn't stand in cell 0", worlds),
+            ("B 2 1 2 0 0 = -", "D 0 2 0\nD 0 2 0", "{log}:5: organism 0 doesn't stand in cell 0", worlds[3:]),
             ("B 2 1 2 0 0 = -", "D 0 2 0\nD - 2 0", "{log}:5: its field id has '-', which is no number", worlds),
             ("U 2 2 1 1 1 16 0", "U 2 2 1 1 1 16 +0", "{log}:5: its field count of NOT has '+0', which is no number", all),
             ("U 2 2 1", "U 2 2 ä", "{log}:5: its field births has 'Ã¤', which is no number", all),

@@ -204,12 +204,12 @@ class Maps:
             self.check(f"map: id, genome and parent of each cell of {name} after update {number}", frames[number] == cells)
 
     def processes(self, log):
-        """However many processes read a log, and wherever they cut it, the page is the same; and no process is left."""
-        make, pages = script("map").page_of, {}
+        """However many processes read a log, wherever it is cut, the page and who lives are the same, and no process is left."""
+        make, seen = script("map").page_of, {}
         for count, size in ((1, settled.MOST_BYTES), (2, settled.MOST_BYTES), (2, 3000), (5, 1)):
             with mock.patch.object(processes, "processors", lambda: count), mock.patch.object(settled, "MOST_BYTES", size):
-                pages[count, size] = [make(str(log), "a", frames) for frames in (5, 201)]
-        self.check("map: two processes write the page of one", all(each == pages[1, settled.MOST_BYTES] for each in pages.values()))
+                seen[count, size] = *(make(str(log), "a", frames) for frames in (5, 201)), settled.Ending(log).rows()
+        self.check("map: several processes make the page of one, and find the same living", len(set(map(str, seen.values()))) == 1)
         with mock.patch.object(processes, "processors", lambda: 2):
             self.results()
         try:

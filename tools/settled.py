@@ -15,8 +15,9 @@ from processes import in_order
 
 NOBODY = "-"
 NO_PARENT = -1
-# A process takes updates of so many bytes at once: that is enough where an update ends a stretch, and that most at all.
-ENOUGH_BYTES, MOST_BYTES = 4_000_000, 12_000_000
+# A task of a process ends where a stretch has to end, once it has the first of these numbers of bytes, and anywhere once it
+# has the second.
+ENOUGH_BYTES, MOST_BYTES = 4_000_000, 8_000_000
 
 
 def columns_of(text, mark, count):
