@@ -1,3 +1,4 @@
 pub mod PackedLemmas
 pub mod TemplateLemmas
 pub mod SearchLemmas
+pub mod SiteLemmas

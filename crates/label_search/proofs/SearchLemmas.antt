@@ -1,14 +1,16 @@
 -- The first place at which a template stands.
 use Rattle.std.proofs.Common.{◌-◌, zero, suc, true, false, arith, ◌≡◌, sym, ap, refl, ℕ, ◌+◌, ◌<◌, ◌≤◌, List, Bool, cond, length, take, drop, Option, Some, None, subst, inl, inr, length-drop, length-take, get_or}
+use Rattle.std.specs.Prelude.{◌&&◌}
 use Rattle.std.proofs.Math.Nat.{eq-or-lt_of_le}
-use Rattle.std.proofs.lemmas.List.{drop_more}
+use Rattle.std.proofs.lemmas.List.{drop_more, get_or-take}
 use Rattle.std.specs.Cmp.Lexicographic.{pointwise}
 use Rattle.std.specs.Bool.{Decides}
 use Rattle.std.specs.List.{find, range_with_len}
 use Rattle.std.specs.Option.{MatchOption, IfSome}
 use Rattle.std.proofs.lemmas.Bool.Decides.{not_from_Decides}
 use Rattle.instruction_set.specs.declared.letter.Letter.{Letter}
-use Rattle.instruction_set.specs.Letter.{same_letters}
+use Rattle.instruction_set.specs.declared.letter.Letter.TheVariants.{NopA}
+use Rattle.instruction_set.specs.Letter.{same_letter, same_letters}
 use Rattle.label_search.specs.Search.{OccursAt, occurs_at, first_match}
 
 -- the search among the places from one on
@@ -95,16 +97,15 @@ module _ (one_list : (letters others : List Letter)
       MatchOption-map (first_match memory template) _ _ _ _ (λ _. tt) (λ first least. least.0.0)
       (first_match-least memory template some)
 
--- lists that agree at a place compare as their rests do
-pub pointwise-next : (test : Letter → Letter → Bool) (xs ys : List Letter) (i : ℕ) (d : Letter)
-    → i < length xs → i < length ys → test (get_or xs i d) (get_or ys i d) ≡ true
-    → pointwise test (drop (i + 1) xs) (drop (i + 1) ys) ≡ pointwise test (drop i xs) (drop i ys)
-pointwise-next test xs ys i d hx hy same =
-    rw (drop_more xs i d hx, drop_more ys i d hy, same) refl
-
--- lists that differ at a place
-pub pointwise-differ : (test : Letter → Letter → Bool) (xs ys : List Letter) (i : ℕ) (d : Letter)
-    → i < length xs → i < length ys → test (get_or xs i d) (get_or ys i d) ≡ false
-    → pointwise test (drop i xs) (drop i ys) ≡ false
-pointwise-differ test xs ys i d hx hy differ =
-    rw (drop_more xs i d hx, drop_more ys i d hy, differ) refl
+-- a template and the letters under it, compared from a place on: here, and then the rests
+pub compared : (what letters : List Letter) (at : ℕ) (same : Bool) → at < length what
+    → at < length letters → same_letter (get_or what at NopA) (get_or letters at NopA) ≡ same
+    → pointwise same_letter (drop at what) (drop at (take (length what) letters))
+    ≡ (same
+    && pointwise same_letter (drop (at + 1) what) (drop (at + 1) (take (length what) letters)))
+compared what letters at same within inside is =
+    let under = take (length what) letters in
+    let here : at < length under = omega (arith, length-take (length what) letters) in
+    let there : get_or under at NopA ≡ get_or letters at NopA =
+    get_or-take (length what) letters at NopA within in
+    rw (drop_more what at NopA within, drop_more under at NopA here, there, is) refl

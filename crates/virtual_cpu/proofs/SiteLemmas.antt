@@ -1,12 +1,11 @@
 -- What sites hold, as they are made, marked, written and read.
 use Rattle.std.proofs.Common.{refl, sym, ap, ◌≡◌, ◌∙◌, ℕ, zero, suc, ◌+◌, ◌<◌, ◌≤◌, List, [], ◌∷◌, ◌++◌, Bool, true, false, cond, length, map, replicate, take, drop, get_or, set}
 use Rattle.std.specs.Prelude.{count_by}
-use Rattle.std.proofs.lemmas.List.{map-append, map-set, map_push, take_more, take_all, take-map, drop-map, get_or-map, set-get_or}
+use Rattle.std.proofs.lemmas.List.{length-map, map-append, map-set, map_push, take_more, take_all, take-map, drop-map, get_or-map, set-get_or}
 use Rattle.std.proofs.lemmas.List.Sums.{sum_by-cons}
 use Rattle.instruction_set.specs.declared.letter.Letter.{Letter}
 use Rattle.instruction_set.specs.declared.letter.Letter.TheVariants.{NopA}
-use Rattle.label_search.specs.declared.site.Site.{Site}
-use Rattle.label_search.specs.Site.{letters_of}
+use Rattle.label_search.specs.Site.{Site, letters_of}
 use Rattle.virtual_cpu.specs.Divide.{count_of}
 use Rattle.virtual_cpu.specs.SiteLists.{SiteLists, clean_of, executed_of, copied_of, fresh_site, fresh_lists, with_places, with_copy, lists_in}
 
@@ -18,6 +17,12 @@ same : (l l' c c' : List Letter) (e e' p p' : List Bool) (room : ℕ) → l ≡ 
     (record { letters = l'; clean = c'; executed = e'; copied = p'; room = room })
 same l l' c c' e e' p p' room letters clean executed copied =
     rw (letters, clean, executed, copied) refl
+
+-- there are as many sites as letters
+pub length-seen : (sites : List Site) (room : ℕ) (lists : SiteLists) → lists_in sites room ≡ lists
+    → length sites ≡ length lists.letters
+length-seen sites room lists view = sym (length-map sites (λ (s : Site). s.letter))
+    ∙ ap (λ (l : SiteLists). length l.letters) view
 
 -- the letters of fresh sites
 letters-fresh : (text : List Letter) → letters_of (map fresh_site text) ≡ text

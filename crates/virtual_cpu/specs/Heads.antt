@@ -1,5 +1,5 @@
 -- The four heads (docs/MACHINE.md, "The machine").
-use Rattle.std.specs.Prelude.{ℕ, ◌<◌}
+use Rattle.std.specs.Prelude.{ℕ}
 use Rattle.virtual_cpu.specs.declared.heads.Head.{Head}
 use Rattle.virtual_cpu.specs.declared.heads.Head.TheVariants.{Ip, Read, Write}
 use Rattle.virtual_cpu.specs.declared.heads.Heads.{Heads}
@@ -15,10 +15,3 @@ abbrev pub with_head : Heads → Head → ℕ → Heads
 with_head heads Ip place = record heads { ip = place }
 with_head heads Read place = record heads { read = place }
 with_head heads Write place = record heads { write = place }
-
--- the four are places of some memory
-pub record ArePlaces (heads : Heads) : Type 0 where
-  pub ip : heads.ip < 8192
-  pub read : heads.read < 8192
-  pub write : heads.write < 8192
-  pub flow : heads.flow < 8192

@@ -2,8 +2,7 @@
 use Rattle.std.specs.Prelude.{ℕ, ◌++◌, Bool, true, false, List, length, map, replicate, slice_set}
 use Rattle.instruction_set.specs.declared.letter.Letter.{Letter}
 use Rattle.instruction_set.specs.declared.letter.Letter.TheVariants.{NopA}
-use Rattle.label_search.specs.declared.site.Site.{Site}
-use Rattle.label_search.specs.Site.{letters_of}
+use Rattle.label_search.specs.Site.{Site, letters_of}
 
 -- a list for each thing that a place holds, and how many places there is room for
 pub record SiteLists : Type 0 where

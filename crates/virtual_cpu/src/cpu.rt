@@ -10,17 +10,15 @@ ghost use Rattle.virtual_cpu.specs.Image.{image_of, machine_of_image};
 ghost use Rattle.virtual_cpu.specs.RegisterEffects.{active_stack, with_active_stack};
 ghost use Rattle.virtual_cpu.specs.Copying.{after_h_copy};
 ghost use Rattle.virtual_cpu.specs.Allocation.{can_allocate, with_allocation};
-ghost use Rattle.virtual_cpu.specs.Divide.{divide_question, parent_part, child_part};
+ghost use Rattle.virtual_cpu.specs.Divide.{parent_part};
 
 use crate::cpu_image::{CpuImage, Letters, Marks};
-use crate::cut::Cut;
 use crate::heads::{Head, Heads};
 use crate::places::{place_after, place_of_number};
 use crate::registers::{Register, Registers};
 use crate::sites::Sites;
 use crate::stack::Stack;
 use avida_port::Memory;
-use divide_rules::DivideAsk;
 use genome::Genome;
 use instruction_set::Letter;
 use label_search::Template;
@@ -30,15 +28,16 @@ use std::marker::Model;
 /// A machine that steps through its own memory.
 #[derive(Drop)]
 pub struct Cpu {
+    // What most steps touch comes first, in 56 bytes.
     pub(crate) sites: Sites,
     pub(crate) heads: Heads,
     registers: Registers,
     pub(crate) nops: Template,
-    pending: bool,
-    birth_length: usize,
-    limit: usize,
-    active: usize,
+    birth_length: u32,
+    limit: u32,
     stacks: [Stack; 2],
+    active: u8,
+    pub(crate) pending: bool,
 }
 
 impl Model for Cpu {
@@ -62,20 +61,19 @@ impl Cpu {
         ensures { IfOk result (λ cpu. let text = letters genome.now in
             cpu ≡ fresh_machine text (length text) memory_limit) }
     {
-        let birth_length = genome.len() as usize;
-        let limit = memory_limit as usize;
-        let room = (6 * birth_length).min(limit);
+        let birth_length = genome.len();
+        let room = (6 * birth_length as usize).min(memory_limit as usize);
         let sites = Sites::fresh(alloc, genome.letters(), room)?;
         Ok(Cpu {
             sites,
             heads: Heads::default(),
             registers: Registers::default(),
             nops: Template::none(),
-            pending: false,
             birth_length,
-            limit,
-            active: 0,
+            limit: memory_limit,
             stacks: [Stack::new(), Stack::new()],
+            active: 0,
+            pending: false,
         })
     }
 
@@ -91,9 +89,8 @@ impl Cpu {
         ensures { IfOk result (λ cpu. cpu ≡
             machine_of_image image.now (length (letters genome.now)) memory_limit) }
     {
-        let birth_length = genome.len() as usize;
-        let limit = memory_limit as usize;
-        let room = (6 * birth_length).min(limit);
+        let birth_length = genome.len();
+        let room = (6 * birth_length as usize).min(memory_limit as usize);
         let sites = Sites::of_lists(
             alloc,
             image.memory.as_slice(),
@@ -107,11 +104,11 @@ impl Cpu {
             heads: Heads::of(image.heads),
             registers: Registers::of(image.registers),
             nops: image.nops.copy(),
-            pending: image.pending,
             birth_length,
-            limit,
-            active: image.active as usize,
+            limit: memory_limit,
             stacks: [Stack::of(image.first), Stack::of(image.second)],
+            active: image.active,
+            pending: image.pending,
         })
     }
 
@@ -126,7 +123,7 @@ impl Cpu {
         let copied = Marks::from_vec(self.sites.all_copied(alloc)?);
         Ok(CpuImage {
             registers: self.registers(),
-            active: self.active as u8,
+            active: self.active,
             heads: self.heads.places(),
             pending: self.pending,
             nops: self.nops.copy(),
@@ -171,7 +168,7 @@ impl Cpu {
             self.new ≡ fresh_machine text (length text) memory_limit) }
         ensures err { OnErr result (self.new ≡ self.old) }
     {
-        if genome.len() as usize > self.birth_length || memory_limit as usize != self.limit {
+        if genome.len() > self.birth_length || memory_limit != self.limit {
             *self = Cpu::new(alloc, genome, memory_limit)?;
         } else {
             self.begin(genome);
@@ -185,7 +182,7 @@ impl Cpu {
         ensures { let text = letters genome.now in
             self.new ≡ fresh_machine text (length text) self.old.limit }
     {
-        let birth_length = genome.len() as usize;
+        let birth_length = genome.len();
         self.sites.begin(genome.letters());
         self.registers = Registers::default();
         let stacks = [Stack::new(), Stack::new()];
@@ -197,35 +194,19 @@ impl Cpu {
         self.birth_length = birth_length;
     }
 
-    /// Copies the child's part of the clean text and of memory.
-    pub fn cut(&self, alloc: Global, ask: &DivideAsk) -> Result<Cut, Memory>
-        requires least { 8 ≤ ask.now.end - ask.now.read }
-        requires within { ask.now.end ≤ length self.now.memory }
-        ensures clean { IfOk result (λ cut. letters cut.clean ≡
-            child_part self.now.clean ask.now.read ask.now.end) }
-        ensures written { IfOk result (λ cut. letters cut.written ≡
-            child_part self.now.memory ask.now.read ask.now.end) }
-    {
-        let read = ask.read as usize;
-        let end = ask.end as usize;
-        let clean = genome_of(alloc, self.sites.clean(alloc, read, end)?)?;
-        let written = genome_of(alloc, self.sites.letters(alloc, read, end)?)?;
-        Ok(Cut { clean, written })
-    }
-
     /// The letter under IP.
     #[inline(always)]
     pub fn next(&self) -> Letter
         ensures { result ≡ letter_under_ip self.now }
     {
-        self.sites.letter(self.heads.ip)
+        self.sites.letter(self.heads.ip as usize)
     }
 
     /// The place of IP.
     pub fn place(&self) -> u32
         ensures { result ≡ self.now.heads.ip }
     {
-        self.heads.ip as u32
+        self.heads.ip
     }
 
     /// AX, BX and CX.
@@ -240,7 +221,7 @@ impl Cpu {
     pub fn birth_length(&self) -> u32
         ensures { result ≡ self.now.birth_length }
     {
-        self.birth_length as u32
+        self.birth_length
     }
 
     /// The length of memory.
@@ -255,7 +236,7 @@ impl Cpu {
     pub(crate) fn mark_executed(&mut self)
         ensures { self.new ≡ with_ip_marked self.old }
     {
-        self.sites.mark_executed(self.heads.ip);
+        self.sites.mark_executed(self.heads.ip as usize);
     }
 
     #[inline(always)]
@@ -266,7 +247,7 @@ impl Cpu {
     }
 
     #[inline(always)]
-    pub(crate) fn head(&self, head: Head) -> usize
+    pub(crate) fn head(&self, head: Head) -> u32
         ensures place { result ≡ head_place self.now.heads head }
         ensures within { result < 8192 }
     {
@@ -300,7 +281,7 @@ impl Cpu {
 
     /// Moves FLOW to a place.
     #[inline(always)]
-    pub(crate) fn move_flow_to(&mut self, place: usize)
+    pub(crate) fn move_flow_to(&mut self, place: u32)
         requires { place < length self.old.memory }
         ensures { self.new ≡ with_flow_at self.old place }
     {
@@ -308,7 +289,7 @@ impl Cpu {
     }
 
     #[inline(always)]
-    pub(crate) fn place_after_ip(&self) -> usize
+    pub(crate) fn place_after_ip(&self) -> u32
         ensures place { result ≡ place_after self.now self.now.heads.ip }
         ensures within { result < length self.now.memory }
     {
@@ -341,7 +322,7 @@ impl Cpu {
     pub(crate) fn push_number(&mut self, number: i32)
         ensures { self.new ≡ with_active_stack self.old (pushed number (active_stack self.old)) }
     {
-        let active = &mut self.stacks[self.active];
+        let active = &mut self.stacks[self.active as usize];
         active.push(number);
     }
 
@@ -350,7 +331,7 @@ impl Cpu {
         ensures top { result ≡ top_of (active_stack self.old) }
         ensures rest { self.new ≡ with_active_stack self.old (popped (active_stack self.old)) }
     {
-        let active = &mut self.stacks[self.active];
+        let active = &mut self.stacks[self.active as usize];
         active.pop()
     }
 
@@ -369,9 +350,9 @@ impl Cpu {
     {
         let from = self.heads.read;
         let to = self.heads.write;
-        let read = self.sites.letter(from);
+        let read = self.sites.letter(from as usize);
         self.nops.note(read);
-        self.sites.copy(to, copy.unwrap_or(read), read);
+        self.sites.copy(to as usize, copy.unwrap_or(read), read);
         self.heads.read = place_after(from, self.sites.len());
         self.heads.write = place_after(to, self.sites.len());
     }
@@ -380,7 +361,7 @@ impl Cpu {
     pub(crate) fn can_allocate(&self) -> bool
         ensures { result ≡ can_allocate self.now }
     {
-        !self.pending && self.sites.len() < self.limit
+        !self.pending && self.sites.len() < self.limit as usize
     }
 
     #[inline(never)]
@@ -390,42 +371,9 @@ impl Cpu {
         ensures { self.new ≡ with_allocation self.old }
     {
         let length = self.sites.len();
-        let extra = (2 * length).min(self.limit - length);
+        let extra = (2 * length).min(self.limit as usize - length);
         self.sites.append(extra);
         self.registers.ax = length as i32;
         self.pending = true;
     }
-
-    /// What a divide asks of the rules.
-    #[tactic(auto, unfolding(crate::specs::Divide::divide_question))]
-    pub(crate) fn question(&self) -> DivideAsk
-        ensures { result ≡ divide_question self.now }
-    {
-        let read = self.heads.read;
-        let end = if self.heads.write == 0 {
-            self.sites.len()
-        } else {
-            self.heads.write
-        };
-        let executed = self.sites.count_executed(read);
-        let copied = if read < end {
-            self.sites.count_copied(read, end)
-        } else {
-            0
-        };
-        DivideAsk {
-            allocated: self.pending,
-            read: read as u32,
-            end: end as u32,
-            executed: executed as u32,
-            copied: copied as u32,
-        }
-    }
-}
-
-/// The genome of a list of letters, whose length is that of a genome.
-fn genome_of(alloc: Global, text: Vec<Letter>) -> Result<Genome, Memory>
-    ensures { IfOk result (λ genome. letters genome ≡ text.items) }
-{
-    Genome::from_letters(alloc, text.as_slice()).map_err(|_| Memory)
 }

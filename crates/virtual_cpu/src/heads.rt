@@ -1,6 +1,6 @@
 ghost use Rattle.std.specs.Prelude.{◌≡◌};
 ghost use Rattle.virtual_cpu.specs.Image.{heads_of};
-ghost use Rattle.virtual_cpu.specs.Heads.{ArePlaces, head_place, with_head};
+ghost use Rattle.virtual_cpu.specs.Heads.{head_place, with_head};
 
 /// One of the heads that a modifier picks.
 #[derive(Clone, Copy)]
@@ -13,10 +13,10 @@ pub enum Head {
 /// The places of the four heads.
 #[derive(Clone, Copy, Default)]
 pub struct Heads {
-    pub ip: usize,
-    pub read: usize,
-    pub write: usize,
-    pub flow: usize,
+    pub ip: u32,
+    pub read: u32,
+    pub write: u32,
+    pub flow: u32,
 }
 
 impl Heads {
@@ -26,28 +26,22 @@ impl Heads {
     {
         let [ip, read, write, flow] = places;
         Heads {
-            ip: ip as usize,
-            read: read as usize,
-            write: write as usize,
-            flow: flow as usize,
+            ip,
+            read,
+            write,
+            flow,
         }
     }
 
     /// The places of IP, READ, WRITE and FLOW.
     pub(crate) fn places(&self) -> [u32; 4]
-        requires { ArePlaces self.now }
         ensures { heads_of result ≡ self.now }
     {
-        [
-            self.ip as u32,
-            self.read as u32,
-            self.write as u32,
-            self.flow as u32,
-        ]
+        [self.ip, self.read, self.write, self.flow]
     }
 
     #[inline(always)]
-    pub(crate) fn get(&self, head: Head) -> usize
+    pub(crate) fn get(&self, head: Head) -> u32
         ensures { result ≡ head_place self.now head }
     {
         match head {
@@ -58,7 +52,7 @@ impl Heads {
     }
 
     #[inline(always)]
-    pub(crate) fn set(&mut self, head: Head, place: usize)
+    pub(crate) fn set(&mut self, head: Head, place: u32)
         ensures { self.new ≡ with_head self.old head place }
     {
         match head {

@@ -273,7 +273,7 @@ impl Cpu {
         match self.find(&complement) {
             Some(place) => {
                 let distance = (place + count - 1) as i32 - self.head(Head::Ip) as i32;
-                self.end_search((place + count) % length, distance, count)
+                self.end_search(((place + count) % length) as u32, distance, count)
             }
             None => {
                 let next = self.place_after_ip();
@@ -282,7 +282,7 @@ impl Cpu {
         }
     }
 
-    fn end_search(&mut self, flow: usize, bx: i32, cx: usize)
+    fn end_search(&mut self, flow: u32, bx: i32, cx: usize)
         requires within { flow < length self.old.memory }
         requires few { cx ≤ 10 }
         ensures { self.new ≡ with_ip_advanced (with_search self.old flow bx cx) }

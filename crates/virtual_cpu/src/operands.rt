@@ -9,7 +9,6 @@ ghost use Rattle.virtual_cpu.specs.Operands.{on_modifier, register_picked, head_
 
 use crate::cpu::Cpu;
 use crate::heads::Head;
-use crate::places::place_after;
 use crate::registers::Register;
 use instruction_set::Letter;
 use label_search::{Reading, Template, complement_after};
@@ -20,8 +19,7 @@ impl Cpu {
     pub(crate) fn letter_after_ip(&self) -> Letter
         ensures { result ≡ letter_in_memory self.now (place_after self.now self.now.heads.ip) }
     {
-        self.sites
-            .letter(place_after(self.heads.ip, self.sites.len()))
+        self.sites.letter(self.place_after_ip() as usize)
     }
 
     /// Moves IP onto a modifier, and gives the register that it picks.
@@ -69,11 +67,14 @@ impl Cpu {
         ensures moved { self.new ≡ on_template self.old }
         ensures few { length result ≤ 10 }
     {
-        let Reading { complement, last } = complement_after(self.sites.as_slice(), self.heads.ip);
+        let Reading { complement, last } = complement_after(
+            self.sites.as_slice(),
+            self.heads.ip as usize,
+        );
         if !complement.is_empty() {
             let first = self.place_after_ip();
-            self.sites.mark_executed(first);
-            self.heads.ip = last;
+            self.sites.mark_executed(first as usize);
+            self.heads.ip = last as u32;
         }
         complement
     }

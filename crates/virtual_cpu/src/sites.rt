@@ -63,12 +63,7 @@ impl Sites {
     {
         let mut items = Vec::with_capacity(alloc, room)?;
         for at in 0..letters.len() {
-            items.push_reserved(Site {
-                letter: letters[at],
-                clean: clean[at],
-                executed: executed[at],
-                copied: copied[at],
-            });
+            items.push_reserved(Site::new(letters[at], clean[at], executed[at], copied[at]));
         }
         Ok(Sites { items })
     }
@@ -104,7 +99,8 @@ impl Sites {
         ensures { self.new
             ≡ record self.old { executed = slice_set self.old.executed place true } }
     {
-        self.items[place].executed = true;
+        let site = &mut self.items[place];
+        site.mark_executed();
     }
 
     /// Writes a letter as the copy of another.
@@ -114,9 +110,7 @@ impl Sites {
         ensures { self.new ≡ with_copy self.old place letter clean }
     {
         let site = &mut self.items[place];
-        site.letter = letter;
-        site.clean = clean;
-        site.copied = true;
+        site.copy(letter, clean);
     }
 
     /// Appends places of nop-A, for which there is room.
@@ -224,12 +218,7 @@ impl Sites {
 fn fresh_site(letter: Letter) -> Site
     ensures { result ≡ fresh_site letter }
 {
-    Site {
-        letter,
-        clean: letter,
-        executed: false,
-        copied: false,
-    }
+    Site::new(letter, letter, false, false)
 }
 
 /// Appends a text, for which there is room.
@@ -249,7 +238,7 @@ fn refresh(items: &mut Vec<Site>)
     ensures capacity { vec_capacity items.new ≡ vec_capacity items.old }
 {
     for at in 0..items.len() {
-        items[at] = fresh_site(items[at].letter);
+        items[at] = fresh_site(items[at].letter());
     }
 }
 
@@ -259,7 +248,7 @@ fn count_executed(sites: &[Site]) -> usize
 {
     let mut count = 0;
     for site in sites {
-        if site.executed {
+        if site.executed() {
             count += 1;
         }
     }
@@ -272,7 +261,7 @@ fn count_copied(sites: &[Site]) -> usize
 {
     let mut count = 0;
     for site in sites {
-        if site.copied {
+        if site.copied() {
             count += 1;
         }
     }
@@ -282,23 +271,23 @@ fn count_copied(sites: &[Site]) -> usize
 fn letters_in(alloc: Global, sites: &[Site]) -> Result<Vec<Letter>, AllocError>
     ensures { IfOk result (λ v. v.items ≡ letters_of sites.now) }
 {
-    sites.iter().map(|site| site.letter).collect(alloc)
+    sites.iter().map(|site| site.letter()).collect(alloc)
 }
 
 fn clean_in(alloc: Global, sites: &[Site]) -> Result<Vec<Letter>, AllocError>
     ensures { IfOk result (λ v. v.items ≡ clean_of sites.now) }
 {
-    sites.iter().map(|site| site.clean).collect(alloc)
+    sites.iter().map(|site| site.clean()).collect(alloc)
 }
 
 fn executed_in(alloc: Global, sites: &[Site]) -> Result<Vec<bool>, AllocError>
     ensures { IfOk result (λ v. v.items ≡ executed_of sites.now) }
 {
-    sites.iter().map(|site| site.executed).collect(alloc)
+    sites.iter().map(|site| site.executed()).collect(alloc)
 }
 
 fn copied_in(alloc: Global, sites: &[Site]) -> Result<Vec<bool>, AllocError>
     ensures { IfOk result (λ v. v.items ≡ copied_of sites.now) }
 {
-    sites.iter().map(|site| site.copied).collect(alloc)
+    sites.iter().map(|site| site.copied()).collect(alloc)
 }

@@ -1,9 +1,9 @@
-use Rattle.std.proofs.Common.{◌≡◌, ◌<◌, ◌∙◌, sym, ap, arith, length, take, get_or, true, false, length-take}
-use Rattle.std.proofs.lemmas.List.{length-map, get_or-take}
+use Rattle.std.proofs.Common.{◌≡◌, ◌<◌, ◌∙◌, sym, ap, arith, length, get_or, true, false}
+use Rattle.std.proofs.lemmas.List.{length-map}
 use Rattle.instruction_set.specs.declared.letter.Letter.TheVariants.{NopA}
 use Rattle.instruction_set.specs.Letter.{same_letter}
 use Rattle.label_search.specs.Site.{letters_of}
-use Rattle.label_search.proofs.SearchLemmas.{pointwise-next, pointwise-differ}
+use Rattle.label_search.proofs.SearchLemmas.{compared}
 use Rattle.label_search.proofs.search.begins_with.Goals as goal
 
 pub returns-then-not-same_letter : goal.returns-then-not-same_letter
@@ -12,16 +12,12 @@ returns-then-not-same_letter c =
     let letters = letters_of c.args.sites.now in
     let at = c.loop-at.at in
     let long = length-map c.args.sites.now (λ site. site.letter) in
-    let short = length-take (length what) letters in
-    let inside : at < length c.args.sites.now = omega arith in
-    let here : at < length (take (length what) letters) = omega (arith, long, short) in
-    let read : get_or (take (length what) letters) at NopA ≡ c.letter_at.result =
-    get_or-take (length what) letters at NopA c.loop-at-test.true ∙ sym c.letter_at.ensures in
-    let differ : same_letter (get_or what at NopA) (get_or (take (length what) letters) at NopA)
-    ≡ false = ap (λ l. same_letter (get_or what at NopA) l) read ∙ sym c.same_letter.ensures
+    let inside : at < length letters = omega (arith, long) in
+    let differ : same_letter (get_or what at NopA) (get_or letters at NopA) ≡ false =
+    ap (same_letter (get_or what at NopA)) (sym c.letter_at.ensures) ∙ sym c.same_letter.ensures
     ∙ c.if-not-same_letter.true in
-    sym (pointwise-differ same_letter what (take (length what) letters) at NopA
-    c.loop-at-test.true here differ) ∙ c.loop-at.invariant.rest
+    sym (compared what letters at false c.loop-at-test.true inside differ)
+    ∙ c.loop-at.invariant.rest
 
 pub loop-at-preserved : goal.loop-at-preserved
 loop-at-preserved c =
@@ -29,16 +25,12 @@ loop-at-preserved c =
     let letters = letters_of c.args.sites.now in
     let at = c.loop-at.at in
     let long = length-map c.args.sites.now (λ site. site.letter) in
-    let short = length-take (length what) letters in
-    let inside : at < length c.args.sites.now = omega arith in
-    let here : at < length (take (length what) letters) = omega (arith, long, short) in
-    let read : get_or (take (length what) letters) at NopA ≡ c.letter_at.result =
-    get_or-take (length what) letters at NopA c.loop-at-test.true ∙ sym c.letter_at.ensures in
-    let same : same_letter (get_or what at NopA) (get_or (take (length what) letters) at NopA)
-    ≡ true = ap (λ l. same_letter (get_or what at NopA) l) read ∙ sym c.same_letter.ensures
+    let inside : at < length letters = omega (arith, long) in
+    let same : same_letter (get_or what at NopA) (get_or letters at NopA) ≡ true =
+    ap (same_letter (get_or what at NopA)) (sym c.letter_at.ensures) ∙ sym c.same_letter.ensures
     ∙ c.if-not-same_letter.false in
     record {
       within = omega arith;
-      rest = pointwise-next same_letter what (take (length what) letters) at NopA
-          c.loop-at-test.true here same ∙ c.loop-at.invariant.rest;
+      rest = sym (compared what letters at true c.loop-at-test.true inside same)
+          ∙ c.loop-at.invariant.rest;
     }

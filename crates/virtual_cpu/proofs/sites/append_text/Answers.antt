@@ -1,7 +1,7 @@
 use Rattle.std.proofs.Common.{◌∙◌, sym, ap, arith, ◌++◌, [], ◌∷◌, List, append_assoc, map, take}
 use Rattle.std.proofs.lemmas.List.{map_more}
 use Rattle.instruction_set.specs.declared.letter.Letter.TheVariants.{NopA}
-use Rattle.label_search.specs.declared.site.Site.{Site}
+use Rattle.label_search.specs.Site.{Site}
 use Rattle.virtual_cpu.specs.SiteLists.{fresh_site}
 use Rattle.virtual_cpu.proofs.sites.append_text.Goals as goal
 

@@ -1,7 +1,7 @@
 use Rattle.std.proofs.Common.{◌≡◌, ◌<◌, ◌∙◌, ap, arith, length, get_or, set}
 use Rattle.std.proofs.lemmas.Grind.{common_steps}
 use Rattle.std.proofs.lemmas.List.Edits.{map_over_more}
-use Rattle.label_search.specs.declared.site.Site.{Site}
+use Rattle.label_search.specs.Site.{Site}
 use Rattle.virtual_cpu.specs.SiteLists.{fresh_site}
 use Rattle.virtual_cpu.proofs.sites.refresh.Goals as goal
 
@@ -15,6 +15,7 @@ loop-at-preserved c =
     grind (arith, common_steps) in
     record {
       items = ap (λ (s : Site). set items at s) c.fresh_site.ensures
+          ∙ ap (λ l. set items at (fresh_site l)) c.letter.ensures
           ∙ map_over_more (λ (s : Site). fresh_site s.letter) first items at c.index.result.now within
           c.loop-at.invariant.items read;
       count = c.loop-at.invariant.count;

@@ -1,6 +1,6 @@
 use Rattle.std.proofs.Common.{◌≡◌, ◌++◌, map, take, drop}
 use Rattle.std.specs.Prelude.{vec_len, vec_capacity}
-use Rattle.label_search.specs.declared.site.Site.{Site}
+use Rattle.label_search.specs.Site.{Site}
 use Rattle.virtual_cpu.specs.SiteLists.{fresh_site}
 use Rattle.virtual_cpu.proofs.sites.refresh.Given as goal
 

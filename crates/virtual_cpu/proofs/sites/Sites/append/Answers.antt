@@ -1,21 +1,15 @@
-use Rattle.std.proofs.Common.{◌≡◌, ◌∙◌, ap, arith, length}
+use Rattle.std.proofs.Common.{◌∙◌, ap, arith, ◌++◌, replicate}
 use Rattle.std.specs.Prelude.{vec_capacity}
-use Rattle.std.proofs.lemmas.List.{length-map}
-use Rattle.label_search.specs.declared.site.Site.{Site}
-use Rattle.label_search.specs.Site.{letters_of}
 use Rattle.virtual_cpu.specs.SiteLists.{SiteLists, with_places}
-use Rattle.std.proofs.Common.{◌++◌, replicate}
-use Rattle.virtual_cpu.proofs.SiteLemmas.{lists-longer}
+use Rattle.virtual_cpu.proofs.SiteLemmas.{length-seen, lists-longer}
 use Rattle.virtual_cpu.proofs.sites.Sites.append.Goals as goal
 
 pub append_copies-requires : goal.append_copies-requires
 append_copies-requires c =
-    let items = c.self.inside.items.items in
-    let long = length-map items (λ (s : Site). s.letter) in
-    let seen : length (letters_of items) ≡ length c.args.self.now.letters =
-    ap (λ (l : SiteLists). length l.letters) c.self.view_is in
+    let items = c.self.inside.items in
+    let long = length-seen items.items (vec_capacity items) c.args.self.now c.self.view_is in
     let room = ap (λ (l : SiteLists). l.room) c.self.view_is in
-    omega (arith, long, seen, room)
+    omega (arith, long, room)
 
 pub returns-clause-lists : goal.returns-clause-lists
 returns-clause-lists c =

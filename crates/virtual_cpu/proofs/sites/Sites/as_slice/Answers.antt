@@ -1,8 +1,8 @@
-use Rattle.std.proofs.Common.{◌∙◌, sym, ap, length}
-use Rattle.std.proofs.lemmas.List.{length-map}
-use Rattle.label_search.specs.declared.site.Site.{Site}
+use Rattle.std.proofs.Common.{◌∙◌, ap, length}
+use Rattle.std.specs.Prelude.{vec_capacity}
 use Rattle.label_search.specs.Site.{letters_of}
 use Rattle.virtual_cpu.specs.SiteLists.{SiteLists}
+use Rattle.virtual_cpu.proofs.SiteLemmas.{length-seen}
 use Rattle.virtual_cpu.proofs.sites.Sites.as_slice.Goals as goal
 
 pub returns-clause-letters : goal.returns-clause-letters
@@ -11,5 +11,5 @@ returns-clause-letters c = ap letters_of c.as_slice.ensures.value
 
 pub returns-clause-length : goal.returns-clause-length
 returns-clause-length c = ap length c.as_slice.ensures.value
-    ∙ sym (length-map c.self.inside.items.items (λ (s : Site). s.letter))
-    ∙ ap (λ (l : SiteLists). length l.letters) c.self.view_is
+    ∙ length-seen c.self.inside.items.items (vec_capacity c.self.inside.items) c.args.self.now
+    c.self.view_is

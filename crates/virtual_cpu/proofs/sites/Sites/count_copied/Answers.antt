@@ -1,5 +1,5 @@
 use Rattle.std.proofs.Common.{◌∙◌, ap, ◌-◌, List, take, drop}
-use Rattle.label_search.specs.declared.site.Site.{Site}
+use Rattle.label_search.specs.Site.{Site}
 use Rattle.virtual_cpu.specs.Divide.{count_of, child_part}
 use Rattle.virtual_cpu.specs.SiteLists.{SiteLists, copied_of}
 use Rattle.virtual_cpu.proofs.SiteLemmas.{part}

@@ -1,18 +1,16 @@
-use Rattle.std.proofs.Common.{◌≡◌, ◌∙◌, ap, arith, length, get_or}
-use Rattle.std.proofs.lemmas.List.{length-map}
+use Rattle.std.proofs.Common.{◌∙◌, ap, arith, get_or}
+use Rattle.std.specs.Prelude.{vec_capacity}
 use Rattle.instruction_set.specs.declared.letter.Letter.TheVariants.{NopA}
-use Rattle.label_search.specs.declared.site.Site.{Site}
 use Rattle.label_search.specs.Site.{letters_of}
 use Rattle.virtual_cpu.specs.SiteLists.{SiteLists}
+use Rattle.virtual_cpu.proofs.SiteLemmas.{length-seen}
 use Rattle.virtual_cpu.proofs.sites.Sites.letter.Goals as goal
 
 pub letter_at-requires : goal.letter_at-requires
 letter_at-requires c =
-    let items = c.self.inside.items.items in
-    let long = length-map items (λ (s : Site). s.letter) in
-    let seen : length (letters_of items) ≡ length c.args.self.now.letters =
-    ap (λ (l : SiteLists). length l.letters) c.self.view_is in
-    rw c.as_slice.ensures.value (omega (arith, long, seen))
+    let items = c.self.inside.items in
+    let long = length-seen items.items (vec_capacity items) c.args.self.now c.self.view_is in
+    rw c.as_slice.ensures.value (omega (arith, long))
 
 pub returns : goal.returns
 returns c = c.letter_at.ensures

@@ -1,8 +1,7 @@
 use Rattle.std.proofs.Common.{◌≡◌, ◌∙◌, ap, subst, ◌-◌, List, take, drop}
 use Rattle.std.specs.Prelude.{IfOk}
 use Rattle.instruction_set.specs.declared.letter.Letter.{Letter}
-use Rattle.label_search.specs.declared.site.Site.{Site}
-use Rattle.label_search.specs.Site.{letters_of}
+use Rattle.label_search.specs.Site.{Site, letters_of}
 use Rattle.virtual_cpu.specs.Divide.{child_part}
 use Rattle.virtual_cpu.specs.SiteLists.{SiteLists}
 use Rattle.virtual_cpu.proofs.SiteLemmas.{part}

@@ -1,7 +1,6 @@
-use Rattle.std.proofs.Common.{◌≤◌, ◌∙◌, ap, refl, arith, length, false}
+use Rattle.std.proofs.Common.{◌≤◌, ◌∙◌, ap, arith, length, false}
 use Rattle.instruction_set.specs.declared.letter.Letter.TheVariants.{NopA}
-use Rattle.label_search.specs.declared.site.Site.{Site}
-use Rattle.label_search.specs.Site.{letters_of}
+use Rattle.label_search.specs.Site.{Site, letters_of}
 use Rattle.virtual_cpu.specs.SiteLists.{clean_of, executed_of, copied_of}
 use Rattle.virtual_cpu.proofs.SiteLemmas.{pushed, lists-whole}
 use Rattle.virtual_cpu.proofs.sites.Sites.of_lists.Goals as goal
@@ -13,13 +12,13 @@ loop-at-preserved c =
     let so_far = c.loop-at.invariant in
     record {
       letters = ap letters_of items ∙ pushed (λ (s : Site). s.letter) _ _ c.args.letters.now at NopA
-          (omega arith) so_far.letters refl;
+          (omega arith) so_far.letters (ap (λ (s : Site). s.letter) c.new.ensures);
       clean = ap clean_of items ∙ pushed (λ (s : Site). s.clean) _ _ c.args.clean.now at NopA
-          (omega arith) so_far.clean refl;
+          (omega arith) so_far.clean (ap (λ (s : Site). s.clean) c.new.ensures);
       executed = ap executed_of items ∙ pushed (λ (s : Site). s.executed) _ _ c.args.executed.now at
-          false (omega arith) so_far.executed refl;
+          false (omega arith) so_far.executed (ap (λ (s : Site). s.executed) c.new.ensures);
       copied = ap copied_of items ∙ pushed (λ (s : Site). s.copied) _ _ c.args.copied.now at false
-          (omega arith) so_far.copied refl;
+          (omega arith) so_far.copied (ap (λ (s : Site). s.copied) c.new.ensures);
       count = omega (arith, c.push_reserved.ensures.len);
       room = c.push_reserved.ensures.capacity ∙ so_far.room;
     }

@@ -1,7 +1,6 @@
 use Rattle.std.proofs.Common.{◌∙◌, ap}
 use Rattle.std.specs.Prelude.{vec_capacity}
-use Rattle.label_search.specs.declared.site.Site.{Site}
-use Rattle.label_search.specs.Site.{letters_of}
+use Rattle.label_search.specs.Site.{Site, letters_of}
 use Rattle.virtual_cpu.specs.SiteLists.{SiteLists, fresh_site, fresh_lists}
 use Rattle.std.proofs.Common.{map, take}
 use Rattle.virtual_cpu.proofs.SiteLemmas.{lists-reset}
