@@ -6,8 +6,9 @@ use std::alloc::Global;
 /// An organism, and who is to be made in its place.
 #[derive(Drop)]
 pub(crate) struct Body {
-    pub(crate) organism: Organism,
+    // Asked at the start of each life, so it lies beside what the life begins with.
     pub(crate) unmade: Option<Unmade>,
+    pub(crate) organism: Organism,
 }
 
 impl Body {

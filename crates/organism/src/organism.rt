@@ -11,11 +11,9 @@ ghost use Rattle.virtual_cpu.specs.Divide.{divide_question};
 ghost use Rattle.organism.specs.OrganismState.{new_organism, IsOrganism};
 ghost use Rattle.organism.specs.Image.{organism_of_image};
 ghost use Rattle.organism.specs.Life.{newly_done, after_output, after_question, after_did, after_letter, life_step, renewed, IsDivide, HasAllowedLength, OnViable};
-ghost use Rattle.organism.specs.TracedStep.{remark_value, traced_value, remark_on, trace_step_of};
 
+use crate::Image;
 use crate::outcome::Outcome;
-use crate::trace_rules::trace_rules;
-use crate::{Image, Remark, Traced};
 use avida_port::Memory;
 use divide_rules::{DivideAsk, DivideRules, Verdict, judge};
 use genome::Genome;
@@ -31,14 +29,15 @@ use virtual_cpu::{Cpu, StepAnswer};
 /// An organism, which lives by the steps of its machine.
 #[derive(Drop)]
 pub struct Organism {
-    pub(crate) genome: Arc<Genome, Global>,
-    pub(crate) inputs: Inputs,
     pub(crate) merit: u64,
     pub(crate) credited: Tasks,
-    pub(crate) age: u64,
-    pub(crate) read: u64,
     pub(crate) gestation: Tasks,
+    // Age and machine change with each step, so they lie together.
+    pub(crate) age: u64,
     pub(crate) machine: Cpu,
+    pub(crate) read: u64,
+    pub(crate) inputs: Inputs,
+    pub(crate) genome: Arc<Genome, Global>,
 }
 
 impl Model for Organism {
@@ -179,63 +178,9 @@ impl Organism {
         self.age
     }
 
-    /// One step without copy errors and death, under the rules of a trace.
-    #[tactic(auto, unfolding(crate::specs::TracedStep::trace_step_of))]
-    pub fn trace_step(&mut self, alloc: Global) -> Result<Traced, Memory>
-        requires { self.old.age < 2 ^ 62 }
-        ensures steps { IfOk result (λ traced. self.new ≡ (trace_step_of self.old).0) }
-        ensures traced { IfOk result (λ traced. traced_value traced ≡ (trace_step_of self.old).1) }
-        ensures age { OnOk result (self.new.age ≤ self.old.age + 1) }
-    {
-        let place = self.machine.place();
-        let letter = self.machine.next();
-        let rules = trace_rules(self.genome.len());
-        let outcome = self.life_step(None, &rules);
-        let remark = self.remark_on(alloc, outcome)?;
-        Ok(Traced {
-            place,
-            letter,
-            registers: self.machine.registers(),
-            remark,
-        })
-    }
-
-    /// What a trace remarks on an outcome; after a viable divide the parent is renewed.
-    fn remark_on(&mut self, alloc: Global, outcome: Outcome) -> Result<Remark, Memory>
-        requires { OnViable outcome (IsDivide self.old) }
-        ensures now { IfOk result (λ remark.
-            (self.new, remark_value remark) ≡ remark_on self.old outcome) }
-        ensures age { OnOk result (self.new.age ≤ self.old.age) }
-    {
-        match outcome {
-            Outcome::Nothing => Ok(Remark::Nothing),
-            Outcome::Task(task) => Ok(Remark::Task(task)),
-            Outcome::Refused { rule, found, bound } => Ok(Remark::Refused { rule, found, bound }),
-            Outcome::Viable(ask) => self.divide(alloc, &ask),
-        }
-    }
-
-    /// The child is what was written.
-    #[tactic(auto, unfolding(crate::specs::Life::renewed))]
-    fn divide(&mut self, alloc: Global, ask: &DivideAsk) -> Result<Remark, Memory>
-        requires { IsDivide self.old ask.now }
-        ensures now { IfOk result (λ remark.
-            (self.new, remark_value remark) ≡ remark_on self.old (Outcome.Viable ask.now)) }
-        ensures age { OnOk result (self.new.age ≡ 0) }
-    {
-        let child = self.machine.cut(alloc, ask)?.written;
-        self.renew(ask);
-        Ok(Remark::Divide {
-            executed: ask.executed,
-            copied: ask.copied,
-            merit: self.merit,
-            child,
-        })
-    }
-
     /// One step of the life, but for the renewal that a viable divide brings.
     #[tactic(auto, unfolding(crate::specs::Life::life_step, crate::specs::Life::after_letter, virtual_cpu::specs::Step::step))]
-    fn life_step(&mut self, copy: Option<Letter>, rules: &DivideRules) -> Outcome
+    pub(crate) fn life_step(&mut self, copy: Option<Letter>, rules: &DivideRules) -> Outcome
         requires { self.old.age < 2 ^ 63 }
         ensures step { (self.new, result) ≡ life_step self.old copy (rule_numbers rules.now) }
         ensures divide { OnViable result (IsDivide self.new) }
