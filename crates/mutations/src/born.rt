@@ -2,7 +2,7 @@ use crate::Origin;
 use genome::Genome;
 
 /// A child's genome and the record of its birth.
-#[derive(Debug, Drop)]
+#[derive(Drop)]
 pub struct Born {
     pub genome: Genome,
     pub origin: Origin,

@@ -2,7 +2,7 @@ use avida_port::Items;
 use instruction_set::Letter;
 
 /// One change of a text, at a place of the text as it stands then.
-#[derive(Clone, Copy, Debug, PartialEq, Eq)]
+#[derive(Clone, Copy, Debug)]
 pub enum Change {
     /// This letter stands at the place instead.
     Point { at: u32, letter: Letter },

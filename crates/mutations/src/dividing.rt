@@ -7,18 +7,18 @@ ghost use Rattle.mutations.specs.ChildTexts.{AreTextsOfChild, IsLengthWithin, Ta
 ghost use Rattle.mutations.specs.DivideErrors.{birth_words};
 ghost use Rattle.mutations.specs.Rates.{numbers_of, range_of};
 ghost use Rattle.mutations.specs.BirthRecord.{record_of, child_of, origin_of, after_birth, written_in, written_of, drawn_by_divide};
-ghost use Rattle.mutations.specs.Pass.{Passed};
+ghost use Rattle.mutations.specs.Pass.{Fits, Passed};
 
 use crate::indels::{Indel, draw_indels};
 use crate::site_points::{pointed_text, points};
-use crate::{Base, Born, Change, Changes, Limits, Origin, Rates};
+use crate::{Base, Born, Changes, Limits, Origin, Rates};
 use avida_port::Memory;
 use genome::Genome;
 use genome::laws::equal_by_letters;
 use instruction_set::Letter;
 use instruction_set::laws::one_index;
 use random_streams::Draws;
-use std::alloc::{AllocError, Global};
+use std::alloc::Global;
 
 /// More words than any birth takes. At least this many must be left in the stream.
 pub const BIRTH_WORDS: u64 = 65_536;
@@ -71,10 +71,7 @@ pub fn divide_errors(
     };
     Ok(Born {
         genome,
-        origin: Origin {
-            base,
-            changes: Changes::from_vec(changes),
-        },
+        origin: Origin { base, changes },
     })
 }
 
@@ -105,7 +102,7 @@ fn drawn_child(
     rates: &Rates,
     limits: &Limits,
     draws: &mut Draws,
-) -> Result<(Vec<Letter>, Vec<Change>), AllocError>
+) -> Result<(Vec<Letter>, Changes), Memory>
     requires one_length { length clean.now ≡ length written.now }
     requires shortest { limits.now.least ≤ length written.now }
     requires longest { length written.now ≤ limits.now.greatest }
@@ -114,9 +111,8 @@ fn drawn_child(
         (drawn_by_divide (word_of draws.old) draws.old.taken (numbers_of rates.now)
         (range_of limits.now) clean.now written.now)
         (record { text = clean.now; changes = []; draws = draws.old })
-        (record { text = drawn.0.items; changes = drawn.1.items; draws = draws.new })) }
-    ensures shortest { IfOk result (λ drawn. limits.now.least ≤ length drawn.0.items) }
-    ensures longest { IfOk result (λ drawn. length drawn.0.items ≤ limits.now.greatest) }
+        (record { text = drawn.0.items; changes = drawn.1; draws = draws.new })) }
+    ensures fits { IfOk result (λ drawn. Fits (range_of limits.now) (length drawn.0.items)) }
     ensures stays { draws.new ≡ record draws.old { taken = draws.new.taken } }
     ensures least { OnOk result (draws.old.taken + 2 ≤ draws.new.taken) }
     ensures most { OnOk result (draws.new.taken ≤ draws.old.taken + 6 * length written.now + 6) }

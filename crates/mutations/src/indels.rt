@@ -1,5 +1,5 @@
 // The second and the third part of a divide's errors: insertions, and then deletions.
-ghost use Rattle.std.specs.Prelude.{◌≡◌, ℕ, ◌+◌, ◌-◌, ◌*◌, ◌≤◌, ◌<◌, ◌&&◌, ◌∷◌, ◌++◌, List, length, IfOk, OnOk};
+ghost use Rattle.std.specs.Prelude.{◌≡◌, ℕ, ◌+◌, ◌-◌, ◌*◌, ◌≤◌, ◌<◌, ◌&&◌, ◌∷◌, [], ◌++◌, List, insert, length, IfOk, OnOk};
 ghost use Rattle.instruction_set.specs.declared.letter.Letter.{Letter};
 ghost use Rattle.random_streams.specs.RandomStream.{word_of, next_word, after, hits, word_count, million};
 ghost use Rattle.mutations.specs.Indels.{has_room, site_indel, indels_from, site_indels, single_indel, site_rate, single_rate, test_at, test_range, indels};
@@ -7,13 +7,14 @@ ghost use Rattle.mutations.specs.Rates.{numbers_of, range_of};
 ghost use Rattle.mutations.specs.Pass.{Passed, Fits};
 
 use crate::copying::drawn_letter;
-use crate::{Change, Limits, Rates};
+use crate::{Change, Changes, Limits, Rates};
+use avida_port::Memory;
 use instruction_set::Letter;
 use random_streams::Draws;
-use std::alloc::{AllocError, Global};
+use std::alloc::Global;
 
 /// An error that changes a text's length by one letter.
-#[derive(Clone, Copy, Debug)]
+#[derive(Clone, Copy)]
 pub(crate) enum Indel {
     Insertion,
     Deletion,
@@ -21,7 +22,7 @@ pub(crate) enum Indel {
 
 /// How an indel is drawn: its rate in parts per million, and the least and the greatest length
 /// that it may leave.
-#[derive(Clone, Copy, Debug)]
+#[derive(Clone, Copy)]
 pub(crate) struct IndelTest {
     pub kind: Indel,
     pub rate: u32,
@@ -90,15 +91,15 @@ pub(crate) fn draw_indels(
     rates: &Rates,
     limits: &Limits,
     draws: &mut Draws,
-    changes: &mut Vec<Change>,
-) -> Result<Vec<Letter>, AllocError>
+    changes: &mut Changes,
+) -> Result<Vec<Letter>, Memory>
     requires fits { Fits (range_of limits.now) (length text.items) }
     requires room { draws.old.taken + 2 * length text.items + 3 ≤ word_count }
     ensures passed { IfOk result (λ made. Passed
         (indels kind (numbers_of rates.now) (range_of limits.now) (word_of draws.old)
         (record { size = length text.items; word = draws.old.taken }))
-        (record { text = text.items; changes = changes.old.items; draws = draws.old })
-        (record { text = made.items; changes = changes.new.items; draws = draws.new })) }
+        (record { text = text.items; changes = changes.old; draws = draws.old })
+        (record { text = made.items; changes = changes.new; draws = draws.new })) }
     ensures fits { IfOk result (λ made. Fits (range_of limits.now) (length made.items)) }
     ensures stays { draws.new ≡ record draws.old { taken = draws.new.taken } }
     ensures most { OnOk result (draws.new.taken ≤ draws.old.taken + 2 * length text.items + 3) }
@@ -115,16 +116,16 @@ fn draw_once(
     text: &mut Vec<Letter>,
     test: &IndelTest,
     draws: &mut Draws,
-    changes: &mut Vec<Change>,
-) -> Result<(), AllocError>
+    changes: &mut Changes,
+) -> Result<(), Memory>
     requires rate { test.now.rate ≤ million }
     requires fits { Fits (test_range test.now) (length text.old.items) }
     requires room { draws.old.taken + 3 ≤ word_count }
     ensures passed { OnOk result (Passed
         (single_indel test.now (word_of draws.old)
         (record { size = length text.old.items; word = draws.old.taken }))
-        (record { text = text.old.items; changes = changes.old.items; draws = draws.old })
-        (record { text = text.new.items; changes = changes.new.items; draws = draws.new })) }
+        (record { text = text.old.items; changes = changes.old; draws = draws.old })
+        (record { text = text.new.items; changes = changes.new; draws = draws.new })) }
     ensures fits { OnOk result (Fits (test_range test.now) (length text.new.items)) }
     ensures stays { draws.new ≡ record draws.old { taken = draws.new.taken } }
     ensures most { draws.new.taken ≤ draws.old.taken + 3 }
@@ -138,14 +139,23 @@ fn draw_once(
             let at = draws.below(len as u32 + 1);
             let letter = drawn_letter(draws);
             changes.push(Change::Insert { at, letter })?;
-            text.insert(at as usize, letter)?;
+            insert(text, at as usize, letter)?;
+            Ok(())
         }
         Indel::Deletion => {
             let at = draws.below(len as u32);
             changes.push(Change::Delete { at })?;
             text.remove(at as usize);
+            Ok(())
         }
     }
+}
+
+fn insert(text: &mut Vec<Letter>, at: usize, letter: Letter) -> Result<(), Memory>
+    requires { at ≤ length text.old.items }
+    ensures { OnOk result (text.new.items ≡ insert text.old.items at letter) }
+{
+    text.insert(at, letter)?;
     Ok(())
 }
 
@@ -155,16 +165,16 @@ fn draw_at_sites(
     text: Vec<Letter>,
     test: &IndelTest,
     draws: &mut Draws,
-    changes: &mut Vec<Change>,
-) -> Result<Vec<Letter>, AllocError>
+    changes: &mut Changes,
+) -> Result<Vec<Letter>, Memory>
     requires rate { test.now.rate ≤ million }
     requires fits { Fits (test_range test.now) (length text.items) }
     requires room { draws.old.taken + 2 * length text.items ≤ word_count }
     ensures passed { IfOk result (λ made. Passed
         (site_indels test.now (word_of draws.old)
         (record { size = length text.items; word = draws.old.taken }))
-        (record { text = text.items; changes = changes.old.items; draws = draws.old })
-        (record { text = made.items; changes = changes.new.items; draws = draws.new })) }
+        (record { text = text.items; changes = changes.old; draws = draws.old })
+        (record { text = made.items; changes = changes.new; draws = draws.new })) }
     ensures fits { IfOk result (λ made. Fits (test_range test.now) (length made.items)) }
     ensures stays { draws.new ≡ record draws.old { taken = draws.new.taken } }
     ensures most { draws.new.taken ≤ draws.old.taken + 2 * length text.items }
@@ -181,16 +191,16 @@ fn test_sites(
     text: &[Letter],
     test: &IndelTest,
     draws: &mut Draws,
-    changes: &mut Vec<Change>,
-) -> Result<Vec<Letter>, AllocError>
+    changes: &mut Changes,
+) -> Result<Vec<Letter>, Memory>
     requires rate { test.now.rate ≤ million }
     requires fits { Fits (test_range test.now) (length text.now) }
     requires room { draws.old.taken + 2 * length text.now ≤ word_count }
     ensures passed { IfOk result (λ made. Passed
         (indels_from test.now (word_of draws.old) (length text.now)
         (record { place = 0; word = draws.old.taken }))
-        (record { text = text.now; changes = changes.old.items; draws = draws.old })
-        (record { text = made.items; changes = changes.new.items; draws = draws.new })) }
+        (record { text = text.now; changes = changes.old; draws = draws.old })
+        (record { text = made.items; changes = changes.new; draws = draws.new })) }
     ensures fits { IfOk result (λ made. Fits (test_range test.now) (length made.items)) }
     ensures stays { draws.new ≡ record draws.old { taken = draws.new.taken } }
     ensures most { draws.new.taken ≤ draws.old.taken + 2 * length text.now }
@@ -210,8 +220,8 @@ fn test_site(
     left: usize,
     test: &IndelTest,
     draws: &mut Draws,
-    changes: &mut Vec<Change>,
-) -> Result<(), AllocError>
+    changes: &mut Changes,
+) -> Result<(), Memory>
     requires rate { test.now.rate ≤ million }
     requires some { 0 < left }
     requires fits { Fits (test_range test.now) (length made.old.items + left) }
@@ -221,12 +231,12 @@ fn test_site(
         (record { place = length made.old.items; word = draws.old.taken }))
         (record {
           text = made.old.items ++ letter ∷ rest;
-          changes = changes.old.items;
+          changes = changes.old;
           draws = draws.old;
         })
         (record {
           text = made.new.items ++ rest;
-          changes = changes.new.items;
+          changes = changes.new;
           draws = draws.new;
         })) }
     ensures fits { OnOk result (Fits (test_range test.now) (length made.new.items + (left - 1))) }
@@ -234,7 +244,7 @@ fn test_site(
     ensures most { draws.new.taken ≤ draws.old.taken + 2 }
 {
     if !test.hits(made.len() + left, draws) {
-        made.push(letter)?;
+        append(made, letter)?;
         return Ok(());
     }
     let at = made.len() as u32;
@@ -242,10 +252,20 @@ fn test_site(
         Indel::Insertion => {
             let drawn = drawn_letter(draws);
             changes.push(Change::Insert { at, letter: drawn })?;
-            made.push(drawn)?;
-            made.push(letter)?;
+            append(made, drawn)?;
+            append(made, letter)?;
+            Ok(())
         }
-        Indel::Deletion => changes.push(Change::Delete { at })?,
+        Indel::Deletion => {
+            changes.push(Change::Delete { at })?;
+            Ok(())
+        }
     }
+}
+
+fn append(made: &mut Vec<Letter>, letter: Letter) -> Result<(), Memory>
+    ensures { OnOk result (made.new.items ≡ made.old.items ++ letter ∷ []) }
+{
+    made.push(letter)?;
     Ok(())
 }

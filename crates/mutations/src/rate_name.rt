@@ -2,7 +2,7 @@ ghost use Rattle.std.specs.Prelude.{◌≡◌};
 ghost use Rattle.mutations.specs.RateNames.{name_of_rate, rate_named};
 
 /// A rate by its name, in the order of `Rates`.
-#[derive(Clone, Copy, Debug, PartialEq, Eq)]
+#[derive(Clone, Copy, Debug)]
 pub enum RateName {
     Copy,
     Insert,

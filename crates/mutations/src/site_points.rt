@@ -6,12 +6,13 @@ ghost use Rattle.random_streams.specs.RandomStream.{word_of, word_count, million
 ghost use Rattle.mutations.specs.DivideErrors.{site_text, after_sites, pointed_text, after_points, points_from};
 ghost use Rattle.mutations.specs.Pass.{Makes};
 
-use crate::Change;
 use crate::copying::error_letter;
+use crate::{Change, Changes};
+use avida_port::Memory;
 use instruction_set::Letter;
 use instruction_set::laws::one_index;
 use random_streams::Draws;
-use std::alloc::{AllocError, Global};
+use std::alloc::Global;
 
 /// The text with its site points.
 pub(crate) fn pointed_text(
@@ -19,7 +20,7 @@ pub(crate) fn pointed_text(
     written: &[Letter],
     rate: u32,
     draws: &mut Draws,
-) -> Result<Vec<Letter>, AllocError>
+) -> Result<Vec<Letter>, Memory>
     requires rate { rate ≤ million }
     requires room { draws.old.taken + 2 * length written.now ≤ word_count }
     ensures text { IfOk result (λ text. text.items
@@ -29,7 +30,6 @@ pub(crate) fn pointed_text(
       taken = after_points (word_of draws.old) rate draws.old.taken written.now;
     }) }
     ensures stays { draws.new ≡ record draws.old { taken = draws.new.taken } }
-    ensures least { draws.old.taken ≤ draws.new.taken }
     ensures most { draws.new.taken ≤ draws.old.taken + 2 * length written.now }
 {
     let mut text = Vec::from_slice(alloc, written)?;
@@ -45,7 +45,6 @@ fn point_sites(text: &mut [Letter], rate: u32, draws: &mut Draws)
     ensures taken { draws.new ≡ record draws.old {
       taken = after_points (word_of draws.old) rate draws.old.taken text.old;
     } }
-    ensures least { draws.old.taken ≤ draws.new.taken }
     ensures most { draws.new.taken ≤ draws.old.taken + 2 * length text.old }
 {
     if rate > 0 {
@@ -60,7 +59,6 @@ fn test_sites(text: &mut [Letter], rate: u32, draws: &mut Draws)
     ensures taken { draws.new ≡ record draws.old {
       taken = after_sites (word_of draws.old) rate draws.old.taken text.old;
     } }
-    ensures least { draws.old.taken ≤ draws.new.taken }
     ensures most { draws.new.taken ≤ draws.old.taken + 2 * length text.old }
 {
     for letter in text.iter_mut() {
@@ -69,18 +67,14 @@ fn test_sites(text: &mut [Letter], rate: u32, draws: &mut Draws)
 }
 
 /// The points at which the text differs from the clean text.
-pub(crate) fn points(
-    alloc: Global,
-    clean: &[Letter],
-    text: &[Letter],
-) -> Result<Vec<Change>, AllocError>
+pub(crate) fn points(alloc: Global, clean: &[Letter], text: &[Letter]) -> Result<Changes, Memory>
     requires lengths { length clean.now ≡ length text.now }
     requires genome { IsGenome text.now }
-    ensures points { IfOk result (λ points. points.items ≡ points_from 0 clean.now text.now) }
-    ensures made { IfOk result (λ points. Makes points.items clean.now text.now) }
+    ensures points { IfOk result (λ points. points ≡ points_from 0 clean.now text.now) }
+    ensures made { IfOk result (λ points. Makes points clean.now text.now) }
 {
     one_index();
-    let mut points = Vec::new(alloc);
+    let mut points = Changes::none(alloc);
     for (at, letter) in text.iter().enumerate() {
         note_point(&mut points, at, clean[at], *letter)?;
     }
@@ -88,16 +82,11 @@ pub(crate) fn points(
 }
 
 /// Notes a point at a place where the letters differ.
-fn note_point(
-    points: &mut Vec<Change>,
-    at: usize,
-    was: Letter,
-    letter: Letter,
-) -> Result<(), AllocError>
+fn note_point(points: &mut Changes, at: usize, was: Letter, letter: Letter) -> Result<(), Memory>
     requires { at < 2 ^ 32 }
     ensures { OnOk result ((clean text : List Letter)
-        → points.new.items ++ points_from (at + 1) clean text
-        ≡ points.old.items ++ points_from at (was ∷ clean) (letter ∷ text)) }
+        → points.new ++ points_from (at + 1) clean text
+        ≡ points.old ++ points_from at (was ∷ clean) (letter ∷ text)) }
 {
     if was == letter {
         return Ok(());

@@ -1,5 +1,5 @@
 /// Why a record can't be applied to a parent's genome.
-#[derive(Clone, Copy, Debug, PartialEq, Eq)]
+#[derive(Clone, Copy, Debug)]
 pub enum ApplyStop {
     /// An allocation failed.
     Memory,

@@ -2,8 +2,7 @@ use Rattle.std.proofs.Common.{◌≡◌, ◌∙◌, sym, ap, subst, arith, Ok, L
 use Rattle.std.proofs.lemmas.Grind.{common_steps}
 use Rattle.genome.specs.Genome.{letters}
 use Rattle.instruction_set.specs.declared.letter.Letter.{Letter}
-use Rattle.mutations.specs.declared.change.Change.{Change}
-use Rattle.mutations.specs.BirthRecord.{written_in, written_of, child_of}
+use Rattle.mutations.specs.BirthRecord.{written_in, written_of}
 use Rattle.mutations.proofs.BirthLemmas.{child_of-made, written_of-none}
 use Rattle.mutations.proofs.dividing.divide_errors.Goals as goal
 
@@ -18,10 +17,8 @@ pub returns-clause-child : goal.returns-clause-child
 returns-clause-child c =
     let made : c.in-Ok.text.items ≡ letters c.in-Ok-from_letters.genome =
     grind (arith, common_steps) in
-    ap (λ (cs : List Change). child_of (letters c.args.parent.now)
-    (record { written = written_in c.in_ok-base.base; changes = cs })) c.from_vec.ensures
-    ∙ child_of-made c.one_index.ensures.letter (letters c.args.parent.now) c.letters.result.now
-    c.in-Ok.text.items (written_in c.in_ok-base.base) _ c.in-Ok.changes.items _ _
+    child_of-made c.one_index.ensures.letter (letters c.args.parent.now) c.letters.result.now
+    c.in-Ok.text.items (written_in c.in_ok-base.base) _ c.in-Ok.changes _ _
     (c.in_ok-base.ensures ∙ ap
     (λ (clean : List Letter). written_of clean (letters c.args.parent.now))
     (sym c.letters.ensures.letters)) c.in-Ok.ensures.passed

@@ -12,7 +12,7 @@ returns-clause-passed c =
     c.args.clean.now c.args.written.now c.args.draws.now
     (record {
       text = c.in_ok-text.text.items;
-      changes = c.in_ok-changes.changes.items;
+      changes = c.in_ok-changes.changes;
       draws = c.pointed_text.new.draws;
     }) _ _
     (record {

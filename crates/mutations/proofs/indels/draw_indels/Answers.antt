@@ -12,12 +12,12 @@ returns-clause-passed c =
     c.test_at-single.result
     (record {
       text = c.args.text.items;
-      changes = c.args.changes.now.items;
+      changes = c.args.changes.now;
       draws = c.args.draws.now;
     })
     (record {
       text = c.in_ok-made.made.items;
-      changes = c.draw_at_sites.new.changes.items;
+      changes = c.draw_at_sites.new.changes;
       draws = c.draw_at_sites.new.draws;
     }) _ (c.test_at-each.ensures ∙ ap test c.site_rate.ensures.rate)
     (c.test_at-single.ensures ∙ ap test c.single_rate.ensures.rate) c.in_ok-made.ensures.passed

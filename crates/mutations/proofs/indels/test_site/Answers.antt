@@ -10,12 +10,12 @@ returns-in_ok-push-in-Deletion-clause-passed c = λ rest size.
     Passed-site c.args.test.now Deletion
     (record {
       text = c.args.made.now.items;
-      changes = c.args.changes.now.items;
+      changes = c.args.changes.now;
       draws = c.args.draws.now;
     })
     (record {
       text = c.args.made.now.items;
-      changes = c.push-in-Deletion.new.self.items;
+      changes = c.push-in-Deletion.new.self;
       draws = c.hits.new.draws;
     }) c.args.letter rest (length c.args.made.now.items + c.args.left) c.in-Deletion.is
     (omega (arith, size)) c.requires.fits (grind (arith, common_steps)) refl

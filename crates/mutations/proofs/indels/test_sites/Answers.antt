@@ -11,12 +11,12 @@ loop-tested-preserved c =
       walk = IndelsLeft-step c.args.test.now _ _
           (record {
             text = c.loop-tested.made.items;
-            changes = c.loop-tested.changes.items;
+            changes = c.loop-tested.changes;
             draws = c.loop-tested.draws;
           })
           (record {
             text = c.test_site.new.made.items;
-            changes = c.test_site.new.changes.items;
+            changes = c.test_site.new.changes;
             draws = c.test_site.new.draws;
           }) c.args.text.now c.loop-tested.tested c.loop-tested-test.true
           (c.in_ok-test_site.ensures.passed rest

@@ -1,4 +1,4 @@
-use Rattle.std.proofs.Common.{◌≡◌, refl, sym, ap₂, ◌∙◌, ◌+◌, List, [], ◌++◌, drop, append-nil, arith}
+use Rattle.std.proofs.Common.{refl, sym, ap₂, ◌∙◌, ◌+◌, List, [], ◌++◌, drop, append-nil, arith}
 use Rattle.std.proofs.lemmas.List.{at_drop_all}
 use Rattle.genome.specs.Genome.{IsGenome}
 use Rattle.instruction_set.specs.declared.letter.Letter.{Letter}
@@ -13,14 +13,14 @@ loop-at-preserved c =
     let clean = c.args.clean.now in
     let text = c.args.text.now in
     c.in_ok-note_point.ensures (drop (at + 1) clean) (drop (at + 1) text)
-    ∙ ap₂ (λ (was is : List Letter). c.loop-at.points.items ++ points_from at was is)
+    ∙ ap₂ (λ (was is : List Letter). c.loop-at.points ++ points_from at was is)
     (sym (drop-here clean at (omega arith))) (sym (drop-here text at c.loop-at-test.true))
     ∙ c.loop-at.invariant
 
 pub returns-clause-points : goal.returns-clause-points
 returns-clause-points c =
     let at = c.loop-at.at in
-    let points = c.loop-at.points.items in
+    let points = c.loop-at.points in
     sym (append-nil points)
     ∙ sym (at_drop_all (λ (rest : List Letter). points ++ points_from at rest (drop at c.args.text.now))
     c.args.clean.now at (omega arith))

@@ -3,5 +3,5 @@ use Rattle.mutations.specs.DivideErrors.{points_from}
 use Rattle.mutations.proofs.site_points.points.Given as goal
 
 abbrev pub invariant-loop-at : goal.invariant-loop-at
-invariant-loop-at l = l.points.items ++ points_from l.at (drop l.at l.clean) (drop l.at l.text)
+invariant-loop-at l = l.points ++ points_from l.at (drop l.at l.clean) (drop l.at l.text)
     ≡ points_from 0 l.clean l.text

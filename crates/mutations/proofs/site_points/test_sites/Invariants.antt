@@ -12,6 +12,5 @@ invariant-loop-letter l = record {
   next : after_sites (word_of l.initial.draws) l.rate l.draws.taken
       (drop l.letter-index l.text)
       ≡ after_sites (word_of l.initial.draws) l.rate l.initial.draws.taken l.initial.text;
-  least : l.initial.draws.taken ≤ l.draws.taken;
   most : l.draws.taken ≤ l.initial.draws.taken + 2 * l.letter-index;
 }
