@@ -1,6 +1,6 @@
 // The tables that print events.
 ghost use Rattle.std.specs.Prelude.{◌≡◌, IfOk, OnOk, map, pos, string_bytes};
-ghost use Rattle.toml.specs.Data.{integer, string};
+ghost use Rattle.toml.specs.Data.{integer, no_members, string};
 ghost use Rattle.toml.specs.View.{items_view, table_view, view};
 ghost use Rattle.genome.specs.Genome.{letters};
 ghost use Rattle.genome.specs.GenomeText.{letters_text_of};
@@ -76,49 +76,75 @@ fn put_genome(
     put(alloc, table, name, Value::from(text))
 }
 
-fn inject_table(alloc: Global, update: u32, cell: u32, genome: &Genome) -> Result<Table, AllocError>
-    ensures { IfOk result (λ table. table_view table
+fn put_inject(
+    alloc: Global,
+    table: &mut Table,
+    update: u32,
+    cell: u32,
+    genome: &Genome,
+) -> Result<(), AllocError>
+    requires { table_view table.old ≡ no_members }
+    ensures { OnOk result (table_view table.new
         ≡ event_members update (inject cell (letters genome.now))) }
 {
-    let mut table = Table::new(alloc);
-    put_number(alloc, &mut table, "update", update)?;
-    put_genome(alloc, &mut table, "letters", genome)?;
-    put_text(alloc, &mut table, "kind", "inject")?;
-    put_number(alloc, &mut table, "cell", cell)?;
-    Ok(table)
+    put_number(alloc, table, "update", update)?;
+    put_genome(alloc, table, "letters", genome)?;
+    put_text(alloc, table, "kind", "inject")?;
+    put_number(alloc, table, "cell", cell)
 }
 
-fn clear_table(alloc: Global, update: u32, first: u32, last: u32) -> Result<Table, AllocError>
-    ensures { IfOk result (λ table. table_view table ≡ event_members update (clear first last)) }
+fn put_clear(
+    alloc: Global,
+    table: &mut Table,
+    update: u32,
+    first: u32,
+    last: u32,
+) -> Result<(), AllocError>
+    requires { table_view table.old ≡ no_members }
+    ensures { OnOk result (table_view table.new ≡ event_members update (clear first last)) }
 {
-    let mut table = Table::new(alloc);
-    put_number(alloc, &mut table, "update", update)?;
-    put_number(alloc, &mut table, "last", last)?;
-    put_text(alloc, &mut table, "kind", "clear")?;
-    put_number(alloc, &mut table, "first", first)?;
-    Ok(table)
+    put_number(alloc, table, "update", update)?;
+    put_number(alloc, table, "last", last)?;
+    put_text(alloc, table, "kind", "clear")?;
+    put_number(alloc, table, "first", first)
 }
 
-fn rate_table(alloc: Global, update: u32, name: RateName, ppm: u32) -> Result<Table, AllocError>
-    ensures { IfOk result (λ table. table_view table ≡ event_members update (rate name ppm)) }
+fn put_rate(
+    alloc: Global,
+    table: &mut Table,
+    update: u32,
+    name: RateName,
+    ppm: u32,
+) -> Result<(), AllocError>
+    requires { table_view table.old ≡ no_members }
+    ensures { OnOk result (table_view table.new ≡ event_members update (rate name ppm)) }
 {
-    let mut table = Table::new(alloc);
-    put_number(alloc, &mut table, "update", update)?;
-    put_number(alloc, &mut table, "ppm", ppm)?;
-    put_text(alloc, &mut table, "name", name.name())?;
-    put_text(alloc, &mut table, "kind", "rate")?;
-    Ok(table)
+    put_number(alloc, table, "update", update)?;
+    put_number(alloc, table, "ppm", ppm)?;
+    put_text(alloc, table, "name", name.name())?;
+    put_text(alloc, table, "kind", "rate")
+}
+
+/// Puts the keys of an event into an empty table.
+fn put_event(alloc: Global, table: &mut Table, event: &Event) -> Result<(), AllocError>
+    requires { table_view table.old ≡ no_members }
+    ensures { OnOk result (table_view table.new
+        ≡ event_members event.now.update (event_value event.now).what) }
+{
+    match &event.what {
+        What::Inject { cell, genome } => put_inject(alloc, table, event.update, *cell, genome),
+        What::Clear { first, last } => put_clear(alloc, table, event.update, *first, *last),
+        What::Rate { name, ppm } => put_rate(alloc, table, event.update, *name, *ppm),
+    }
 }
 
 fn event_table(alloc: Global, event: &Event) -> Result<Table, AllocError>
     ensures { IfOk result (λ table. table_view table
         ≡ event_members event.now.update (event_value event.now).what) }
 {
-    match &event.what {
-        What::Inject { cell, genome } => inject_table(alloc, event.update, *cell, genome),
-        What::Clear { first, last } => clear_table(alloc, event.update, *first, *last),
-        What::Rate { name, ppm } => rate_table(alloc, event.update, *name, *ppm),
-    }
+    let mut table = Table::new(alloc);
+    put_event(alloc, &mut table, event)?;
+    Ok(table)
 }
 
 /// The tables of the events.
@@ -128,7 +154,7 @@ pub(crate) fn event_tables(alloc: Global, events: &[Event]) -> Result<Vec<Value>
 {
     let mut tables = Vec::with_capacity(alloc, events.len())?;
     for event in events {
-        tables.push(Value::Table(event_table(alloc, event)?))?;
+        tables.push_reserved(Value::Table(event_table(alloc, event)?));
     }
     Ok(tables)
 }

@@ -15,7 +15,7 @@ pub(crate) fn copy_of(alloc: Global, events: &[Event]) -> Result<Events, Memory>
 {
     let mut copies = Vec::with_capacity(alloc, events.len())?;
     for event in events {
-        copies.push(event.copy(alloc)?)?;
+        copies.push_reserved(event.copy(alloc)?);
     }
     Ok(Events::from_vec(copies))
 }

@@ -116,10 +116,13 @@ impl LifeKeys {
         ensures refused { IfErr result (λ stop. first_refusal life_keys (table_view table.now)
             ≡ Some stop) }
     {
+        let average_slices = number(table, Key::AverageSlices, 30, 1, GREATEST_AVERAGE)?;
+        let death = flag(table, Key::Death, true)?;
+        let age_limit = number(table, Key::AgeLimit, 20, 1, GREATEST_AGE)?;
         Ok(LifeKeys {
-            average_slices: number(table, Key::AverageSlices, 30, 1, GREATEST_AVERAGE)?,
-            death: flag(table, Key::Death, true)?,
-            age_limit: number(table, Key::AgeLimit, 20, 1, GREATEST_AGE)?,
+            average_slices,
+            death,
+            age_limit,
         })
     }
 }
@@ -136,13 +139,19 @@ impl ErrorKeys {
         ensures refused { IfErr result (λ stop. first_refusal error_keys (table_view table.now)
             ≡ Some stop) }
     {
+        let copy_error = number(table, Key::CopyError, 7500, 0, MILLION)?;
+        let divide_insert = number(table, Key::DivideInsert, 50000, 0, MILLION)?;
+        let divide_delete = number(table, Key::DivideDelete, 50000, 0, MILLION)?;
+        let site_point = number(table, Key::SitePoint, 0, 0, MILLION)?;
+        let site_insert = number(table, Key::SiteInsert, 0, 0, MILLION)?;
+        let site_delete = number(table, Key::SiteDelete, 0, 0, MILLION)?;
         Ok(ErrorKeys {
-            copy_error: number(table, Key::CopyError, 7500, 0, MILLION)?,
-            divide_insert: number(table, Key::DivideInsert, 50000, 0, MILLION)?,
-            divide_delete: number(table, Key::DivideDelete, 50000, 0, MILLION)?,
-            site_point: number(table, Key::SitePoint, 0, 0, MILLION)?,
-            site_insert: number(table, Key::SiteInsert, 0, 0, MILLION)?,
-            site_delete: number(table, Key::SiteDelete, 0, 0, MILLION)?,
+            copy_error,
+            divide_insert,
+            divide_delete,
+            site_point,
+            site_insert,
+            site_delete,
         })
     }
 }
@@ -159,11 +168,15 @@ impl DivideKeys {
         ensures refused { IfErr result (λ stop. first_refusal divide_keys (table_view table.now)
             ≡ Some stop) }
     {
+        let prefer_empty = flag(table, Key::PreferEmpty, true)?;
+        let need_alloc = flag(table, Key::NeedAlloc, true)?;
+        let executed_percent = number(table, Key::ExecutedPercent, 50, 1, GREATEST_PERCENT)?;
+        let copied_percent = number(table, Key::CopiedPercent, 50, 1, GREATEST_PERCENT)?;
         Ok(DivideKeys {
-            prefer_empty: flag(table, Key::PreferEmpty, true)?,
-            need_alloc: flag(table, Key::NeedAlloc, true)?,
-            executed_percent: number(table, Key::ExecutedPercent, 50, 1, GREATEST_PERCENT)?,
-            copied_percent: number(table, Key::CopiedPercent, 50, 1, GREATEST_PERCENT)?,
+            prefer_empty,
+            need_alloc,
+            executed_percent,
+            copied_percent,
         })
     }
 }

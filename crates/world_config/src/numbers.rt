@@ -29,12 +29,17 @@ impl Numbers {
         ensures refused { IfErr result (λ stop. first_refusal number_keys (table_view table.now)
             ≡ Some stop) }
     {
+        let place = PlaceKeys::read(table)?;
+        let life = LifeKeys::read(table)?;
+        let errors = ErrorKeys::read(table)?;
+        let divide = DivideKeys::read(table)?;
+        let lengths = LengthKeys::read(table)?;
         Ok(Numbers {
-            place: PlaceKeys::read(table)?,
-            life: LifeKeys::read(table)?,
-            errors: ErrorKeys::read(table)?,
-            divide: DivideKeys::read(table)?,
-            lengths: LengthKeys::read(table)?,
+            place,
+            life,
+            errors,
+            divide,
+            lengths,
         })
     }
 
