@@ -1,6 +1,6 @@
 -- Each command reads what its form says: its names are distinct, and a text that begins with `-` is
 -- none of its numbers.
-use Rattle.std.proofs.Common.{◌≡◌, ◌<◌, ◌+◌, ◌||◌, ◌++◌, arith, refl, ap, inl, inr, Bool, true, ℕ, suc, take, List, [], ◌∷◌, length, Option, Some, None, option_map, option_and_then}
+use Rattle.std.proofs.Common.{◌≡◌, ◌<◌, ◌+◌, ◌||◌, ◌++◌, arith, refl, ap, inl, inr, Bool, true, ℕ, suc, take, List, [], ◌∷◌, length, Option, Some, None, codes, option_map, option_and_then}
 use Rattle.std.specs.List.{before_first, list_any, position_or_len}
 use Rattle.std.proofs.lemmas.Bool.{cases_Bool, eqb-true, false≢true}
 use Rattle.numerals.specs.Numeral.{number_of}
@@ -14,7 +14,7 @@ use Rattle.command_line.specs.Numbers.{is_comma, three_numbers_of}
 use Rattle.command_line.specs.Commands.{assay_form, assay_of, assay_with, bare_form, landscape_form, landscape_of, inputs_of_value, nothing_of, positional_form, positional_of, run_form, run_of, run_with, save_of, trace_form, trace_of, trace_with, workers_form}
 use Rattle.command_line.specs.Parsers.{app_by}
 use Rattle.command_line.specs.Reading.{IsOf, IsReadableRow, NoMinus}
-use Rattle.command_line.specs.Rows.{CommandRow, advance_row, assay_row, bench_row, landscape_row, lineage_row, nothing_row, resume_row, run_row, save_row, trace_row}
+use Rattle.command_line.specs.Rows.{CommandRow, assay_row, landscape_row, nothing_row, numbers_with, positional_row, run_row, save_row, trace_row}
 
 -- a command that takes no words has no text that could begin with `-`
 nothing_refuses : NoMinus → (told : Told) → IsOf bare_form told → has_dashed told ≡ true
@@ -256,27 +256,24 @@ pub run_reads : IsReadableRow run_row
 run_reads = reads_by refl refl (omega arith) refl refl run_refuses
 
 -- the parser knows `lineage`, which refuses a cell or workers that begin with `-`
-pub lineage_reads : IsReadableRow lineage_row
+pub lineage_reads : IsReadableRow (positional_row (codes "lineage") (codes "cell") 65535)
 lineage_reads = reads_by refl refl (omega arith) refl refl (λ no_minus.
-    positional_refuses no_minus (λ cell workers. record { cell = cell; workers = workers }) 65535)
+    positional_refuses no_minus numbers_with 65535)
 
 -- the parser knows `bench`, which refuses a seed or workers that begin with `-`
-pub bench_reads : IsReadableRow bench_row
+pub bench_reads : IsReadableRow (positional_row (codes "bench") (codes "seed") 9223372036854775807)
 bench_reads = reads_by refl refl (omega arith) refl refl (λ no_minus.
-    positional_refuses no_minus (λ seed workers. record { seed = seed; workers = workers })
-    9223372036854775807)
+    positional_refuses no_minus numbers_with 9223372036854775807)
 
 -- the parser knows `resume`, which refuses updates or workers that begin with `-`
-pub resume_reads : IsReadableRow resume_row
+pub resume_reads : IsReadableRow (positional_row (codes "resume") (codes "more") 1000000)
 resume_reads = reads_by refl refl (omega arith) refl refl (λ no_minus.
-    positional_refuses no_minus (λ more workers. record { more = more; workers = workers })
-    1000000)
+    positional_refuses no_minus numbers_with 1000000)
 
 -- the parser knows `advance`, which refuses updates or workers that begin with `-`
-pub advance_reads : IsReadableRow advance_row
+pub advance_reads : IsReadableRow (positional_row (codes "advance") (codes "more") 1000000)
 advance_reads = reads_by refl refl (omega arith) refl refl (λ no_minus.
-    positional_refuses no_minus (λ more workers. record { more = more; workers = workers })
-    1000000)
+    positional_refuses no_minus numbers_with 1000000)
 
 -- the parser knows `assay`, which refuses a count, a first seed or workers that begin with `-`
 pub assay_reads : IsReadableRow assay_row

@@ -17,5 +17,6 @@ pub mod DashedValues
 pub mod FormWords
 pub mod FormLaw
 pub mod ParserEnds
+pub mod PositionalLemmas
 pub mod NumberLemmas
 pub mod CommandForms

@@ -2,12 +2,9 @@
 use Rattle.std.specs.Prelude.{ℕ, List, [], ◌∷◌, Option, codes, option_and_then}
 use Rattle.command_line.specs.Form.{Form, Told}
 use Rattle.command_line.specs.Words.{told_by}
-use Rattle.command_line.specs.Commands.{advance_form, advance_of, assay_form, assay_of, bare_form, bench_form, bench_of, landscape_form, landscape_of, lineage_form, lineage_of, nothing_of, resume_form, resume_of, run_form, run_of, save_form, save_of, trace_form, trace_of}
-use Rattle.command_line.specs.declared.advance.Advance.{Advance}
+use Rattle.command_line.specs.Commands.{assay_form, assay_of, bare_form, landscape_form, landscape_of, nothing_of, positional_form, positional_of, run_form, run_of, save_form, save_of, trace_form, trace_of}
 use Rattle.command_line.specs.declared.assay.Assay.{Assay}
-use Rattle.command_line.specs.declared.bench.Bench.{Bench}
-use Rattle.command_line.specs.declared.lineage.Lineage.{Lineage}
-use Rattle.command_line.specs.declared.resume.Resume.{Resume}
+use Rattle.command_line.specs.declared.positional.Positional.{Positional}
 use Rattle.command_line.specs.declared.run.Run.{Run}
 use Rattle.command_line.specs.declared.trace.Trace.{Trace}
 
@@ -22,6 +19,20 @@ pub record CommandRow (T : Type 0) : Type 0 where
 -- what the words after the name tell the command of a row
 abbrev pub told_by_row : {T : Type 0} → CommandRow T → List (List ℕ) → Option T
 told_by_row row words = option_and_then row.take (told_by row.form words)
+
+-- the number and the number of workers
+abbrev pub numbers_with : ℕ → ℕ → Positional
+numbers_with number workers = record { number = number; workers = workers }
+
+-- a command of this name with one number up to this one, which the parser knows by the second name,
+-- and `--workers`: `lineage`, `bench`, `resume` and `advance`
+abbrev pub positional_row : List ℕ → List ℕ → ℕ → CommandRow Positional
+positional_row name text greatest = record {
+  name = name;
+  form = positional_form;
+  texts = text ∷ [];
+  take = positional_of numbers_with greatest;
+}
 
 -- `trace`
 abbrev pub trace_row : CommandRow Trace
@@ -41,24 +52,6 @@ run_row = record {
   take = run_of;
 }
 
--- `lineage`
-abbrev pub lineage_row : CommandRow Lineage
-lineage_row = record {
-  name = codes "lineage";
-  form = lineage_form;
-  texts = codes "cell" ∷ [];
-  take = lineage_of;
-}
-
--- `bench`
-abbrev pub bench_row : CommandRow Bench
-bench_row = record {
-  name = codes "bench";
-  form = bench_form;
-  texts = codes "seed" ∷ [];
-  take = bench_of;
-}
-
 -- `save`
 abbrev pub save_row : CommandRow ℕ
 save_row = record {
@@ -66,24 +59,6 @@ save_row = record {
   form = save_form;
   texts = [];
   take = save_of;
-}
-
--- `resume`
-abbrev pub resume_row : CommandRow Resume
-resume_row = record {
-  name = codes "resume";
-  form = resume_form;
-  texts = codes "more" ∷ [];
-  take = resume_of;
-}
-
--- `advance`
-abbrev pub advance_row : CommandRow Advance
-advance_row = record {
-  name = codes "advance";
-  form = advance_form;
-  texts = codes "more" ∷ [];
-  take = advance_of;
 }
 
 -- `landscape`

@@ -19,7 +19,7 @@ pub const MOST_FIRST_SEED: u64 = 9_223_372_036_854_775_744;
 
 /// The values of `assay`: how many seeds it runs, the first of them, and the number of workers of
 /// each world.
-#[derive(Clone, Copy, Debug, PartialEq, Eq)]
+#[derive(Clone, Copy, Debug)]
 pub struct Assay {
     pub count: u32,
     pub first: u64,
@@ -32,8 +32,9 @@ impl Arguments for Assay {
     ghost table_row = { assay_row };
 
     fn command<'a>(alloc: Global) -> Result<Command<'a>, AllocError> {
+        let command = positional_command(alloc, "assay", "count")?;
         let first = Arg::new(alloc, "first").required(true);
-        positional_command(alloc, "assay", "count")?.arg(first)
+        command.arg(first)
     }
 
     fn taken(matches: &ArgMatches<'_>) -> Option<Assay> {

@@ -10,6 +10,7 @@ mod lineage;
 mod nothing;
 mod numbers;
 mod parser;
+mod positional;
 mod reading;
 mod refused;
 mod resume;

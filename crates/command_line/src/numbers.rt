@@ -1,5 +1,5 @@
 // Texts and numbers of the arguments of a command.
-ghost use Rattle.std.specs.Prelude.{◌≡◌, [], MatchOption, option_and_then, option_map};
+ghost use Rattle.std.specs.Prelude.{◌≡◌, ◌≤◌, [], IfSome, MatchOption, option_and_then, option_map};
 ghost use Rattle.std.specs.List.{after_first, before_first};
 ghost use Rattle.clap.specs.Words.{first_of, found_of, rows_of};
 ghost use Rattle.numerals.specs.Numeral.{number_of};
@@ -39,8 +39,9 @@ pub(crate) fn number_in(
 
 /// The number up to `greatest` that the argument of this name spells.
 pub(crate) fn wide_number_in(matches: &ArgMatches<'_>, name: &str, greatest: u64) -> Option<u64>
-    ensures { result ≡ option_and_then (number_of 0 greatest)
+    ensures number { result ≡ option_and_then (number_of 0 greatest)
         (first_of name.now (rows_of (found_of matches.now))) }
+    ensures bound { IfSome result (λ n. n ≤ greatest) }
 {
     number(0, greatest, text_in(matches, name)?.as_bytes())
 }

@@ -5,7 +5,7 @@ ghost use Rattle.command_line.specs.Refusals.{refused_by};
 use clap::error::ErrorKind;
 
 /// Why a command line gives no command.
-#[derive(Clone, Copy, Debug, PartialEq, Eq)]
+#[derive(Clone, Copy, Debug)]
 pub enum Refused {
     /// Out of memory.
     Memory,

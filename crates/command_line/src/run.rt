@@ -15,7 +15,7 @@ use std::alloc::{AllocError, Global};
 pub const MOST_LOOKS: u32 = 1_000_000;
 
 /// The values of `run`: the number of workers, and of the watcher's looks if there is one.
-#[derive(Clone, Copy, Debug, PartialEq, Eq)]
+#[derive(Clone, Copy, Debug)]
 pub struct Run {
     pub workers: u32,
     pub watch: Option<u32>,
@@ -45,8 +45,9 @@ impl Arguments for Run {
     ghost table_row = { run_row };
 
     fn command<'a>(alloc: Global) -> Result<Command<'a>, AllocError> {
+        let command = workers_command(alloc, "run")?;
         let watch = Arg::new(alloc, "watch").long("watch");
-        workers_command(alloc, "run")?.arg(watch)
+        command.arg(watch)
     }
 
     fn taken(matches: &ArgMatches<'_>) -> Option<Run> {

@@ -20,7 +20,7 @@ pub const GREATEST_INPUT: u32 = 16_777_215;
 
 /// The values of `trace`: the number of steps, whether the genome is written by names, and the low
 /// 24 bits of each of the three inputs.
-#[derive(Clone, Copy, Debug, PartialEq, Eq)]
+#[derive(Clone, Copy, Debug)]
 pub struct Trace {
     pub steps: u32,
     pub org: bool,
@@ -61,11 +61,13 @@ impl Arguments for Trace {
     ghost table_row = { trace_row };
 
     fn command<'a>(alloc: Global) -> Result<Command<'a>, AllocError> {
+        let command = inputs_command(alloc)?;
         let org = Arg::new(alloc, "org")
             .long("org")
             .action(ArgAction::SetTrue);
+        let command = command.arg(org)?;
         let steps = Arg::new(alloc, "steps").required(true);
-        inputs_command(alloc)?.arg(org)?.arg(steps)
+        command.arg(steps)
     }
 
     fn taken(matches: &ArgMatches<'_>) -> Option<Trace> {

@@ -26,12 +26,11 @@ pub(crate) fn workers_in(matches: &ArgMatches<'_>) -> Option<u32>
 pub(crate) fn workers_command<'a>(alloc: Global, name: &'a str) -> Result<Command<'a>, AllocError>
     ensures { IfOk result (λ c. app_of c ≡ app_by name.entry.now workers_form []) }
 {
+    let command = Command::new(alloc, name).disable_help_flag(true);
     let workers = Arg::new(alloc, "workers")
         .long("workers")
         .default_value("1");
-    Command::new(alloc, name)
-        .disable_help_flag(true)
-        .arg(workers)
+    command.arg(workers)
 }
 
 /// The command of this name with one positional, of this name, and `--workers`.
@@ -43,6 +42,7 @@ pub(crate) fn positional_command<'a>(
     ensures { IfOk result (λ c. app_of c
         ≡ app_by name.entry.now positional_form (positional.entry.now ∷ [])) }
 {
+    let command = workers_command(alloc, name)?;
     let required = Arg::new(alloc, positional).required(true);
-    workers_command(alloc, name)?.arg(required)
+    command.arg(required)
 }
