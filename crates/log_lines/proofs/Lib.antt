@@ -10,3 +10,5 @@ pub mod WordLemmas
 pub mod TimesLemmas
 pub mod GenomeLemmas
 mod FrontLemmas
+mod BeginLemmas
+mod MarkLemmas

@@ -111,6 +111,10 @@ count_form =
 abbrev pub end_form : LineForm
 end_form = record { Fields = ℕ; mark = code "E"; row = last small; line = End }
 
+-- the forms without genomes
+abbrev pub plain_forms : List LineForm
+plain_forms = death_form ∷ cleared_form ∷ rate_form ∷ count_form ∷ end_form ∷ []
+
 -- the table of the forms, each of which has another mark
 abbrev pub forms : List LineForm
 forms =

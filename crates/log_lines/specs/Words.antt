@@ -9,7 +9,10 @@ use Rattle.std.specs.List.{slice_split}
 use Rattle.instruction_set.specs.declared.letter.Letter.{Letter}
 use Rattle.mutations.specs.declared.change.Change.{Change}
 use Rattle.log_lines.specs.declared.reading.Arrival.{Arrival}
-use Rattle.log_lines.specs.Kinds.{small, over_field}
+use Rattle.log_lines.specs.declared.reading.Newborn.{Newborn}
+use Rattle.log_lines.specs.declared.reading.Opening.{Opening}
+use Rattle.log_lines.specs.Fields.{number}
+use Rattle.log_lines.specs.Kinds.{small, large, side, over_field}
 
 -- the pieces of what is left of a text, cut at each such byte; no piece where nothing is left
 abbrev pub pieces_of : ℕ → Option (List ℕ) → List (List ℕ)
@@ -32,27 +35,57 @@ abbrev pub read_first :
 read_first read [] = None
 read_first read (word ∷ words) = option_map (λ a. (a, words)) (read word)
 
--- read_arrival reads three words, and the three definitions before it put together what they say:
--- the arrival in this update and cell, over who was found there, and the words left
-abbrev pub over_behind :
-    ℕ → ℕ → Option (Option ℕ × List (List ℕ)) → Option (Arrival × List (List ℕ))
-over_behind update cell found =
-    option_map (λ (over, left). (record { update = update; cell = cell; over = over }, left)) found
+-- what is read from the first word and then from the words behind it, put together, and the words
+-- left
+abbrev pub read_then :
+    {A B C : Type 0} → (List ℕ → Option A) → (List (List ℕ) → Option (B × List (List ℕ)))
+    → (A → B → C) → List (List ℕ) → Option (C × List (List ℕ))
+read_then read others put words =
+    option_and_then (λ (a, left). option_map (λ (b, behind). (put a b, behind)) (others left))
+    (read_first read words)
 
--- the arrival in this update and the found cell: who stood there is read from the words behind
-abbrev pub cell_behind : ℕ → Option (ℕ × List (List ℕ)) → Option (Arrival × List (List ℕ))
-cell_behind update found =
-    option_and_then
-    (λ (cell, left). over_behind update cell (read_first over_field.read left)) found
-
--- the arrival in the found update: the cell and who stood there are read from the words behind
-abbrev pub update_behind : Option (ℕ × List (List ℕ)) → Option (Arrival × List (List ℕ))
-update_behind found =
-    option_and_then (λ (update, left). cell_behind update (read_first small.read left)) found
+-- where somebody came and who stood there, and the words behind these two
+abbrev pub read_place : List (List ℕ) → Option ((ℕ × Option ℕ) × List (List ℕ))
+read_place words =
+    read_then small.read (read_first over_field.read) (λ cell over. (cell, over)) words
 
 -- an arrival, that is the update, the cell and who stood there, and the words behind these three
 abbrev pub read_arrival : List (List ℕ) → Option (Arrival × List (List ℕ))
-read_arrival words = update_behind (read_first small.read words)
+read_arrival words =
+    read_then small.read read_place
+    (λ update (cell, over). record { update = update; cell = cell; over = over }) words
+
+-- the parent and the arrival of a newborn, and the words behind these
+abbrev pub read_parent : List (List ℕ) → Option ((ℕ × Arrival) × List (List ℕ))
+read_parent words =
+    read_then large.read read_arrival (λ parent arrival. (parent, arrival)) words
+
+-- the fields of a birth before its record, and the words behind them
+abbrev pub read_newborn : List (List ℕ) → Option (Newborn × List (List ℕ))
+read_newborn words =
+    read_then large.read read_parent
+    (λ id (parent, arrival). record { id = id; parent = parent; arrival = arrival }) words
+
+-- the height of a world and its founder's cell, and the words behind them
+abbrev pub read_height : List (List ℕ) → Option ((ℕ × ℕ) × List (List ℕ))
+read_height words =
+    read_then side.read (read_first small.read) (λ height cell. (height, cell)) words
+
+-- the width, the height and the founder's cell, and the words behind them
+abbrev pub read_width : List (List ℕ) → Option ((ℕ × (ℕ × ℕ)) × List (List ℕ))
+read_width words =
+    read_then side.read read_height (λ width behind. (width, behind)) words
+
+-- the fields of a first line before its genome, and the words behind them
+abbrev pub read_opening : List (List ℕ) → Option (Opening × List (List ℕ))
+read_opening words =
+    read_then (number 1 2).read read_width
+    (λ version (width, (height, cell)). record {
+      version = version;
+      width = width;
+      height = height;
+      cell = cell;
+    }) words
 
 -- a way to make a change of a place and a letter: a point or an insertion
 abbrev pub ToChange : Type 0

@@ -4,6 +4,7 @@
 mod fields;
 pub mod laws;
 mod log_line;
+mod plain_lines;
 mod reading;
 mod stats;
 mod words;

@@ -3,22 +3,21 @@ ghost use Rattle.std.specs.Prelude.{◌≡◌, ◌∷◌, [], Some, IfOk, length
 ghost use Rattle.genome.specs.Genome as genome_spec;
 ghost use Rattle.mutations.specs.BirthRecord.{written_in};
 ghost use Rattle.log_lines.specs.Fields as fields_spec;
-ghost use Rattle.mutations.specs.RateNames.{rate_named};
-ghost use Rattle.log_lines.specs.Kinds.{base_field, changes_field, death_row, large, over_field, record_row};
-ghost use Rattle.log_lines.specs.Rows.{read_last, times};
-ghost use Rattle.log_lines.specs.Words.{read_arrival, read_first, words_of};
-ghost use Rattle.log_lines.specs.Line.{Count, line_values};
-ghost use Rattle.log_lines.specs.Forms.{birth_form, count_form, forms, injected_form, rate_form, start_form};
+ghost use Rattle.log_lines.specs.Kinds.{base_field, changes_field, over_field, record_row};
+ghost use Rattle.log_lines.specs.Rows.{read_last};
+ghost use Rattle.log_lines.specs.Words.{read_arrival, read_first, read_newborn, read_opening, words_of};
+ghost use Rattle.log_lines.specs.Line.{line_values};
+ghost use Rattle.log_lines.specs.Forms.{birth_form, forms, injected_form, start_form};
 ghost use Rattle.log_lines.specs.LineReading.{line_of, read_as, read_by};
 
 use crate::fields::{base, changes, genome};
 use crate::log_line::{LAST_VERSION, LogLine};
-use crate::stats::Stats;
-use crate::words::{after_word, large_first, last_word, small_first, small_last, split_at};
+use crate::plain_lines::read_plain;
+use crate::words::{after_word, large_first, last_word, small_first, split_at};
 use avida_port::Memory;
 use genome::Genome;
-use mutations::{Base, Changes, Origin, RateName};
-use random_streams::{GREATEST_SIDE, MILLION};
+use mutations::{Base, Changes, Origin};
+use random_streams::GREATEST_SIDE;
 use std::alloc::Global;
 
 /// The genome that ends the line. None where other words follow it, or the last word spells none.
@@ -93,20 +92,30 @@ fn arrival_first<'a>(rest: Option<&'a [u8]>) -> Option<(Arrival, Option<&'a [u8]
     Some((Arrival { update, cell, over }, rest))
 }
 
-fn rate_first<'a>(rest: Option<&'a [u8]>) -> Option<(RateName, Option<&'a [u8]>)>
+/// The fields of a first line before its genome.
+#[derive(Clone, Copy)]
+struct Opening {
+    version: u32,
+    width: u32,
+    height: u32,
+    cell: u32,
+}
+
+fn opening_first<'a>(rest: Option<&'a [u8]>) -> Option<(Opening, Option<&'a [u8]>)>
     ensures { option_map (λ p. (p.0, words_of (option_copied p.1))) result
-        ≡ read_first rate_named (words_of (option_copied rest.entry)) }
+        ≡ read_opening (words_of (option_copied rest.entry)) }
 {
-    match rest {
-        Some(bytes) => {
-            let (word, others) = split_at(bytes, b' ');
-            match RateName::from_name(word) {
-                Some(value) => Some((value, others)),
-                None => None,
-            }
-        }
-        None => None,
-    }
+    let (version, rest) = small_first(rest, 1, LAST_VERSION)?;
+    let (width, rest) = small_first(rest, 1, GREATEST_SIDE)?;
+    let (height, rest) = small_first(rest, 1, GREATEST_SIDE)?;
+    let (cell, rest) = small_first(rest, 0, u32::MAX)?;
+    let opening = Opening {
+        version,
+        width,
+        height,
+        cell,
+    };
+    Some((opening, rest))
 }
 
 #[inline(never)]
@@ -114,47 +123,20 @@ fn read_start(alloc: Global, rest: Option<&[u8]>) -> Result<Option<LogLine>, Mem
     ensures { IfOk result (λ found. option_map line_values found
         ≡ read_as start_form (words_of (option_copied rest.entry))) }
 {
-    let Some((version, rest)) = small_first(rest, 1, LAST_VERSION) else {
+    let Some((opening, rest)) = opening_first(rest) else {
         return Ok(None);
     };
-    let Some((width, rest)) = small_first(rest, 1, GREATEST_SIDE) else {
-        return Ok(None);
-    };
-    let Some((height, rest)) = small_first(rest, 1, GREATEST_SIDE) else {
-        return Ok(None);
-    };
-    let Some((cell, rest)) = small_first(rest, 0, u32::MAX) else {
-        return Ok(None);
-    };
-    match genome_last(alloc, rest)? {
-        Some(genome) => Ok(Some(LogLine::Start {
-            version,
-            width,
-            height,
-            cell,
+    match genome_last(alloc, rest) {
+        Ok(Some(genome)) => Ok(Some(LogLine::Start {
+            version: opening.version,
+            width: opening.width,
+            height: opening.height,
+            cell: opening.cell,
             genome,
         })),
-        None => Ok(None),
+        Ok(None) => Ok(None),
+        Err(Memory) => Err(Memory),
     }
-}
-
-/// The fields of a death.
-#[derive(Clone, Copy)]
-struct Death {
-    id: u64,
-    update: u32,
-    cell: u32,
-}
-
-#[inline(never)]
-fn read_death(rest: Option<&[u8]>) -> Option<Death>
-    ensures { option_map (λ d. (d.id, (d.update, d.cell))) result
-        ≡ death_row.read (words_of (option_copied rest.entry)) }
-{
-    let (id, rest) = large_first(rest)?;
-    let (update, rest) = small_first(rest, 0, u32::MAX)?;
-    let cell = small_last(rest, 0, u32::MAX)?;
-    Some(Death { id, update, cell })
 }
 
 /// A base, and what is left of the line.
@@ -204,30 +186,48 @@ fn origin_last(alloc: Global, rest: Option<&[u8]>) -> Result<Option<Origin>, Mem
     }
 }
 
+/// The fields of a birth before its record.
+#[derive(Clone, Copy)]
+struct Newborn {
+    id: u64,
+    parent: u64,
+    arrival: Arrival,
+}
+
+fn newborn_first<'a>(rest: Option<&'a [u8]>) -> Option<(Newborn, Option<&'a [u8]>)>
+    ensures { option_map (λ p. (p.0, words_of (option_copied p.1))) result
+        ≡ read_newborn (words_of (option_copied rest.entry)) }
+{
+    let (id, rest) = large_first(rest)?;
+    let (parent, rest) = large_first(rest)?;
+    let (arrival, rest) = arrival_first(rest)?;
+    let newborn = Newborn {
+        id,
+        parent,
+        arrival,
+    };
+    Some((newborn, rest))
+}
+
 #[inline(never)]
 fn read_birth(alloc: Global, rest: Option<&[u8]>) -> Result<Option<LogLine>, Memory>
     ensures { IfOk result (λ found. option_map line_values found
         ≡ read_as birth_form (words_of (option_copied rest.entry))) }
 {
-    let Some((id, rest)) = large_first(rest) else {
+    let Some((newborn, rest)) = newborn_first(rest) else {
         return Ok(None);
     };
-    let Some((parent, rest)) = large_first(rest) else {
-        return Ok(None);
-    };
-    let Some((arrival, rest)) = arrival_first(rest) else {
-        return Ok(None);
-    };
-    match origin_last(alloc, rest)? {
-        Some(origin) => Ok(Some(LogLine::Birth {
-            id,
-            parent,
-            update: arrival.update,
-            cell: arrival.cell,
-            over: arrival.over,
+    match origin_last(alloc, rest) {
+        Ok(Some(origin)) => Ok(Some(LogLine::Birth {
+            id: newborn.id,
+            parent: newborn.parent,
+            update: newborn.arrival.update,
+            cell: newborn.arrival.cell,
+            over: newborn.arrival.over,
             origin,
         })),
-        None => Ok(None),
+        Ok(None) => Ok(None),
+        Err(Memory) => Err(Memory),
     }
 }
 
@@ -242,67 +242,17 @@ fn read_injected(alloc: Global, rest: Option<&[u8]>) -> Result<Option<LogLine>, 
     let Some((arrival, rest)) = arrival_first(rest) else {
         return Ok(None);
     };
-    match genome_last(alloc, rest)? {
-        Some(genome) => Ok(Some(LogLine::Injected {
+    match genome_last(alloc, rest) {
+        Ok(Some(genome)) => Ok(Some(LogLine::Injected {
             id,
             update: arrival.update,
             cell: arrival.cell,
             over: arrival.over,
             genome,
         })),
-        None => Ok(None),
+        Ok(None) => Ok(None),
+        Err(Memory) => Err(Memory),
     }
-}
-
-#[inline(never)]
-fn read_rate(rest: Option<&[u8]>) -> Option<LogLine>
-    ensures { option_map line_values result
-        ≡ read_as rate_form (words_of (option_copied rest.entry)) }
-{
-    let (update, rest) = small_first(rest, 0, u32::MAX)?;
-    let (name, rest) = rate_first(rest)?;
-    let ppm = small_last(rest, 0, MILLION)?;
-    Some(LogLine::Rate { update, name, ppm })
-}
-
-/// The nine counts that end a line.
-fn tasks_last(rest: Option<&[u8]>) -> Option<[u64; 9]>
-    ensures { result ≡ (times 9 large).read (words_of (option_copied rest.entry)) }
-{
-    let mut tasks = [0; 9];
-    let mut left = rest;
-    for at in 0..9usize {
-        let (count, others) = large_first(left)?;
-        tasks[at] = count;
-        left = others;
-    }
-    match left {
-        None => Some(tasks),
-        Some(_) => None,
-    }
-}
-
-#[inline(never)]
-fn read_stats(rest: Option<&[u8]>) -> Option<Stats>
-    ensures { option_map (λ stats. Count stats) result
-        ≡ read_as count_form (words_of (option_copied rest.entry)) }
-{
-    let (update, rest) = small_first(rest, 0, u32::MAX)?;
-    let (living, rest) = large_first(rest)?;
-    let (births, rest) = large_first(rest)?;
-    let (deaths, rest) = large_first(rest)?;
-    let (genotypes, rest) = large_first(rest)?;
-    let (merit, rest) = large_first(rest)?;
-    let tasks = tasks_last(rest)?;
-    Some(Stats {
-        update,
-        living,
-        births,
-        deaths,
-        genotypes,
-        merit,
-        tasks,
-    })
 }
 
 fn read_form(alloc: Global, mark: u8, rest: Option<&[u8]>) -> Result<Option<LogLine>, Memory>
@@ -310,27 +260,10 @@ fn read_form(alloc: Global, mark: u8, rest: Option<&[u8]>) -> Result<Option<LogL
         ≡ read_by forms (mark ∷ []) (words_of (option_copied rest.entry))) }
 {
     match mark {
-        b'L' => read_start(alloc, rest),
-        b'D' => match read_death(rest) {
-            Some(Death { id, update, cell }) => Ok(Some(LogLine::Death { id, update, cell })),
-            None => Ok(None),
-        },
         b'B' => read_birth(alloc, rest),
+        b'L' => read_start(alloc, rest),
         b'I' => read_injected(alloc, rest),
-        b'X' => match read_death(rest) {
-            Some(Death { id, update, cell }) => Ok(Some(LogLine::Cleared { id, update, cell })),
-            None => Ok(None),
-        },
-        b'R' => Ok(read_rate(rest)),
-        b'U' => match read_stats(rest) {
-            Some(stats) => Ok(Some(LogLine::Count(stats))),
-            None => Ok(None),
-        },
-        b'E' => match small_last(rest, 0, u32::MAX) {
-            Some(updates) => Ok(Some(LogLine::End { updates })),
-            None => Ok(None),
-        },
-        _ => Ok(None),
+        _ => Ok(read_plain(mark, rest)),
     }
 }
 

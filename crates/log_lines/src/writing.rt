@@ -1,9 +1,10 @@
 // Writes the lines of a log, each into the bytes that it is given.
 ghost use Rattle.std.specs.Prelude.{ℕ, ◌≡◌, ◌++◌, ◌∷◌, [], List, Option, decimal, codes, take, Ok, OnOk, OnErr};
+ghost use Rattle.instruction_set.specs.Letter.{byte_of};
 ghost use Rattle.genome.specs.Genome as genome_spec;
 ghost use Rattle.mutations.specs.BirthRecord.{record_of, written_in};
 ghost use Rattle.log_lines.specs.Fields.{genome_field, list_text};
-ghost use Rattle.log_lines.specs.Kinds.{base_field, change_field, change_text, changes_field, death_row, over_field};
+ghost use Rattle.log_lines.specs.Kinds.{base_field, change_field, change_text, changes_field, death_row, over_field, rate_name};
 ghost use Rattle.log_lines.specs.Line.{Birth, Count, End, Injected, Rate, Start, line_values};
 ghost use Rattle.log_lines.specs.LineText.{form_text, line_text, numbers_text, row_text, spaced_word, words_text};
 ghost use Rattle.log_lines.specs.Kept.{Keeps};
@@ -12,6 +13,7 @@ use crate::log_line::LogLine;
 use crate::stats::Stats;
 use avida_port::Memory;
 use genome::{Genome, letters_text};
+use instruction_set::Letter;
 use itoa::write_digits;
 use mutations::{Base, Change, Changes, Origin, RateName};
 
@@ -83,23 +85,36 @@ fn base(out: &mut Vec<u8>, base: &Base) -> Result<(), Memory>
     }
 }
 
+/// Appends a mark, a place and a letter, such as `p4k`.
+#[tactic(auto, using(crate::proofs::KeptLemmas::keeps_front))]
+fn lettered(out: &mut Vec<u8>, mark: u8, at: u32, letter: Letter) -> Result<(), Memory>
+    ensures ok { OnOk result (out.new.items
+        ≡ out.old.items ++ mark ∷ (decimal at ++ byte_of letter ∷ [])) }
+    ensures err { OnErr result (Keeps out.old.items out.new.items) }
+{
+    write_number(mark, u64::from(at), out)?;
+    byte(out, letter.byte())
+}
+
+fn bare_change(out: &mut Vec<u8>, change: Change) -> Result<(), Memory>
+    ensures ok { OnOk result (out.new.items ≡ out.old.items ++ change_text change) }
+    ensures err { OnErr result (Keeps out.old.items out.new.items) }
+{
+    match change {
+        Change::Point { at, letter } => lettered(out, b'p', at, letter),
+        Change::Insert { at, letter } => lettered(out, b'i', at, letter),
+        Change::Delete { at } => write_number(b'd', u64::from(at), out),
+    }
+}
+
+/// Appends a byte, and a change behind it.
 #[tactic(auto, using(crate::proofs::KeptLemmas::keeps_front))]
 fn change(out: &mut Vec<u8>, before: u8, change: Change) -> Result<(), Memory>
     ensures ok { OnOk result (out.new.items ≡ out.old.items ++ before ∷ change_text change) }
     ensures err { OnErr result (Keeps out.old.items out.new.items) }
 {
     byte(out, before)?;
-    match change {
-        Change::Point { at, letter } => {
-            write_number(b'p', u64::from(at), out)?;
-            byte(out, letter.byte())
-        }
-        Change::Insert { at, letter } => {
-            write_number(b'i', u64::from(at), out)?;
-            byte(out, letter.byte())
-        }
-        Change::Delete { at } => write_number(b'd', u64::from(at), out),
-    }
+    bare_change(out, change)
 }
 
 /// Appends the changes of a birth, the first behind a space and each other behind a comma.
@@ -134,25 +149,14 @@ pub fn write_numbers(numbers: &[u64], out: &mut Vec<u8>) -> Result<(), Memory>
     Ok(())
 }
 
-/// Appends the update and the cell.
-fn placed(out: &mut Vec<u8>, update: u32, cell: u32) -> Result<(), Memory>
-    ensures ok { OnOk result (out.new.items ≡ out.old.items
-        ++ words_text (decimal update ∷ decimal cell ∷ [])) }
-    ensures err { OnErr result (Keeps out.old.items out.new.items) }
-{
-    write_number(b' ', u64::from(update), out)?;
-    write_number(b' ', u64::from(cell), out)
-}
-
-/// Appends where an organism came: the update, the cell and who stood there.
+/// Appends the mark of a line, and numbers behind it.
 #[tactic(auto, using(crate::proofs::KeptLemmas::keeps_front))]
-fn arrival(out: &mut Vec<u8>, update: u32, cell: u32, who: Option<u64>) -> Result<(), Memory>
-    ensures ok { OnOk result (out.new.items ≡ out.old.items
-        ++ words_text (decimal update ∷ decimal cell ∷ over_field.text who ∷ [])) }
+fn marked(out: &mut Vec<u8>, mark: u8, numbers: &[u64]) -> Result<(), Memory>
+    ensures ok { OnOk result (out.new.items ≡ out.old.items ++ mark ∷ numbers_text numbers.now) }
     ensures err { OnErr result (Keeps out.old.items out.new.items) }
 {
-    placed(out, update, cell)?;
-    over(out, who)
+    byte(out, mark)?;
+    write_numbers(numbers, out)
 }
 
 /// Appends the base and the changes of a birth, each behind a space. When memory runs out `out`
@@ -168,17 +172,6 @@ pub fn write_record(origin: &Origin, out: &mut Vec<u8>) -> Result<(), Memory>
     changes(out, &origin.changes)
 }
 
-/// Appends how many live, were born and died.
-fn turnover(out: &mut Vec<u8>, living: u64, births: u64, deaths: u64) -> Result<(), Memory>
-    ensures ok { OnOk result (out.new.items ≡ out.old.items
-        ++ words_text (decimal living ∷ decimal births ∷ decimal deaths ∷ [])) }
-    ensures err { OnErr result (Keeps out.old.items out.new.items) }
-{
-    write_number(b' ', living, out)?;
-    write_number(b' ', births, out)?;
-    write_number(b' ', deaths, out)
-}
-
 #[tactic(auto, using(crate::proofs::KeptLemmas::keeps_front))]
 fn start(
     out: &mut Vec<u8>,
@@ -192,24 +185,24 @@ fn start(
         ++ row_text (Start version width height cell (genome_spec.letters genome.now))) }
     ensures err { OnErr result (Keeps out.old.items out.new.items) }
 {
-    byte(out, b'L')?;
-    write_number(b' ', u64::from(version), out)?;
-    write_number(b' ', u64::from(width), out)?;
-    write_number(b' ', u64::from(height), out)?;
-    write_number(b' ', u64::from(cell), out)?;
+    let numbers = [
+        u64::from(version),
+        u64::from(width),
+        u64::from(height),
+        u64::from(cell),
+    ];
+    marked(out, b'L', &numbers)?;
     letters(out, genome)
 }
 
 /// Appends the line of a death or of a clearing, without its newline.
-#[tactic(auto, using(crate::proofs::KeptLemmas::keeps_front))]
 fn death(out: &mut Vec<u8>, mark: u8, id: u64, update: u32, cell: u32) -> Result<(), Memory>
     ensures ok { OnOk result (out.new.items ≡ out.old.items
         ++ form_text mark death_row (id, (update, cell))) }
     ensures err { OnErr result (Keeps out.old.items out.new.items) }
 {
-    byte(out, mark)?;
-    write_number(b' ', id, out)?;
-    placed(out, update, cell)
+    let numbers = [id, u64::from(update), u64::from(cell)];
+    marked(out, mark, &numbers)
 }
 
 #[tactic(auto, using(crate::proofs::KeptLemmas::keeps_front))]
@@ -226,10 +219,9 @@ fn birth(
         ++ row_text (Birth id parent update cell who (record_of origin.now))) }
     ensures err { OnErr result (Keeps out.old.items out.new.items) }
 {
-    byte(out, b'B')?;
-    write_number(b' ', id, out)?;
-    write_number(b' ', parent, out)?;
-    arrival(out, update, cell, who)?;
+    let numbers = [id, parent, u64::from(update), u64::from(cell)];
+    marked(out, b'B', &numbers)?;
+    over(out, who)?;
     write_record(origin, out)
 }
 
@@ -246,21 +238,30 @@ fn injected(
         ++ row_text (Injected id update cell who (genome_spec.letters genome.now))) }
     ensures err { OnErr result (Keeps out.old.items out.new.items) }
 {
-    byte(out, b'I')?;
-    write_number(b' ', id, out)?;
-    arrival(out, update, cell, who)?;
+    let numbers = [id, u64::from(update), u64::from(cell)];
+    marked(out, b'I', &numbers)?;
+    over(out, who)?;
     letters(out, genome)
 }
 
+/// Appends the name of a rate behind a space.
+fn named(out: &mut Vec<u8>, name: RateName) -> Result<(), Memory>
+    ensures ok { OnOk result (out.new.items ≡ out.old.items ++ spaced_word (rate_name.text name)) }
+    ensures err { OnErr result (Keeps out.old.items out.new.items) }
+{
+    byte(out, b' ')?;
+    text(out, name.name().as_bytes())
+}
+
+#[tactic(auto, using(crate::proofs::KeptLemmas::keeps_front))]
 fn rate(out: &mut Vec<u8>, update: u32, name: RateName, ppm: u32) -> Result<(), Memory>
     ensures ok { OnOk result (out.new.items ≡ out.old.items
         ++ row_text (Rate update name ppm)) }
     ensures err { OnErr result (Keeps out.old.items out.new.items) }
 {
-    byte(out, b'R')?;
-    write_number(b' ', u64::from(update), out)?;
-    byte(out, b' ')?;
-    text(out, name.name().as_bytes())?;
+    let numbers = [u64::from(update)];
+    marked(out, b'R', &numbers)?;
+    named(out, name)?;
     write_number(b' ', u64::from(ppm), out)
 }
 
@@ -270,11 +271,15 @@ fn count(out: &mut Vec<u8>, stats: &Stats) -> Result<(), Memory>
         ++ row_text (Count stats.now)) }
     ensures err { OnErr result (Keeps out.old.items out.new.items) }
 {
-    byte(out, b'U')?;
-    write_number(b' ', u64::from(stats.update), out)?;
-    turnover(out, stats.living, stats.births, stats.deaths)?;
-    write_number(b' ', stats.genotypes, out)?;
-    write_number(b' ', stats.merit, out)?;
+    let numbers = [
+        u64::from(stats.update),
+        stats.living,
+        stats.births,
+        stats.deaths,
+        stats.genotypes,
+        stats.merit,
+    ];
+    marked(out, b'U', &numbers)?;
     write_numbers(&stats.tasks, out)
 }
 
@@ -282,8 +287,8 @@ fn end(out: &mut Vec<u8>, updates: u32) -> Result<(), Memory>
     ensures ok { OnOk result (out.new.items ≡ out.old.items ++ row_text (End updates)) }
     ensures err { OnErr result (Keeps out.old.items out.new.items) }
 {
-    byte(out, b'E')?;
-    write_number(b' ', u64::from(updates), out)
+    let numbers = [u64::from(updates)];
+    marked(out, b'E', &numbers)
 }
 
 /// Appends the line without its newline.

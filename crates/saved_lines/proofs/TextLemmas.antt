@@ -3,9 +3,7 @@ use Rattle.std.proofs.Common.{◌≡◌, ℕ, ◌<◌, ◌∙◌, arith, refl, s
 use Rattle.instruction_set.specs.declared.letter.Letter.{Letter}
 use Rattle.instruction_set.specs.Letter.{byte_of}
 use Rattle.virtual_cpu.specs.declared.cpu_image.CpuImage.{CpuImage}
-use Rattle.std.specs.Prelude.{Result, Ok, Err, OnErr, OnOk}
-use Rattle.std.proofs.Math.Seq.{take-append_seam}
-use Rattle.log_lines.specs.Kept.{Keeps}
+use Rattle.std.specs.Prelude.{Result, Ok, Err, OnOk}
 use Rattle.log_lines.specs.LineText.{words_text}
 use Rattle.log_lines.proofs.KeptLemmas.{keeps_front}
 use Rattle.log_lines.proofs.TextLemmas.{words_text-append, words_text_more}
@@ -94,16 +92,7 @@ four_texts old a b c d =
     append_assoc ((old ++ a) ++ b) c d ∙ append_assoc (old ++ a) b (c ++ d)
     ∙ append_assoc old a (b ++ (c ++ d))
 
--- what grew begins as it did
-pub keeps_more : (old more : List ℕ) → Keeps old (old ++ more)
-keeps_more old more = record { front = take-append_seam old more }
-
 -- what follows on success
 pub OnOk_then : {A E : Type 0} (r : Result A E) {P Q : Type 0} → OnOk r P → (P → Q) → OnOk r Q
 OnOk_then (Ok a) p f = f p
 OnOk_then (Err e) p f = tt
-
--- what holds anyway holds on failure
-pub OnErr_of : {A E : Type 0} (r : Result A E) {P : Type 0} → P → OnErr r P
-OnErr_of (Ok a) p = tt
-OnErr_of (Err e) p = p

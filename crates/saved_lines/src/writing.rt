@@ -1,11 +1,13 @@
 // Writes the lines of a saved world, each into the bytes that it is given.
-ghost use Rattle.std.specs.Prelude.{◌≡◌, ◌∷◌, ◌++◌, [], map, take, decimal, OnOk, OnErr};
+ghost use Rattle.std.specs.Prelude.{◌≡◌, ◌∷◌, ◌++◌, [], map, take, Ok, OnOk, OnErr};
 ghost use Rattle.std.specs.Fmt.{signed_decimal};
 ghost use Rattle.instruction_set.specs.Letter.{byte_of};
 ghost use Rattle.log_lines.specs.Kept.{Keeps};
-ghost use Rattle.log_lines.specs.LineText.{words_text};
+ghost use Rattle.log_lines.specs.Kinds.{large};
+ghost use Rattle.log_lines.specs.LineText.{form_text, words_text};
+ghost use Rattle.log_lines.specs.Rows.{last};
 ghost use Rattle.saved_lines.specs.SavedFields.{digit_of, marks, nops_text, signed};
-ghost use Rattle.saved_lines.specs.SavedText.{count_text, flag_number, head_numbers, machine_numbers, machine_text, organism_numbers, organism_text, resident_text, saved_head_text, texts_of, texts_row};
+ghost use Rattle.saved_lines.specs.SavedText.{count_text, flag_number, head_numbers, head_row, machine_fields, machine_numbers, machine_row, organism_numbers, organism_text, resident_text, saved_head_text, texts_of, texts_row};
 ghost use Rattle.saved_lines.specs.SavedValues.{head_values, organism_values};
 
 use crate::resident::Resident;
@@ -23,16 +25,29 @@ fn flag_number(is_set: bool) -> u64
     if is_set { 1 } else { 0 }
 }
 
+/// A byte.
+fn byte(out: &mut Vec<u8>, value: u8) -> Result<(), Memory>
+    ensures ok { OnOk result (out.new.items ≡ out.old.items ++ value ∷ []) }
+    ensures err { OnErr result (out.new.items ≡ out.old.items) }
+{
+    match out.push(value) {
+        Ok(()) => Ok(()),
+        Err(_) => Err(Memory),
+    }
+}
+
 /// A signed number, behind a space.
 #[tactic(auto, using(crate::proofs::TextLemmas::fronts_stay))]
 fn integer(out: &mut Vec<u8>, number: i32) -> Result<(), Memory>
     ensures ok { OnOk result (out.new.items ≡ out.old.items ++ 32 ∷ signed_decimal number) }
     ensures err { OnErr result (Keeps out.old.items out.new.items) }
 {
+    byte(out, b' ')?;
     let mut digits = itoa::Buffer::new();
-    out.push(b' ')?;
-    out.extend_from_slice(digits.format(number).as_bytes())?;
-    Ok(())
+    match out.extend_from_slice(digits.format(number).as_bytes()) {
+        Ok(()) => Ok(()),
+        Err(_) => Err(Memory),
+    }
 }
 
 /// Signed numbers, each behind a space.
@@ -65,7 +80,7 @@ fn text(out: &mut Vec<u8>, letters: &[Letter]) -> Result<(), Memory>
     ensures ok { OnOk result (out.new.items ≡ out.old.items ++ 32 ∷ map byte_of letters.now) }
     ensures err { OnErr result (Keeps out.old.items out.new.items) }
 {
-    out.push(b' ')?;
+    byte(out, b' ')?;
     spelled(out, letters)
 }
 
@@ -93,7 +108,7 @@ fn places(out: &mut Vec<u8>, places: &[bool]) -> Result<(), Memory>
     ensures ok { OnOk result (out.new.items ≡ out.old.items ++ 32 ∷ marks.text places.now) }
     ensures err { OnErr result (Keeps out.old.items out.new.items) }
 {
-    out.push(b' ')?;
+    byte(out, b' ')?;
     digits(out, places)
 }
 
@@ -104,7 +119,7 @@ fn nop_letters(out: &mut Vec<u8>, nops: &Template) -> Result<(), Memory>
 {
     for at in 0..nops.len() {
         if let Some(nop) = nops.get(at) {
-            out.push(nop.byte())?;
+            byte(out, nop.byte())?;
         }
     }
     Ok(())
@@ -116,10 +131,9 @@ fn template(out: &mut Vec<u8>, nops: &Template) -> Result<(), Memory>
     ensures ok { OnOk result (out.new.items ≡ out.old.items ++ 32 ∷ nops_text nops.now) }
     ensures err { OnErr result (Keeps out.old.items out.new.items) }
 {
-    out.push(b' ')?;
+    byte(out, b' ')?;
     if nops.len() == 0 {
-        out.push(b'-')?;
-        return Ok(());
+        return byte(out, b'-');
     }
     nop_letters(out, nops)
 }
@@ -188,17 +202,15 @@ fn machine_numbers(image: &CpuImage) -> [u64; 6]
     ]
 }
 
-/// The line of a head.
+/// The line of a head, without its newline.
 #[tactic(auto, using(crate::proofs::TextLemmas::fronts_stay))]
 fn head(head: &StateHead, out: &mut Vec<u8>) -> Result<(), Memory>
     ensures ok { OnOk result (out.new.items
-        ≡ out.old.items ++ saved_head_text (head_values head.now)) }
+        ≡ out.old.items ++ form_text 83 head_row (head_numbers (head_values head.now))) }
     ensures err { OnErr result (Keeps out.old.items out.new.items) }
 {
-    out.push(b'S')?;
-    write_numbers(&head_numbers(head), out)?;
-    out.push(b'\n')?;
-    Ok(())
+    byte(out, b'S')?;
+    write_numbers(&head_numbers(head), out)
 }
 
 /// The line of an organism.
@@ -208,11 +220,10 @@ fn organism(resident: &Resident, out: &mut Vec<u8>) -> Result<(), Memory>
         ≡ out.old.items ++ organism_text (organism_values resident.now)) }
     ensures err { OnErr result (Keeps out.old.items out.new.items) }
 {
-    out.push(b'O')?;
+    byte(out, b'O')?;
     write_numbers(&organism_numbers(resident), out)?;
     text(out, resident.image.genome.letters())?;
-    out.push(b'\n')?;
-    Ok(())
+    byte(out, b'\n')
 }
 
 /// The four texts of a machine's line.
@@ -241,87 +252,88 @@ fn nops_and_stacks(image: &CpuImage, out: &mut Vec<u8>) -> Result<(), Memory>
     integers(out, &image.second)
 }
 
-/// The line of a machine.
+/// The line of a machine, without its newline.
 #[tactic(auto, using(crate::proofs::TextLemmas::fronts_stay))]
 fn machine(image: &CpuImage, out: &mut Vec<u8>) -> Result<(), Memory>
-    ensures ok { OnOk result (out.new.items ≡ out.old.items ++ machine_text image.now) }
+    ensures ok { OnOk result (out.new.items
+        ≡ out.old.items ++ form_text 77 machine_row (machine_fields image.now)) }
     ensures err { OnErr result (Keeps out.old.items out.new.items) }
 {
-    out.push(b'M')?;
+    byte(out, b'M')?;
     integers(out, &image.registers)?;
     write_numbers(&machine_numbers(image), out)?;
     nops_and_stacks(image, out)?;
-    texts(image, out)?;
-    out.push(b'\n')?;
-    Ok(())
+    texts(image, out)
 }
 
+/// The two lines of an organism, without the newline of the second.
 #[tactic(auto, using(crate::proofs::TextLemmas::fronts_stay))]
 fn resident(resident: &Resident, out: &mut Vec<u8>) -> Result<(), Memory>
     ensures ok { OnOk result (out.new.items
-        ≡ out.old.items ++ resident_text (organism_values resident.now) resident.now.image.cpu) }
+        ≡ out.old.items ++ (organism_text (organism_values resident.now)
+        ++ form_text 77 machine_row (machine_fields resident.now.image.cpu))) }
     ensures err { OnErr result (Keeps out.old.items out.new.items) }
 {
     organism(resident, out)?;
     machine(&resident.image.cpu, out)
 }
 
+/// The last line, without its newline.
 #[tactic(auto, using(crate::proofs::TextLemmas::fronts_stay))]
 fn count(organisms: u64, out: &mut Vec<u8>) -> Result<(), Memory>
-    ensures ok { OnOk result (out.new.items ≡ out.old.items ++ count_text organisms) }
+    ensures ok { OnOk result (out.new.items
+        ≡ out.old.items ++ form_text 90 (last large) organisms) }
     ensures err { OnErr result (Keeps out.old.items out.new.items) }
 {
-    out.push(b'Z')?;
-    write_number(b' ', organisms, out)?;
-    out.push(b'\n')?;
-    Ok(())
+    byte(out, b'Z')?;
+    write_number(b' ', organisms, out)
 }
 
-/// Takes back what an unfinished line has left behind a place.
-fn whole_or_nothing(
-    written: Result<(), Memory>,
-    start: usize,
-    out: &mut Vec<u8>,
-) -> Result<(), Memory>
-    ensures same { result ≡ written }
-    ensures ok { OnOk written (out.new.items ≡ out.old.items) }
-    ensures err { OnErr written (out.new.items ≡ take start out.old.items) }
+/// Ends a line that begins at this place, or takes back what was written of it.
+fn finish(line: Result<(), Memory>, start: usize, out: &mut Vec<u8>) -> Result<(), Memory>
+    ensures line { OnOk result (line ≡ Ok tt) }
+    ensures ok { OnOk result (out.new.items ≡ out.old.items ++ 10 ∷ []) }
+    ensures err { OnErr result (out.new.items ≡ take start out.old.items) }
 {
-    if written.is_err() {
-        out.truncate(start);
+    if line.is_ok() && byte(out, b'\n').is_ok() {
+        return Ok(());
     }
-    written
+    out.truncate(start);
+    Err(Memory)
 }
 
 /// Appends the first line of a saved world. When memory runs out `out` stays as it was.
+#[tactic(auto, unfolding(crate::specs::SavedText::saved_head_text))]
 pub fn write_head(state: &StateHead, out: &mut Vec<u8>) -> Result<(), Memory>
     ensures ok { OnOk result (out.new.items
         ≡ out.old.items ++ saved_head_text (head_values state.now)) }
     ensures err { OnErr result (out.new.items ≡ out.old.items) }
 {
     let start = out.len();
-    let written = head(state, out);
-    whole_or_nothing(written, start, out)
+    let line = head(state, out);
+    finish(line, start, out)
 }
 
 /// Appends the two lines of an organism. When memory runs out `out` stays as it was.
+#[tactic(auto, unfolding(crate::specs::SavedText::machine_text))]
 pub fn write_resident(who: &Resident, out: &mut Vec<u8>) -> Result<(), Memory>
     ensures ok { OnOk result (out.new.items
         ≡ out.old.items ++ resident_text (organism_values who.now) who.now.image.cpu) }
     ensures err { OnErr result (out.new.items ≡ out.old.items) }
 {
     let start = out.len();
-    let written = resident(who, out);
-    whole_or_nothing(written, start, out)
+    let lines = resident(who, out);
+    finish(lines, start, out)
 }
 
 /// Appends the last line of a saved world, with the number of its organisms. When memory runs out
 /// `out` stays as it was.
+#[tactic(auto, unfolding(crate::specs::SavedText::count_text))]
 pub fn write_count(organisms: u64, out: &mut Vec<u8>) -> Result<(), Memory>
     ensures ok { OnOk result (out.new.items ≡ out.old.items ++ count_text organisms) }
     ensures err { OnErr result (out.new.items ≡ out.old.items) }
 {
     let start = out.len();
-    let written = count(organisms, out);
-    whole_or_nothing(written, start, out)
+    let line = count(organisms, out);
+    finish(line, start, out)
 }

@@ -6,7 +6,7 @@ use Rattle.genome.specs.declared.genome.Genome.{Genome}
 use Rattle.log_lines.specs.LineText.{words_text}
 use Rattle.saved_lines.specs.SavedText.{organism_numbers, organism_text}
 use Rattle.saved_lines.specs.SavedValues.{organism_values}
-use Rattle.saved_lines.proofs.TextLemmas.{organism_made}
+use Rattle.saved_lines.proofs.TextLemmas.{OnOk_then, organism_made}
 use Rattle.saved_lines.proofs.writing.organism.Goals as goal
 
 pub returns-clause-ok : goal.returns-clause-ok
@@ -18,13 +18,13 @@ returns-clause-ok c =
     let letters = c.letters.result.now in
     let made : List ℕ → List Letter → List ℕ = λ ns ls.
     old ++ ((79 ∷ words_text (words ns ++ map byte_of ls ∷ [])) ++ 10 ∷ []) in
-    c.in_ok-push-2.ensures.items
+    OnOk_then c.byte-2.result c.byte-2.ensures.ok (λ last. last
     ∙ ap (λ (l : List ℕ). l ++ 10 ∷ []) (c.in_ok-text.ensures.ok
     ∙ ap (λ (l : List ℕ). l ++ 32 ∷ map byte_of letters) (c.in_ok-write_numbers.ensures.ok
-    ∙ ap (λ (l : List ℕ). l ++ words_text (words numbers)) c.in_ok-push.ensures.items))
+    ∙ ap (λ (l : List ℕ). l ++ words_text (words numbers)) c.in_ok-byte.ensures.ok))
     ∙ organism_made old (words numbers) (map byte_of letters)
     ∙ ap (λ (ns : List ℕ). made ns letters) c.organism_numbers.ensures
     ∙ ap (λ (ls : List Letter). made (organism_numbers (organism_values c.args.resident.now)) ls)
     c.letters.ensures.letters
     ∙ ap (λ (g : Genome). made (organism_numbers (organism_values c.args.resident.now))
-    (genome_spec.letters g)) c.deref.ensures
+    (genome_spec.letters g)) c.deref.ensures)

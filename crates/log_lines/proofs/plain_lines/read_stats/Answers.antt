@@ -5,7 +5,7 @@ use Rattle.log_lines.specs.Kinds.{large, small}
 use Rattle.log_lines.specs.Rows.{times, ◌◂◌}
 use Rattle.log_lines.specs.Words.{words_of}
 use Rattle.log_lines.proofs.TimesLemmas.{both_read}
-use Rattle.log_lines.proofs.reading.read_stats.Goals as goal
+use Rattle.log_lines.proofs.plain_lines.read_stats.Goals as goal
 
 -- the words that are left
 abbrev words : Option (Bor (List ℕ)) → List (List ℕ)

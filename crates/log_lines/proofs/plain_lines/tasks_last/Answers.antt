@@ -5,7 +5,7 @@ use Rattle.numerals.specs.Numeral.{number_of}
 use Rattle.log_lines.specs.Words.{words_of}
 use Rattle.log_lines.proofs.WordLemmas.{split_some}
 use Rattle.log_lines.proofs.TimesLemmas.{HasRead, front_more, read_more, read_all, read_too_many}
-use Rattle.log_lines.proofs.reading.tasks_last.Goals as goal
+use Rattle.log_lines.proofs.plain_lines.tasks_last.Goals as goal
 
 pub loop-at-preserved : goal.loop-at-preserved
 loop-at-preserved c =

@@ -3,7 +3,7 @@ use Rattle.std.specs.Prelude.{option_copied}
 use Rattle.numerals.specs.Numeral.{number_of}
 use Rattle.log_lines.specs.Words.{words_of}
 use Rattle.log_lines.proofs.TimesLemmas.{HasRead}
-use Rattle.log_lines.proofs.reading.tasks_last.Given as goal
+use Rattle.log_lines.proofs.plain_lines.tasks_last.Given as goal
 
 abbrev pub invariant-loop-at : goal.invariant-loop-at
 invariant-loop-at l = record {

@@ -1,0 +1,207 @@
+-- Reading a row in two steps: its first fields, and then the row behind them.
+use Rattle.std.proofs.Common.{◌≡◌, ℕ, List, [], ◌∷◌, Option, Some, None, refl, ap, ◌∙◌}
+use Rattle.std.specs.Prelude.{option_and_then, option_map}
+use Rattle.instruction_set.specs.declared.letter.Letter.{Letter}
+use Rattle.mutations.specs.declared.change.Change.{Change}
+use Rattle.log_lines.specs.declared.reading.Arrival.{Arrival}
+use Rattle.log_lines.specs.declared.reading.Newborn.{Newborn}
+use Rattle.log_lines.specs.declared.reading.Opening.{Opening}
+use Rattle.log_lines.specs.Line.{Line}
+use Rattle.log_lines.specs.Fields.{number, genome_of_word}
+use Rattle.log_lines.specs.Forms.{birth_form, start_form}
+use Rattle.log_lines.specs.Kinds.{small, large, over_field, record_row, side}
+use Rattle.log_lines.specs.LineReading.{read_as}
+use Rattle.log_lines.specs.Rows.{read_both, read_last}
+use Rattle.log_lines.specs.Words.{read_arrival, read_first, read_height, read_newborn, read_opening, read_parent, read_place, read_then, read_width}
+
+-- the words that are left of a line
+abbrev pub Left : Type 0
+Left = List (List ℕ)
+
+-- two values
+abbrev pair : {A B : Type 0} → A → B → A × B
+pair a b = (a, b)
+
+-- what is read of the first fields, with what is read of the words behind them
+abbrev pub with_behind :
+    {A B C : Type 0} → (A → B → C) → (Left → Option B) → Option (A × Left) → Option C
+with_behind make behind found = option_and_then (λ (a, left). option_map (make a) (behind left)) found
+
+-- the row is read by reading its first fields, and then the row behind them
+abbrev pub Begins :
+    {A B C : Type 0} → (Left → Option C) → (Left → Option (A × Left)) → (Left → Option B)
+    → (A → B → C) → Type 0
+Begins row first behind make = (words : Left) → with_behind make behind (first words) ≡ row words
+
+-- one field that was read, or not
+one_field : {A B : Type 0} (behind : Left → Option B) (words : Left) (found : Option A)
+    → with_behind pair behind (option_map (λ a. (a, words)) found)
+    ≡ option_and_then (λ a. option_map (λ b. (a, b)) (behind words)) found
+one_field behind words None = refl
+one_field behind words (Some a) = refl
+
+-- a row begins with its first field
+begins_one : {A B : Type 0} (read : List ℕ → Option A) (behind : Left → Option B)
+    → Begins (read_both read behind) (read_first read) behind pair
+begins_one read behind [] = refl
+begins_one read behind (word ∷ words) = one_field behind words (read word)
+
+module _ {A B C D E : Type 0} (read : List ℕ → Option A) (row : Left → Option D)
+    (first : Left → Option (B × Left)) (behind : Left → Option C) (make : B → C → D)
+    (put : A → B → E) (all : E → C → A × D)
+    (is : (a : A) (b : B) (c : C) → all (put a b) c ≡ pair a (make b c)) where
+  -- the row behind was read, or not
+  at_last : (a : A) (b : B) (found : Option C)
+      → option_map (all (put a b)) found ≡ option_map (pair a) (option_map (make b) found)
+  at_last a b None = refl
+  at_last a b (Some c) = ap (λ (p : A × D). Some p) (is a b c)
+
+  -- the first fields behind one were read, or not
+  at_next : (a : A) (found : Option (B × Left))
+      → with_behind all behind (option_map (λ (b, left). (put a b, left)) found)
+      ≡ option_map (pair a) (with_behind make behind found)
+  at_next a None = refl
+  at_next a (Some p) = at_last a p.0 (behind p.1)
+
+  -- the field in front was read, or not
+  at_first : (words : Left) (found : Option A) → with_behind make behind (first words) ≡ row words
+      → with_behind all behind
+      (option_and_then (λ (a, left). option_map (λ (b, rest). (put a b, rest)) (first left))
+      (option_map (λ a. (a, words)) found))
+      ≡ option_and_then (λ a. option_map (λ d. (a, d)) (row words)) found
+  at_first words None begins = refl
+  at_first words (Some a) begins =
+      at_next a (first words) ∙ ap (λ (o : Option D). option_map (pair a) o) begins
+
+  -- one field more in front
+  begins_more : Begins row first behind make
+      → Begins (read_both read row) (read_then read first put) behind all
+  begins_more begins [] = refl
+  begins_more begins (word ∷ words) = at_first words (read word) (begins words)
+
+module _ {A B C : Type 0} (row : Left → Option C) (first : Left → Option (A × Left))
+    (behind : Left → Option B) (make : A → B → C) (line : C → Line)
+    (begins : Begins row first behind make) where
+  -- first fields that are not readable
+  none_first : (words : Left) → None ≡ first words → None ≡ option_map line (row words)
+  none_first words none =
+      ap (λ (o : Option (A × Left)). option_map line (with_behind make behind o)) none
+      ∙ ap (λ (o : Option C). option_map line o) (begins words)
+
+  -- first fields that are read, and the row behind them
+  some_first : (words left : Left) (a : A) (found : Option B) → Some (a, left) ≡ first words
+      → found ≡ behind left
+      → option_map line (option_map (make a) found) ≡ option_map line (row words)
+  some_first words left a found some is =
+      ap (λ (o : Option B). option_map line (option_map (make a) o)) is
+      ∙ ap (λ (o : Option (A × Left)). option_map line (with_behind make behind o)) some
+      ∙ ap (λ (o : Option C). option_map line o) (begins words)
+
+-- ---- a row behind an arrival
+
+-- an update with a cell and who stood there
+abbrev put_arrival : ℕ → ℕ × Option ℕ → Arrival
+put_arrival update (cell, over) = record { update = update; cell = cell; over = over }
+
+-- the fields of a cell, who stood there and a row behind them
+abbrev place_fields : {B : Type 0} → ℕ × Option ℕ → B → ℕ × (Option ℕ × B)
+place_fields (cell, over) b = (cell, (over, b))
+
+-- the fields of an arrival and a row behind it
+abbrev arrival_fields : {B : Type 0} → Arrival → B → ℕ × (ℕ × (Option ℕ × B))
+arrival_fields arrival b = (arrival.update, (arrival.cell, (arrival.over, b)))
+
+-- a row behind an arrival is read after it
+arrival_begins : {B : Type 0} (behind : Left → Option B)
+    → Begins (read_both small.read (read_both small.read (read_both over_field.read behind)))
+    read_arrival behind arrival_fields
+arrival_begins behind =
+    begins_more small.read (read_both small.read (read_both over_field.read behind)) read_place
+    behind place_fields put_arrival arrival_fields (λ a b c. refl)
+    (begins_more small.read (read_both over_field.read behind) (read_first over_field.read) behind
+    pair pair place_fields (λ a b c. refl) (begins_one over_field.read behind))
+
+-- ---- a birth
+
+-- the record of a birth
+abbrev pub Record : Type 0
+Record = Option (List Letter) × List Change
+
+-- an id with a parent and an arrival
+abbrev put_newborn : ℕ → ℕ × Arrival → Newborn
+put_newborn id (parent, arrival) = record { id = id; parent = parent; arrival = arrival }
+
+-- the fields of a parent, an arrival and a record
+abbrev parent_fields : ℕ × Arrival → Record → ℕ × (ℕ × (ℕ × (Option ℕ × Record)))
+parent_fields (parent, arrival) birth = (parent, arrival_fields arrival birth)
+
+-- the fields of a birth
+abbrev birth_fields : Newborn → Record → ℕ × (ℕ × (ℕ × (ℕ × (Option ℕ × Record))))
+birth_fields n birth = (n.id, (n.parent, arrival_fields n.arrival birth))
+
+-- the row of a birth's line begins with what stands before the record
+birth_begins : Begins birth_form.row.read read_newborn record_row.read birth_fields
+birth_begins =
+    let behind = record_row.read in
+    let placed = read_both small.read (read_both small.read (read_both over_field.read behind)) in
+    begins_more large.read (read_both large.read placed) read_parent behind parent_fields
+    put_newborn birth_fields (λ a b c. refl)
+    (begins_more large.read placed read_arrival behind arrival_fields pair parent_fields
+    (λ a b c. refl) (arrival_begins behind))
+
+-- no birth, where what stands before the record is not readable
+pub birth_none : (words : Left) → None ≡ read_newborn words → None ≡ read_as birth_form words
+birth_none words none = none_first birth_form.row.read read_newborn record_row.read birth_fields
+    birth_form.line birth_begins words none
+
+-- a birth with the record that is read, or none
+pub birth_some : (words left : Left) (n : Newborn) (found : Option Record)
+    → Some (n, left) ≡ read_newborn words → found ≡ record_row.read left
+    → option_map birth_form.line (option_map (birth_fields n) found) ≡ read_as birth_form words
+birth_some words left n found some is =
+    some_first birth_form.row.read read_newborn record_row.read birth_fields birth_form.line
+    birth_begins words left n found some is
+
+-- ---- a first line
+
+-- a version with a width, a height and a cell
+abbrev put_opening : ℕ → ℕ × (ℕ × ℕ) → Opening
+put_opening version (width, (height, cell)) =
+    record { version = version; width = width; height = height; cell = cell }
+
+-- the fields of a height, a cell and a genome
+abbrev height_fields : ℕ × ℕ → List Letter → ℕ × (ℕ × List Letter)
+height_fields (height, cell) genome = (height, (cell, genome))
+
+-- the fields of a width, a height, a cell and a genome
+abbrev width_fields : ℕ × (ℕ × ℕ) → List Letter → ℕ × (ℕ × (ℕ × List Letter))
+width_fields (width, (height, cell)) genome = (width, (height, (cell, genome)))
+
+-- the fields of a first line
+abbrev start_fields : Opening → List Letter → ℕ × (ℕ × (ℕ × (ℕ × List Letter)))
+start_fields o genome = (o.version, (o.width, (o.height, (o.cell, genome))))
+
+-- the row of a first line begins with what stands before the genome
+start_begins : Begins start_form.row.read read_opening (read_last genome_of_word) start_fields
+start_begins =
+    let behind = read_last genome_of_word in
+    let from_height = read_both side.read (read_both small.read behind) in
+    begins_more (number 1 2).read (read_both side.read from_height) read_width behind width_fields
+    put_opening start_fields (λ a b c. refl)
+    (begins_more side.read from_height read_height behind height_fields pair width_fields
+    (λ a b c. refl)
+    (begins_more side.read (read_both small.read behind) (read_first small.read) behind pair pair
+    height_fields (λ a b c. refl) (begins_one small.read behind)))
+
+-- no first line, where what stands before the genome is not readable
+pub start_none : (words : Left) → None ≡ read_opening words → None ≡ read_as start_form words
+start_none words none = none_first start_form.row.read read_opening (read_last genome_of_word)
+    start_fields start_form.line start_begins words none
+
+-- a first line with the genome that is read, or none
+pub start_some : (words left : Left) (o : Opening) (found : Option (List Letter))
+    → Some (o, left) ≡ read_opening words → found ≡ read_last genome_of_word left
+    → option_map start_form.line (option_map (start_fields o) found) ≡ read_as start_form words
+start_some words left o found some is =
+    some_first start_form.row.read read_opening (read_last genome_of_word) start_fields
+    start_form.line start_begins words left o found some is
