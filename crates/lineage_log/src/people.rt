@@ -1,5 +1,5 @@
 // The genomes of those who live, and of those who died in this update.
-ghost use Rattle.std.specs.Prelude.{◌≡◌, ◌<◌, ◌^◌, ◌++◌, ◌∷◌, [], None, Some, OnErr, OnOk, length, slice_get, slice_set, option_and_then, option_map};
+ghost use Rattle.std.specs.Prelude.{◌≡◌, ◌<◌, ◌^◌, ◌++◌, ◌∷◌, [], None, Some, IfOk, OnErr, OnOk, length, slice_get, slice_set, option_and_then, option_map};
 ghost use Rattle.genome.specs.Genome.{letters};
 ghost use Rattle.lineage_log.specs.People.{without};
 
@@ -27,12 +27,16 @@ impl Model for People {
 }
 
 impl People {
-    pub fn none(alloc: Global) -> People
-        ensures { result ≡ [] }
+    /// The founder's genome, with id 0.
+    pub fn with_one(alloc: Global, genome: &Genome) -> Result<People, Memory>
+        ensures { IfOk result (λ people. people ≡ Some (letters genome.now) ∷ []) }
     {
-        People {
+        let founder = shared_copy(alloc, genome)?;
+        let mut people = People {
             genomes: Vec::new(alloc),
-        }
+        };
+        people.push(founder)?;
+        Ok(people)
     }
 
     pub fn len(&self) -> usize
@@ -76,4 +80,12 @@ impl People {
             self.forget(*id);
         }
     }
+}
+
+/// A genome of its own, which may be shared.
+pub fn shared_copy(alloc: Global, genome: &Genome) -> Result<Rc<Genome>, Memory>
+    ensures { IfOk result (λ shared. letters shared.value ≡ letters genome.now) }
+{
+    let copy = genome.copy(alloc)?;
+    Ok(Rc::new(alloc, copy)?)
 }

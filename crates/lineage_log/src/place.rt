@@ -49,10 +49,7 @@ fn tell_first(alloc: Global, line: &LogLine) -> Result<Reader, Refusal>
             height,
             cell,
             genome,
-        } => {
-            let founder = genome.copy(alloc)?;
-            Reader::open(alloc, *version, *width, *height, *cell, founder)
-        }
+        } => Reader::open(alloc, *version, *width, *height, *cell, genome),
         _ => Err(OUT_OF_ORDER),
     }
 }

@@ -8,7 +8,7 @@ ghost use Rattle.lineage_log.specs.Reader.{is_quiet, may_be_born, may_die, paren
 ghost use Rattle.lineage_log.specs.Order.{told_birth, told_cleared, told_count, told_death, told_end, told_injected, told_rate, told_start, may_happen, at_next_update, told_within, After};
 
 use crate::child::child_of_shared;
-use crate::people::People;
+use crate::people::{People, shared_copy};
 use crate::reason::Reason;
 use crate::refusal::{OUT_OF_ORDER, Refusal};
 use crate::slots::Slots;
@@ -75,17 +75,16 @@ impl Reader {
         width: u32,
         height: u32,
         cell: u32,
-        genome: Genome,
+        genome: &Genome,
     ) -> Result<Reader, Refusal>
-        ensures { TellsReader result (told_start version width height cell (letters genome)) }
+        ensures { TellsReader result (told_start version width height cell (letters genome.now)) }
     {
         let cells = u64::from(width) * u64::from(height);
         if u64::from(cell) >= cells {
             return Err(OUT_OF_ORDER);
         }
+        let people = People::with_one(alloc, genome)?;
         let standing = Slots::with_one(alloc, cells as usize, cell as usize, 0)?;
-        let mut people = People::none(alloc);
-        people.push(Rc::new(alloc, genome)?)?;
         Ok(Reader {
             version,
             due: 1,
@@ -141,11 +140,11 @@ impl Reader {
             ≡ reader_with_newcomer (reader_of self.old) stage cell over
             (letters genome.value) births) }
     {
-        if let Some(id) = over {
-            self.leaving.push(id)?;
-        }
         let id = self.people.len() as u64;
         self.people.push(genome)?;
+        if let Some(over) = over {
+            self.leaving.push(over)?;
+        }
         self.standing.set(cell, Some(id));
         self.stage = stage;
         self.births = births;
@@ -249,20 +248,15 @@ impl Reader {
         update: u32,
         cell: u32,
         over: Option<u64>,
-        genome: Genome,
+        genome: &Genome,
     ) -> Result<(), Refusal>
         ensures { Tells result (reader_of self.new)
-            (told_injected (reader_of self.old) id update cell over (letters genome)) }
+            (told_injected (reader_of self.old) id update cell over (letters genome.now)) }
     {
         if self.may_happen(update) && self.may_come(id, cell, over) {
+            let genome = shared_copy(alloc, genome)?;
             let births = self.births;
-            self.add(
-                Stage::Happening,
-                cell,
-                over,
-                Rc::new(alloc, genome)?,
-                births,
-            )?;
+            self.add(Stage::Happening, cell, over, genome, births)?;
             Ok(())
         } else {
             Err(OUT_OF_ORDER)
@@ -338,7 +332,7 @@ impl Reader {
                 cell,
                 over,
                 genome,
-            } => self.injected(alloc, *id, *update, *cell, *over, genome.copy(alloc)?),
+            } => self.injected(alloc, *id, *update, *cell, *over, genome),
             LogLine::Cleared { id, update, cell } => self.cleared(*id, *update, *cell),
             LogLine::Rate { update, .. } => self.rate(*update),
             LogLine::Count(stats) => self.count(stats),
