@@ -1,6 +1,6 @@
 -- The different ones of some genomes, as they come one after another.
 use Rattle.std.proofs.Common.{◌≡◌, ◌≢◌, ◌⊎◌, refl, sym, ◌∙◌, ap, subst, inl, inr, ⊎_elim, true≢false, arith, ℕ, Bool, true, false, cond, not, ◌||◌, List, [], ◌∷◌, ◌++◌, map, Contains, Option, append-nil, append_assoc, zero, suc, Some, slice_get, length, length-append, get_or, ◌+◌, ◌<◌}
-use Rattle.std.specs.Prelude.{AllPairs, nat_lt}
+use Rattle.std.specs.Prelude.{◌↔◌, AllPairs, nat_lt}
 use Rattle.std.proofs.lemmas.Bool.{lt-ltb, le-ltb}
 use Rattle.std.specs.Cmp.{IsEquivalence}
 use mathlib.Core.Logic.{dite}
@@ -385,16 +385,22 @@ module _ (one_list : OneList) where
       (get_or_from_slice_get xs j x x b ∙ sym (get_or_from_slice_get xs i x x a))))
       (λ le. omega arith))
 
+  -- in a list that has each genome once, two places are equal exactly where the genomes are
+  pub one_number : (bank genomes : List Letters) (number other : ℕ) (genome twin : Letters)
+      → HasEachOnce bank genomes → slice_get bank number ≡ Some genome
+      → slice_get bank other ≡ Some twin → (number ≡ other) ↔ (genome ≡ twin)
+  one_number bank genomes number other genome twin has a b = (
+    (λ (is : number ≡ other). let e : Some genome ≡ Some twin =
+        sym a ∙ (ap (slice_get bank) is ∙ b) in cc),
+    (λ (is : genome ≡ twin). one_place bank has.once number other genome a (b ∙ ap Some (sym is))),
+  )
+
   -- two prefixes of one history number genomes alike
   pub numbers_agree : NumbersAgree
   numbers_agree early late history number other genome twin p q a b =
-      let x = slice_get-begins (genotypes_of early) (genotypes_of history) number genome
-      (genotypes_of-begins early history p) a in
-      let y = slice_get-begins (genotypes_of late) (genotypes_of history) other twin
-      (genotypes_of-begins late history q) b in (
-        (λ (is : number ≡ other). let e : Some genome ≡ Some twin =
-            sym x ∙ (ap (slice_get (genotypes_of history)) is ∙ y) in cc),
-        (λ (is : genome ≡ twin). one_place (genotypes_of history)
-            (AreApart-different_of (genomes_of history)) number other genome x
-            (y ∙ ap Some (sym is))),
-      )
+      one_number (genotypes_of history) (genomes_of history) number other genome twin
+      (HasEachOnce-different_of (genomes_of history))
+      (slice_get-begins (genotypes_of early) (genotypes_of history) number genome
+      (genotypes_of-begins early history p) a)
+      (slice_get-begins (genotypes_of late) (genotypes_of history) other twin
+      (genotypes_of-begins late history q) b)

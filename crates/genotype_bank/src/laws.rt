@@ -1,5 +1,5 @@
 // What the numbers of genomes mean.
-ghost use Rattle.std.specs.Prelude.{◌≡◌, ◌+◌, ◌++◌, ◌∷◌, [], List, Some, if◌then◌else◌, length, nat_lt, slice_get, ℕ};
+ghost use Rattle.std.specs.Prelude.{◌≡◌, ◌↔◌, ◌+◌, ◌++◌, ◌∷◌, [], List, Some, if◌then◌else◌, length, nat_lt, slice_get, ℕ};
 ghost use Rattle.std.specs.List.Sorted.{IsPermutation};
 ghost use mathlib.Core.List.{IsPrefix};
 ghost use Rattle.instruction_set.specs.declared.letter.Letter.{Letter};
@@ -13,6 +13,18 @@ use instruction_set::laws::one_index;
 /// Numbers that two seats of one bank were given are equal exactly where the genomes are.
 pub fn numbers_agree()
     ensures { NumbersAgree }
+{
+    one_index();
+}
+
+/// In a list that has each genome once, as that of a bank has, two numbers are equal exactly where
+/// the genomes are.
+pub fn each_genome_has_one_number()
+    ensures { (bank genomes : List (List Letter)) (number other : ℕ) (genome twin : List Letter) →
+        HasEachOnce bank genomes →
+        slice_get bank number ≡ Some genome →
+        slice_get bank other ≡ Some twin →
+        (number ≡ other) ↔ (genome ≡ twin) }
 {
     one_index();
 }

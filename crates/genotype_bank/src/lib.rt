@@ -14,4 +14,3 @@ mod view;
 pub use bank::{Bank, Genomes};
 pub use handle::Handle;
 pub use seat::Seat;
-pub use view::{Call, Entry};
