@@ -1,5 +1,5 @@
 // What was published, in the hands of the one who writes.
-ghost use Rattle.std.specs.Prelude.{◌≡◌, ◌+◌, ◌<◌, ◌^◌, ◌++◌, [], ◌∷◌, IfOk, IfSome, OnErr, OnOk, Some, length};
+ghost use Rattle.std.specs.Prelude.{◌≡◌, ◌+◌, ◌<◌, ◌^◌, ◌++◌, [], ◌∷◌, IfOk, OnErr, OnOk, Some, length};
 ghost use Rattle.left_right.specs.Sides.{view};
 ghost use Rattle.published_world.specs.PublicationHistory.{IsPublication, MayFollow, last_of};
 ghost use Rattle.published_world.specs.Rule.{MayWrite, newcomer, seen_at};
@@ -43,13 +43,13 @@ where
         (known h.writer.desk.place) };
 }
 
-/// A reader that has seen nothing. There is none where each place is in use.
-fn new_reader<P: Picture>(writer: &PictureWriter<P>) -> Option<PictureReader<P>>
-    ensures view { IfSome result (λ reader. view reader.place ≡ newcomer) }
-    ensures table { IfSome result
+/// A reader that has seen nothing. There is none while each place is in use.
+fn new_reader<P: Picture>(writer: &PictureWriter<P>) -> Result<PictureReader<P>, Memory>
+    ensures view { IfOk result (λ reader. view reader.place ≡ newcomer) }
+    ensures table { IfOk result
         (λ reader. reader.place.table_id ≡ writer.now.desk.place.table_id) }
 {
-    writer.factory().reader().ok()
+    Ok(writer.factory().reader()?)
 }
 
 /// Shows a picture and a count that is one more. After an error the same is shown as before.
@@ -94,21 +94,23 @@ impl<P: Picture> History<P> {
         self.writer.published().count
     }
 
-    /// A reader that has seen nothing, whose place a sight may have. There is none where each place
+    /// A reader that has seen nothing, whose place a sight may have. There is none while each place
     /// is in use.
-    pub fn room(&self) -> Option<PictureReader<P>> {
+    pub fn room(&self) -> Result<PictureReader<P>, Memory>
+        ensures { IfOk result (λ reader. view reader.place ≡ newcomer) }
+    {
         new_reader(&self.writer)
     }
 
-    /// A new reader that has seen the whole history. There is none where each place is in use.
-    pub fn reader(&mut self) -> Option<PictureReader<P>>
+    /// A new reader that has seen the whole history. There is none while each place is in use.
+    pub fn reader(&mut self) -> Result<PictureReader<P>, Memory>
         ensures history { self.new ≡ self.old }
-        ensures reader { IfSome result (λ reader. seen_at reader.place ≡ self.old) }
+        ensures reader { IfOk result (λ reader. seen_at reader.place ≡ self.old) }
         ensures publication { IsPublication P.number P.of self.new }
     {
         let mut reader = new_reader(&self.writer)?;
         reader.learn::<Learn>(self.writer.tell::<Tell>());
-        Some(reader)
+        Ok(reader)
     }
 
     /// A sight of the whole history, whose last picture is handed in, and a reader that gives up
@@ -124,7 +126,7 @@ impl<P: Picture> History<P> {
             count: self.count(),
         };
         for _ in rt.forever() {
-            if let Some(reader) = self.reader() {
+            if let Ok(reader) = self.reader() {
                 return Sight::new(last, reader);
             }
         }

@@ -6,6 +6,7 @@ use crate::history::History;
 use crate::note::Note;
 use crate::observer::Observer;
 use crate::picture::Picture;
+use crate::reading::PictureReader;
 use crate::shown::Shown;
 use crate::sight::Sight;
 use avida_port::Memory;
@@ -70,6 +71,40 @@ impl<P: Picture> Publisher<P> {
     }
 }
 
+/// What a note of a picture takes: the picture itself, and a reader that gives up its place for it.
+fn place_for<P: Picture>(
+    history: &History<P>,
+    picture: &Arc<P>,
+) -> Result<(PictureReader<P>, Arc<P>), Memory>
+    ensures { IfOk result (λ made. made.1.value ≡ picture.now.value) }
+{
+    let room = history.room()?;
+    Ok((room, Arc::try_clone(picture)?))
+}
+
+/// Appends a picture whose note has a place, and gives the note.
+fn append_noted<P: Picture, R: Wait>(
+    rt: &R,
+    history: History<P>,
+    next: Arc<P>,
+    last: Arc<P>,
+    room: PictureReader<P>,
+) -> (History<P>, Result<Note<P>, Memory>)
+    requires may { MayFollow P.number P.of history next.value }
+    requires last { last.value ≡ next.value }
+    ensures ok { IfOk result.1 (λ _. result.0 ≡ history ++ next.value ∷ []) }
+    ensures note { IfOk result.1 (λ note. note ≡ result.0) }
+    ensures err { OnErr result.1 (result.0 ≡ history) }
+    ensures publication { IsPublication P.number P.of result.0 }
+{
+    let (mut history, appended) = history.append(rt, next);
+    if appended.is_err() {
+        return (history, Err(Memory));
+    }
+    let sight = history.sight(rt, last, room);
+    (history, Ok(Note { sight }))
+}
+
 /// Appends a picture, and gives a note of it.
 fn append<P: Picture, R: Wait>(
     rt: &R,
@@ -82,19 +117,10 @@ fn append<P: Picture, R: Wait>(
     ensures err { OnErr result.1 (result.0 ≡ history) }
     ensures publication { IsPublication P.number P.of result.0 }
 {
-    let Ok(last) = Arc::try_clone(&next) else {
-        return (history, Err(Memory));
-    };
-    // The note needs a place for its reader.
-    let Some(room) = history.room() else {
-        return (history, Err(Memory));
-    };
-    let (mut history, appended) = history.append(rt, next);
-    if appended.is_err() {
-        return (history, Err(Memory));
+    match place_for(&history, &next) {
+        Ok((room, last)) => append_noted(rt, history, next, last, room),
+        Err(stop) => (history, Err(stop)),
     }
-    let sight = history.sight(rt, last, room);
-    (history, Ok(Note { sight }))
 }
 
 // How many notes may be held at a time, beside the observers.
@@ -194,8 +220,6 @@ fn observer<P: Picture>(history: &mut History<P>, first: &Arc<P>) -> Result<Obse
         picture: Arc::try_clone(first)?,
         count: 1,
     };
-    let Some(reader) = history.reader() else {
-        return Err(Memory);
-    };
+    let reader = history.reader()?;
     Ok(Observer::new(Sight::new(last, reader)))
 }

@@ -4,8 +4,8 @@ use Rattle.published_world.proofs.history.History.sight.Goals as goal
 
 pub new-requires : goal.new-requires
 new-requires g c =
-    let whole = c.in-Some-reader.ensures.reader ∙ c.loop.invariant.2 in
-    let same = c.reader.ensures.history ∙ sym c.in-Some-reader.ensures.reader in record {
+    let whole = c.in-Ok.ensures.reader ∙ c.loop.invariant.2 in
+    let same = c.reader.ensures.history ∙ sym c.in-Ok.ensures.reader in record {
       length_is = ap length whole ∙ sym c.count.ensures;
       last_is = ap last_of whole ∙ c.requires;
       publication =
