@@ -7,7 +7,7 @@ use Rattle.genotype_bank.specs.BankHistory.{entry, genotypes_of}
 use Rattle.genotype_bank.specs.Seats.{MakesCall, SeatValue, own_calls_of}
 use Rattle.genotype_bank.specs.declared.view.Call.{Call}
 use Rattle.genotype_bank.specs.declared.view.Entry.{Entry}
-use Rattle.world_rules.specs.Update.{Delivery}
+use Rattle.organism.specs.Newborns.{NewbornValue}
 use Rattle.cell_shards.specs.Finishing.{HasInterned, IsNumbered, birth_of, call_for, genome_in}
 use Rattle.cell_shards.specs.declared.delivered.Delivered.{Delivered}
 
@@ -28,8 +28,8 @@ IsPrefix-trans xs ys zs a b =
     (a.0 ++ b.0, sym (append_assoc xs a.0 b.0) ∙ ap (λ l. l ++ b.0) a.1 ∙ b.1)
 
 -- one newborn more, of those that are left
-pub births-more : (deliveries next : List Delivered) (d : Delivered) (birth : Delivery)
-    (rest left : List Delivery) → next ≡ deliveries ++ d ∷ [] → birth_of d ≡ birth
+pub births-more : (deliveries next : List Delivered) (d : Delivered) (birth : ℕ × NewbornValue)
+    (rest left : List (ℕ × NewbornValue)) → next ≡ deliveries ++ d ∷ [] → birth_of d ≡ birth
     → left ≡ birth ∷ rest → map birth_of next ++ rest ≡ map birth_of deliveries ++ left
 births-more deliveries next d birth rest left is same taken =
     ap (λ ds. map birth_of ds ++ rest) is

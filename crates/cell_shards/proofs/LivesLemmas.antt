@@ -1,5 +1,5 @@
 -- One more cell that has lived.
-use Rattle.std.proofs.Common.{◌≡◌, ◌∙◌, ap, refl, sym, subst, ℕ, ◌+◌, ◌<◌, Bool, cond, Option, None, Some, List, [], ◌∷◌, ◌++◌, length, map, drop, set, get_or, All, arith, append-nil, append_assoc}
+use Rattle.std.proofs.Common.{◌≡◌, ◌∙◌, ap, sym, subst, ℕ, ◌+◌, ◌<◌, Bool, Option, None, Some, List, [], ◌∷◌, ◌++◌, length, map, drop, set, get_or, All, arith, append-nil, append_assoc}
 use Rattle.std.specs.List.{range_with_len}
 use Rattle.std.proofs.lemmas.List.{map-append, length-map, get_or_at, set_at, drop_more, drop_all}
 use Rattle.std.proofs.lemmas.List.FromFn.{length-map-range_with_len, map-range_with_len_more}
@@ -10,16 +10,17 @@ use Rattle.organism.specs.Lived.{beginning}
 use Rattle.organism.specs.Newborns.{NewbornValue}
 use Rattle.organism.specs.OrganismState.{OrganismState}
 use Rattle.organism.specs.UpdateLife.{LifeState, is_death, life}
-use Rattle.world_rules.specs.Lives.{CellLife, cell_life}
-use Rattle.world_rules.specs.Statistics.{organism_in}
-use Rattle.world_rules.specs.Update.{Delivery, births_in, delivery_of}
-use Rattle.cell_shards.specs.CellLives.{IsYoung, Part, RoundNumbers, births_from, departed_in, departed_of, id_in, left_in, lived_as, shard_life_at, shard_life_of, shard_lives_of, standing_in, tenant, with_id}
+use Rattle.world_rules.specs.Lives.{OrganismLife, ended_life, life_by}
+use Rattle.cell_shards.specs.CellLives.{IsYoung, Part, RoundNumbers, births_from, dead_in, deaths_from, left_in, newborns_in, shard_life_at, shard_life_of, shard_lives_of, standing_in}
 use Rattle.cell_shards.specs.Finishing.{HasInterned, IsFinished, birth_of, part_of}
 use Rattle.cell_shards.specs.declared.finished.Finished.{Finished}
 use Rattle.cell_shards.specs.declared.job.Job.{Job}
 use Rattle.cell_shards.specs.declared.standing.Standing.{Standing}
-use Rattle.cell_shards.specs.declared.tenant.Tenant.{Tenant}
-use Rattle.cell_shards.proofs.PartLemmas.{births_from-push, departed_of-push}
+use Rattle.cell_shards.proofs.PartLemmas.{told-push}
+
+-- a life that left this organism in its cell
+abbrev pub lived_as : Option OrganismState → Bool → List NewbornValue → OrganismLife
+lived_as left died newborns = record { organism = left; died = died; newborns = newborns }
 
 -- the life of a cell is that of its organism
 pub life_of-run : (round : RoundNumbers) (cell steps : ℕ) (o : OrganismState) (words : ℕ → ℕ)
@@ -27,84 +28,30 @@ pub life_of-run : (round : RoundNumbers) (cell steps : ℕ) (o : OrganismState) 
     → words ≡ draw round.seed round.update cell Run → start ≡ beginning o
     → (after, ran) ≡ life round.settings words start steps → died ≡ is_death ran
     → shard_life_of round cell steps (Some o)
-    ≡ lived_as (id_in round cell) (Some after.organism) died after.newborns
-unfolding shard_life_of
+    ≡ lived_as (Some after.organism) died after.newborns
+unfolding life_by
 life_of-run round cell steps o words start after ran died alike begins ends dies =
     let whole : life round.settings words start steps
     ≡ life round.settings (draw round.seed round.update cell Run) (beginning o) steps =
     λ i. life round.settings (alike i) (begins i) steps in
-    sym (ap (cell_life (id_in round cell)) (ends ∙ whole))
-    ∙ ap (λ (b : Bool). lived_as (id_in round cell) (Some after.organism) b after.newborns)
-    (sym dies)
-
--- an organism has its id apart
-with_id-organism : (id : ℕ) (slot : Option OrganismState) → organism_in (with_id id slot) ≡ slot
-with_id-organism id None = refl
-with_id-organism id (Some o) = refl
-
--- who stands in a cell once the dead have left
-pub left-are : (id : ℕ) (left : Option OrganismState) (died : Bool) (newborns : List NewbornValue)
-    → cond died None left ≡ left_in (lived_as id left died newborns)
-left-are id left died newborns = ap (cond died None) (sym (with_id-organism id left))
-
-module _ (round : RoundNumbers) (cell steps : ℕ) (left : Option OrganismState) (died : Bool)
-    (newborns : List NewbornValue) where
-  -- how a life ended
-  abbrev ended : CellLife
-  ended = lived_as (id_in round cell) left died newborns
-
-  -- its newborns are those of the cell's id
-  pub births-are : (was : Option OrganismState) → shard_life_of round cell steps was ≡ ended
-      → map (delivery_of cell (id_in round cell)) newborns ≡ births_in (cell, ended)
-  unfolding shard_life_of
-  births-are was lived =
-      ap (λ (l : CellLife). map (delivery_of cell (id_in round cell)) l.newborns) (sym lived)
-      ∙ by was ∙ ap (λ (l : CellLife). births_in (cell, l)) lived
-    where
-      by : (was : Option OrganismState)
-          → map (delivery_of cell (id_in round cell)) (shard_life_of round cell steps was).newborns
-          ≡ births_in (cell, shard_life_of round cell steps was)
-      by None = refl
-      by (Some o) = refl
-
-  -- so are its dead
-  pub departed-are : (was : Option OrganismState) → shard_life_of round cell steps was ≡ ended
-      → cond died (tenant cell (id_in round cell) ∷ []) [] ≡ departed_in cell ended
-  unfolding shard_life_of
-  departed-are was lived =
-      ap (λ (l : CellLife). cond l.died (tenant cell (id_in round cell) ∷ []) []) (sym lived)
-      ∙ by was ∙ ap (departed_in cell) lived
-    where
-      by : (was : Option OrganismState)
-          → cond (shard_life_of round cell steps was).died (tenant cell (id_in round cell) ∷ []) []
-          ≡ departed_in cell (shard_life_of round cell steps was)
-      by None = refl
-      by (Some o) = refl
+    sym (ap ended_life (ends ∙ whole))
+    ∙ ap (λ (b : Bool). lived_as (Some after.organism) b after.newborns) (sym dies)
 
 -- the lives of the first cells
-abbrev pub first_lives : RoundNumbers → Part → ℕ → List CellLife
+abbrev pub first_lives : RoundNumbers → Part → ℕ → List OrganismLife
 first_lives round part n = map (shard_life_at round part) (range_with_len 0 n)
 
 -- where the first cells have lived
 pub record HaveLived (round : RoundNumbers) (part : Part) (n : ℕ)
     (cells : List (Option OrganismState)) (standings : List (Option Standing))
-    (births : List Delivery) (dead : List Tenant) : Type 0 where
+    (births : List (ℕ × NewbornValue)) (dead : List ℕ) : Type 0 where
   pub cells_are : cells ≡ map left_in (first_lives round part n) ++ drop n part.cells
   pub standings_are : standings ≡ map standing_in (map left_in (first_lives round part n))
   pub births_are : births ≡ births_from part.first (first_lives round part n)
-  pub dead_are : dead ≡ departed_of part.first (first_lives round part n)
-
--- no cell has
-pub HaveLived-none : (round : RoundNumbers) (part : Part) (cells : List (Option OrganismState))
-    (standings : List (Option Standing)) (births : List Delivery) (dead : List Tenant)
-    → cells ≡ part.cells → standings ≡ [] → births ≡ [] → dead ≡ []
-    → HaveLived round part 0 cells standings births dead
-unfolding births_from
-HaveLived-none round part cells standings births dead whole untold unborn alive =
-    record { cells_are = whole; standings_are = untold; births_are = unborn; dead_are = alive }
+  pub dead_are : dead ≡ deaths_from part.first (first_lives round part n)
 
 -- the next cell has not lived yet
-cell-next : (start cells : List (Option OrganismState)) (lives : List CellLife) (n : ℕ)
+cell-next : (start cells : List (Option OrganismState)) (lives : List OrganismLife) (n : ℕ)
     (d : Option OrganismState) → length lives ≡ n → n < length start
     → cells ≡ map left_in lives ++ drop n start → get_or cells n d ≡ get_or start n d
 cell-next start cells lives n d long within here =
@@ -114,7 +61,7 @@ cell-next start cells lives n d long within here =
     ∙ get_or_at (map left_in lives) (get_or start n d) (drop (n + 1) start) d n front
 
 -- the cells where one more has lived
-cells-push : (start cells : List (Option OrganismState)) (lives : List CellLife) (l : CellLife)
+cells-push : (start cells : List (Option OrganismState)) (lives : List OrganismLife) (l : OrganismLife)
     (n : ℕ) → length lives ≡ n → n < length start → cells ≡ map left_in lives ++ drop n start
     → set cells n (left_in l) ≡ map left_in (lives ++ l ∷ []) ++ drop (n + 1) start
 cells-push start cells lives l n long within here =
@@ -128,7 +75,7 @@ cells-push start cells lives l n long within here =
 -- who stands in the next cell is as young as at the start
 pub HaveLived-next : (round : RoundNumbers) (part : Part) (n : ℕ)
     (cells : List (Option OrganismState)) (standings : List (Option Standing))
-    (births : List Delivery) (dead : List Tenant) (d : Option OrganismState)
+    (births : List (ℕ × NewbornValue)) (dead : List ℕ) (d : Option OrganismState)
     → HaveLived round part n cells standings births dead → n < length part.cells
     → All IsYoung part.cells → IsYoung (get_or cells n d)
 HaveLived-next round part n cells standings births dead d so_far within young =
@@ -137,16 +84,16 @@ HaveLived-next round part n cells standings births dead d so_far within young =
     subst IsYoung (sym next) (young n d within)
 
 module _ {round : RoundNumbers} {part : Part} {n : ℕ} {cells : List (Option OrganismState)}
-    {standings : List (Option Standing)} {births : List Delivery} {dead : List Tenant} where
+    {standings : List (Option Standing)} {births : List (ℕ × NewbornValue)} {dead : List ℕ} where
   -- one more cell has
-  pub HaveLived-more : (l : CellLife) {old left : Option OrganismState}
-      {next_standings : List (Option Standing)} {next_births : List Delivery} {next_dead : List Tenant}
+  pub HaveLived-more : (l : OrganismLife) {old left : Option OrganismState}
+      {next_standings : List (Option Standing)} {next_births : List (ℕ × NewbornValue)} {next_dead : List ℕ}
       → HaveLived round part n cells standings births dead → n < length part.cells
       → old ≡ get_or cells n None
       → shard_life_of round (part.first + n) (get_or part.slices n 0) old ≡ l → left ≡ left_in l
       → next_standings ≡ standings ++ standing_in left ∷ []
-      → next_births ≡ births ++ births_in (part.first + n, l)
-      → next_dead ≡ dead ++ departed_in (part.first + n) l
+      → next_births ≡ births ++ newborns_in (part.first + n, l)
+      → next_dead ≡ dead ++ dead_in (part.first + n, l)
       → HaveLived round part (n + 1) (set cells n left) next_standings next_births next_dead
   HaveLived-more l so_far within was lived gone told born buried =
       let cell = part.first + n in
@@ -168,12 +115,12 @@ module _ {round : RoundNumbers} {part : Part} {n : ℕ} {cells : List (Option Or
             ∙ sym (map-append standing_in (map left_in lives) (left_in l ∷ []))
             ∙ ap (map standing_in) (sym (map-append left_in lives (l ∷ [])))
             ∙ ap (λ ls. map standing_in (map left_in ls)) (sym more);
-        births_are = born ∙ ap (λ bs. bs ++ births_in (cell, l)) so_far.births_are
-            ∙ sym (births_from-push part.first lives l cell place)
+        births_are = born ∙ ap (λ bs. bs ++ newborns_in (cell, l)) so_far.births_are
+            ∙ sym (told-push newborns_in part.first lives l cell place)
             ∙ ap (births_from part.first) (sym more);
-        dead_are = buried ∙ ap (λ ds. ds ++ departed_in cell l) so_far.dead_are
-            ∙ sym (departed_of-push part.first lives l cell place)
-            ∙ ap (departed_of part.first) (sym more);
+        dead_are = buried ∙ ap (λ ds. ds ++ dead_in (cell, l)) so_far.dead_are
+            ∙ sym (told-push dead_in part.first lives l cell place)
+            ∙ ap (deaths_from part.first) (sym more);
       }
 
 -- a job is finished where all its cells have lived and its seat has interned their newborns
@@ -200,6 +147,6 @@ IsFinished-lived round job n {cells = cells} all lived interned first same told 
           ∙ ap (λ lives. map standing_in (map left_in lives)) lives
           ∙ sym (ap (map standing_in) (same ∙ left));
       births = lived.births_are ∙ ap (births_from job.first) lives;
-      dead = lived.dead_are ∙ ap (departed_of job.first) lives;
+      dead = lived.dead_are ∙ ap (deaths_from job.first) lives;
       seat = interned;
     }

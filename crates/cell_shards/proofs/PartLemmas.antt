@@ -5,9 +5,8 @@ use Rattle.std.proofs.lemmas.Grind.{flat_map-append}
 use Rattle.std.proofs.lemmas.List.{get_or_append_left, get_or-append_right}
 use Rattle.std.proofs.lemmas.List.FromFn.{length-map-range_with_len, map-range_with_len_more}
 use Rattle.organism.specs.OrganismState.{OrganismState}
-use Rattle.world_rules.specs.Lives.{CellLife}
-use Rattle.world_rules.specs.Update.{births_in}
-use Rattle.cell_shards.specs.CellLives.{RoundNumbers, births_from, departed_in, departed_of, part_from, shard_life_at, shard_life_of, shard_lives_of}
+use Rattle.world_rules.specs.Lives.{OrganismLife}
+use Rattle.cell_shards.specs.CellLives.{RoundNumbers, part_from, shard_life_at, shard_life_of, shard_lives_of}
 
 -- two lists, numbered one after the other
 enumerate_from-append : {X : Type 0} (k : ℕ) (xs ys : List X)
@@ -19,53 +18,27 @@ enumerate_from-append k (x ∷ xs) ys =
     (enumerate_from-append (k + 1) xs ys
     ∙ ap (λ (n : ℕ). enumerate_from (k + 1) xs ++ enumerate_from n ys) next)
 
--- the births of two parts
-pub births_from-append : (first : ℕ) (lives more : List CellLife)
-    → births_from first (lives ++ more) ≡ births_from first lives
-    ++ births_from (first + length lives) more
-unfolding births_from
-births_from-append first lives more =
-    ap (flat_map births_in) (enumerate_from-append first lives more)
-    ∙ flat_map-append births_in (enumerate_from first lives)
-    (enumerate_from (first + length lives) more)
+module _ {X : Type 0} (told : ℕ × OrganismLife → List X) where
+  -- what is told of these lives, whose cells go on from the first one
+  abbrev all_told : ℕ → List OrganismLife → List X
+  all_told first lives = flat_map told (enumerate_from first lives)
 
--- the deaths of two parts
-pub departed_of-append : (first : ℕ) (lives more : List CellLife)
-    → departed_of first (lives ++ more) ≡ departed_of first lives
-    ++ departed_of (first + length lives) more
-departed_of-append first [] more = ap (λ (n : ℕ). departed_of n more) (sym (add-zero first))
-departed_of-append first (l ∷ lives) more =
-    let next : first + 1 + length lives ≡ first + suc (length lives) = omega arith in
-    ap (λ dead. departed_in first l ++ dead)
-    (departed_of-append (first + 1) lives more
-    ∙ ap (λ (n : ℕ). departed_of (first + 1) lives ++ departed_of n more) next)
-    ∙ sym (append_assoc (departed_in first l) (departed_of (first + 1) lives)
-    (departed_of (first + suc (length lives)) more))
+  -- what is told of two parts
+  pub told-append : (first : ℕ) (lives more : List OrganismLife) → all_told first (lives ++ more)
+      ≡ all_told first lives ++ all_told (first + length lives) more
+  told-append first lives more =
+      ap (flat_map told) (enumerate_from-append first lives more)
+      ∙ flat_map-append told (enumerate_from first lives)
+      (enumerate_from (first + length lives) more)
 
--- the births of one cell
-births_from-one : (cell : ℕ) (l : CellLife) → births_from cell (l ∷ []) ≡ births_in (cell, l)
-unfolding births_from
-births_from-one cell l = append-nil (births_in (cell, l))
-
--- the births with those of one more cell
-pub births_from-push : (first : ℕ) (lives : List CellLife) (l : CellLife) (cell : ℕ)
-    → first + length lives ≡ cell → births_from first (lives ++ l ∷ []) ≡ births_from first lives
-    ++ births_in (cell, l)
-births_from-push first lives l cell place =
-    births_from-append first lives (l ∷ [])
-    ∙ ap (λ births. births_from first lives ++ births)
-    (births_from-one (first + length lives) l)
-    ∙ ap (λ (k : ℕ). births_from first lives ++ births_in (k, l)) place
-
--- the deaths with that of one more cell
-pub departed_of-push : (first : ℕ) (lives : List CellLife) (l : CellLife) (cell : ℕ)
-    → first + length lives ≡ cell → departed_of first (lives ++ l ∷ []) ≡ departed_of first lives
-    ++ departed_in cell l
-departed_of-push first lives l cell place =
-    departed_of-append first lives (l ∷ [])
-    ∙ ap (λ dead. departed_of first lives ++ dead)
-    (append-nil (departed_in (first + length lives) l))
-    ∙ ap (λ (k : ℕ). departed_of first lives ++ departed_in k l) place
+  -- what is told with one more cell
+  pub told-push : (first : ℕ) (lives : List OrganismLife) (l : OrganismLife) (cell : ℕ)
+      → first + length lives ≡ cell
+      → all_told first (lives ++ l ∷ []) ≡ all_told first lives ++ told (cell, l)
+  told-push first lives l cell place =
+      told-append first lives (l ∷ [])
+      ∙ ap (λ more. all_told first lives ++ more) (append-nil (told (first + length lives, l)))
+      ∙ ap (λ (k : ℕ). all_told first lives ++ told (k, l)) place
 
 -- functions that agree on two ranges
 map_range-agree : {X : Type 0} (f g : ℕ → X) (a b n : ℕ) → ((k : ℕ) → k < n → f (a + k) ≡ g (b + k))

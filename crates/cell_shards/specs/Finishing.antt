@@ -1,7 +1,7 @@
 -- What the jobs of an update come to (docs/ARCHITECTURE.md, "Shards"). A job has the cells of a
 -- shard, and a seat at the bank that numbers genomes. For example, if the organism of cell 41 bore
--- a child and died of age, then cell 41 is left empty, the organism is among the dead, and the
--- child is delivered with 41 as its parent's cell, and the parent's id.
+-- a child and died of age, then cell 41 is left empty, 41 is among the cells of the dead, and the
+-- child is delivered with 41 as its parent's cell.
 use Rattle.std.specs.Prelude.{◌≡◌, ℕ, ◌+◌, ◌<◌, ◌≤◌, ◌^◌, ◌++◌, All, List, Some, length, map, slice_get, slice_index_or}
 use mathlib.Core.List.{IsPrefix}
 use Rattle.genome.specs.Genome.{letters}
@@ -12,8 +12,8 @@ use Rattle.genotype_bank.specs.declared.view.Call.TheVariants.{Interned}
 use Rattle.genotype_bank.specs.declared.view.Entry.{Entry}
 use Rattle.instruction_set.specs.declared.letter.Letter.{Letter}
 use Rattle.mutations.specs.BirthRecord.{record_of}
-use Rattle.world_rules.specs.Update.{Delivery}
-use Rattle.cell_shards.specs.CellLives.{IsYoung, Part, RoundNumbers, births_from, departed_of, left_in, part_from, shard_lives_of, standing_in}
+use Rattle.organism.specs.Newborns.{NewbornValue}
+use Rattle.cell_shards.specs.CellLives.{IsYoung, Part, RoundNumbers, births_from, deaths_from, left_in, part_from, shard_lives_of, standing_in}
 use Rattle.cell_shards.specs.declared.delivered.Delivered.{Delivered}
 use Rattle.cell_shards.specs.declared.done.Done.{Done}
 use Rattle.cell_shards.specs.declared.finished.Finished.{Finished}
@@ -35,19 +35,19 @@ pub record CanRun (job : Job) : Type 0 where
 abbrev pub genome_in : Delivered → List Letter
 genome_in d = letters d.handle.genome.value
 
--- the newborn that is delivered, with its parent's cell and id
-abbrev pub birth_of : Delivered → Delivery
-birth_of d = record {
-  cell = d.cell;
-  parent = d.parent;
-  newborn = record {
-    nth = d.nth;
-    genome = genome_in d;
-    origin = record_of d.origin;
-    merit = d.merit;
-    credited = d.credited;
-  };
+-- the newborn that is delivered
+abbrev pub newborn_in : Delivered → NewbornValue
+newborn_in d = record {
+  nth = d.nth;
+  genome = genome_in d;
+  origin = record_of d.origin;
+  merit = d.merit;
+  credited = d.credited;
 }
+
+-- the same with its parent's cell
+abbrev pub birth_of : Delivered → ℕ × NewbornValue
+birth_of d = (d.cell, newborn_in d)
 
 -- the call that interns a newborn's genome
 abbrev pub call_for : Delivered → Call
@@ -78,7 +78,7 @@ pub record IsFinished (round : RoundNumbers) (job : Job) (finished : Finished) :
   pub standings : finished.standings ≡ map standing_in finished.cells
   pub births : map birth_of finished.births
       ≡ births_from job.first (shard_lives_of round (part_of job))
-  pub dead : finished.dead ≡ departed_of job.first (shard_lives_of round (part_of job))
+  pub dead : finished.dead ≡ deaths_from job.first (shard_lives_of round (part_of job))
   pub seat : HasInterned job.seat finished.seat finished.births
 
 -- the job of this number has run

@@ -14,8 +14,6 @@ use std::sync::Arc;
 pub struct Delivered {
     /// The cell of its parent.
     pub cell: u32,
-    /// The id of its parent.
-    pub parent: u64,
     /// Its number among the newborns of its parent in this update, from 0.
     pub nth: u32,
     pub handle: Handle,

@@ -2,11 +2,10 @@
 ghost use Rattle.std.specs.Prelude.{◌≡◌, ◌++◌, IfOk, OnOk, map};
 ghost use Rattle.genotype_bank.specs.Seats.{MakesCall, SeatValue};
 ghost use Rattle.organism.specs.Newborns.{newborn_value};
-ghost use Rattle.world_rules.specs.Update.{delivery_of};
+ghost use Rattle.cell_shards.specs.CellLives.{born_in};
 ghost use Rattle.cell_shards.specs.Finishing.{HasInterned, IsNumbered, birth_of, call_for};
 
 use crate::delivered::{Delivered, Deliveries};
-use crate::tenant::Tenant;
 use avida_port::Memory;
 use genotype_bank::laws::calls_number_genotypes;
 use genotype_bank::{Bank, Seat};
@@ -14,44 +13,43 @@ use organism::{Births, Newborn};
 use std::alloc::Global;
 use std::sync::{Arc, Wait};
 
-/// The newborns of a parent, behind those of the cells before it, with the handles of their genomes,
+/// The newborns of a cell, behind those of the cells before it, with the handles of their genomes,
 /// which the seat interns in this order.
 pub(crate) fn deliver<R: Wait>(
     rt: &R,
     alloc: Global,
     bank: &Bank,
     seat: &mut Seat,
-    parent: Tenant,
+    cell: u32,
     newborns: Births,
     births: &mut Deliveries,
 ) -> Result<(), Memory>
     requires { seat.old.bank ≡ bank.now }
     ensures births { OnOk result (map birth_of births.new
-        ≡ map birth_of births.old ++ map (delivery_of parent.cell parent.id) (map newborn_value newborns)) }
+        ≡ map birth_of births.old ++ map (born_in cell) (map newborn_value newborns)) }
     ensures seat { OnOk result ((start : SeatValue)
         → HasInterned start seat.old births.old → HasInterned start seat.new births.new) }
 {
     calls_number_genotypes();
     for newborn in newborns.into_vec() {
-        let delivered = deliver_one(rt, alloc, bank, seat, parent, newborn)?;
+        let delivered = deliver_one(rt, alloc, bank, seat, cell, newborn)?;
         births.push(delivered)?;
     }
     Ok(())
 }
 
-/// A newborn of a parent, with the handle of its genome.
+/// A newborn of a cell, with the handle of its genome.
 fn deliver_one<R: Wait>(
     rt: &R,
     alloc: Global,
     bank: &Bank,
     seat: &mut Seat,
-    parent: Tenant,
+    cell: u32,
     newborn: Newborn,
 ) -> Result<Delivered, Memory>
     requires { seat.old.bank ≡ bank.now }
     ensures birth { IfOk result
-        (λ delivered. birth_of delivered
-        ≡ delivery_of parent.cell parent.id (newborn_value newborn)) }
+        (λ delivered. birth_of delivered ≡ born_in cell (newborn_value newborn)) }
     ensures kept { (seat.new.bank ≡ seat.old.bank) × (seat.new.share ≡ seat.old.share) }
     ensures call { IfOk result (λ delivered. MakesCall seat.old seat.new (call_for delivered)) }
     ensures number { IfOk result (λ delivered. IsNumbered seat.new.seen delivered) }
@@ -66,8 +64,7 @@ fn deliver_one<R: Wait>(
     let handle = bank.intern(rt, alloc, seat, genome)?;
     let remembered = Arc::try_clone(&handle.genome)?;
     Ok(Delivered {
-        cell: parent.cell,
-        parent: parent.id,
+        cell,
         nth,
         handle,
         remembered,

@@ -1,12 +1,11 @@
 use crate::delivered::Deliveries;
 use crate::job::Cells;
 use crate::standing::Standings;
-use crate::tenant::Tenant;
 use avida_port::Items;
 use genotype_bank::Seat;
 
-/// Who died of age, in order of their cells.
-pub type Dead = Items<Tenant>;
+/// The cells whose organism died of age, rising.
+pub type Dead = Items<u32>;
 
 /// A shard after an update: its cells without the dead, what is counted of them, its newborns, its
 /// dead, and its seat.

@@ -1,8 +1,8 @@
 // What the definitions mean for a world that is cut into shards.
 ghost use Rattle.std.specs.Prelude.{◌≡◌, ℕ, ◌+◌, ◌++◌, ◌<◌, ◌≤◌, List, Option, length};
 ghost use Rattle.organism.specs.OrganismState.{OrganismState};
-ghost use Rattle.world_rules.specs.Lives.{CellLife};
-ghost use Rattle.cell_shards.specs.CellLives.{RoundNumbers, births_from, departed_of, part_from, shard_lives_of};
+ghost use Rattle.world_rules.specs.Lives.{OrganismLife};
+ghost use Rattle.cell_shards.specs.CellLives.{RoundNumbers, births_from, deaths_from, part_from, shard_lives_of};
 ghost use Rattle.cell_shards.specs.Shards.{IsInShard, bounds_of};
 
 /// The shards of some workers part the cells: the first begins at 0, each begins where the one
@@ -31,10 +31,11 @@ pub fn parts_live_as_one()
         → shard_lives_of round (part_from first (cells ++ others) (slices ++ more))
         ≡ shard_lives_of round (part_from first cells slices)
         ++ shard_lives_of round (part_from (first + length cells) others more) }
-    ensures births { (first : ℕ) (lives more : List CellLife) → births_from first (lives ++ more)
+    ensures births { (first : ℕ) (lives more : List OrganismLife) → births_from first (lives ++ more)
         ≡ births_from first lives ++ births_from (first + length lives) more }
-    ensures deaths { (first : ℕ) (lives more : List CellLife) → departed_of first (lives ++ more)
-        ≡ departed_of first lives ++ departed_of (first + length lives) more }
+    ensures deaths { (first : ℕ) (lives more : List OrganismLife)
+        → deaths_from first (lives ++ more)
+        ≡ deaths_from first lives ++ deaths_from (first + length lives) more }
     ensures count { (round : RoundNumbers) (first : ℕ) (cells : List (Option OrganismState))
         (slices : List ℕ) → length (shard_lives_of round (part_from first cells slices))
         ≡ length cells }

@@ -15,9 +15,7 @@ mod pool;
 mod round;
 mod running;
 mod shards;
-mod shared;
 mod standing;
-mod tenant;
 mod unmade;
 
 pub use boxed_organism::BoxedOrganism;
@@ -28,4 +26,3 @@ pub use round::Round;
 pub use running::{run_all, run_with_errand};
 pub use shards::bounds;
 pub use standing::{Standing, Standings};
-pub use tenant::Tenant;

@@ -3,7 +3,7 @@ ghost use Rattle.std.specs.Prelude.{◌≡◌, ◌<◌, ◌^◌, ◌∷◌, ◌+
 ghost use Rattle.organism.specs.Newborns.{newborn_value};
 ghost use Rattle.organism.specs.UpdateLife.{is_death};
 ghost use Rattle.cell_shards.specs.Bodies.{CanBeMade, who_is};
-ghost use Rattle.cell_shards.specs.CellLives.{IsYoung, id_in, lived_as, shared_numbers, shard_life_of, standing_in};
+ghost use Rattle.cell_shards.specs.CellLives.{IsYoung, round_numbers, shard_life_of, standing_in};
 ghost use Rattle.cell_shards.specs.Finishing.{CanRun, IsFinished};
 
 use crate::body::Body;
@@ -12,9 +12,8 @@ use crate::delivered::Deliveries;
 use crate::delivering::deliver;
 use crate::finished::{Dead, Finished};
 use crate::job::{Cells, Job};
-use crate::shared::Shared;
+use crate::round::Round;
 use crate::standing::{Standing, Standings};
-use crate::tenant::Tenant;
 use avida_port::Memory;
 use genotype_bank::Bank;
 use organism::{Births, Ran};
@@ -37,11 +36,11 @@ pub(crate) fn live<R: Wait>(
     alloc: Global,
     job: Job,
     bank: &Bank,
-    shared: &Shared,
+    round: &Round,
 ) -> Result<Finished, Memory>
     requires job { CanRun job }
     requires seat { job.seat.bank ≡ bank.now }
-    ensures { IfOk result (IsFinished (shared_numbers shared.now) job) }
+    ensures { IfOk result (IsFinished (round_numbers round.now) job) }
 {
     let Job {
         first,
@@ -55,12 +54,12 @@ pub(crate) fn live<R: Wait>(
     let mut births = Deliveries::none(alloc);
     let mut dead = Dead::none(alloc);
     for place in 0..cells.len() {
-        let who = shared.tenant_of(first + place as u32);
+        let cell = first + place as u32;
         let slot = &mut cells[place];
-        let life = live_in(alloc, shared, who.cell, slices[place], slot)?;
-        bury(slot, life.died, who, &mut dead)?;
+        let life = live_in(alloc, round, cell, slices[place], slot)?;
+        bury(slot, life.died, cell, &mut dead)?;
         standings.push(standing_in(slot))?;
-        deliver(rt, alloc, bank, &mut seat, who, life.births, &mut births)?;
+        deliver(rt, alloc, bank, &mut seat, cell, life.births, &mut births)?;
     }
     Ok(Finished {
         first,
@@ -73,10 +72,10 @@ pub(crate) fn live<R: Wait>(
 }
 
 /// The life of who stands in a cell.
-#[tactic(auto, unfolding(crate::specs::CellLives::shard_life_of))]
+#[tactic(auto, unfolding(world_rules::specs::Lives::life_by))]
 fn live_in(
     alloc: Global,
-    shared: &Shared,
+    round: &Round,
     cell: u32,
     steps: u64,
     slot: &mut Option<BoxedOrganism>,
@@ -84,12 +83,15 @@ fn live_in(
     requires cell { cell < CELLS }
     requires steps { steps < 2 ^ 27 }
     requires young { IsYoung slot.old }
-    ensures { IfOk result (λ life. shard_life_of (shared_numbers shared.now) cell steps slot.old
-        ≡ lived_as (id_in (shared_numbers shared.now) cell) slot.new life.died
-        (map newborn_value life.births)) }
+    ensures { IfOk result (λ life. shard_life_of (round_numbers round.now) cell steps slot.old
+        ≡ record {
+          organism = slot.new;
+          died = life.died;
+          newborns = map newborn_value life.births;
+        }) }
 {
     match slot {
-        Some(organism) => live_once(alloc, shared, cell, steps, &mut organism.inner),
+        Some(organism) => live_once(alloc, round, cell, steps, &mut organism.inner),
         None => Ok(Life {
             died: false,
             births: Births::none(alloc),
@@ -100,7 +102,7 @@ fn live_in(
 /// The life of who is in a body, with the run stream of its cell.
 fn live_once(
     alloc: Global,
-    shared: &Shared,
+    round: &Round,
     cell: u32,
     steps: u64,
     body: &mut Body,
@@ -111,22 +113,19 @@ fn live_once(
     requires young { (who_is body.old.organism body.old.unmade).age < 2 ^ 62 }
     ensures made { body.new.unmade ≡ None }
     ensures life { IfOk result
-        (λ life. shard_life_of (shared_numbers shared.now) cell steps
+        (λ life. shard_life_of (round_numbers round.now) cell steps
         (Some (who_is body.old.organism body.old.unmade))
-        ≡ lived_as (id_in (shared_numbers shared.now) cell) (Some body.new.organism) life.died
-        (map newborn_value life.births)) }
+        ≡ record {
+          organism = Some body.new.organism;
+          died = life.died;
+          newborns = map newborn_value life.births;
+        }) }
 {
     let mut births = Births::none(alloc);
-    let mut draws = Draws::start(shared.round.seed, shared.round.update, cell, Purpose::Run);
+    let mut draws = Draws::start(round.seed, round.update, cell, Purpose::Run);
     body.make(alloc)?;
     let organism = &mut body.organism;
-    let ran = organism.run(
-        alloc,
-        steps,
-        &shared.round.settings,
-        &mut draws,
-        &mut births,
-    )?;
+    let ran = organism.run(alloc, steps, &round.settings, &mut draws, &mut births)?;
     Ok(Life {
         died: is_death(ran),
         births,
@@ -142,19 +141,19 @@ fn is_death(ran: Ran) -> bool
     }
 }
 
-/// The dead leave their cells, and are listed.
+/// The dead leave their cells, which are listed.
 fn bury(
     slot: &mut Option<BoxedOrganism>,
     died: bool,
-    who: Tenant,
+    cell: u32,
     dead: &mut Dead,
 ) -> Result<(), Memory>
     ensures slot { OnOk result (slot.new ≡ (if died then None else slot.old)) }
-    ensures dead { OnOk result (dead.new ≡ dead.old ++ (if died then who ∷ [] else [])) }
+    ensures dead { OnOk result (dead.new ≡ dead.old ++ (if died then cell ∷ [] else [])) }
 {
     if died {
         *slot = None;
-        dead.push(who)?;
+        dead.push(cell)?;
     }
     Ok(())
 }

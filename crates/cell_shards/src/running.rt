@@ -1,7 +1,7 @@
 // The jobs of an update, each run by the thread that takes it first.
 ghost use denote.Param.Send.{IsSync};
-ghost use Rattle.std.specs.Prelude.{◌≡◌, [], ◌++◌, ◌<◌, ◌≤◌, All, IfOk, OnOk, length};
-ghost use Rattle.cell_shards.specs.CellLives.{round_numbers, shared_numbers};
+ghost use Rattle.std.specs.Prelude.{◌≡◌, ◌++◌, ◌<◌, ◌≤◌, All, IfOk, OnOk, length};
+ghost use Rattle.cell_shards.specs.CellLives.{round_numbers};
 ghost use Rattle.cell_shards.specs.Finishing.{AreFinished, CanRun, HasRun};
 
 use crate::done::Done;
@@ -11,7 +11,6 @@ use crate::job::Job;
 use crate::lives::live;
 use crate::pool::{Pool, PoolSeat};
 use crate::round::Round;
-use crate::shared::Shared;
 use avida_port::{Gate, Memory};
 use genotype_bank::Bank;
 use std::alloc::Global;
@@ -21,8 +20,7 @@ use std::thread::Threads;
 
 /// Runs the cells of each job, and interns each newborn's genome, by as many threads as there are
 /// jobs; the list is in order of the jobs. Each thread passes the gate once, before its cells. It
-/// may wait for other seats of the bank. No ids are given, so all are 0. After `Memory` the jobs and
-/// their seats are gone.
+/// may wait for other seats of the bank. After `Memory` the jobs and their seats are gone.
 pub fn run_all<R: Threads + Wait + Sync, G: Gate + Sync>(
     rt: &R,
     alloc: Global,
@@ -33,18 +31,17 @@ pub fn run_all<R: Threads + Wait + Sync, G: Gate + Sync>(
 ) -> Result<Vec<Finished>, Memory>
     requires jobs { All CanRun jobs.items }
     requires seats { All (λ job. job.seat.bank ≡ bank.now) jobs.items }
-    ensures { IfOk result
-        (λ all. AreFinished (round_numbers round.now []) jobs.items all.items) }
+    ensures { IfOk result (λ all. AreFinished (round_numbers round.now) jobs.items all.items) }
 {
     let workers = jobs.len();
-    let (all, ()) = run_with_errand(rt, alloc, jobs, workers, bank, round, &[], gate, || ())?;
+    let (all, ()) = run_with_errand(rt, alloc, jobs, workers, bank, round, gate, || ())?;
     Ok(all)
 }
 
 /// The same with `workers` threads, but at least one and at most one a job. Each takes a job that
 /// no other has taken, until all are taken; so a thread that is held up runs fewer of them. The
 /// calling thread has an errand, which it does once the others have begun, and whose result is
-/// handed back. The ids are those of the world's cells, and mean nothing where nobody stands.
+/// handed back.
 pub fn run_with_errand<R: Threads + Wait + Sync, G: Gate + Sync, T: Drop, F: FnOnce() -> T + Drop>(
     rt: &R,
     alloc: Global,
@@ -52,7 +49,6 @@ pub fn run_with_errand<R: Threads + Wait + Sync, G: Gate + Sync, T: Drop, F: FnO
     workers: usize,
     bank: &Bank,
     round: &Round,
-    ids: &[u64],
     gate: &G,
     errand: F,
 ) -> Result<(Vec<Finished>, T), Memory>
@@ -60,14 +56,12 @@ pub fn run_with_errand<R: Threads + Wait + Sync, G: Gate + Sync, T: Drop, F: FnO
     requires seats { All (λ job. job.seat.bank ≡ bank.now) jobs.items }
     requires errand { F.pre errand }
     ensures finished { IfOk result
-        (λ ran. AreFinished (round_numbers round.now ids.now) jobs.items ran.0.items) }
+        (λ ran. AreFinished (round_numbers round.now) jobs.items ran.0.items) }
     ensures errand { IfOk result (λ ran. F.post errand ran.1) }
 {
     let workers = workers.min(jobs.len());
     let (pool, seat) = Pool::new(alloc, jobs)?;
-    let (done, brought) = run_together(
-        rt, alloc, &pool, seat, workers, bank, round, ids, gate, errand,
-    )?;
+    let (done, brought) = run_together(rt, alloc, &pool, seat, workers, bank, round, gate, errand)?;
     Ok((in_order(alloc, &pool, done)?, brought))
 }
 
@@ -82,7 +76,6 @@ fn run_together<R: Threads + Wait + Sync, G: Gate + Sync, T: Drop, F: FnOnce() -
     workers: usize,
     bank: &Bank,
     round: &Round,
-    ids: &[u64],
     gate: &G,
     errand: F,
 ) -> Result<(Vec<Done>, T), Memory>
@@ -91,12 +84,12 @@ fn run_together<R: Threads + Wait + Sync, G: Gate + Sync, T: Drop, F: FnOnce() -
     requires jobs { All (λ job. CanRun job × (job.seat.bank ≡ bank.now)) pool.now.jobs }
     requires errand { F.pre errand }
     ensures done { IfOk result
-        (λ ran. All (HasRun (round_numbers round.now ids.now) pool.now.jobs) ran.0.items) }
+        (λ ran. All (HasRun (round_numbers round.now) pool.now.jobs) ran.0.items) }
     ensures errand { IfOk result (λ ran. F.post errand ran.1) }
 {
     if workers <= 1 {
         let brought = errand();
-        let done = run_free(rt, alloc, pool, seat, 0, bank, round, ids, gate)?;
+        let done = run_free(rt, alloc, pool, seat, 0, bank, round, gate)?;
         return Ok((done, brought));
     }
     let worker = workers - 1;
@@ -105,20 +98,16 @@ fn run_together<R: Threads + Wait + Sync, G: Gate + Sync, T: Drop, F: FnOnce() -
         requires { IsSync R.row × IsSync G.row × (theirs ≡ pool.now)
             × All (λ job. CanRun job × (job.seat.bank ≡ bank.now)) pool.now.jobs }
         ensures { IfOk result (λ done.
-            All (HasRun (round_numbers round.entry.now ids.entry.now) pool.entry.now.jobs) done.items) }
-    { run_free(rt, alloc, pool, theirs, worker, bank, round, ids, gate) };
+            All (HasRun (round_numbers round.entry.now) pool.entry.now.jobs) done.items) }
+    { run_free(rt, alloc, pool, theirs, worker, bank, round, gate) };
     let here = move || -> Result<(Vec<Done>, T), Memory>
         requires { IsSync R.row × IsSync G.row × (seat ≡ pool.now)
             × (worker ≤ length pool.now.jobs) × F.pre errand
             × All (λ job. CanRun job × (job.seat.bank ≡ bank.now)) pool.now.jobs }
         ensures { IfOk result (λ ran.
-            All (HasRun (round_numbers round.entry.now ids.entry.now) pool.entry.now.jobs) ran.0.items
+            All (HasRun (round_numbers round.entry.now) pool.entry.now.jobs) ran.0.items
             × F.post errand ran.1) }
-    {
-        run_together(
-            rt, alloc, pool, seat, worker, bank, round, ids, gate, errand,
-        )
-    };
+    { run_together(rt, alloc, pool, seat, worker, bank, round, gate, errand) };
     let (last, others) = thread::join(rt, there, here);
     let (done, brought) = others?;
     Ok((both(done, last?)?, brought))
@@ -141,19 +130,17 @@ fn run_free<R: Wait, G: Gate>(
     worker: usize,
     bank: &Bank,
     round: &Round,
-    ids: &[u64],
     gate: &G,
 ) -> Result<Vec<Done>, Memory>
     requires pool { seat ≡ pool.now }
     requires jobs { All (λ job. CanRun job × (job.seat.bank ≡ bank.now)) pool.now.jobs }
     ensures { IfOk result
-        (λ done. All (HasRun (round_numbers round.now ids.now) pool.now.jobs) done.items) }
+        (λ done. All (HasRun (round_numbers round.now) pool.now.jobs) done.items) }
 {
     gate.pass(u64::from(round.update), worker);
-    let shared = Shared { round: *round, ids };
     let mut done = Vec::new(alloc);
     for number in 0..pool.len() {
-        run_if_free(rt, alloc, pool, &mut seat, number, bank, &shared, &mut done)?;
+        run_if_free(rt, alloc, pool, &mut seat, number, bank, round, &mut done)?;
     }
     Ok(done)
 }
@@ -166,20 +153,20 @@ fn run_if_free<R: Wait>(
     seat: &mut PoolSeat,
     number: usize,
     bank: &Bank,
-    shared: &Shared,
+    round: &Round,
     done: &mut Vec<Done>,
 ) -> Result<(), Memory>
     requires pool { seat.old ≡ pool.now }
     requires number { number < length pool.now.jobs }
     requires jobs { All (λ job. CanRun job × (job.seat.bank ≡ bank.now)) pool.now.jobs }
     ensures seat { seat.new ≡ seat.old }
-    ensures done { OnOk result (All (HasRun (shared_numbers shared.now) pool.now.jobs) done.old.items
-        → All (HasRun (shared_numbers shared.now) pool.now.jobs) done.new.items) }
+    ensures done { OnOk result (All (HasRun (round_numbers round.now) pool.now.jobs) done.old.items
+        → All (HasRun (round_numbers round.now) pool.now.jobs) done.new.items) }
 {
     let Some(job) = pool.take(seat, number) else {
         return Ok(());
     };
-    let finished = live(rt, alloc, job, bank, shared)?;
+    let finished = live(rt, alloc, job, bank, round)?;
     done.push(Done { number, finished })?;
     Ok(())
 }

@@ -15,11 +15,9 @@ use Rattle.world_config.specs.Values.{ConfigValues}
 use Rattle.world_rules.specs.World.{Occupant}
 use Rattle.world_rules.specs.Settings.{first_rates, rates_after, rates_at, rules_of, settings_at}
 use Rattle.organism.specs.SettingNumbers.{SettingNumbers}
-use Rattle.organism.specs.Lived.{beginning}
-use Rattle.organism.specs.UpdateLife.{life}
 use Rattle.random_streams.specs.declared.purpose.Purpose.TheVariants.{Run}
 use Rattle.random_streams.specs.RandomStream.{draw}
-use Rattle.world_rules.specs.Lives.{cell_life, life_of, slices_at, slice_at, lives_of}
+use Rattle.world_rules.specs.Lives.{cell_life, life_by, life_of, slices_at, slice_at, lives_of}
 use Rattle.world_rules.specs.Update.{events_at}
 use Rattle.saved_worlds.specs.SavedState.{head_at}
 use Rattle.saved_worlds.specs.Resuming.{config_of_head}
@@ -129,7 +127,7 @@ module _ (config : ConfigValues) (over : HappensInTime config) where
     life_same u cell steps None later = refl
     life_same u cell steps (Some o) later =
         ap (λ (s : SettingNumbers).
-        cell_life o.id (life s (draw config.seed u cell Run) (beginning o.organism) steps))
+        cell_life o.id (life_by s (draw config.seed u cell Run) steps (Some o.organism)))
         (settings_same u later)
 
     -- and so are all lives

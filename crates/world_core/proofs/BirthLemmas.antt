@@ -1,83 +1,63 @@
 -- The newborns of an update, each with its placing.
-use Rattle.std.proofs.Common.{◌≡◌, ◌∙◌, ap, sym, List, [], ◌∷◌, ◌++◌, append-nil, append_assoc, fold, length, map}
-use Rattle.std.proofs.lemmas.List.{map_push}
+use Rattle.std.proofs.Common.{◌≡◌, ◌∙◌, ap, sym, subst, List, [], ◌∷◌, ◌++◌, append-nil, append_assoc, arith, fold, length, map}
+use Rattle.std.specs.List.{zip}
+use Rattle.std.specs.Vec.Iter.{into_iter_items, into_iter_len, into_iter_steps}
+use Rattle.std.proofs.lemmas.Iterator.{YieldsList}
+use Rattle.std.proofs.lemmas.Iterator.Splits.{YieldsList-from_shown_while}
+use Rattle.std.proofs.lemmas.List.{length-map, map_push}
 use Rattle.std.proofs.lemmas.Slice.Zip.{firsts-zip}
-use Rattle.cell_shards.specs.Finishing.{birth_of, genome_in}
-use Rattle.cell_shards.specs.declared.delivered.Delivered.{Delivered}
+use Rattle.birth_board.specs.declared.placing.Placing.{Placing}
+use Rattle.cell_shards.specs.Finishing.{genome_in}
 use Rattle.instruction_set.specs.declared.letter.Letter.{Letter}
 use Rattle.lineage_log.specs.Links.{Link}
-use Rattle.std.specs.List.{scan, zip}
-use Rattle.birth_board.specs.declared.placing.Placing.{Placing}
-use Rattle.log_lines.specs.Line.{Line}
 use Rattle.world_config.specs.Values.{ConfigValues}
-use Rattle.world_rules.specs.LogText.{birth_line, birth_lines}
 use Rattle.world_rules.specs.Scene.{Scene, with_newcomer}
+use Rattle.world_rules.specs.Update.{Delivery, with_newborn}
 use Rattle.world_core.specs.Genotypes.{genomes_ever}
+use Rattle.world_core.specs.Lived.{delivered_in, delivery_in}
+use Rattle.world_core.specs.declared.ids.Birth.{Birth}
 use Rattle.world_core.proofs.LivesLemmas.{map-both}
-use Rattle.world_rules.specs.Update.{after_births, placings_of, with_newborn}
-use Rattle.world_core.proofs.ScanLemmas.{fold-map, scan-map, zip-map}
 
--- a newborn stands in the cell of its placing
-abbrev pub placed : ConfigValues → Scene → Delivered × Placing → Scene
-placed config scene turn = with_newborn config scene (birth_of turn.0, turn.1)
-
--- its line
-abbrev pub placed_line : Scene → Delivered × Placing → Line
-placed_line scene turn = birth_line scene (birth_of turn.0, turn.1)
-
--- the newborns with their placings
-abbrev pub turns_in : ConfigValues → Scene → List Delivered → List (Delivered × Placing)
-turns_in config scene births = zip births (placings_of config scene (map birth_of births))
-
--- once all are placed
-pub all-placed : (config : ConfigValues) (scene : Scene) (births : List Delivered)
-    → fold (placed config) scene (turns_in config scene births)
-    ≡ after_births config scene (map birth_of births)
-unfolding after_births
-all-placed config scene births =
-    let placings : List Placing = placings_of config scene (map birth_of births) in
-    sym (ap (fold (with_newborn config) scene) (zip-map birth_of births placings)
-    ∙ fold-map (with_newborn config)
-    (λ (turn : Delivered × Placing). (birth_of turn.0, turn.1)) scene
-    (zip births placings))
-
--- their lines
-pub all-told : (config : ConfigValues) (scene : Scene) (births : List Delivered)
-    → scan (placed config) placed_line scene (turns_in config scene births)
-    ≡ birth_lines config scene (map birth_of births)
-all-told config scene births =
-    let placings : List Placing = placings_of config scene (map birth_of births) in
-    sym (ap (scan (with_newborn config) birth_line scene) (zip-map birth_of births placings)
-    ∙ scan-map (with_newborn config) birth_line
-    (λ (turn : Delivered × Placing). (birth_of turn.0, turn.1)) scene
-    (zip births placings))
+-- an iterator over a list gives what is made of each of its items
+pub yields-made : {A B Z : Type 0} (made : A → B) {s : _} (xs : List A) → into_iter_items s ≡ xs
+    → into_iter_len s ≡ length xs
+    → YieldsList (into_iter_steps {X = A} {Z = Z}) made s (map made xs)
+yields-made {A = A} {Z = Z} made {s} xs items len =
+    subst (λ ys. YieldsList (into_iter_steps {X = A} {Z = Z}) made s (map made ys)) items
+    (YieldsList-from_shown_while (into_iter_steps {X = A} {Z = Z}) made
+    (λ u. map made (into_iter_items u)) (λ u. into_iter_len u ≡ length (into_iter_items u))
+    (λ u t whole none. omega (arith, length-map (into_iter_items u) made, whole, none.0))
+    (λ u x t whole next. (omega (arith, whole, next.1, ap length next.0), ap (map made) next.0)) s
+    (len ∙ ap length (sym items)))
 
 -- a newborn more
-newborn-genomes : (config : ConfigValues) (scene : Scene) (turn : Delivered × Placing)
-    → genomes_ever (placed config scene turn).everyone ≡ genomes_ever scene.everyone
-    ++ genome_in turn.0 ∷ []
+newborn-genomes : (config : ConfigValues) (scene : Scene) (turn : Delivery × Placing)
+    → genomes_ever (with_newborn config scene turn).everyone ≡ genomes_ever scene.everyone
+    ++ turn.0.newborn.genome ∷ []
 unfolding with_newborn with_newcomer
 newborn-genomes config scene turn = map_push (λ (l : Link). l.genome) scene.everyone _
 
 -- the genomes of all organisms once these newborns are placed
-pub placed-genomes : (config : ConfigValues) (scene : Scene)
-    (turns : List (Delivered × Placing))
-    → genomes_ever (fold (placed config) scene turns).everyone ≡ genomes_ever scene.everyone
-    ++ map (λ turn. genome_in turn.0) turns
+pub placed-genomes : (config : ConfigValues) (scene : Scene) (turns : List (Delivery × Placing))
+    → genomes_ever (fold (with_newborn config) scene turns).everyone ≡ genomes_ever scene.everyone
+    ++ map (λ turn. turn.0.newborn.genome) turns
 placed-genomes config scene [] = sym (append-nil (genomes_ever scene.everyone))
 placed-genomes config scene (turn ∷ turns) =
     let rest : List (List Letter) =
-    map (λ (turn : Delivered × Placing). genome_in turn.0) turns in
-    placed-genomes config (placed config scene turn) turns
+    map (λ (turn : Delivery × Placing). turn.0.newborn.genome) turns in
+    placed-genomes config (with_newborn config scene turn) turns
     ∙ ap (λ genomes. genomes ++ rest) (newborn-genomes config scene turn)
-    ∙ append_assoc (genomes_ever scene.everyone) (genome_in turn.0 ∷ []) rest
+    ∙ append_assoc (genomes_ever scene.everyone) (turn.0.newborn.genome ∷ []) rest
 
 -- the genomes of newborns beside as many placings
-pub genomes-beside : (births : List Delivered) (placings : List Placing)
+pub genomes-beside : (births : List Birth) (placings : List Placing)
     → length placings ≡ length births
-    → map (λ (turn : Delivered × Placing). genome_in turn.0) (zip births placings)
-    ≡ map genome_in births
+    → map (λ (turn : Delivery × Placing). turn.0.newborn.genome)
+    (zip (map delivery_in births) placings) ≡ map genome_in (delivered_in births)
 genomes-beside births placings long =
-    sym (map-both (λ (turn : Delivered × Placing). turn.0)
-    genome_in (zip births placings))
-    ∙ ap (map genome_in) (firsts-zip births placings long)
+    sym (map-both (λ (turn : Delivery × Placing). turn.0) (λ d. d.newborn.genome)
+    (zip (map delivery_in births) placings))
+    ∙ ap (map (λ d. d.newborn.genome))
+    (firsts-zip (map delivery_in births) placings (long ∙ sym (length-map births delivery_in)))
+    ∙ map-both delivery_in (λ d. d.newborn.genome) births
+    ∙ sym (map-both (λ (b : Birth). b.newborn) genome_in births)

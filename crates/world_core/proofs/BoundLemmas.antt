@@ -12,7 +12,7 @@ use Rattle.organism.specs.UpdateLife.{life}
 use Rattle.random_streams.specs.declared.purpose.Purpose.TheVariants.{Run}
 use Rattle.random_streams.specs.RandomStream.{draw}
 use Rattle.world_config.specs.Values.{ConfigValues}
-use Rattle.world_rules.specs.Lives.{CellLife, life_at, life_of, lives_of, no_life, slice_at, slices_at}
+use Rattle.world_rules.specs.Lives.{CellLife, life_at, life_by, life_of, lives_of, no_life, slice_at, slices_at}
 use Rattle.world_rules.specs.Settings.{settings_at}
 use Rattle.world_rules.specs.Update.{births_of}
 use Rattle.world_rules.specs.World.{Occupant}
@@ -46,7 +46,7 @@ module _ (config : ConfigValues) (update : ℕ) (cells : List (Option Occupant))
       → get_or cells cell None ≡ slot
       → KeepsBounds config update (slice_at config cells cell) slot
       (life_of config (update + 1) cell (slice_at config cells cell) slot)
-  unfolding life_of
+  unfolding life_of life_by
   life-keeps cell within None here = nobody-keeps config update (slice_at config cells cell)
   life-keeps cell within (Some o) here =
       let steps = slice_at config cells cell in

@@ -3,8 +3,6 @@ use Rattle.std.proofs.Common.{◌≡◌, ◌∙◌, refl, sym, ap, ℕ, ◌+◌,
 use Rattle.std.specs.List.{filter_map, range_with_len, scan}
 use Rattle.std.specs.Option.{option_map, option_to_list}
 use Rattle.std.proofs.lemmas.List.{get_or_at, length_push, map-append, set_at}
-use Rattle.cell_shards.specs.CellLives.{departed_of, tenant}
-use Rattle.cell_shards.specs.declared.tenant.Tenant.{Tenant}
 use Rattle.lineage_log.specs.Links.{Link}
 use Rattle.log_lines.specs.Line.{Line, Death}
 use Rattle.world_rules.specs.Lives.{CellLife, no_life}
@@ -12,7 +10,8 @@ use Rattle.world_rules.specs.LogText.{death_line, death_lines}
 use Rattle.world_rules.specs.Scene.{Scene, with_death, with_deaths}
 use Rattle.world_rules.specs.Update.{after_burials, after_lives, deaths_of}
 use Rattle.world_rules.specs.World.{Occupant, id_of}
-use Rattle.world_core.specs.Lived.{departure_line, staying_in}
+use Rattle.world_core.specs.Lived.{departed_from, departure_line, staying_in, tenant}
+use Rattle.world_core.specs.declared.ids.Tenant.{Tenant}
 
 -- the cells whose organism died, which go on from this one
 abbrev deaths_at : ℕ → List CellLife → List ℕ
@@ -92,12 +91,12 @@ module _ (update : ℕ) (everyone : List Link) where
   burials-from : (before : List (Option Occupant)) (lives : List CellLife) (gone : List ℕ)
       (first : ℕ) → length before ≡ first
       → with_deaths (scene_with (before ++ occupants lives) gone) (deaths_at first lives)
-      ≡ scene_with (before ++ map staying_in lives) (gone ++ ids_in (departed_of first lives))
+      ≡ scene_with (before ++ map staying_in lives) (gone ++ ids_in (departed_from first lives))
   burials-from before [] gone first long = ap (scene_with (before ++ [])) (sym (append-nil gone))
   burials-from before (l ∷ lives) gone first long =
       by l.died (λ slot more. burials-from (before ++ slot ∷ []) lives more (first + 1)
       (omega (arith, length_push before slot, long))
-      ∙ ap (λ cells. scene_with cells (more ++ ids_in (departed_of (first + 1) lives)))
+      ∙ ap (λ cells. scene_with cells (more ++ ids_in (departed_from (first + 1) lives)))
       (append_assoc before (slot ∷ []) (map staying_in lives)))
     where
       dead : List Tenant
@@ -107,11 +106,11 @@ module _ (update : ℕ) (everyone : List Link) where
           → ((slot : Option Occupant) (more : List ℕ)
           → with_deaths (scene_with ((before ++ slot ∷ []) ++ occupants lives) more)
           (deaths_at (first + 1) lives) ≡ scene_with (before ++ slot ∷ map staying_in lives)
-          (more ++ ids_in (departed_of (first + 1) lives)))
+          (more ++ ids_in (departed_from (first + 1) lives)))
           → with_deaths (scene_with (before ++ l.occupant ∷ occupants lives) gone)
           (cond b (first ∷ deaths_at (first + 1) lives) (deaths_at (first + 1) lives))
           ≡ scene_with (before ++ cond b None l.occupant ∷ map staying_in lives)
-          (gone ++ ids_in (cond b dead [] ++ departed_of (first + 1) lives))
+          (gone ++ ids_in (cond b dead [] ++ departed_from (first + 1) lives))
       by false later =
           ap (λ cells. with_deaths (scene_with cells gone) (deaths_at (first + 1) lives))
           (sym (append_assoc before (l.occupant ∷ []) (occupants lives)))
@@ -122,16 +121,16 @@ module _ (update : ℕ) (everyone : List Link) where
           ∙ later None (gone ++ option_to_list (id_of l.occupant))
           ∙ ap (scene_with (before ++ None ∷ map staying_in lives))
           (append_assoc gone (option_to_list (id_of l.occupant))
-          (ids_in (departed_of (first + 1) lives))
-          ∙ ap (λ ids. gone ++ (ids ++ ids_in (departed_of (first + 1) lives)))
+          (ids_in (departed_from (first + 1) lives))
+          ∙ ap (λ ids. gone ++ (ids ++ ids_in (departed_from (first + 1) lives)))
           (sym (ids-in-one first l.occupant))
           ∙ ap (λ ids. gone ++ ids)
-          (sym (map-append (λ (one : Tenant). one.id) dead (departed_of (first + 1) lives))))
+          (sym (map-append (λ (one : Tenant). one.id) dead (departed_from (first + 1) lives))))
 
   -- their lines
   lines-from : (before : List (Option Occupant)) (lives : List CellLife) (gone : List ℕ) (first : ℕ)
       → length before ≡ first → death_lines (scene_with (before ++ occupants lives) gone)
-      (deaths_at first lives) ≡ map (departure_line update) (departed_of first lives)
+      (deaths_at first lives) ≡ map (departure_line update) (departed_from first lives)
   lines-from before [] gone first long = refl
   lines-from before (l ∷ lives) gone first long =
       by l.died (λ slot more. lines-from (before ++ slot ∷ []) lives more (first + 1)
@@ -151,10 +150,10 @@ module _ (update : ℕ) (everyone : List Link) where
           → ((slot : Option Occupant) (more : List ℕ)
           → death_lines (scene_with ((before ++ slot ∷ []) ++ occupants lives) more)
           (deaths_at (first + 1) lives)
-          ≡ map (departure_line update) (departed_of (first + 1) lives))
+          ≡ map (departure_line update) (departed_from (first + 1) lives))
           → death_lines (scene_with (before ++ l.occupant ∷ occupants lives) gone)
           (cond b (first ∷ deaths_at (first + 1) lives) (deaths_at (first + 1) lives))
-          ≡ map (departure_line update) (cond b dead [] ++ departed_of (first + 1) lives)
+          ≡ map (departure_line update) (cond b dead [] ++ departed_from (first + 1) lives)
       by false later =
           ap (λ cells. death_lines (scene_with cells gone) (deaths_at (first + 1) lives))
           (sym (append_assoc before (l.occupant ∷ []) (occupants lives)))
@@ -170,12 +169,12 @@ module _ (update : ℕ) (everyone : List Link) where
           (deaths_at (first + 1) lives))
           ∙ (λ i. lines-in-one first l.occupant i
           ++ later None (gone ++ option_to_list (id_of l.occupant)) i)
-          ∙ sym (map-append (departure_line update) dead (departed_of (first + 1) lives))
+          ∙ sym (map-append (departure_line update) dead (departed_from (first + 1) lives))
 
   -- the scene once all dead have left
   pub burials-are : (lives : List CellLife)
       → after_burials (after_lives update everyone lives) lives
-      ≡ scene_with (map staying_in lives) (ids_in (departed_of 0 lives))
+      ≡ scene_with (map staying_in lives) (ids_in (departed_from 0 lives))
   unfolding after_burials
   burials-are lives = ap (with_deaths (after_lives update everyone lives)) (deaths_of-at lives)
       ∙ burials-from [] lives [] 0 refl
@@ -183,6 +182,6 @@ module _ (update : ℕ) (everyone : List Link) where
   -- and their lines
   pub burial-lines-are : (lives : List CellLife)
       → death_lines (after_lives update everyone lives) (deaths_of lives)
-      ≡ map (departure_line update) (departed_of 0 lives)
+      ≡ map (departure_line update) (departed_from 0 lives)
   burial-lines-are lives = ap (death_lines (after_lives update everyone lives)) (deaths_of-at lives)
       ∙ lines-from [] lives [] 0 refl

@@ -2,12 +2,12 @@
 use Rattle.std.proofs.Common.{◌≡◌, ◌∙◌, refl, sym, ap, subst, ℕ, ◌+◌, ◌<◌, ◌≤◌, ◌^◌, List, [], ◌∷◌, ◌++◌, append-nil, append_assoc, length, set, get_or, take, drop, Option, Some, None, arith, inl, inr}
 use Rattle.std.proofs.Math.Seq.{map-set_same}
 use Rattle.std.proofs.lemmas.List.{drop_all, drop_more, get_or_at, length-append, length-drop, length-take-le, set_at, take_all, take_more}
-use Rattle.cell_shards.specs.CellLives.{standing_in, with_id}
+use Rattle.cell_shards.specs.CellLives.{standing_in}
 use Rattle.census.specs.Counts.{Counts}
 use Rattle.instruction_set.specs.declared.letter.Letter.{Letter}
 use Rattle.logic_tasks.specs.TaskSet.{has_task}
 use Rattle.organism.specs.OrganismState.{OrganismState}
-use Rattle.world_rules.specs.Lives.{merit_in}
+use Rattle.world_rules.specs.Lives.{merit_in, with_id}
 use Rattle.world_rules.specs.World.{Occupant}
 use Rattle.world_core.specs.Population.{CanCountAgain, CountsAgain, IsKeptOf, is_credited, occupant_genome, occupant_genomes}
 use Rattle.world_core.proofs.KeptOfLemmas.{IsKeptOf-empty, IsKeptOf-lived, IsKeptOf-removed, can-remove}

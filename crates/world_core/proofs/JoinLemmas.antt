@@ -8,7 +8,7 @@ use Rattle.std.proofs.lemmas.List.Elements.{All-cons, All-head, All-nil, All-tai
 use Rattle.std.proofs.lemmas.List.Sorted.{IsPermutation-refl, IsPermutation-sym}
 use Rattle.std.proofs.lemmas.List.Sums.{sum_by-cons}
 use mathlib.Core.List.{IsPrefix}
-use Rattle.cell_shards.specs.CellLives.{RoundNumbers, births_from, departed_of, left_in, part_from, shard_lives_of, standing_in}
+use Rattle.cell_shards.specs.CellLives.{RoundNumbers, births_from, deaths_from, left_in, part_from, shard_lives_of, standing_in}
 use Rattle.cell_shards.specs.Finishing.{AreFinished, IsFinished, IsNumbered, birth_of, call_for, genome_in, part_of}
 use Rattle.cell_shards.specs.declared.delivered.Delivered.{Delivered}
 use Rattle.cell_shards.specs.declared.finished.Finished.{Finished}
@@ -18,7 +18,7 @@ use Rattle.genotype_bank.specs.Seats.{SeatValue, own_calls_of}
 use Rattle.genotype_bank.specs.declared.view.Entry.{Entry}
 use Rattle.instruction_set.specs.declared.letter.Letter.{Letter}
 use Rattle.organism.specs.OrganismState.{OrganismState}
-use Rattle.world_rules.specs.Lives.{CellLife}
+use Rattle.world_rules.specs.Lives.{OrganismLife}
 use Rattle.world_core.specs.Genotypes.{HasNumber, TakesIn}
 use Rattle.world_core.specs.Sharding.{IsJoined, LieSideBySide, PartCells, ShareSeat, seat_from}
 
@@ -32,13 +32,13 @@ PartsLaws = record {
       ≡ shard_lives_of round (part_from first cells slices)
       ++ shard_lives_of round (part_from (first + length cells) others more);
   -- so are the newborns of lives side by side
-  births : (first : ℕ) (lives more : List CellLife)
+  births : (first : ℕ) (lives more : List OrganismLife)
       → births_from first (lives ++ more) ≡ births_from first lives
       ++ births_from (first + length lives) more;
   -- so are the cells of those that died in them
-  deaths : (first : ℕ) (lives more : List CellLife)
-      → departed_of first (lives ++ more) ≡ departed_of first lives
-      ++ departed_of (first + length lives) more;
+  deaths : (first : ℕ) (lives more : List OrganismLife)
+      → deaths_from first (lives ++ more) ≡ deaths_from first lives
+      ++ deaths_from (first + length lives) more;
   -- there are as many lives as cells
   count : (round : RoundNumbers) (first : ℕ) (cells : List (Option OrganismState))
       (slices : List ℕ) → length (shard_lives_of round (part_from first cells slices))
@@ -101,7 +101,7 @@ calls_in all = flat_map (λ one. own_calls_of one.seat) all
 
 module _ (laws : PartsLaws) (round : RoundNumbers) where
   -- the lives of some jobs, one job after another
-  abbrev pub lives_in : List Job → List CellLife
+  abbrev pub lives_in : List Job → List OrganismLife
   lives_in jobs = flat_map (λ job. shard_lives_of round (part_of job)) jobs
 
   -- they are the lives of all cells
@@ -139,7 +139,6 @@ module _ (laws : PartsLaws) (round : RoundNumbers) where
   births-joined : (first : ℕ) (jobs : List Job) (all : List Finished) → LieSideBySide first jobs
       → AllPairwise round jobs all
       → map birth_of (flat_map (λ one. one.births) all) ≡ births_from first (lives_in jobs)
-  unfolding births_from
   births-joined first [] [] beside are = refl
   births-joined first [] (one ∷ all) beside are = absurd are
   births-joined first (job ∷ jobs) [] beside are = absurd are
@@ -156,16 +155,16 @@ module _ (laws : PartsLaws) (round : RoundNumbers) where
   -- and the dead
   dead-joined : (first : ℕ) (jobs : List Job) (all : List Finished) → LieSideBySide first jobs
       → AllPairwise round jobs all
-      → flat_map (λ one. one.dead) all ≡ departed_of first (lives_in jobs)
+      → flat_map (λ one. one.dead) all ≡ deaths_from first (lives_in jobs)
   dead-joined first [] [] beside are = refl
   dead-joined first [] (one ∷ all) beside are = absurd are
   dead-joined first (job ∷ jobs) [] beside are = absurd are
   dead-joined first (job ∷ jobs) (one ∷ all) beside are =
       let many : first + length job.cells ≡ first + length (shard_lives_of round (part_of job)) =
       omega (arith, laws.count round job.first job.cells job.slices) in
-      (λ i. (are.0.dead ∙ ap (λ n. departed_of n (shard_lives_of round (part_of job))) beside.0) i
+      (λ i. (are.0.dead ∙ ap (λ n. deaths_from n (shard_lives_of round (part_of job))) beside.0) i
       ++ (dead-joined (first + length job.cells) jobs all beside.2 are.1
-      ∙ ap (λ n. departed_of n (lives_in jobs)) many) i)
+      ∙ ap (λ n. deaths_from n (lives_in jobs)) many) i)
       ∙ sym (laws.deaths first (shard_lives_of round (part_of job)) (lives_in jobs))
 
   module _ (seat : SeatValue) where
@@ -212,7 +211,7 @@ pub record EndsAs (round : RoundNumbers) (seat : SeatValue) (cells : List (Optio
   pub standings : whole.standings ≡ map standing_in whole.cells
   pub births : map birth_of whole.births
       ≡ births_from 0 (shard_lives_of round (part_from 0 cells slices))
-  pub dead : whole.dead ≡ departed_of 0 (shard_lives_of round (part_from 0 cells slices))
+  pub dead : whole.dead ≡ deaths_from 0 (shard_lives_of round (part_from 0 cells slices))
   pub bank : whole.seat.bank ≡ seat.bank
   pub share : whole.seat.share ≡ seat.share
   pub seen : IsPrefix seat.seen whole.seat.seen
@@ -257,7 +256,7 @@ ends-as laws round seat cells slices (job ∷ jobs) (first ∷ others) whole par
           ∙ births-joined laws round 0 (job ∷ jobs) (first ∷ others) parts.beside are
           ∙ ap (births_from 0) (sym whole_lives);
       dead = is.dead ∙ dead-joined laws round 0 (job ∷ jobs) (first ∷ others) parts.beside are
-          ∙ ap (departed_of 0) (sym whole_lives);
+          ∙ ap (deaths_from 0) (sym whole_lives);
       bank = is.bank ∙ interned.bank ∙ ap (λ (s : SeatValue). s.bank) shares.0;
       share = omega (
         arith,

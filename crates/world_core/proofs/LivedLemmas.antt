@@ -1,26 +1,31 @@
 -- What the shards leave is what a world's lives leave.
 use Rattle.std.proofs.Common.{◌≡◌, ◌∙◌, refl, sym, ap, subst, ℕ, ◌+◌, ◌<◌, ◌≤◌, ◌^◌, ◌⊎◌, Bool, true, false, cond, List, [], ◌∷◌, length, map, get_or, Option, Some, None, arith, inl, inr}
-use Rattle.std.specs.List.{All}
+use Rattle.std.specs.List.{All, range_with_len, flat_map, enumerate_from}
 use Rattle.std.proofs.lemmas.Bool.{cases_lt}
-use Rattle.std.proofs.lemmas.List.{get_or-map, get_or_past, length-map}
+use Rattle.std.proofs.lemmas.List.{get_or-map, get_or_past, length-map, map-id}
 use Rattle.std.proofs.lemmas.List.Elements.{All-cons, All-head, All-map, All-nil, All-same, All-tail}
-use Rattle.cell_shards.specs.CellLives.{IsYoung, RoundNumbers, births_from, departed_of, left_in, part_from, shard_lives_of, standing_in, with_id}
+use Rattle.std.proofs.lemmas.List.FromFn.{length-map-range_with_len}
+use Rattle.cell_shards.specs.CellLives.{IsYoung, RoundNumbers, births_from, dead_in, deaths_from, left_in, newborns_in, part_from, shard_life_at, shard_life_of, shard_lives_of, standing_in}
+use Rattle.cell_shards.specs.Finishing.{birth_of}
+use Rattle.cell_shards.specs.declared.delivered.Delivered.{Delivered}
 use Rattle.cell_shards.specs.declared.standing.Standing.{Standing}
-use Rattle.cell_shards.specs.declared.tenant.Tenant.{Tenant}
 use Rattle.merit_slices.specs.Slices.{slices_of}
 use Rattle.organism.specs.OrganismState.{OrganismState}
 use Rattle.world_config.specs.Values.{ConfigValues}
-use Rattle.world_rules.specs.Lives.{CellLife, lives_of, merit_in, no_life, slices_at}
+use Rattle.world_rules.specs.Lives.{CellLife, OrganismLife, life_at, life_of, lives_of, merit_in, no_life, slice_at, slices_at, with_id}
 use Rattle.world_rules.specs.Statistics.{organism_in}
-use Rattle.world_rules.specs.Update.{Delivery, births_of}
+use Rattle.world_rules.specs.Update.{births_in, births_of}
 use Rattle.world_rules.specs.World.{Occupant}
-use Rattle.world_core.specs.Lived.{round_of, staying_in}
+use Rattle.world_core.specs.Lived.{birth_by, delivered_in, delivery_in, departed_from, departed_in, round_of, staying_in, tenant_by}
 use Rattle.world_core.specs.Population.{merit_or_zero, occupant_genome}
 use Rattle.world_core.specs.Residents.{occupants_of}
 use Rattle.world_core.specs.Soundness.{AreBounded, IsBoundedIn}
+use Rattle.world_core.specs.declared.ids.Birth.{Birth}
+use Rattle.world_core.specs.declared.ids.Tenant.{Tenant}
 use Rattle.world_core.proofs.CountLemmas.{GoesOn}
-use Rattle.world_core.proofs.ResidentLemmas.{merits-of, occupants_of-at, occupants_of-length}
-use Rattle.world_core.proofs.ShardLemmas.{HasId, lives-have_ids, lives-long, lives-same, staying-are}
+use Rattle.world_core.proofs.LivesLemmas.{map-both}
+use Rattle.world_core.proofs.ResidentLemmas.{merits-of, occupants_of-at, occupants_of-length, organism-with}
+use Rattle.world_core.proofs.ShardLemmas.{LivesAs, delivery_by, life-as, staying-are, told-alike}
 
 -- organisms that are bounded are not too old
 pub young-are : (update : ℕ) (os : List (Option OrganismState)) (ids : List ℕ)
@@ -61,6 +66,12 @@ slices-are config cells os ids slices standings long were same bought =
     (ap (map merit_or_zero) same ∙ sym (merits-of os ids long))
     ∙ ap (slices_at config) were
 
+-- newborns with the ids of their parents are those that the shards delivered
+pub delivered-are : (ids : List ℕ) (newborns : List Delivered) (births : List Birth)
+    → births ≡ map (birth_by ids) newborns → delivered_in births ≡ newborns
+delivered-are ids newborns births named =
+    ap delivered_in named ∙ map-both (birth_by ids) (λ b. b.newborn) newborns ∙ map-id newborns
+
 -- the cells of a world as its shards have them: organisms and ids apart, the steps of each cell,
 -- and what all lives of an update share
 pub record LiveApart (config : ConfigValues) (update : ℕ) (cells : List (Option Occupant))
@@ -68,7 +79,7 @@ pub record LiveApart (config : ConfigValues) (update : ℕ) (cells : List (Optio
   pub long : length ids ≡ length os
   pub were : occupants_of os ids ≡ cells
   pub bought : slices ≡ slices_at config cells
-  pub shared : round ≡ round_of config update ids
+  pub shared : round ≡ round_of config update
 
 module _ {config : ConfigValues} {update : ℕ} {cells : List (Option Occupant)}
     {os : List (Option OrganismState)} {ids slices : List ℕ} {round : RoundNumbers}
@@ -78,60 +89,90 @@ module _ {config : ConfigValues} {update : ℕ} {cells : List (Option Occupant)}
   lives = lives_of config update cells
 
   -- the lives of the shards
-  abbrev shard_lives : List CellLife
+  abbrev shard_lives : List OrganismLife
   shard_lives = shard_lives_of round (part_from 0 os slices)
+
+  -- the life of one cell
+  abbrev life_in : ℕ → CellLife
+  life_in = life_at config update cells
+
+  -- the same in its shard
+  abbrev shard_life_in : ℕ → OrganismLife
+  shard_life_in = shard_life_at round (part_from 0 os slices)
 
   -- there are as many cells as organisms and gaps
   pub cells-long : length cells ≡ length os
   cells-long = sym (ap length apart.were) ∙ occupants_of-length os ids apart.long
 
-  -- the shards live as the cells do
-  lives_are : shard_lives ≡ lives
-  lives_are = ap (λ (r : RoundNumbers). shard_lives_of r (part_from 0 os slices)) apart.shared
-      ∙ lives-same config update os ids apart.long slices
-      (apart.bought ∙ ap (slices_at config) (sym apart.were))
-      ∙ ap (lives_of config update) apart.were
-
-  -- each cell has an id
-  many : length ids ≡ length lives
-  many = apart.long
-      ∙ sym (ap (λ (cells : List (Option Occupant)). length (lives_of config update cells))
-      (sym apart.were) ∙ lives-long config update os ids apart.long)
-
-  -- which is that of who lives there
-  have_ids : (place : ℕ) → HasId (get_or ids place 0) (get_or lives place no_life)
-  have_ids place = subst
-      (λ (cells : List (Option Occupant)).
-      HasId (get_or ids place 0) (get_or (lives_of config update cells) place no_life))
-      apart.were (lives-have_ids config update os ids apart.long place)
+  -- each cell lives in its shard as in the world
+  lives-as : (cell : ℕ) → LivesAs ids cell (shard_life_in cell) (life_in cell)
+  lives-as cell =
+      let steps = slice_at config cells cell in
+      let slot = get_or os cell None in
+      let place : cell ≡ 0 + cell = omega arith in
+      let there : with_id (get_or ids cell 0) slot ≡ get_or cells cell None =
+      sym (occupants_of-at os ids cell apart.long)
+      ∙ ap (λ (cells : List (Option Occupant)). get_or cells cell None) apart.were in
+      let one : shard_life_of (round_of config update) cell steps slot ≡ shard_life_in cell =
+      λ i. shard_life_of (sym apart.shared i) (place i) (get_or (sym apart.bought i) cell 0)
+      slot in
+      subst (λ (l : OrganismLife). LivesAs ids cell l (life_in cell)) one
+      (subst (λ (slot' : Option Occupant). LivesAs ids cell
+      (shard_life_of (round_of config update) cell steps slot)
+      (life_of config update cell steps slot')) there
+      (life-as config update cell steps ids slot))
 
   -- who stays in the cells
   pub lived-cells : (left : List (Option OrganismState)) → left ≡ map left_in shard_lives
       → occupants_of left ids ≡ map staying_in lives
-  lived-cells left are = ap (λ os. occupants_of os ids) (are ∙ ap (map left_in) lives_are)
-      ∙ staying-are lives ids many have_ids
+  unfolding lives_of shard_lives_of
+  lived-cells left are =
+      ap (λ os. occupants_of os ids) are
+      ∙ staying-are shard_life_in life_in 0 (length os) ids apart.long (λ place cell is.
+      (let same : cell ≡ place = omega (arith, is) in
+      subst (λ (k : ℕ). with_id (get_or ids k 0) (left_in (shard_life_in cell))
+      ≡ staying_in (life_in cell)) same (lives-as cell).stays))
+      ∙ ap (λ n. map staying_in (map life_in (range_with_len 0 n))) (sym cells-long)
 
   -- as many as have an id
   pub lived-length : (left : List (Option OrganismState)) → left ≡ map left_in shard_lives
       → length ids ≡ length left
-  lived-length left are = many
-      ∙ sym (ap length (are ∙ ap (map left_in) lives_are) ∙ length-map lives left_in)
+  unfolding shard_lives_of
+  lived-length left are = apart.long
+      ∙ sym (ap length are ∙ length-map shard_lives left_in
+      ∙ length-map-range_with_len shard_life_in 0 (length os))
+
+  -- what is told of the cells
+  told-are : {X Y : Type 0} (tell : ℕ × OrganismLife → List X) (say : ℕ × CellLife → List Y)
+      (h : X → Y) → ((cell : ℕ) → map h (tell (cell, shard_life_in cell)) ≡ say (cell, life_in cell))
+      → map h (flat_map tell (enumerate_from 0 shard_lives))
+      ≡ flat_map say (enumerate_from 0 lives)
+  unfolding lives_of shard_lives_of
+  told-are tell say h alike = told-alike shard_life_in life_in tell say h 0 (length os) alike
+      ∙ ap (λ n. flat_map say (enumerate_from 0 (map life_in (range_with_len 0 n))))
+      (sym cells-long)
 
   -- the newborns
-  pub lived-births : (births : List Delivery) → births ≡ births_from 0 shard_lives
-      → births ≡ births_of lives
-  unfolding births_from births_of
-  lived-births births born = born ∙ ap (births_from 0) lives_are
+  pub lived-births : (newborns : List Delivered) (births : List Birth)
+      → map birth_of newborns ≡ births_from 0 shard_lives → births ≡ map (birth_by ids) newborns
+      → map delivery_in births ≡ births_of lives
+  unfolding births_of
+  lived-births newborns births born named =
+      ap (map delivery_in) named ∙ map-both (birth_by ids) delivery_in newborns
+      ∙ sym (map-both birth_of (delivery_by ids) newborns) ∙ ap (map (delivery_by ids)) born
+      ∙ told-are newborns_in births_in (delivery_by ids) (λ cell. (lives-as cell).births)
 
   -- the dead
-  pub lived-dead : (dead : List Tenant) → dead ≡ departed_of 0 shard_lives
-      → dead ≡ departed_of 0 lives
-  lived-dead dead died = died ∙ ap (departed_of 0) lives_are
+  pub lived-dead : (died : List ℕ) (dead : List Tenant) → died ≡ deaths_from 0 shard_lives
+      → dead ≡ map (tenant_by ids) died → dead ≡ departed_from 0 lives
+  lived-dead died dead are named =
+      named ∙ ap (map (tenant_by ids)) are
+      ∙ told-are dead_in departed_in (tenant_by ids) (λ cell. (lives-as cell).dead)
 
   -- the life of one cell leaves the same organism with a merit that fits, or nobody
   goes-by : (was : Option OrganismState) (id : ℕ) (l : CellLife) → IsBoundedIn update l.occupant
       → occupant_genome l.occupant ≡ occupant_genome (with_id id was)
-      → GoesOn was (left_in l)
+      → GoesOn was (organism_in (staying_in l))
   goes-by was id l bounded same = by l.died l.occupant bounded same where
     nobody : GoesOn was None
     nobody = record {
@@ -152,7 +193,7 @@ module _ {config : ConfigValues} {update : ℕ} {cells : List (Option Occupant)}
 
     by : (b : Bool) (slot : Option Occupant) → IsBoundedIn update slot
         → occupant_genome slot ≡ occupant_genome (with_id id was)
-        → GoesOn was (cond b None (organism_in slot))
+        → GoesOn was (organism_in (cond b None slot))
     by true slot bounded same = nobody
     by false None bounded same = nobody
     by false (Some o) bounded same = somebody o was bounded same
@@ -165,17 +206,22 @@ module _ {config : ConfigValues} {update : ℕ} {cells : List (Option Occupant)}
       → (place : ℕ)
       → GoesOn (get_or os place None) (get_or left place None)
   goes-on left are keep place =
-      subst (GoesOn (get_or os place None))
-      (sym (ap (λ ls. get_or ls place None) (are ∙ ap (map left_in) lives_are)
-      ∙ here (cases_lt place (length lives))))
+      subst (GoesOn (get_or os place None)) (sym stays)
       (goes-by (get_or os place None) (get_or ids place 0) (get_or lives place no_life)
       (keep place).0 ((keep place).1
       ∙ ap (λ (cells : List (Option Occupant)). occupant_genome (get_or cells place None))
       (sym apart.were) ∙ ap occupant_genome (occupants_of-at os ids place apart.long)))
     where
       here : (place < length lives) ⊎ (length lives ≤ place)
-          → get_or (map left_in lives) place None ≡ left_in (get_or lives place no_life)
-      here (inl within) = get_or-map left_in lives place no_life None within
-      here (inr past) = get_or_past (map left_in lives) place None
-          (omega (arith, past, length-map lives left_in))
-          ∙ sym (ap left_in (get_or_past lives place no_life past))
+          → get_or (map staying_in lives) place None ≡ staying_in (get_or lives place no_life)
+      here (inl within) = get_or-map staying_in lives place no_life None within
+      here (inr past) = get_or_past (map staying_in lives) place None
+          (omega (arith, past, length-map lives staying_in))
+          ∙ sym (ap staying_in (get_or_past lives place no_life past))
+
+      stays : get_or left place None ≡ organism_in (staying_in (get_or lives place no_life))
+      stays = sym (organism-with (get_or ids place 0) (get_or left place None))
+          ∙ ap organism_in (sym (occupants_of-at left ids place (lived-length left are))
+          ∙ ap (λ (cells : List (Option Occupant)). get_or cells place None)
+          (lived-cells left are)
+          ∙ here (cases_lt place (length lives)))

@@ -1,6 +1,6 @@
 -- A scan beside the fold of its states, one element after another.
 use Rattle.std.proofs.Common.{◌≡◌, ◌∙◌, refl, sym, ap, ℕ, ◌+◌, ◌<◌, List, [], ◌∷◌, ◌++◌, length, map, take, get_or, fold, Option, None, Some, append_assoc, append-nil}
-use Rattle.std.specs.List.{scan, filter_map, flat_map, zip}
+use Rattle.std.specs.List.{scan, filter_map, flat_map}
 use Rattle.std.specs.Option.{option_to_list}
 use Rattle.std.proofs.lemmas.List.{take_more}
 use Rattle.std.proofs.lemmas.List.Concat.{flat_map-append}
@@ -78,24 +78,3 @@ module _ {S X Y : Type 0} (next : S → X → S) (text : Y → List ℕ) (a : S)
       one ∙ ap (λ l. l ++ here s) so_far ∙ append_assoc start before (here s)
       ∙ ap (λ at. start ++ (before ++ here at)) state
       ∙ ap (λ l. start ++ l) (sym (lines-more next out text a xs i d within))
-
--- what is made of the first of each pair
-pub zip-map : {X Y Z : Type 0} (f : X → Y) (xs : List X) (zs : List Z)
-    → zip (map f xs) zs ≡ map (λ (pair : X × Z). (f pair.0, pair.1)) (zip xs zs)
-zip-map f [] zs = refl
-zip-map f (x ∷ xs) [] = refl
-zip-map f (x ∷ xs) (z ∷ zs) = ap (λ rest. (f x, z) ∷ rest) (zip-map f xs zs)
-
--- a fold over what is made of each
-pub fold-map : {S X Y : Type 0} (next : S → Y → S) (f : X → Y) (a : S) (xs : List X)
-    → fold next a (map f xs) ≡ fold (λ s x. next s (f x)) a xs
-fold-map next f a [] = refl
-fold-map next f a (x ∷ xs) = fold-map next f (next a (f x)) xs
-
--- so is a scan
-pub scan-map : {S X Y Z : Type 0} (next : S → Y → S) (out : S → Y → Z) (f : X → Y) (a : S)
-    (xs : List X) → scan next out a (map f xs)
-    ≡ scan (λ s x. next s (f x)) (λ s x. out s (f x)) a xs
-scan-map next out f a [] = refl
-scan-map next out f a (x ∷ xs) =
-    ap (λ rest. out a (f x) ∷ rest) (scan-map next out f (next a (f x)) xs)

@@ -1,109 +1,83 @@
--- The lives of shards are the lives of a world's cells.
-use Rattle.std.proofs.Common.{◌≡◌, ◌∙◌, refl, sym, ap, subst, ℕ, suc, ◌+◌, Bool, true, false, cond, List, [], ◌∷◌, length, map, get_or, Option, Some, None, arith, inl, inr}
-use Rattle.std.specs.List.{range_with_len}
-use Rattle.std.proofs.lemmas.Bool.{cases_lt}
-use Rattle.std.proofs.lemmas.List.{get_or_past}
-use Rattle.std.proofs.lemmas.List.FromFn.{get_or-map-range_with_len, length-map-range_with_len}
-use Rattle.cell_shards.specs.CellLives.{left_in, part_from, shard_life_at, shard_life_of, shard_lives_of, with_id}
+-- The lives of a world's cells are those of its shards, with the ids of the cells.
+use Rattle.std.proofs.Common.{◌≡◌, ◌∙◌, refl, ℕ, zero, suc, ◌+◌, Bool, true, false, cond, List, [], ◌∷◌, ◌++◌, length, map, get_or, Option, Some, None, arith}
+use Rattle.std.specs.List.{range_with_len, flat_map, enumerate_from}
+use Rattle.std.proofs.lemmas.List.{map-append}
+use Rattle.cell_shards.specs.CellLives.{born_in, dead_in, left_in, newborns_in, shard_life_of}
+use Rattle.organism.specs.Lived.{beginning}
+use Rattle.organism.specs.Newborns.{NewbornValue}
 use Rattle.organism.specs.OrganismState.{OrganismState}
+use Rattle.organism.specs.UpdateLife.{life}
+use Rattle.random_streams.specs.declared.purpose.Purpose.TheVariants.{Run}
+use Rattle.random_streams.specs.RandomStream.{draw}
 use Rattle.world_config.specs.Values.{ConfigValues}
-use Rattle.world_rules.specs.Lives.{CellLife, life_at, life_of, lives_of, no_life, slice_at, slices_at}
-use Rattle.world_rules.specs.Statistics.{organism_in}
-use Rattle.world_rules.specs.World.{Occupant}
-use Rattle.world_core.specs.Lived.{round_of, staying_in}
+use Rattle.world_rules.specs.Lives.{CellLife, OrganismLife, ended_life, life_by, life_of, with_id}
+use Rattle.world_rules.specs.Settings.{settings_at}
+use Rattle.world_rules.specs.Update.{Delivery, births_in, delivery_of}
+use Rattle.world_core.specs.Lived.{departed_in, round_of, staying_in, tenant, tenant_by}
 use Rattle.world_core.specs.Residents.{occupants_of}
-use Rattle.world_core.proofs.ResidentLemmas.{occupants_of-at, occupants_of-length}
-use Rattle.world_core.proofs.SumLemmas.{map_alike}
+use Rattle.world_core.proofs.LivesLemmas.{map-both}
+
+-- a newborn of a cell, with the id of the cell
+abbrev pub delivery_by : List ℕ → ℕ × NewbornValue → Delivery
+delivery_by ids birth = delivery_of birth.0 (get_or ids birth.0 0) birth.1
+
+-- the life of a cell as a shard has it, and as the world has it, by the ids of the cells
+pub record LivesAs (ids : List ℕ) (cell : ℕ) (l : OrganismLife) (w : CellLife) : Type 0 where
+  pub stays : with_id (get_or ids cell 0) (left_in l) ≡ staying_in w
+  pub births : map (delivery_by ids) (newborns_in (cell, l)) ≡ births_in (cell, w)
+  pub dead : map (tenant_by ids) (dead_in (cell, l)) ≡ departed_in (cell, w)
 
 -- one life
-life-same : (config : ConfigValues) (update cell steps : ℕ) (ids : List ℕ)
-    (slot : Option OrganismState) → shard_life_of (round_of config update ids) cell steps slot
-    ≡ life_of config update cell steps (with_id (get_or ids cell 0) slot)
-unfolding life_of shard_life_of
-life-same config update cell steps ids None = refl
-life-same config update cell steps ids (Some o) = refl
-
--- the life of who stands in a cell with this id, or of nobody
-abbrev pub HasId : ℕ → CellLife → Type 0
-HasId id l = l.occupant ≡ with_id id (organism_in l.occupant)
-
--- a life has the id of who lived it
-life-has_id : (config : ConfigValues) (update cell steps id : ℕ) (slot : Option OrganismState)
-    → HasId id (life_of config update cell steps (with_id id slot))
-unfolding life_of
-life-has_id config update cell steps id None = refl
-life-has_id config update cell steps id (Some o) = refl
-
-module _ (config : ConfigValues) (update : ℕ) (os : List (Option OrganismState)) (ids : List ℕ)
-    (long : length ids ≡ length os) where
-  -- the organisms in their cells, with their ids
-  abbrev cells : List (Option Occupant)
-  cells = occupants_of os ids
-
-  -- the lives of all cells
-  pub lives-same : (slices : List ℕ) → slices ≡ slices_at config cells
-      → shard_lives_of (round_of config update ids) (part_from 0 os slices)
-      ≡ lives_of config update cells
-  unfolding lives_of shard_lives_of
-  lives-same slices same =
-      map_alike (shard_life_at (round_of config update ids) (part_from 0 os slices))
-      (life_at config update cells) each (range_with_len 0 (length os))
-      ∙ ap (λ n. map (life_at config update cells) (range_with_len 0 n))
-      (sym (occupants_of-length os ids long))
-    where
-      each : (k : ℕ)
-          → shard_life_at (round_of config update ids) (part_from 0 os slices) k
-          ≡ life_at config update cells k
-      each k =
-          let place : 0 + k ≡ k = omega arith in
-          (λ i. shard_life_of (round_of config update ids) (place i) (get_or (same i) k 0)
-          (get_or os k None))
-          ∙ life-same config update k (slice_at config cells k) ids (get_or os k None)
-          ∙ ap (life_of config update k (slice_at config cells k))
-          (sym (occupants_of-at os ids k long))
-
-  -- each life has the id of its cell
-  pub lives-have_ids : (place : ℕ)
-      → HasId (get_or ids place 0) (get_or (lives_of config update cells) place no_life)
-  unfolding lives_of
-  lives-have_ids place =
-      elim (cases_lt place (length cells)) [
-        | inl within ↦
-            subst (HasId (get_or ids place 0))
-            (sym (get_or-map-range_with_len (life_at config update cells) 0 (length cells) place
-            place no_life within (omega arith)))
-            (subst (λ slot. HasId (get_or ids place 0)
-            (life_of config update place (slice_at config cells place) slot))
-            (sym (occupants_of-at os ids place long))
-            (life-has_id config update place (slice_at config cells place) (get_or ids place 0)
-            (get_or os place None)))
-        | inr past ↦
-            subst (HasId (get_or ids place 0))
-            (sym (get_or_past (lives_of config update cells) place no_life
-            (omega (
-              arith,
-              past,
-              length-map-range_with_len (life_at config update cells) 0
-                  (length cells),
-            ))))
-            refl
-      ]
-
-  -- there are as many lives as organisms and gaps
-  pub lives-long : length (lives_of config update cells) ≡ length os
-  unfolding lives_of
-  lives-long = length-map-range_with_len (life_at config update cells) 0 (length cells)
-      ∙ occupants_of-length os ids long
-
--- who stays in the cells
-pub staying-are : (lives : List CellLife) (ids : List ℕ) → length ids ≡ length lives
-    → ((place : ℕ) → HasId (get_or ids place 0) (get_or lives place no_life))
-    → occupants_of (map left_in lives) ids ≡ map staying_in lives
-staying-are [] ids long each = refl
-staying-are (l ∷ lives) [] long each = absurd (omega (arith, long))
-staying-are (l ∷ lives) (id ∷ ids) long each =
-    λ i. by l.died i ∷ staying-are lives ids (omega (arith, long)) (λ place. each (suc place)) i
+pub life-as : (config : ConfigValues) (update cell steps : ℕ) (ids : List ℕ)
+    (slot : Option OrganismState)
+    → LivesAs ids cell (shard_life_of (round_of config update) cell steps slot)
+    (life_of config update cell steps (with_id (get_or ids cell 0) slot))
+unfolding life_by life_of
+life-as config update cell steps ids None = record { stays = refl; births = refl; dead = refl }
+life-as config update cell steps ids (Some o) =
+    let words = draw config.seed update cell Run in
+    let l = ended_life (life (settings_at config update) words (beginning o) steps) in
+    record {
+      stays = stays l.died l.organism;
+      births = map-both (born_in cell) (delivery_by ids) l.newborns;
+      dead = dead l.died;
+    }
   where
-    by : (b : Bool) → with_id id (cond b None (organism_in l.occupant)) ≡ cond b None l.occupant
-    by true = refl
-    by false = sym (each 0)
+    id : ℕ
+    id = get_or ids cell 0
+
+    stays : (died : Bool) (left : Option OrganismState)
+        → with_id id (cond died None left) ≡ cond died None (with_id id left)
+    stays true left = refl
+    stays false left = refl
+
+    dead : (died : Bool)
+        → map (tenant_by ids) (cond died (cell ∷ []) []) ≡ cond died (tenant cell id ∷ []) []
+    dead true = refl
+    dead false = refl
+
+-- what is told of cells that go on from one, where it is alike for each
+pub told-alike : {A B X Y : Type 0} (f : ℕ → A) (g : ℕ → B) (tell : ℕ × A → List X)
+    (say : ℕ × B → List Y) (h : X → Y) (from n : ℕ)
+    → ((cell : ℕ) → map h (tell (cell, f cell)) ≡ say (cell, g cell))
+    → map h (flat_map tell (enumerate_from from (map f (range_with_len from n))))
+    ≡ flat_map say (enumerate_from from (map g (range_with_len from n)))
+told-alike f g tell say h from zero alike = refl
+told-alike f g tell say h from (suc n) alike =
+    map-append h (tell (from, f from))
+    (flat_map tell (enumerate_from (from + 1) (map f (range_with_len (from + 1) n))))
+    ∙ (λ i. alike from i ++ told-alike f g tell say h (from + 1) n alike i)
+
+-- who stays in cells that go on from one
+pub staying-are : (f : ℕ → OrganismLife) (g : ℕ → CellLife) (from n : ℕ) (ids : List ℕ)
+    → length ids ≡ n
+    → ((place cell : ℕ) → cell ≡ from + place
+    → with_id (get_or ids place 0) (left_in (f cell)) ≡ staying_in (g cell))
+    → occupants_of (map left_in (map f (range_with_len from n))) ids
+    ≡ map staying_in (map g (range_with_len from n))
+staying-are f g from zero ids long each = refl
+staying-are f g from (suc n) [] long each = absurd (omega (arith, long))
+staying-are f g from (suc n) (id ∷ ids) long each =
+    let rest = staying-are f g (from + 1) n ids (omega (arith, long))
+    (λ place cell is. each (suc place) cell (omega (arith, is))) in
+    λ i. each 0 from (omega arith) i ∷ rest i

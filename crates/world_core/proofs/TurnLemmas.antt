@@ -1,12 +1,13 @@
 -- A turn of the count after lives, over what is read of the cell.
 use Rattle.std.proofs.Common.{◌≡◌, ◌∙◌, sym, ap, subst, ℕ, ◌+◌, ◌<◌, ◌≤◌, List, length, map, set, get_or, Option, None, arith}
 use Rattle.std.proofs.lemmas.List.{get_or-map, get_or_read, length-map}
-use Rattle.cell_shards.specs.CellLives.{RoundNumbers, left_in, part_from, shard_lives_of, standing_in, with_id}
+use Rattle.cell_shards.specs.CellLives.{RoundNumbers, left_in, part_from, shard_lives_of, standing_in}
 use Rattle.cell_shards.specs.declared.standing.Standing.{Standing}
 use Rattle.census.specs.Counts.{Counts}
 use Rattle.instruction_set.specs.declared.letter.Letter.{Letter}
 use Rattle.organism.specs.OrganismState.{OrganismState}
 use Rattle.world_config.specs.Values.{ConfigValues}
+use Rattle.world_rules.specs.Lives.{with_id}
 use Rattle.world_rules.specs.World.{Occupant}
 use Rattle.world_core.specs.Population.{CanCountAgain, CountsAgain, IsKeptOf}
 use Rattle.world_core.specs.Residents.{occupants_of}

@@ -4,8 +4,6 @@ use Rattle.std.specs.List.{fold}
 use Rattle.std.proofs.lemmas.Grind.{flat_map-append}
 use Rattle.std.proofs.lemmas.List.{length-map}
 use Rattle.std.proofs.lemmas.List.FromFn.{length-map-range_with_len}
-use Rattle.cell_shards.specs.CellLives.{departed_of}
-use Rattle.cell_shards.specs.declared.tenant.Tenant.{Tenant}
 use Rattle.lineage_log.specs.LogGrammar.{lines_text}
 use Rattle.lineage_log.specs.Links.{Link}
 use Rattle.log_lines.specs.Line.{Line, Count}
@@ -21,7 +19,8 @@ use Rattle.world_rules.specs.Scene.{Scene, cells_from, with_death, with_deaths, 
 use Rattle.world_rules.specs.Statistics.{next_stats, scene_stats}
 use Rattle.world_rules.specs.LogText.{birth_lines, event_lines, lines_of_lives, update_lines}
 use Rattle.world_rules.specs.Update.{Delivery, after_lives, lives_after, births_of, turns_of, events_at, with_newborn, after_births, after_burials, after_what, after_event, after_events, last_scene, next_scene, scene_of_lives}
-use Rattle.world_core.specs.Lived.{departure_line, staying_in}
+use Rattle.world_core.specs.Lived.{departed_from, departure_line, staying_in}
+use Rattle.world_core.specs.declared.ids.Tenant.{Tenant}
 use Rattle.world_core.proofs.BurialLemmas.{burial-lines-are, burials-are}
 
 -- a death leaves the update
@@ -105,7 +104,7 @@ pub record Phases (config : ConfigValues) (w : World) (dead : List Tenant)
     everyone = w.everyone;
     gone = [];
   }
-  pub dead_are : dead ≡ departed_of 0 (lives_after config w)
+  pub dead_are : dead ≡ departed_from 0 (lives_after config w)
   pub births_are : births ≡ births_of (lives_after config w)
   pub buried : s1 ≡ record s0 { gone = s0.gone ++ map (λ one. one.id) dead }
   pub placed : s2 ≡ after_births config s1 births

@@ -1,8 +1,5 @@
 -- The end of an update, once all its lives have ended (docs/WORLD.md, "The end of an update").
 use Rattle.std.specs.Prelude.{◌≡◌, ◌+◌, ◌++◌, ◌≤◌, ◌^◌, List, [], ◌∷◌, length, map}
-use Rattle.cell_shards.specs.Finishing.{birth_of}
-use Rattle.cell_shards.specs.declared.delivered.Delivered.{Delivered}
-use Rattle.cell_shards.specs.declared.tenant.Tenant.{Tenant}
 use Rattle.instruction_set.specs.declared.letter.Letter.{Letter}
 use Rattle.log_lines.specs.Line.{Line, Count}
 use Rattle.log_lines.specs.declared.stats.Stats.{Stats}
@@ -13,8 +10,10 @@ use Rattle.world_rules.specs.Scene.{Scene}
 use Rattle.world_rules.specs.Statistics.{next_stats, scene_stats}
 use Rattle.world_rules.specs.Update.{Delivery, after_births, after_events, next_scene, world_of}
 use Rattle.world_core.specs.Genotypes.{TakesIn}
-use Rattle.world_core.specs.Lived.{departure_line}
+use Rattle.world_core.specs.Lived.{delivered_in, delivery_in, departure_line}
 use Rattle.world_core.specs.Scenes.{Grows, SceneValue, scene_in}
+use Rattle.world_core.specs.declared.ids.Birth.{Birth}
+use Rattle.world_core.specs.declared.ids.Tenant.{Tenant}
 
 -- the scene once these are among the dead of the update
 abbrev pub with_departed : Scene → List Tenant → Scene
@@ -35,15 +34,15 @@ last_lines config scene dead births stats =
 
 -- a scene as all lives have ended, with these dead and newborns, comes to another one as the events
 -- have happened; a bank that took in the newborns then grows as the list of all does
-pub record Ends (config : ConfigValues) (dead : List Tenant) (births : List Delivered)
+pub record Ends (config : ConfigValues) (dead : List Tenant) (births : List Birth)
     (before after : SceneValue) (stats : Stats) : Type 0 where
   pub scene : scene_in after
-      ≡ after_events config (with_births config (scene_in before) dead (map birth_of births))
+      ≡ after_events config (with_births config (scene_in before) dead (map delivery_in births))
   pub counts : stats ≡ scene_stats (scene_in after) (length births)
   pub size : length after.cells ≡ length before.cells
   pub few : length after.everyone ≤ length before.everyone + length births + MOST_EVENTS
   pub first : after.first ≡ before.first
-  pub bank : (old : List (List Letter)) → TakesIn old before.bank births
+  pub bank : (old : List (List Letter)) → TakesIn old before.bank (delivered_in births)
       → Grows old after.bank before.everyone after.everyone
 
 -- an update leads from a scene to another one, and this is counted at its end

@@ -1,9 +1,10 @@
 -- Who stands in each cell, where organisms and ids are kept apart (docs/ARCHITECTURE.md, "Shards").
 use Rattle.std.specs.Prelude.{◌≡◌, ℕ, List, length, map, Option}
 use Rattle.std.specs.List.{zip}
-use Rattle.cell_shards.specs.CellLives.{standing_in, with_id}
+use Rattle.cell_shards.specs.CellLives.{standing_in}
 use Rattle.cell_shards.specs.declared.standing.Standing.{Standing}
 use Rattle.organism.specs.OrganismState.{OrganismState}
+use Rattle.world_rules.specs.Lives.{with_id}
 use Rattle.world_rules.specs.World.{Occupant}
 
 -- who stands in each cell, by the organisms and the ids of the cells

@@ -1,9 +1,9 @@
 // The newborns of an update are placed, one after another.
 ghost use Rattle.std.specs.Prelude.{◌≡◌, ◌+◌, ◌*◌, ◌++◌, ◌<◌, ◌≤◌, ◌^◌, All, OnOk, IfOk, length, map};
-ghost use Rattle.cell_shards.specs.Finishing.{birth_of, genome_in};
+ghost use Rattle.cell_shards.specs.Finishing.{genome_in};
 ghost use Rattle.genome.specs.Genome.{letters};
 ghost use Rattle.lineage_log.specs.LogGrammar.{lines_text};
-ghost use Rattle.log_lines.specs.Line.{Birth};
+ghost use Rattle.log_lines.specs.Line as line;
 ghost use Rattle.log_lines.specs.LineText.{line_text};
 ghost use Rattle.mutations.specs.BirthRecord.{record_of};
 ghost use Rattle.organism.specs.OrganismState.{new_organism};
@@ -13,9 +13,11 @@ ghost use Rattle.world_rules.specs.Scene.{next_id, standing_at};
 ghost use Rattle.world_rules.specs.Update.{placings_of, with_newborn, after_births};
 ghost use Rattle.world_rules.specs.World.{ids_of};
 ghost use Rattle.world_core.specs.Genotypes.{HasNumber, genomes_ever};
+ghost use Rattle.world_core.specs.Lived.{delivered_in, delivery_in};
 ghost use Rattle.world_core.specs.Scenes.{scene_in};
 ghost use Rattle.world_core.specs.Soundness.{IsDelivery, AreDeliveries};
 
+use crate::ids::Birth;
 use crate::residents::Residents;
 use crate::scene::Scene;
 use crate::settings::{placing_round_at, torus_of};
@@ -36,22 +38,22 @@ pub(crate) fn place_births(
     alloc: Global,
     config: &Config,
     scene: &mut Scene,
-    births: Vec<Delivered>,
+    births: Vec<Birth>,
     text: &mut Vec<u8>,
 ) -> Result<(), Memory>
     requires size { length scene.old.cells ≡ config.now.width * config.now.height }
     requires births { AreDeliveries (values_of config.now) (length scene.old.cells)
-        (map birth_of births.items) }
-    requires numbers { All (HasNumber scene.old.bank) births.items }
+        (map delivery_in births.items) }
+    requires numbers { All (λ b. HasNumber scene.old.bank b.newborn) births.items }
     requires few { length scene.old.everyone ≤ 2 ^ 62 + 2 ^ 60 }
     ensures scene { OnOk result (scene_in scene.new ≡ after_births (values_of config.now)
-        (scene_in scene.old) (map birth_of births.items)) }
+        (scene_in scene.old) (map delivery_in births.items)) }
     ensures text { OnOk result (text.new.items
         ≡ text.old.items ++ lines_text (birth_lines (values_of config.now)
-        (scene_in scene.old) (map birth_of births.items))) }
+        (scene_in scene.old) (map delivery_in births.items))) }
     ensures bank { OnOk result (scene.new.bank ≡ scene.old.bank) }
     ensures genomes { OnOk result (genomes_ever scene.new.everyone
-        ≡ genomes_ever scene.old.everyone ++ map genome_in births.items) }
+        ≡ genomes_ever scene.old.everyone ++ map genome_in (delivered_in births.items)) }
     ensures size { OnOk result (length scene.new.cells ≡ length scene.old.cells) }
     ensures everyone { OnOk result
         (length scene.new.everyone ≡ length scene.old.everyone + length births.items) }
@@ -70,14 +72,14 @@ fn placings_of(
     alloc: Global,
     config: &Config,
     scene: &Scene,
-    births: &[Delivered],
+    births: &[Birth],
 ) -> Result<Placings, Memory>
     requires size { length scene.now.cells ≡ config.now.width * config.now.height }
     requires births { AreDeliveries (values_of config.now) (length scene.now.cells)
-        (map birth_of births.now) }
+        (map delivery_in births.now) }
     requires few { length scene.now.everyone ≤ 2 ^ 62 + 2 ^ 60 }
     ensures placings { IfOk result (λ placings. placings
-        ≡ placings_of (values_of config.now) (scene_in scene.now) (map birth_of births.now)) }
+        ≡ placings_of (values_of config.now) (scene_in scene.now) (map delivery_in births.now)) }
     ensures count { IfOk result (λ placings. length placings ≡ length births.now) }
     ensures in_world { IfOk result (λ placings.
         All (λ placing. placing.cell < length scene.now.cells) placings) }
@@ -90,10 +92,13 @@ fn placings_of(
 }
 
 /// The cells of the newborns' parents.
-fn parents_of(alloc: Global, births: &[Delivered]) -> Result<Parents, Memory>
-    ensures { IfOk result (λ parents. parents ≡ map (λ b. b.cell) births.now) }
+fn parents_of(alloc: Global, births: &[Birth]) -> Result<Parents, Memory>
+    ensures { IfOk result (λ parents. parents ≡ map (λ b. b.newborn.cell) births.now) }
 {
-    let cells = births.iter().map(|birth| birth.cell).collect(alloc)?;
+    let cells = births
+        .iter()
+        .map(|birth| birth.newborn.cell)
+        .collect(alloc)?;
     Ok(Parents::from_vec(cells))
 }
 
@@ -111,33 +116,33 @@ fn place_newborn(
     alloc: Global,
     config: &Config,
     scene: &mut Scene,
-    birth: Delivered,
+    birth: Birth,
     placing: &Placing,
     text: &mut Vec<u8>,
 ) -> Result<(), Memory>
     requires cell { placing.now.cell < length scene.old.cells }
     requires birth { IsDelivery (values_of config.now) (length scene.old.cells)
-        (birth_of birth) }
-    requires number { HasNumber scene.old.bank birth }
+        (delivery_in birth) }
+    requires number { HasNumber scene.old.bank birth.newborn }
     ensures scene { OnOk result (scene_in scene.new ≡ with_newborn (values_of config.now)
-        (scene_in scene.old) (birth_of birth, placing.now)) }
+        (scene_in scene.old) (delivery_in birth, placing.now)) }
     ensures text { OnOk result (text.new.items ≡ text.old.items
-        ++ line_text (birth_line (scene_in scene.old) (birth_of birth, placing.now))) }
+        ++ line_text (birth_line (scene_in scene.old) (delivery_in birth, placing.now))) }
     ensures bank { OnOk result (scene.new.bank ≡ scene.old.bank) }
     ensures size { OnOk result (length scene.new.cells ≡ length scene.old.cells) }
     ensures everyone { OnOk result (length scene.new.everyone ≡ length scene.old.everyone + 1) }
     ensures first { OnOk result (scene.new.first ≡ scene.old.first) }
 {
     let id = scene.next_id();
+    let Birth { parent, newborn } = birth;
     let Delivered {
-        parent,
         handle,
         remembered,
         origin,
         merit,
         credited,
         ..
-    } = birth;
+    } = newborn;
     let cell = placing.cell;
     tell_birth(scene, parent, cell, &origin, text)?;
     scene.enroll(Some(parent), cell, Some(origin), remembered)?;
@@ -189,7 +194,7 @@ fn tell_birth(
     text: &mut Vec<u8>,
 ) -> Result<(), Memory>
     requires { cell < length scene.now.cells }
-    ensures { OnOk result (text.new.items ≡ text.old.items ++ line_text (Birth
+    ensures { OnOk result (text.new.items ≡ text.old.items ++ line_text (line.Birth
         (next_id (scene_in scene.now)) parent scene.now.update cell
         (standing_at (scene_in scene.now) cell) (record_of origin.now))) }
 {

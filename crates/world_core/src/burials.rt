@@ -3,9 +3,9 @@ ghost use Rattle.std.specs.Prelude.{◌≡◌, ◌++◌, OnOk, map};
 ghost use Rattle.lineage_log.specs.LogGrammar.{lines_text};
 ghost use Rattle.world_core.specs.Lived.{departure_line};
 
+use crate::ids::Tenant;
 use crate::scene::Scene;
 use avida_port::Memory;
-use cell_shards::Tenant;
 use log_lines::{LogLine, write_line};
 
 /// Those that died of age, and left their cells, are among the dead of the update, with a line for

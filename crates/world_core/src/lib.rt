@@ -8,6 +8,7 @@ mod events;
 mod everyone;
 mod founding;
 mod genotypes;
+mod ids;
 mod late_tree;
 mod lives;
 mod loads;

@@ -1,5 +1,5 @@
 // The lives of an update, all from one start.
-ghost use Rattle.std.specs.Prelude.{◌≡◌, ◌+◌, ◌<◌, ◌≤◌, ◌^◌, ℕ, All, List, IfOk, length, map, sum, slice_index_or};
+ghost use Rattle.std.specs.Prelude.{◌≡◌, ◌+◌, ◌<◌, ◌≤◌, ◌^◌, ℕ, All, IfOk, length, map, sum, slice_index_or};
 ghost use Rattle.cell_shards.specs.CellLives.{round_numbers};
 ghost use Rattle.census.specs.Changes.{CanRenew};
 ghost use Rattle.merit_slices.specs.Slices.{slices_of};
@@ -18,8 +18,7 @@ use world_config::Config;
 
 /// What all lives of an update share.
 pub(crate) fn round_at(config: &Config, update: u32) -> Round
-    ensures { (ids : List ℕ)
-        → round_numbers result ids ≡ round_of (values_of config.now) update ids }
+    ensures { round_numbers result ≡ round_of (values_of config.now) update }
 {
     Round {
         seed: config.seed,

@@ -1,7 +1,5 @@
 // Who stands in each cell, and what is counted of them.
 ghost use Rattle.std.specs.Prelude.{◌≡◌, ◌+◌, ◌++◌, [], ◌<◌, ◌≤◌, ◌^◌, All, None, Some, IfOk, OnErr, OnOk, length, map, option_map, replicate, slice_get, slice_index_or, slice_set};
-ghost use Rattle.cell_shards.specs.CellLives.{departed_of};
-ghost use Rattle.cell_shards.specs.Finishing.{birth_of};
 ghost use Rattle.census.specs.Dominance.{dominant_value};
 ghost use Rattle.genome.specs.Genome.{letters};
 ghost use Rattle.genotype_bank.specs.BankHistory.{with_genome};
@@ -11,16 +9,17 @@ ghost use Rattle.world_rules.specs.Statistics.{dominant_of, organism_in, stats_i
 ghost use Rattle.world_rules.specs.Update.{births_of};
 ghost use Rattle.world_laws.specs.Keeping.{LiveOn};
 ghost use Rattle.world_core.specs.Genotypes.{TakesIn};
-ghost use Rattle.world_core.specs.Lived.{staying_in};
+ghost use Rattle.world_core.specs.Lived.{delivered_in, delivery_in, departed_from, staying_in};
 ghost use Rattle.world_core.specs.Population.{occupant_genome};
 ghost use Rattle.world_core.specs.Soundness.{AreBounded, AreBoundedLives};
 
 use crate::genotypes::Genotypes;
+use crate::ids::{Birth, Tenant, with_ids};
 use crate::lives::{count_again, round_at, slices_by};
 use crate::residents::Residents;
 use crate::sharding::{Ended, live_in_shards};
 use avida_port::{Gate, Memory};
-use cell_shards::{BoxedOrganism, Delivered, Tenant};
+use cell_shards::BoxedOrganism;
 use census::laws::dominance_knows_no_order;
 use census::{Census, Dominant};
 use genome::Genome;
@@ -172,7 +171,7 @@ impl Population {
         workers: u32,
         gate: &G,
         errand: F,
-    ) -> Result<(Population, Vec<Delivered>, Vec<Tenant>, T), Memory>
+    ) -> Result<(Population, Vec<Birth>, Vec<Tenant>, T), Memory>
         requires some { 1 ≤ length self.cells }
         requires update { update < GREATEST_UPDATES }
         requires workers { (1 ≤ workers) × (workers ≤ 64) }
@@ -182,13 +181,14 @@ impl Population {
         requires errand { F.pre errand }
         ensures cells { IfOk result (λ next. next.0.cells
             ≡ map staying_in (lives_of (values_of config.now) (update + 1) self.cells)) }
-        ensures births { IfOk result (λ next. map birth_of next.1.items
+        ensures births { IfOk result (λ next. map delivery_in next.1.items
             ≡ births_of (lives_of (values_of config.now) (update + 1) self.cells)) }
         ensures dead { IfOk result (λ next. next.2.items
-            ≡ departed_of 0 (lives_of (values_of config.now) (update + 1) self.cells)) }
-        ensures bank { IfOk result (λ next. TakesIn self.bank next.0.bank next.1.items) }
+            ≡ departed_from 0 (lives_of (values_of config.now) (update + 1) self.cells)) }
+        ensures bank { IfOk result (λ next. TakesIn self.bank next.0.bank
+            (delivered_in next.1.items)) }
         ensures bounds { IfOk result (λ next. AreBoundedLives (values_of config.now) (update + 1)
-            next.0.cells (map birth_of next.1.items)) }
+            next.0.cells (map delivery_in next.1.items)) }
         ensures errand { IfOk result (λ next. F.post errand next.3) }
     {
         one_index();
@@ -206,7 +206,7 @@ impl Population {
         let slices = slices_by(alloc, config, &before)?;
         let round = round_at(config, update + 1);
         let (genotypes, ended, brought) = live_in_shards(
-            rt, alloc, known, organisms, slices, &round, &ids, workers, gate, errand,
+            rt, alloc, known, organisms, slices, &round, workers, gate, errand,
         )?;
         let Ended {
             organisms: left,
@@ -214,6 +214,7 @@ impl Population {
             births,
             dead,
         } = ended;
+        let (births, dead) = with_ids(alloc, &ids, births, dead)?;
         for cell in 0..left.len() {
             count_again(&mut census, keys[cell], before[cell], standings[cell]);
         }

@@ -2,7 +2,7 @@
 ghost use Rattle.std.specs.Prelude.{◌≡◌, ◌+◌, ◌<◌, ◌≤◌, ◌^◌, ◌++◌, ◌∷◌, List, All, IfOk, Ok, OnOk, drop, length, map, sum, take};
 ghost use Rattle.std.specs.List.Sorted.{IsPermutation};
 ghost use mathlib.Core.List.{IsPrefix};
-ghost use Rattle.cell_shards.specs.CellLives.{IsYoung, births_from, departed_of, left_in, part_from, round_numbers, shard_lives_of, standing_in};
+ghost use Rattle.cell_shards.specs.CellLives.{IsYoung, births_from, deaths_from, left_in, part_from, round_numbers, shard_lives_of, standing_in};
 ghost use Rattle.cell_shards.specs.Finishing.{IsNumbered, birth_of};
 ghost use Rattle.genotype_bank.specs.Seats.{all_shares, own_calls_of};
 ghost use Rattle.world_core.specs.Genotypes.{TakesIn};
@@ -14,7 +14,7 @@ use crate::loads::{loads_of, start_of};
 use avida_port::{Gate, Items, Memory};
 use cell_shards::laws::{parts_live_as_one, shards_part_the_cells};
 use cell_shards::{
-    BoxedOrganism, Cells, Delivered, Finished, Job, Round, Slices, Standing, Tenant, bounds,
+    BoxedOrganism, Cells, Delivered, Finished, Job, Round, Slices, Standing, bounds,
     run_with_errand,
 };
 use genotype_bank::laws::{calls_number_genotypes, genotypes_are_what_was_interned, numbers_agree};
@@ -24,13 +24,14 @@ use std::alloc::Global;
 use std::sync::Wait;
 use std::thread::Threads;
 
-/// The cells after an update without the dead, what is counted of them, its newborns, and its dead.
+/// The cells after an update without the dead, what is counted of them, its newborns, and the cells
+/// of its dead.
 #[derive(Drop)]
 pub(crate) struct Ended {
     pub(crate) organisms: Vec<Option<BoxedOrganism>>,
     pub(crate) standings: Vec<Option<Standing>>,
     pub(crate) births: Vec<Delivered>,
-    pub(crate) dead: Vec<Tenant>,
+    pub(crate) dead: Vec<u32>,
 }
 
 /// All cells live for an update, in shards, by as many threads as there are workers. One worker has
@@ -48,7 +49,6 @@ pub(crate) fn live_in_shards<
     cells: Vec<Option<BoxedOrganism>>,
     slices: Vec<u64>,
     round: &Round,
-    ids: &[u64],
     workers: u32,
     gate: &G,
     errand: F,
@@ -61,13 +61,13 @@ pub(crate) fn live_in_shards<
     requires workers { (1 ≤ workers) × (workers ≤ 64) }
     requires errand { F.pre errand }
     ensures cells { IfOk result (λ next. next.1.organisms.items ≡ map left_in
-        (shard_lives_of (round_numbers round.now ids.now) (part_from 0 cells.items slices.items))) }
+        (shard_lives_of (round_numbers round.now) (part_from 0 cells.items slices.items))) }
     ensures standings { IfOk result
         (λ next. next.1.standings.items ≡ map standing_in next.1.organisms.items) }
     ensures births { IfOk result (λ next. map birth_of next.1.births.items ≡ births_from 0
-        (shard_lives_of (round_numbers round.now ids.now) (part_from 0 cells.items slices.items))) }
-    ensures dead { IfOk result (λ next. next.1.dead.items ≡ departed_of 0
-        (shard_lives_of (round_numbers round.now ids.now) (part_from 0 cells.items slices.items))) }
+        (shard_lives_of (round_numbers round.now) (part_from 0 cells.items slices.items))) }
+    ensures dead { IfOk result (λ next. next.1.dead.items ≡ deaths_from 0
+        (shard_lives_of (round_numbers round.now) (part_from 0 cells.items slices.items))) }
     ensures bank { IfOk result (λ next. TakesIn genotypes next.0 next.1.births.items) }
     ensures different { IfOk result (λ next. AreDifferent next.0) }
     ensures errand { IfOk result (λ next. F.post errand next.2) }
@@ -79,17 +79,8 @@ pub(crate) fn live_in_shards<
     let Genotypes { bank, seat, len } = genotypes;
     seat.owns_all();
     let jobs = jobs_of(alloc, &bank, seat, cells, slices, shards_for(workers))?;
-    let (shards, brought) = run_with_errand(
-        rt,
-        alloc,
-        jobs,
-        workers as usize,
-        &bank,
-        round,
-        ids,
-        gate,
-        errand,
-    )?;
+    let threads = workers as usize;
+    let (shards, brought) = run_with_errand(rt, alloc, jobs, threads, &bank, round, gate, errand)?;
     let Finished {
         cells,
         standings,

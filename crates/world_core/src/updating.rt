@@ -1,7 +1,5 @@
 // One update.
 ghost use Rattle.std.specs.Prelude.{◌≡◌, ◌+◌, ◌++◌, ◌*◌, ◌<◌, ◌≤◌, ◌^◌, [], All, IfOk, OnOk, length, map};
-ghost use Rattle.cell_shards.specs.CellLives.{departed_of};
-ghost use Rattle.cell_shards.specs.Finishing.{birth_of};
 ghost use Rattle.lineage_log.specs.LogGrammar.{lines_text};
 ghost use Rattle.log_lines.specs.Line.{Count};
 ghost use Rattle.log_lines.specs.LineText.{line_text};
@@ -12,16 +10,16 @@ ghost use Rattle.world_rules.specs.LogText.{update_lines};
 ghost use Rattle.world_rules.specs.Update.{births_of, world_of};
 ghost use Rattle.world_core.specs.Endings.{Ends, IsNext, last_lines};
 ghost use Rattle.world_core.specs.Genotypes.{HasNumber, TakesIn};
-ghost use Rattle.world_core.specs.Lived.{staying_in};
+ghost use Rattle.world_core.specs.Lived.{delivered_in, delivery_in, departed_from, staying_in};
 ghost use Rattle.world_core.specs.Scenes.{scene_in};
 ghost use Rattle.world_core.specs.Soundness.{AreDeliveries};
 
 use crate::births::place_births;
 use crate::burials::bury;
 use crate::events::happen;
+use crate::ids::{Birth, Tenant};
 use crate::scene::Scene;
 use avida_port::{Gate, Memory};
-use cell_shards::{Delivered, Tenant};
 use log_lines::{LogLine, Stats, write_line};
 use std::alloc::Global;
 use std::sync::Wait;
@@ -71,20 +69,20 @@ fn end_update<R: Wait>(
     alloc: Global,
     config: &Config,
     scene: &mut Scene,
-    births: Vec<Delivered>,
+    births: Vec<Birth>,
     dead: &[Tenant],
     text: &mut Vec<u8>,
 ) -> Result<Stats, Memory>
     requires size { length scene.old.cells ≡ config.now.width * config.now.height }
     requires few { length scene.old.everyone ≤ 2 ^ 62 + 2 ^ 60 }
     requires births { AreDeliveries (values_of config.now) (length scene.old.cells)
-        (map birth_of births.items) }
-    requires numbers { All (HasNumber scene.old.bank) births.items }
+        (map delivery_in births.items) }
+    requires numbers { All (λ b. HasNumber scene.old.bank b.newborn) births.items }
     ensures ends { IfOk result (Ends (values_of config.now) dead.now births.items
         scene.old scene.new) }
     ensures text { IfOk result (λ stats. text.new.items ≡ text.old.items ++ lines_text
         (last_lines (values_of config.now) (scene_in scene.old) dead.now
-        (map birth_of births.items) stats)) }
+        (map delivery_in births.items) stats)) }
 {
     let count = births.len() as u64;
     bury(scene, dead, text)?;
@@ -111,7 +109,7 @@ fn scene_of_lives<R: Threads + Wait + Sync, G: Gate + Sync, T: Drop, F: FnOnce()
     workers: u32,
     gate: &G,
     errand: F,
-) -> Result<(Scene, Vec<Delivered>, Vec<Tenant>, T), Memory>
+) -> Result<(Scene, Vec<Birth>, Vec<Tenant>, T), Memory>
     requires size { length scene.cells ≡ config.now.width * config.now.height }
     requires update { scene.update < GREATEST_UPDATES }
     requires workers { (1 ≤ workers) × (workers ≤ 64) }
@@ -123,13 +121,14 @@ fn scene_of_lives<R: Threads + Wait + Sync, G: Gate + Sync, T: Drop, F: FnOnce()
       everyone = scene.everyone;
       gone = [];
     }) }
-    ensures births { IfOk result (λ next. map birth_of next.1.items
+    ensures births { IfOk result (λ next. map delivery_in next.1.items
         ≡ births_of (lives_of (values_of config.now) (scene.update + 1) scene.cells)) }
     ensures deliveries { IfOk result (λ next. AreDeliveries (values_of config.now)
-        (length scene.cells) (map birth_of next.1.items)) }
+        (length scene.cells) (map delivery_in next.1.items)) }
     ensures dead { IfOk result (λ next. next.2.items
-        ≡ departed_of 0 (lives_of (values_of config.now) (scene.update + 1) scene.cells)) }
-    ensures bank { IfOk result (λ next. TakesIn scene.bank next.0.bank next.1.items) }
+        ≡ departed_from 0 (lives_of (values_of config.now) (scene.update + 1) scene.cells)) }
+    ensures bank { IfOk result (λ next. TakesIn scene.bank next.0.bank
+        (delivered_in next.1.items)) }
     ensures size { IfOk result (λ next. length next.0.cells ≡ length scene.cells) }
     ensures first { IfOk result (λ next. next.0.first ≡ scene.first) }
     ensures errand { IfOk result (λ next. F.post errand next.3) }

@@ -13,7 +13,7 @@ use Rattle.organism.specs.Lived.{IsSoundOrganism, IsBornOf, beginning}
 use Rattle.world_config.specs.Values.{ConfigValues}
 use Rattle.world_rules.specs.World.{Occupant}
 use Rattle.world_rules.specs.Settings.{rules_of, settings_at}
-use Rattle.world_rules.specs.Lives.{CellLife, life_of, life_at, lives_of, slice_at}
+use Rattle.world_rules.specs.Lives.{CellLife, life_by, life_of, life_at, lives_of, slice_at}
 use Rattle.world_laws.specs.LowerLaws.{LifeLaws}
 use Rattle.world_laws.proofs.ListLemmas.{got_some}
 use Rattle.world_laws.proofs.Scenes.{Each}
@@ -42,7 +42,7 @@ life_is : (laws : LifeLaws) (config : ConfigValues) → AreRules (rules_of confi
     → (update cell steps : ℕ) (slot : Option Occupant)
     → ((o : Occupant) → slot ≡ Some o → IsSoundOrganism o.organism)
     → IsLife config steps slot (life_of config update cell steps slot)
-unfolding life_of settings_at
+unfolding life_of life_by settings_at
 life_is laws config are update cell steps None sound = (refl, omega arith)
 life_is laws config are update cell steps (Some o) sound =
     let settings = settings_at config update in

@@ -18,7 +18,7 @@ use Rattle.organism.specs.OrganismState.{new_organism}
 use Rattle.organism.specs.UpdateLife.{life}
 use Rattle.world_config.specs.Events.{EventValue, WhatValue, inject, clear, rate}
 use Rattle.world_config.specs.Values.{ConfigValues}
-use Rattle.world_rules.specs.Lives.{CellLife, life_at, life_of, lives_of, no_life, slice_at, slices_at}
+use Rattle.world_rules.specs.Lives.{CellLife, life_at, life_by, life_of, lives_of, no_life, slice_at, slices_at}
 use Rattle.world_rules.specs.Scene.{Scene, cells_from, next_id}
 use Rattle.world_rules.specs.Settings.{settings_at, placing_round_at, torus_of}
 use Rattle.world_rules.specs.Update.{Delivery, after_births, after_burials, after_event, after_events, after_lives, after_what, birth_link, births_of, child_of_birth, deaths_of, events_at, last_scene, lives_after, next_scene, next_world, placings_of, scene_of_lives, with_newborn}
@@ -175,7 +175,7 @@ module _ (laws : LifeLaws) (keep : KeepLimits) (config : ConfigValues) (fit : Is
         → (life_of config update cell steps (Some x)).died ≡ false
         → IsInRange config (ages + 65536000) (life (settings_at config update)
         (draw config.seed update cell Run) (beginning x.organism) steps).0.organism
-    unfolding life_of settings_at
+    unfolding life_of life_by settings_at
     range_ended ages update cell steps x few sound range alive =
         let words = draw config.seed update cell Run in
         let settings = settings_at config update in
@@ -204,7 +204,7 @@ module _ (laws : LifeLaws) (keep : KeepLimits) (config : ConfigValues) (fit : Is
         → (life_of config update cell steps slot).occupant ≡ Some o
         → (life_of config update cell steps slot).died ≡ false
         → IsInRange config (ages + 65536000) o.organism
-    unfolding life_of
+    unfolding life_of life_by
     range_left ages update cell steps None o few stood there alive = absurd cc
     range_left ages update cell steps (Some x) o few stood there alive =
         let ended = life (settings_at config update) (draw config.seed update cell Run)
@@ -218,7 +218,7 @@ module _ (laws : LifeLaws) (keep : KeepLimits) (config : ConfigValues) (fit : Is
     range_newborns : (ages update cell steps : ℕ) (slot : Option Occupant)
         → ((x : Occupant) → slot ≡ Some x → IsInRange config ages x.organism)
         → AllByRecursion BringsNine (life_of config update cell steps slot).newborns
-    unfolding life_of
+    unfolding life_of life_by
     range_newborns ages update cell steps None stood = tt
     range_newborns ages update cell steps (Some x) stood =
         (life_leaves ages update cell steps x (stood x refl)).nine.newborns

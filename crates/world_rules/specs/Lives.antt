@@ -2,7 +2,7 @@
 -- (docs/WORLD.md, "Time slices" and "The life of one update"): each cell lives alone, whatever the
 -- others do. For example, if only cell 1 of two cells has an organism, cell 0 has no_life, and the
 -- life of cell 1 says what its organism became and bore.
-use Rattle.std.specs.Prelude.{ℕ, Bool, false, List, [], length, map, Option, None, Some, slice_index_or}
+use Rattle.std.specs.Prelude.{ℕ, Bool, false, List, [], length, map, Option, None, Some, option_map, slice_index_or}
 use Rattle.std.specs.List.{range_with_len}
 use Rattle.random_streams.specs.declared.purpose.Purpose.TheVariants.{Run}
 use Rattle.random_streams.specs.RandomStream.{draw}
@@ -10,13 +10,34 @@ use Rattle.merit_slices.specs.Slices.{slices_of}
 use Rattle.organism.specs.declared.ran.Ran.{Ran}
 use Rattle.organism.specs.Lived.{beginning}
 use Rattle.organism.specs.Newborns.{NewbornValue}
+use Rattle.organism.specs.OrganismState.{OrganismState}
+use Rattle.organism.specs.SettingNumbers.{SettingNumbers}
 use Rattle.organism.specs.UpdateLife.{LifeState, is_death, life}
 use Rattle.world_config.specs.Values.{ConfigValues}
 use Rattle.world_rules.specs.World.{Occupant}
 use Rattle.world_rules.specs.Settings.{settings_at}
 
--- what the life of a cell comes to: its organism after the last step, whether it died of age, and
--- its newborns
+-- what a life comes to: the organism after the last step, whether it died of age, and its newborns
+pub record OrganismLife : Type 0 where
+  pub organism : Option OrganismState
+  pub died : Bool
+  pub newborns : List NewbornValue
+
+-- a life that ended like this
+abbrev pub ended_life : LifeState × Ran → OrganismLife
+ended_life ended = record {
+  organism = Some ended.0.organism;
+  died = is_death ended.1;
+  newborns = ended.0.newborns;
+}
+
+-- the life of an organism by these words, of at most so many steps; of nobody nothing comes
+unfoldable pub life_by : SettingNumbers → (ℕ → ℕ) → ℕ → Option OrganismState → OrganismLife
+life_by settings words steps None = record { organism = None; died = false; newborns = [] }
+life_by settings words steps (Some o) = ended_life (life settings words (beginning o) steps)
+
+-- what the life of a cell comes to: who stands there after the last step, whether it died of age,
+-- and its newborns
 pub record CellLife : Type 0 where
   pub occupant : Option Occupant
   pub died : Bool
@@ -39,13 +60,14 @@ slices_at config cells = slices_of (map merit_in cells) config.average_slices
 abbrev pub slice_at : ConfigValues → List (Option Occupant) → ℕ → ℕ
 slice_at config cells cell = slice_index_or (slices_at config cells) cell 0
 
+-- the organism, if there is one, with this id
+abbrev pub with_id : ℕ → Option OrganismState → Option Occupant
+with_id id slot = option_map (λ organism. record { id = id; organism = organism }) slot
+
 -- the life of the organism with this id
-abbrev pub cell_life : ℕ → LifeState × Ran → CellLife
-cell_life id ended = record {
-  occupant = Some (record { id = id; organism = ended.0.organism });
-  died = is_death ended.1;
-  newborns = ended.0.newborns;
-}
+abbrev pub cell_life : ℕ → OrganismLife → CellLife
+cell_life id l =
+    record { occupant = with_id id l.organism; died = l.died; newborns = l.newborns }
 
 -- the life of who stands in a cell, with the run stream of this cell and update, of at most so many
 -- steps
@@ -53,8 +75,8 @@ unfoldable pub life_of : ConfigValues → ℕ → ℕ → ℕ → Option Occupan
 life_of config update cell steps None = no_life
 life_of config update cell steps (Some o) =
     cell_life o.id
-    (life (settings_at config update) (draw config.seed update cell Run) (beginning o.organism)
-    steps)
+    (life_by (settings_at config update) (draw config.seed update cell Run) steps
+    (Some o.organism))
 
 -- the life of a cell of these cells, as the update begins
 abbrev pub life_at : ConfigValues → ℕ → List (Option Occupant) → ℕ → CellLife

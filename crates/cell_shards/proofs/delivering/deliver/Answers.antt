@@ -1,8 +1,8 @@
-use Rattle.std.proofs.Common.{◌≡◌, ◌∙◌, ◌∷◌, ap, map, List, rules}
+use Rattle.std.proofs.Common.{◌≡◌, ◌∙◌, ◌∷◌, ap, map, List, rules, ℕ}
 use Rattle.std.specs.Vec.Iter.{into_iter_items}
-use Rattle.organism.specs.Newborns.{newborn_value}
+use Rattle.organism.specs.Newborns.{NewbornValue, newborn_value}
 use Rattle.organism.specs.declared.newborn.Newborn.{Newborn}
-use Rattle.world_rules.specs.Update.{Delivery, delivery_of}
+use Rattle.cell_shards.specs.CellLives.{born_in}
 use Rattle.cell_shards.proofs.InterningLemmas.{HasInterned-more, births-more}
 use Rattle.cell_shards.proofs.delivering.deliver.Goals as goal
 
@@ -14,8 +14,8 @@ loop-newborn-preserved g c =
     let so_far = c.loop-newborn.invariant in
     let before = c.loop-newborn.births in
     let delivered = c.in_ok-delivered.delivered in
-    let born = delivery_of c.args.parent.cell c.args.parent.id in
-    let births : List Newborn → List Delivery = λ newborns. map born (map newborn_value newborns) in
+    let born = born_in c.args.cell in
+    let births : List Newborn → List (ℕ × NewbornValue) = λ newborns. map born (map newborn_value newborns) in
     let left = into_iter_items c.loop-newborn.newborn-iterator in
     let rest = into_iter_items c.next.new.self in
     let taken : left ≡ c.in-Some.newborn ∷ rest = search rules in

@@ -2,16 +2,16 @@ use Rattle.std.proofs.Common.{◌≡◌, ◌++◌, map}
 use Rattle.std.specs.Vec.Iter.{into_iter_items}
 use Rattle.genotype_bank.specs.Seats.{SeatValue}
 use Rattle.organism.specs.Newborns.{newborn_value}
-use Rattle.world_rules.specs.Update.{delivery_of}
+use Rattle.cell_shards.specs.CellLives.{born_in}
 use Rattle.cell_shards.specs.Finishing.{HasInterned, birth_of}
 use Rattle.cell_shards.proofs.delivering.deliver.Given as goal
 
 abbrev pub invariant-loop-newborn : goal.invariant-loop-newborn
 invariant-loop-newborn g l = record {
   births : map birth_of l.births
-      ++ map (delivery_of l.parent.cell l.parent.id) (map newborn_value (into_iter_items l.newborn-iterator))
+      ++ map (born_in l.cell) (map newborn_value (into_iter_items l.newborn-iterator))
       ≡ map birth_of l.initial.births
-      ++ map (delivery_of l.parent.cell l.parent.id) (map newborn_value (into_iter_items l.initial.newborn-iterator));
+      ++ map (born_in l.cell) (map newborn_value (into_iter_items l.initial.newborn-iterator));
   bank : l.seat.bank ≡ l.initial.seat.bank;
   seat : (start : SeatValue) → HasInterned start l.initial.seat l.initial.births
       → HasInterned start l.seat l.births;

@@ -1,22 +1,21 @@
-use Rattle.std.proofs.Common.{◌≡◌, ◌∙◌, ap, refl, sym, cond, subst, ℕ, ◌+◌, ◌++◌, ◌∷◌, [], ◌<◌, List, None, length, map, get_or, arith}
+use Rattle.std.proofs.Common.{◌≡◌, ◌∙◌, ap, refl, sym, subst, ℕ, ◌+◌, ◌++◌, ◌∷◌, [], ◌<◌, List, None, length, map, get_or, arith}
 use Rattle.std.proofs.lemmas.List.{get_or_default}
 use Rattle.organism.specs.Newborns.{newborn_value}
-use Rattle.world_rules.specs.Update.{delivery_of}
-use Rattle.cell_shards.specs.CellLives.{IsYoung, id_in, lived_as, shared_numbers, shard_life_of, tenant}
-use Rattle.cell_shards.specs.declared.tenant.Tenant.{Tenant}
+use Rattle.cell_shards.specs.CellLives.{IsYoung, round_numbers, shard_life_of}
 use Rattle.cell_shards.specs.Finishing.{birth_of, part_of}
 use Rattle.cell_shards.proofs.InterningLemmas.{HasInterned-none}
-use Rattle.cell_shards.proofs.LivesLemmas.{HaveLived-more, HaveLived-next, HaveLived-none, IsFinished-lived, births-are, departed-are, left-are}
+use Rattle.cell_shards.proofs.LivesLemmas.{HaveLived-more, HaveLived-next, IsFinished-lived, lived_as}
 use Rattle.cell_shards.proofs.lives.live.Goals as goal
 
 pub loop-place-init : goal.loop-place-init
 loop-place-init g c = record {
   long = refl;
-  lives = HaveLived-none (shared_numbers c.args.shared.now) (part_of c.args.job)
-      c.into_vec-cells.result.items c.in_ok-standings.standings.items
-      (map birth_of c.none-births.result) c.none-dead.result c.into_vec-cells.ensures
-      c.in_ok-standings.ensures.items (ap (map birth_of) c.none-births.ensures)
-      c.none-dead.ensures;
+  lives = record {
+    cells_are = c.into_vec-cells.ensures;
+    standings_are = c.in_ok-standings.ensures.items;
+    births_are = ap (map birth_of) c.none-births.ensures;
+    dead_are = c.none-dead.ensures;
+  };
   seat = HasInterned-none c.args.job.seat c.none-births.result c.none-births.ensures;
 }
 
@@ -31,7 +30,7 @@ live_in-requires-clause-young g c =
     let within : c.loop-place.place < length c.args.job.cells =
     omega (arith, c.len-place-end.ensures, whole.result.ok.0, ap length whole.ensures) in
     subst IsYoung (sym at.ensures.value)
-    (HaveLived-next (shared_numbers c.args.shared.now) (part_of c.args.job) c.loop-place.place
+    (HaveLived-next (round_numbers c.args.round.now) (part_of c.args.job) c.loop-place.place
     c.loop-place.cells.items c.loop-place.standings.items (map birth_of c.loop-place.births)
     c.loop-place.dead at.result.now c.loop-place.invariant.lives within c.requires.job.young)
 
@@ -56,41 +55,26 @@ loop-place-preserved g c =
     let steps : c.index.result.now ≡ get_or c.args.job.slices place 0 =
     c.index.ensures ∙ get_or_default each.result.items place c.index.result.now 0 told
     ∙ ap (λ (slices : List ℕ). get_or slices place 0) each.ensures in
-    let round = shared_numbers c.args.shared.now in
+    let round = round_numbers c.args.round.now in
     let cell = c.args.job.first + place in
-    let id = id_in round cell in
-    let who : c.tenant_of-who.result ≡ tenant cell id = c.tenant_of-who.ensures in
     let died = c.in_ok-life.life.died in
     let newborns = map newborn_value c.in_ok-life.life.births in
-    let lived = (λ i. shard_life_of round (sym (ap (λ (t : Tenant). t.cell) who) i) (sym steps i)
-    at.result.now) ∙ c.in_ok-life.ensures
-    ∙ ap (λ (n : ℕ). lived_as (id_in round n) c.live_in.new.slot died newborns)
-    (ap (λ (t : Tenant). t.cell) who) in
+    let lived = (λ i. shard_life_of round cell (sym steps i) at.result.now)
+    ∙ c.in_ok-life.ensures in
     record {
       long = so_far.long;
-      lives = HaveLived-more (lived_as id c.live_in.new.slot died newborns) so_far.lives within
-          old lived
-          (c.in_ok-bury.ensures.slot
-          ∙ left-are id c.live_in.new.slot died newborns)
+      lives = HaveLived-more (lived_as c.live_in.new.slot died newborns) so_far.lives within old
+          lived c.in_ok-bury.ensures.slot
           (c.in_ok-push.ensures.items
           ∙ (λ i. c.loop-place.standings.items ++ c.standing_in.ensures i ∷ []))
-          (c.in_ok-deliver.ensures.births
-          ∙ ap (λ bs. map birth_of c.loop-place.births ++ bs)
-          (ap (λ (t : Tenant). map (delivery_of t.cell t.id) newborns) who
-          ∙ births-are round cell (get_or c.args.job.slices place 0) c.live_in.new.slot died
-          newborns at.result.now lived))
-          (c.in_ok-bury.ensures.dead
-          ∙ ap (λ ds. c.loop-place.dead ++ ds)
-          (ap (λ (t : Tenant). cond died (t ∷ []) []) who
-          ∙ departed-are round cell (get_or c.args.job.slices place 0) c.live_in.new.slot died
-          newborns at.result.now lived));
+          c.in_ok-deliver.ensures.births c.in_ok-bury.ensures.dead;
       seat = c.in_ok-deliver.ensures.seat c.args.job.seat so_far.seat;
     }
 
 pub returns : goal.returns
 returns g c =
     let whole = c.into_vec-cells in
-    IsFinished-lived (shared_numbers c.args.shared.now) c.args.job c.loop-place.place
+    IsFinished-lived (round_numbers c.args.round.now) c.args.job c.loop-place.place
     (omega (arith, c.len-place-end.ensures, whole.result.ok.0, ap length whole.ensures))
     c.loop-place.invariant.lives c.loop-place.invariant.seat refl c.from_vec.ensures
     c.from_vec-2.ensures

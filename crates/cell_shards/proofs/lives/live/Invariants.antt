@@ -1,5 +1,5 @@
 use Rattle.std.proofs.Common.{◌≡◌, map}
-use Rattle.cell_shards.specs.CellLives.{shared_numbers}
+use Rattle.cell_shards.specs.CellLives.{round_numbers}
 use Rattle.cell_shards.specs.Finishing.{HasInterned, birth_of, part_of}
 use Rattle.cell_shards.proofs.LivesLemmas.{HaveLived}
 use Rattle.cell_shards.proofs.lives.live.Given as goal
@@ -7,7 +7,7 @@ use Rattle.cell_shards.proofs.lives.live.Given as goal
 abbrev pub invariant-loop-place : goal.invariant-loop-place
 invariant-loop-place g l = record {
   long : l.cells.len ≡ l.initial.cells.len;
-  lives : HaveLived (shared_numbers l.shared) (part_of l.fn.job) l.place l.cells.items
+  lives : HaveLived (round_numbers l.round) (part_of l.fn.job) l.place l.cells.items
       l.standings.items (map birth_of l.births) l.dead;
   seat : HasInterned l.fn.job.seat l.seat l.births;
 }

@@ -5,7 +5,7 @@ use Rattle.organism.specs.Newborns.{newborn_value}
 use Rattle.organism.specs.OrganismState.{OrganismState}
 use Rattle.organism.specs.UpdateLife.{life_state}
 use Rattle.cell_shards.specs.Bodies.{who_is}
-use Rattle.cell_shards.specs.CellLives.{shared_numbers}
+use Rattle.cell_shards.specs.CellLives.{round_numbers}
 use Rattle.cell_shards.proofs.LivesLemmas.{life_of-run}
 use Rattle.cell_shards.proofs.lives.live_once.Goals as goal
 
@@ -18,7 +18,7 @@ returns-clause-life c =
       newborns = map newborn_value (c.none-births.ensures i);
       next = (c.start-draws.ensures i).taken;
     } in
-    life_of-run (shared_numbers c.args.shared.now) c.args.cell c.args.steps o
+    life_of-run (round_numbers c.args.round.now) c.args.cell c.args.steps o
     (word_of c.start-draws.result) _
     (life_state c.run.new.self c.run.new.births c.run.new.draws) c.in_ok-ran.ran
     c.is_death.result (ap word_of c.start-draws.ensures) begins c.in_ok-ran.ensures.life

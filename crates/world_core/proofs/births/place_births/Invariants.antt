@@ -1,9 +1,11 @@
-use Rattle.std.proofs.Common.{◌≡◌, ◌+◌, ◌++◌, fold, take, length}
+use Rattle.std.proofs.Common.{◌≡◌, ◌+◌, ◌++◌, fold, take, length, map}
 use Rattle.std.specs.List.{scan}
 use Rattle.lineage_log.specs.LogGrammar.{lines_text}
 use Rattle.world_config.specs.Shown.{values_of}
+use Rattle.world_rules.specs.LogText.{birth_line}
+use Rattle.world_rules.specs.Update.{turns_of, with_newborn}
+use Rattle.world_core.specs.Lived.{delivery_in}
 use Rattle.world_core.specs.Scenes.{scene_in}
-use Rattle.world_core.proofs.BirthLemmas.{placed, placed_line, turns_in}
 use Rattle.world_core.proofs.births.place_births.Given as goal
 
 -- the newborns so far stand in their cells and are told
@@ -11,11 +13,12 @@ abbrev pub invariant-loop-birth : goal.invariant-loop-birth
 invariant-loop-birth l =
     let config = values_of l.config in
     let first = scene_in l.fn.scene in
-    let turns = take (length l.yielded) (turns_in config first l.fn.births.items) in
+    let turns = take (length l.yielded)
+    (turns_of config first (map delivery_in l.fn.births.items)) in
     record {
-      scene : scene_in l.scene ≡ fold (placed config) first turns;
+      scene : scene_in l.scene ≡ fold (with_newborn config) first turns;
       text : l.text.items ≡ l.fn.text.items
-          ++ lines_text (scan (placed config) placed_line first turns);
+          ++ lines_text (scan (with_newborn config) birth_line first turns);
       bank : l.scene.bank ≡ l.fn.scene.bank;
       size : length l.scene.cells ≡ length l.fn.scene.cells;
       everyone : length l.scene.everyone ≡ length l.fn.scene.everyone + length l.yielded;

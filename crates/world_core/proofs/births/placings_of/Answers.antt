@@ -4,13 +4,13 @@ use Rattle.std.proofs.lemmas.List.{length-map}
 use Rattle.std.proofs.lemmas.List.Elements.{All-map, All-same}
 use Rattle.birth_board.specs.declared.placing_round.PlacingRound.{PlacingRound}
 use Rattle.birth_board.specs.Torus.{TorusNumbers}
-use Rattle.cell_shards.specs.Finishing.{birth_of}
 use Rattle.world_config.specs.Shown.{values_of}
 use Rattle.std.proofs.lemmas.Result.{IfOk-weaker}
 use Rattle.birth_board.specs.Placement.{placements_of}
 use Rattle.world_rules.specs.Settings.{placing_round_at}
 use Rattle.world_rules.specs.Update.{Delivery, placings_of}
 use Rattle.world_rules.specs.World.{id_of, ids_of}
+use Rattle.world_core.specs.Lived.{delivery_in}
 use Rattle.world_core.specs.Scenes.{SceneValue, scene_in}
 use Rattle.world_core.specs.Soundness.{IsDelivery}
 use Rattle.world_core.proofs.LivesLemmas.{All-unmap, map-both}
@@ -26,7 +26,7 @@ place-requires c =
     let height = ap (λ (t : TorusNumbers). t.height) c.torus_of-torus.ensures in
     let same : length cells ≡ torus.width * torus.height = rw (width, height) c.requires.size in
     let below : ℕ → Type 0 = λ cell. cell < torus.width * torus.height in
-    let fit = All-unmap (IsDelivery (values_of c.args.config.now) (length cells)) birth_of births
+    let fit = All-unmap (IsDelivery (values_of c.args.config.now) (length cells)) delivery_in births
     c.requires.births.each in
     let number : length parents ≡ length births =
     ap length c.in_ok-parents.ensures ∙ length-map births _ in
@@ -36,16 +36,16 @@ place-requires c =
           ∙ ap (λ (s : SceneValue). length s.cells) c.scene.view_is ∙ same;
       in_torus = All-same below parents (map _ births) c.in_ok-parents.ensures
           (All-map below _ births (λ k d within.
-          subst (λ (n : ℕ). (get_or births k d).cell < n) same (fit k d within).cell));
+          subst (λ (n : ℕ). (get_or births k d).newborn.cell < n) same (fit k d within).cell));
       rising = subst IsNonDecreasing
-          (map-both birth_of (λ (d : Delivery). d.cell) births ∙ sym c.in_ok-parents.ensures)
+          (map-both delivery_in (λ (d : Delivery). d.cell) births ∙ sym c.in_ok-parents.ensures)
           c.requires.births.rising;
-      few = omega (arith, number, c.requires.births.few, length-map births birth_of);
+      few = omega (arith, number, c.requires.births.few, length-map births delivery_in);
       ids = omega (
         arith,
         number,
         c.requires.births.few,
-        length-map births birth_of,
+        length-map births delivery_in,
         c.requires.few,
         c.next_id.ensures,
         ap (λ (s : PlacingRound). s.next_id) c.placing_round_at-round.ensures,
@@ -58,7 +58,7 @@ returns-clause-placings c =
     let births = c.args.births.now in
     let scene = scene_in c.args.scene.now in
     let parents =
-    c.in_ok-parents.ensures ∙ sym (map-both birth_of (λ (d : Delivery). d.cell) births) in
+    c.in_ok-parents.ensures ∙ sym (map-both delivery_in (λ (d : Delivery). d.cell) births) in
     let board = c.in_ok-board.ensures
     ∙ ap ids_of (c.cells.ensures.cells ∙ ap (λ (s : SceneValue). s.cells) c.scene.view_is) in
     let round = c.placing_round_at-round.ensures

@@ -16,10 +16,10 @@ use Rattle.world_core.proofs.sharding.live_in_shards.Goals as goal
 
 -- the shards as one
 ends : (g : given.Over) (c : In_ok-cells g)
-    → EndsAs (round_numbers c.args.round.now c.args.ids.now) c.genotypes.inside.seat c.args.cells.items
+    → EndsAs (round_numbers c.args.round.now) c.genotypes.inside.seat c.args.cells.items
     c.args.slices.items c.in_ok-cells.field-0
 ends g c =
-    ends-as c.parts_live_as_one.ensures (round_numbers c.args.round.now c.args.ids.now) c.genotypes.inside.seat
+    ends-as c.parts_live_as_one.ensures (round_numbers c.args.round.now) c.genotypes.inside.seat
     c.args.cells.items c.args.slices.items c.in_ok-jobs.jobs.items c.in_ok-shards.shards.items
     c.in_ok-cells.field-0 c.in_ok-jobs.ensures.cells c.in_ok-jobs.ensures.seats
     (omega (arith, c.in_ok-jobs.ensures.few, c.genotypes.invariant.1)) c.in_ok-shards.ensures.finished
@@ -27,7 +27,7 @@ ends g c =
 
 -- the bank has taken in their newborns
 takes : (g : given.Over) (c : After-owns_all-2 g)
-    → EndsAs (round_numbers c.args.round.now c.args.ids.now) c.genotypes.inside.seat c.args.cells.items
+    → EndsAs (round_numbers c.args.round.now) c.genotypes.inside.seat c.args.cells.items
     c.args.slices.items c.in_ok-cells.field-0
     → TakesIn (genotypes_of c.genotypes.inside.seat.seen)
     (genotypes_of c.in_ok-cells.field-0.seat.seen) c.in_ok-cells.field-0.births
@@ -35,7 +35,7 @@ takes g c ends =
     takes-in (record {
       stay = c.calls_number_genotypes.ensures.stay;
       calls = c.genotypes_are_what_was_interned.ensures.calls;
-    }) (round_numbers c.args.round.now c.args.ids.now)
+    }) (round_numbers c.args.round.now)
     c.genotypes.inside.seat c.args.cells.items c.args.slices.items c.in_ok-cells.field-0
     (c.owns_all.ensures c.genotypes.invariant.1)
     (c.owns_all-2.ensures (ends.share ∙ c.genotypes.invariant.1)) ends
@@ -50,7 +50,7 @@ run_with_errand-requires-clause-jobs g c l b k d within =
 
 pub join_all-requires-clause-seats : goal.join_all-requires-clause-seats
 join_all-requires-clause-seats g c =
-    let round = round_numbers c.args.round.now c.args.ids.now in
+    let round = round_numbers c.args.round.now in
     let jobs = c.in_ok-jobs.jobs.items in
     let all = c.in_ok-shards.shards.items in
     let seat = c.genotypes.inside.seat in
@@ -60,7 +60,7 @@ join_all-requires-clause-seats g c =
 
 pub join_all-requires-clause-numbers : goal.join_all-requires-clause-numbers
 join_all-requires-clause-numbers g c =
-    let round = round_numbers c.args.round.now c.args.ids.now in
+    let round = round_numbers c.args.round.now in
     let jobs = c.in_ok-jobs.jobs.items in
     let all = c.in_ok-shards.shards.items in
     numbers-finished round jobs all (each-finished round jobs all c.in_ok-shards.ensures.finished)

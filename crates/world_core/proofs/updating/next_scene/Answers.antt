@@ -1,6 +1,5 @@
 use Rattle.std.proofs.Common.{◌∙◌, ◌++◌, [], ◌∷◌, ap, length, map, refl, subst, sym, ℕ, List, arith}
 use Rattle.std.proofs.lemmas.List.{length-map}
-use Rattle.cell_shards.specs.Finishing.{birth_of}
 use Rattle.lineage_log.specs.Links.{Link}
 use Rattle.lineage_log.specs.LogGrammar.{lines_text}
 use Rattle.log_lines.specs.Line.{Count}
@@ -10,9 +9,12 @@ use Rattle.world_rules.specs.Scene.{Scene}
 use Rattle.world_rules.specs.Statistics.{scene_stats}
 use Rattle.world_rules.specs.Update.{world_of}
 use Rattle.world_core.specs.Endings.{last_lines, with_births, with_departed}
-use Rattle.world_core.specs.Lived.{departure_line}
+use Rattle.world_core.specs.Genotypes.{HasNumber}
+use Rattle.world_core.specs.Lived.{delivery_in, departure_line}
 use Rattle.world_core.specs.Scenes.{Grows, scene_in}
 use Rattle.world_core.specs.Soundness.{AreDeliveries}
+use Rattle.world_core.specs.declared.ids.Birth.{Birth}
+use Rattle.world_core.proofs.LivesLemmas.{All-unmap}
 use Rattle.world_core.proofs.UpdateLemmas.{Phases, lines_of_phases, scene_of_phases, stats_of_phases, update_of_phases}
 use Rattle.world_core.proofs.updating.next_scene.Given as given
 use Rattle.world_core.proofs.updating.next_scene.Goals.{In_ok-stats}
@@ -20,10 +22,10 @@ use Rattle.world_core.proofs.updating.next_scene.Goals as goal
 
 phases : (g : given.Over) (c : In_ok-stats g)
     → Phases (values_of c.args.config.now) (world_of (scene_in c.args.scene)) c.deref.result.now
-    (map birth_of c.in_ok-scene.births.items) (scene_in c.in_ok-scene.scene)
+    (map delivery_in c.in_ok-scene.births.items) (scene_in c.in_ok-scene.scene)
     (with_departed (scene_in c.in_ok-scene.scene) c.deref.result.now)
     (with_births (values_of c.args.config.now) (scene_in c.in_ok-scene.scene) c.deref.result.now
-    (map birth_of c.in_ok-scene.births.items))
+    (map delivery_in c.in_ok-scene.births.items))
     (scene_in c.end_update.new.scene) c.in_ok-stats.stats
 phases g c = record {
   lived = c.in_ok-scene.ensures.scene;
@@ -34,17 +36,19 @@ phases g c = record {
   happened = c.in_ok-stats.ensures.ends.scene;
   counted = c.in_ok-stats.ensures.ends.counts
       ∙ ap (scene_stats (scene_in c.end_update.new.scene))
-      (sym (length-map c.in_ok-scene.births.items birth_of));
+      (sym (length-map c.in_ok-scene.births.items delivery_in));
 }
 
 pub end_update-requires-clause-births : goal.end_update-requires-clause-births
 end_update-requires-clause-births g c =
     subst (λ (n : ℕ). AreDeliveries (values_of c.args.config.now) n
-    (map birth_of c.in_ok-scene.births.items)) (sym c.in_ok-scene.ensures.size)
+    (map delivery_in c.in_ok-scene.births.items)) (sym c.in_ok-scene.ensures.size)
     c.in_ok-scene.ensures.deliveries
 
 pub end_update-requires-clause-numbers : goal.end_update-requires-clause-numbers
-end_update-requires-clause-numbers g c = c.in_ok-scene.ensures.bank.numbers
+end_update-requires-clause-numbers g c =
+    All-unmap (HasNumber c.in_ok-scene.scene.bank) (λ (b : Birth). b.newborn)
+    c.in_ok-scene.births.items c.in_ok-scene.ensures.bank.numbers
 
 pub returns-clause-next : goal.returns-clause-next
 returns-clause-next g c =
@@ -61,7 +65,7 @@ returns-clause-next g c =
         ends.few,
         ap length all,
         c.in_ok-scene.ensures.deliveries.few,
-        length-map c.in_ok-scene.births.items birth_of,
+        length-map c.in_ok-scene.births.items delivery_in,
       );
       first = ends.first ∙ c.in_ok-scene.ensures.first;
       bank = subst (λ (before : List Link). Grows c.args.scene.bank
@@ -74,7 +78,7 @@ returns-clause-text g c =
     let config = values_of c.args.config.now in
     let scene = scene_in c.in_ok-scene.scene in
     let dead = c.deref.result.now in
-    let births = map birth_of c.in_ok-scene.births.items in
+    let births = map delivery_in c.in_ok-scene.births.items in
     let stats = c.in_ok-stats.stats in
     c.in_ok-stats.ensures.text
     ∙ ap (λ (t : List ℕ). t ++ lines_text (last_lines config scene dead births stats))

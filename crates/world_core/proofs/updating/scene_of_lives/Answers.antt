@@ -1,6 +1,6 @@
 use Rattle.std.proofs.Common.{◌∙◌, ap, length, map, subst}
-use Rattle.cell_shards.specs.Finishing.{birth_of}
 use Rattle.world_config.specs.Shown.{values_of}
+use Rattle.world_core.specs.Lived.{delivery_in}
 use Rattle.world_core.specs.Scenes.{SceneValue}
 use Rattle.world_core.specs.Soundness.{AreDeliveries}
 use Rattle.world_core.proofs.UpdateLemmas.{length_lived}
@@ -9,7 +9,7 @@ use Rattle.world_core.proofs.updating.scene_of_lives.Goals as goal
 pub returns-clause-deliveries : goal.returns-clause-deliveries
 returns-clause-deliveries g c =
     subst (λ n. AreDeliveries (values_of c.args.config.now) n
-    (map birth_of c.in_ok-cells.births.items))
+    (map delivery_in c.in_ok-cells.births.items))
     (ap length c.in_ok-cells.ensures.cells
     ∙ length_lived (values_of c.args.config.now) _ c.scene.inside.cells.cells
     ∙ ap (λ (s : SceneValue). length s.cells) c.scene.view_is)

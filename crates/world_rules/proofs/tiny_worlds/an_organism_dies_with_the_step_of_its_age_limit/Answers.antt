@@ -1,6 +1,6 @@
 use Rattle.std.proofs.Common.{refl}
 use Rattle.world_rules.specs.LogText.{lines_of_lives, update_lines}
-use Rattle.world_rules.specs.Lives.{life_of, lives_of, slices_at}
+use Rattle.world_rules.specs.Lives.{life_by, life_of, lives_of, slices_at}
 use Rattle.world_rules.specs.Settings.{rates_at, settings_at}
 use Rattle.world_rules.specs.Update.{after_births, after_burials, after_event, after_events, births_of, deaths_of, events_at, last_scene, placings_of}
 use Rattle.world_rules.specs.Scene.{with_death}
@@ -14,7 +14,7 @@ use Rattle.merit_slices.specs.Slices.{slices_of}
 use Rattle.world_rules.proofs.tiny_worlds.an_organism_dies_with_the_step_of_its_age_limit.Goals as goal
 
 pub returns : goal.returns
-unfolding update_lines lines_of_lives lives_of life_of slices_at settings_at rates_at last_scene
+unfolding update_lines lines_of_lives lives_of life_of life_by slices_at settings_at rates_at last_scene
     deaths_of after_burials births_of placings_of after_births events_at after_event after_events
     with_death stats_in first_world founder_of new_organism life death_in life_state_after
     after_step life_step step slices_of

@@ -1,7 +1,6 @@
 use Rattle.std.proofs.Common.{◌≡◌, ◌∙◌, ◌+◌, ◌<◌, ◌≤◌, ◌^◌, All, List, None, Option, ap, arith, get_or, length, map, subst, sum, sym, ℕ}
 use Rattle.std.proofs.lemmas.List.{length-map}
 use Rattle.cell_shards.specs.CellLives.{round_numbers, standing_in}
-use Rattle.cell_shards.specs.Finishing.{birth_of}
 use Rattle.instruction_set.specs.declared.letter.Letter.{Letter}
 use Rattle.merit_slices.specs.Slices.{slices_of}
 use Rattle.world_config.specs.Shown.{values_of}
@@ -9,25 +8,25 @@ use Rattle.world_rules.specs.Lives.{lives_of, merit_in, slices_at}
 use Rattle.world_rules.specs.Update.{Delivery, births_of}
 use Rattle.world_rules.specs.World.{Occupant}
 use Rattle.world_core.specs.Genotypes.{TakesIn}
-use Rattle.world_core.specs.Lived.{round_of}
+use Rattle.world_core.specs.Lived.{birth_by, delivery_in, tenant_by}
 use Rattle.world_core.specs.Population.{IsKeptOf, PopulationValue, merit_or_zero, occupant_genome}
 use Rattle.world_core.specs.Residents.{occupants_of}
 use Rattle.world_core.specs.Soundness.{AreBounded, AreBoundedLives}
 use Rattle.world_core.proofs.BoundLemmas.{lives-bounded, lives-keep}
 use Rattle.world_core.proofs.CountLemmas.{GoesOn}
 use Rattle.world_core.proofs.KeptOfLemmas.{IsKeptOf-more}
-use Rattle.world_core.proofs.LivedLemmas.{LiveApart, cells-long, goes-on, lived-births, lived-cells, lived-dead, lived-length, merits-fit, slices-are, young-are}
+use Rattle.world_core.proofs.LivedLemmas.{LiveApart, cells-long, delivered-are, goes-on, lived-births, lived-cells, lived-dead, lived-length, merits-fit, slices-are, young-are}
 use Rattle.world_core.proofs.ResidentLemmas.{occupants_of-length}
 use Rattle.world_core.proofs.TurnLemmas.{AreRead, IsRead, all-counted, can-count-here, counted-here}
 use Rattle.world_core.proofs.population.Population.live.Given as given
-use Rattle.world_core.proofs.population.Population.live.Goals.{After-index-in-loop-cell-2, In-loop-cell, In_ok-genotypes}
+use Rattle.world_core.proofs.population.Population.live.Goals.{After-index-in-loop-cell-2, In-loop-cell, In_ok-births}
 use Rattle.world_core.proofs.population.Population.live.Goals as goal
 
 -- the cells as their shards had them
-apart : (g : given.Over) (c : In_ok-genotypes g)
+apart : (g : given.Over) (c : In_ok-births g)
     → LiveApart (values_of c.args.config.now) (c.args.update + 1) c.args.self.cells
     c.cells.inside.organisms.items c.cells.inside.ids.items c.in_ok-slices.slices.items
-    (round_numbers c.round_at-round.result c.deref-2.result.now)
+    (round_numbers c.round_at-round.result)
 apart g c =
     let config = values_of c.args.config.now in
     let were = c.cells.view_is ∙ ap (λ (p : PopulationValue). p.cells) c.self.view_is in
@@ -40,18 +39,17 @@ apart g c =
           (c.in_ok-slices.ensures.slices
           ∙ ap (λ all. slices_of (map merit_or_zero all) config.average_slices)
           c.deref.ensures.value);
-      shared = c.round_at-round.ensures c.deref-2.result.now
-          ∙ ap (round_of config (c.args.update + 1)) c.deref-2.ensures.value;
+      shared = c.round_at-round.ensures;
     }
 
 -- no cell had too many steps
-few : (g : given.Over) (c : In_ok-genotypes g) → (place : ℕ)
+few : (g : given.Over) (c : In_ok-births g) → (place : ℕ)
     → get_or (slices_at (values_of c.args.config.now) c.args.self.cells) place 0 < 2 ^ 27
 few g c = subst (λ (steps : List ℕ). (place : ℕ) → get_or steps place 0 < 2 ^ 27)
     (apart g c).bought c.in_ok-slices.ensures.few
 
 -- whoever is left in a cell stood there before
-goes : (g : given.Over) (c : In_ok-genotypes g) → (place : ℕ)
+goes : (g : given.Over) (c : In_ok-births g) → (place : ℕ)
     → GoesOn (get_or c.cells.inside.organisms.items place None)
     (get_or c.in_ok-genotypes.ended.organisms.items place None)
 goes g c = goes-on (apart g c) c.in_ok-genotypes.ended.organisms.items
@@ -60,7 +58,7 @@ goes g c = goes-on (apart g c) c.in_ok-genotypes.ended.organisms.items
     c.requires.sound c.requires.lives (few g c) place in (kept.cell, kept.genome)))
 
 -- what the count reads of the cells
-lists : (g : given.Over) (c : In_ok-genotypes g)
+lists : (g : given.Over) (c : In_ok-births g)
     → AreRead c.cells.inside.organisms.items c.in_ok-genotypes.ended.organisms.items
     c.self.inside.keys.items c.cells.inside.standings.items
     c.in_ok-genotypes.ended.standings.items
@@ -72,7 +70,7 @@ lists g c = record {
 }
 
 -- there are as many organisms and gaps as before
-left-long : (g : given.Over) (c : In_ok-genotypes g)
+left-long : (g : given.Over) (c : In_ok-births g)
     → length c.in_ok-genotypes.ended.organisms.items ≡ length c.cells.inside.organisms.items
 left-long g c = sym (lived-length (apart g c) c.in_ok-genotypes.ended.organisms.items
     c.in_ok-genotypes.ensures.cells) ∙ c.cells.invariant.long
@@ -142,12 +140,9 @@ live_in_shards-requires-clause-young g c l b =
 
 pub loop-cell-init : goal.loop-cell-init
 loop-cell-init g c =
-    IsKeptOf-more c.one_index.ensures.list c.args.self.cells c.self.inside.genotypes
-    c.in_ok-genotypes.genotypes c.self.inside.keys.items c.self.inside.census
-    c.in_ok-genotypes.ensures.bank.stays c.in_ok-genotypes.ensures.different
-    (subst (λ (cells : List (Option Occupant)).
-    IsKeptOf cells c.self.inside.genotypes c.self.inside.keys.items c.self.inside.census)
-    (ap (λ (p : PopulationValue). p.cells) c.self.view_is) c.self.invariant)
+    subst (λ (p : PopulationValue).
+    IsKeptOf p.cells p.bank c.self.inside.keys.items c.self.inside.census) c.self.view_is
+    c.self.invariant
 
 pub index-requires : goal.index-requires
 index-requires g c =
@@ -155,8 +150,8 @@ index-requires g c =
     omega (
       arith,
       inside g at.In-loop-cell,
-      left-long g at.In_ok-genotypes,
-      (lists g at.In_ok-genotypes).keyed,
+      left-long g at.In_ok-births,
+      (lists g at.In_ok-births).keyed,
       c.self.inside.keys.ok.0,
     )
 
@@ -166,7 +161,7 @@ index-requires-in-loop-cell g c =
     omega (
       arith,
       inside g at.In-loop-cell,
-      left-long g at.In_ok-genotypes,
+      left-long g at.In_ok-births,
       ap length c.cells.invariant.counted,
       length-map c.cells.inside.organisms.items standing_in,
       c.cells.inside.standings.ok.0,
@@ -186,66 +181,84 @@ index-requires-in-loop-cell-2 g c =
 pub count_again-requires : goal.count_again-requires
 count_again-requires g c =
     let at = goal.at.count_again-requires g c in
-    let before = at.In_ok-genotypes in
+    let before = at.In_ok-births in
     can-count-here (apart g before) c.in_ok-genotypes.ensures.cells c.one_index.ensures.list
-    (lists g before) c.in_ok-genotypes.genotypes c.loop-cell.census c.loop-cell.census
+    (lists g before) c.args.self.bank c.loop-cell.census c.loop-cell.census
     c.loop-cell.cell (inside g at.In-loop-cell) (goes g before c.loop-cell.cell)
     c.loop-cell.invariant (read g at.After-index-in-loop-cell-2)
 
 pub loop-cell-preserved : goal.loop-cell-preserved
 loop-cell-preserved g c =
     let at = goal.at.loop-cell-preserved g c in
-    let before = at.In_ok-genotypes in
+    let before = at.In_ok-births in
     counted-here (apart g before) c.in_ok-genotypes.ensures.cells c.one_index.ensures.list
-    (lists g before) c.in_ok-genotypes.genotypes c.loop-cell.census c.count_again.new.census
+    (lists g before) c.args.self.bank c.loop-cell.census c.count_again.new.census
     c.loop-cell.cell (inside g at.In-loop-cell) (goes g before c.loop-cell.cell)
     c.loop-cell.invariant (read g at.After-index-in-loop-cell-2) c.count_again.ensures
 
 pub invariant_of-population : goal.invariant_of-population
 invariant_of-population g c = record {
-  long = lived-length (apart g (goal.at.invariant_of-population g c).In_ok-genotypes)
+  long = lived-length (apart g (goal.at.invariant_of-population g c).In_ok-births)
       c.in_ok-genotypes.ended.organisms.items c.in_ok-genotypes.ensures.cells;
   counted = c.in_ok-genotypes.ensures.standings;
 }
 
 pub invariant_of-population-2 : goal.invariant_of-population-2
 invariant_of-population-2 g c =
-    all-counted (apart g (goal.at.invariant_of-population-2 g c).In_ok-genotypes)
-    c.in_ok-genotypes.ensures.cells c.loop-cell.cell c.in_ok-genotypes.genotypes
-    c.self.inside.keys.items c.loop-cell.census
+    let keys = c.self.inside.keys.items in
+    let counts = c.loop-cell.census in
+    let left = occupants_of c.in_ok-genotypes.ended.organisms.items c.cells.inside.ids.items in
+    let counted = all-counted (apart g (goal.at.invariant_of-population-2 g c).In_ok-births)
+    c.in_ok-genotypes.ensures.cells c.loop-cell.cell c.args.self.bank keys counts
     (omega (
       arith,
       c.loop-cell-test.false,
       c.len-cell-end.ensures,
       c.in_ok-genotypes.ended.organisms.ok.0,
     ))
-    c.loop-cell.invariant
+    c.loop-cell.invariant in
+    IsKeptOf-more c.one_index.ensures.list left c.self.inside.genotypes c.in_ok-genotypes.genotypes
+    keys counts c.in_ok-genotypes.ensures.bank.stays c.in_ok-genotypes.ensures.different
+    (subst (λ (bank : List (List Letter)). IsKeptOf left bank keys counts)
+    (sym (ap (λ (p : PopulationValue). p.bank) c.self.view_is)) counted)
 
 pub returns-clause-cells : goal.returns-clause-cells
 returns-clause-cells g c =
-    lived-cells (apart g (goal.at.returns-clause-cells g c).In_ok-genotypes)
+    lived-cells (apart g (goal.at.returns-clause-cells g c).In_ok-births)
     c.in_ok-genotypes.ended.organisms.items c.in_ok-genotypes.ensures.cells
 
+-- the newborns are those of the cells' lives
+born : (g : given.Over) (c : In_ok-births g) → map delivery_in c.in_ok-births.births.items
+    ≡ births_of (lives_of (values_of c.args.config.now) (c.args.update + 1) c.args.self.cells)
+born g c =
+    lived-births (apart g c) c.in_ok-genotypes.ended.births.items c.in_ok-births.births.items
+    c.in_ok-genotypes.ensures.births
+    (c.in_ok-births.ensures.births ∙ ap (λ (ids : List ℕ). map (birth_by ids)
+    c.in_ok-genotypes.ended.births.items) c.deref-2.ensures.value)
+
 pub returns-clause-births : goal.returns-clause-births
-returns-clause-births g c =
-    lived-births (apart g (goal.at.returns-clause-births g c).In_ok-genotypes)
-    (map birth_of c.in_ok-genotypes.ended.births.items) c.in_ok-genotypes.ensures.births
+returns-clause-births g c = born g (goal.at.returns-clause-births g c).In_ok-births
 
 pub returns-clause-dead : goal.returns-clause-dead
 returns-clause-dead g c =
-    lived-dead (apart g (goal.at.returns-clause-dead g c).In_ok-genotypes)
-    c.in_ok-genotypes.ended.dead.items c.in_ok-genotypes.ensures.dead
+    lived-dead (apart g (goal.at.returns-clause-dead g c).In_ok-births)
+    c.in_ok-genotypes.ended.dead.items c.in_ok-births.dead.items c.in_ok-genotypes.ensures.dead
+    (c.in_ok-births.ensures.dead ∙ ap (λ (ids : List ℕ). map (tenant_by ids)
+    c.in_ok-genotypes.ended.dead.items) c.deref-2.ensures.value)
 
 pub returns-clause-bank : goal.returns-clause-bank
 returns-clause-bank g c =
-    subst (λ (old : List (List Letter)). TakesIn old c.in_ok-genotypes.genotypes
-    c.in_ok-genotypes.ended.births.items) (ap (λ (p : PopulationValue). p.bank) c.self.view_is)
-    c.in_ok-genotypes.ensures.bank
+    let newborns = c.in_ok-genotypes.ended.births.items in
+    subst (TakesIn c.args.self.bank c.in_ok-genotypes.genotypes)
+    (sym (delivered-are c.deref-2.result.now newborns c.in_ok-births.births.items
+    c.in_ok-births.ensures.births))
+    (subst (λ (old : List (List Letter)). TakesIn old c.in_ok-genotypes.genotypes newborns)
+    (ap (λ (p : PopulationValue). p.bank) c.self.view_is) c.in_ok-genotypes.ensures.bank)
 
 pub returns-clause-bounds : goal.returns-clause-bounds
 returns-clause-bounds g c =
     let at = goal.at.returns-clause-bounds g c in
-    let live = apart g at.In_ok-genotypes in
+    let live = apart g at.In_ok-births in
     let config = values_of c.args.config.now in
     let cells = c.args.self.cells in
     let total : sum (slices_at config cells) < 2 ^ 27 =
@@ -262,13 +275,11 @@ returns-clause-bounds g c =
       cells-long live,
     ) in
     let bounded = lives-bounded config c.args.update cells c.requires.sound c.requires.lives
-    (few g at.In_ok-genotypes) many total in
+    (few g at.In_ok-births) many total in
     let cells_are = lived-cells live c.in_ok-genotypes.ended.organisms.items
     c.in_ok-genotypes.ensures.cells in
-    let births_are = lived-births live (map birth_of c.in_ok-genotypes.ended.births.items)
-    c.in_ok-genotypes.ensures.births in
     subst (λ (all : List Delivery). AreBoundedLives config (c.args.update + 1)
     (occupants_of c.in_ok-genotypes.ended.organisms.items c.cells.inside.ids.items) all)
-    (sym births_are)
+    (sym (born g at.In_ok-births))
     (subst (λ (left : List (Option Occupant)). AreBoundedLives config (c.args.update + 1) left
     (births_of (lives_of config (c.args.update + 1) cells))) (sym cells_are) bounded)

@@ -1,0 +1,14 @@
+use Rattle.std.proofs.Common.{◌≡◌, ◌++◌, map}
+use Rattle.std.specs.Vec.Iter.{into_iter_items}
+use Rattle.world_core.specs.Lived.{birth_by, tenant_by}
+use Rattle.world_core.proofs.ids.with_ids.Given as goal
+
+abbrev pub invariant-loop-newborn : goal.invariant-loop-newborn
+invariant-loop-newborn l =
+    l.births.items ++ map (birth_by l.ids) (into_iter_items l.newborn-iterator)
+    ≡ map (birth_by l.ids) (into_iter_items l.initial.newborn-iterator)
+
+abbrev pub invariant-loop-cell : goal.invariant-loop-cell
+invariant-loop-cell l =
+    l.tenants.items ++ map (tenant_by l.ids) (into_iter_items l.cell-iterator)
+    ≡ map (tenant_by l.ids) (into_iter_items l.initial.cell-iterator)
