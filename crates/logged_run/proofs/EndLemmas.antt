@@ -1,9 +1,8 @@
 -- How a run with a watcher ends, by what the runner and the watcher answered.
-use Rattle.std.proofs.Common.{◌≡◌, ℕ, List, Option, Some, IfOk, Result, Ok, Err, subst, sym}
+use Rattle.std.proofs.Common.{◌≡◌, ℕ, List, Option, Some, IfOk, Result, Ok, Err, subst, sym, ◌∙◌}
 use Rattle.std.specs.Prelude.{IsErrAnd, OnOk}
 use Rattle.std.proofs.lemmas.Result.{err_from_is_err_and}
 use Rattle.avida_port.specs.Ports.{SinkState}
-use Rattle.world_config.specs.Shown.{values_of}
 use Rattle.world_config.specs.Values.{ConfigValues}
 use Rattle.world_core.specs.declared.picture.WorldPicture.{WorldPicture}
 use Rattle.world_core.specs.WorldValue.{WorldValue}
@@ -12,56 +11,29 @@ use Rattle.written_texts.specs.declared.stop.WriteStop.TheVariants as stop
 use Rattle.written_texts.specs.SinkChanges.{Change, GainedText, change}
 use Rattle.written_texts.specs.WrittenText.{WritesAll}
 use Rattle.logged_run.specs.declared.publishing.Progress.{Progress}
-use Rattle.logged_run.specs.Publishing.{HasCome, WritesLog}
+use Rattle.logged_run.specs.Publishing.{HasCome, RunsToEnd, WritesLog}
 use Rattle.logged_run.specs.RunStops.{StopsRun}
 use Rattle.logged_run.specs.RunText.{IsFinalWorld, run_text}
-use Rattle.logged_run.specs.Watching.{BeginsAs, WritesLooks, news}
-use Rattle.logged_run.specs.WatchText.{pictures_text}
+use Rattle.logged_run.specs.Watching.{BeginsAs, Watches, WritesLooks}
 use Rattle.logged_run.specs.WatchedRun.{EndsRun, EndsWatched, IsAtEnd, RunsWatched}
+use Rattle.logged_run.proofs.NewsLemmas.{line_as}
 use Rattle.logged_run.proofs.PublishedLemmas.{last_heard}
 use Rattle.logged_run.proofs.WatchLemmas.{all_watched, last_stopped, nothing_run, runner_stopped, watcher_stopped}
 
 -- where the runner and the watcher came to their end the run is at its end
 pub at_end : (ran : Result Progress WriteStop) (watched : Result (Option ℕ) WriteStop)
     (config : ConfigValues) (published observed : List WorldPicture)
-    → OnOk watched (BeginsAs config observed) → IfOk ran (HasCome published)
-    → IfOk ran (λ after. IsFinalWorld config after.world)
+    → OnOk watched (BeginsAs config observed)
+    → IfOk ran (HasCome config config.updates published)
     → OnOk watched (IfOk ran (IsAtEnd observed))
-at_end ran (Err e) config published observed begins come final = tt
-at_end (Err e) (Ok newest) config published observed begins come final = tt
-at_end (Ok progress) (Ok newest) config published observed begins come final = record {
-  begins = subst (λ (of : ConfigValues). BeginsAs of observed) (sym final.config) begins;
-  config = come.config;
-  update = come.update;
+at_end ran (Err e) config published observed begins come = tt
+at_end (Err e) (Ok newest) config published observed begins come = tt
+at_end (Ok progress) (Ok newest) config published observed begins come = record {
+  begins = subst (λ (of : ConfigValues). BeginsAs of observed) (sym come.world.config) begins;
+  config = come.picture_config ∙ sym come.world.config;
+  update = come.picture_update ∙ sym come.world.update;
   heard = last_heard published progress come;
 }
-
--- the line of the last picture, said of the run's world
-pub line_at_end : {T : Type 0} {a b : SinkState} {r : Result T WriteStop}
-    {observed : List WorldPicture} {progress : Progress} (newest : Option ℕ)
-    → IsAtEnd observed progress
-    → WritesAll a b (pictures_text (values_of progress.picture.value.config.value)
-    (news newest progress.picture.value.update progress.picture.value.update)) r
-    → WritesAll a b (pictures_text progress.world.config
-    (news newest progress.world.update progress.world.update)) r
-line_at_end {T = T} {a = a} {b = b} {r = r} {progress = progress} newest so line =
-    subst (λ (of : ConfigValues). WritesAll {T = T} a b (pictures_text of
-    (news newest progress.world.update progress.world.update)) r) so.config
-    (subst (λ (n : ℕ). WritesAll {T = T} a b
-    (pictures_text (values_of progress.picture.value.config.value) (news newest n n)) r) so.update
-    line)
-
--- the line of the last picture, said of the run's configuration
-line_of : {T : Type 0} {a b : SinkState} {r : Result T WriteStop} {config : ConfigValues}
-    (progress : Progress) (newest : Option ℕ) → IsFinalWorld config progress.world
-    → WritesAll a b (pictures_text progress.world.config
-    (news newest progress.world.update progress.world.update)) r
-    → WritesAll a b (pictures_text config (news newest config.updates config.updates)) r
-line_of {T = T} {a = a} {b = b} {r = r} {config = config} progress newest final line =
-    subst (λ (of : ConfigValues). WritesAll {T = T} a b (pictures_text of
-    (news newest config.updates config.updates)) r) final.config
-    (subst (λ (n : ℕ). WritesAll {T = T} a b
-    (pictures_text progress.world.config (news newest n n)) r) final.update line)
 
 -- a run that stopped
 run_stopped : {looks : ℕ} {config : ConfigValues} {out watch : Change SinkState} (e : WriteStop)
@@ -90,27 +62,28 @@ watched_ended {progress = progress} {newest = newest} looks config (Ok world) lo
       world = subst (IsFinalWorld config) (sym ends.world) final;
       ok = log;
       watched = all_watched {U = WorldValue} {u = world} looks config lines
-          (line_of progress newest final ends.line);
+          (line_as newest final.config final.update final.update ends.line);
       err = tt;
     }
 watched_ended {progress = progress} {newest = newest} looks config (Err e) log lines final ends =
     run_stopped e (last_stopped {U = WorldValue} looks config log lines
-    (line_of progress newest final ends.line))
+    (line_as newest final.config final.update final.update ends.line))
 
 -- a run ends by how its runner and its watcher ended
-pub run_ended : {a b c d f : SinkState} (looks : ℕ) (config : ConfigValues)
-    (ran : Result Progress WriteStop) (watched : Result (Option ℕ) WriteStop)
-    (result : Result WorldValue WriteStop)
-    → WritesLog config a b ran → WritesLooks looks config c d watched
-    → IfOk ran (λ after. IsFinalWorld config after.world) → EndsRun ran watched d f result
+pub run_ended : {a b c d f : SinkState} {published observed : List WorldPicture} (looks : ℕ)
+    (config : ConfigValues) (ran : Result Progress WriteStop)
+    (watched : Result (Option ℕ) WriteStop) (result : Result WorldValue WriteStop)
+    → RunsToEnd config published a b ran → Watches looks config observed c d watched
+    → EndsRun ran watched d f result
     → RunsWatched looks config (change a b) (change c f) result
-run_ended looks config (Err e) watched result log lines final ends =
+run_ended looks config (Err e) watched result run watch ends =
     rw (ends.0, ends.1)
-    (run_stopped e (runner_stopped looks config watched (stopped config log) lines))
-run_ended looks config (Ok progress) (Err e) result log lines final ends =
-    rw (ends.0, ends.1) (run_stopped e (watcher_stopped looks config (whole config log) lines))
-run_ended looks config (Ok progress) (Ok newest) result log lines final ends =
-    watched_ended looks config result (whole config log) lines final ends
+    (run_stopped e (runner_stopped looks config watched (stopped config run.log) watch.lines))
+run_ended looks config (Ok progress) (Err e) result run watch ends =
+    rw (ends.0, ends.1)
+    (run_stopped e (watcher_stopped looks config (whole config run.log) watch.lines))
+run_ended looks config (Ok progress) (Ok newest) result run watch ends =
+    watched_ended looks config result (whole config run.log) watch.lines run.come.world ends
 
 -- an error that memory ran out stops a run with a watcher before anything was written
 pub stopped_early : (looks : ℕ) (config : ConfigValues) (out watch : SinkState)

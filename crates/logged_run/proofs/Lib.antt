@@ -1,6 +1,7 @@
 pub mod RunLemmas
 pub mod LookLemmas
 pub mod PublishedLemmas
+pub mod NewsLemmas
 pub mod WatcherLemmas
 pub mod WatchLemmas
 pub mod EndLemmas

@@ -12,7 +12,8 @@ use Rattle.world_config.specs.Values.{ConfigValues}
 use Rattle.world_core.specs.declared.picture.WorldPicture.{WorldPicture}
 use Rattle.logged_run.specs.declared.publishing.Progress.{Progress}
 use Rattle.logged_run.specs.Beginnings.{IsNew}
-use Rattle.logged_run.specs.Publishing.{HasCome, IsBegun}
+use Rattle.logged_run.specs.Publishing.{HasCome, IsBegun, IsPublished}
+use Rattle.logged_run.specs.RunText.{IsWorldAt}
 use Rattle.logged_run.specs.Watching.{ArePictures, BeginsAs, IsHeard}
 
 -- the configuration of a picture's run
@@ -99,18 +100,57 @@ pub heard : (config : ConfigValues) (update : ℕ) (history told : List WorldPic
 heard config update history told begins so =
     longer_by (nat_lt (length history) (length told)) config update history told begins so refl
 
+-- where a run has come to, said of its own world
+pub come_again : {config : ConfigValues} {update : ℕ} {published : List WorldPicture}
+    {progress : Progress} → HasCome config update published progress
+    → HasCome progress.world.config progress.world.update published progress
+come_again {config = config} {published = published} {progress = progress} so =
+    subst (λ (of : ConfigValues). HasCome of progress.world.update published progress)
+    (sym so.world.config)
+    (subst (λ (n : ℕ). HasCome config n published progress) (sym so.world.update) so)
+
+-- where a run has come to that made one more update, said of where it had come to before
+pub come_more : {config : ConfigValues} {update : ℕ} {earlier published : List WorldPicture}
+    {here next : Progress} → HasCome config update earlier here
+    → HasCome here.world.config (here.world.update + 1) published next
+    → HasCome config (update + 1) published next
+come_more {config = config} {published = published} {here = here} {next = next} so more =
+    subst (λ (n : ℕ). HasCome config (n + 1) published next) so.world.update
+    (subst (λ (of : ConfigValues). HasCome of (here.world.update + 1) published next)
+    so.world.config more)
+
+-- a run has come to the update whose picture was published last
+pub come_to : {config : ConfigValues} {update : ℕ} {published told : List WorldPicture}
+    {progress : Progress} → IsWorldAt config update progress.world
+    → IsPublished progress.world.config progress.world.update published progress.picture.value told
+    → progress.note ≡ Some told → HasCome config update published progress
+come_to {config = config} {published = published} {told = told} {progress = progress} at made is =
+    let picture = progress.picture.value in
+    let so = subst (λ (n : ℕ). IsPublished config n published picture told) at.update
+    (subst (λ (of : ConfigValues). IsPublished of progress.world.update published picture told)
+    at.config made) in
+    record {
+      world = at;
+      pictures = so.pictures;
+      picture_config = so.picture_config;
+      picture_update = so.picture_update;
+      note = rw is so.note;
+      first = λ none. absurd (cc (is, none));
+    }
+
 -- the last note of a run that has come so far is of all pictures up to the last one
-pub last_heard : (published : List WorldPicture) (progress : Progress)
-    → HasCome published progress
+pub last_heard : {config : ConfigValues} {update : ℕ} (published : List WorldPicture)
+    (progress : Progress) → HasCome config update published progress
     → IsHeard progress.world.config progress.world.update progress.note
-last_heard published progress come =
+last_heard published progress so =
+    let come = come_again so in
     record { told = by progress.note come.note; untold = come.first } where
       by : (note : Option (List WorldPicture)) → IfSome note (λ told. told ≡ published)
           → IfSome note (ArePictures progress.world.config (progress.world.update + 1))
       by None h = tt
       by (Some told) same =
           subst (ArePictures progress.world.config (progress.world.update + 1)) (sym same)
-          come.pictures
+          (come_again so).pictures
 
 -- a run was begun where the picture of a new world is all that was published
 pub new_begun : (published : List WorldPicture) (progress : Progress)
@@ -120,15 +160,14 @@ new_begun published progress new is = record {
   progress = progress;
   is = refl;
   come = record {
-    pictures = rw (new.world_new, is) (first_pictures progress.world.config
-        progress.picture.value new.picture_new new.picture_config);
-    update = new.picture_new ∙ sym new.world_new;
-    config = new.picture_config;
+    world = record { config = refl; update = new.world_new };
+    pictures = rw is (first_pictures progress.world.config progress.picture.value new.picture_new
+        new.picture_config);
+    picture_config = new.picture_config;
+    picture_update = new.picture_new;
     note = rw new.untold tt;
-    first = λ none. new.world_new;
+    first = λ none. refl;
   };
-  config_is = refl;
-  new = new.world_new;
 }
 
 -- who observes this picture sees the first one of the run

@@ -1,5 +1,5 @@
 -- What a watcher has written after some of its looks.
-use Rattle.std.proofs.Common.{◌≡◌, ◌≤◌, ◌+◌, ℕ, List, ◌++◌, Option, Some, Result, Ok, Err, refl, sym, subst}
+use Rattle.std.proofs.Common.{◌≡◌, ◌≤◌, ◌+◌, ℕ, List, [], ◌++◌, Option, None, Some, IfOk, Result, Ok, Err, refl, sym, subst, arith}
 use mathlib.Core.List.{IsPrefix}
 use Rattle.std.proofs.lemmas.Grind.{flat_map-append}
 use Rattle.avida_port.specs.Ports.{SinkState}
@@ -8,20 +8,23 @@ use Rattle.world_config.specs.Values.{ConfigValues}
 use Rattle.world_core.specs.declared.picture.WorldPicture.{WorldPicture}
 use Rattle.world_rules.specs.Picture.{picture_of, picture_text}
 use Rattle.written_texts.specs.declared.stop.WriteStop.{WriteStop}
+use Rattle.written_texts.specs.declared.stop.WriteStop.TheVariants as stop
 use Rattle.written_texts.specs.WrittenText.{WritesAll}
-use Rattle.logged_run.specs.Watching.{AreSeen, BeginsAs, WritesLooks, newest_after, news}
+use Rattle.logged_run.specs.Watching.{AreSeen, BeginsAs, HasLooked, LooksOn, Watches, WritesLooks, newest_after, news}
 use Rattle.logged_run.specs.WatchText.{pictures_text}
-use Rattle.logged_run.proofs.LookLemmas.{seen_more, seen_within}
+use Rattle.logged_run.proofs.LookLemmas.{seen_more, seen_nothing, seen_within}
 use Rattle.logged_run.proofs.PublishedLemmas.{begins_later, begun, config_in, looked}
-use Rattle.written_texts.proofs.WriteLemmas.{stopped_same, writes_same, writes_then}
+use Rattle.written_texts.proofs.WriteLemmas.{stopped_same, wanting_after, writes_nothing, writes_same, writes_then}
 
--- so many looks were made, and the lines of what was seen are written
-pub record HasLooked (looks : ℕ) (config : ConfigValues) (history : List WorldPicture)
-    (newest : Option ℕ) (before after : SinkState) : Type 0 where
-  pub begins : BeginsAs config history
-  pub updates : List ℕ
-  pub seen : AreSeen looks config.updates newest updates
-  pub written : WritesAll {T = Unit {0}} before after (pictures_text config updates) (Ok tt)
+-- no look was made
+pub looks_begun : (config : ConfigValues) (observed : List WorldPicture) (a : SinkState)
+    → BeginsAs config observed → HasLooked 0 config observed None a a
+looks_begun config observed a begins = record {
+  begins = begins;
+  updates = [];
+  seen = seen_nothing config.updates;
+  written = writes_nothing a;
+}
 
 -- the lines of more pictures come behind those of the first ones
 pub pictures_more : (config : ConfigValues) (xs ys : List ℕ)
@@ -40,7 +43,7 @@ module _ (k : ℕ) (config : ConfigValues) (history whole : List WorldPicture) (
       last publication).1
 
   -- its line is put where it is news, or the put stopped
-  pub look_writes : {T : Type 0} (r : Result T WriteStop)
+  look_writes : {T : Type 0} (r : Result T WriteStop)
       → WritesAll b c (pictures_text (config_in picture)
       (news newest config.updates picture.update)) r
       → WritesAll a c (pictures_text config
@@ -54,7 +57,7 @@ module _ (k : ℕ) (config : ConfigValues) (history whole : List WorldPicture) (
       (writes_then _ so.written here)
 
   -- a look more was made
-  pub look_made : {T : Type 0} (t : T) (after : Option ℕ)
+  look_made : {T : Type 0} (t : T) (after : Option ℕ)
       → WritesAll {T = T} b c (pictures_text (config_in picture)
       (news newest config.updates picture.update)) (Ok t)
       → after ≡ newest_after newest config.updates picture.update
@@ -69,27 +72,63 @@ module _ (k : ℕ) (config : ConfigValues) (history whole : List WorldPicture) (
   }
 
   -- the watcher stops at this look
-  pub look_stopped : {T : Type 0} (looks : ℕ) (e : WriteStop)
+  look_stopped : {T : Type 0} (e : WriteStop)
       → WritesAll {T = T} b c (pictures_text (config_in picture)
       (news newest config.updates picture.update)) (Err e)
-      → k + 1 ≤ looks → WritesLooks looks config a c (Err e)
-  look_stopped {T = T} looks e line le = record {
+      → WritesLooks (k + 1) config a c (Err e)
+  look_stopped {T = T} e line = record {
     updates = so.updates ++ news newest config.updates picture.update;
     newest = newest_after newest config.updates picture.update;
-    seen = seen_within (k + 1) looks config.updates _ _
-        (seen_more k config.updates newest so.updates picture.update so.seen) le;
+    seen = seen_more k config.updates newest so.updates picture.update so.seen;
     answer = tt;
     writes = stopped_same (look_writes {T = T} (Err e) line);
   }
 
+  -- a look more was made, or it stopped
+  pub look_ended : (r : Result (Option ℕ) WriteStop)
+      → WritesAll b c (pictures_text (config_in picture)
+      (news newest config.updates picture.update)) r
+      → IfOk r (λ after. after ≡ newest_after newest config.updates picture.update)
+      → LooksOn k config whole a c r
+  look_ended (Ok after) line is = look_made {T = Option ℕ} after after line is
+  look_ended (Err e) line is = look_stopped {T = Option ℕ} e line
+
+-- memory ran out at a look
+pub look_wanting : (k : ℕ) (config : ConfigValues) (history : List WorldPicture)
+    (newest : Option ℕ) (a b : SinkState) → HasLooked k config history newest a b
+    → WritesLooks (k + 1) config a b (Err stop.Memory)
+look_wanting k config history newest a b so = record {
+  updates = so.updates;
+  newest = newest;
+  seen = seen_within k (k + 1) config.updates newest so.updates so.seen (omega arith);
+  answer = tt;
+  writes = wanting_after so.written;
+}
+
+-- more looks may be made
+pub looks_within : (looks more : ℕ) (config : ConfigValues) (a b : SinkState)
+    (r : Result (Option ℕ) WriteStop) → WritesLooks looks config a b r → looks ≤ more
+    → WritesLooks more config a b r
+looks_within looks more config a b r wrote le = record {
+  updates = wrote.updates;
+  newest = wrote.newest;
+  seen = seen_within looks more config.updates wrote.newest wrote.updates wrote.seen le;
+  answer = wrote.answer;
+  writes = wrote.writes;
+}
+
 -- the watcher has come to its end
 pub looks_done : (k looks : ℕ) (config : ConfigValues) (history : List WorldPicture)
     (newest : Option ℕ) (a b : SinkState)
-    → HasLooked k config history newest a b → k ≤ looks → WritesLooks looks config a b (Ok newest)
+    → HasLooked k config history newest a b → k ≤ looks
+    → Watches looks config history a b (Ok newest)
 looks_done k looks config history newest a b so le = record {
-  updates = so.updates;
-  newest = newest;
-  seen = seen_within k looks config.updates newest so.updates so.seen le;
-  answer = refl;
-  writes = writes_same so.written;
+  begins = so.begins;
+  lines = record {
+    updates = so.updates;
+    newest = newest;
+    seen = seen_within k looks config.updates newest so.updates so.seen le;
+    answer = refl;
+    writes = writes_same so.written;
+  };
 }

@@ -1,6 +1,6 @@
 -- How far a run has come that publishes its pictures (docs/ARCHITECTURE.md, "Pictures and
 -- observers").
-use Rattle.std.specs.Prelude.{◌≡◌, ◌+◌, ℕ, List, Option, None, Some, IfSome, Result}
+use Rattle.std.specs.Prelude.{◌≡◌, ◌+◌, ℕ, List, Option, None, Some, IfOk, IfSome, Result}
 use Rattle.avida_port.specs.Ports.{SinkState}
 use Rattle.world_config.specs.Shown.{values_of}
 use Rattle.world_config.specs.Values.{ConfigValues}
@@ -8,25 +8,35 @@ use Rattle.world_core.specs.declared.picture.WorldPicture.{WorldPicture}
 use Rattle.logged_run.specs.declared.publishing.Progress.{Progress}
 use Rattle.written_texts.specs.declared.stop.WriteStop.{WriteStop}
 use Rattle.written_texts.specs.WrittenText.{WritesAll}
-use Rattle.logged_run.specs.RunText.{run_text}
+use Rattle.logged_run.specs.RunText.{IsWorldAt, run_text}
 use Rattle.logged_run.specs.Watching.{ArePictures}
 
--- the pictures of all updates so far were published, and the run has the last one and its note
-pub record HasCome (published : List WorldPicture) (progress : Progress) : Type 0 where
-  pub pictures : ArePictures progress.world.config (progress.world.update + 1) published
-  pub update : progress.picture.value.update ≡ progress.world.update
-  pub config : values_of progress.picture.value.config.value ≡ progress.world.config
+-- the pictures of a configuration's updates up to this one were published; this is the last one, and
+-- a note of it tells of them
+pub record IsPublished (config : ConfigValues) (update : ℕ) (published : List WorldPicture)
+    (picture : WorldPicture) (told : List WorldPicture) : Type 0 where
+  pub pictures : ArePictures config (update + 1) published
+  pub picture_config : values_of picture.config.value ≡ config
+  pub picture_update : picture.update ≡ update
+  pub note : told ≡ published
+
+-- a configuration's run has come to this update: the pictures of all updates so far were published,
+-- and the run has the last one and its note
+pub record HasCome (config : ConfigValues) (update : ℕ) (published : List WorldPicture)
+    (progress : Progress) : Type 0 where
+  pub world : IsWorldAt config update progress.world
+  pub pictures : ArePictures config (update + 1) published
+  pub picture_config : values_of progress.picture.value.config.value ≡ config
+  pub picture_update : progress.picture.value.update ≡ update
   pub note : IfSome progress.note (λ told. told ≡ published)
-  pub first : progress.note ≡ None → progress.world.update ≡ 0
+  pub first : progress.note ≡ None → update ≡ 0
 
 -- a configuration's run was begun, and its first picture was published
 pub record IsBegun (config : ConfigValues) (published : List WorldPicture)
     (begun : Option Progress) : Type 0 where
   pub progress : Progress
   pub is : begun ≡ Some progress
-  pub come : HasCome published progress
-  pub config_is : progress.world.config ≡ config
-  pub new : progress.world.update ≡ 0
+  pub come : HasCome config 0 published progress
 
 -- the log of a configuration's run is written, or it stops
 pub record WritesLog {T : Type 0} (config : ConfigValues) (before after : SinkState)
@@ -34,3 +44,9 @@ pub record WritesLog {T : Type 0} (config : ConfigValues) (before after : SinkSt
   pub text : List ℕ
   pub is : text ≡ run_text config
   pub writes : WritesAll before after text result
+
+-- a configuration's run came to its end, and its log is written, or it stopped
+pub record RunsToEnd (config : ConfigValues) (published : List WorldPicture)
+    (before after : SinkState) (result : Result Progress WriteStop) : Type 0 where
+  pub come : IfOk result (HasCome config config.updates published)
+  pub log : WritesLog config before after result

@@ -8,7 +8,11 @@ use Rattle.world_rules.specs.LogText.{log_text}
 abbrev pub run_text : ConfigValues → List ℕ
 run_text config = log_text config config.updates
 
--- this is the world after a configuration's last update
-pub record IsFinalWorld (of : ConfigValues) (world : WorldValue) : Type 0 where
+-- this is the world of a configuration after so many updates
+pub record IsWorldAt (of : ConfigValues) (updates : ℕ) (world : WorldValue) : Type 0 where
   pub config : world.config ≡ of
-  pub update : world.update ≡ of.updates
+  pub update : world.update ≡ updates
+
+-- this is the world after a configuration's last update
+abbrev pub IsFinalWorld : ConfigValues → WorldValue → Type 0
+IsFinalWorld of = IsWorldAt of of.updates

@@ -1,6 +1,6 @@
 -- What the watcher of a run has seen and written, look by look (docs/ARCHITECTURE.md, "Pictures and
 -- observers").
-use Rattle.std.specs.Prelude.{◌≡◌, ◌≤◌, ◌+◌, ◌&&◌, Bool, ℕ, List, [], ◌∷◌, Option, None, Some, IfSome, IfOk, Result, length, nat_le, nat_lt, if◌then◌else◌}
+use Rattle.std.specs.Prelude.{◌≡◌, ◌≤◌, ◌+◌, ◌&&◌, Bool, ℕ, List, [], ◌∷◌, Option, None, Some, IfSome, IfOk, OnOk, Result, Ok, Err, length, nat_le, nat_lt, if◌then◌else◌}
 use Rattle.std.specs.List.Sorted.{IsStrictlyIncreasing}
 use Rattle.avida_port.specs.Ports.{SinkState}
 use Rattle.published_world.specs.PublicationHistory.{first_of, last_of}
@@ -60,3 +60,25 @@ pub record WritesLooks (looks : ℕ) (config : ConfigValues) (before after : Sin
   pub seen : AreSeen looks config.updates newest updates
   pub answer : IfOk result (λ told. told ≡ newest)
   pub writes : WritesAll before after (pictures_text config updates) result
+
+-- so many looks were made, this was observed, and the lines of what was seen are written
+pub record HasLooked (looks : ℕ) (config : ConfigValues) (observed : List WorldPicture)
+    (newest : Option ℕ) (before after : SinkState) : Type 0 where
+  pub begins : BeginsAs config observed
+  pub updates : List ℕ
+  pub seen : AreSeen looks config.updates newest updates
+  pub written : WritesAll {T = Unit {0}} before after (pictures_text config updates) (Ok tt)
+
+-- after so many looks one more was made, or it stopped
+abbrev pub LooksOn : ℕ → ConfigValues → List WorldPicture → SinkState → SinkState
+    → Result (Option ℕ) WriteStop → Type 0
+LooksOn looks config observed before after (Ok newest) =
+    HasLooked (looks + 1) config observed newest before after
+LooksOn looks config observed before after (Err e) =
+    WritesLooks (looks + 1) config before after (Err e)
+
+-- a watcher that looks so often came to the end of its looks, having observed this, or it stopped
+pub record Watches (looks : ℕ) (config : ConfigValues) (observed : List WorldPicture)
+    (before after : SinkState) (result : Result (Option ℕ) WriteStop) : Type 0 where
+  pub begins : OnOk result (BeginsAs config observed)
+  pub lines : WritesLooks looks config before after result

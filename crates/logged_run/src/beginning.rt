@@ -30,12 +30,17 @@ fn found_pictured<R: Wait>(
     ensures { IfOk result (IsNew (values_of config)) }
 {
     let world = World::found(rt, alloc, config, workers)?;
-    let picture = world.picture(alloc)?;
-    Ok(Progress {
-        world,
-        picture,
-        note: None,
-    })
+    match world.picture(alloc) {
+        Ok(picture) => Ok(Progress {
+            world,
+            picture,
+            note: None,
+        }),
+        Err(Memory) => {
+            drop(world);
+            Err(Memory)
+        }
+    }
 }
 
 /// Publishes a first picture to one observer.
@@ -55,19 +60,39 @@ fn publish_first<R: Wait>(
     Ok((publisher, observer))
 }
 
+/// Publishes the picture of a run that begins to one observer, beside the run's configuration.
+fn publish_new<R: Wait>(
+    rt: &R,
+    alloc: Global,
+    progress: &Progress,
+) -> Result<(Arc<Config>, Publisher<WorldPicture>, Observer<WorldPicture>), Memory>
+    ensures config { IfOk result
+        (λ made. values_of made.0.value ≡ values_of progress.now.picture.value.config.value) }
+    ensures publisher { IfOk result (λ made. made.1 ≡ progress.now.picture.value ∷ []) }
+    ensures observer { IfOk result (λ made. made.2 ≡ progress.now.picture.value ∷ []) }
+{
+    let config = Arc::try_clone(&progress.picture.config)?;
+    let (publisher, observer) = publish_first(rt, alloc, &progress.picture)?;
+    Ok((config, publisher, observer))
+}
+
 /// Publishes the picture of a new world to an observer.
 fn begin_published<R: Wait>(rt: &R, alloc: Global, progress: Progress) -> Result<Beginning, Memory>
     requires { IsNew progress.world.config progress }
     ensures { IfOk result (IsBeginning progress.world.config) }
 {
-    let config = Arc::try_clone(&progress.picture.config)?;
-    let (publisher, observer) = publish_first(rt, alloc, &progress.picture)?;
-    Ok(Beginning {
-        config,
-        progress: Some(progress),
-        publisher,
-        observer,
-    })
+    match publish_new(rt, alloc, &progress) {
+        Ok((config, publisher, observer)) => Ok(Beginning {
+            config,
+            progress: Some(progress),
+            publisher,
+            observer,
+        }),
+        Err(Memory) => {
+            drop(progress);
+            Err(Memory)
+        }
+    }
 }
 
 /// Begins the run of a configuration, with its first picture published to an observer.

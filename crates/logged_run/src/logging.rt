@@ -3,7 +3,7 @@ ghost use Rattle.std.specs.Prelude.{◌≡◌, ◌≤◌, ◌<◌, ◌+◌, IfOk
 ghost use Rattle.world_config.specs.Shown.{values_of};
 ghost use Rattle.world_rules.specs.LogText.{head_text, update_text, updates_text, end_text};
 ghost use Rattle.written_texts.specs.WrittenText.{WritesAll};
-ghost use Rattle.logged_run.specs.RunText.{IsFinalWorld, run_text};
+ghost use Rattle.logged_run.specs.RunText.{IsFinalWorld, IsWorldAt, run_text};
 
 use avida_port::{Gate, Sink};
 use std::alloc::Global;
@@ -40,14 +40,18 @@ pub fn write_update<R: Threads + Wait + Sync, O: Sink, G: Gate + Sync>(
     gate: &G,
 ) -> Result<RunningWorld, WriteStop>
     requires { world.update < 1000000 }
-    ensures config { IfOk result (λ next. next.config ≡ world.config) }
-    ensures update { IfOk result (λ next. next.update ≡ world.update + 1) }
+    ensures world { IfOk result (IsWorldAt world.config (world.update + 1)) }
     ensures text { WritesAll (O.seen out.old) (O.seen out.new)
         (update_text world.config (world.update + 1)) result }
 {
     let (next, text) = world.advance(rt, alloc, gate)?;
-    out.put(&text)?;
-    Ok(next)
+    match out.put(&text) {
+        Ok(()) => Ok(next),
+        Err(stop) => {
+            drop(next);
+            Err(WriteStop::from(stop))
+        }
+    }
 }
 
 /// The updates of a new world, with their texts.
@@ -61,8 +65,7 @@ fn write_updates<R: Threads + Wait + Sync, O: Sink, G: Gate + Sync>(
 ) -> Result<World, WriteStop>
     requires new { world.update ≡ 0 }
     requires updates { updates ≤ 1000000 }
-    ensures config { IfOk result (λ after. after.config ≡ world.config) }
-    ensures update { IfOk result (λ after. after.update ≡ updates) }
+    ensures world { IfOk result (IsWorldAt world.config updates) }
     ensures text { WritesAll (O.seen out.old) (O.seen out.new)
         (updates_text world.config updates) result }
 {
@@ -91,6 +94,11 @@ pub fn write_log<R: Threads + Wait + Sync, O: Sink, G: Gate + Sync>(
     let world = World::found(rt, alloc, config, workers)?;
     write_first(alloc, &world, out)?;
     let world = write_updates(rt, alloc, world, updates, out, gate)?;
-    write_last(alloc, &world, out)?;
-    Ok(world)
+    match write_last(alloc, &world, out) {
+        Ok(()) => Ok(world),
+        Err(stop) => {
+            drop(world);
+            Err(stop)
+        }
+    }
 }

@@ -42,7 +42,12 @@ impl Outcomes {
     {
         let Outcomes { ran, watched } = self;
         let progress = ran?;
-        let newest = watched?;
-        end_watched(alloc, progress, newest, observer, watch)
+        match watched {
+            Ok(newest) => end_watched(alloc, progress, newest, observer, watch),
+            Err(stop) => {
+                drop(progress);
+                Err(stop)
+            }
+        }
     }
 }

@@ -1,10 +1,10 @@
 // The runner of a run with a watcher: it publishes a picture of each update.
-ghost use Rattle.std.specs.Prelude.{◌≡◌, ◌<◌, ◌≤◌, ◌+◌, IfOk, OnOk};
+ghost use Rattle.std.specs.Prelude.{◌≡◌, ◌<◌, ◌≤◌, ◌+◌, IfOk};
 ghost use Rattle.world_config.specs.Shown.{values_of};
 ghost use Rattle.world_rules.specs.LogText.{update_text, updates_text};
 ghost use Rattle.written_texts.specs.WrittenText.{WritesAll};
-ghost use Rattle.logged_run.specs.Publishing.{HasCome, IsBegun, WritesLog};
-ghost use Rattle.logged_run.specs.RunText.{IsFinalWorld, run_text};
+ghost use Rattle.logged_run.specs.Publishing.{HasCome, IsBegun, IsPublished, RunsToEnd};
+ghost use Rattle.logged_run.specs.RunText.{IsWorldAt, run_text};
 ghost use Rattle.logged_run.specs.Watching.{ArePictures};
 
 use crate::logging::{write_first, write_last, write_update};
@@ -27,6 +27,31 @@ pub struct Progress {
     pub note: Option<Note<WorldPicture>>,
 }
 
+/// The world of a run that goes on. Its picture and the note of it are let go.
+fn world_of(progress: Progress) -> World
+    ensures { result ≡ progress.world }
+{
+    let Progress { world, .. } = progress;
+    world
+}
+
+/// One update of a world whose tree is up to date before and after it.
+fn write_next<R: Threads + Wait + Sync, O: Sink, G: Gate + Sync>(
+    rt: &R,
+    alloc: Global,
+    world: World,
+    out: &mut O,
+    gate: &G,
+) -> Result<World, WriteStop>
+    requires { world.update < 1000000 }
+    ensures world { IfOk result (IsWorldAt world.config (world.update + 1)) }
+    ensures text { WritesAll (O.seen out.old) (O.seen out.new)
+        (update_text world.config (world.update + 1)) result }
+{
+    let running = write_update(rt, alloc, world.into_running(), out, gate)?;
+    Ok(running.into_world()?)
+}
+
 /// Publishes the picture of a world. It gives the picture, and a note of it.
 fn publish_picture<R: Wait>(
     rt: &R,
@@ -35,12 +60,8 @@ fn publish_picture<R: Wait>(
     publisher: &mut Publisher<WorldPicture>,
 ) -> Result<(Arc<WorldPicture>, Note<WorldPicture>), Memory>
     requires { ArePictures world.now.config world.now.update publisher.old }
-    ensures published { OnOk result
-        (ArePictures world.now.config (world.now.update + 1) publisher.new) }
-    ensures update { IfOk result (λ made. made.0.value.update ≡ world.now.update) }
-    ensures config { IfOk result
-        (λ made. values_of made.0.value.config.value ≡ world.now.config) }
-    ensures note { IfOk result (λ made. made.1 ≡ publisher.new) }
+    ensures { IfOk result (λ made. IsPublished world.now.config world.now.update publisher.new
+        made.0.value made.1) }
 {
     let picture = world.picture(alloc)?;
     let note = publisher.publish(rt, Arc::try_clone(&picture)?)?;
@@ -58,22 +79,24 @@ fn publish_update<R: Threads + Wait + Sync, O: Sink, G: Gate + Sync>(
     gate: &G,
 ) -> Result<Progress, WriteStop>
     requires update { progress.world.update < 1000000 }
-    requires come { HasCome publisher.old progress }
-    ensures come { IfOk result (HasCome publisher.new) }
-    ensures config { IfOk result (λ next. next.world.config ≡ progress.world.config) }
-    ensures update { IfOk result (λ next. next.world.update ≡ progress.world.update + 1) }
+    requires come { HasCome progress.world.config progress.world.update publisher.old progress }
+    ensures come { IfOk result
+        (HasCome progress.world.config (progress.world.update + 1) publisher.new) }
     ensures text { WritesAll (O.seen out.old) (O.seen out.new)
         (update_text progress.world.config (progress.world.update + 1)) result }
 {
-    let Progress { world, .. } = progress;
-    let running = write_update(rt, alloc, world.into_running(), out, gate)?;
-    let world = running.into_world()?;
-    let (picture, note) = publish_picture(rt, alloc, &world, publisher)?;
-    Ok(Progress {
-        world,
-        picture,
-        note: Some(note),
-    })
+    let world = write_next(rt, alloc, world_of(progress), out, gate)?;
+    match publish_picture(rt, alloc, &world, publisher) {
+        Ok((picture, note)) => Ok(Progress {
+            world,
+            picture,
+            note: Some(note),
+        }),
+        Err(Memory) => {
+            drop(world);
+            Err(WriteStop::Memory)
+        }
+    }
 }
 
 /// The updates of a new world, with their texts and pictures.
@@ -86,12 +109,9 @@ fn publish_updates<R: Threads + Wait + Sync, O: Sink, G: Gate + Sync>(
     out: &mut O,
     gate: &G,
 ) -> Result<Progress, WriteStop>
-    requires new { progress.world.update ≡ 0 }
     requires updates { updates ≤ 1000000 }
-    requires come { HasCome publisher.old progress }
-    ensures come { IfOk result (HasCome publisher.new) }
-    ensures config { IfOk result (λ after. after.world.config ≡ progress.world.config) }
-    ensures update { IfOk result (λ after. after.world.update ≡ updates) }
+    requires come { HasCome progress.world.config 0 publisher.old progress }
+    ensures come { IfOk result (HasCome progress.world.config updates publisher.new) }
     ensures text { WritesAll (O.seen out.old) (O.seen out.new)
         (updates_text progress.world.config updates) result }
 {
@@ -111,18 +131,20 @@ fn publish_log<R: Threads + Wait + Sync, O: Sink, G: Gate + Sync>(
     out: &mut O,
     gate: &G,
 ) -> Result<Progress, WriteStop>
-    requires config { progress.world.config ≡ values_of config.now }
-    requires new { progress.world.update ≡ 0 }
-    requires come { HasCome publisher.old progress }
-    ensures come { IfOk result (HasCome publisher.new) }
-    ensures world { IfOk result (λ after. IsFinalWorld (values_of config.now) after.world) }
+    requires { HasCome (values_of config.now) 0 publisher.old progress }
+    ensures come { IfOk result (HasCome (values_of config.now) config.now.updates publisher.new) }
     ensures text { WritesAll (O.seen out.old) (O.seen out.new)
         (run_text (values_of config.now)) result }
 {
     write_first(alloc, &progress.world, out)?;
     let progress = publish_updates(rt, alloc, progress, config.updates, publisher, out, gate)?;
-    write_last(alloc, &progress.world, out)?;
-    Ok(progress)
+    match write_last(alloc, &progress.world, out) {
+        Ok(()) => Ok(progress),
+        Err(stop) => {
+            drop(progress);
+            Err(stop)
+        }
+    }
 }
 
 /// The same, of a run that was begun. It takes what was begun, and tells when the run has ended.
@@ -137,9 +159,8 @@ pub fn publish_run<R: Threads + Wait + Sync, O: Sink, G: Gate + Sync>(
     gate: &G,
 ) -> Result<Progress, WriteStop>
     requires { IsBegun (values_of config.now) publisher.old begun.old }
-    ensures come { IfOk result (HasCome publisher.new) }
-    ensures world { IfOk result (λ after. IsFinalWorld (values_of config.now) after.world) }
-    ensures log { WritesLog (values_of config.now) (O.seen out.old) (O.seen out.new) result }
+    ensures { RunsToEnd (values_of config.now) publisher.new
+        (O.seen out.old) (O.seen out.new) result }
 {
     let Some(progress) = begun.take() else {
         unreachable!()

@@ -1,10 +1,9 @@
 // A run with a watcher beside it.
-ghost use Rattle.std.specs.Prelude.{◌≤◌, IfOk, OnOk};
+ghost use Rattle.std.specs.Prelude.{◌≤◌};
 ghost use Rattle.world_config.specs.Shown.{values_of};
 ghost use Rattle.written_texts.specs.SinkChanges.{change};
-ghost use Rattle.logged_run.specs.Publishing.{HasCome, IsBegun, WritesLog};
-ghost use Rattle.logged_run.specs.RunText.{IsFinalWorld};
-ghost use Rattle.logged_run.specs.Watching.{BeginsAs, WritesLooks};
+ghost use Rattle.logged_run.specs.Publishing.{IsBegun, RunsToEnd};
+ghost use Rattle.logged_run.specs.Watching.{BeginsAs, Watches};
 ghost use Rattle.logged_run.specs.WatchedRun.{EndsWatched, IsAtEnd, RunsWatched};
 
 use crate::beginning::{Beginning, begin};
@@ -38,19 +37,19 @@ fn side_by_side<R: Threads + Wait + Clock + Sync, O: Sink, W: Sink + Send, G: Ga
 ) -> Outcomes
     requires begun { IsBegun (values_of config.now) publisher.old begun.old }
     requires observer { BeginsAs (values_of config.now) observer.old }
-    ensures seen { OnOk result.watched (BeginsAs (values_of config.now) observer.new) }
-    ensures lines { WritesLooks looks (values_of config.now)
+    ensures watched { Watches looks (values_of config.now) observer.new
         (W.seen watch.old) (W.seen watch.new) result.watched }
-    ensures come { IfOk result.ran (HasCome publisher.new) }
-    ensures world { IfOk result.ran (λ after. IsFinalWorld (values_of config.now) after.world) }
-    ensures log { WritesLog (values_of config.now) (O.seen out.old) (O.seen out.new) result.ran }
+    ensures ran { RunsToEnd (values_of config.now) publisher.new
+        (O.seen out.old) (O.seen out.new) result.ran }
 {
     let ended = AtomicBool::new(false);
     let (watched, ran) = join_mut(
         rt,
         &mut || write_looks(rt, alloc, config, observer, looks, &ended, watch),
-        &mut ||
+        &mut || -> Result<Progress, WriteStop>
             requires { IsBegun (values_of config.now) publisher.now begun.now }
+            ensures { RunsToEnd (values_of config.entry.now) publisher.exit.now
+                (O.seen out.entry.now) (O.seen out.exit.now) result }
         { publish_run(rt, alloc, config, begun, publisher, &ended, out, gate) },
     );
     Outcomes::of(ran, watched)
@@ -72,8 +71,13 @@ pub(crate) fn end_watched<W: Sink>(
         picture,
         note,
     } = progress;
-    write_last_picture(alloc, observer, picture, note, newest, watch)?;
-    Ok(world)
+    match write_last_picture(alloc, observer, picture, note, newest, watch) {
+        Ok(()) => Ok(world),
+        Err(stop) => {
+            drop(world);
+            Err(stop)
+        }
+    }
 }
 
 /// Runs what was begun to its end beside its watcher, and then writes the line of the last picture.

@@ -1,10 +1,11 @@
 // The watcher of a run.
-ghost use Rattle.std.specs.Prelude.{◌≡◌, ◌<◌, ℕ, IfOk, OnOk, None, length};
+ghost use Rattle.std.specs.Prelude.{◌≡◌, ◌<◌, ℕ, IfOk, None, length};
+ghost use Rattle.avida_port.specs.Ports.{SinkState};
 ghost use Rattle.world_config.specs.Shown.{values_of};
 ghost use Rattle.world_config.specs.Values.{ConfigValues};
 ghost use Rattle.world_rules.specs.Picture.{picture_of, picture_text};
 ghost use Rattle.written_texts.specs.WrittenText.{WritesAll};
-ghost use Rattle.logged_run.specs.Watching.{BeginsAs, IsHeard, WritesLooks, is_news, newest_after, news};
+ghost use Rattle.logged_run.specs.Watching.{BeginsAs, HasLooked, IsHeard, LooksOn, Watches, is_news, newest_after, news};
 ghost use Rattle.logged_run.specs.WatchText.{pictures_text};
 
 use avida_port::{Memory, Sink};
@@ -62,6 +63,23 @@ fn write_news<W: Sink>(
     Ok(Some(picture.update))
 }
 
+/// Looks once, and writes the line of the picture where it is news. It gives the newest update that
+/// was written.
+fn write_look<W: Sink>(
+    alloc: Global,
+    config: &Config,
+    observer: &mut Observer<WorldPicture>,
+    newest: Option<u32>,
+    sink: &mut W,
+) -> Result<Option<u32>, WriteStop>
+    ensures { (looks : ℕ) (start : SinkState)
+        → HasLooked looks (values_of config.now) observer.old newest start (W.seen sink.old)
+        → LooksOn looks (values_of config.now) observer.new start (W.seen sink.new) result }
+{
+    let picture = observer.look()?;
+    write_news(alloc, &picture, newest, config.updates, sink)
+}
+
 /// Looks at most `looks` times, and writes the line of each newer picture. It gives the newest
 /// update that was written. After a look that showed nothing newer it sleeps, or ends if the run
 /// has ended.
@@ -75,15 +93,13 @@ pub fn write_looks<R: Clock, W: Sink>(
     sink: &mut W,
 ) -> Result<Option<u32>, WriteStop>
     requires { BeginsAs (values_of config.now) observer.old }
-    ensures seen { OnOk result (BeginsAs (values_of config.now) observer.new) }
-    ensures lines { WritesLooks looks (values_of config.now)
+    ensures { Watches looks (values_of config.now) observer.new
         (W.seen sink.old) (W.seen sink.new) result }
 {
     let mut newest = None;
     for _ in 0..looks {
         let at_end = ended.load(Ordering::SeqCst);
-        let picture = observer.look()?;
-        let written = write_news(alloc, &picture, newest, config.updates, sink)?;
+        let written = write_look(alloc, config, observer, newest, sink)?;
         if written == newest {
             if at_end {
                 return Ok(written);

@@ -1,10 +1,10 @@
 use Rattle.std.proofs.Common.{◌∙◌, refl}
 use Rattle.logged_run.proofs.beginning.found_pictured.Goals as goal
 
-pub returns : goal.returns
-returns g c =
+pub returns-in-Ok : goal.returns-in-Ok
+returns-in-Ok g c =
     let founded = c.in_ok-world.ensures in
-    let shown = c.in_ok-picture.ensures in
+    let shown = c.in-Ok.ensures in
     record {
       world_config = founded.0;
       world_new = founded.1;

@@ -1,3 +1,4 @@
+use Rattle.std.proofs.Common.{◌∙◌}
 use Rattle.std.proofs.lemmas.Result.{err_from_is_err_and}
 use Rattle.world_config.specs.Shown.{values_of}
 use Rattle.logged_run.proofs.RunLemmas.{first_stopped, last_written, updates_stopped}
@@ -22,19 +23,21 @@ returns-in_err-world-2-clause-text g c =
     c.args.config.updates
     c.in_ok-write_first.ensures founded c.in_err-world-2.ensures.text founded)
 
-pub returns-in_err-write_last-clause-text : goal.returns-in_err-write_last-clause-text
-returns-in_err-write_last-clause-text g c =
-    let p = err_from_is_err_and c.from_residual-in_err-write_last.result
-    c.from_residual-in_err-write_last.ensures.1 in
+pub returns-in-Err-clause-text : goal.returns-in-Err-clause-text
+returns-in-Err-clause-text g c =
     let founded = c.in_ok-world.ensures.0 in
-    rw (p.1, p.2)
-    (stopped_same (last_written founded founded c.args.config.updates
+    stopped_same (last_written founded founded c.args.config.updates
     c.in_ok-world-2.world.update c.in_ok-write_first.ensures c.in_ok-world-2.ensures.text
-    c.in_err-write_last.ensures c.in_ok-world-2.ensures.update))
+    c.in-Err.ensures c.in_ok-world-2.ensures.world.update)
 
-pub returns-clause-text : goal.returns-clause-text
-returns-clause-text g c =
+pub returns-in-Ok-clause-world : goal.returns-in-Ok-clause-world
+returns-in-Ok-clause-world g c =
+    let so = c.in_ok-world-2.ensures.world in
+    record { config = so.config ∙ c.in_ok-world.ensures.0; update = so.update }
+
+pub returns-in-Ok-clause-text : goal.returns-in-Ok-clause-text
+returns-in-Ok-clause-text g c =
     let founded = c.in_ok-world.ensures.0 in
     writes_same (last_written founded founded c.args.config.updates
     c.in_ok-world-2.world.update c.in_ok-write_first.ensures c.in_ok-world-2.ensures.text
-    c.in_ok-write_last.ensures c.in_ok-world-2.ensures.update)
+    c.in-Ok.ensures c.in_ok-world-2.ensures.world.update)

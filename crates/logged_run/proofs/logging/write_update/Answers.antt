@@ -10,9 +10,11 @@ returns-in_err-next-clause-text g c =
     rw (p.1, p.2) (nothing_written (g.O.Sink.seen c.args.out.now)
     (update_text c.args.world.config (c.args.world.update + 1)))
 
-pub returns-in_err-put-clause-text : goal.returns-in_err-put-clause-text
-returns-in_err-put-clause-text g c =
-    let p = err_from_is_err_and c.from_residual-in_err-put.result
-    c.from_residual-in_err-put.ensures.1 in
-    rw (p.1, p.2) (put_ended (update_text c.args.world.config (c.args.world.update + 1))
-    c.in_err-put.ensures.puts (c.deref.ensures.value ∙ c.in_ok-next.ensures.text))
+pub returns-clause-text : goal.returns-clause-text
+returns-clause-text g c =
+    rw c.from.ensures (put_ended (update_text c.args.world.config (c.args.world.update + 1))
+    c.in-Err.ensures.puts (c.deref.ensures.value ∙ c.in_ok-next.ensures.text))
+
+pub returns-in-Ok-clause-world : goal.returns-in-Ok-clause-world
+returns-in-Ok-clause-world g c =
+    record { config = c.in_ok-next.ensures.config; update = c.in_ok-next.ensures.update }

@@ -1,12 +1,28 @@
-use Rattle.std.proofs.Common.{◌≡◌}
-use Rattle.logged_run.proofs.PublishedLemmas.{more_pictures}
+use Rattle.std.proofs.Common.{◌≡◌, ◌∙◌, ap}
+use Rattle.world_config.specs.Shown.{values_of}
+use Rattle.world_core.specs.declared.picture.WorldPicture.{WorldPicture}
+use Rattle.logged_run.proofs.PublishedLemmas.{may_follow, more_pictures}
 use Rattle.logged_run.proofs.publishing.publish_picture.Goals as goal
 
-pub returns-clause-published : goal.returns-clause-published
-returns-clause-published g c =
+pub publish-requires : goal.publish-requires
+publish-requires g c =
+    let copy = c.in_ok-try_clone.ensures in
+    may_follow c.args.world.now.config c.args.world.now.update c.args.publisher.now
+    c.in_ok-try_clone.field-0.value c.requires
+    (ap (λ (p : WorldPicture). p.update) copy ∙ c.in_ok-picture.ensures.update)
+    (ap (λ (p : WorldPicture). values_of p.config.value) copy ∙ c.in_ok-picture.ensures.config)
+
+pub returns : goal.returns
+returns g c =
     let next = c.in_ok-try_clone.field-0.value in
     let is : next.update ≡ c.args.world.now.update =
-    cc (c.in_ok-try_clone.ensures, c.in_ok-picture.ensures.update) in
-    rw c.in_ok-note.ensures.ok
-    (more_pictures c.args.world.now.config c.args.world.now.update c.args.publisher.now next
-    c.requires is)
+    ap (λ (p : WorldPicture). p.update) c.in_ok-try_clone.ensures
+    ∙ c.in_ok-picture.ensures.update in
+    record {
+      pictures = rw c.in_ok-note.ensures.ok
+          (more_pictures c.args.world.now.config c.args.world.now.update c.args.publisher.now next
+          c.requires is);
+      picture_config = c.in_ok-picture.ensures.config;
+      picture_update = c.in_ok-picture.ensures.update;
+      note = c.in_ok-note.ensures.note;
+    }

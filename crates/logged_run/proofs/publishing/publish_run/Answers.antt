@@ -3,10 +3,13 @@ use Rattle.world_config.specs.Shown.{values_of}
 use Rattle.logged_run.specs.RunText.{run_text}
 use Rattle.logged_run.proofs.publishing.publish_run.Goals as goal
 
-pub returns-clause-log : goal.returns-clause-log
-returns-clause-log g c =
+pub returns : goal.returns
+returns g c =
     record {
-      text = run_text (values_of c.args.config.now);
-      is = refl;
-      writes = c.publish_log-run.ensures.text;
+      come = c.publish_log-run.ensures.come;
+      log = record {
+        text = run_text (values_of c.args.config.now);
+        is = refl;
+        writes = c.publish_log-run.ensures.text;
+      };
     }

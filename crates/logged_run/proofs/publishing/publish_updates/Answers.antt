@@ -1,11 +1,16 @@
-use Rattle.std.proofs.Common.{◌≡◌, ◌≤◌, ◌+◌, ◌∙◌, Ok, ap, arith, subst}
+use Rattle.std.proofs.Common.{◌≡◌, ◌≤◌, ◌+◌, ℕ, Ok, arith, subst}
 use Rattle.std.proofs.lemmas.Result.{err_from_is_err_and}
 use Rattle.world_rules.specs.LogText.{updates_text}
 use Rattle.written_texts.specs.WrittenText.{WritesAll}
 use Rattle.written_texts.proofs.WriteLemmas.{writes_same}
 use Rattle.logged_run.specs.declared.publishing.Progress.{Progress}
+use Rattle.logged_run.specs.Publishing.{HasCome}
+use Rattle.logged_run.proofs.PublishedLemmas.{come_again, come_more}
 use Rattle.logged_run.proofs.RunLemmas.{update_stopped, update_written}
 use Rattle.logged_run.proofs.publishing.publish_updates.Goals as goal
+
+pub publish_update-requires-clause-come : goal.publish_update-requires-clause-come
+publish_update-requires-clause-come g c κs within = come_again c.loop.invariant.come
 
 pub returns-in_err-progress-clause-text : goal.returns-in_err-progress-clause-text
 returns-in_err-progress-clause-text g c =
@@ -14,9 +19,15 @@ returns-in_err-progress-clause-text g c =
     let within : c.loop.counter + 1 ≤ c.args.updates = omega arith in
     let wrote = update_written c.args.progress.world.config c.loop.progress.world.config
     c.loop.counter c.loop.progress.world.update so.written c.in_err-progress.ensures.text
-    so.config so.update in
+    so.come.world.config so.come.world.update in
     rw (p.1, p.2) (update_stopped c.args.progress.world.config (c.loop.counter + 1) c.args.updates
     wrote within)
+
+pub returns-clause-come : goal.returns-clause-come
+returns-clause-come g c =
+    let all : c.loop.counter ≡ c.args.updates = omega arith in
+    subst (λ (n : ℕ). HasCome c.args.progress.world.config n c.loop.publisher c.loop.progress) all
+    c.loop.invariant.come
 
 pub returns-clause-text : goal.returns-clause-text
 returns-clause-text g c =
@@ -30,10 +41,8 @@ loop-preserved g c =
     let so = c.loop.invariant in
     let next = c.in_ok-progress.ensures in
     record {
-      config = next.config ∙ so.config;
-      update = next.update ∙ ap (λ n. n + 1) so.update;
-      come = next.come;
+      come = come_more so.come next.come;
       written = writes_same (update_written c.args.progress.world.config
           c.loop.progress.world.config c.loop.counter c.loop.progress.world.update so.written
-          next.text so.config so.update);
+          next.text so.come.world.config so.come.world.update);
     }

@@ -1,5 +1,5 @@
 -- The run has come so far, and the texts so far are written.
-use Rattle.std.proofs.Common.{◌≡◌, Ok}
+use Rattle.std.proofs.Common.{Ok}
 use Rattle.world_rules.specs.LogText.{updates_text}
 use Rattle.written_texts.specs.WrittenText.{WritesAll}
 use Rattle.logged_run.specs.Publishing.{HasCome}
@@ -7,9 +7,7 @@ use Rattle.logged_run.proofs.publishing.publish_updates.Given as goal
 
 abbrev pub invariant-loop : goal.invariant-loop
 invariant-loop g l = record {
-  config : l.progress.world.config ≡ l.fn.progress.world.config;
-  update : l.progress.world.update ≡ l.counter;
-  come : HasCome l.publisher l.progress;
+  come : HasCome l.fn.progress.world.config l.counter l.publisher l.progress;
   written : WritesAll {T = Unit {0}} (g.O.Sink.seen l.fn.out) (g.O.Sink.seen l.out)
       (updates_text l.fn.progress.world.config l.counter) (Ok tt);
 }

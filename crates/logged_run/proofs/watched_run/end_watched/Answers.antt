@@ -1,7 +1,6 @@
 use Rattle.std.proofs.Common.{refl}
-use Rattle.std.proofs.lemmas.Result.{err_from_is_err_and}
 use Rattle.written_texts.proofs.WriteLemmas.{stopped_same, writes_same}
-use Rattle.logged_run.proofs.EndLemmas.{line_at_end}
+use Rattle.logged_run.proofs.NewsLemmas.{line_as}
 use Rattle.logged_run.proofs.watched_run.end_watched.Goals as goal
 
 pub write_last_picture-requires-clause-observer : goal.write_last_picture-requires-clause-observer
@@ -11,17 +10,16 @@ pub write_last_picture-requires-clause-note : goal.write_last_picture-requires-c
 write_last_picture-requires-clause-note g c =
     rw (c.requires.config, c.requires.update) c.requires.heard
 
-pub returns-in_err-write_last_picture : goal.returns-in_err-write_last_picture
-returns-in_err-write_last_picture g c =
-    let p = err_from_is_err_and c.from_residual.result c.from_residual.ensures.1 in
-    rw (p.1, p.2) (record {
-      world = tt;
-      line = stopped_same
-          (line_at_end c.args.newest c.requires c.in_err-write_last_picture.ensures);
-    })
+pub returns-in-Err : goal.returns-in-Err
+returns-in-Err g c = record {
+  world = tt;
+  line = stopped_same (line_as c.args.newest c.requires.config c.requires.update
+      c.requires.update c.in-Err.ensures);
+}
 
-pub returns : goal.returns
-returns g c = record {
+pub returns-in-Ok : goal.returns-in-Ok
+returns-in-Ok g c = record {
   world = refl;
-  line = writes_same (line_at_end c.args.newest c.requires c.in_ok-write_last_picture.ensures);
+  line = writes_same (line_as c.args.newest c.requires.config c.requires.update
+      c.requires.update c.in-Ok.ensures);
 }

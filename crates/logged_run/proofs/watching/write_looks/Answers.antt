@@ -1,44 +1,33 @@
-use Rattle.std.proofs.Common.{◌≤◌, ◌+◌, ◌∙◌, Some, Option, ℕ, ap, sym, arith}
+use Rattle.std.proofs.Common.{◌≤◌, ◌+◌, arith}
 use Rattle.std.proofs.lemmas.Result.{err_from_is_err_and}
 use Rattle.world_config.specs.Shown.{values_of}
-use Rattle.logged_run.proofs.PublishedLemmas.{begins_later}
-use Rattle.logged_run.proofs.WatcherLemmas.{look_made, look_stopped, looks_done}
+use Rattle.logged_run.proofs.WatcherLemmas.{looks_begun, looks_done, looks_within}
 use Rattle.logged_run.proofs.watching.write_looks.Goals as goal
 
-pub returns-in_err-written-clause-lines : goal.returns-in_err-written-clause-lines
-returns-in_err-written-clause-lines g c =
-    let p = err_from_is_err_and c.from_residual-in_err-written.result
-    c.from_residual-in_err-written.ensures.1 in
-    let last = c.in_ok-picture.ensures.last ∙ ap Some (sym c.deref.ensures) in
+pub returns-in_err-written : goal.returns-in_err-written
+returns-in_err-written g c =
+    let p = err_from_is_err_and c.from_residual.result c.from_residual.ensures.1 in
     let within : c.loop.counter + 1 ≤ c.args.looks = omega arith in
-    rw (p.1, p.2)
-    (look_stopped c.loop.counter (values_of c.args.config.now) c.loop.observer c.look.new.self
-    c.loop.newest _ _ _ c.deref.result.now
-    c.loop.invariant c.in_ok-picture.ensures.later last c.look.ensures.history {T = Option ℕ}
-    c.args.looks _ c.in_err-written.ensures.lines within)
+    rw (p.1, p.2) (record {
+      begins = tt;
+      lines = looks_within (c.loop.counter + 1) c.args.looks (values_of c.args.config.now) _ _ _
+          (c.in_err-written.ensures c.loop.counter _ c.loop.invariant) within;
+    })
 
-pub returns-then-at_end-clause-seen : goal.returns-then-at_end-clause-seen
-returns-then-at_end-clause-seen g c =
-    begins_later (values_of c.args.config.now) c.loop.observer c.look.new.self
-    c.loop.invariant.begins c.in_ok-picture.ensures.later
-
-pub returns-then-at_end-clause-lines : goal.returns-then-at_end-clause-lines
-returns-then-at_end-clause-lines g c =
-    let last = c.in_ok-picture.ensures.last ∙ ap Some (sym c.deref.ensures) in
+pub returns-then-at_end : goal.returns-then-at_end
+returns-then-at_end g c =
     let within : c.loop.counter + 1 ≤ c.args.looks = omega arith in
-    let made = look_made c.loop.counter (values_of c.args.config.now) c.loop.observer
-    c.look.new.self c.loop.newest _ _ _ c.deref.result.now
-    c.loop.invariant c.in_ok-picture.ensures.later last c.look.ensures.history {T = Option ℕ}
-    c.in_ok-written.written c.in_ok-written.written
-    c.in_ok-written.ensures.lines c.in_ok-written.ensures.newest in
-    looks_done (c.loop.counter + 1) c.args.looks (values_of c.args.config.now) c.look.new.self
-    c.in_ok-written.written _ _ made within
+    looks_done (c.loop.counter + 1) c.args.looks (values_of c.args.config.now) _ _ _ _
+    (c.in_ok-written.ensures c.loop.counter _ c.loop.invariant) within
+
+pub returns : goal.returns
+returns g c =
+    let within : c.loop.counter ≤ c.args.looks = omega arith in
+    looks_done c.loop.counter c.args.looks (values_of c.args.config.now) _ _ _ _
+    c.loop.invariant within
+
+pub loop-init : goal.loop-init
+loop-init g c = looks_begun (values_of c.args.config.now) c.args.observer.now _ c.requires
 
 pub loop-preserved : goal.loop-preserved
-loop-preserved g c =
-    let last = c.in_ok-picture.ensures.last ∙ ap Some (sym c.deref.ensures) in
-    look_made c.loop.counter (values_of c.args.config.now) c.loop.observer c.look.new.self
-    c.loop.newest _ _ _ c.deref.result.now
-    c.loop.invariant c.in_ok-picture.ensures.later last c.look.ensures.history {T = Option ℕ}
-    c.in_ok-written.written c.in_ok-written.written
-    c.in_ok-written.ensures.lines c.in_ok-written.ensures.newest
+loop-preserved g c = c.in_ok-written.ensures c.loop.counter _ c.loop.invariant

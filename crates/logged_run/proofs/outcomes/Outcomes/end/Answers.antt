@@ -7,14 +7,11 @@ returns-in_err-progress g c =
     let p = err_from_is_err_and c.from_residual.result c.from_residual.ensures.1 in
     rw (p.1, p.2, c.in_err-progress.was) (refl, refl)
 
-pub returns-in_err-newest : goal.returns-in_err-newest
-returns-in_err-newest g c =
-    let p = err_from_is_err_and c.from_residual-in_err-newest.result
-    c.from_residual-in_err-newest.ensures.1 in
-    rw (p.1, p.2, c.in_ok-progress.was, c.in_err-newest.was) (refl, refl)
+pub returns-in-Err : goal.returns-in-Err
+returns-in-Err g c = rw (c.in_ok-progress.was, c.in-Err.is) (refl, refl)
 
 pub end_watched-requires : goal.end_watched-requires
-end_watched-requires g c = rw (c.in_ok-newest.was, c.in_ok-progress.was) at c.requires
+end_watched-requires g c = rw (c.in-Ok.is, c.in_ok-progress.was) at c.requires
 
-pub returns : goal.returns
-returns g c = rw (c.in_ok-progress.was, c.in_ok-newest.was) c.end_watched.ensures
+pub returns-in-Ok : goal.returns-in-Ok
+returns-in-Ok g c = rw (c.in_ok-progress.was, c.in-Ok.is) c.end_watched.ensures

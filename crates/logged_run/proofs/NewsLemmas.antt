@@ -1,0 +1,20 @@
+-- The line of a picture that is news, said of equal configurations and updates.
+use Rattle.std.proofs.Common.{◌≡◌, ℕ, Option, Result, subst}
+use Rattle.avida_port.specs.Ports.{SinkState}
+use Rattle.world_config.specs.Values.{ConfigValues}
+use Rattle.written_texts.specs.declared.stop.WriteStop.{WriteStop}
+use Rattle.written_texts.specs.WrittenText.{WritesAll}
+use Rattle.logged_run.specs.Watching.{news}
+use Rattle.logged_run.specs.WatchText.{pictures_text}
+
+-- the line of the last picture, of another configuration and update that are equal to its own
+pub line_as : {T : Type 0} {a b : SinkState} {r : Result T WriteStop} {here there : ConfigValues}
+    {at last to : ℕ} (newest : Option ℕ) → here ≡ there → at ≡ to → last ≡ to
+    → WritesAll a b (pictures_text here (news newest last at)) r
+    → WritesAll a b (pictures_text there (news newest to to)) r
+line_as {T = T} {a = a} {b = b} {r = r} {here = here} {at = at} {to = to} newest same is ends
+    line =
+    subst (λ (of : ConfigValues). WritesAll {T = T} a b (pictures_text of (news newest to to)) r)
+    same
+    (subst (λ (n : ℕ). WritesAll {T = T} a b (pictures_text here (news newest to n)) r) is
+    (subst (λ (n : ℕ). WritesAll {T = T} a b (pictures_text here (news newest n at)) r) ends line))
