@@ -765,11 +765,27 @@ def worlds_of(path):
             world.forget()
 
 
+def with_one(numbers, number):
+    """The array with one number more, in which each takes 4 bytes while all fit, and else 8.
+
+    >>> with_one(array("i", [-1]), 2**31 - 1), with_one(array("i", [-1]), 2**31)
+    (array('i', [-1, 2147483647]), array('q', [-1, 2147483648]))
+    """
+    try:
+        numbers.append(number)
+    except OverflowError:
+        numbers = array({"i": "q", "I": "Q"}[numbers.typecode], numbers)
+        numbers.append(number)
+    return numbers
+
+
 class Births:
-    """The parent of each organism of a log and where its line stands, for lines of descent. It takes 16 bytes each."""
+    """The parent of each organism of a log and where its line stands, for lines of descent. It takes 8 bytes each, and
+    more where an id or a place needs over 32 bits."""
 
     def __init__(self, path):
-        self.path, self.parents, self.places = keep(path), array("q"), array("q")
+        # A founder's parent is -1.
+        self.path, self.parents, self.places = keep(path), array("i"), array("I")
         # For each piece its first organism.
         self.firsts, self.pieces = [], []
         lines, place = Lines(path), 0
@@ -792,8 +808,8 @@ class Births:
             raise lines.fault(f"its organism is {id}, and the next one is {len(self.parents)}")
         if parent >= id:
             raise lines.fault(f"its parent {parent} comes after it")
-        self.parents.append(parent)
-        self.places.append(place)
+        self.parents = with_one(self.parents, parent)
+        self.places = with_one(self.places, place)
 
     def ids_to(self, id):
         """The line of descent to an organism, its founder first."""

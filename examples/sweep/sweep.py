@@ -25,6 +25,7 @@ import sys
 import time
 import zlib
 from contextlib import contextmanager, suppress
+from itertools import chain
 from pathlib import Path
 from typing import NamedTuple
 
@@ -229,7 +230,7 @@ def write(path, text):
 
 
 def write_table(path, header, rows):
-    write(path, "".join("\t".join(map(str, row)) + "\n" for row in [header, *rows]))
+    write(path, "".join("\t".join(map(str, row)) + "\n" for row in chain([header], rows)))
 
 
 def write_configurations(runs):
@@ -341,6 +342,12 @@ def made_of(folder, size):
     return Made(log, folder / "stages" / "configuration.toml", updates, folder / "stages" / "worlds")
 
 
+def telling(updates):
+    """Of a run's updates those that first count a task, and the last one, which is all that a line of descent asks for."""
+    firsts = set(first_updates(updates))
+    return [update for update in updates[:-1] if update.number in firsts] + updates[-1:]
+
+
 def line_of_equ(made):
     """The line of descent of one organism that does EQU, as the lines of tools/lineage.
 
@@ -399,6 +406,9 @@ def run_one(folder, size, keep):
         write_table(folder / "counts.tsv", COUNTS, ((*update[:-1], *update.tasks) for update in updates))
         rows = zip(TASKS, (first or "-" for first in first_updates(updates)), ends)
         write_table(folder / "tasks.tsv", ("task", "first_update", "counted_at_end"), rows)
+        # Of a long run all updates together take some 100 MB.
+        made = made._replace(updates=telling(updates))
+        del updates, rows
         write(folder / "line.txt", line_of_equ(made))
         keep_only(folder, made, keep)
 
