@@ -2,10 +2,11 @@
 use Rattle.std.proofs.Common.{◌≡◌, ◌∙◌, sym, ap, refl, ℕ, ◌+◌, ◌*◌, ◌<◌, ◌≤◌, true, false, ◌==◌, cond, List, [], ◌∷◌, ◌++◌, length, take, get_or, Option, Some, fold, arith, append_assoc, append-nil, count_by, inl, inr}
 use Rattle.std.proofs.Math.ListN.{set}
 use Rattle.std.proofs.lemmas.Bool.Decides.{eqb_tells, Decides-eqb}
+use Rattle.std.proofs.lemmas.List.{take_all}
 use Rattle.std.proofs.lemmas.List.Sums.{fold_more}
 use Rattle.birth_board.specs.declared.placing_round.PlacingRound.{PlacingRound}
 use Rattle.birth_board.specs.Torus.{TorusNumbers}
-use Rattle.birth_board.specs.Placement.{Board, next_board, next_placing, place_stream, placing_of}
+use Rattle.birth_board.specs.Placement.{Board, next_board, next_placing, place_stream, placements_of, placing_of}
 use Rattle.birth_board.specs.declared.placing.Placing.{Placing}
 use Rattle.random_streams.specs.RandomStream.{Stream, word_of}
 
@@ -76,6 +77,15 @@ pub board_after-more : (torus : TorusNumbers) (round : PlacingRound) (occupants 
 board_after-more torus round occupants parents i within =
     fold_more (next_board torus round)
     (record { occupants = occupants; placings = []; parents = [] }) parents i 0 within
+
+-- the board after all parents
+pub board_after-all : (torus : TorusNumbers) (round : PlacingRound) (occupants : List (Option ℕ))
+    (parents : List ℕ) (i : ℕ) → length parents ≤ i
+    → board_after torus round occupants (take i parents)
+    ≡ placements_of torus parents occupants round
+unfolding placements_of
+board_after-all torus round occupants parents i all =
+    ap (board_after torus round occupants) (take_all i parents all)
 
 -- a number below another is not that number
 pub eqb-below : (a b : ℕ) → a < b → (a == b) ≡ false

@@ -1,18 +1,20 @@
 -- What the verdict Viable means.
 use Rattle.std.proofs.Common.{◌≡◌, refl, ℕ, ◌*◌, ◌≤◌, ◌<◌, Bool, true, false, not, cond, ◌&&◌, leb, ltb, Option, None, Some, arith}
+use Rattle.std.specs.Option.{option_map_or}
 use Rattle.std.proofs.lemmas.Bool.Decides.{nat_tests}
 use Rattle.divide_rules.specs.declared.ask.DivideAsk.{DivideAsk}
 use Rattle.divide_rules.specs.Rules.{RuleNumbers}
 use Rattle.divide_rules.specs.declared.rule.Rule.{Rule}
 use Rattle.divide_rules.specs.declared.rule.Rule.TheVariants.{V1, V2, V3, V4, V5, V6}
-use Rattle.divide_rules.specs.declared.verdict.Verdict.TheVariants.{Viable}
-use Rattle.divide_rules.specs.Viability.{least_part, greatest_part, child_length, executed_share, copied_share, rule_holds, first_broken, verdict_by, verdict_of, IsViable}
+use Rattle.divide_rules.specs.declared.verdict.Verdict.TheVariants.{Viable, Broken}
+use Rattle.divide_rules.specs.Viability.{least_part, greatest_part, child_length, executed_share, copied_share, rule_holds, found_of, bound_of, first_broken, verdict_of, IsViable}
 
 -- a verdict that names no rule
-unbroken : (broken : Option Rule) (ask : DivideAsk) (genome_length : ℕ) (rules : RuleNumbers)
-    → verdict_by broken ask genome_length rules ≡ Viable → broken ≡ None
-unbroken None ask genome_length rules viable = refl
-unbroken (Some rule) ask genome_length rules viable = absurd cc
+unbroken : (broken : Option Rule) (found bound : Rule → ℕ)
+    → option_map_or (λ rule. Broken rule (found rule) (bound rule)) broken Viable ≡ Viable
+    → broken ≡ None
+unbroken None found bound viable = refl
+unbroken (Some rule) found bound viable = absurd cc
 
 -- a rule that is not the first broken one, before others that are not
 kept : (keeps : Bool) (rule : Rule) (others : Option Rule)
@@ -39,7 +41,8 @@ pub viable : (ask : DivideAsk) (genome_length : ℕ) (rules : RuleNumbers)
 unfolding verdict_of
 viable ask genome_length rules is_viable =
     let none : first_broken ask genome_length rules ≡ None =
-    unbroken (first_broken ask genome_length rules) ask genome_length rules is_viable in
+    unbroken (first_broken ask genome_length rules) (λ rule. found_of rule ask)
+    (λ rule. bound_of rule ask genome_length rules) is_viable in
     let v1 = kept (rule_holds V1 ask genome_length rules) V1 _ none in
     let v2 = kept (rule_holds V2 ask genome_length rules) V2 _ v1.1 in
     let v3 = kept (rule_holds V3 ask genome_length rules) V3 _ v2.1 in

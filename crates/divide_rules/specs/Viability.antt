@@ -1,5 +1,6 @@
 -- The rules of a divide and their verdict (docs/MACHINE.md, "The rules of a divide").
-use Rattle.std.specs.Prelude.{IsTrue, ℕ, ◌+◌, ◌-◌, ◌*◌, ◌/◌, ◌<◌, ◌≤◌, Bool, ◌||◌, ◌&&◌, not, nat_lt, nat_le, min, max, List, [], ◌∷◌, Option, None, Some, find, if◌then◌else◌}
+use Rattle.std.specs.Prelude.{IsTrue, ℕ, ◌+◌, ◌-◌, ◌*◌, ◌/◌, ◌<◌, ◌≤◌, Bool, ◌||◌, ◌&&◌, not, nat_lt, nat_le, min, max, List, [], ◌∷◌, Option, find, if◌then◌else◌}
+use Rattle.std.specs.Option.{option_map_or}
 use Rattle.divide_rules.specs.declared.ask.DivideAsk.{DivideAsk}
 use Rattle.divide_rules.specs.Rules.{RuleNumbers}
 use Rattle.divide_rules.specs.declared.rule.Rule.{Rule}
@@ -78,16 +79,12 @@ abbrev pub first_broken : DivideAsk → ℕ → RuleNumbers → Option Rule
 first_broken ask genome_length rules =
     find (λ rule. not (rule_holds rule ask genome_length rules)) all_rules
 
--- a rule that is broken is named with its two numbers
-abbrev pub verdict_by : Option Rule → DivideAsk → ℕ → RuleNumbers → Verdict
-verdict_by None ask genome_length rules = Viable
-verdict_by (Some rule) ask genome_length rules =
-    Broken rule (found_of rule ask) (bound_of rule ask genome_length rules)
-
--- the verdict on a divide of a parent whose genome has this length
+-- the verdict on a divide of a parent whose genome has this length: the first rule that is broken is
+-- named with its two numbers
 unfoldable pub verdict_of : DivideAsk → ℕ → RuleNumbers → Verdict
 verdict_of ask genome_length rules =
-    verdict_by (first_broken ask genome_length rules) ask genome_length rules
+    option_map_or (λ rule. Broken rule (found_of rule ask) (bound_of rule ask genome_length rules))
+    (first_broken ask genome_length rules) Viable
 
 -- all six rules hold: as facts with names, where `rule_holds` tests one rule, since a verdict names
 -- the first that is broken; `divide_rules::judge · viable` says that the two agree

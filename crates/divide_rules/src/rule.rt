@@ -14,6 +14,7 @@ pub enum Rule {
 }
 
 impl Rule {
+    /// The number as it is written.
     pub fn name(self) -> &'static str
         ensures { result.now ≡ rule_name_of self }
     {

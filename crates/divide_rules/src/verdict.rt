@@ -14,6 +14,7 @@ pub enum Verdict {
     Broken { rule: Rule, found: u32, bound: u32 },
 }
 
+/// The verdict on a divide of a parent whose genome has this length.
 #[tactic(auto, unfolding(crate::specs::Viability::verdict_of))]
 pub fn judge(ask: &DivideAsk, genome_len: u32, rules: &DivideRules) -> Verdict
     requires long_enough { shortest_genome ≤ genome_len }

@@ -1,13 +1,14 @@
 -- The look-ups of a letter.
-use Rattle.std.proofs.Common.{◌≡◌, ◌≢◌, ◌∙◌, sym, ap, subst, ℕ, zero, suc, ◌+◌, ◌-◌, ◌<◌, ◌≤◌, ◌↔◌, Bool, true, false, cond, refl, Option, None, Some, List, [], ◌∷◌, arith, eq-eqb}
+use Rattle.std.proofs.Common.{◌≡◌, ◌≢◌, ◌∙◌, sym, ap, subst, ℕ, zero, suc, ◌+◌, ◌-◌, ◌<◌, ◌≤◌, ◌↔◌, Bool, true, false, cond, map, refl, Option, None, Some, List, [], ◌∷◌, arith, eq-eqb}
 use Rattle.std.specs.Prelude.{◌==◌, find, slice_get, IsNone}
 use Rattle.std.specs.Bool.{Decides}
+use Rattle.std.specs.List.{range_with_len}
 use Rattle.std.specs.Str.{bytes_eq}
 use Rattle.std.proofs.lemmas.Bool.{ne_eqb}
 use Rattle.std.proofs.lemmas.Bool.Decides.{Decides-eqb}
 use Rattle.std.proofs.lemmas.Slice.Eq.{bytes_eq-Decides, slice_eq-Decides}
 use Rattle.instruction_set.specs.declared.letter.Letter.{Letter}
-use Rattle.instruction_set.specs.declared.letter.Letter.TheVariants.{NopA, NopB, NopC, IfNEqu, IfLess, IfLabel, MovHead, JmpHead, GetHead, SetFlow, ShiftR, ShiftL, Inc, Dec, Push, Pop, SwapStk, Swap, Add, Sub, Nand, HCopy, HAlloc, HDivide, Io, HSearch}
+use Rattle.instruction_set.specs.declared.letter.Letter.TheVariants.{NopA}
 use Rattle.instruction_set.specs.Letter.{letter_table, index_of, byte_of, name_of, letter_at, letter_of_byte, letter_named, same_letter, same_letters}
 
 -- the keys of these letters count on from a number
@@ -51,133 +52,23 @@ find-passes test (first ∷ rest) item is = by (test first) refl is (find-passes
   by true here found _ = let same : first ≡ item = cc in subst (λ x. test x ≡ true) same here
   by false _ found passes = passes found
 
+-- keys that are the numbers from one on count on from it
+counts-range : (key : Letter → ℕ) (from : ℕ) (ls : List Letter) (n : ℕ)
+    → map key ls ≡ range_with_len from n → Counts key from ls
+counts-range key from [] n same = tt
+counts-range key from (letter ∷ rest) zero same = absurd (cc)
+counts-range key from (letter ∷ rest) (suc n) same =
+    let here : key letter ≡ from = cc in
+    let others : map key rest ≡ range_with_len (from + 1) n = cc in
+    (here, counts-range key (from + 1) rest n others)
+
 -- the indexes of the table
 letters-index_of : Counts index_of 0 letter_table
-letters-index_of = (
-  refl,
-  (
-    refl,
-    (
-      refl,
-      (
-        refl,
-        (
-          refl,
-          (
-            refl,
-            (
-              refl,
-              (
-                refl,
-                (
-                  refl,
-                  (
-                    refl,
-                    (
-                      refl,
-                      (
-                        refl,
-                        (
-                          refl,
-                          (
-                            refl,
-                            (
-                              refl,
-                              (
-                                refl,
-                                (
-                                  refl,
-                                  (
-                                    refl,
-                                    (
-                                      refl,
-                                      (
-                                        refl,
-                                        (refl, (refl, (refl, (refl, (refl, (refl, tt)))))),
-                                      ),
-                                    ),
-                                  ),
-                                ),
-                              ),
-                            ),
-                          ),
-                        ),
-                      ),
-                    ),
-                  ),
-                ),
-              ),
-            ),
-          ),
-        ),
-      ),
-    ),
-  ),
-)
+letters-index_of = counts-range index_of 0 letter_table 26 refl
 
 -- the bytes of the table
 letters-byte_of : Counts byte_of 97 letter_table
-letters-byte_of = (
-  refl,
-  (
-    refl,
-    (
-      refl,
-      (
-        refl,
-        (
-          refl,
-          (
-            refl,
-            (
-              refl,
-              (
-                refl,
-                (
-                  refl,
-                  (
-                    refl,
-                    (
-                      refl,
-                      (
-                        refl,
-                        (
-                          refl,
-                          (
-                            refl,
-                            (
-                              refl,
-                              (
-                                refl,
-                                (
-                                  refl,
-                                  (
-                                    refl,
-                                    (
-                                      refl,
-                                      (
-                                        refl,
-                                        (refl, (refl, (refl, (refl, (refl, (refl, tt)))))),
-                                      ),
-                                    ),
-                                  ),
-                                ),
-                              ),
-                            ),
-                          ),
-                        ),
-                      ),
-                    ),
-                  ),
-                ),
-              ),
-            ),
-          ),
-        ),
-      ),
-    ),
-  ),
-)
+letters-byte_of = counts-range byte_of 97 letter_table 26 refl
 
 -- the letter of an index stands at that place of the table
 pub letter_at_place : (index : ℕ) → slice_get letter_table index ≡ letter_at index
@@ -207,31 +98,7 @@ pub record FoundAgain (letter : Letter) : Type 0 where
 pub found_again : (letter : Letter) → FoundAgain letter
 unfolding letter_at letter_of_byte letter_named
 found_again NopA = record { by_index = refl; by_byte = refl; by_name = refl }
-found_again NopB = record { by_index = refl; by_byte = refl; by_name = refl }
-found_again NopC = record { by_index = refl; by_byte = refl; by_name = refl }
-found_again IfNEqu = record { by_index = refl; by_byte = refl; by_name = refl }
-found_again IfLess = record { by_index = refl; by_byte = refl; by_name = refl }
-found_again IfLabel = record { by_index = refl; by_byte = refl; by_name = refl }
-found_again MovHead = record { by_index = refl; by_byte = refl; by_name = refl }
-found_again JmpHead = record { by_index = refl; by_byte = refl; by_name = refl }
-found_again GetHead = record { by_index = refl; by_byte = refl; by_name = refl }
-found_again SetFlow = record { by_index = refl; by_byte = refl; by_name = refl }
-found_again ShiftR = record { by_index = refl; by_byte = refl; by_name = refl }
-found_again ShiftL = record { by_index = refl; by_byte = refl; by_name = refl }
-found_again Inc = record { by_index = refl; by_byte = refl; by_name = refl }
-found_again Dec = record { by_index = refl; by_byte = refl; by_name = refl }
-found_again Push = record { by_index = refl; by_byte = refl; by_name = refl }
-found_again Pop = record { by_index = refl; by_byte = refl; by_name = refl }
-found_again SwapStk = record { by_index = refl; by_byte = refl; by_name = refl }
-found_again Swap = record { by_index = refl; by_byte = refl; by_name = refl }
-found_again Add = record { by_index = refl; by_byte = refl; by_name = refl }
-found_again Sub = record { by_index = refl; by_byte = refl; by_name = refl }
-found_again Nand = record { by_index = refl; by_byte = refl; by_name = refl }
-found_again HCopy = record { by_index = refl; by_byte = refl; by_name = refl }
-found_again HAlloc = record { by_index = refl; by_byte = refl; by_name = refl }
-found_again HDivide = record { by_index = refl; by_byte = refl; by_name = refl }
-found_again Io = record { by_index = refl; by_byte = refl; by_name = refl }
-found_again HSearch = record { by_index = refl; by_byte = refl; by_name = refl }
+found_again _ = record { by_index = refl; by_byte = refl; by_name = refl }
 
 -- a letter that is found by a name has that name
 pub letter_named-name_of : (name : List ℕ) (letter : Letter) → letter_named name ≡ Some letter

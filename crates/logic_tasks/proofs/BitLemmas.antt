@@ -18,36 +18,29 @@ bit-not zero h = refl
 bit-not (suc zero) h = refl
 bit-not (suc (suc b)) h = absurd (omega arith)
 
+-- what holds of both values of two bits holds of any two bits
+by_bits : (P : ℕ → ℕ → Type 0) → P 0 0 → P 0 1 → P 1 0 → P 1 1
+    → (a b : ℕ) → a < 2 → b < 2 → P a b
+by_bits P none second first both zero zero h k = none
+by_bits P none second first both zero (suc zero) h k = second
+by_bits P none second first both (suc zero) zero h k = first
+by_bits P none second first both (suc zero) (suc zero) h k = both
+by_bits P none second first both zero (suc (suc b)) h k = absurd (omega arith)
+by_bits P none second first both (suc zero) (suc (suc b)) h k = absurd (omega arith)
+by_bits P none second first both (suc (suc a)) b h k = absurd (omega arith)
+
 -- the lesser of two bits is 1 just where both are
 pub bit-and : (a b : ℕ) → a < 2 → b < 2 → (min a b == 1) ≡ ((a == 1) && (b == 1))
-bit-and zero zero h k = refl
-bit-and zero (suc zero) h k = refl
-bit-and (suc zero) zero h k = refl
-bit-and (suc zero) (suc zero) h k = refl
-bit-and zero (suc (suc b)) h k = absurd (omega arith)
-bit-and (suc zero) (suc (suc b)) h k = absurd (omega arith)
-bit-and (suc (suc a)) b h k = absurd (omega arith)
+bit-and = by_bits (λ a b. (min a b == 1) ≡ ((a == 1) && (b == 1))) refl refl refl refl
 
 -- the greater of two bits is 1 just where one of them is, or both
 pub bit-or : (a b : ℕ) → a < 2 → b < 2 → (max a b == 1) ≡ ((a == 1) || (b == 1))
-bit-or zero zero h k = refl
-bit-or zero (suc zero) h k = refl
-bit-or (suc zero) zero h k = refl
-bit-or (suc zero) (suc zero) h k = refl
-bit-or zero (suc (suc b)) h k = absurd (omega arith)
-bit-or (suc zero) (suc (suc b)) h k = absurd (omega arith)
-bit-or (suc (suc a)) b h k = absurd (omega arith)
+bit-or = by_bits (λ a b. (max a b == 1) ≡ ((a == 1) || (b == 1))) refl refl refl refl
 
 -- the sum of two bits is odd just where one of them is 1, and not both
 pub bit-xor : (a b : ℕ) → a < 2 → b < 2 → ((a + b) % 2 == 1) ≡ xor (a == 1) (b == 1)
 unfolding xor
-bit-xor zero zero h k = refl
-bit-xor zero (suc zero) h k = refl
-bit-xor (suc zero) zero h k = refl
-bit-xor (suc zero) (suc zero) h k = refl
-bit-xor zero (suc (suc b)) h k = absurd (omega arith)
-bit-xor (suc zero) (suc (suc b)) h k = absurd (omega arith)
-bit-xor (suc (suc a)) b h k = absurd (omega arith)
+bit-xor = by_bits (λ a b. ((a + b) % 2 == 1) ≡ xor (a == 1) (b == 1)) refl refl refl refl
 
 -- the operators, bit by bit
 pub has_bit-not : (n k : ℕ) → n < 4294967296 → k < 32
@@ -72,13 +65,7 @@ has_bit-xor x y k = ap (λ b. b == 1) (bit_at_xor x y k)
 
 -- a bit is told by its test
 pub bit_at-same : (a b : ℕ) → a < 2 → b < 2 → (a == 1) ≡ (b == 1) → a ≡ b
-bit_at-same zero zero h k e = refl
-bit_at-same (suc zero) (suc zero) h k e = refl
-bit_at-same zero (suc zero) h k e = cc
-bit_at-same (suc zero) zero h k e = cc
-bit_at-same zero (suc (suc b)) h k e = absurd (omega arith)
-bit_at-same (suc zero) (suc (suc b)) h k e = absurd (omega arith)
-bit_at-same (suc (suc a)) b h k e = absurd (omega arith)
+bit_at-same = by_bits (λ a b. (a == 1) ≡ (b == 1) → a ≡ b) (λ e. refl) (λ e. cc) (λ e. cc) (λ e. refl)
 
 -- both parts of a test
 pub and_parts : (a b : Bool) → (a && b) ≡ true → (a ≡ true) × (b ≡ true)

@@ -9,7 +9,7 @@ use Rattle.std.proofs.lemmas.List.FromFn.{fill_by_all}
 use Rattle.std.proofs.lemmas.Nat.{or_lt}
 use Rattle.std.proofs.lemmas.Nat.Bits.{bit_at_set_same, bit_at_set_other}
 use Rattle.logic_tasks.specs.declared.task.Task.{Task}
-use Rattle.logic_tasks.specs.declared.task.Task.TheVariants.{Not, Nand, And, Orn, Or, Andn, Nor, Xor, Equ}
+use Rattle.logic_tasks.specs.declared.task.Task.TheVariants.{Not}
 use Rattle.logic_tasks.specs.LogicTasks.{has_bit, task_place}
 use Rattle.logic_tasks.specs.TaskBits.{tasks_of}
 use Rattle.logic_tasks.specs.TaskBitsLaws.{length-tasks_of, get_or-tasks_of, number_of-tasks_of}
@@ -17,26 +17,12 @@ use Rattle.logic_tasks.specs.TaskBitsLaws.{length-tasks_of, get_or-tasks_of, num
 -- a task's place is in the table
 pub place_of-small : (task : Task) → task_place task < 9
 place_of-small Not = omega arith
-place_of-small Nand = omega arith
-place_of-small And = omega arith
-place_of-small Orn = omega arith
-place_of-small Or = omega arith
-place_of-small Andn = omega arith
-place_of-small Nor = omega arith
-place_of-small Xor = omega arith
-place_of-small Equ = omega arith
+place_of-small _ = omega arith
 
 -- so is its bit
 pub bit_of-small : (task : Task) → 1 * 2 ^ task_place task % 65536 < 512
 bit_of-small Not = omega arith
-bit_of-small Nand = omega arith
-bit_of-small And = omega arith
-bit_of-small Orn = omega arith
-bit_of-small Or = omega arith
-bit_of-small Andn = omega arith
-bit_of-small Nor = omega arith
-bit_of-small Xor = omega arith
-bit_of-small Equ = omega arith
+bit_of-small _ = omega arith
 
 -- a number with one more bit stays small
 pub with_bit-small : (bits : ℕ) (task : Task) → bits < 512

@@ -40,6 +40,7 @@ impl Task {
         self as usize
     }
 
+    /// The name, as a trace prints it.
     pub fn name(self) -> &'static str
         ensures { result.now ≡ task_name self }
     {

@@ -33,6 +33,7 @@ impl Model for Tasks {
 }
 
 impl Tasks {
+    /// The empty set.
     pub fn none() -> Tasks
         ensures { result ≡ no_tasks }
     {
@@ -56,12 +57,14 @@ impl Tasks {
         self.bits
     }
 
+    /// Whether the set has the task.
     pub fn has(self, task: Task) -> bool
         ensures { result ≡ has_task self task }
     {
         self.bits >> task.place() & 1 == 1
     }
 
+    /// The set and this task.
     pub fn with(self, task: Task) -> Tasks
         ensures { result ≡ with_task self task }
     {

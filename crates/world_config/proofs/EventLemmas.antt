@@ -8,7 +8,7 @@ use Rattle.std.specs.List.Sorted.{IsNonDecreasingBy}
 use Rattle.std.specs.Str.{bytes_eq}
 use Rattle.std.proofs.lemmas.Bool.{and_parts}
 use Rattle.std.proofs.lemmas.List.Elements.{All-cons, All-nil}
-use Rattle.toml.specs.Data.{Data, string, integer, float, boolean, datetime, array, table, Items}
+use Rattle.toml.specs.Data.{Data, string, integer, table, Items}
 use Rattle.toml.specs.Data.{no_items, item, Members, get_member, as_str}
 use Rattle.instruction_set.specs.declared.letter.Letter.{Letter}
 use Rattle.genome.specs.declared.stop.GenomeStop.{GenomeStop}
@@ -18,9 +18,9 @@ use Rattle.world_config.specs.KeyTable.{Frame}
 use Rattle.world_config.specs.Events.{AreEvents, EventValue, WhatValue, inject, clear, rate}
 use Rattle.world_config.specs.Events.{event_fits, what_fits}
 use Rattle.mutations.specs.RateNames.{rate_named}
-use Rattle.world_config.specs.EventForms.{both, clear_names, clear_of, event_of, events_from}
-use Rattle.world_config.specs.EventForms.{events_of, followed, genome_from, has_only, inject_names}
-use Rattle.world_config.specs.EventForms.{inject_of, more_events, number_from, rate_form_names}
+use Rattle.world_config.specs.EventForms.{both, clear_of, event_of, events_from}
+use Rattle.world_config.specs.EventForms.{events_of, followed, genome_from}
+use Rattle.world_config.specs.EventForms.{inject_of, more_events, number_from}
 use Rattle.world_config.specs.EventForms.{rate_of, sized, what_of}
 use Rattle.world_config.specs.Lookup.{item_count}
 
@@ -67,12 +67,7 @@ within : (least greatest : ℕ) (o : Option Data) (n : ℕ) → number_from leas
     → (nat_le least n && nat_le n greatest) ≡ true
 within least greatest None n h = absurd (cc)
 within least greatest (Some (integer z)) n h = within_integer least greatest z n h
-within least greatest (Some (string s)) n h = absurd (cc)
-within least greatest (Some (float s)) n h = absurd (cc)
-within least greatest (Some (boolean s)) n h = absurd (cc)
-within least greatest (Some (datetime s)) n h = absurd (cc)
-within least greatest (Some (array s)) n h = absurd (cc)
-within least greatest (Some (table s)) n h = absurd (cc)
+within least greatest (Some _) n h = absurd (cc)
 
 -- letters that were read are within the two lengths
 sized-some : (least greatest : ℕ) (r : Result (List Letter) GenomeStop) (ls : List Letter)
@@ -90,12 +85,7 @@ genome_within : (least greatest : ℕ) (o : Option Data) (ls : List Letter)
 genome_within least greatest None n h = absurd (cc)
 genome_within least greatest (Some (string s)) n h =
     sized-some least greatest (spelled_by_letters s) n h
-genome_within least greatest (Some (integer z)) n h = absurd (cc)
-genome_within least greatest (Some (float s)) n h = absurd (cc)
-genome_within least greatest (Some (boolean s)) n h = absurd (cc)
-genome_within least greatest (Some (datetime s)) n h = absurd (cc)
-genome_within least greatest (Some (array s)) n h = absurd (cc)
-genome_within least greatest (Some (table s)) n h = absurd (cc)
+genome_within least greatest (Some _) n h = absurd (cc)
 
 -- an injection that was read fits the frame
 inject_of-fits : (frame : Frame) (ms : Members) (what : WhatValue) → inject_of frame ms ≡ Some what
@@ -106,7 +96,7 @@ inject_of-fits frame ms what h =
     genome_from frame.least_length frame.greatest_length (get_member (codes "letters") ms) in
     let (cell, ls, of_cell, of_letters, made) =
     both-some inject number genome what
-    (only_if (has_only inject_names ms) (both inject number genome) what h) in
+    (only_if _ (both inject number genome) what h) in
     let low : (nat_le 0 cell && nat_le cell frame.last_cell) ≡ true =
     within 0 frame.last_cell (get_member (codes "cell") ms) cell of_cell in
     let size : (nat_le frame.least_length (length ls) && nat_le (length ls) frame.greatest_length)
@@ -124,7 +114,7 @@ clear_of-fits frame ms what h =
     (number_from 0 last (get_member (codes "first") ms)) in
     let (last, of_last, rest) =
     and_then-some cleared number what
-    (only_if (has_only clear_names ms) (option_and_then cleared number) what h) in
+    (only_if _ (option_and_then cleared number) what h) in
     let (first, of_first, made) =
     map-some (λ (f : ℕ). clear f last) (number_from 0 last (get_member (codes "first") ms)) what
     rest in
@@ -147,7 +137,7 @@ rate_of-fits frame ms what h =
     let number : Option ℕ = number_from 0 1000000 (get_member (codes "ppm") ms) in
     let (name, ppm, of_name, of_ppm, made) =
     both-some rate called number what
-    (only_if (has_only rate_form_names ms) (both rate called number) what h) in
+    (only_if _ (both rate called number) what h) in
     let low : (nat_le 0 ppm && nat_le ppm 1000000) ≡ true =
     within 0 1000000 (get_member (codes "ppm") ms) ppm of_ppm in
     rw (← made, (and_parts (nat_le 0 ppm) (nat_le ppm 1000000) low).1) refl
@@ -202,12 +192,7 @@ table_fits frame least ms event h =
 pub event_of-fits : (frame : Frame) (least : ℕ) (d : Data) (event : EventValue)
     → event_of frame least d ≡ Some event → Fits frame least event
 event_of-fits frame least (table ms) event h = table_fits frame least ms event h
-event_of-fits frame least (integer z) event h = absurd (cc)
-event_of-fits frame least (string z) event h = absurd (cc)
-event_of-fits frame least (float z) event h = absurd (cc)
-event_of-fits frame least (boolean z) event h = absurd (cc)
-event_of-fits frame least (datetime z) event h = absurd (cc)
-event_of-fits frame least (array z) event h = absurd (cc)
+event_of-fits frame least _ event h = absurd (cc)
 
 -- events that begin with this one, with those after it
 more_events-ok : (event : EventValue) (r : Result (List EventValue) ℕ) (happening : List EventValue)

@@ -1,6 +1,7 @@
 -- The table of a configuration says what the configuration says.
 use Rattle.std.proofs.Common.{◌≡◌, ℕ, ◌≤◌, List, [], ◌∷◌, length, Option, None, Ok, refl, ap, ◌∙◌}
 use Rattle.std.proofs.Common.{arith, lit≤, max, Ordering, Less, Equal, Greater, nat_cmp}
+use Rattle.std.specs.Option.{option_map, option_or}
 use Rattle.std.specs.Ordering.{match_ordering}
 use Rattle.std.specs.Cmp.Lexicographic.{slice_cmp}
 use Rattle.toml.specs.Data.{Data, Members, no_members, member}
@@ -12,12 +13,13 @@ use Rattle.world_config.specs.declared.config.Config.{Config}
 use Rattle.world_config.specs.declared.key.Key.{Key}
 use Rattle.world_config.specs.declared.key.Key.TheVariants as code
 use Rattle.world_config.specs.declared.stop.ConfigStop.{ConfigStop}
+use Rattle.world_config.specs.declared.stop.ConfigStop.TheVariants.{UnknownKey}
 use Rattle.world_config.specs.KeyTable.{Frame, key_name, key_row, keys}
 use Rattle.world_config.specs.Bounds.{frame_of}
 use Rattle.world_config.specs.Lookup.{flag_at, frame_in, genome_at, items_at, letters_or_none}
 use Rattle.world_config.specs.Lookup.{number_at}
-use Rattle.world_config.specs.Refusal.{earlier, first_refusal, is_known, least_unknown}
-use Rattle.world_config.specs.Refusal.{refusal_at, refusal_of, unknown_refusal}
+use Rattle.world_config.specs.Refusal.{first_refusal, is_known, least_unknown}
+use Rattle.world_config.specs.Refusal.{refusal_at, refusal_of}
 use Rattle.world_config.specs.Events.{event_values}
 use Rattle.world_config.specs.EventForms.{events_of}
 use Rattle.world_config.specs.Values.{ConfigValues, values_in_table, values_of}
@@ -65,7 +67,7 @@ values_in-members v h = ap (λ (ls : List Letter). record v { ancestor = ls }) h
 abbrev first_refusal_of : ConfigValues → List Key → Option ConfigStop
 first_refusal_of v [] = None
 first_refusal_of v (key ∷ others) =
-    earlier (refusal_of (key_row (values_frame v) key).kind key (printed_at v key))
+    option_or (refusal_of (key_row (values_frame v) key).kind key (printed_at v key))
     (first_refusal_of v others)
 
 -- the table's refusal is that of the printed values
@@ -86,7 +88,7 @@ module _ (c : Config) (read : spelled_by_letters (letters_text_of (letters c.anc
   none_refused : (others : List Key) → first_refusal_of (values_of c) others ≡ None
   none_refused [] = refl
   none_refused (key ∷ others) =
-      ap (λ o. earlier o (first_refusal_of (values_of c) others))
+      ap (λ o. option_or o (first_refusal_of (values_of c) others))
       (accepted_value (key_row (values_frame (values_of c)) key).kind key
       (printed_at (values_of c) key) (fits_at key))
       ∙ none_refused others
@@ -107,7 +109,7 @@ config_in-members c =
     ap (λ f. events_of f (items_at code.Event ms)) (frame_in-members v)
     ∙ ap (events_of (values_frame v)) (items_at-members v)
     ∙ events_of-items (values_frame v) frame v.event c.event_bounds in
-    ap (λ o. unless_refused (earlier (unknown_refusal o) (first_refusal keys ms))
+    ap (λ o. unless_refused (option_or (option_map (λ key. UnknownKey key) o) (first_refusal keys ms))
     (values_with ms (events_of (frame_in ms) (items_at code.Event ms)))) (no_unknown v)
     ∙ ap (λ o. unless_refused o (values_with ms
     (events_of (frame_in ms) (items_at code.Event ms))))

@@ -1,6 +1,7 @@
 -- What refuses a table, and what it says, by the numbers that were read in groups.
 use Rattle.std.proofs.Common.{◌≡◌, ℕ, List, [], ◌∷◌, ◌++◌, length, Option, Some, None, refl, sym}
 use Rattle.std.proofs.Common.{ap, ◌∙◌, add-one, Result, Ok, Err}
+use Rattle.std.specs.Option.{option_or}
 use Rattle.toml.specs.Data.{no_items, Members, string, array}
 use Rattle.toml.specs.declared.value.Value.{Value}
 use Rattle.toml.specs.View.{items_view}
@@ -9,30 +10,29 @@ use Rattle.world_config.specs.declared.key.Key.TheVariants as code
 use Rattle.world_config.specs.declared.numbers.Numbers.{Numbers}
 use Rattle.world_config.specs.declared.stop.ConfigStop.{ConfigStop}
 use Rattle.world_config.specs.KeyTable.{Frame, default_ancestor, events, genome, keys}
-use Rattle.world_config.specs.KeyTable.{last_keys, number_keys}
 use Rattle.world_config.specs.Bounds.{frame_of}
 use Rattle.world_config.specs.Lookup.{frame_in, genome_at, item_count, items_at, items_of_value}
 use Rattle.world_config.specs.Lookup.{letters_of_value, number_at, value_or}
-use Rattle.world_config.specs.Refusal.{earlier, first_refusal, refusal_at, refusal_of}
+use Rattle.world_config.specs.Refusal.{first_refusal, refusal_at, refusal_of}
 use Rattle.world_config.specs.Events.{EventValue}
 use Rattle.world_config.specs.EventForms.{events_of}
 use Rattle.world_config.specs.Values.{ConfigValues, values_in_table}
 use Rattle.world_config.specs.Config.{unless_refused, values_with}
 use Rattle.world_config.specs.Members.{event_refusal}
-use Rattle.world_config.specs.Groups.{AreNumbers, numbers_frame}
+use Rattle.world_config.specs.Groups.{AreNumbers, last_keys, number_keys, numbers_frame}
 
 -- the first of three refusals
-earlier_assoc : (a b c : Option ConfigStop) → earlier (earlier a b) c ≡ earlier a (earlier b c)
-earlier_assoc (Some stop) b c = refl
-earlier_assoc None b c = refl
+option_or-assoc : (a b c : Option ConfigStop) → option_or (option_or a b) c ≡ option_or a (option_or b c)
+option_or-assoc (Some stop) b c = refl
+option_or-assoc None b c = refl
 
 -- the first refusal of two lists of keys
 first_refusal-append : (a b : List Key) (ms : Members)
-    → first_refusal (a ++ b) ms ≡ earlier (first_refusal a ms) (first_refusal b ms)
+    → first_refusal (a ++ b) ms ≡ option_or (first_refusal a ms) (first_refusal b ms)
 first_refusal-append [] b ms = refl
 first_refusal-append (key ∷ a) b ms =
-    ap (earlier (refusal_at (frame_in ms) key ms)) (first_refusal-append a b ms)
-    ∙ sym (earlier_assoc (refusal_at (frame_in ms) key ms) (first_refusal a ms)
+    ap (option_or (refusal_at (frame_in ms) key ms)) (first_refusal-append a b ms)
+    ∙ sym (option_or-assoc (refusal_at (frame_in ms) key ms) (first_refusal a ms)
     (first_refusal b ms))
 
 -- the frame of a table, whatever the frame in which its numbers are looked up
@@ -76,20 +76,20 @@ refusal_at-event frame ms = refl
 pub first_refusal-last : (ms : Members) (numbers : Numbers) → AreNumbers ms numbers
     → first_refusal number_keys ms ≡ None
     → first_refusal keys ms
-    ≡ earlier (refusal_of (genome numbers.lengths.least_length numbers.lengths.greatest_length)
+    ≡ option_or (refusal_of (genome numbers.lengths.least_length numbers.lengths.greatest_length)
     code.Ancestor (value_or code.Ancestor (string default_ancestor) ms))
-    (earlier (refusal_of (events 1000) code.Event (value_or code.Event (array no_items) ms)) None)
+    (option_or (refusal_of (events 1000) code.Event (value_or code.Event (array no_items) ms)) None)
 first_refusal-last ms numbers are accepted =
     first_refusal-append number_keys last_keys ms
-    ∙ ap (λ o. earlier o (first_refusal last_keys ms)) accepted
-    ∙ ap (λ o. earlier o (earlier (refusal_at (frame_in ms) code.Event ms) None))
+    ∙ ap (λ o. option_or o (first_refusal last_keys ms)) accepted
+    ∙ ap (λ o. option_or o (option_or (refusal_at (frame_in ms) code.Event ms) None))
     (refusal_at-ancestor (frame_in ms) ms
     ∙ ap (λ (frame : Frame).
     refusal_of (genome frame.least_length frame.greatest_length) code.Ancestor
     (value_or code.Ancestor (string default_ancestor) ms)) (frame_in-numbers ms numbers are))
-    ∙ ap (λ o. earlier (refusal_of
+    ∙ ap (λ o. option_or (refusal_of
     (genome numbers.lengths.least_length numbers.lengths.greatest_length) code.Ancestor
-    (value_or code.Ancestor (string default_ancestor) ms)) (earlier o None))
+    (value_or code.Ancestor (string default_ancestor) ms)) (option_or o None))
     (refusal_at-event (frame_in ms) ms)
 
 -- the letters of the ancestor at their key
@@ -135,7 +135,7 @@ module _ (ms : Members) (numbers : Numbers) (are : AreNumbers ms numbers)
   refused_by_ancestor values stop h =
       ap (λ o. unless_refused o values)
       (first_refusal-last ms numbers are accepted
-      ∙ ap (λ o. earlier o (earlier (members_refusal ms) None)) h)
+      ∙ ap (λ o. option_or o (option_or (members_refusal ms) None)) h)
 
   -- the events' kind or number is refused, and nothing before
   pub refused_by_members : (values : Result ConfigValues ConfigStop) (stop : ConfigStop)
@@ -144,16 +144,16 @@ module _ (ms : Members) (numbers : Numbers) (are : AreNumbers ms numbers)
   refused_by_members values stop good h =
       ap (λ o. unless_refused o values)
       (first_refusal-last ms numbers are accepted
-      ∙ ap (λ o. earlier o (earlier (members_refusal ms) None)) good
-      ∙ ap (λ o. earlier o None) h)
+      ∙ ap (λ o. option_or o (option_or (members_refusal ms) None)) good
+      ∙ ap (λ o. option_or o None) h)
 
   -- no key is refused
   all_accepted : ancestor_refusal ms numbers ≡ None → members_refusal ms ≡ None
       → first_refusal keys ms ≡ None
   all_accepted good few =
       first_refusal-last ms numbers are accepted
-      ∙ ap (λ o. earlier o (earlier (members_refusal ms) None)) good
-      ∙ ap (λ o. earlier o None) few
+      ∙ ap (λ o. option_or o (option_or (members_refusal ms) None)) good
+      ∙ ap (λ o. option_or o None) few
 
   -- the events of the table are those of its members, in the frame of the numbers
   events_of-members : (members : List Value)

@@ -20,9 +20,10 @@ abbrev pub has_only : List (List ℕ) → Members → Bool
 has_only names no_members = true
 has_only names (member k d ms) = list_any (λ name. bytes_eq name k) names && has_only names ms
 
--- the value, where the table has no other key than these names
+-- the value, where the table has no other key than those of every event and these names
 abbrev pub if_only : {A : Type 0} → List (List ℕ) → Members → Option A → Option A
-if_only names ms value = if has_only names ms then value else None
+if_only names ms value =
+    if has_only (codes "kind" ∷ codes "update" ∷ names) ms then value else None
 
 -- the number that a value is, where it lies within bounds
 abbrev pub number_from : ℕ → ℕ → Option Data → Option ℕ
@@ -46,34 +47,22 @@ abbrev pub both : {A B C : Type 0} → (A → B → C) → Option A → Option B
 both make (Some a) (Some b) = Some (make a b)
 both make _ _ = None
 
--- the names of the keys of an injection
-abbrev pub inject_names : List (List ℕ)
-inject_names = codes "kind" ∷ codes "update" ∷ codes "cell" ∷ codes "letters" ∷ []
-
--- the names of the keys of a clearing
-abbrev pub clear_names : List (List ℕ)
-clear_names = codes "kind" ∷ codes "update" ∷ codes "first" ∷ codes "last" ∷ []
-
--- the names of the keys of a rate
-abbrev pub rate_form_names : List (List ℕ)
-rate_form_names = codes "kind" ∷ codes "update" ∷ codes "name" ∷ codes "ppm" ∷ []
-
 -- an injection into a cell of the world, of a genome whose length the configuration allows
 abbrev pub inject_of : Frame → Members → Option WhatValue
-inject_of frame ms = if_only inject_names ms
+inject_of frame ms = if_only (codes "cell" ∷ codes "letters" ∷ []) ms
     (both inject (number_from 0 frame.last_cell (get_member (codes "cell") ms))
     (genome_from frame.least_length frame.greatest_length (get_member (codes "letters") ms)))
 
 -- a clearing of cells of the world from the first to the last, which is not below the first
 abbrev pub clear_of : Frame → Members → Option WhatValue
-clear_of frame ms = if_only clear_names ms
+clear_of frame ms = if_only (codes "first" ∷ codes "last" ∷ []) ms
     (option_and_then (λ last. option_map (λ first. clear first last)
     (number_from 0 last (get_member (codes "first") ms)))
     (number_from 0 frame.last_cell (get_member (codes "last") ms)))
 
 -- a new value of one of the six rates, in parts per million
 abbrev pub rate_of : Members → Option WhatValue
-rate_of ms = if_only rate_form_names ms
+rate_of ms = if_only (codes "name" ∷ codes "ppm" ∷ []) ms
     (both rate (option_and_then rate_named (option_and_then as_str (get_member (codes "name") ms)))
     (number_from 0 1000000 (get_member (codes "ppm") ms)))
 

@@ -1,7 +1,7 @@
 -- Each key's value, as the code reads it into a group of keys, and as it prints it. For example,
 -- with `width = 20` in the table, ArePlace holds only of a group whose `width` is 20, and 20 is
 -- printed at Width again. No clause of a public function cites this file.
-use Rattle.std.specs.Prelude.{◌≡◌, pos}
+use Rattle.std.specs.Prelude.{◌≡◌, pos, List, [], ◌∷◌, ◌++◌}
 use Rattle.toml.specs.Data.{Data, string, integer, boolean, array, Members}
 use Rattle.genome.specs.GenomeText.{letters_text_of}
 use Rattle.world_config.specs.declared.key.Key.{Key}
@@ -17,6 +17,38 @@ use Rattle.world_config.specs.Bounds.{frame_of}
 use Rattle.world_config.specs.Lookup.{number_at, flag_at, frame_in}
 use Rattle.world_config.specs.Values.{ConfigValues}
 use Rattle.world_config.specs.EventTables.{items_for}
+
+-- the keys of the world and of its run
+abbrev pub place_keys : List Key
+place_keys =
+    code.Width ∷ code.Height ∷ code.Updates ∷ code.Seed ∷ code.FounderCell ∷ []
+
+-- the keys of how many steps an organism takes in an update, and of its death of age
+abbrev pub life_keys : List Key
+life_keys = code.AverageSlices ∷ code.Death ∷ code.AgeLimit ∷ []
+
+-- the keys of the six rates of errors
+abbrev pub error_keys : List Key
+error_keys =
+    code.CopyError ∷ code.DivideInsert ∷ code.DivideDelete
+    ∷ code.SitePoint ∷ code.SiteInsert ∷ code.SiteDelete ∷ []
+
+-- the keys of where a child is placed, and of what a divide must meet
+abbrev pub divide_keys : List Key
+divide_keys =
+    code.PreferEmpty ∷ code.NeedAlloc ∷ code.ExecutedPercent ∷ code.CopiedPercent ∷ []
+
+-- the keys of the lengths of genomes, and of the memory in which they run
+abbrev pub length_keys : List Key
+length_keys = code.LeastLength ∷ code.GreatestLength ∷ code.MemoryLimit ∷ []
+
+-- the keys whose values are numbers or booleans
+abbrev pub number_keys : List Key
+number_keys = place_keys ++ (life_keys ++ (error_keys ++ (divide_keys ++ length_keys)))
+
+-- the keys after these
+abbrev pub last_keys : List Key
+last_keys = code.Ancestor ∷ code.Event ∷ []
 
 -- the group has the table's values at the keys of the world and of its run
 pub record ArePlace (ms : Members) (place : PlaceKeys) : Type 0 where

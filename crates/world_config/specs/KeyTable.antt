@@ -24,6 +24,10 @@ pub record KeyRow : Type 0 where
 abbrev pub row : List ℕ → Data → Kind → KeyRow
 row name default kind = record { name = name; default = default; kind = kind }
 
+-- the row of a number: its name, its default, and the least and the greatest value
+abbrev pub number_row : List ℕ → ℕ → ℕ → ℕ → KeyRow
+number_row name default least greatest = row name (integer (pos default)) (number least greatest)
+
 -- the numbers of a configuration that bound its other values, as `last_cell` bounds `founder_cell`
 pub record Frame : Type 0 where
   pub last_cell : ℕ
@@ -38,75 +42,42 @@ default_ancestor = codes "wzcag" ++ replicate 86 99 ++ codes "zvfcaxgab"
 -- the row of each key; the frame has the numbers by which other keys bound it, and the greatest
 -- seed is the greatest integer of TOML, 2 ^ 63 - 1
 abbrev pub key_row : Frame → Key → KeyRow
-key_row frame code.Width = row (codes "width") (integer (pos 60)) (number 1 256)
-key_row frame code.Height = row (codes "height") (integer (pos 60)) (number 1 256)
-key_row frame code.Updates = row (codes "updates") (integer (pos 100)) (number 0 1000000)
-key_row frame code.Seed = row (codes "seed") (integer (pos 1)) (number 0 9223372036854775807)
-key_row frame code.FounderCell =
-    row (codes "founder_cell") (integer (pos 0)) (number 0 frame.last_cell)
-key_row frame code.AverageSlices =
-    row (codes "average_slices") (integer (pos 30)) (number 1 1000)
+key_row frame code.Width = number_row (codes "width") 60 1 256
+key_row frame code.Height = number_row (codes "height") 60 1 256
+key_row frame code.Updates = number_row (codes "updates") 100 0 1000000
+key_row frame code.Seed = number_row (codes "seed") 1 0 9223372036854775807
+key_row frame code.FounderCell = number_row (codes "founder_cell") 0 0 frame.last_cell
+key_row frame code.AverageSlices = number_row (codes "average_slices") 30 1 1000
 key_row frame code.Death = row (codes "death") (boolean true) flag
-key_row frame code.AgeLimit = row (codes "age_limit") (integer (pos 20)) (number 1 1000)
-key_row frame code.CopyError = row (codes "copy_error") (integer (pos 7500)) (number 0 1000000)
-key_row frame code.DivideInsert =
-    row (codes "divide_insert") (integer (pos 50000)) (number 0 1000000)
-key_row frame code.DivideDelete =
-    row (codes "divide_delete") (integer (pos 50000)) (number 0 1000000)
-key_row frame code.SitePoint = row (codes "site_point") (integer (pos 0)) (number 0 1000000)
-key_row frame code.SiteInsert = row (codes "site_insert") (integer (pos 0)) (number 0 1000000)
-key_row frame code.SiteDelete = row (codes "site_delete") (integer (pos 0)) (number 0 1000000)
+key_row frame code.AgeLimit = number_row (codes "age_limit") 20 1 1000
+key_row frame code.CopyError = number_row (codes "copy_error") 7500 0 1000000
+key_row frame code.DivideInsert = number_row (codes "divide_insert") 50000 0 1000000
+key_row frame code.DivideDelete = number_row (codes "divide_delete") 50000 0 1000000
+key_row frame code.SitePoint = number_row (codes "site_point") 0 0 1000000
+key_row frame code.SiteInsert = number_row (codes "site_insert") 0 0 1000000
+key_row frame code.SiteDelete = number_row (codes "site_delete") 0 0 1000000
 key_row frame code.PreferEmpty = row (codes "prefer_empty") (boolean true) flag
 key_row frame code.NeedAlloc = row (codes "need_alloc") (boolean true) flag
-key_row frame code.ExecutedPercent =
-    row (codes "executed_percent") (integer (pos 50)) (number 1 100)
-key_row frame code.CopiedPercent = row (codes "copied_percent") (integer (pos 50)) (number 1 100)
-key_row frame code.LeastLength = row (codes "least_length") (integer (pos 8)) (number 8 8192)
+key_row frame code.ExecutedPercent = number_row (codes "executed_percent") 50 1 100
+key_row frame code.CopiedPercent = number_row (codes "copied_percent") 50 1 100
+key_row frame code.LeastLength = number_row (codes "least_length") 8 8 8192
 key_row frame code.GreatestLength =
-    row (codes "greatest_length") (integer (pos 2048)) (number frame.least_length 8192)
+    number_row (codes "greatest_length") 2048 frame.least_length 8192
 key_row frame code.MemoryLimit =
-    row (codes "memory_limit") (integer (pos (max 2048 frame.greatest_length)))
-    (number frame.greatest_length 8192)
+    number_row (codes "memory_limit") (max 2048 frame.greatest_length) frame.greatest_length 8192
 key_row frame code.Ancestor =
     row (codes "ancestor") (string default_ancestor)
     (genome frame.least_length frame.greatest_length)
 key_row frame code.Event = row (codes "event") (array no_items) (events 1000)
 
--- the keys of the world and of its run
-abbrev pub place_keys : List Key
-place_keys =
-    code.Width ∷ code.Height ∷ code.Updates ∷ code.Seed ∷ code.FounderCell ∷ []
-
--- the keys of how many steps an organism takes in an update, and of its death of age
-abbrev pub life_keys : List Key
-life_keys = code.AverageSlices ∷ code.Death ∷ code.AgeLimit ∷ []
-
--- the keys of the six rates of errors
-abbrev pub error_keys : List Key
-error_keys =
-    code.CopyError ∷ code.DivideInsert ∷ code.DivideDelete
-    ∷ code.SitePoint ∷ code.SiteInsert ∷ code.SiteDelete ∷ []
-
--- the keys of where a child is placed, and of what a divide must meet
-abbrev pub divide_keys : List Key
-divide_keys =
-    code.PreferEmpty ∷ code.NeedAlloc ∷ code.ExecutedPercent ∷ code.CopiedPercent ∷ []
-
--- the keys of the lengths of genomes, and of the memory in which they run
-abbrev pub length_keys : List Key
-length_keys = code.LeastLength ∷ code.GreatestLength ∷ code.MemoryLimit ∷ []
-
--- the keys whose values are numbers or booleans
-abbrev pub number_keys : List Key
-number_keys = place_keys ++ (life_keys ++ (error_keys ++ (divide_keys ++ length_keys)))
-
--- the keys after these
-abbrev pub last_keys : List Key
-last_keys = code.Ancestor ∷ code.Event ∷ []
-
 -- the keys in the order in which they are tried
 abbrev pub keys : List Key
-keys = number_keys ++ last_keys
+keys =
+    code.Width ∷ code.Height ∷ code.Updates ∷ code.Seed ∷ code.FounderCell ∷ code.AverageSlices
+    ∷ code.Death ∷ code.AgeLimit ∷ code.CopyError ∷ code.DivideInsert ∷ code.DivideDelete
+    ∷ code.SitePoint ∷ code.SiteInsert ∷ code.SiteDelete ∷ code.PreferEmpty ∷ code.NeedAlloc
+    ∷ code.ExecutedPercent ∷ code.CopiedPercent ∷ code.LeastLength ∷ code.GreatestLength
+    ∷ code.MemoryLimit ∷ code.Ancestor ∷ code.Event ∷ []
 
 -- a frame of zeros, for what is the same in every frame, such as names
 abbrev pub no_frame : Frame

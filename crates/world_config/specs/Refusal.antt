@@ -5,6 +5,7 @@
 use Rattle.std.specs.Prelude.{ℕ, ℤ, pos, negsuc, Bool, ◌&&◌, nat_le, if◌then◌else◌}
 use Rattle.std.specs.Prelude.{List, [], ◌∷◌, length, Option, Some, None, Result, Ok, Err}
 use Rattle.std.specs.List.{list_any}
+use Rattle.std.specs.Option.{option_map, option_or}
 use Rattle.std.specs.Ordering.{nat_cmp, is_lt}
 use Rattle.std.specs.Cmp.Lexicographic.{slice_cmp}
 use Rattle.std.specs.Str.{bytes_eq}
@@ -60,22 +61,13 @@ refusal_of _ key _ = Some (WrongKind key)
 unfoldable pub refusal_at : Frame → Key → Members → Option ConfigStop
 refusal_at frame key ms = refusal_of (key_row frame key).kind key (value_at (key_row frame key) ms)
 
--- the first of two refusals
-abbrev pub earlier : Option ConfigStop → Option ConfigStop → Option ConfigStop
-earlier (Some stop) later = Some stop
-earlier None later = later
-
 -- the refusal of the first of these keys whose value is refused
 abbrev pub first_refusal : List Key → Members → Option ConfigStop
 first_refusal [] ms = None
 first_refusal (key ∷ others) ms =
-    earlier (refusal_at (frame_in ms) key ms) (first_refusal others ms)
-
--- the refusal of a key that no row names
-abbrev pub unknown_refusal : Option (List ℕ) → Option ConfigStop
-unknown_refusal (Some key) = Some (UnknownKey key)
-unknown_refusal None = None
+    option_or (refusal_at (frame_in ms) key ms) (first_refusal others ms)
 
 -- the first refusal of a table: of a key that no row names, then of each key in the order of rows
 abbrev pub refusal_in : Members → Option ConfigStop
-refusal_in ms = earlier (unknown_refusal (least_unknown ms)) (first_refusal keys ms)
+refusal_in ms =
+    option_or (option_map (λ key. UnknownKey key) (least_unknown ms)) (first_refusal keys ms)

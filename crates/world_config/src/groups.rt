@@ -79,8 +79,7 @@ pub(crate) struct LengthKeys {
 
 impl PlaceKeys {
     ghost use Rattle.world_config.specs.Refusal.{first_refusal};
-    ghost use Rattle.world_config.specs.KeyTable.{place_keys};
-    ghost use Rattle.world_config.specs.Groups.{ArePlace};
+    ghost use Rattle.world_config.specs.Groups.{ArePlace, place_keys};
 
     #[tactic(auto, unfolding(crate::specs::Refusal::refusal_at, crate::specs::Lookup::number_at))]
     pub(crate) fn read(table: &Table) -> Result<PlaceKeys, ConfigStop>
@@ -106,8 +105,7 @@ impl PlaceKeys {
 
 impl LifeKeys {
     ghost use Rattle.world_config.specs.Refusal.{first_refusal};
-    ghost use Rattle.world_config.specs.KeyTable.{life_keys};
-    ghost use Rattle.world_config.specs.Groups.{AreLife};
+    ghost use Rattle.world_config.specs.Groups.{AreLife, life_keys};
 
     #[tactic(auto, unfolding(crate::specs::Refusal::refusal_at, crate::specs::Lookup::number_at, crate::specs::Lookup::flag_at))]
     pub(crate) fn read(table: &Table) -> Result<LifeKeys, ConfigStop>
@@ -129,8 +127,7 @@ impl LifeKeys {
 
 impl ErrorKeys {
     ghost use Rattle.world_config.specs.Refusal.{first_refusal};
-    ghost use Rattle.world_config.specs.KeyTable.{error_keys};
-    ghost use Rattle.world_config.specs.Groups.{AreErrors};
+    ghost use Rattle.world_config.specs.Groups.{AreErrors, error_keys};
 
     #[tactic(auto, unfolding(crate::specs::Refusal::refusal_at, crate::specs::Lookup::number_at))]
     pub(crate) fn read(table: &Table) -> Result<ErrorKeys, ConfigStop>
@@ -158,8 +155,7 @@ impl ErrorKeys {
 
 impl DivideKeys {
     ghost use Rattle.world_config.specs.Refusal.{first_refusal};
-    ghost use Rattle.world_config.specs.KeyTable.{divide_keys};
-    ghost use Rattle.world_config.specs.Groups.{AreDivide};
+    ghost use Rattle.world_config.specs.Groups.{AreDivide, divide_keys};
 
     #[tactic(auto, unfolding(crate::specs::Refusal::refusal_at, crate::specs::Lookup::number_at, crate::specs::Lookup::flag_at))]
     pub(crate) fn read(table: &Table) -> Result<DivideKeys, ConfigStop>
@@ -183,8 +179,7 @@ impl DivideKeys {
 
 impl LengthKeys {
     ghost use Rattle.world_config.specs.Refusal.{first_refusal};
-    ghost use Rattle.world_config.specs.KeyTable.{length_keys};
-    ghost use Rattle.world_config.specs.Groups.{AreLengths};
+    ghost use Rattle.world_config.specs.Groups.{AreLengths, length_keys};
 
     #[tactic(auto, unfolding(crate::specs::Refusal::refusal_at, crate::specs::Lookup::number_at))]
     pub(crate) fn read(table: &Table) -> Result<LengthKeys, ConfigStop>

@@ -19,8 +19,7 @@ pub(crate) struct Numbers {
 
 impl Numbers {
     ghost use Rattle.world_config.specs.Refusal.{first_refusal};
-    ghost use Rattle.world_config.specs.KeyTable.{number_keys};
-    ghost use Rattle.world_config.specs.Groups.{AreNumbers, numbers_frame};
+    ghost use Rattle.world_config.specs.Groups.{AreNumbers, numbers_frame, number_keys};
     ghost use Rattle.world_config.specs.Members.{frame_value};
 
     pub(crate) fn read(table: &Table) -> Result<Numbers, ConfigStop>

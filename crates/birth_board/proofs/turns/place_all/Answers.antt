@@ -1,12 +1,12 @@
 use Rattle.std.proofs.Common.{◌≡◌, ◌∙◌, sym, ap, ◌+◌, ◌*◌, ◌<◌, ◌≤◌, ◌==◌, length, take, count_by, get_or, arith, length-take, length-append, [], ◌∷◌}
-use Rattle.std.proofs.lemmas.List.{length-set, take_all}
+use Rattle.std.proofs.lemmas.List.{length-set}
 use Rattle.std.proofs.lemmas.List.Elements.{All-push, All-same}
 use Rattle.random_streams.specs.RandomStream.{after}
 use Rattle.std.proofs.lemmas.List.Sums.{count_by_more_yes, count_by_more_no}
 use Rattle.birth_board.specs.declared.placing.Placing.{Placing}
 use Rattle.birth_board.specs.Torus.{torus_numbers, cells_of}
-use Rattle.birth_board.specs.Placement.{place_stream, placements_of}
-use Rattle.birth_board.proofs.PlacementLemmas.{board_after, board-parents, board_after-more, words-taken, placing-next, next_board-occupants, next_board-placings, eqb-below, eqb-self}
+use Rattle.birth_board.specs.Placement.{place_stream}
+use Rattle.birth_board.proofs.PlacementLemmas.{board_after, board-parents, board_after-all, board_after-more, words-taken, placing-next, next_board-occupants, next_board-placings, eqb-below, eqb-self}
 use Rattle.birth_board.proofs.turns.place_all.Goals as goal
 
 pub loop-parent-preserved : goal.loop-parent-preserved
@@ -69,28 +69,18 @@ loop-parent-preserved c =
     }
 
 pub returns-clause-placings : goal.returns-clause-placings
-unfolding placements_of
-returns-clause-placings c =
-    let torus = torus_numbers c.args.torus.now in
-    let all : take c.loop-parent.parent-index c.args.parents.now ≡ c.args.parents.now =
-    take_all c.loop-parent.parent-index c.args.parents.now (omega arith) in
-    record {
-      placings = c.loop-parent.invariant.placings
-          ∙ ap (λ parents. (board_after torus c.args.round.now c.args.occupants.now
-          parents).placings) all;
-      count = omega arith;
-      in_torus = c.loop-parent.invariant.in_torus;
-    }
+returns-clause-placings c = record {
+  placings = c.loop-parent.invariant.placings
+      ∙ ap (λ b. b.placings) (board_after-all (torus_numbers c.args.torus.now) c.args.round.now
+      c.args.occupants.now c.args.parents.now c.loop-parent.parent-index (omega arith));
+  count = omega arith;
+  in_torus = c.loop-parent.invariant.in_torus;
+}
 
 pub returns-clause-occupants : goal.returns-clause-occupants
-unfolding placements_of
-returns-clause-occupants c =
-    let torus = torus_numbers c.args.torus.now in
-    let all : take c.loop-parent.parent-index c.args.parents.now ≡ c.args.parents.now =
-    take_all c.loop-parent.parent-index c.args.parents.now (omega arith) in
-    record {
-      occupants = c.loop-parent.invariant.occupants
-          ∙ ap (λ parents. (board_after torus c.args.round.now c.args.occupants.now
-          parents).occupants) all;
-      cells = c.loop-parent.invariant.cells;
-    }
+returns-clause-occupants c = record {
+  occupants = c.loop-parent.invariant.occupants
+      ∙ ap (λ b. b.occupants) (board_after-all (torus_numbers c.args.torus.now) c.args.round.now
+      c.args.occupants.now c.args.parents.now c.loop-parent.parent-index (omega arith));
+  cells = c.loop-parent.invariant.cells;
+}
