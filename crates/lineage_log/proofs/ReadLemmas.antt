@@ -1,16 +1,20 @@
 -- The loop over the pieces of a log.
-use Rattle.std.proofs.Common.{◌≡◌, ℕ, ◌+◌, ◌<◌, List, [], ◌∷◌, ◌++◌, length, Option, Some, None, Result, Ok, Err, Bor, refl, sym, ap, subst, ◌∙◌, append_assoc, inl, inr}
-use Rattle.std.specs.Prelude.{◌==◌, ◌↔◌, IfSome, option_copied}
+use Rattle.std.proofs.Common.{◌≡◌, ℕ, ◌+◌, List, [], ◌∷◌, ◌++◌, Option, Some, None, Result, Ok, Err, Bor, refl, sym, ap, ◌∙◌, append_assoc, inl, inr}
+use Rattle.std.specs.Prelude.{◌==◌, ◌≢◌, ◌↔◌, option_copied}
 use Rattle.std.specs.List.{onto_first}
 use Rattle.std.proofs.lemmas.Bool.{cases_Bool}
 use Rattle.log_lines.specs.Line.{Line}
 use Rattle.log_lines.specs.LineReading.{line_of}
 use Rattle.log_lines.specs.Words.{pieces_of}
 use Rattle.lineage_log.specs.declared.reason.Reason.{Reason}
+use Rattle.lineage_log.specs.declared.refusal.Refusal.{Refusal}
+use Rattle.lineage_log.specs.declared.refusal.Refusal.TheVariants.{Memory, Faulty}
+use Rattle.lineage_log.specs.declared.log_stop.LogStop.{LogStop}
+use Rattle.lineage_log.specs.declared.log_stop.LogStop.TheVariants as wanting
 use Rattle.lineage_log.specs.Order.{LogPlace, told}
+use Rattle.lineage_log.specs.Places.{TellsPlace}
 use Rattle.lineage_log.specs.LogGrammar.{Fault, BadLine, OutOfOrder, with_line, one_piece, after_told, pieces_log, log_of, lines_text, Reads, IsGoodLog}
-use Rattle.lineage_log.specs.LogReading.{IsCut}
-use Rattle.lineage_log.specs.LogValues.{with_front}
+use Rattle.lineage_log.specs.LogValues.{stop_of, answer_of, with_front}
 use Rattle.lineage_log.proofs.LogLaws.{cut}
 
 -- no lines in front of what is read leave it as it is
@@ -25,16 +29,16 @@ front_more front one (Ok lines) =
     ap (λ (l : List Line). Ok l) (sym (append_assoc front (one ∷ []) lines))
 front_more front one (Err fault) = refl
 
--- bytes are cut where a newline was found
-pub cut_is : (rest text : List ℕ) (others : Option (Bor (List ℕ))) (behind : Bor (List ℕ))
-    → cut rest ≡ text ∷ pieces_of 10 (option_copied others)
-    → IfSome others (λ found. length found.now < length rest) → others ≡ Some behind
-    → IsCut rest text behind.now
-cut_is rest text others behind pieces shorter is = record {
-  pieces = pieces ∙ ap (λ (o : Option (Bor (List ℕ))). text ∷ pieces_of 10 (option_copied o)) is;
-  shorter = subst (λ (o : Option (Bor (List ℕ))).
-      IfSome o (λ found. length found.now < length rest)) is shorter;
-}
+-- what is left of the bytes begins with a piece before a newline
+pub next_piece : (number : ℕ) (place : LogPlace) (left piece : List ℕ)
+    (others : Option (Bor (List ℕ)))
+    (behind : Bor (List ℕ)) → cut left ≡ piece ∷ pieces_of 10 (option_copied others)
+    → others ≡ Some behind → pieces_log number place (cut left)
+    ≡ pieces_log number place (piece ∷ cut behind.now)
+next_piece number place left piece others behind split is =
+    let pieces : cut left ≡ piece ∷ cut behind.now =
+    split ∙ ap (λ (o : Option (Bor (List ℕ))). piece ∷ pieces_of 10 (option_copied o)) is in
+    ap (λ (ps : List (List ℕ)). pieces_log number place ps) pieces
 
 -- a piece before others, the first of which has a byte put onto it, is read as one line
 more_onto : (number : ℕ) (place : LogPlace) (piece : List ℕ) (b : ℕ) (parts : List (List ℕ))
@@ -93,3 +97,13 @@ ReadsExactly = (bytes : List ℕ) (lines : List Line) → Reads bytes lines
 pub good_read : ReadsExactly → (bytes : List ℕ) (lines : List Line) → log_of bytes ≡ Ok lines
     → IsGoodLog lines
 good_read law bytes lines is = ((law bytes lines).0 is).1
+
+-- the answer for a line that was not taken
+pub refused : (refusal : Refusal) (number : ℕ) (stop : LogStop) (next : LogPlace)
+    (t : Result LogPlace Reason) (read : Result (List Line) Fault) → stop ≡ stop_of number refusal
+    → (stop ≢ wanting.Memory) → TellsPlace (Err refusal) next t
+    → ((reason : Reason) → t ≡ Err reason
+    → read ≡ Err (record { line = number; cause = OutOfOrder reason })) → answer_of read ≡ Err stop
+refused Memory number stop next t read is other told faulty = absurd (other is)
+refused (Faulty reason) number stop next t read is other told faulty =
+    ap answer_of (faulty reason told) ∙ ap (λ (s : LogStop). Err s) (sym is)

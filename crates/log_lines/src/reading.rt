@@ -36,9 +36,23 @@ fn changes_last(alloc: Global, rest: Option<&[u8]>) -> Result<Option<Changes>, M
     ensures { IfOk result (λ found. found
         ≡ read_last changes_field.read (words_of (option_copied rest.entry))) }
 {
-    match last_word(rest) {
-        Some(word) => changes(alloc, word),
+    match rest {
+        Some(bytes) => changes_in(alloc, bytes),
         None => Ok(None),
+    }
+}
+
+/// As `changes_last`. Many births have no changes, so the dash for none is tried first.
+fn changes_in(alloc: Global, bytes: &[u8]) -> Result<Option<Changes>, Memory>
+    ensures { IfOk result (λ found. found
+        ≡ read_last changes_field.read (words_of (Some bytes.now))) }
+{
+    match bytes {
+        [b'-'] => Ok(Some(Changes::none(alloc))),
+        _ => match last_word(Some(bytes)) {
+            Some(word) => changes(alloc, word),
+            None => Ok(None),
+        },
     }
 }
 

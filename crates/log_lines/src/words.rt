@@ -1,12 +1,12 @@
 // Reads the words of a line, from what is left of it.
-ghost use Rattle.std.specs.Prelude.{◌≡◌, ◌<◌, ◌∷◌, ◌==◌, Some, IfSome, length, option_copied, option_map};
+ghost use Rattle.std.specs.Prelude.{◌≡◌, ◌≤◌, ◌<◌, ◌∷◌, ◌==◌, Some, IfSome, length, option_copied, option_map};
 ghost use Rattle.std.specs.List.{slice_split};
 ghost use Rattle.numerals.specs.Numeral.{number_of};
 ghost use Rattle.log_lines.specs.Rows.{read_last};
 ghost use Rattle.log_lines.specs.Words.{after_word, pieces_of, read_first, words_of};
 
 use memchr::memchr;
-use numerals::{leading_number, leading_small_number};
+use numerals::leading_number;
 
 /// The piece before the next byte `part`, and what follows that byte. Without such a byte the piece
 /// is all of `rest`, and nothing follows it.
@@ -37,13 +37,18 @@ pub fn after_word(rest: &[u8]) -> Option<Option<&[u8]>>
     }
 }
 
-/// A number below 2 ^ 64, and what is left of the line.
-pub fn large_first<'a>(rest: Option<&'a [u8]>) -> Option<(u64, Option<&'a [u8]>)>
-    ensures { option_map (λ p. (p.0, words_of (option_copied p.1))) result
-        ≡ read_first (number_of 0 18446744073709551615) (words_of (option_copied rest.entry)) }
+/// A number from `least` to `greatest`, and what is left of the line.
+fn number_first<'a>(
+    rest: Option<&'a [u8]>,
+    least: u64,
+    greatest: u64,
+) -> Option<(u64, Option<&'a [u8]>)>
+    ensures number { option_map (λ p. (p.0, words_of (option_copied p.1))) result
+        ≡ read_first (number_of least greatest) (words_of (option_copied rest.entry)) }
+    ensures bound { IfSome result (λ p. p.0 ≤ greatest) }
 {
     match rest {
-        Some(bytes) => match leading_number(0, u64::MAX, bytes) {
+        Some(bytes) => match leading_number(least, greatest, bytes) {
             Some((value, len)) => match after_word(&bytes[len..]) {
                 Some(others) => Some((value, others)),
                 None => None,
@@ -52,6 +57,14 @@ pub fn large_first<'a>(rest: Option<&'a [u8]>) -> Option<(u64, Option<&'a [u8]>)
         },
         None => None,
     }
+}
+
+/// A number below 2 ^ 64, and what is left of the line.
+pub fn large_first<'a>(rest: Option<&'a [u8]>) -> Option<(u64, Option<&'a [u8]>)>
+    ensures { option_map (λ p. (p.0, words_of (option_copied p.1))) result
+        ≡ read_first (number_of 0 18446744073709551615) (words_of (option_copied rest.entry)) }
+{
+    number_first(rest, 0, u64::MAX)
 }
 
 /// A number below 2 ^ 32, and what is left of the line.
@@ -63,14 +76,8 @@ pub fn small_first<'a>(
     ensures { option_map (λ p. (p.0, words_of (option_copied p.1))) result
         ≡ read_first (number_of least greatest) (words_of (option_copied rest.entry)) }
 {
-    match rest {
-        Some(bytes) => match leading_small_number(least, greatest, bytes) {
-            Some((value, len)) => match after_word(&bytes[len..]) {
-                Some(others) => Some((value, others)),
-                None => None,
-            },
-            None => None,
-        },
+    match number_first(rest, u64::from(least), u64::from(greatest)) {
+        Some((value, others)) => Some((value as u32, others)),
         None => None,
     }
 }

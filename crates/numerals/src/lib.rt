@@ -4,4 +4,4 @@
 pub mod laws;
 mod numeral;
 
-pub use numeral::{leading_number, leading_small_number, number, small_number};
+pub use numeral::{leading_number, number, small_number};

@@ -84,17 +84,6 @@ pub fn leading_number(least: u64, greatest: u64, text: &[u8]) -> Option<(u64, us
     }
 }
 
-/// As `leading_number`, for numbers below 2^32.
-pub fn leading_small_number(least: u32, greatest: u32, text: &[u8]) -> Option<(u32, usize)>
-    ensures number { option_map (λ found. found.0) result
-        ≡ number_of least greatest (leading_digits text.now) }
-    ensures len { IfSome result (λ found. found.1 ≡ digits_len text.now) }
-    ensures within { IfSome result (λ found. found.1 ≤ length text.now) }
-{
-    let (value, len) = leading_number(u64::from(least), u64::from(greatest), text)?;
-    Some((value as u32, len))
-}
-
 /// The number that the text spells in decimal digits, with no sign and no leading zero. None for
 /// every other text, and for a number outside `least` to `greatest`.
 pub fn number(least: u64, greatest: u64, text: &[u8]) -> Option<u64>

@@ -3,11 +3,11 @@ use Rattle.std.specs.Prelude.{option_copied}
 use Rattle.numerals.specs.Numeral.{number_of}
 use Rattle.log_lines.specs.Words.{after_word, read_first, words_of}
 use Rattle.log_lines.proofs.FrontLemmas.{front_none, front_number, tail_is}
-use Rattle.log_lines.proofs.words.small_first.Goals as goal
+use Rattle.log_lines.proofs.words.number_first.Goals as goal
 
-pub returns-in-Some-after_word : goal.returns-in-Some-after_word
-returns-in-Some-after_word c =
-    let found = c.in-Some-leading_small_number in
+pub returns-in-Some-after_word-clause-number : goal.returns-in-Some-after_word-clause-number
+returns-in-Some-after_word-clause-number c =
+    let found = c.in-Some-leading_number in
     let bytes = c.in-Some.bytes.now in
     let end = c.in-Some-after_word.ensures
     ∙ ap after_word (tail_is found.len bytes found.ensures.within) in
@@ -17,9 +17,9 @@ returns-in-Some-after_word c =
     ∙ ap (λ (o : Option (Bor (List ℕ))). read_first (number_of c.args.least c.args.greatest)
     (words_of (option_copied o))) (sym c.in-Some.is)
 
-pub returns-in-None-after_word : goal.returns-in-None-after_word
-returns-in-None-after_word c =
-    let found = c.in-Some-leading_small_number in
+pub returns-in-None-after_word-clause-number : goal.returns-in-None-after_word-clause-number
+returns-in-None-after_word-clause-number c =
+    let found = c.in-Some-leading_number in
     let bytes = c.in-Some.bytes.now in
     let end = c.in-None-after_word.ensures
     ∙ ap after_word (tail_is found.len bytes found.ensures.within) in
@@ -28,9 +28,9 @@ returns-in-None-after_word c =
     ∙ ap (λ (o : Option (Bor (List ℕ))). read_first (number_of c.args.least c.args.greatest)
     (words_of (option_copied o))) (sym c.in-Some.is)
 
-pub returns-in-None-leading_small_number : goal.returns-in-None-leading_small_number
-returns-in-None-leading_small_number c =
+pub returns-in-None-leading_number-clause-number : goal.returns-in-None-leading_number-clause-number
+returns-in-None-leading_number-clause-number c =
     front_none c.args.least c.args.greatest c.in-Some.bytes.now
-    c.in-None-leading_small_number.ensures.number
+    c.in-None-leading_number.ensures.number
     ∙ ap (λ (o : Option (Bor (List ℕ))). read_first (number_of c.args.least c.args.greatest)
     (words_of (option_copied o))) (sym c.in-Some.is)
