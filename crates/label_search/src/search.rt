@@ -1,7 +1,8 @@
 // The search of h-search.
-ghost use Rattle.std.specs.Prelude.{◌≡◌, ◌<◌, ◌≤◌, ◌+◌, ℕ, IfSome, MatchOption, length};
+ghost use Rattle.std.specs.Prelude.{◌≡◌, ◌<◌, ◌≤◌, ◌+◌, ℕ, IfSome, MatchOption, length, slice_index_or};
 ghost use Rattle.instruction_set.specs.Letter.{same_letter};
-ghost use Rattle.label_search.specs.Search.{OccursAt, first_match, begins_with};
+ghost use Rattle.instruction_set.specs.declared.letter.Letter.TheVariants.{NopA};
+ghost use Rattle.label_search.specs.Search.{OccursAt, occurs_at, first_match, begins_with};
 ghost use Rattle.label_search.specs.Site.{letters_of};
 
 use crate::Template;
@@ -26,14 +27,28 @@ pub fn find(memory: &[Site], what: &Template) -> Option<usize>
 }
 
 fn least_match(memory: &[Site], what: &[Letter]) -> Option<usize>
+    requires { 0 < length what.now }
     ensures { result ≡ first_match (letters_of memory.now) what.now }
 {
+    let first = what[0];
     for place in 0..memory.len() {
-        if begins_with(&memory[place..], what) {
+        if stands_at(memory, place, first, what) {
             return Some(place);
         }
     }
     None
+}
+
+/// Whether the template, which begins with this letter, stands at a place. Most places are told by
+/// the letter alone.
+#[inline(always)]
+fn stands_at(memory: &[Site], place: usize, first: Letter, what: &[Letter]) -> bool
+    requires place { place < length memory.now }
+    requires some { 0 < length what.now }
+    requires first { first ≡ slice_index_or what.now 0 NopA }
+    ensures { result ≡ occurs_at (letters_of memory.now) what.now place }
+{
+    same_letter(first, letter_at(memory, place)) && begins_with(&memory[place..], what)
 }
 
 /// Whether the letters of the sites begin with the template.

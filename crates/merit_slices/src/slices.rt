@@ -43,9 +43,25 @@ fn deal(merits: &[u64], steps: u64, all: u64, out: &mut [u64])
     let mut given = 0;
     for (cell, merit) in merits.iter().enumerate() {
         before += *merit;
-        let due = quotient(steps, before, all, inverse);
+        let due = due_by(steps, *merit, before, all, inverse, given);
         out[cell] = due - given;
         given = due;
+    }
+}
+
+/// What is due up to a cell: where it has no merit, that is what was given before it.
+#[inline(always)]
+fn due_by(steps: u64, merit: u64, before: u64, all: u64, inverse: u64, given: u64) -> u64
+    requires some { 0 < all }
+    requires part { before ≤ all }
+    requires inverse { inverse * all < 2 ^ 64 }
+    requires given { merit ≡ 0 → given ≡ quota steps before all }
+    ensures { result ≡ quota steps before all }
+{
+    if merit == 0 {
+        given
+    } else {
+        quotient(steps, before, all, inverse)
     }
 }
 

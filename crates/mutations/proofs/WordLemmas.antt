@@ -2,6 +2,7 @@
 use Rattle.std.proofs.Common.{◌≡◌, refl, ℕ, zero, suc, ◌+◌, ◌*◌, ◌≤◌, Bool, true, false, cond, eqb, ◌&&◌, List, [], ◌∷◌, ◌++◌, length, arith, length-append}
 use Rattle.instruction_set.specs.declared.letter.Letter.{Letter}
 use Rattle.random_streams.specs.RandomStream.{hits, scaled}
+use Rattle.mutations.specs.declared.change.Change.{Change}
 use Rattle.mutations.specs.declared.indels.Indel.{Indel}
 use Rattle.mutations.specs.declared.indels.Indel.TheVariants.{Insertion, Deletion}
 use Rattle.mutations.specs.declared.indels.IndelTest.{IndelTest}
@@ -28,6 +29,13 @@ letter_words-both : (kind : Indel) (one two : ℕ)
 letter_words-both Insertion one two = refl
 letter_words-both Deletion one two = omega arith
 
+-- and so do those of changes and of the changes after them
+letter_words-in_turn : (kind : Indel) (first more : List Change)
+    → letter_words kind (length (first ++ more))
+    ≡ letter_words kind (length first) + letter_words kind (length more)
+letter_words-in_turn kind first more =
+    rw (length-append first more) (letter_words-both kind (length first) (length more))
+
 -- so many tests by words from word k on: one word a test, and one a letter
 pub record Tests (kind : Indel) (k tests : ℕ) (drawn : Drawn) : Type 0 where
   pub least : k + tests ≤ drawn.next
@@ -38,14 +46,15 @@ pub record Tests (kind : Indel) (k tests : ℕ) (drawn : Drawn) : Type 0 where
 Tests-both : (kind : Indel) (k one two : ℕ) (first more : Drawn) → Tests kind k one first
     → Tests kind first.next two more → Tests kind k (one + two) (in_turn first more)
 Tests-both kind k one two first more a b =
-    let count = length-append first.changes more.changes in
-    let extra : letter_words kind (length (first.changes ++ more.changes))
-    ≡ letter_words kind (length first.changes) + letter_words kind (length more.changes) =
-    rw count (letter_words-both kind (length first.changes) (length more.changes)) in
     record {
       least = omega (arith, a.least, b.least);
-      most = omega (arith, a.most, b.most, extra);
-      few = omega (arith, a.few, b.few, count);
+      most = omega (
+        arith,
+        a.most,
+        b.most,
+        letter_words-in_turn kind first.changes more.changes,
+      );
+      few = omega (arith, a.few, b.few, length-append first.changes more.changes);
     }
 
 -- no indel
@@ -172,14 +181,11 @@ indels-words kind rates range words draft =
     let a : Sites kind draft sites = site_indels-words each words draft in
     let b : Single kind sites.next single =
     single_indel-words last words (draft_after kind sites draft) in
-    let count = length-append sites.changes single.changes in
-    let extra : letter_words kind (length (sites.changes ++ single.changes))
-    ≡ letter_words kind (length sites.changes) + letter_words kind (length single.changes) =
-    rw count (letter_words-both kind (length sites.changes) (length single.changes)) in
+    let extra = letter_words-in_turn kind sites.changes single.changes in
     record {
       least = omega (arith, a.least, b.least);
       most = omega (arith, a.most, b.most, extra);
-      few = omega (arith, a.few, b.few, count);
+      few = omega (arith, a.few, b.few, length-append sites.changes single.changes);
     }
 
 -- a test for another letter takes a word or two

@@ -3,6 +3,7 @@ pub mod Change
 pub mod ChildTexts
 pub mod CopyError
 pub mod DivideErrors
+pub mod DrawnRecords
 pub mod Indels
 pub mod Pass
 pub mod RateNames

@@ -9,6 +9,7 @@ use random_streams::Draws;
 
 /// Tests for a copy error: the letter that h-copy writes in place of the one that it read, or None
 /// where there is no error. It takes one word, and one more where it hits.
+#[inline(always)]
 pub fn copy_error(rates: &Rates, draws: &mut Draws) -> Option<Letter>
     requires { draws.old.taken < word_count - 2 }
     ensures none { IsNone result ↔ IsFalse (hits (next_word draws.old) rates.now.copy) }
@@ -20,6 +21,7 @@ pub fn copy_error(rates: &Rates, draws: &mut Draws) -> Option<Letter>
     error_letter(rates.copy, draws)
 }
 
+#[inline(always)]
 pub(crate) fn error_letter(rate: u32, draws: &mut Draws) -> Option<Letter>
     requires rate { rate ≤ million }
     requires room { draws.old.taken + 2 ≤ word_count }
@@ -36,6 +38,8 @@ pub(crate) fn error_letter(rate: u32, draws: &mut Draws) -> Option<Letter>
 }
 
 /// The letter that the next word draws.
+#[cold]
+#[inline(never)]
 #[tactic(auto, unfolding(crate::specs::CopyError::letter_of_word))]
 pub(crate) fn drawn_letter(draws: &mut Draws) -> Letter
     requires { draws.old.taken < word_count }

@@ -1,4 +1,4 @@
-ghost use Rattle.std.specs.Prelude.{◌≡◌, ℕ, ◌+◌, ◌*◌, ◌/◌, ◌<◌, ◌≤◌, slice_index};
+ghost use Rattle.std.specs.Prelude.{◌≡◌, ℕ, ◌+◌, ◌*◌, ◌/◌, ◌%◌, ◌<◌, ◌≤◌, slice_index};
 ghost use Rattle.random_streams.specs.RandomStream.{first_of, next_word, word_of, after, scaled, hits, cell_count, word_count, million};
 
 use crate::{Purpose, block};
@@ -71,7 +71,7 @@ impl Draws {
     }
 
     /// The word whose number is the count of words taken.
-    #[inline]
+    #[inline(always)]
     pub fn word(&mut self) -> u32
         requires { self.old.taken < word_count }
         ensures word { result ≡ next_word self.old }
@@ -79,11 +79,25 @@ impl Draws {
     {
         let place = (self.taken % 16) as usize;
         if place == 0 {
-            self.words = self.block();
+            return self.first_word();
         }
         let word = self.words[place];
         self.taken += 1;
         word
+    }
+
+    /// The same where the next word is the first of its block, which is computed.
+    #[cold]
+    #[inline(never)]
+    fn first_word(&mut self) -> u32
+        requires room { self.old.taken < word_count }
+        requires first { self.old.taken % 16 ≡ 0 }
+        ensures word { result ≡ next_word self.old }
+        ensures takes_one { self.new ≡ after 1 self.old }
+    {
+        self.words = self.block();
+        self.taken += 1;
+        self.words[0]
     }
 
     /// The words of the block in which the next word stands.
@@ -112,7 +126,7 @@ impl Draws {
     }
 
     /// Whether the next word hits at this rate in parts per million.
-    #[inline]
+    #[inline(always)]
     pub fn hits(&mut self, ppm: u32) -> bool
         requires rate { ppm ≤ million }
         requires room { self.old.taken < word_count }

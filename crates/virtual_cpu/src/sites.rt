@@ -271,13 +271,21 @@ fn count_copied(sites: &[Site]) -> usize
 fn letters_in(alloc: Global, sites: &[Site]) -> Result<Vec<Letter>, AllocError>
     ensures { IfOk result (λ v. v.items ≡ letters_of sites.now) }
 {
-    sites.iter().map(|site| site.letter()).collect(alloc)
+    let mut letters = Vec::with_capacity(alloc, sites.len())?;
+    for site in sites {
+        letters.push_reserved(site.letter());
+    }
+    Ok(letters)
 }
 
 fn clean_in(alloc: Global, sites: &[Site]) -> Result<Vec<Letter>, AllocError>
     ensures { IfOk result (λ v. v.items ≡ clean_of sites.now) }
 {
-    sites.iter().map(|site| site.clean()).collect(alloc)
+    let mut letters = Vec::with_capacity(alloc, sites.len())?;
+    for site in sites {
+        letters.push_reserved(site.clean());
+    }
+    Ok(letters)
 }
 
 fn executed_in(alloc: Global, sites: &[Site]) -> Result<Vec<bool>, AllocError>

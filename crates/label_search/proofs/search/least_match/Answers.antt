@@ -1,7 +1,6 @@
-use Rattle.std.proofs.Common.{◌≡◌, ◌∙◌, ◌-◌, sym, ap, arith, length, drop, true, false}
+use Rattle.std.proofs.Common.{◌≡◌, ◌∙◌, ◌-◌, sym, ap, arith, length, true, false}
 use Rattle.std.specs.List.{find, range_with_len}
-use Rattle.std.proofs.lemmas.Grind.{common_steps}
-use Rattle.std.proofs.lemmas.List.{length-map, drop-map}
+use Rattle.std.proofs.lemmas.List.{length-map}
 use Rattle.label_search.specs.Search.{occurs_at}
 use Rattle.label_search.specs.Site.{letters_of}
 use Rattle.label_search.proofs.SearchLemmas.{find-next}
@@ -14,16 +13,14 @@ loop-place-init c =
     omega (arith, length-map sites (λ site. site.letter)) in
     ap (λ n. find (occurs_at (letters_of sites) c.args.what.now) (range_with_len 0 n)) all
 
-pub returns-then-begins_with : goal.returns-then-begins_with
-returns-then-begins_with c =
+pub returns-then-stands_at : goal.returns-then-stands_at
+returns-then-stands_at c =
     let sites = c.args.memory.now in
     let place = c.loop-place.place in
     let next = find-next (occurs_at (letters_of sites) c.args.what.now) place
     (length sites) c.loop-place-test.true in
-    let rest : drop place (letters_of sites) ≡ letters_of (drop place sites) =
-    drop-map (λ site. site.letter) place sites in
     let here : occurs_at (letters_of sites) c.args.what.now place ≡ true =
-    rw rest (grind (arith, common_steps)) in
+    sym c.stands_at.ensures ∙ c.if-stands_at.true in
     sym (rw here at next) ∙ c.loop-place.invariant
 
 pub loop-place-preserved : goal.loop-place-preserved
@@ -32,8 +29,6 @@ loop-place-preserved c =
     let place = c.loop-place.place in
     let next = find-next (occurs_at (letters_of sites) c.args.what.now) place
     (length sites) c.loop-place-test.true in
-    let rest : drop place (letters_of sites) ≡ letters_of (drop place sites) =
-    drop-map (λ site. site.letter) place sites in
     let elsewhere : occurs_at (letters_of sites) c.args.what.now place ≡ false =
-    rw rest (grind (arith, common_steps)) in
+    sym c.stands_at.ensures ∙ c.if-stands_at.false in
     sym (rw elsewhere at next) ∙ c.loop-place.invariant

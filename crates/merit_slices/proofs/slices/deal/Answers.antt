@@ -15,15 +15,15 @@ loop-cell-preserved c =
     let before : c.loop-cell.before + slice_index_or merits cell 0 ≡ sum (take (cell + 1) merits) =
     rw c.loop-cell.invariant.before
     (sym (sum_by_more (λ x. x) merits cell 0 c.loop-cell-test.true)) in
-    let due : c.quotient-due.result ≡ steps_before merits c.args.steps (cell + 1) =
-    rw (before, c.requires.all) at c.quotient-due.ensures.value in
-    let value : c.quotient-due.result - c.loop-cell.given ≡ share cell =
+    let due : c.due_by-due.result ≡ steps_before merits c.args.steps (cell + 1) =
+    rw (before, c.requires.all) at c.due_by-due.ensures in
+    let value : c.due_by-due.result - c.loop-cell.given ≡ share cell =
     rw (due, c.loop-cell.invariant.given) refl in
     record {
       before = before;
       given = due;
       made = take_more_set c.loop-cell.out cell _ (omega arith)
-          ∙ ap (λ xs. xs ++ (c.quotient-due.result - c.loop-cell.given) ∷ [])
+          ∙ ap (λ xs. xs ++ (c.due_by-due.result - c.loop-cell.given) ∷ [])
           c.loop-cell.invariant.made ∙ ap (λ x. map share (range_with_len 0 cell) ++ x ∷ []) value
           ∙ sym (map-range_with_len_more share 0 cell cell (omega arith));
     }
