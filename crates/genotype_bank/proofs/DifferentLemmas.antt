@@ -56,30 +56,6 @@ map-insert_key eq same see alike keys key =
     by_cases true = refl
     by_cases false = map_push see keys key
 
--- who is found passes the test
-find-passes : {A : Type 0} (p : A → Bool) (xs : List A) (x : A) → find p xs ≡ Some x
-    → (p x ≡ true) × (list_any p xs ≡ true)
-find-passes p [] x e = absurd (cc)
-find-passes p (y ∷ xs) x e = by (λ found. find-passes p xs x found) (p y) refl e
-  where
-    by : (find p xs ≡ Some x → (p x ≡ true) × (list_any p xs ≡ true)) → (b : Bool) → p y ≡ b
-        → cond b (Some y) (find p xs) ≡ Some x → (p x ≡ true) × ((p y || list_any p xs) ≡ true)
-    by rest true is e =
-        (let same : y ≡ x = cc in subst (λ z. p z ≡ true) same is, ap (λ b. b || list_any p xs) is)
-    by rest false is e = let r = rest e in (r.0, ap (λ b. b || list_any p xs) is ∙ r.1)
-
--- a key that was found is the one that was looked for, and is there already
-pub found_key : {A : Type 0} (eq : A → A → Bool) (see : A → Letters) → OneList
-    → ((a b : A) → eq a b ≡ same_letters (see a) (see b)) → (keys : List A) (key known : A)
-    → find (eq key) keys ≡ Some known → (see known ≡ see key)
-    × (map see keys ≡ with_genome (map see keys) (see key))
-found_key eq see one_list alike keys key known e =
-    let found = find-passes (eq key) keys known e in (
-      sym ((one_list (see key) (see known)).0 (sym (alike key known) ∙ found.0)),
-      ap (λ b. cond b (map see keys) (map see keys ++ see key ∷ []))
-          (sym found.1 ∙ list_any-map (eq key) (same_letters (see key)) see (alike key) keys),
-    )
-
 module _ (one_list : OneList) where
   -- the members that this one is not
   abbrev others_of : Letters → List Letters → List Letters

@@ -1,5 +1,7 @@
 pub mod DifferentLemmas
 pub mod MemberLemmas
+pub mod PackingLemmas
+pub mod PackedLemmas
 pub mod ViewLemmas
 pub mod HistoryLemmas
 pub mod TableLemmas

@@ -1,11 +1,13 @@
--- The letters of shared genomes (docs/ARCHITECTURE.md, "The bank of genotypes").
+-- The letters of packed genomes (docs/ARCHITECTURE.md, "The bank of genotypes").
 use Rattle.std.specs.Prelude.{List, map}
-use Rattle.std.specs.declared.alloc.Global.{Global}
-use Rattle.std.specs.declared.sync.Arc.{Arc}
-use Rattle.genome.specs.Genome.{letters}
-use Rattle.genome.specs.declared.genome.Genome.{Genome}
 use Rattle.instruction_set.specs.declared.letter.Letter.{Letter}
+use Rattle.genotype_bank.specs.Packing.{unpacked}
+use Rattle.genotype_bank.specs.declared.packed_genome.PackedGenome.{PackedGenome}
 
--- the letters of shared genomes, in their order
-abbrev pub letters_in : List (Arc Genome Global) → List (List Letter)
-letters_in genomes = map (λ genome. letters genome.value) genomes
+-- the letters of a packed genome
+abbrev pub letters_of : PackedGenome → List Letter
+letters_of genome = unpacked genome.words.items
+
+-- the letters of packed genomes, in their order
+abbrev pub letters_in : List PackedGenome → List (List Letter)
+letters_in genomes = map letters_of genomes

@@ -1,4 +1,5 @@
 pub mod BankHistory
+pub mod Packing
 pub mod Letters
 pub mod Seats
 pub mod Catalog

@@ -9,6 +9,7 @@ ghost use Rattle.genotype_bank.specs.Seats.{MakesCall, all_shares, own_calls_of}
 
 use crate::catalog::Catalog;
 use crate::handle::Handle;
+use crate::packed_genome::PackedGenome;
 use crate::rule::{BankTable, Recall, Shares};
 use crate::seat::Seat;
 use atomic_table::{Refused, Table};
@@ -18,7 +19,7 @@ use indexmap::IndexSet;
 use instruction_set::laws::one_index;
 use std::alloc::Global;
 use std::marker::Model;
-use std::sync::{Arc, Wait};
+use std::sync::Wait;
 
 /// A list of genomes.
 pub type Genomes = Items<Genome>;
@@ -49,7 +50,7 @@ impl Bank {
         ensures { IfOk result (λ made. made.1
             ≡ record { bank = made.0; share = all_shares; numbers = []; seen = [] }) }
     {
-        let genomes: IndexSet<Arc<Genome, Global>> = IndexSet::new(alloc);
+        let genomes: IndexSet<PackedGenome> = IndexSet::new(alloc);
         let catalog = Catalog {
             genomes,
             last: None,
@@ -146,17 +147,17 @@ impl Bank {
         let catalog = closed.take(0);
         closed.free();
         let Catalog { genomes, last: _ } = catalog.unwrap();
-        copies(alloc, &genomes)
+        unpack_all(alloc, &genomes)
     }
 }
 
-/// Copies of shared genomes, in their order.
-fn copies(alloc: Global, shared: &IndexSet<Arc<Genome, Global>>) -> Result<Genomes, Memory>
-    ensures { IfOk result (λ genomes. map letters genomes ≡ letters_in shared.now.keys) }
+/// The genomes that were packed, in their order.
+fn unpack_all(alloc: Global, kept: &IndexSet<PackedGenome>) -> Result<Genomes, Memory>
+    ensures { IfOk result (λ genomes. map letters genomes ≡ letters_in kept.now.keys) }
 {
-    let mut genomes = Vec::with_capacity(alloc, shared.len())?;
-    for genome in shared {
-        genomes.push(genome.copy(alloc)?)?;
+    let mut genomes = Vec::with_capacity(alloc, kept.len())?;
+    for genome in kept {
+        genomes.push(genome.unpack(alloc)?)?;
     }
     Ok(Genomes::from_vec(genomes))
 }

@@ -2,12 +2,12 @@
 ghost use Rattle.std.specs.Prelude.{◌≡◌, ◌<◌, ◌^◌, IfOk, MatchResult, Some, is_ok, slice_get};
 ghost use Rattle.genome.specs.Genome.{letters};
 ghost use Rattle.genotype_bank.specs.BankHistory.{with_genome};
-ghost use Rattle.genotype_bank.specs.Letters.{letters_in};
+ghost use Rattle.genotype_bank.specs.Letters.{letters_in, letters_of};
 
 use crate::handle::Handle;
+use crate::packed_genome::PackedGenome;
 use avida_port::Memory;
 use genome::Genome;
-use genome::laws::equal_by_letters;
 use indexmap::IndexSet;
 use instruction_set::laws::one_index;
 use std::alloc::Global;
@@ -17,7 +17,7 @@ use std::sync::Arc;
 /// that it gave, or none where memory ran out.
 #[derive(Drop)]
 pub(crate) struct Catalog {
-    pub(crate) genomes: IndexSet<Arc<Genome, Global>>,
+    pub(crate) genomes: IndexSet<PackedGenome>,
     pub(crate) last: Option<usize>,
 }
 
@@ -36,41 +36,29 @@ impl Catalog {
         ensures small { IfOk result (λ handle. handle.number < 2 ^ 63) }
     {
         self.last = None;
+        let packed = PackedGenome::pack(alloc, &genome)?;
         let shared = Arc::new(alloc, genome)?;
-        let handle = place(&mut self.genomes, shared)?;
-        self.last = Some(handle.number as usize);
-        Ok(handle)
+        let number = place(&mut self.genomes, packed)?;
+        self.last = Some(number as usize);
+        Ok(Handle {
+            number,
+            genome: shared,
+        })
     }
 }
 
 /// The number of a genome, which is new or known. If memory runs out, nothing changes.
-fn place(
-    genomes: &mut IndexSet<Arc<Genome, Global>>,
-    genome: Arc<Genome, Global>,
-) -> Result<Handle, Memory>
+fn place(genomes: &mut IndexSet<PackedGenome>, genome: PackedGenome) -> Result<u64, Memory>
     ensures placed { MatchResult result
         (λ _. letters_in genomes.new.keys
-        ≡ with_genome (letters_in genomes.old.keys) (letters genome.value))
+        ≡ with_genome (letters_in genomes.old.keys) (letters_of genome))
         (λ _. letters_in genomes.new.keys ≡ letters_in genomes.old.keys) }
-    ensures genome { IfOk result (λ handle. letters handle.genome.value ≡ letters genome.value) }
-    ensures number { IfOk result (λ handle. slice_get (letters_in genomes.new.keys) handle.number
-        ≡ Some (letters genome.value)) }
-    ensures small { IfOk result (λ handle. handle.number < 2 ^ 63) }
+    ensures number { IfOk result
+        (λ number. slice_get (letters_in genomes.new.keys) number ≡ Some (letters_of genome)) }
+    ensures small { IfOk result (λ number. number < 2 ^ 63) }
 {
     one_index();
-    equal_by_letters();
-    let _before = genomes.len();
-    if let Some((place, known)) = genomes.get_full(&genome) {
-        return Ok(Handle {
-            number: place as u64,
-            genome: Arc::try_clone(known)?,
-        });
-    }
-    let shared = Arc::try_clone(&genome)?;
     let (index, _) = genomes.insert_full(genome)?;
     let _after = genomes.len();
-    Ok(Handle {
-        number: index as u64,
-        genome: shared,
-    })
+    Ok(index as u64)
 }

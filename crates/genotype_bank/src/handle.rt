@@ -5,8 +5,7 @@ use std::sync::Arc;
 
 /// An interned genome with its number.
 ///
-/// Every handle of the genome shares it, and the number is its place among the different genomes of
-/// the bank, in order of first interning.
+/// The number is its place among the different genomes of the bank, in order of first interning.
 #[derive(Drop)]
 pub struct Handle {
     pub number: u64,

@@ -6,6 +6,8 @@ mod catalog;
 mod crossing;
 mod handle;
 pub mod laws;
+mod packed_genome;
+mod packing;
 mod rule;
 mod seat;
 mod steps;

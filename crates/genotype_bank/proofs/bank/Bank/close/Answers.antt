@@ -28,5 +28,5 @@ returns-clause-all c =
     let is = some-injective _ _ (sym c.take-catalog.ensures.value ∙ lies.1) in
     let all = ap genomes_at (sym c.unwrap-genomes.ensures ∙ is)
     ∙ (lies.2 ∙ ap (λ s. genotypes_of s.seen) c.seat.view_is) in
-    subst (λ genotypes. IfOk c.copies.result (λ genomes. map letters genomes ≡ genotypes)) all
-    c.copies.ensures
+    subst (λ genotypes. IfOk c.unpack_all.result (λ genomes. map letters genomes ≡ genotypes)) all
+    c.unpack_all.ensures
