@@ -11,10 +11,10 @@ use Rattle.clap.specs.Faults.{is_simple_and_free}
 use Rattle.command_line.specs.Form.{Told, are_distinct, option_names}
 use Rattle.command_line.specs.Words.{begins_dashed, has_dashed, is_dashed, is_set}
 use Rattle.command_line.specs.Numbers.{is_comma, three_numbers_of}
-use Rattle.command_line.specs.Commands.{assay_form, assay_of, assay_with, bare_form, landscape_form, landscape_of, inputs_of_value, nothing_of, positional_form, positional_of, run_form, run_of, run_with, save_of, trace_form, trace_of, trace_with, workers_form}
+use Rattle.command_line.specs.Commands.{assay_form, assay_of, assay_with, bare_form, inputs_of_value, landscape_form, nothing_of, numbers_with, positional_form, positional_number_at, positional_of, run_form, run_of, run_with, trace_form, trace_of, trace_with, workers_at, workers_form}
 use Rattle.command_line.specs.Parsers.{app_by}
 use Rattle.command_line.specs.Reading.{IsOf, IsReadableRow, NoMinus}
-use Rattle.command_line.specs.Rows.{CommandRow, assay_row, landscape_row, nothing_row, numbers_with, positional_row, run_row, save_row, trace_row}
+use Rattle.command_line.specs.Rows.{CommandRow, assay_row, landscape_row, nothing_row, positional_row, run_row, save_row, trace_row}
 
 -- a command that takes no words has no text that could begin with `-`
 nothing_refuses : NoMinus → (told : Told) → IsOf bare_form told → has_dashed told ≡ true
@@ -82,47 +82,60 @@ module _ (no_minus : NoMinus) where
       rw (dashed_number 0 greatest (before_first is_comma (byte ∷ bytes)) (begins_so byte bytes d))
       refl
 
+  -- one positional, and one value
+  pair_refuses : {T : Type 0} (take : Told → Option T) (told : Told)
+      → ((p : Text) (v : Option Text) → begins_dashed p ≡ true
+      → take (record { positionals = p ∷ []; values = v ∷ []; flags = told.flags }) ≡ None)
+      → ((p : Text) (v : Option Text) → is_dashed v ≡ true
+      → take (record { positionals = p ∷ []; values = v ∷ []; flags = told.flags }) ≡ None)
+      → length told.positionals ≡ 1 → length told.values ≡ 1 → has_dashed told ≡ true
+      → take told ≡ None
+  pair_refuses take told no_text no_value n m d = go told.positionals told.values n m d
+    where
+      go : (ps : List Text) (vs : List (Option Text)) → length ps ≡ 1 → length vs ≡ 1
+          → (list_any begins_dashed ps || list_any is_dashed vs) ≡ true
+          → take (record { positionals = ps; values = vs; flags = told.flags }) ≡ None
+      go (p ∷ []) (v ∷ []) n m d = elim (cases_Bool (begins_dashed p)) [
+        | inl a ↦ no_text p v a
+        | inr a ↦ elim (cases_Bool (is_dashed v)) [
+          | inl b ↦ no_value p v b
+          | inr b ↦ absurd (false≢true (rw (a, b) at d))
+        ]
+      ]
+      go [] vs n m d = absurd (omega arith)
+      go (p ∷ q ∷ ps) vs n m d = absurd (omega arith)
+      go (p ∷ []) [] n m d = absurd (omega arith)
+      go (p ∷ []) (v ∷ w ∷ vs) n m d = absurd (omega arith)
+
   -- `trace` refuses steps or inputs that begin with `-`
   trace_refuses : (told : Told) → IsOf trace_form told → has_dashed told ≡ true
       → trace_of told ≡ None
   trace_refuses told is d =
-      go told.positionals told.values told.flags is.positionals is.values d
+      pair_refuses trace_of told (λ p v a. rw (dashed_number 0 1000000 p a) refl)
+      (λ p v b. none_after (trace_with (is_set told.flags 0) (inputs_of_value v))
+      (number_of 0 1000000 p) (λ steps. no_inputs (is_set told.flags 0) v steps b))
+      is.positionals is.values d
     where
       no_inputs : (org : Bool) (value : Option Text) (steps : ℕ) → is_dashed value ≡ true
           → trace_with org (inputs_of_value value) steps ≡ None
       no_inputs org None steps d = absurd (false≢true d)
       no_inputs org (Some text) steps d = rw (dashed_numbers 16777215 text d) refl
 
-      go : (ps : List Text) (vs : List (Option Text)) (fs : List Bool) → length ps ≡ 1
-          → length vs ≡ 1 → (list_any begins_dashed ps || list_any is_dashed vs) ≡ true
-          → trace_of (record { positionals = ps; values = vs; flags = fs }) ≡ None
-      go (p ∷ []) (v ∷ []) fs n m d = elim (cases_Bool (begins_dashed p)) [
-        | inl a ↦ rw (dashed_number 0 1000000 p a) refl
-        | inr a ↦ elim (cases_Bool (is_dashed v)) [
-          | inl b ↦ none_after (trace_with (is_set fs 0) (inputs_of_value v))
-              (number_of 0 1000000 p) (λ steps. no_inputs (is_set fs 0) v steps b)
-          | inr b ↦ absurd (false≢true (rw (a, b) at d))
-        ]
-      ]
-      go [] vs fs n m d = absurd (omega arith)
-      go (p ∷ q ∷ ps) vs fs n m d = absurd (omega arith)
-      go (p ∷ []) [] fs n m d = absurd (omega arith)
-      go (p ∷ []) (v ∷ w ∷ vs) fs n m d = absurd (omega arith)
-
   -- `landscape` refuses steps that begin with `-`
   landscape_refuses : (told : Told) → IsOf landscape_form told → has_dashed told ≡ true
-      → landscape_of told ≡ None
+      → positional_number_at 1 100000 0 told ≡ None
   landscape_refuses told is d =
-      text_refuses landscape_of told (dashed_number 1 100000) is.positionals is.values d
+      text_refuses (positional_number_at 1 100000 0) told (dashed_number 1 100000) is.positionals
+      is.values d
 
   -- the workers alone
   save_refuses : (told : Told) → IsOf workers_form told → has_dashed told ≡ true
-      → save_of told ≡ None
+      → workers_at 0 told ≡ None
   save_refuses told is d = go told.positionals told.values is.positionals is.values d
     where
       go : (ps : List Text) (vs : List (Option Text)) → length ps ≡ 0 → length vs ≡ 1
           → (list_any begins_dashed ps || list_any is_dashed vs) ≡ true
-          → save_of (record { positionals = ps; values = vs; flags = told.flags }) ≡ None
+          → workers_at 0 (record { positionals = ps; values = vs; flags = told.flags }) ≡ None
       go [] (w ∷ []) n m d = elim (cases_Bool (is_dashed w)) [
         | inl a ↦ dashed_text 1 64 w a
         | inr a ↦ absurd (false≢true (rw a at d))
@@ -157,31 +170,15 @@ module _ (no_minus : NoMinus) where
       go [] (w ∷ []) fs n m d = absurd (omega arith)
       go [] (w ∷ t ∷ v ∷ vs) fs n m d = absurd (omega arith)
 
-  -- one positional, and the workers
-  positional_refuses : {T : Type 0} (make : ℕ → ℕ → T) (greatest : ℕ) (told : Told)
-      → IsOf positional_form told → has_dashed told ≡ true
-      → positional_of make greatest told ≡ None
-  positional_refuses {T = T} make greatest told is d =
-      go told.positionals told.values told.flags is.positionals is.values d
-    where
-      go : (ps : List Text) (vs : List (Option Text)) (fs : List Bool) → length ps ≡ 1
-          → length vs ≡ 1 → (list_any begins_dashed ps || list_any is_dashed vs) ≡ true
-          → positional_of {T = T} make greatest
-          (record { positionals = ps; values = vs; flags = fs }) ≡ None
-      go (p ∷ []) (w ∷ []) fs n m d = elim (cases_Bool (begins_dashed p)) [
-        | inl a ↦ rw (dashed_number 0 greatest p a) refl
-        | inr a ↦ elim (cases_Bool (is_dashed w)) [
-          | inl b ↦ none_after (λ number. option_map (make number)
-              (option_and_then (number_of 1 64) w))
-              (number_of 0 greatest p)
-              (λ number. ap (option_map (make number)) (dashed_text 1 64 w b))
-          | inr b ↦ absurd (false≢true (rw (a, b) at d))
-        ]
-      ]
-      go [] vs fs n m d = absurd (omega arith)
-      go (p ∷ q ∷ ps) vs fs n m d = absurd (omega arith)
-      go (p ∷ []) [] fs n m d = absurd (omega arith)
-      go (p ∷ []) (w ∷ v ∷ vs) fs n m d = absurd (omega arith)
+  -- one number, and the workers
+  positional_refuses : (greatest : ℕ) (told : Told) → IsOf positional_form told
+      → has_dashed told ≡ true → positional_of greatest told ≡ None
+  positional_refuses greatest told is d =
+      pair_refuses (positional_of greatest) told (λ p v a. rw (dashed_number 0 greatest p a) refl)
+      (λ p v b. none_after (λ number. option_map (numbers_with number)
+      (option_and_then (number_of 1 64) v)) (number_of 0 greatest p)
+      (λ number. ap (option_map (numbers_with number)) (dashed_text 1 64 v b)))
+      is.positionals is.values d
 
   -- `assay` refuses a count, a first seed or workers that begin with `-`
   assay_refuses : (told : Told) → IsOf assay_form told → has_dashed told ≡ true
@@ -258,22 +255,22 @@ run_reads = reads_by refl refl (omega arith) refl refl run_refuses
 -- the parser knows `lineage`, which refuses a cell or workers that begin with `-`
 pub lineage_reads : IsReadableRow (positional_row (codes "lineage") (codes "cell") 65535)
 lineage_reads = reads_by refl refl (omega arith) refl refl (λ no_minus.
-    positional_refuses no_minus numbers_with 65535)
+    positional_refuses no_minus 65535)
 
 -- the parser knows `bench`, which refuses a seed or workers that begin with `-`
 pub bench_reads : IsReadableRow (positional_row (codes "bench") (codes "seed") 9223372036854775807)
 bench_reads = reads_by refl refl (omega arith) refl refl (λ no_minus.
-    positional_refuses no_minus numbers_with 9223372036854775807)
+    positional_refuses no_minus 9223372036854775807)
 
 -- the parser knows `resume`, which refuses updates or workers that begin with `-`
 pub resume_reads : IsReadableRow (positional_row (codes "resume") (codes "more") 1000000)
 resume_reads = reads_by refl refl (omega arith) refl refl (λ no_minus.
-    positional_refuses no_minus numbers_with 1000000)
+    positional_refuses no_minus 1000000)
 
 -- the parser knows `advance`, which refuses updates or workers that begin with `-`
 pub advance_reads : IsReadableRow (positional_row (codes "advance") (codes "more") 1000000)
 advance_reads = reads_by refl refl (omega arith) refl refl (λ no_minus.
-    positional_refuses no_minus numbers_with 1000000)
+    positional_refuses no_minus 1000000)
 
 -- the parser knows `assay`, which refuses a count, a first seed or workers that begin with `-`
 pub assay_reads : IsReadableRow assay_row

@@ -9,6 +9,7 @@ use Rattle.command_line.specs.declared.assay.Assay.{Assay}
 use Rattle.command_line.specs.declared.bench.Bench.{Bench}
 use Rattle.command_line.specs.declared.run.Run.{Run}
 use Rattle.command_line.specs.declared.lineage.Lineage.{Lineage}
+use Rattle.command_line.specs.declared.positional.Positional.{Positional}
 use Rattle.command_line.specs.declared.resume.Resume.{Resume}
 use Rattle.command_line.specs.declared.trace.Trace.{Trace}
 
@@ -35,7 +36,7 @@ trace_form = record {
 abbrev pub workers_option : Valued
 workers_option = record { name = codes "workers"; default = Some (codes "1") }
 
--- `--workers k` alone
+-- `save [--workers k]`
 abbrev pub workers_form : Form
 workers_form = record { options = workers_option ∷ []; flags = []; positionals = 0 }
 
@@ -47,29 +48,9 @@ run_form = record {
   positionals = 0;
 }
 
--- one positional, and `--workers k`
+-- `lineage cell`, `bench seed`, `resume more` and `advance more`, each with `[--workers k]`
 abbrev pub positional_form : Form
 positional_form = record { options = workers_option ∷ []; flags = []; positionals = 1 }
-
--- `lineage cell [--workers k]`
-abbrev pub lineage_form : Form
-lineage_form = positional_form
-
--- `bench seed [--workers k]`
-abbrev pub bench_form : Form
-bench_form = positional_form
-
--- `resume more [--workers k]`
-abbrev pub resume_form : Form
-resume_form = positional_form
-
--- `advance more [--workers k]`
-abbrev pub advance_form : Form
-advance_form = positional_form
-
--- `save [--workers k]`
-abbrev pub save_form : Form
-save_form = workers_form
 
 -- `assay count first [--workers k]`
 abbrev pub assay_form : Form
@@ -111,13 +92,10 @@ trace_of told = option_and_then
 abbrev pub trace_told : List (List ℕ) → Option Trace
 trace_told words = option_and_then trace_of (told_by trace_form words)
 
--- the steps of `landscape` that the positional spells
-abbrev pub landscape_of : Told → Option ℕ
-landscape_of told = positional_number_at 1 100000 0 told
-
 -- the steps that the words after the name tell `landscape`
 abbrev pub landscape_told : List (List ℕ) → Option ℕ
-landscape_told words = option_and_then landscape_of (told_by landscape_form words)
+landscape_told words =
+    option_and_then (positional_number_at 1 100000 0) (told_by landscape_form words)
 
 -- the looks that the value spells, where there is a value
 abbrev pub looks_of_value : Option (List ℕ) → Option (Option ℕ)
@@ -142,51 +120,43 @@ run_of told = option_and_then (run_with (option_value_at 1 told)) (workers_at 0 
 abbrev pub run_told : List (List ℕ) → Option Run
 run_told words = option_and_then run_of (told_by run_form words)
 
--- what is made of the number up to this one, and the workers, that the texts spell
-abbrev pub positional_of : {T : Type 0} → (ℕ → ℕ → T) → ℕ → Told → Option T
-positional_of make greatest told = option_and_then (λ number.
-    option_map (make number) (workers_at 0 told)) (positional_number_at 0 greatest 0 told)
+-- a number and a number of workers
+abbrev pub numbers_with : ℕ → ℕ → Positional
+numbers_with number workers = record { number = number; workers = workers }
 
--- `lineage` of the cell, with the workers, that its texts spell
-abbrev pub lineage_of : Told → Option Lineage
-lineage_of = positional_of (λ cell workers. record { cell = cell; workers = workers }) 65535
+-- the number up to this one, and the workers, that the texts spell
+abbrev pub positional_of : ℕ → Told → Option Positional
+positional_of greatest told = option_and_then (λ number.
+    option_map (numbers_with number) (workers_at 0 told)) (positional_number_at 0 greatest 0 told)
+
+-- what the words after the name tell a command with one number up to this one
+abbrev pub positional_told : ℕ → List (List ℕ) → Option Positional
+positional_told greatest words =
+    option_and_then (positional_of greatest) (told_by positional_form words)
 
 -- what the words after the name tell `lineage`
 abbrev pub lineage_told : List (List ℕ) → Option Lineage
-lineage_told words = option_and_then lineage_of (told_by lineage_form words)
-
--- `bench` of the seed, with the workers, that its texts spell
-abbrev pub bench_of : Told → Option Bench
-bench_of = positional_of (λ seed workers. record { seed = seed; workers = workers })
-    9223372036854775807
+lineage_told words =
+    option_map (λ p. record { cell = p.number; workers = p.workers }) (positional_told 65535 words)
 
 -- what the words after the name tell `bench`
 abbrev pub bench_told : List (List ℕ) → Option Bench
-bench_told words = option_and_then bench_of (told_by bench_form words)
-
--- `resume` of so many updates more, with the workers, that its texts spell
-abbrev pub resume_of : Told → Option Resume
-resume_of = positional_of (λ more workers. record { more = more; workers = workers }) 1000000
+bench_told words = option_map (λ p. record { seed = p.number; workers = p.workers })
+    (positional_told 9223372036854775807 words)
 
 -- what the words after the name tell `resume`
 abbrev pub resume_told : List (List ℕ) → Option Resume
-resume_told words = option_and_then resume_of (told_by resume_form words)
-
--- `advance` by so many updates more, with the workers, that its texts spell
-abbrev pub advance_of : Told → Option Advance
-advance_of = positional_of (λ more workers. record { more = more; workers = workers }) 1000000
+resume_told words =
+    option_map (λ p. record { more = p.number; workers = p.workers }) (positional_told 1000000 words)
 
 -- what the words after the name tell `advance`
 abbrev pub advance_told : List (List ℕ) → Option Advance
-advance_told words = option_and_then advance_of (told_by advance_form words)
-
--- the workers of `save` that its value spells
-abbrev pub save_of : Told → Option ℕ
-save_of told = workers_at 0 told
+advance_told words =
+    option_map (λ p. record { more = p.number; workers = p.workers }) (positional_told 1000000 words)
 
 -- the workers that the words after the name tell `save`
 abbrev pub save_told : List (List ℕ) → Option ℕ
-save_told words = option_and_then save_of (told_by save_form words)
+save_told words = option_and_then (workers_at 0) (told_by workers_form words)
 
 -- a command that takes no words, whatever is told
 abbrev pub nothing_of : Told → Option (Unit {0})

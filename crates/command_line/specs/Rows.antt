@@ -2,7 +2,7 @@
 use Rattle.std.specs.Prelude.{ℕ, List, [], ◌∷◌, Option, codes, option_and_then}
 use Rattle.command_line.specs.Form.{Form, Told}
 use Rattle.command_line.specs.Words.{told_by}
-use Rattle.command_line.specs.Commands.{assay_form, assay_of, bare_form, landscape_form, landscape_of, nothing_of, positional_form, positional_of, run_form, run_of, save_form, save_of, trace_form, trace_of}
+use Rattle.command_line.specs.Commands.{assay_form, assay_of, bare_form, landscape_form, nothing_of, positional_form, positional_number_at, positional_of, run_form, run_of, trace_form, trace_of, workers_at, workers_form}
 use Rattle.command_line.specs.declared.assay.Assay.{Assay}
 use Rattle.command_line.specs.declared.positional.Positional.{Positional}
 use Rattle.command_line.specs.declared.run.Run.{Run}
@@ -20,10 +20,6 @@ pub record CommandRow (T : Type 0) : Type 0 where
 abbrev pub told_by_row : {T : Type 0} → CommandRow T → List (List ℕ) → Option T
 told_by_row row words = option_and_then row.take (told_by row.form words)
 
--- the number and the number of workers
-abbrev pub numbers_with : ℕ → ℕ → Positional
-numbers_with number workers = record { number = number; workers = workers }
-
 -- a command of this name with one number up to this one, which the parser knows by the second name,
 -- and `--workers`: `lineage`, `bench`, `resume` and `advance`
 abbrev pub positional_row : List ℕ → List ℕ → ℕ → CommandRow Positional
@@ -31,7 +27,7 @@ positional_row name text greatest = record {
   name = name;
   form = positional_form;
   texts = text ∷ [];
-  take = positional_of numbers_with greatest;
+  take = positional_of greatest;
 }
 
 -- `trace`
@@ -56,9 +52,9 @@ run_row = record {
 abbrev pub save_row : CommandRow ℕ
 save_row = record {
   name = codes "save";
-  form = save_form;
+  form = workers_form;
   texts = [];
-  take = save_of;
+  take = workers_at 0;
 }
 
 -- `landscape`
@@ -67,7 +63,7 @@ landscape_row = record {
   name = codes "landscape";
   form = landscape_form;
   texts = codes "steps" ∷ [];
-  take = landscape_of;
+  take = positional_number_at 1 100000 0;
 }
 
 -- `assay`

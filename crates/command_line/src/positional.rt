@@ -5,7 +5,7 @@ ghost use Rattle.command_line.specs.Commands.{positional_form, positional_of};
 ghost use Rattle.command_line.specs.Parsers.{told_in};
 ghost use Rattle.command_line.specs.Reading.{IsReadableRow};
 ghost use Rattle.command_line.specs.Refusals.{IsTold};
-ghost use Rattle.command_line.specs.Rows.{numbers_with, positional_row, told_by_row};
+ghost use Rattle.command_line.specs.Rows.{positional_row, told_by_row};
 
 use crate::numbers::wide_number_in;
 use crate::parser::matches;
@@ -23,7 +23,7 @@ pub(crate) struct Positional {
 }
 
 fn taken(matches: &ArgMatches<'_>, name: &str, greatest: u64) -> Option<Positional>
-    ensures told { result ≡ option_and_then (positional_of numbers_with greatest)
+    ensures told { result ≡ option_and_then (positional_of greatest)
         (told_in positional_form (name.now ∷ []) (rows_of (found_of matches.now))) }
     ensures bound { IfSome result (λ p. p.number ≤ greatest) }
 {
