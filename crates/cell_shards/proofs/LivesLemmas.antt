@@ -10,7 +10,7 @@ use Rattle.organism.specs.Lived.{beginning}
 use Rattle.organism.specs.Newborns.{NewbornValue}
 use Rattle.organism.specs.OrganismState.{OrganismState}
 use Rattle.organism.specs.UpdateLife.{LifeState, is_death, life}
-use Rattle.world_rules.specs.Lives.{OrganismLife, ended_life, life_by}
+use Rattle.organism.specs.OrganismLife.{OrganismLife, ended_life, life_by}
 use Rattle.cell_shards.specs.CellLives.{IsYoung, Part, RoundNumbers, births_from, dead_in, deaths_from, left_in, newborns_in, shard_life_at, shard_life_of, shard_lives_of, standing_in}
 use Rattle.cell_shards.specs.Finishing.{HasInterned, IsFinished, birth_of, part_of}
 use Rattle.cell_shards.specs.declared.finished.Finished.{Finished}

@@ -5,7 +5,7 @@ use Rattle.std.proofs.lemmas.Grind.{flat_map-append}
 use Rattle.std.proofs.lemmas.List.{get_or_append_left, get_or-append_right}
 use Rattle.std.proofs.lemmas.List.FromFn.{length-map-range_with_len, map-range_with_len_more}
 use Rattle.organism.specs.OrganismState.{OrganismState}
-use Rattle.world_rules.specs.Lives.{OrganismLife}
+use Rattle.organism.specs.OrganismLife.{OrganismLife}
 use Rattle.cell_shards.specs.CellLives.{RoundNumbers, part_from, shard_life_at, shard_life_of, shard_lives_of}
 
 -- two lists, numbered one after the other

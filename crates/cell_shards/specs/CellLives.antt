@@ -8,7 +8,7 @@ use Rattle.random_streams.specs.RandomStream.{draw}
 use Rattle.organism.specs.Newborns.{NewbornValue}
 use Rattle.organism.specs.OrganismState.{OrganismState}
 use Rattle.organism.specs.SettingNumbers.{SettingNumbers, setting_numbers}
-use Rattle.world_rules.specs.Lives.{OrganismLife, life_by}
+use Rattle.organism.specs.OrganismLife.{OrganismLife, life_by}
 use Rattle.cell_shards.specs.declared.round.Round.{Round}
 use Rattle.cell_shards.specs.declared.standing.Standing.{Standing}
 

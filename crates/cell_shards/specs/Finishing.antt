@@ -2,7 +2,7 @@
 -- shard, and a seat at the bank that numbers genomes. For example, if the organism of cell 41 bore
 -- a child and died of age, then cell 41 is left empty, 41 is among the cells of the dead, and the
 -- child is delivered with 41 as its parent's cell.
-use Rattle.std.specs.Prelude.{◌≡◌, ℕ, ◌+◌, ◌<◌, ◌≤◌, ◌^◌, ◌++◌, All, List, Some, length, map, slice_get, slice_index_or}
+use Rattle.std.specs.Prelude.{◌≡◌, ℕ, ◌+◌, ◌<◌, ◌≤◌, ◌^◌, ◌++◌, All, List, [], ◌∷◌, Option, Some, length, map, slice_get, slice_index_or}
 use mathlib.Core.List.{IsPrefix}
 use Rattle.genome.specs.Genome.{letters}
 use Rattle.genotype_bank.specs.BankHistory.{genotypes_of}
@@ -13,11 +13,14 @@ use Rattle.genotype_bank.specs.declared.view.Entry.{Entry}
 use Rattle.instruction_set.specs.declared.letter.Letter.{Letter}
 use Rattle.mutations.specs.BirthRecord.{record_of}
 use Rattle.organism.specs.Newborns.{NewbornValue}
-use Rattle.cell_shards.specs.CellLives.{IsYoung, Part, RoundNumbers, births_from, deaths_from, left_in, part_from, shard_lives_of, standing_in}
+use Rattle.organism.specs.OrganismState.{OrganismState}
+use Rattle.organism.specs.OrganismLife.{OrganismLife}
+use Rattle.cell_shards.specs.CellLives.{IsYoung, Part, RoundNumbers, births_from, born_in, dead_in, deaths_from, left_in, part_from, shard_lives_of, standing_in}
 use Rattle.cell_shards.specs.declared.delivered.Delivered.{Delivered}
 use Rattle.cell_shards.specs.declared.done.Done.{Done}
 use Rattle.cell_shards.specs.declared.finished.Finished.{Finished}
 use Rattle.cell_shards.specs.declared.job.Job.{Job}
+use Rattle.cell_shards.specs.declared.lives.Left.{Left}
 
 -- the cells of a job
 abbrev pub part_of : Job → Part
@@ -69,6 +72,22 @@ pub record HasInterned (old new : SeatValue) (births : List Delivered) : Type 0 
   pub own : own_calls_of new ≡ own_calls_of old ++ calls
   pub interned : map (λ call. call.call) calls ≡ map call_for births
   pub numbers : All (IsNumbered new.seen) births
+
+-- the newborns of a cell are delivered behind others, and the seat that had interned those has
+-- interned them too
+pub record AreDelivered (cell : ℕ) (newborns : List NewbornValue) (old new : SeatValue)
+    (before after : List Delivered) : Type 0 where
+  pub births : map birth_of after ≡ map birth_of before ++ map (born_in cell) newborns
+  pub seat : (start : SeatValue) → HasInterned start old before → HasInterned start new after
+
+-- behind what the lives of the cells before it left is told what this life left: who is in the cell
+-- once the dead have gone, what is counted of that one, the dead and the newborns
+pub record IsToldBehind (cell : ℕ) (l : OrganismLife) (slot : Option OrganismState)
+    (before after : Left) : Type 0 where
+  pub left : slot ≡ left_in l
+  pub standings : after.standings ≡ before.standings ++ standing_in slot ∷ []
+  pub dead : after.dead ≡ before.dead ++ dead_in (cell, l)
+  pub births : AreDelivered cell l.newborns before.seat after.seat before.births after.births
 
 -- a job's cells have lived, the dead have left them, what is counted of the others is told, its
 -- newborns are delivered, and its seat has interned them

@@ -1,4 +1,4 @@
-use crate::unmade::Unmade;
+use crate::pending_birth::PendingBirth;
 use avida_port::Memory;
 use organism::Organism;
 use std::alloc::Global;
@@ -7,23 +7,23 @@ use std::alloc::Global;
 #[derive(Drop)]
 pub(crate) struct Body {
     // Asked at the start of each life, so it lies beside what the life begins with.
-    pub(crate) unmade: Option<Unmade>,
+    pub(crate) pending: Option<PendingBirth>,
     pub(crate) organism: Organism,
 }
 
 impl Body {
     ghost use Rattle.std.specs.Prelude.{◌≡◌, None, OnOk};
-    ghost use Rattle.cell_shards.specs.Bodies.{CanBeMade, who_is};
+    ghost use Rattle.cell_shards.specs.Bodies.{CanBeMade, organism_once_made};
 
     /// Who is to be made is made. After `Memory` drop the body.
     pub(crate) fn make(&mut self, alloc: Global) -> Result<(), Memory>
-        requires { CanBeMade self.old.unmade }
-        ensures made { self.new.unmade ≡ None }
+        requires { CanBeMade self.old.pending }
+        ensures made { self.new.pending ≡ None }
         ensures organism { OnOk result
-            (self.new.organism ≡ who_is self.old.organism self.old.unmade) }
+            (self.new.organism ≡ organism_once_made self.old.organism self.old.pending) }
     {
-        if let Some(unmade) = self.unmade.take() {
-            unmade.replace(alloc, &mut self.organism)?;
+        if let Some(pending) = self.pending.take() {
+            pending.replace(alloc, &mut self.organism)?;
         }
         Ok(())
     }

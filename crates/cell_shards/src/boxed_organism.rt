@@ -1,6 +1,6 @@
 use crate::body::Body;
+use crate::pending_birth::PendingBirth;
 use crate::standing::Standing;
-use crate::unmade::Unmade;
 use avida_port::Memory;
 use genome::Genome;
 use logic_tasks::{Inputs, Tasks};
@@ -20,11 +20,11 @@ impl Model for BoxedOrganism {
 
     ghost Value = { OrganismState };
 
-    ghost use Rattle.cell_shards.specs.Bodies.{CanBeMade, who_is};
+    ghost use Rattle.cell_shards.specs.Bodies.{CanBeMade, organism_once_made};
 
-    ghost view = { λ b. who_is b.inner.value.organism b.inner.value.unmade };
+    ghost view = { λ b. organism_once_made b.inner.value.organism b.inner.value.pending };
 
-    ghost invariant = { λ b. CanBeMade b.inner.value.unmade };
+    ghost invariant = { λ b. CanBeMade b.inner.value.pending };
 }
 
 impl BoxedOrganism {
@@ -39,9 +39,9 @@ impl BoxedOrganism {
     pub fn new(alloc: Global, organism: Organism) -> Result<BoxedOrganism, Memory>
         ensures { IfOk result (λ boxed. boxed ≡ organism) }
     {
-        let unmade = None;
+        let pending = None;
         Ok(BoxedOrganism {
-            inner: Box::new(alloc, Body { organism, unmade })?,
+            inner: Box::new(alloc, Body { organism, pending })?,
         })
     }
 
@@ -59,7 +59,7 @@ impl BoxedOrganism {
         requires greatest { memory_limit ≤ 8192 }
         ensures { self.new ≡ new_organism (letters genome.value) inputs merit credited memory_limit }
     {
-        self.inner.unmade = Some(Unmade {
+        self.inner.pending = Some(PendingBirth {
             genome,
             inputs,
             merit,
@@ -72,8 +72,8 @@ impl BoxedOrganism {
     pub fn genome(&self) -> &Arc<Genome, Global>
         ensures { letters result.now.value ≡ self.now.genome }
     {
-        match &self.inner.unmade {
-            Some(unmade) => &unmade.genome,
+        match &self.inner.pending {
+            Some(pending) => &pending.genome,
             None => self.inner.organism.genome(),
         }
     }
@@ -84,8 +84,8 @@ impl BoxedOrganism {
             organism_of_image image self.now.machine.limit ≡ self.now) }
         ensures cpu { IfOk result (λ image. image.cpu ≡ image_of self.now.machine) }
     {
-        match &self.inner.unmade {
-            Some(unmade) => unmade.organism(alloc)?.image(alloc),
+        match &self.inner.pending {
+            Some(pending) => pending.organism(alloc)?.image(alloc),
             None => self.inner.organism.image(alloc),
         }
     }
@@ -95,10 +95,10 @@ impl BoxedOrganism {
     pub fn standing(&self) -> Standing
         ensures { result ≡ standing_of self.now }
     {
-        match &self.inner.unmade {
-            Some(unmade) => Standing {
-                merit: unmade.merit,
-                credited: unmade.credited,
+        match &self.inner.pending {
+            Some(pending) => Standing {
+                merit: pending.merit,
+                credited: pending.credited,
             },
             None => Standing {
                 merit: self.inner.organism.merit(),

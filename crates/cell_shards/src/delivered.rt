@@ -17,13 +17,13 @@ pub struct Delivered {
     /// Its number among the newborns of its parent in this update, from 0.
     pub nth: u32,
     pub handle: Handle,
-    /// Its genome once more, for the list of all organisms. The thread that interned the genome
-    /// shares it, since it has it at hand, so the one that places newborns needn't wait for it.
-    pub remembered: Arc<Genome, Global>,
+    /// Its genome once more, for the tree of the world. The thread that interned the genome shares
+    /// it, since it has it at hand, so the one that places newborns needn't wait for it.
+    pub tree_genome: Arc<Genome, Global>,
     pub origin: Origin,
     pub merit: u64,
     pub credited: Tasks,
-    ghost same: { letters remembered.value ≡ letters handle.genome.value },
+    ghost same: { letters tree_genome.value ≡ letters handle.genome.value },
 }
 
 /// The newborns of a shard, in order of their parents' cells and, within a cell, of birth.

@@ -1,9 +1,9 @@
 // The genomes of newborns are interned, one after another.
-ghost use Rattle.std.specs.Prelude.{◌≡◌, ◌++◌, IfOk, OnOk, map};
-ghost use Rattle.genotype_bank.specs.Seats.{MakesCall, SeatValue};
+ghost use Rattle.std.specs.Prelude.{◌≡◌, IfOk, OnOk, map};
+ghost use Rattle.genotype_bank.specs.Seats.{MakesCall};
 ghost use Rattle.organism.specs.Newborns.{newborn_value};
 ghost use Rattle.cell_shards.specs.CellLives.{born_in};
-ghost use Rattle.cell_shards.specs.Finishing.{HasInterned, IsNumbered, birth_of, call_for};
+ghost use Rattle.cell_shards.specs.Finishing.{AreDelivered, IsNumbered, birth_of, call_for};
 
 use crate::delivered::{Delivered, Deliveries};
 use avida_port::Memory;
@@ -15,6 +15,7 @@ use std::sync::{Arc, Wait};
 
 /// The newborns of a cell, behind those of the cells before it, with the handles of their genomes,
 /// which the seat interns in this order.
+#[inline(always)]
 pub(crate) fn deliver<R: Wait>(
     rt: &R,
     alloc: Global,
@@ -25,10 +26,30 @@ pub(crate) fn deliver<R: Wait>(
     births: &mut Deliveries,
 ) -> Result<(), Memory>
     requires { seat.old.bank ≡ bank.now }
-    ensures births { OnOk result (map birth_of births.new
-        ≡ map birth_of births.old ++ map (born_in cell) (map newborn_value newborns)) }
-    ensures seat { OnOk result ((start : SeatValue)
-        → HasInterned start seat.old births.old → HasInterned start seat.new births.new) }
+    ensures { OnOk result (AreDelivered cell (map newborn_value newborns)
+        seat.old seat.new births.old births.new) }
+{
+    if newborns.len() == 0 {
+        return Ok(());
+    }
+    deliver_each(rt, alloc, bank, seat, cell, newborns, births)
+}
+
+/// Most cells have no newborn, so their lives needn't come by here.
+#[cold]
+#[inline(never)]
+fn deliver_each<R: Wait>(
+    rt: &R,
+    alloc: Global,
+    bank: &Bank,
+    seat: &mut Seat,
+    cell: u32,
+    newborns: Births,
+    births: &mut Deliveries,
+) -> Result<(), Memory>
+    requires { seat.old.bank ≡ bank.now }
+    ensures { OnOk result (AreDelivered cell (map newborn_value newborns)
+        seat.old seat.new births.old births.new) }
 {
     calls_number_genotypes();
     for newborn in newborns.into_vec() {
@@ -62,12 +83,12 @@ fn deliver_one<R: Wait>(
         credited,
     } = newborn;
     let handle = bank.intern(rt, alloc, seat, genome)?;
-    let remembered = Arc::try_clone(&handle.genome)?;
+    let tree_genome = Arc::try_clone(&handle.genome)?;
     Ok(Delivered {
         cell,
         nth,
         handle,
-        remembered,
+        tree_genome,
         origin,
         merit,
         credited,

@@ -2,9 +2,9 @@
 ghost use Rattle.std.specs.Prelude.{◌≡◌, ◌<◌, ◌^◌, ◌∷◌, ◌++◌, [], Some, None, OnOk, IfOk, map, if◌then◌else◌};
 ghost use Rattle.organism.specs.Newborns.{newborn_value};
 ghost use Rattle.organism.specs.UpdateLife.{is_death};
-ghost use Rattle.cell_shards.specs.Bodies.{CanBeMade, who_is};
+ghost use Rattle.cell_shards.specs.Bodies.{CanBeMade, organism_once_made};
 ghost use Rattle.cell_shards.specs.CellLives.{IsYoung, round_numbers, shard_life_of, standing_in};
-ghost use Rattle.cell_shards.specs.Finishing.{CanRun, IsFinished};
+ghost use Rattle.cell_shards.specs.Finishing.{CanRun, IsFinished, IsToldBehind};
 
 use crate::body::Body;
 use crate::boxed_organism::BoxedOrganism;
@@ -15,7 +15,7 @@ use crate::job::{Cells, Job};
 use crate::round::Round;
 use crate::standing::{Standing, Standings};
 use avida_port::Memory;
-use genotype_bank::Bank;
+use genotype_bank::{Bank, Seat};
 use organism::{Births, Ran};
 use random_streams::{CELLS, Draws, Purpose};
 use std::alloc::Global;
@@ -28,9 +28,17 @@ struct Life {
     births: Births,
 }
 
-/// The job with its cells' lives behind them. The newborns of a cell are delivered right after its
-/// life, so the turns of the bank are spread over the job. Where the cells have room for more, so
-/// has the list beside them, for both are joined with those of other jobs.
+/// What the lives of the first cells of a shard left beside their organisms, and its seat.
+#[derive(Drop)]
+pub(crate) struct Left {
+    pub(crate) standings: Standings,
+    pub(crate) births: Deliveries,
+    pub(crate) dead: Dead,
+    pub(crate) seat: Seat,
+}
+
+/// The job with its cells' lives behind them. Where the cells have room for more, so has the list
+/// beside them, for both are joined with those of other jobs.
 pub(crate) fn live<R: Wait>(
     rt: &R,
     alloc: Global,
@@ -46,33 +54,82 @@ pub(crate) fn live<R: Wait>(
         first,
         cells,
         slices,
-        mut seat,
+        seat,
     } = job;
     let mut cells = cells.into_vec();
     let slices = slices.into_vec();
-    let mut standings = Vec::with_capacity(alloc, cells.capacity())?;
-    let mut births = Deliveries::none(alloc);
-    let mut dead = Dead::none(alloc);
+    let mut left = nothing_left(alloc, cells.capacity(), seat)?;
     for place in 0..cells.len() {
         let cell = first + place as u32;
         let slot = &mut cells[place];
-        let life = live_in(alloc, round, cell, slices[place], slot)?;
-        bury(slot, life.died, cell, &mut dead)?;
-        standings.push(standing_in(slot))?;
-        deliver(rt, alloc, bank, &mut seat, cell, life.births, &mut births)?;
+        live_at(rt, alloc, bank, round, cell, slices[place], slot, &mut left)?;
     }
+    let Left {
+        standings,
+        births,
+        dead,
+        seat,
+    } = left;
     Ok(Finished {
         first,
         cells: Cells::from_vec(cells),
-        standings: Standings::from_vec(standings),
+        standings,
         births,
         dead,
         seat,
     })
 }
 
+/// Before any cell has lived, with room for what is counted of so many.
+fn nothing_left(alloc: Global, cells: usize, seat: Seat) -> Result<Left, Memory>
+    ensures { IfOk result
+        (λ left. left ≡ record { standings = []; births = []; dead = []; seat = seat }) }
+{
+    let standings = Vec::with_capacity(alloc, cells)?;
+    Ok(Left {
+        standings: Standings::from_vec(standings),
+        births: Deliveries::none(alloc),
+        dead: Dead::none(alloc),
+        seat,
+    })
+}
+
+/// The life of who stands in the next cell. Its newborns are delivered right after it, so the turns
+/// of the bank are spread over the job.
+#[inline(always)]
+fn live_at<R: Wait>(
+    rt: &R,
+    alloc: Global,
+    bank: &Bank,
+    round: &Round,
+    cell: u32,
+    steps: u64,
+    slot: &mut Option<BoxedOrganism>,
+    left: &mut Left,
+) -> Result<(), Memory>
+    requires cell { cell < CELLS }
+    requires steps { steps < 2 ^ 27 }
+    requires young { IsYoung slot.old }
+    requires seat { left.old.seat.bank ≡ bank.now }
+    ensures { OnOk result (IsToldBehind cell
+        (shard_life_of (round_numbers round.now) cell steps slot.old) slot.new left.old left.new) }
+{
+    let life = live_in(alloc, round, cell, steps, slot)?;
+    bury(slot, life.died, cell, &mut left.dead)?;
+    left.standings.push(standing_in(slot))?;
+    deliver(
+        rt,
+        alloc,
+        bank,
+        &mut left.seat,
+        cell,
+        life.births,
+        &mut left.births,
+    )
+}
+
 /// The life of who stands in a cell.
-#[tactic(auto, unfolding(world_rules::specs::Lives::life_by))]
+#[tactic(auto, unfolding(organism::specs::OrganismLife::life_by))]
 fn live_in(
     alloc: Global,
     round: &Round,
@@ -109,12 +166,12 @@ fn live_once(
 ) -> Result<Life, Memory>
     requires cell { cell < CELLS }
     requires steps { steps < 2 ^ 27 }
-    requires makeable { CanBeMade body.old.unmade }
-    requires young { (who_is body.old.organism body.old.unmade).age < 2 ^ 62 }
-    ensures made { body.new.unmade ≡ None }
+    requires makeable { CanBeMade body.old.pending }
+    requires young { (organism_once_made body.old.organism body.old.pending).age < 2 ^ 62 }
+    ensures made { body.new.pending ≡ None }
     ensures life { IfOk result
         (λ life. shard_life_of (round_numbers round.now) cell steps
-        (Some (who_is body.old.organism body.old.unmade))
+        (Some (organism_once_made body.old.organism body.old.pending))
         ≡ record {
           organism = Some body.new.organism;
           died = life.died;

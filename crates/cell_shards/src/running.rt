@@ -34,15 +34,14 @@ pub fn run_all<R: Threads + Wait + Sync, G: Gate + Sync>(
     ensures { IfOk result (λ all. AreFinished (round_numbers round.now) jobs.items all.items) }
 {
     let workers = jobs.len();
-    let (all, ()) = run_with_errand(rt, alloc, jobs, workers, bank, round, gate, || ())?;
+    let (all, ()) = run_all_beside(rt, alloc, jobs, workers, bank, round, gate, || ())?;
     Ok(all)
 }
 
 /// The same with `workers` threads, but at least one and at most one a job. Each takes a job that
 /// no other has taken, until all are taken; so a thread that is held up runs fewer of them. The
-/// calling thread has an errand, which it does once the others have begun, and whose result is
-/// handed back.
-pub fn run_with_errand<R: Threads + Wait + Sync, G: Gate + Sync, T: Drop, F: FnOnce() -> T + Drop>(
+/// calling thread does `meanwhile` once the others have begun, and its result is handed back.
+pub fn run_all_beside<R: Threads + Wait + Sync, G: Gate + Sync, T: Drop, F: FnOnce() -> T + Drop>(
     rt: &R,
     alloc: Global,
     jobs: Vec<Job>,
@@ -50,23 +49,25 @@ pub fn run_with_errand<R: Threads + Wait + Sync, G: Gate + Sync, T: Drop, F: FnO
     bank: &Bank,
     round: &Round,
     gate: &G,
-    errand: F,
+    meanwhile: F,
 ) -> Result<(Vec<Finished>, T), Memory>
     requires jobs { All CanRun jobs.items }
     requires seats { All (λ job. job.seat.bank ≡ bank.now) jobs.items }
-    requires errand { F.pre errand }
+    requires meanwhile { F.pre meanwhile }
     ensures finished { IfOk result
         (λ ran. AreFinished (round_numbers round.now) jobs.items ran.0.items) }
-    ensures errand { IfOk result (λ ran. F.post errand ran.1) }
+    ensures meanwhile { IfOk result (λ ran. F.post meanwhile ran.1) }
 {
     let workers = workers.min(jobs.len());
     let (pool, seat) = Pool::new(alloc, jobs)?;
-    let (done, brought) = run_together(rt, alloc, &pool, seat, workers, bank, round, gate, errand)?;
-    Ok((in_order(alloc, &pool, done)?, brought))
+    let (done, outcome) = run_together(
+        rt, alloc, &pool, seat, workers, bank, round, gate, meanwhile,
+    )?;
+    Ok((in_order(alloc, &pool, done)?, outcome))
 }
 
-/// By so many threads, where they can be made: this thread starts all others, does its errand, and
-/// then takes jobs as they do.
+/// By so many threads, where they can be made: this thread starts all others, does `meanwhile`,
+/// and then takes jobs as they do.
 #[cycle(workers)]
 fn run_together<R: Threads + Wait + Sync, G: Gate + Sync, T: Drop, F: FnOnce() -> T + Drop>(
     rt: &R,
@@ -77,20 +78,20 @@ fn run_together<R: Threads + Wait + Sync, G: Gate + Sync, T: Drop, F: FnOnce() -
     bank: &Bank,
     round: &Round,
     gate: &G,
-    errand: F,
+    meanwhile: F,
 ) -> Result<(Vec<Done>, T), Memory>
     requires pool { seat ≡ pool.now }
     requires few { workers ≤ length pool.now.jobs }
     requires jobs { All (λ job. CanRun job × (job.seat.bank ≡ bank.now)) pool.now.jobs }
-    requires errand { F.pre errand }
+    requires meanwhile { F.pre meanwhile }
     ensures done { IfOk result
         (λ ran. All (HasRun (round_numbers round.now) pool.now.jobs) ran.0.items) }
-    ensures errand { IfOk result (λ ran. F.post errand ran.1) }
+    ensures meanwhile { IfOk result (λ ran. F.post meanwhile ran.1) }
 {
     if workers <= 1 {
-        let brought = errand();
+        let outcome = meanwhile();
         let done = run_free(rt, alloc, pool, seat, 0, bank, round, gate)?;
-        return Ok((done, brought));
+        return Ok((done, outcome));
     }
     let worker = workers - 1;
     let theirs = pool.split(&mut seat);
@@ -102,15 +103,15 @@ fn run_together<R: Threads + Wait + Sync, G: Gate + Sync, T: Drop, F: FnOnce() -
     { run_free(rt, alloc, pool, theirs, worker, bank, round, gate) };
     let here = move || -> Result<(Vec<Done>, T), Memory>
         requires { IsSync R.row × IsSync G.row × (seat ≡ pool.now)
-            × (worker ≤ length pool.now.jobs) × F.pre errand
+            × (worker ≤ length pool.now.jobs) × F.pre meanwhile
             × All (λ job. CanRun job × (job.seat.bank ≡ bank.now)) pool.now.jobs }
         ensures { IfOk result (λ ran.
             All (HasRun (round_numbers round.entry.now) pool.entry.now.jobs) ran.0.items
-            × F.post errand ran.1) }
-    { run_together(rt, alloc, pool, seat, worker, bank, round, gate, errand) };
+            × F.post meanwhile ran.1) }
+    { run_together(rt, alloc, pool, seat, worker, bank, round, gate, meanwhile) };
     let (last, others) = thread::join(rt, there, here);
-    let (done, brought) = others?;
-    Ok((both(done, last?)?, brought))
+    let (done, outcome) = others?;
+    Ok((both(done, last?)?, outcome))
 }
 
 /// What two threads have done.

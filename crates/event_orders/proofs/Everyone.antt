@@ -11,11 +11,12 @@ use Rattle.instruction_set.specs.declared.letter.Letter.{Letter}
 use Rattle.lineage_log.specs.Links.{Link}
 use Rattle.organism.specs.Newborns.{NewbornValue}
 use Rattle.organism.specs.OrganismState.{OrganismState}
+use Rattle.organism.specs.OrganismLife.{life_by}
 use Rattle.world_config.specs.Events.{EventValue, WhatValue, inject, clear, rate}
 use Rattle.world_config.specs.Values.{ConfigValues}
 use Rattle.world_rules.specs.World.{Occupant, World, founder_of, founder_link, first_world, ids_of}
 use Rattle.world_rules.specs.Settings.{torus_of, placing_round_at}
-use Rattle.world_rules.specs.Lives.{CellLife, life_by, life_of, life_at, slice_at}
+use Rattle.world_rules.specs.Lives.{CellLife, life_of, life_at, slice_at}
 use Rattle.world_rules.specs.Scene.{Scene, next_id, with_death, cells_from, with_newcomer}
 use Rattle.world_rules.specs.Update.{Delivery, delivery_of, births_by, births_in, births_of, deaths_of, after_lives, after_burials, placings_of, birth_link, child_of_birth, with_newborn, after_births, after_what, after_event, events_at, after_events, last_scene, scene_of_lives, world_of, lives_after, next_scene, next_world}
 use Rattle.world_rules.specs.WorldRun.{world_after}

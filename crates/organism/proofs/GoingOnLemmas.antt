@@ -38,6 +38,21 @@ goes_on-after settings old next new age merit genome words births goes = record 
   lengths = λ h. goes.lengths (subst (LengthsFit settings.rules.greatest) (sym births) h);
 }
 
+-- a step of an organism after which nothing follows
+pub goes_on-quiet : (settings : SettingNumbers) (old new : LifeNow)
+    → new.organism.age ≡ old.organism.age + 1 → new.organism.merit ≡ old.organism.merit
+    → new.organism.genome ≡ old.organism.genome → new.draws.taken ≤ old.draws.taken + 2
+    → new.births ≡ old.births → GoesOn settings 1 1 65536 old new
+goes_on-quiet settings old new age merit genome words births = record {
+  age = omega (arith, age);
+  births = omega (arith, ap length births);
+  taken = omega (arith, words);
+  genome = genome;
+  merit = λ h. omega (arith, merit, h);
+  merits = λ h. subst MeritsFit (sym births) h;
+  lengths = λ h. subst (LengthsFit settings.rules.greatest) (sym births) h;
+}
+
 -- an organism is old just where it has the age of death that it had at the start
 pub old-at : (settings : SettingNumbers) (start now : OrganismState) → now.genome ≡ start.genome
     → now.age < 2 ^ 64 - 1 → (now.age == age_of_death settings start) ≡ is_old settings now

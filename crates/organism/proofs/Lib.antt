@@ -6,3 +6,4 @@ pub mod ImageLemmas
 pub mod LivedLemmas
 pub mod SoundLemmas
 pub mod UpdateLifeLemmas
+pub mod StepLemmas

@@ -9,6 +9,7 @@ pub mod Newborns
 pub mod GoingOn
 pub mod UpdateLife
 pub mod Lived
+pub mod OrganismLife
 pub use Rattle.genome.specs.Genome
 pub use Rattle.virtual_cpu.specs.Machine
 pub use Rattle.virtual_cpu.specs.Step

@@ -18,7 +18,7 @@ use Rattle.organism.specs.declared.outcome.Outcome.TheVariants as outcome
 use Rattle.organism.specs.declared.ran.Ran.{Ran}
 use Rattle.organism.specs.declared.ran.Ran.TheVariants.{Lives, Died}
 use Rattle.organism.specs.SettingNumbers.{SettingNumbers}
-use Rattle.organism.specs.Life.{life_step, divide_merit, renewed}
+use Rattle.organism.specs.Life.{after_letter, life_step, divide_merit, renewed}
 use Rattle.organism.specs.Newborns.{NewbornValue, newborn_value}
 use Rattle.organism.specs.OrganismState.{OrganismState}
 
@@ -110,6 +110,12 @@ after_outcome settings words s (outcome.Viable ask) = record {
   next = after_child settings words s.next s.organism ask;
 }
 after_outcome settings words s _ = s
+
+-- the state once a letter had its effect, and after what follows from it
+abbrev pub after_effect : SettingNumbers → (ℕ → ℕ) → LifeState → Letter → Option Letter → LifeState
+after_effect settings words s letter copy =
+    let stepped = after_letter s.organism letter copy settings.rules in
+    after_outcome settings words (record s { organism = stepped.0 }) stepped.1
 
 -- the state after one more step
 unfoldable pub after_step : SettingNumbers → (ℕ → ℕ) → LifeState → LifeState

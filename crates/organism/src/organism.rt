@@ -229,7 +229,7 @@ impl Organism {
     /// The letter that was taken has its effect, and nothing follows from it.
     #[inline(always)]
     #[tactic(auto, unfolding(crate::specs::Life::after_letter), using(crate::proofs::AnswerLemmas::nothing_follows))]
-    fn perform_quietly(&mut self, letter: Letter, copy: Option<Letter>)
+    pub(crate) fn perform_quietly(&mut self, letter: Letter, copy: Option<Letter>)
         requires age { self.old.age < 2 ^ 63 }
         requires quiet { (letter ≢ Io) × (letter ≢ HDivide) }
         ensures step { (rules : RuleNumbers)
@@ -246,9 +246,9 @@ impl Organism {
 
     /// The letter that was taken has its effect, and what follows from the machine's answer. IO
     /// takes the next input.
-    #[inline(never)]
+    #[inline(always)]
     #[tactic(auto, unfolding(crate::specs::Life::after_letter))]
-    fn perform_telling(
+    pub(crate) fn perform_telling(
         &mut self,
         letter: Letter,
         copy: Option<Letter>,

@@ -1,5 +1,5 @@
 // The life of one update.
-ghost use Rattle.std.specs.Prelude.{◌==◌, ◌≡◌, ◌+◌, ◌*◌, ◌<◌, ◌≤◌, ◌^◌, [], IfOk, OnOk, length};
+ghost use Rattle.std.specs.Prelude.{◌==◌, ◌≡◌, ◌+◌, ◌*◌, ◌<◌, ◌≤◌, ◌^◌, [], IfOk, None, OnOk, length};
 ghost use Rattle.divide_rules.specs.Rules.{rule_numbers};
 ghost use Rattle.genome.specs.Genome.{letters};
 ghost use Rattle.mutations.specs.BirthRecord.{record_of};
@@ -7,7 +7,7 @@ ghost use Rattle.random_streams.specs.RandomStream.{word_of};
 ghost use Rattle.organism.specs.Life.{IsDivide, HasAllowedLength, OnViable};
 ghost use Rattle.organism.specs.GoingOn.{GoesOn, life_now};
 ghost use Rattle.organism.specs.SettingNumbers.{setting_numbers};
-ghost use Rattle.organism.specs.UpdateLife.{life_state, copy_of, after_copy_of, birth_record, child_letters, after_child, after_outcome, after_step, age_of_death, life};
+ghost use Rattle.organism.specs.UpdateLife.{life_state, copy_of, after_copy_of, birth_record, child_letters, after_child, after_effect, after_outcome, after_step, age_of_death, life};
 
 use crate::outcome::Outcome;
 use crate::{Births, Newborn, Organism, Ran, Settings};
@@ -95,8 +95,38 @@ impl Organism {
             (life_now self.new births.new draws.new)) }
     {
         let letter = self.take();
-        let copy = draw_copy(letter, &settings.rates, draws);
-        let outcome = self.perform(letter, copy, &settings.rules);
+        match letter {
+            Letter::Io | Letter::HDivide => self.end_step(alloc, letter, settings, draws, births),
+            _ => {
+                let copy = draw_copy(letter, &settings.rates, draws);
+                self.perform_quietly(letter, copy);
+                Ok(())
+            }
+        }
+    }
+
+    /// The letter that was taken, no h-copy, has its effect, and what follows from it.
+    #[inline(never)]
+    fn end_step(
+        &mut self,
+        alloc: Global,
+        letter: Letter,
+        settings: &Settings,
+        draws: &mut Draws,
+        births: &mut Births,
+    ) -> Result<(), Memory>
+        requires age { self.old.age < 2 ^ 63 }
+        requires room { draws.old.taken < 2 ^ 44 }
+        requires few_births { length births.old < 2 ^ 27 }
+        ensures state { OnOk result (life_state self.new births.new draws.new
+            ≡ after_effect (setting_numbers settings.now) (word_of draws.old)
+            (life_state self.old births.old draws.old) letter None) }
+        ensures stream { OnOk result (draws.new ≡ record draws.old { taken = draws.new.taken }) }
+        ensures bounds { OnOk result (GoesOn (setting_numbers settings.now) 1 1 65536
+            (life_now self.old births.old draws.old)
+            (life_now self.new births.new draws.new)) }
+    {
+        let outcome = self.perform_telling(letter, None, &settings.rules);
         self.follow(alloc, outcome, settings, draws, births)
     }
 

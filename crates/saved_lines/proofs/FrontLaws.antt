@@ -7,7 +7,7 @@ use Rattle.numerals.specs.Numeral.{number_of}
 use Rattle.log_lines.specs.Fields.{Field}
 use Rattle.log_lines.specs.Rows.{Row}
 use Rattle.log_lines.proofs.FieldLaws.{Above, IsField, IsRow, OneNumber, number_law, above_lower, some_map, some_then}
-use Rattle.saved_lines.specs.declared.ranges.Range.{Range}
+use Rattle.saved_lines.specs.declared.range.Range.{Range}
 use Rattle.saved_lines.specs.SavedRows.{Front, with_item, read_several, several, read_within, AreWithin, within, if_last, whole, ◌◁◌}
 
 -- what is written is read again, and what is read was written so, of bytes above c

@@ -6,7 +6,7 @@ use Rattle.std.proofs.lemmas.Bool.{and_parts, leb-true}
 use Rattle.std.proofs.lemmas.Option.{cond_some, some_pair_parts}
 use Rattle.numerals.specs.Numeral.{is_numeral, number_of}
 use Rattle.log_lines.proofs.FieldLaws.{some_map, some_then}
-use Rattle.saved_lines.specs.declared.ranges.Range.{Range}
+use Rattle.saved_lines.specs.declared.range.Range.{Range}
 use Rattle.saved_lines.specs.SavedRows.{with_item, read_within, AreWithin}
 
 -- a number that was read is within its range

@@ -7,7 +7,7 @@ use Rattle.logic_tasks.specs.Inputs.{HasTopBytes, inputs_of, low_of}
 use Rattle.logic_tasks.specs.TaskBits.{bits_of_tasks, tasks_of}
 use Rattle.logic_tasks.specs.TaskBitsLaws.{bit_at-number_of, get_or-tasks_of, length-tasks_of, number_of-tasks_of}
 use Rattle.virtual_cpu.specs.declared.cpu_image.CpuImage.{CpuImage}
-use Rattle.saved_lines.specs.declared.ranges.Range.{Range}
+use Rattle.saved_lines.specs.declared.range.Range.{Range}
 use Rattle.saved_lines.specs.SavedForms.{IsOrganismLine, IsMachineLine}
 use Rattle.saved_lines.specs.SavedReading.{saved_number_at, head_of, organism_of, machine_of, Organism, Machine}
 use Rattle.saved_lines.specs.SavedRows.{AreWithin}

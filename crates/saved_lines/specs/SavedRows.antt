@@ -4,7 +4,7 @@ use Rattle.std.specs.List.{AllByRecursion}
 use Rattle.numerals.specs.Numeral.{number_of}
 use Rattle.log_lines.specs.Fields.{Field}
 use Rattle.log_lines.specs.Rows.{Row}
-use Rattle.saved_lines.specs.declared.ranges.Range.{Range}
+use Rattle.saved_lines.specs.declared.range.Range.{Range}
 
 -- their texts, what is read of the front of some words, with the words behind it, and which values
 -- have such words

@@ -9,7 +9,7 @@ use Rattle.log_lines.specs.LineText.{form_text}
 use Rattle.log_lines.specs.Rows.{Row, last, ◌◂◌}
 use Rattle.virtual_cpu.specs.declared.cpu_image.CpuImage.{CpuImage}
 use Rattle.saved_lines.specs.SavedFields.{signed, nops, marks}
-use Rattle.saved_lines.specs.declared.ranges.Range.{Range}
+use Rattle.saved_lines.specs.declared.range.Range.{Range}
 use Rattle.saved_lines.specs.SavedRows.{from_to, several, within, whole, ◌◁◌}
 use Rattle.saved_lines.specs.SavedValues.{HeadValues, OrganismValues}
 

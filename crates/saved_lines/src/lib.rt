@@ -3,6 +3,7 @@
 
 mod fields;
 pub mod laws;
+mod range;
 mod ranges;
 mod reading;
 mod resident;

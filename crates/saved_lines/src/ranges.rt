@@ -1,12 +1,6 @@
 // The ranges of the numbers in a line.
+use crate::range::Range;
 use genome::{GREATEST_LENGTH, LEAST_LENGTH};
-
-/// The least and the greatest of some numbers.
-#[derive(Clone, Copy)]
-pub struct Range {
-    pub least: u64,
-    pub greatest: u64,
-}
 
 /// A number below 2^32.
 const ANY_SMALL: Range = Range {

@@ -13,7 +13,8 @@ ghost use Rattle.saved_lines.specs.SavedText.{head_ranges, head_row, machine_ran
 ghost use Rattle.saved_lines.specs.SavedValues.{head_values};
 
 use crate::fields;
-use crate::ranges::{HEAD_RANGES, MACHINE_RANGES, ORGANISM_RANGES, Range};
+use crate::range::Range;
+use crate::ranges::{HEAD_RANGES, MACHINE_RANGES, ORGANISM_RANGES};
 use crate::saved_line::{OrganismLine, SavedLine};
 use crate::state_head::StateHead;
 use avida_port::Memory;

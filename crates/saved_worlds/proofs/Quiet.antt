@@ -15,9 +15,10 @@ use Rattle.world_config.specs.Values.{ConfigValues}
 use Rattle.world_rules.specs.World.{Occupant}
 use Rattle.world_rules.specs.Settings.{first_rates, rates_after, rates_at, rules_of, settings_at}
 use Rattle.organism.specs.SettingNumbers.{SettingNumbers}
+use Rattle.organism.specs.OrganismLife.{life_by}
 use Rattle.random_streams.specs.declared.purpose.Purpose.TheVariants.{Run}
 use Rattle.random_streams.specs.RandomStream.{draw}
-use Rattle.world_rules.specs.Lives.{cell_life, life_by, life_of, slices_at, slice_at, lives_of}
+use Rattle.world_rules.specs.Lives.{cell_life, life_of, slices_at, slice_at, lives_of}
 use Rattle.world_rules.specs.Update.{events_at}
 use Rattle.saved_worlds.specs.SavedState.{head_at}
 use Rattle.saved_worlds.specs.Resuming.{config_of_head}

@@ -15,7 +15,7 @@ use Rattle.world_rules.specs.Update.{Delivery, birth_link, with_newborn, after_w
 use Rattle.world_rules.specs.WorldRun.{world_after}
 use Rattle.world_laws.specs.Heredity.{ComesFrom, AreDescended}
 use Rattle.world_laws.specs.LowerLaws.{LifeLaws}
-use Rattle.world_laws.proofs.ListLemmas.{get_last, get_more}
+use Rattle.world_laws.proofs.ListLemmas.{fold-keeps, get_last, get_more}
 use Rattle.world_laws.proofs.Mirror.{People}
 use Rattle.world_laws.proofs.Scenes.{IsScene}
 use Rattle.world_laws.proofs.UpdateLines.{IsTurn, scene_birth, scene_deaths}
@@ -100,10 +100,9 @@ descended_what config scene nth (rate name ppm) are = are
 descended_events : (config : ConfigValues) (scene : Scene) (events : List (ℕ × EventValue))
     → AreDescended scene.everyone → AreDescended (fold (after_event config) scene events).everyone
 unfolding after_event
-descended_events config scene [] are = are
-descended_events config scene (event ∷ events) are =
-    descended_events config (after_what config scene event.0 event.1.what) events
-    (descended_what config scene event.0 event.1.what are)
+descended_events config =
+    fold-keeps (after_event config) (λ scene. AreDescended scene.everyone)
+    (λ scene event are. descended_what config scene event.0 event.1.what are)
 
 -- the founder, who is alone at first, has no record of birth
 founder_descended : (config : ConfigValues)

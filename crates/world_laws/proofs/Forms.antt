@@ -1,7 +1,6 @@
 -- Each line of an update has the form that a log asks for.
-use Rattle.std.proofs.Common.{◌≡◌, ℕ, suc, ◌+◌, ◌<◌, ◌≤◌, List, [], ◌∷◌, length, Option, Some, None, refl, arith, length-append}
-use Rattle.std.specs.Prelude.{option_map}
-use Rattle.std.specs.List.{AllByRecursion, filter_map, cons_option, flat_map, scan, zip}
+use Rattle.std.proofs.Common.{◌≡◌, ℕ, suc, ◌+◌, ◌<◌, ◌≤◌, List, [], ◌∷◌, length, Some, arith, length-append}
+use Rattle.std.specs.List.{AllByRecursion, filter_map, flat_map, scan, zip}
 use Rattle.std.proofs.lemmas.Option.{slice_get_within}
 use Rattle.birth_board.specs.declared.placing.Placing.{Placing}
 use Rattle.log_lines.specs.Line.{Line, Death, Cleared}
@@ -15,6 +14,7 @@ use Rattle.world_rules.specs.Update.{Delivery, birth_link, with_newborn, after_w
 use Rattle.world_rules.specs.LogText.{death_lines, birth_line, cleared_line, what_lines, lines_of_event}
 use Rattle.world_laws.proofs.Mirror.{People}
 use Rattle.world_laws.proofs.Scenes.{IsScene, who_stands, id_small, scene_death}
+use Rattle.world_laws.proofs.LeavingLines.{leaving_lines}
 use Rattle.world_laws.proofs.UpdateLines.{scene_birth, scene_what}
 use Rattle.world_laws.proofs.Placements.{all_append}
 use Rattle.world_laws.proofs.AfterLives.{IsDelivery}
@@ -48,61 +48,42 @@ module _ (size : ℕ) (start : People) (small : size ≤ 65536) where
       over_form (standing_at scene cell) (length scene.everyone)
       (λ id h. (standing_low scene is cell id h).0) (omega (arith, room.ids))
 
-  -- a death leaves a scene its room for newcomers
-  room_death : (scene : Scene) (more cell : ℕ) → HasRoom scene more
-      → HasRoom (with_death scene cell) more
-  unfolding with_death
-  room_death scene more cell room = record { ids = room.ids; early = room.early }
+  -- a scene with room for so many newcomers
+  abbrev Roomy : ℕ → Scene → Type 0
+  Roomy more scene = IsScene size start scene × HasRoom scene more
 
-  -- with the line of one more death, or none, lines still have their forms
-  first_fits : (scene : Scene) (more cell : ℕ) (slot : Option ℕ) (others : List Line)
-      → IsScene size start scene → HasRoom scene more → standing_at scene cell ≡ slot → Forms others
-      → Forms (cons_option (option_map (λ id. Death id scene.update cell) slot) others)
-  first_fits scene more cell None others is room e rest = rest
-  first_fits scene more cell (Some id) others is room e rest =
-      let low = standing_low scene is cell id e in (
-        (
-          (omega arith, omega (arith, low.0, room.ids)),
-          ((omega arith, room.early), (omega arith, omega (arith, low.1, small))),
-        ),
-        rest,
+  -- a death leaves a scene its room for newcomers
+  roomy_death : (more : ℕ) (scene : Scene) (cell : ℕ) → Roomy more scene
+      → Roomy more (with_death scene cell)
+  unfolding with_death
+  roomy_death more scene cell roomy = (
+    scene_death size start scene roomy.0 cell,
+    record { ids = roomy.1.ids; early = roomy.1.early },
+  )
+
+  -- the line of a death has its form, and so has that of who is cleared, which has the same fields
+  leaving_form : (more : ℕ) (scene : Scene) (cell id : ℕ) → Roomy more scene
+      → standing_at scene cell ≡ Some id → HasForm (Death id scene.update cell)
+  leaving_form more scene cell id roomy e =
+      let low = standing_low scene roomy.0 cell id e in (
+        (omega arith, omega (arith, low.0, roomy.1.ids)),
+        ((omega arith, roomy.1.early), (omega arith, omega (arith, low.1, small))),
       )
 
   -- the lines of deaths
   pub deaths_fit : (scene : Scene) (more : ℕ) (cells : List ℕ) → IsScene size start scene
       → HasRoom scene more → Forms (death_lines scene cells)
-  deaths_fit scene more [] is room = tt
-  deaths_fit scene more (cell ∷ cells) is room =
-      let next = with_death scene cell in
-      first_fits scene more cell (standing_at scene cell) (death_lines next cells) is room refl
-      (deaths_fit next more cells (scene_death size start scene is cell)
-      (room_death scene more cell room))
+  deaths_fit scene more cells is room =
+      leaving_lines HasForm (λ s cell id. Death id s.update cell) (Roomy more) (roomy_death more)
+      (leaving_form more) scene cells (is, room)
 
-  -- with the line of one more who is cleared, or none, lines still have their forms
-  cleared_fits : (scene : Scene) (more cell : ℕ) (slot : Option ℕ) (others : List Line)
-      → IsScene size start scene → HasRoom scene more → standing_at scene cell ≡ slot → Forms others
-      → Forms (cons_option (option_map (λ id. Cleared id scene.update cell) slot) others)
-  cleared_fits scene more cell None others is room e rest = rest
-  cleared_fits scene more cell (Some id) others is room e rest =
-      let low = standing_low scene is cell id e in (
-        (
-          (omega arith, omega (arith, low.0, room.ids)),
-          ((omega arith, room.early), (omega arith, omega (arith, low.1, small))),
-        ),
-        rest,
-      )
-
-  -- the lines of all who are cleared from these cells have their forms
-  all_cleared_fit : (scene : Scene) (more : ℕ) (cells : List ℕ) → IsScene size start scene
+  -- the lines of all who are cleared from these cells
+  cleared_fit : (scene : Scene) (more : ℕ) (cells : List ℕ) → IsScene size start scene
       → HasRoom scene more → Forms
       (filter_map (λ line. line) (scan with_death cleared_line scene cells))
-  all_cleared_fit scene more [] is room = tt
-  all_cleared_fit scene more (cell ∷ cells) is room =
-      let next = with_death scene cell in
-      cleared_fits scene more cell (standing_at scene cell)
-      (filter_map (λ line. line) (scan with_death cleared_line next cells)) is room refl
-      (all_cleared_fit next more cells (scene_death size start scene is cell)
-      (room_death scene more cell room))
+  cleared_fit scene more cells is room =
+      leaving_lines HasForm (λ s cell id. Cleared id s.update cell) (Roomy more)
+      (roomy_death more) (leaving_form more) scene cells (is, room)
 
   -- a birth takes the room of one newcomer
   room_birth : (config : ConfigValues) (scene : Scene) (more : ℕ) (turn : Delivery × Placing)
@@ -182,7 +163,7 @@ module _ (start : People) (config : ConfigValues) (fit : IsConfig config) where
         tt,
       )
   what_fit scene more (clear first last) is room fits =
-      all_cleared_fit (size_of config) start (few_cells config fit) scene (suc more)
+      cleared_fit (size_of config) start (few_cells config fit) scene (suc more)
       (cells_from first last) is room
   what_fit scene more (rate name ppm) is room fits =
       (((omega arith, room.early), (tt, (omega arith, fits))), tt)

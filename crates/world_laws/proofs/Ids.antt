@@ -1,7 +1,7 @@
 -- The ids of a run are few: those of all who ever were in its world, and those of its log.
-use Rattle.std.proofs.Common.{◌≡◌, ℕ, zero, suc, ◌+◌, ◌^◌, ◌<◌, ◌≤◌, List, [], ◌∷◌, ◌++◌, length, Option, Some, None, sym, subst, ◌∙◌, arith}
+use Rattle.std.proofs.Common.{◌≡◌, ℕ, zero, suc, ◌+◌, ◌^◌, ◌<◌, ◌≤◌, List, [], ◌∷◌, ◌++◌, length, sym, subst, ◌∙◌, arith}
 use Rattle.std.specs.Prelude.{All, option_map}
-use Rattle.std.specs.List.{AllByRecursion, cons_option, filter_map, flat_map, scan, zip}
+use Rattle.std.specs.List.{AllByRecursion, filter_map, flat_map, scan, zip}
 use Rattle.std.proofs.lemmas.List.Elements.{All-from_recursion}
 use Rattle.std.proofs.lemmas.Option.{slice_get-get_or}
 use Rattle.birth_board.specs.declared.placing.Placing.{Placing}
@@ -17,6 +17,7 @@ use Rattle.world_rules.specs.Descent.{IsNumberedWorld}
 use Rattle.world_rules.specs.WorldRun.{world_after}
 use Rattle.world_laws.specs.LowerLaws.{LifeLaws}
 use Rattle.world_laws.specs.Ranges.{GivesSmallId, HasSmallId}
+use Rattle.world_laws.proofs.LeavingLines.{leaving_lines}
 use Rattle.world_laws.proofs.Mirror.{People}
 use Rattle.world_laws.proofs.Placements.{all_append}
 use Rattle.world_laws.proofs.AfterLives.{IsBorn, births_born}
@@ -32,22 +33,15 @@ use Rattle.world_laws.proofs.Replays.{ReadLaw, run_reads}
 abbrev GiveSmall : List Line → Type 0
 GiveSmall lines = AllByRecursion GivesSmallId lines
 
-module _ (line_of : Scene → ℕ → ℕ → Line)
-    (quiet : (scene : Scene) (cell id : ℕ) → GivesSmallId (line_of scene cell id)) where
-  -- with one more of these lines, or none, those that give small ids still do
-  first_quiet : (scene : Scene) (cell : ℕ) (slot : Option ℕ) (others : List Line)
-      → GiveSmall others → GiveSmall (cons_option (option_map (line_of scene cell) slot) others)
-  first_quiet scene cell None others rest = rest
-  first_quiet scene cell (Some id) others rest = (quiet scene cell id, rest)
-
-  -- the lines of who dies in these cells
-  small_deaths : (scene : Scene) (cells : List ℕ)
-      → GiveSmall (filter_map (λ line. line) (scan with_death
-      (λ s cell. option_map (line_of s cell) (standing_at s cell)) scene cells))
-  small_deaths scene [] = tt
-  small_deaths scene (cell ∷ cells) =
-      first_quiet scene cell (standing_at scene cell) _
-      (small_deaths (with_death scene cell) cells)
+-- the lines of who dies in these cells, or is cleared from them, give no id
+small_deaths : (line_of : Scene → ℕ → ℕ → Line)
+    → ((scene : Scene) (cell id : ℕ) → GivesSmallId (line_of scene cell id))
+    → (scene : Scene) (cells : List ℕ)
+    → GiveSmall (filter_map (λ line. line) (scan with_death
+    (λ s cell. option_map (line_of s cell) (standing_at s cell)) scene cells))
+small_deaths line_of quiet scene cells =
+    leaving_lines GivesSmallId line_of (λ _. Unit {0}) (λ _ _ _. tt) (λ s cell id _ _. quiet s cell id)
+    scene cells tt
 
 module _ (laws : LifeLaws) (config : ConfigValues) (fit : IsConfig config) where
   -- the lines of births

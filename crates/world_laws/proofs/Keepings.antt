@@ -5,12 +5,13 @@ use Rattle.divide_rules.specs.Rules.{RuleNumbers}
 use Rattle.logic_tasks.specs.declared.task.Task.{Task}
 use Rattle.virtual_cpu.specs.declared.step_answer.StepAnswer.{StepAnswer}
 use Rattle.virtual_cpu.specs.declared.step_answer.StepAnswer.TheVariants.{Output, Asks}
+use Rattle.virtual_cpu.specs.Machine.{letter_under_ip}
 use Rattle.organism.specs.declared.outcome.Outcome.{Outcome}
 use Rattle.organism.specs.declared.outcome.Outcome.TheVariants as outcome
 use Rattle.organism.specs.Life.{after_did, after_output, life_step, machine_step, newly_done, older, renewed, with_done}
 use Rattle.organism.specs.OrganismState.{OrganismState}
 use Rattle.organism.specs.SettingNumbers.{SettingNumbers}
-use Rattle.organism.specs.UpdateLife.{LifeState, after_copy, after_outcome, after_step, copy_drawn, death_in, ended, life, life_state_after}
+use Rattle.organism.specs.UpdateLife.{LifeState, after_copy_of, after_outcome, after_step, copy_of, death_in, ended, life, life_state_after}
 use Rattle.world_laws.specs.Keeping.{HasKept}
 
 -- an organism with the genome, the merit and the credited set of another
@@ -69,13 +70,13 @@ more-kept : (settings : SettingNumbers) (words : ℕ → ℕ) (start now : LifeS
     → HasKept start (after_step settings words now)
 unfolding after_step
 more-kept settings words start now kept =
-    let copy = copy_drawn words settings.rates.copy now.next now.organism in
+    let copy = copy_of (letter_under_ip now.organism.machine) words settings.rates.copy now.next in
     let stepped = life_step now.organism copy settings.rules in
     let same = step-alike now.organism copy settings.rules in
     outcome-kept settings words start
     (record now {
       organism = stepped.0;
-      next = after_copy words settings.rates.copy now.next now.organism;
+      next = after_copy_of (letter_under_ip now.organism.machine) words settings.rates.copy now.next;
     }) stepped.1 (record {
       genome = same.genome ∙ kept.genome;
       merit = λ none. same.merit ∙ kept.merit none;

@@ -13,6 +13,7 @@ mod Endings
 mod Runs
 mod WholeLogs
 mod FormLemmas
+mod LeavingLines
 mod Forms
 mod RunForms
 mod Replays

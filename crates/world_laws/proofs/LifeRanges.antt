@@ -10,7 +10,7 @@ use Rattle.logic_tasks.specs.LogicTasks.{task_place}
 use Rattle.logic_tasks.specs.declared.task.Task.{Task}
 use Rattle.virtual_cpu.specs.declared.step_answer.StepAnswer.{StepAnswer}
 use Rattle.virtual_cpu.specs.declared.step_answer.StepAnswer.TheVariants.{Output, Asks}
-use Rattle.virtual_cpu.specs.Machine.{Machine}
+use Rattle.virtual_cpu.specs.Machine.{Machine, letter_under_ip}
 use Rattle.virtual_cpu.specs.Step.{KeepsLimits, step}
 use Rattle.organism.specs.declared.outcome.Outcome.{Outcome}
 use Rattle.organism.specs.declared.outcome.Outcome.TheVariants as outcome
@@ -19,7 +19,7 @@ use Rattle.organism.specs.Life.{after_did, after_output, life_step, machine_step
 use Rattle.organism.specs.Newborns.{NewbornValue}
 use Rattle.organism.specs.OrganismState.{OrganismState}
 use Rattle.organism.specs.SettingNumbers.{SettingNumbers}
-use Rattle.organism.specs.UpdateLife.{LifeState, after_copy, after_outcome, after_step, copy_drawn, death_in, dies_at, ended, is_death, is_old, life, life_state_after, newborn_of}
+use Rattle.organism.specs.UpdateLife.{LifeState, after_copy_of, after_outcome, after_step, copy_of, death_in, dies_at, ended, is_death, is_old, life, life_state_after, newborn_of}
 use Rattle.world_laws.proofs.Keepings.{steps-kept}
 use Rattle.world_laws.proofs.Placements.{all_append}
 
@@ -127,9 +127,9 @@ module _ (keep : KeepLimits) (settings : SettingNumbers) (words : ℕ → ℕ) w
       → LivesWithNine limit (after_step settings words s)
   unfolding after_step
   more-nine limit s has =
-      let copy = copy_drawn words settings.rates.copy s.next s.organism in
+      let copy = copy_of (letter_under_ip s.organism.machine) words settings.rates.copy s.next in
       let stepped = life_step s.organism copy settings.rules in
-      let next = after_copy words settings.rates.copy s.next s.organism in
+      let next = after_copy_of (letter_under_ip s.organism.machine) words settings.rates.copy s.next in
       outcome-nine settings words limit (record s { organism = stepped.0; next = next }) stepped.1
       (record {
         organism = (step-of-age keep s.organism copy settings.rules).nine limit has.organism;
@@ -142,9 +142,9 @@ module _ (keep : KeepLimits) (settings : SettingNumbers) (words : ℕ → ℕ) w
       ⊎ ((after_step settings words s).organism.age ≡ 0)
   unfolding after_step
   more-age s =
-      let copy = copy_drawn words settings.rates.copy s.next s.organism in
+      let copy = copy_of (letter_under_ip s.organism.machine) words settings.rates.copy s.next in
       let stepped = life_step s.organism copy settings.rules in
-      let next = after_copy words settings.rates.copy s.next s.organism in
+      let next = after_copy_of (letter_under_ip s.organism.machine) words settings.rates.copy s.next in
       let between : LifeState = record s { organism = stepped.0; next = next } in
       let told = step-of-age keep s.organism copy settings.rules in
       elim (outcome-age settings words between stepped.1) [

@@ -1,9 +1,9 @@
--- Lists that were written at a place, or grew at their end.
+-- Lists that were written at a place, or grew at their end, and folds over lists.
 use Rattle.std.proofs.Common.{◌≡◌, ◌≢◌, ℕ, zero, suc, ◌+◌, ◌<◌, true, List, [], ◌∷◌, ◌++◌, map, length, drop, Option, Some, None, refl, sym, ap, subst, arith, eq-eqb, ◌⊎◌, inl, inr, ◌∙◌}
 use Rattle.std.proofs.lemmas.Bool.{cases_eq}
 use Rattle.std.proofs.lemmas.List.{length-set, set-get_or}
 use Rattle.std.proofs.lemmas.Option.{slice_get_within}
-use Rattle.std.specs.Prelude.{slice_get, slice_set, slice_index_or, ◌==◌, replicate}
+use Rattle.std.specs.Prelude.{slice_get, slice_set, slice_index_or, ◌==◌, fold, replicate}
 
 -- what was written at a place stands there
 pub get_written : {X : Type 0} (xs : List X) (i : ℕ) (x : X) → i < length xs
@@ -102,3 +102,9 @@ get_dropped zero xs j = let e : j ≡ 0 + j = omega arith in ap (slice_get xs) e
 get_dropped (suc n) [] j = refl
 get_dropped (suc n) (x ∷ xs) j =
     let e : suc n + j ≡ suc (n + j) = omega arith in rw e (get_dropped n xs j)
+
+-- what each step keeps, a fold keeps
+pub fold-keeps : {A B : Type 0} (f : B → A → B) (P : B → Type 0)
+    → ((b : B) (x : A) → P b → P (f b x)) → (b : B) (xs : List A) → P b → P (fold f b xs)
+fold-keeps f P keeps b [] h = h
+fold-keeps f P keeps b (x ∷ xs) h = fold-keeps f P keeps (f b x) xs (keeps b x h)

@@ -10,10 +10,11 @@ use Rattle.random_streams.specs.RandomStream.{draw}
 use Rattle.organism.specs.Newborns.{NewbornValue}
 use Rattle.organism.specs.UpdateLife.{life}
 use Rattle.organism.specs.Lived.{IsSoundOrganism, IsBornOf, beginning}
+use Rattle.organism.specs.OrganismLife.{life_by}
 use Rattle.world_config.specs.Values.{ConfigValues}
 use Rattle.world_rules.specs.World.{Occupant}
 use Rattle.world_rules.specs.Settings.{rules_of, settings_at}
-use Rattle.world_rules.specs.Lives.{CellLife, life_by, life_of, life_at, lives_of, slice_at}
+use Rattle.world_rules.specs.Lives.{CellLife, life_of, life_at, lives_of, slice_at}
 use Rattle.world_laws.specs.LowerLaws.{LifeLaws}
 use Rattle.world_laws.proofs.ListLemmas.{got_some}
 use Rattle.world_laws.proofs.Scenes.{Each}

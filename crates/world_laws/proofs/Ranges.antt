@@ -16,9 +16,10 @@ use Rattle.birth_board.specs.declared.placing.Placing.{Placing}
 use Rattle.organism.specs.Lived.{IsSoundOrganism, beginning}
 use Rattle.organism.specs.OrganismState.{new_organism}
 use Rattle.organism.specs.UpdateLife.{life}
+use Rattle.organism.specs.OrganismLife.{life_by}
 use Rattle.world_config.specs.Events.{EventValue, WhatValue, inject, clear, rate}
 use Rattle.world_config.specs.Values.{ConfigValues}
-use Rattle.world_rules.specs.Lives.{CellLife, life_at, life_by, life_of, lives_of, no_life, slice_at, slices_at}
+use Rattle.world_rules.specs.Lives.{CellLife, life_at, life_of, lives_of, no_life, slice_at, slices_at}
 use Rattle.world_rules.specs.Scene.{Scene, cells_from, next_id}
 use Rattle.world_rules.specs.Settings.{settings_at, placing_round_at, torus_of}
 use Rattle.world_rules.specs.Update.{Delivery, after_births, after_burials, after_event, after_events, after_lives, after_what, birth_link, births_of, child_of_birth, deaths_of, events_at, last_scene, lives_after, next_scene, next_world, placings_of, scene_of_lives, with_newborn}

@@ -18,6 +18,7 @@ use Rattle.world_rules.specs.World.{founder_of, founder_link}
 use Rattle.world_rules.specs.Scene.{Scene, next_id, standing_at, with_death, with_deaths, cells_from}
 use Rattle.world_rules.specs.Update.{Delivery, birth_link, child_of_birth, with_newborn, after_what, after_event}
 use Rattle.world_rules.specs.LogText.{death_lines, birth_line, cleared_line, what_lines, lines_of_event}
+use Rattle.world_laws.proofs.ListLemmas.{fold-keeps}
 use Rattle.world_laws.proofs.Mirror.{People, Passes, no_lines, more_lines}
 use Rattle.world_laws.proofs.Scenes.{IsScene, no_death, scene_death, scene_newcomer}
 use Rattle.world_laws.proofs.Steps.{one_death, one_cleared, one_rate, one_injected, one_birth}
@@ -63,9 +64,8 @@ pub record ToEvents (start : People) (stage : Stage) (births : ℕ) (scene : Sce
 -- all deaths keep a scene
 pub scene_deaths : (size : ℕ) (start : People) (scene : Scene) (cells : List ℕ)
     → IsScene size start scene → IsScene size start (with_deaths scene cells)
-scene_deaths size start scene [] is = is
-scene_deaths size start scene (cell ∷ cells) is =
-    scene_deaths size start (with_death scene cell) cells (scene_death size start scene is cell)
+scene_deaths size start =
+    fold-keeps with_death (IsScene size start) (λ scene cell is. scene_death size start scene is cell)
 
 -- one cell of those that may die of age
 death_first : (start : People) (stage : Stage) (births : ℕ) (scene : Scene) (cell : ℕ)
@@ -154,10 +154,8 @@ scene_birth size start config scene turn is =
 pub scene_births : (size : ℕ) (start : People) (config : ConfigValues) (scene : Scene)
     (turns : List (Delivery × Placing)) → IsScene size start scene
     → IsScene size start (fold (with_newborn config) scene turns)
-scene_births size start config scene [] is = is
-scene_births size start config scene (turn ∷ turns) is =
-    scene_births size start config (with_newborn config scene turn) turns
-    (scene_birth size start config scene turn is)
+scene_births size start config =
+    fold-keeps (with_newborn config) (IsScene size start) (scene_birth size start config)
 
 -- the line of a birth
 pub turn_passes : (size : ℕ) (start : People) (stage : Stage) (births : ℕ) (config : ConfigValues)
@@ -251,10 +249,8 @@ scene_event size start config scene event is =
 pub scene_events : (size : ℕ) (start : People) (config : ConfigValues) (scene : Scene)
     (events : List (ℕ × EventValue)) → IsScene size start scene
     → IsScene size start (fold (after_event config) scene events)
-scene_events size start config scene [] is = is
-scene_events size start config scene (event ∷ events) is =
-    scene_events size start config (after_event config scene event) events
-    (scene_event size start config scene event is)
+scene_events size start config =
+    fold-keeps (after_event config) (IsScene size start) (scene_event size start config)
 
 -- after the lines of an event that is given with its place events may come
 event_passes : (size : ℕ) (start : People) (stage : Stage) (births : ℕ) (config : ConfigValues)

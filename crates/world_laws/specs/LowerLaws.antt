@@ -1,5 +1,6 @@
 -- What the laws of runs take from the crates below.
-use Rattle.std.specs.Prelude.{◌≡◌, ℕ, ◌*◌, ◌^◌, ◌<◌, ◌≤◌, Bool, List, [], ◌∷◌, ◌++◌, length, Some, slice_get, sum}
+use Rattle.std.specs.Prelude.{◌≡◌, ℕ, ◌*◌, ◌^◌, ◌<◌, ◌≤◌, Bool, List, [], ◌∷◌, ◌++◌, length, Some}
+use Rattle.std.specs.Prelude.{slice_get, sum}
 use Rattle.instruction_set.specs.declared.letter.Letter.{Letter}
 use Rattle.genome.specs.Genome.{IsGenome}
 use Rattle.divide_rules.specs.Rules.{AreRules}
@@ -12,7 +13,8 @@ use Rattle.organism.specs.SettingNumbers.{SettingNumbers}
 use Rattle.organism.specs.UpdateLife.{life}
 use Rattle.lineage_log.specs.Links.{Link}
 use Rattle.world_config.specs.Values.{ConfigValues}
-use Rattle.world_rules.specs.Descent.{AreNumbered, IsNumberedWorld, descent_line_of, descent_lines_of, line_of_parent}
+use Rattle.world_rules.specs.Descent.{AreNumbered, IsNumberedWorld, descent_line_of}
+use Rattle.world_rules.specs.Descent.{descent_lines_of, line_of_parent}
 use Rattle.world_rules.specs.WorldRun.{world_after}
 
 -- what is proved of one life, of words, of new organisms and of slices

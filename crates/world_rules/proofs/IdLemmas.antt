@@ -8,11 +8,12 @@ use Rattle.std.proofs.lemmas.List.Elements.{All-map, All-set, All-weaker, All-re
 use Rattle.birth_board.specs.declared.placing.Placing.{Placing}
 use Rattle.organism.specs.Newborns.{NewbornValue}
 use Rattle.organism.specs.OrganismState.{OrganismState}
+use Rattle.organism.specs.OrganismLife.{life_by}
 use Rattle.lineage_log.specs.Links.{Link}
 use Rattle.world_config.specs.Events.{EventValue, WhatValue, inject, clear, rate}
 use Rattle.world_config.specs.Values.{ConfigValues}
 use Rattle.world_rules.specs.World.{Occupant, World, id_of, founder_of, founder_link, first_world}
-use Rattle.world_rules.specs.Lives.{CellLife, life_by, life_of, life_at, slice_at, lives_of}
+use Rattle.world_rules.specs.Lives.{CellLife, life_of, life_at, slice_at, lives_of}
 use Rattle.world_rules.specs.Scene.{Scene, next_id, with_death, cells_from, with_newcomer}
 use Rattle.world_rules.specs.Update.{Delivery, delivery_of, births_by, births_in, births_of, deaths_of, after_lives, after_burials, placings_of, birth_link, child_of_birth, with_newborn, turns_of, after_births, after_what, after_event, events_at, after_events, last_scene, scene_of_lives, lives_after, next_scene, next_world, world_of}
 use Rattle.world_rules.specs.WorldRun.{world_after}

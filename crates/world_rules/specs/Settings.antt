@@ -9,7 +9,7 @@ use Rattle.mutations.specs.declared.rate_name.RateName.{RateName}
 use Rattle.mutations.specs.declared.rate_name.RateName.TheVariants.{Copy, Insert, Delete, SitePoint, SiteInsert, SiteDelete}
 use Rattle.mutations.specs.Rates.{RateNumbers}
 use Rattle.organism.specs.SettingNumbers.{SettingNumbers}
-use Rattle.world_config.specs.Events.{EventValue, WhatValue, inject, clear, rate}
+use Rattle.world_config.specs.Events.{EventValue, WhatValue, rate}
 use Rattle.world_config.specs.Values.{ConfigValues}
 
 -- the rates at the keys
@@ -34,9 +34,8 @@ with_rate rates SiteDelete ppm = record rates { site_delete = ppm }
 
 -- the rates after what an event does
 abbrev pub rates_after_what : RateNumbers → WhatValue → RateNumbers
-rates_after_what rates (inject cell letters) = rates
-rates_after_what rates (clear first last) = rates
 rates_after_what rates (rate name ppm) = with_rate rates name ppm
+rates_after_what rates _ = rates
 
 -- the rates after an event
 abbrev pub rates_after : RateNumbers → EventValue → RateNumbers

@@ -56,10 +56,14 @@ once what = record { update = 1; what = what } ∷ []
 abbrev pub one_link : List Link
 one_link = founder_link 0 0 0 (eight NopA) ∷ []
 
+-- the life of the founder, with these newborns
+abbrev pub founder_life : OrganismState → Bool → List NewbornValue → List CellLife
+founder_life o died newborns =
+    record { occupant = Some (record { id = 0; organism = o }); died = died; newborns = newborns } ∷ []
+
 -- a life without newborns
 abbrev pub barren : OrganismState → Bool → List CellLife
-barren o died =
-    record { occupant = Some (record { id = 0; organism = o }); died = died; newborns = [] } ∷ []
+barren o died = founder_life o died []
 
 -- the scene of an update as that life has ended
 abbrev pub scene_after_life : ℕ → OrganismState → Bool → Scene
@@ -82,13 +86,7 @@ child nth merit =
 
 -- a life that ended by age, of an organism that bore two
 abbrev pub fertile : OrganismState → List CellLife
-fertile o =
-    record {
-      occupant = Some (record { id = 0; organism = o });
-      died = true;
-      newborns = child 0 8 ∷ child 1 16 ∷ [];
-    }
-    ∷ []
+fertile o = founder_life o true (child 0 8 ∷ child 1 16 ∷ [])
 
 -- the scene of update 1 as that life has ended
 abbrev pub after_fertile : OrganismState → Scene

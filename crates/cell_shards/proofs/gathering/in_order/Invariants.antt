@@ -5,4 +5,4 @@ use Rattle.cell_shards.proofs.gathering.in_order.Given as goal
 abbrev pub invariant-loop-one : goal.invariant-loop-one
 invariant-loop-one l =
     Gathered l.pool.jobs (into_iter_items l.initial.one-iterator) (into_iter_items l.one-iterator)
-    l.places.items
+    l.all.items

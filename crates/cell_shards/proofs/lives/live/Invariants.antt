@@ -8,6 +8,6 @@ abbrev pub invariant-loop-place : goal.invariant-loop-place
 invariant-loop-place g l = record {
   long : l.cells.len ≡ l.initial.cells.len;
   lives : HaveLived (round_numbers l.round) (part_of l.fn.job) l.place l.cells.items
-      l.standings.items (map birth_of l.births) l.dead;
-  seat : HasInterned l.fn.job.seat l.seat l.births;
+      l.left.standings (map birth_of l.left.births) l.left.dead;
+  seat : HasInterned l.fn.job.seat l.left.seat l.left.births;
 }

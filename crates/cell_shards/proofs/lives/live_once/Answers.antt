@@ -4,14 +4,14 @@ use Rattle.organism.specs.Lived.{beginning}
 use Rattle.organism.specs.Newborns.{newborn_value}
 use Rattle.organism.specs.OrganismState.{OrganismState}
 use Rattle.organism.specs.UpdateLife.{life_state}
-use Rattle.cell_shards.specs.Bodies.{who_is}
+use Rattle.cell_shards.specs.Bodies.{organism_once_made}
 use Rattle.cell_shards.specs.CellLives.{round_numbers}
 use Rattle.cell_shards.proofs.LivesLemmas.{life_of-run}
 use Rattle.cell_shards.proofs.lives.live_once.Goals as goal
 
 pub returns-clause-life : goal.returns-clause-life
 returns-clause-life c =
-    let o : OrganismState = who_is c.args.body.now.organism c.args.body.now.unmade in
+    let o : OrganismState = organism_once_made c.args.body.now.organism c.args.body.now.pending in
     let begins : life_state c.make.new.self.organism c.none-births.result c.start-draws.result
     ≡ beginning o = λ i. record {
       organism = c.in_ok-make.ensures.organism i;

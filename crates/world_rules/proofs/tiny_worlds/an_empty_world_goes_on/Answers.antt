@@ -2,7 +2,8 @@ use Rattle.std.proofs.Common.{refl}
 use Rattle.world_rules.specs.WorldRun.{world_after}
 use Rattle.world_rules.specs.Update.{after_births, after_burials, after_event, after_events, births_of, deaths_of, events_at, last_scene, next_scene, next_world, placings_of, scene_of_lives}
 use Rattle.world_rules.specs.LogText.{lines_of_lives, update_lines}
-use Rattle.world_rules.specs.Lives.{life_by, life_of, lives_of, slices_at}
+use Rattle.organism.specs.OrganismLife.{life_by}
+use Rattle.world_rules.specs.Lives.{life_of, lives_of, slices_at}
 use Rattle.world_rules.specs.Settings.{rates_at, settings_at}
 use Rattle.world_rules.specs.Scene.{with_death}
 use Rattle.world_rules.specs.Statistics.{stats_in}

@@ -1,6 +1,7 @@
 use Rattle.std.proofs.Common.{refl}
 use Rattle.world_rules.specs.LogText.{lines_of_lives, update_lines}
-use Rattle.world_rules.specs.Lives.{life_by, life_of, lives_of, slices_at}
+use Rattle.organism.specs.OrganismLife.{life_by}
+use Rattle.world_rules.specs.Lives.{life_of, lives_of, slices_at}
 use Rattle.world_rules.specs.Settings.{rates_at, settings_at}
 use Rattle.world_rules.specs.Update.{after_births, after_burials, after_event, after_events, births_of, deaths_of, events_at, last_scene, placings_of}
 use Rattle.world_rules.specs.Scene.{with_death}

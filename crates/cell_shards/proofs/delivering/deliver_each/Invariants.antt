@@ -4,7 +4,7 @@ use Rattle.genotype_bank.specs.Seats.{SeatValue}
 use Rattle.organism.specs.Newborns.{newborn_value}
 use Rattle.cell_shards.specs.CellLives.{born_in}
 use Rattle.cell_shards.specs.Finishing.{HasInterned, birth_of}
-use Rattle.cell_shards.proofs.delivering.deliver.Given as goal
+use Rattle.cell_shards.proofs.delivering.deliver_each.Given as goal
 
 abbrev pub invariant-loop-newborn : goal.invariant-loop-newborn
 invariant-loop-newborn g l = record {

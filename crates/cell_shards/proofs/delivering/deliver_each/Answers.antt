@@ -4,7 +4,7 @@ use Rattle.organism.specs.Newborns.{NewbornValue, newborn_value}
 use Rattle.organism.specs.declared.newborn.Newborn.{Newborn}
 use Rattle.cell_shards.specs.CellLives.{born_in}
 use Rattle.cell_shards.proofs.InterningLemmas.{HasInterned-more, births-more}
-use Rattle.cell_shards.proofs.delivering.deliver.Goals as goal
+use Rattle.cell_shards.proofs.delivering.deliver_each.Goals as goal
 
 pub loop-newborn-preserved : goal.loop-newborn-preserved
 loop-newborn-preserved g c =

@@ -5,9 +5,9 @@ use organism::Organism;
 use std::alloc::Global;
 use std::sync::Arc;
 
-/// What an organism begins with that isn't made yet.
+/// What a newborn begins with that has its cell and isn't made yet.
 #[derive(Drop)]
-pub(crate) struct Unmade {
+pub(crate) struct PendingBirth {
     pub(crate) genome: Arc<Genome, Global>,
     pub(crate) inputs: Inputs,
     pub(crate) merit: u64,
@@ -15,7 +15,7 @@ pub(crate) struct Unmade {
     pub(crate) memory_limit: u32,
 }
 
-impl Unmade {
+impl PendingBirth {
     ghost use Rattle.std.specs.Prelude.{◌≡◌, IfOk, OnOk};
     ghost use Rattle.cell_shards.specs.Bodies.{Fits, begun};
 
@@ -39,7 +39,7 @@ impl Unmade {
         requires { Fits self }
         ensures { OnOk result (organism.new ≡ begun self) }
     {
-        let Unmade {
+        let PendingBirth {
             genome,
             inputs,
             merit,

@@ -1,0 +1,40 @@
+-- One step within an update, by whether something follows from its letter.
+use Rattle.std.proofs.Common.{◌≡◌, ◌∙◌, ap, refl, sym, ℕ, false, None}
+use Rattle.instruction_set.specs.declared.letter.Letter.{Letter}
+use Rattle.virtual_cpu.specs.Machine.{letter_under_ip, with_ip_marked}
+use Rattle.virtual_cpu.specs.Step.{step}
+use Rattle.organism.specs.Life.{after_letter, life_step}
+use Rattle.organism.specs.OrganismState.{OrganismState}
+use Rattle.organism.specs.SettingNumbers.{SettingNumbers}
+use Rattle.organism.specs.UpdateLife.{LifeState, after_effect, after_outcome, after_step, after_copy_of, copy_of, is_copy}
+use Rattle.organism.specs.declared.outcome.Outcome.{Outcome}
+use Rattle.organism.specs.declared.outcome.Outcome.TheVariants.{Nothing}
+
+module _ (settings : SettingNumbers) (words : ℕ → ℕ) (s : LifeState) (letter : Letter)
+    (marked : OrganismState) (taken : letter ≡ letter_under_ip s.organism.machine)
+    (mark : marked ≡ record s.organism { machine = with_ip_marked s.organism.machine }) where
+  -- a step is the effect of the letter under IP, once the test for a copy error is done
+  step-effect : after_step settings words s ≡ after_effect settings words (record s {
+    organism = marked;
+    next = after_copy_of letter words settings.rates.copy s.next;
+  }) letter (copy_of letter words settings.rates.copy s.next)
+  unfolding after_step life_step after_letter step
+  step-effect = rw (taken, mark) refl
+
+  -- where the letter draws nothing
+  pub step-tells : is_copy letter ≡ false
+      → after_effect settings words (record s { organism = marked }) letter None
+      ≡ after_step settings words s
+  step-tells no_copy = sym (rw no_copy at step-effect)
+
+  -- where nothing follows
+  pub step-quiet : (next : OrganismState)
+      → (next, Nothing)
+      ≡ after_letter marked letter (copy_of letter words settings.rates.copy s.next) settings.rules
+      → record s { organism = next; next = after_copy_of letter words settings.rates.copy s.next }
+      ≡ after_step settings words s
+  step-quiet next quiet =
+      ap (λ (stepped : OrganismState × Outcome). after_outcome settings words (record s {
+        organism = stepped.0;
+        next = after_copy_of letter words settings.rates.copy s.next;
+      }) stepped.1) quiet ∙ sym step-effect
