@@ -20,7 +20,7 @@ use Rattle.avida_program.specs.Status.{Ended}
 -- the row of a command that only reads and writes
 abbrev pub OnlyReads : {A : Type 0} → (List ℕ → Result A Refusal) → (A → List ℕ) → Command → Type 0
 OnlyReads input_of text_of command =
-    (work : Work) (told : Ended) → Reads input_of text_of work told → Does command work told
+    (work : Work) (ended : Ended) → Reads input_of text_of work ended → Does command work ended
 
 -- a call that read and wrote, and left all else
 abbrev pub read_and_wrote : Change SourceState → Change SinkState → SinkState → Option WorldValue

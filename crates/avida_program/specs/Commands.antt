@@ -47,8 +47,8 @@ ReadsInput looks read text_of work (Err error.Memory) =
 -- a command that reads its input so, and writes this text of it
 abbrev pub Reads : {A : Type 0} →
     (List ℕ → Result A Refusal) → (A → List ℕ) → Work → Ended → Type 0
-Reads input_of text_of work told =
-    OnBytes work.source (λ bytes. ReadsInput None (input_of bytes) text_of work told)
+Reads input_of text_of work ended =
+    OnBytes work.source (λ bytes. ReadsInput None (input_of bytes) text_of work ended)
 
 -- where a put failed, a watcher of so many looks has written pictures or a prefix of their lines,
 -- and the log is whole unless a put to `out` failed
@@ -68,24 +68,24 @@ Watches looks read work (Err error.Memory) = Stays work.watch
     ⊎ IsInputWith read (λ config. GainedPicturesFront looks config work.watch)
 
 -- `run`, perhaps with a watcher
-pub record Runs (looks : Option ℕ) (work : Work) (told : Ended) : Type 0 where
+pub record Runs (looks : Option ℕ) (work : Work) (ended : Ended) : Type 0 where
   pub reads : OnBytes work.source (λ bytes.
-      ReadsInput looks (configuration_of bytes) run_text work told)
+      ReadsInput looks (configuration_of bytes) run_text work ended)
   pub watches : OnBytes work.source (λ bytes.
-      IfSome looks (λ n. Watches n (configuration_of bytes) work told))
+      IfSome looks (λ n. Watches n (configuration_of bytes) work ended))
   -- Done: the world after the last update is left
-  pub last_world : OnOk told (OnBytes work.source (λ bytes.
+  pub last_world : OnOk ended (OnBytes work.source (λ bytes.
       IsInputWith (configuration_of bytes) (LeavesFinal work.last)))
   -- Done: what `out` gained is a log that replays to who lives in the world that is left
-  pub replays : OnOk told ((world : WorldValue) → work.last.after ≡ Some world
+  pub replays : OnOk ended ((world : WorldValue) → work.last.after ≡ Some world
       → GainedLogOf work.out world)
 
 -- `lineage` of a cell
-pub record Descends (cell : ℕ) (work : Work) (told : Ended) : Type 0 where
+pub record Descends (cell : ℕ) (work : Work) (ended : Ended) : Type 0 where
   -- a cell that is not in the world is refused
-  pub reads : Reads (lineage_input_of cell) (λ config. path_text config cell) work told
+  pub reads : Reads (lineage_input_of cell) (λ config. path_text config cell) work ended
   -- Done: the world after the last update is left
-  pub last_world : OnOk told (OnBytes work.source (λ bytes.
+  pub last_world : OnOk ended (OnBytes work.source (λ bytes.
       IsInputWith (lineage_input_of cell bytes) (LeavesFinal work.last)))
 
 -- a text is written whole, or a prefix of it where a put fails or memory runs out
@@ -98,51 +98,51 @@ WritesText text out (Err error.WriteFault) = SinkFailed out × GainedFront out t
 WritesText text out (Err error.Memory) = GainedFront out text
 
 -- `bench` of a seed, which reads nothing
-pub record Benches (seed : ℕ) (work : Work) (told : Ended) : Type 0 where
+pub record Benches (seed : ℕ) (work : Work) (ended : Ended) : Type 0 where
   pub source_stays : Stays work.source
-  pub writes : WritesText (bench_text seed) work.out told
+  pub writes : WritesText (bench_text seed) work.out ended
   -- Done: the world after the last update is left
-  pub last_world : OnOk told (LeavesFinal work.last (bench_config seed))
+  pub last_world : OnOk ended (LeavesFinal work.last (bench_config seed))
 
 -- what each command reads, writes and leaves
 abbrev pub Does : Command → Work → Ended → Type 0
-Does (Trace trace) work told = Reads (genome_of_input (spelling_of trace.org))
-    (λ genome. trace_text genome trace.inputs trace.steps) work told
-Does (Run run) work told = Runs run.watch work told
-Does (Lineage lineage) work told = Descends lineage.cell work told
-Does (Bench bench) work told = Benches bench.seed work told
-Does (Assay assay) work told = Reads (assay_input_of assay.count)
-    (λ config. assay_text config assay.first assay.count) work told
-Does (Save workers) work told = Reads configuration_of save_text work told
-Does (Resume resume) work told = Reads (resume_input_of resume.more)
-    (λ state. continued_text state resume.more) work told
-Does (Advance advance) work told = Reads (resume_input_of advance.more)
-    (λ state. advanced_text state advance.more) work told
-Does Replay work told = Reads log_input_of replay_text work told
-Does Upgrade work told = Reads log_input_of upgrade_text work told
-Does Tree work told = Reads log_input_of tree_text work told
-Does (Landscape steps) work told =
-    Reads (genome_of_input Letters) (λ genome. landscape_text genome steps) work told
+Does (Trace trace) work ended = Reads (genome_of_input (spelling_of trace.org))
+    (λ genome. trace_text genome trace.inputs trace.steps) work ended
+Does (Run run) work ended = Runs run.watch work ended
+Does (Lineage lineage) work ended = Descends lineage.cell work ended
+Does (Bench bench) work ended = Benches bench.seed work ended
+Does (Assay assay) work ended = Reads (assay_input_of assay.count)
+    (λ config. assay_text config assay.first assay.count) work ended
+Does (Save workers) work ended = Reads configuration_of save_text work ended
+Does (Resume resume) work ended = Reads (resume_input_of resume.more)
+    (λ state. continued_text state resume.more) work ended
+Does (Advance advance) work ended = Reads (resume_input_of advance.more)
+    (λ state. advanced_text state advance.more) work ended
+Does Replay work ended = Reads log_input_of replay_text work ended
+Does Upgrade work ended = Reads log_input_of upgrade_text work ended
+Does Tree work ended = Reads log_input_of tree_text work ended
+Does (Landscape steps) work ended =
+    Reads (genome_of_input Letters) (λ genome. landscape_text genome steps) work ended
 
 -- a command is carried out, and ends so
-pub record CarriesOut (command : Command) (work : Work) (told : Ended) : Type 0 where
+pub record CarriesOut (command : Command) (work : Work) (ended : Ended) : Type 0 where
   -- the words are good, and each fault has its cause, whatever the streams tell
-  pub words : told ≢ Err error.BadWords
-  pub read_fault : told ≡ Err error.ReadFault → SourceFailed work.source
-  pub write_fault : told ≡ Err error.WriteFault
+  pub words : ended ≢ Err error.BadWords
+  pub read_fault : ended ≡ Err error.ReadFault → SourceFailed work.source
+  pub write_fault : ended ≡ Err error.WriteFault
       → PutFailed (looks_of command) work.out work.watch
   -- what stays: the watch without a watcher, and the last world but where all is done and the
   -- command leaves one
   pub watch_stays : looks_of command ≡ None → Stays work.watch
-  pub last_stays : OnErr told (Stays work.last)
+  pub last_stays : OnErr ended (Stays work.last)
   pub no_world : leaves_world command ≡ false → Stays work.last
   -- what the command itself does
-  pub does : Does command work told
+  pub does : Does command work ended
 
 -- the words give no command: they are refused, unless memory runs out, and nothing is read, written
 -- or left
-pub record DoesNothing (work : Work) (told : Ended) : Type 0 where
-  pub refused : (told ≡ Err error.BadWords) ⊎ (told ≡ Err error.Memory)
+pub record DoesNothing (work : Work) (ended : Ended) : Type 0 where
+  pub refused : (ended ≡ Err error.BadWords) ⊎ (ended ≡ Err error.Memory)
   pub source_stays : Stays work.source
   pub out_stays : Stays work.out
   pub watch_stays : Stays work.watch
@@ -150,14 +150,14 @@ pub record DoesNothing (work : Work) (told : Ended) : Type 0 where
 
 -- what the words give is carried out, and ends so
 abbrev pub Obeys : Option Command → Work → Ended → Type 0
-Obeys None work told = DoesNothing work told
-Obeys (Some command) work told = CarriesOut command work told
+Obeys None work ended = DoesNothing work ended
+Obeys (Some command) work ended = CarriesOut command work ended
 
 -- a call ends with this status: what it did, by how it ended, which is the status and the reason of
 -- a refusal, and the line on `err` that tells of it
 pub record Serves (command : Option Command) (work : Work) (err : Change SinkState) (s : Status)
     : Type 0 where
-  pub told : Ended
-  pub is_told : s ≡ status_of told
-  pub obeys : Obeys command work told
-  pub tells : TellsOf err told
+  pub ended : Ended
+  pub status_is : s ≡ status_of ended
+  pub obeys : Obeys command work ended
+  pub tells : TellsOf err ended

@@ -141,9 +141,9 @@ fn read_advance_words(alloc: Global, words: &[String]) -> Result<Command, Refuse
 fn read_bare_words(alloc: Global, words: &[String], command: Command) -> Result<Command, Refused>
     requires { 0 < length words.now }
     ensures command { MatchResult result
-        (λ told. bare_command command (drop 1 (map string_bytes words.now)) ≡ Some told)
+        (λ given. bare_command command (drop 1 (map string_bytes words.now)) ≡ Some given)
         (Refuses (bare_command command (drop 1 (map string_bytes words.now)))) }
-    ensures same { IfOk result (λ told. told ≡ command) }
+    ensures same { IfOk result (λ given. given ≡ command) }
 {
     read_nothing(alloc, words)?;
     Ok(command)

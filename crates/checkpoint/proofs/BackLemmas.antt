@@ -18,7 +18,7 @@ use Rattle.saved_worlds.specs.SavedState.{SavedState}
 use Rattle.saved_worlds.specs.SavedGrammar.{SavedPlace, Before, Among, Halfway, After, Placed, SavedFault, after_saved_line, may_follow, may_stand, one_saved_piece, pieces_state, place_if, placed_of, saved_of, state_of_lines, told_saved_line, with_placed}
 use Rattle.saved_worlds.specs.SavedWorldText.{cell_text, saved_text, slot_text, values_in}
 use Rattle.saved_worlds.specs.ValidState.{AreSaved}
-use Rattle.checkpoint.specs.Standing.{IsWritable}
+use Rattle.checkpoint.specs.Writable.{IsWritable}
 use Rattle.checkpoint.proofs.FormLemmas.{cells_fit, head_form, machine_form, organism_form}
 use Rattle.checkpoint.proofs.AgainLemmas.{above_those, follows_again, new_to_those, placed_again, stands_again, stands_itself}
 use Rattle.checkpoint.proofs.ReadLemmas.{cut, more_pieces}

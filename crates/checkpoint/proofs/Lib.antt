@@ -3,7 +3,7 @@ pub mod StandsLemmas
 pub mod ReadableLemmas
 pub mod ReadLemmas
 pub mod PartLemmas
-pub mod ToldLemmas
+pub mod SoFarLemmas
 pub mod AgainLemmas
 pub mod FormLemmas
 pub mod WritableLemmas

@@ -10,7 +10,7 @@ use Rattle.saved_worlds.specs.SavedGrammar.{SavedPlace, Before, Among, Halfway, 
 use Rattle.saved_worlds.specs.SavedState.{SavedState}
 use Rattle.saved_worlds.specs.ValidState.{AreSaved, IsHead, MayStandThere}
 use Rattle.checkpoint.specs.Readable.{IsReadImage, IsReadOrganism, IsReadable}
-use Rattle.checkpoint.specs.Standing.{IsWritable}
+use Rattle.checkpoint.specs.Writable.{IsWritable}
 use Rattle.checkpoint.proofs.KeptLemmas.{saved_more}
 use Rattle.checkpoint.proofs.ReadableLemmas.{form_readable}
 use Rattle.checkpoint.proofs.StandsLemmas.{follows_by_rules, may_stand_there, stands_by_rules}

@@ -10,7 +10,7 @@ use Rattle.saved_worlds.specs.Resuming.{forgotten}
 use Rattle.saved_worlds.specs.SavedGrammar.{Placed}
 use Rattle.saved_worlds.specs.SavedState.{SavedState}
 use Rattle.saved_worlds.specs.ValidState.{AreSaved, IsBefore, IsHead, MayStandThere}
-use Rattle.checkpoint.specs.Standing.{IsWritable}
+use Rattle.checkpoint.specs.Writable.{IsWritable}
 
 -- who stands in some cells, of which the first has this number
 abbrev pub standing_from : ℕ → List (Option Occupant) → List Placed

@@ -2,8 +2,8 @@ pub use Rattle.saved_worlds.specs.SavedGrammar
 pub use Rattle.saved_worlds.specs.SavedWorldText
 pub use Rattle.saved_worlds.specs.ValidState
 pub mod Readable
-pub mod ToldValue
+pub mod SoFarValue
 pub mod Places
 pub mod Reading
 pub mod Parts
-pub mod Standing
+pub mod Writable

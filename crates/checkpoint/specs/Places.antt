@@ -7,7 +7,7 @@ use Rattle.checkpoint.specs.declared.place.ReadPlace.TheVariants as place
 -- the place of a reader
 abbrev pub saved_place_of : code.ReadPlace → SavedPlace
 saved_place_of place.Before = Before
-saved_place_of (place.Among told) = Among told.head told.placed
+saved_place_of (place.Among so_far) = Among so_far.head so_far.placed
 saved_place_of (place.Halfway half) =
-    Halfway half.told.head half.told.placed (values_of_organism half.organism)
-saved_place_of (place.After told) = After (state_of_lines told.head told.placed)
+    Halfway half.so_far.head half.so_far.placed (values_of_organism half.organism)
+saved_place_of (place.After so_far) = After (state_of_lines so_far.head so_far.placed)

@@ -7,7 +7,7 @@ use Rattle.checkpoint.specs.declared.place.ReadPlace as code
 use Rattle.checkpoint.specs.declared.saved_stop.SavedStop.{SavedStop}
 use Rattle.checkpoint.specs.declared.saved_stop.SavedStop.TheVariants as stop
 use Rattle.checkpoint.specs.Places.{saved_place_of}
-use Rattle.checkpoint.specs.ToldValue.{ToldValue}
+use Rattle.checkpoint.specs.SoFarValue.{SoFarValue}
 
 -- the bytes are read as this fault; running out of memory says nothing of them
 abbrev pub IsFaultOf : SavedStop → Result SavedState SavedFault → Type 0
@@ -17,8 +17,8 @@ IsFaultOf (stop.BadState line) read = read ≡ fault_at_line line BadState
 IsFaultOf (stop.Unended line) read = read ≡ fault_at_line line Unended
 
 -- the bytes are read as the state that the lines tell, or why not
-abbrev pub Ends : Result ToldValue SavedStop → Result SavedState SavedFault → Type 0
-Ends (Ok told) read = read ≡ Ok (state_of_lines told.head told.placed)
+abbrev pub Ends : Result SoFarValue SavedStop → Result SavedState SavedFault → Type 0
+Ends (Ok so_far) read = read ≡ Ok (state_of_lines so_far.head so_far.placed)
 Ends (Err e) read = IsFaultOf e read
 
 -- with a piece of this line the others are read from the next place, or why not

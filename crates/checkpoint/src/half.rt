@@ -4,14 +4,14 @@ ghost use Rattle.saved_lines.specs.SavedLines.{values_of_organism};
 ghost use Rattle.saved_worlds.specs.SavedGrammar.{may_stand};
 ghost use Rattle.checkpoint.specs.Readable.{IsReadOrganism};
 
-use crate::told::Told;
+use crate::so_far::SoFar;
 use saved_lines::OrganismLine;
 
 /// What was told so far, and the line of an organism that may come next.
 #[derive(Drop)]
 pub(crate) struct Half {
-    pub(crate) told: Told,
+    pub(crate) so_far: SoFar,
     pub(crate) organism: OrganismLine,
-    ghost stands: { IsTrue (may_stand told.head told.placed (values_of_organism organism)) },
+    ghost stands: { IsTrue (may_stand so_far.head so_far.placed (values_of_organism organism)) },
     ghost read: { IsReadOrganism (values_of_organism organism) },
 }

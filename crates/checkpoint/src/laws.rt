@@ -11,7 +11,7 @@ ghost use Rattle.saved_worlds.specs.SavedGrammar.{saved_of};
 ghost use Rattle.saved_worlds.specs.SavedWorldText.{saved_text, slot_text};
 ghost use Rattle.saved_worlds.specs.ValidState.{FitsText, HasRoomFor};
 ghost use Rattle.checkpoint.specs.Parts.{first_cells_text};
-ghost use Rattle.checkpoint.specs.Standing.{IsWritable};
+ghost use Rattle.checkpoint.specs.Writable.{IsWritable};
 
 use saved_lines::laws::one_spelling;
 use saved_worlds::laws::{lines_can_go_on, runs_can_go_on, states_stay_valid};

@@ -7,7 +7,7 @@ mod place;
 mod read;
 mod rules;
 mod saved_stop;
-mod told;
+mod so_far;
 mod writing;
 
 pub use read::read_saved;

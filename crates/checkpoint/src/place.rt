@@ -7,7 +7,7 @@ ghost use Rattle.checkpoint.specs.Places.{saved_place_of};
 ghost use Rattle.checkpoint.specs.Readable.{IsReadImage, IsReadOrganism, IsReadable};
 
 use crate::half::Half;
-use crate::told::Told;
+use crate::so_far::SoFar;
 use avida_port::Memory;
 use saved_lines::{OrganismLine, SavedLine};
 use std::alloc::Global;
@@ -18,15 +18,15 @@ pub(crate) enum ReadPlace {
     /// Before the first line.
     Before,
     /// Between organisms.
-    Among(Told),
+    Among(SoFar),
     /// Behind the line of an organism.
     Halfway(Half),
     /// Behind the last line.
-    After(Told),
+    After(SoFar),
 }
 
 /// The place after a line. None exactly where the line doesn't fit.
-pub(crate) fn told(
+pub(crate) fn told_saved_line(
     alloc: Global,
     place: ReadPlace,
     line: SavedLine,
@@ -38,7 +38,7 @@ pub(crate) fn told(
 {
     match place {
         ReadPlace::Before => Ok(told_first(alloc, line)),
-        ReadPlace::Among(told) => Ok(told_among(told, line)),
+        ReadPlace::Among(so_far) => Ok(told_among(so_far, line)),
         ReadPlace::Halfway(half) => told_halfway(alloc, half, line),
         ReadPlace::After(_) => Ok(None),
     }
@@ -49,41 +49,41 @@ fn told_first(alloc: Global, line: SavedLine) -> Option<ReadPlace>
     ensures { option_map saved_place_of result ≡ told_head (values_of_line line) }
 {
     match line {
-        SavedLine::Head(head) => Some(ReadPlace::Among(Told::new(alloc, head))),
+        SavedLine::Head(head) => Some(ReadPlace::Among(SoFar::new(alloc, head))),
         _ => None,
     }
 }
 
-fn told_among(told: Told, line: SavedLine) -> Option<ReadPlace>
+fn told_among(so_far: SoFar, line: SavedLine) -> Option<ReadPlace>
     requires { IsReadable (values_of_line line) }
     ensures { option_map saved_place_of result
-        ≡ told_among told.head told.placed (values_of_line line) }
+        ≡ told_among so_far.head so_far.placed (values_of_line line) }
 {
     match line {
-        SavedLine::Organism(organism) => told_organism(told, organism),
-        SavedLine::Count(organisms) => told_count(told, organisms),
+        SavedLine::Organism(organism) => told_organism(so_far, organism),
+        SavedLine::Count(organisms) => told_count(so_far, organisms),
         _ => None,
     }
 }
 
-fn told_organism(told: Told, organism: OrganismLine) -> Option<ReadPlace>
+fn told_organism(so_far: SoFar, organism: OrganismLine) -> Option<ReadPlace>
     requires { IsReadOrganism (values_of_organism organism) }
     ensures { option_map saved_place_of result
-        ≡ told_among told.head told.placed (values_of_line (SavedLine.Organism organism)) }
+        ≡ told_among so_far.head so_far.placed (values_of_line (SavedLine.Organism organism)) }
 {
-    if told.may_stand(&organism) {
-        Some(ReadPlace::Halfway(Half { told, organism }))
+    if so_far.may_stand(&organism) {
+        Some(ReadPlace::Halfway(Half { so_far, organism }))
     } else {
         None
     }
 }
 
-fn told_count(told: Told, organisms: u64) -> Option<ReadPlace>
+fn told_count(so_far: SoFar, organisms: u64) -> Option<ReadPlace>
     ensures { option_map saved_place_of result
-        ≡ told_among told.head told.placed (values_of_line (SavedLine.Count organisms)) }
+        ≡ told_among so_far.head so_far.placed (values_of_line (SavedLine.Count organisms)) }
 {
-    if organisms == told.len() as u64 {
-        Some(ReadPlace::After(told))
+    if organisms == so_far.len() as u64 {
+        Some(ReadPlace::After(so_far))
     } else {
         None
     }
@@ -92,7 +92,7 @@ fn told_count(told: Told, organisms: u64) -> Option<ReadPlace>
 fn told_halfway(alloc: Global, half: Half, line: SavedLine) -> Result<Option<ReadPlace>, Memory>
     requires { IsReadable (values_of_line line) }
     ensures { IfOk result (λ next. option_map saved_place_of next
-        ≡ told_halfway half.told.head half.told.placed (values_of_organism half.organism)
+        ≡ told_halfway half.so_far.head half.so_far.placed (values_of_organism half.organism)
         (values_of_line line)) }
 {
     match line {
@@ -104,13 +104,13 @@ fn told_halfway(alloc: Global, half: Half, line: SavedLine) -> Result<Option<Rea
 fn told_machine(alloc: Global, half: Half, image: CpuImage) -> Result<Option<ReadPlace>, Memory>
     requires { IsReadImage image }
     ensures { IfOk result (λ next. option_map saved_place_of next
-        ≡ told_halfway half.told.head half.told.placed (values_of_organism half.organism)
+        ≡ told_halfway half.so_far.head half.so_far.placed (values_of_organism half.organism)
         (Machine image)) }
 {
-    let Half { told, organism } = half;
-    if !told.may_follow(&organism, &image) {
+    let Half { so_far, organism } = half;
+    if !so_far.may_follow(&organism, &image) {
         return Ok(None);
     }
-    let told = told.with_organism(alloc, organism, image)?;
-    Ok(Some(ReadPlace::Among(told)))
+    let so_far = so_far.with_organism(alloc, organism, image)?;
+    Ok(Some(ReadPlace::Among(so_far)))
 }

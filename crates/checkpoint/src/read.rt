@@ -5,9 +5,9 @@ ghost use Rattle.saved_worlds.specs.SavedGrammar.{last_saved_piece, saved_of};
 ghost use Rattle.checkpoint.specs.Places.{saved_place_of};
 ghost use Rattle.checkpoint.specs.Reading.{Ends, IsFaultOf, Steps};
 
-use crate::place::{ReadPlace, told};
+use crate::place::{ReadPlace, told_saved_line};
 use crate::saved_stop::SavedStop;
-use crate::told::Told;
+use crate::so_far::SoFar;
 use log_lines::split_at;
 use saved_lines::laws::one_spelling;
 use saved_lines::read_saved_line;
@@ -27,13 +27,13 @@ pub fn read_saved<R: Wait>(
     ensures ok { IfOk result (λ state. saved_of bytes.now ≡ Ok state) }
     ensures err { IfErr result (λ stop. IsFaultOf stop (saved_of bytes.now)) }
 {
-    let told = read_lines(alloc, bytes)?;
-    Ok(told.into_state(rt, alloc, workers)?)
+    let so_far = read_lines(alloc, bytes)?;
+    Ok(so_far.into_state(rt, alloc, workers)?)
 }
 
 /// What all lines tell.
 #[tactic(auto, unfolding(saved_worlds::specs::SavedGrammar::saved_of))]
-fn read_lines(alloc: Global, bytes: &[u8]) -> Result<Told, SavedStop>
+fn read_lines(alloc: Global, bytes: &[u8]) -> Result<SoFar, SavedStop>
     ensures { Ends result (saved_of bytes.now) }
 {
     let mut rest = bytes;
@@ -42,7 +42,7 @@ fn read_lines(alloc: Global, bytes: &[u8]) -> Result<Told, SavedStop>
     loop {
         let (piece, others) = split_at(rest, b'\n');
         let Some(behind) = others else {
-            return told_at_end(number, place, piece);
+            return last_saved_piece(number, place, piece);
         };
         place = place_after(alloc, number, place, piece)?;
         number += 1;
@@ -63,21 +63,21 @@ fn place_after(
     let Some(line) = read_saved_line(alloc, piece)? else {
         return Err(SavedStop::BadLine { line: number });
     };
-    match told(alloc, place, line)? {
+    match told_saved_line(alloc, place, line)? {
         Some(next) => Ok(next),
         None => Err(SavedStop::BadState { line: number }),
     }
 }
 
 /// The end of the bytes, behind the last newline.
-fn told_at_end(number: u64, place: ReadPlace, piece: &[u8]) -> Result<Told, SavedStop>
+fn last_saved_piece(number: u64, place: ReadPlace, piece: &[u8]) -> Result<SoFar, SavedStop>
     ensures { Ends result (last_saved_piece number (saved_place_of place) piece.now) }
 {
     if !piece.is_empty() {
         return Err(SavedStop::BadLine { line: number });
     }
     match place {
-        ReadPlace::After(told) => Ok(told),
+        ReadPlace::After(so_far) => Ok(so_far),
         _ => Err(SavedStop::Unended { line: number }),
     }
 }

@@ -58,7 +58,7 @@ pub record WritesLooks (looks : ℕ) (config : ConfigValues) (before after : Sin
   pub updates : List ℕ
   pub newest : Option ℕ
   pub seen : AreSeen looks config.updates newest updates
-  pub answer : IfOk result (λ told. told ≡ newest)
+  pub answer : IfOk result (λ answer. answer ≡ newest)
   pub writes : WritesAll before after (pictures_text config updates) result
 
 -- so many looks were made, this was observed, and the lines of what was seen are written

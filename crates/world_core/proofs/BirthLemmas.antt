@@ -16,7 +16,7 @@ use Rattle.world_rules.specs.Update.{Delivery, with_newborn}
 use Rattle.world_core.specs.Genotypes.{genomes_ever}
 use Rattle.world_core.specs.Lived.{delivered_in, delivery_in}
 use Rattle.world_core.specs.declared.ids.Birth.{Birth}
-use Rattle.world_core.proofs.LivesLemmas.{map-both}
+use Rattle.world_core.proofs.BirthOrderLemmas.{map-both}
 
 -- an iterator over a list gives what is made of each of its items
 pub yields-made : {A B Z : Type 0} (made : A → B) {s : _} (xs : List A) → into_iter_items s ≡ xs

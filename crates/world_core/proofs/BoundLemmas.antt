@@ -9,19 +9,20 @@ use Rattle.std.proofs.lemmas.List.FromFn.{get_or-map-range_with_len, length-map-
 use Rattle.std.proofs.lemmas.Option.{slice_get-get_or}
 use Rattle.organism.specs.Lived.{HasLived, IsBornOf, beginning}
 use Rattle.organism.specs.UpdateLife.{life}
+use Rattle.organism.specs.OrganismLife.{life_by}
 use Rattle.random_streams.specs.declared.purpose.Purpose.TheVariants.{Run}
 use Rattle.random_streams.specs.RandomStream.{draw}
 use Rattle.world_config.specs.Values.{ConfigValues}
-use Rattle.world_rules.specs.Lives.{CellLife, life_at, life_by, life_of, lives_of, no_life, slice_at, slices_at}
+use Rattle.world_rules.specs.Lives.{CellLife, life_at, life_of, lives_of, no_life, slice_at, slices_at}
 use Rattle.world_rules.specs.Settings.{settings_at}
 use Rattle.world_rules.specs.Update.{births_of}
 use Rattle.world_rules.specs.World.{Occupant}
 use Rattle.world_laws.specs.Keeping.{LiveOn}
+use Rattle.world_core.specs.Bounds.{AreBounded, AreBoundedLives, IsBoundedIn}
 use Rattle.world_core.specs.Lived.{staying_in}
 use Rattle.world_core.specs.Population.{occupant_genome}
-use Rattle.world_core.specs.Soundness.{AreBounded, AreBoundedLives, IsBoundedIn}
+use Rattle.world_core.proofs.BirthOrderLemmas.{FitsMachine, births_of-few, births_of-fit, births_of-rise}
 use Rattle.world_core.proofs.LifeLemmas.{greatest_of}
-use Rattle.world_core.proofs.LivesLemmas.{FitsMachine, births_of-few, births_of-fit, births_of-rise}
 
 -- a life of at most so many steps keeps the bounds of who stood in the cell, and of its newborns
 pub record KeepsBounds (config : ConfigValues) (update steps : ℕ) (slot : Option Occupant)

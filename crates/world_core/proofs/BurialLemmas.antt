@@ -10,8 +10,8 @@ use Rattle.world_rules.specs.LogText.{death_line, death_lines}
 use Rattle.world_rules.specs.Scene.{Scene, with_death, with_deaths}
 use Rattle.world_rules.specs.Update.{after_burials, after_lives, deaths_of}
 use Rattle.world_rules.specs.World.{Occupant, id_of}
-use Rattle.world_core.specs.Lived.{departed_from, departure_line, staying_in, tenant}
-use Rattle.world_core.specs.declared.ids.Tenant.{Tenant}
+use Rattle.world_core.specs.Lived.{departed_from, departure, departure_line, staying_in}
+use Rattle.world_core.specs.declared.ids.Departure.{Departure}
 
 -- the cells whose organism died, which go on from this one
 abbrev deaths_at : ℕ → List CellLife → List ℕ
@@ -55,7 +55,7 @@ module _ (update : ℕ) (everyone : List Link) where
   occupants lives = map (λ l. l.occupant) lives
 
   -- the ids of some dead
-  abbrev ids_in : List Tenant → List ℕ
+  abbrev ids_in : List Departure → List ℕ
   ids_in dead = map (λ one. one.id) dead
 
   -- one cell becomes empty
@@ -74,7 +74,7 @@ module _ (update : ℕ) (everyone : List Link) where
 
   -- the id of one who died
   ids-in-one : (first : ℕ) (slot : Option Occupant)
-      → ids_in (option_to_list (option_map (λ o. tenant first o.id) slot))
+      → ids_in (option_to_list (option_map (λ o. departure first o.id) slot))
       ≡ option_to_list (id_of slot)
   ids-in-one first None = refl
   ids-in-one first (Some o) = refl
@@ -83,7 +83,7 @@ module _ (update : ℕ) (everyone : List Link) where
   lines-in-one : (first : ℕ) (slot : Option Occupant)
       → filter_map (λ line. line) (option_map (λ id. Death id update first) (id_of slot) ∷ [])
       ≡ map (departure_line update)
-      (option_to_list (option_map (λ o. tenant first o.id) slot))
+      (option_to_list (option_map (λ o. departure first o.id) slot))
   lines-in-one first None = refl
   lines-in-one first (Some o) = refl
 
@@ -99,8 +99,8 @@ module _ (update : ℕ) (everyone : List Link) where
       ∙ ap (λ cells. scene_with cells (more ++ ids_in (departed_from (first + 1) lives)))
       (append_assoc before (slot ∷ []) (map staying_in lives)))
     where
-      dead : List Tenant
-      dead = option_to_list (option_map (λ o. tenant first o.id) l.occupant)
+      dead : List Departure
+      dead = option_to_list (option_map (λ o. departure first o.id) l.occupant)
 
       by : (b : Bool)
           → ((slot : Option Occupant) (more : List ℕ)
@@ -125,7 +125,7 @@ module _ (update : ℕ) (everyone : List Link) where
           ∙ ap (λ ids. gone ++ (ids ++ ids_in (departed_from (first + 1) lives)))
           (sym (ids-in-one first l.occupant))
           ∙ ap (λ ids. gone ++ ids)
-          (sym (map-append (λ (one : Tenant). one.id) dead (departed_from (first + 1) lives))))
+          (sym (map-append (λ (one : Departure). one.id) dead (departed_from (first + 1) lives))))
 
   -- their lines
   lines-from : (before : List (Option Occupant)) (lives : List CellLife) (gone : List ℕ) (first : ℕ)
@@ -136,8 +136,8 @@ module _ (update : ℕ) (everyone : List Link) where
       by l.died (λ slot more. lines-from (before ++ slot ∷ []) lives more (first + 1)
       (omega (arith, length_push before slot, long)))
     where
-      dead : List Tenant
-      dead = option_to_list (option_map (λ o. tenant first o.id) l.occupant)
+      dead : List Departure
+      dead = option_to_list (option_map (λ o. departure first o.id) l.occupant)
 
       -- what is told, and then the rest
       told : (line : Option Line) (rest : List (Option Line))

@@ -1,5 +1,5 @@
 -- Somebody comes into a cell: a founder, or who stood there in a saved world.
-use Rattle.std.proofs.Common.{◌≡◌, ◌∙◌, refl, ap, ℕ, zero, suc, ◌+◌, List, [], ◌∷◌, ◌++◌, Option, None, Some, length, replicate, set}
+use Rattle.std.proofs.Common.{◌≡◌, ◌∙◌, refl, ap, ℕ, zero, suc, ◌+◌, ◌<◌, ◌≤◌, ◌^◌, List, [], ◌∷◌, ◌++◌, Option, None, Some, length, replicate, set, slice_get, arith}
 use Rattle.std.proofs.lemmas.List.{length-set, length_push}
 use Rattle.std.specs.Option.{option_to_list}
 use Rattle.genome.specs.Genome.{letters}
@@ -13,8 +13,9 @@ use Rattle.world_config.specs.Values.{ConfigValues}
 use Rattle.world_rules.specs.Scene.{Scene, with_death, with_newcomer}
 use Rattle.world_rules.specs.Update.{world_of}
 use Rattle.world_rules.specs.World.{Occupant, empty_cells, first_world, founder_link, founder_of, id_at}
-use Rattle.world_core.specs.Scenes.{SceneValue, comes_over, scene_in}
-use Rattle.world_core.proofs.SoundLemmas.{set_over}
+use Rattle.world_core.specs.Bounds.{CanStand}
+use Rattle.world_core.specs.Scenes.{SceneValue, scene_in, with_occupant}
+use Rattle.world_core.proofs.BoundedCells.{set_over}
 
 -- the scene once who stood in the cell has died
 abbrev pub left_scene : SceneValue → ℕ → SceneValue
@@ -38,11 +39,11 @@ died_is before after cell scene bank first = λ i. record {
 }
 
 -- who comes into the cell stands there alone
-pub come_over_is : (before died last : SceneValue) (cell : ℕ) (o : Occupant)
+pub put_over_is : (before died last : SceneValue) (cell : ℕ) (o : Occupant)
     → died ≡ left_scene before cell
     → last ≡ record died { cells = set died.cells cell (Some o) }
-    → last ≡ comes_over before cell o
-come_over_is before died last cell o gone came =
+    → last ≡ with_occupant before cell o
+put_over_is before died last cell o gone came =
     came ∙ ap (λ (s : SceneValue). record s { cells = set s.cells cell (Some o) }) gone
     ∙ ap (λ (cells : List (Option Occupant)).
     record (left_scene before cell) { cells = cells }) (set_over before.cells cell None (Some o))
@@ -54,37 +55,30 @@ enrolled s link bank = record s { everyone = s.everyone ++ link ∷ []; bank = b
 -- who is enrolled comes into the cell
 pub found_is : (before now last : SceneValue) (link : Link) (bank : List (List Letter)) (id : ℕ)
     (made organism : OrganismState) → now ≡ enrolled before link bank → id ≡ link.id
-    → made ≡ organism → last ≡ comes_over now link.cell (record { id = id; organism = made })
-    → last ≡ comes_over (enrolled before link bank) link.cell
+    → made ≡ organism → last ≡ with_occupant now link.cell (record { id = id; organism = made })
+    → last ≡ with_occupant (enrolled before link bank) link.cell
     (record { id = link.id; organism = organism })
 found_is before now last link bank id made organism listed own same came =
     came
-    ∙ (λ i. comes_over (listed i) link.cell (record { id = own i; organism = same i }))
+    ∙ (λ i. with_occupant (listed i) link.cell (record { id = own i; organism = same i }))
 
 -- that is a newcomer
 pub newcomer_is : (before : SceneValue) (link : Link) (bank : List (List Letter))
     (organism : OrganismState)
-    → scene_in (comes_over (enrolled before link bank) link.cell
+    → scene_in (with_occupant (enrolled before link bank) link.cell
     (record { id = link.id; organism = organism }))
     ≡ with_newcomer (scene_in before) link organism
 unfolding with_newcomer
 newcomer_is before link bank organism = refl
 
--- a founder is young, has its genome, and its length as its merit
-pub founder-genome : (config : ConfigValues) (cell nth : ℕ) (genome : List Letter)
-    → (founder_of config cell nth genome).genome ≡ genome
+-- a founder can come into a cell
+pub founder-stands : (config : ConfigValues) (cell nth number : ℕ) (genome : List Letter)
+    (bank : List (List Letter)) → slice_get bank number ≡ Some genome → length genome ≤ 8192
+    → CanStand bank number (founder_of config cell nth genome)
 unfolding founder_of new_organism
-founder-genome config cell nth genome = refl
-
-pub founder-age : (config : ConfigValues) (cell nth : ℕ) (genome : List Letter)
-    → (founder_of config cell nth genome).age ≡ 0
-unfolding founder_of new_organism
-founder-age config cell nth genome = refl
-
-pub founder-merit : (config : ConfigValues) (cell nth : ℕ) (genome : List Letter)
-    → (founder_of config cell nth genome).merit ≡ length genome
-unfolding founder_of new_organism
-founder-merit config cell nth genome = refl
+founder-stands config cell nth number genome bank is few =
+    let young : 0 < 2 ^ 48 = omega arith in
+    record { genome = is; age = young; merit = omega (arith, few) }
 
 -- an image's organism with another genome
 abbrev pub image_with : Image → ℕ → List Letter → OrganismState

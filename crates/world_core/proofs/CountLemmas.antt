@@ -9,7 +9,7 @@ use Rattle.logic_tasks.specs.TaskSet.{has_task}
 use Rattle.organism.specs.OrganismState.{OrganismState}
 use Rattle.world_rules.specs.Lives.{merit_in, with_id}
 use Rattle.world_rules.specs.World.{Occupant}
-use Rattle.world_core.specs.Population.{CanCountAgain, CountsAgain, IsKeptOf, is_credited, occupant_genome, occupant_genomes}
+use Rattle.world_core.specs.Population.{CanCountChange, CountsChange, IsKeptOf, is_credited, occupant_genome, occupant_genomes}
 use Rattle.world_core.proofs.KeptOfLemmas.{IsKeptOf-empty, IsKeptOf-lived, IsKeptOf-removed, can-remove}
 use Rattle.world_core.proofs.StandingLemmas.{OneList}
 use Rattle.world_core.proofs.SumLemmas.{AreSummedIn-renewed, AreSummedIn-same, can-renew}
@@ -26,7 +26,7 @@ module _ (one_list : OneList) (cells : List (Option Occupant)) (genomes : List (
   -- who stood in the cell may be counted again
   pub can-count : (was now : Option OrganismState) → get_or cells cell None ≡ with_id id was
       → GoesOn was now
-      → CanCountAgain before (get_or keys cell 0) (standing_in was) (standing_in now)
+      → CanCountChange before (get_or keys cell 0) (standing_in was) (standing_in now)
   can-count None now here goes = tt
   can-count (Some o) None here goes =
       can-remove one_list cells genomes keys before before cell within
@@ -40,7 +40,7 @@ module _ (one_list : OneList) (cells : List (Option Occupant)) (genomes : List (
   -- and what is kept is that of who stands there now
   pub counted-again : (was now : Option OrganismState) → get_or cells cell None ≡ with_id id was
       → GoesOn was now
-      → CountsAgain before after (get_or keys cell 0) (standing_in was) (standing_in now)
+      → CountsChange before after (get_or keys cell 0) (standing_in was) (standing_in now)
       → IsKeptOf (set cells cell (with_id id now)) genomes keys after
   counted-again None None here goes counted =
       subst (λ (counts : Counts). IsKeptOf (set cells cell None) genomes keys counts) (sym counted)

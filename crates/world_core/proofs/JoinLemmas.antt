@@ -18,7 +18,7 @@ use Rattle.genotype_bank.specs.Seats.{SeatValue, own_calls_of}
 use Rattle.genotype_bank.specs.declared.view.Entry.{Entry}
 use Rattle.instruction_set.specs.declared.letter.Letter.{Letter}
 use Rattle.organism.specs.OrganismState.{OrganismState}
-use Rattle.world_rules.specs.Lives.{OrganismLife}
+use Rattle.organism.specs.OrganismLife.{OrganismLife}
 use Rattle.world_core.specs.Genotypes.{HasNumber, TakesIn}
 use Rattle.world_core.specs.Sharding.{IsJoined, LieSideBySide, PartCells, ShareSeat, seat_from}
 

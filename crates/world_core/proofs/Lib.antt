@@ -1,10 +1,10 @@
 pub mod ScanLemmas
-pub mod SoundLemmas
+pub mod BoundedCells
 mod ComingLemmas
 mod LifeLemmas
 mod CountLemmas
 mod TurnLemmas
-mod ResidentLemmas
+mod CellTableLemmas
 mod ShardLemmas
 mod BurialLemmas
 mod BoundLemmas
@@ -14,7 +14,7 @@ mod CutLemmas
 mod BirthLemmas
 mod GrowLemmas
 mod LivedLemmas
-mod LivesLemmas
+mod BirthOrderLemmas
 mod LoadLemmas
 mod ShareLemmas
 mod SettingsLemmas
@@ -27,6 +27,6 @@ mod ChangeLemmas
 mod KeptOfLemmas
 mod StatLemmas
 mod SumLemmas
-mod TreeLemmas
+mod IdLemmas
 mod EventLemmas
 mod GenotypeLemmas

@@ -11,20 +11,21 @@ use Rattle.cell_shards.specs.declared.delivered.Delivered.{Delivered}
 use Rattle.cell_shards.specs.declared.standing.Standing.{Standing}
 use Rattle.merit_slices.specs.Slices.{slices_of}
 use Rattle.organism.specs.OrganismState.{OrganismState}
+use Rattle.organism.specs.OrganismLife.{OrganismLife}
 use Rattle.world_config.specs.Values.{ConfigValues}
-use Rattle.world_rules.specs.Lives.{CellLife, OrganismLife, life_at, life_of, lives_of, merit_in, no_life, slice_at, slices_at, with_id}
+use Rattle.world_rules.specs.Lives.{CellLife, life_at, life_of, lives_of, merit_in, no_life, slice_at, slices_at, with_id}
 use Rattle.world_rules.specs.Statistics.{organism_in}
 use Rattle.world_rules.specs.Update.{births_in, births_of}
 use Rattle.world_rules.specs.World.{Occupant}
-use Rattle.world_core.specs.Lived.{birth_by, delivered_in, delivery_in, departed_from, departed_in, round_of, staying_in, tenant_by}
+use Rattle.world_core.specs.Bounds.{AreBounded, IsBoundedIn}
+use Rattle.world_core.specs.CellTables.{occupants_of}
+use Rattle.world_core.specs.Lived.{birth_by, delivered_in, delivery_in, departed_from, departed_in, departure_by, round_of, staying_in}
 use Rattle.world_core.specs.Population.{merit_or_zero, occupant_genome}
-use Rattle.world_core.specs.Residents.{occupants_of}
-use Rattle.world_core.specs.Soundness.{AreBounded, IsBoundedIn}
 use Rattle.world_core.specs.declared.ids.Birth.{Birth}
-use Rattle.world_core.specs.declared.ids.Tenant.{Tenant}
+use Rattle.world_core.specs.declared.ids.Departure.{Departure}
+use Rattle.world_core.proofs.BirthOrderLemmas.{map-both}
+use Rattle.world_core.proofs.CellTableLemmas.{merits-of, occupants_of-at, occupants_of-length, organism-with}
 use Rattle.world_core.proofs.CountLemmas.{GoesOn}
-use Rattle.world_core.proofs.LivesLemmas.{map-both}
-use Rattle.world_core.proofs.ResidentLemmas.{merits-of, occupants_of-at, occupants_of-length, organism-with}
 use Rattle.world_core.proofs.ShardLemmas.{LivesAs, delivery_by, life-as, staying-are, told-alike}
 
 -- organisms that are bounded are not too old
@@ -163,11 +164,11 @@ module _ {config : ConfigValues} {update : ℕ} {cells : List (Option Occupant)}
       ∙ told-are newborns_in births_in (delivery_by ids) (λ cell. (lives-as cell).births)
 
   -- the dead
-  pub lived-dead : (died : List ℕ) (dead : List Tenant) → died ≡ deaths_from 0 shard_lives
-      → dead ≡ map (tenant_by ids) died → dead ≡ departed_from 0 lives
+  pub lived-dead : (died : List ℕ) (dead : List Departure) → died ≡ deaths_from 0 shard_lives
+      → dead ≡ map (departure_by ids) died → dead ≡ departed_from 0 lives
   lived-dead died dead are named =
-      named ∙ ap (map (tenant_by ids)) are
-      ∙ told-are dead_in departed_in (tenant_by ids) (λ cell. (lives-as cell).dead)
+      named ∙ ap (map (departure_by ids)) are
+      ∙ told-are dead_in departed_in (departure_by ids) (λ cell. (lives-as cell).dead)
 
   -- the life of one cell leaves the same organism with a merit that fits, or nobody
   goes-by : (was : Option OrganismState) (id : ℕ) (l : CellLife) → IsBoundedIn update l.occupant

@@ -7,15 +7,16 @@ use Rattle.organism.specs.Lived.{beginning}
 use Rattle.organism.specs.Newborns.{NewbornValue}
 use Rattle.organism.specs.OrganismState.{OrganismState}
 use Rattle.organism.specs.UpdateLife.{life}
+use Rattle.organism.specs.OrganismLife.{OrganismLife, ended_life, life_by}
 use Rattle.random_streams.specs.declared.purpose.Purpose.TheVariants.{Run}
 use Rattle.random_streams.specs.RandomStream.{draw}
 use Rattle.world_config.specs.Values.{ConfigValues}
-use Rattle.world_rules.specs.Lives.{CellLife, OrganismLife, ended_life, life_by, life_of, with_id}
+use Rattle.world_rules.specs.Lives.{CellLife, life_of, with_id}
 use Rattle.world_rules.specs.Settings.{settings_at}
 use Rattle.world_rules.specs.Update.{Delivery, births_in, delivery_of}
-use Rattle.world_core.specs.Lived.{departed_in, round_of, staying_in, tenant, tenant_by}
-use Rattle.world_core.specs.Residents.{occupants_of}
-use Rattle.world_core.proofs.LivesLemmas.{map-both}
+use Rattle.world_core.specs.CellTables.{occupants_of}
+use Rattle.world_core.specs.Lived.{departed_in, departure, departure_by, round_of, staying_in}
+use Rattle.world_core.proofs.BirthOrderLemmas.{map-both}
 
 -- a newborn of a cell, with the id of the cell
 abbrev pub delivery_by : List ℕ → ℕ × NewbornValue → Delivery
@@ -25,7 +26,7 @@ delivery_by ids birth = delivery_of birth.0 (get_or ids birth.0 0) birth.1
 pub record LivesAs (ids : List ℕ) (cell : ℕ) (l : OrganismLife) (w : CellLife) : Type 0 where
   pub stays : with_id (get_or ids cell 0) (left_in l) ≡ staying_in w
   pub births : map (delivery_by ids) (newborns_in (cell, l)) ≡ births_in (cell, w)
-  pub dead : map (tenant_by ids) (dead_in (cell, l)) ≡ departed_in (cell, w)
+  pub dead : map (departure_by ids) (dead_in (cell, l)) ≡ departed_in (cell, w)
 
 -- one life
 pub life-as : (config : ConfigValues) (update cell steps : ℕ) (ids : List ℕ)
@@ -52,7 +53,7 @@ life-as config update cell steps ids (Some o) =
     stays false left = refl
 
     dead : (died : Bool)
-        → map (tenant_by ids) (cond died (cell ∷ []) []) ≡ cond died (tenant cell id ∷ []) []
+        → map (departure_by ids) (cond died (cell ∷ []) []) ≡ cond died (departure cell id ∷ []) []
     dead true = refl
     dead false = refl
 

@@ -9,11 +9,11 @@ use Rattle.organism.specs.OrganismState.{OrganismState}
 use Rattle.world_config.specs.Values.{ConfigValues}
 use Rattle.world_rules.specs.Lives.{with_id}
 use Rattle.world_rules.specs.World.{Occupant}
-use Rattle.world_core.specs.Population.{CanCountAgain, CountsAgain, IsKeptOf}
-use Rattle.world_core.specs.Residents.{occupants_of}
+use Rattle.world_core.specs.CellTables.{occupants_of}
+use Rattle.world_core.specs.Population.{CanCountChange, CountsChange, IsKeptOf}
+use Rattle.world_core.proofs.CellTableLemmas.{occupants_of-at, occupants_of-length}
 use Rattle.world_core.proofs.CountLemmas.{GoesOn, can-count, counted-again, mixed, mixed-all, mixed-at, mixed-length, mixed-step}
 use Rattle.world_core.proofs.LivedLemmas.{LiveApart, cells-long, lived-length}
-use Rattle.world_core.proofs.ResidentLemmas.{occupants_of-at, occupants_of-length}
 use Rattle.world_core.proofs.StandingLemmas.{OneList}
 
 -- what is read of the cells: the keys, and what is counted of them before and after the lives
@@ -104,22 +104,22 @@ module _ {config : ConfigValues} {update : ℕ} {cells : List (Option Occupant)}
     )
 
     -- it can be counted
-    pub can-count-here : CanCountAgain before key was now
+    pub can-count-here : CanCountChange before key was now
     can-count-here =
         rw (key-here, was-here, now-here)
         (can-count one_list (mixed (occupants_of left ids) cells cell) genomes keys before before
         cell among (get_or ids cell 0) kept (get_or os cell None) (get_or left cell None) here goes)
 
     -- and then one cell more is
-    pub counted-here : CountsAgain before after key was now
+    pub counted-here : CountsChange before after key was now
         → IsKeptOf (mixed (occupants_of left ids) cells (cell + 1)) genomes keys after
     counted-here counted =
-        let so : CountsAgain before after (get_or keys cell 0) (standing_in (get_or os cell None))
+        let so : CountsChange before after (get_or keys cell 0) (standing_in (get_or os cell None))
         (standing_in (get_or left cell None)) =
-        subst (λ (key : ℕ). CountsAgain before after key (standing_in (get_or os cell None))
+        subst (λ (key : ℕ). CountsChange before after key (standing_in (get_or os cell None))
         (standing_in (get_or left cell None))) key-here
-        (subst (λ was. CountsAgain before after key was (standing_in (get_or left cell None)))
-        was-here (subst (CountsAgain before after key was) now-here counted)) in
+        (subst (λ was. CountsChange before after key was (standing_in (get_or left cell None)))
+        was-here (subst (CountsChange before after key was) now-here counted)) in
         subst (λ (cells : List (Option Occupant)). IsKeptOf cells genomes keys after)
         (ap (λ (slot : Option Occupant). set (mixed (occupants_of left ids) cells cell) cell slot)
         (sym (occupants_of-at left ids cell (lived-length apart left are)))

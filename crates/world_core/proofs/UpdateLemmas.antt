@@ -20,7 +20,7 @@ use Rattle.world_rules.specs.Statistics.{next_stats, scene_stats}
 use Rattle.world_rules.specs.LogText.{birth_lines, event_lines, lines_of_lives, update_lines}
 use Rattle.world_rules.specs.Update.{Delivery, after_lives, lives_after, births_of, turns_of, events_at, with_newborn, after_births, after_burials, after_what, after_event, after_events, last_scene, next_scene, scene_of_lives}
 use Rattle.world_core.specs.Lived.{departed_from, departure_line, staying_in}
-use Rattle.world_core.specs.declared.ids.Tenant.{Tenant}
+use Rattle.world_core.specs.declared.ids.Departure.{Departure}
 use Rattle.world_core.proofs.BurialLemmas.{burial-lines-are, burials-are}
 
 -- a death leaves the update
@@ -96,7 +96,7 @@ length_lived config update cells =
     length-map _ _ ∙ length-map-range_with_len (life_at config update cells) 0 (length cells)
 
 -- the scenes of an update's phases, from the lives on
-pub record Phases (config : ConfigValues) (w : World) (dead : List Tenant)
+pub record Phases (config : ConfigValues) (w : World) (dead : List Departure)
     (births : List Delivery) (s0 s1 s2 s3 : Scene) (stats : Stats) : Type 0 where
   pub lived : s0 ≡ record {
     update = w.update + 1;
@@ -111,7 +111,7 @@ pub record Phases (config : ConfigValues) (w : World) (dead : List Tenant)
   pub happened : s3 ≡ after_events config s2
   pub counted : stats ≡ scene_stats s3 (length births)
 
-module _ (config : ConfigValues) (w : World) (dead : List Tenant) (births : List Delivery)
+module _ (config : ConfigValues) (w : World) (dead : List Departure) (births : List Delivery)
     (s0 s1 s2 s3 : Scene) (stats : Stats) (p : Phases config w dead births s0 s1 s2 s3 stats) where
   -- the lives
   abbrev lives : List CellLife

@@ -13,19 +13,19 @@ use Rattle.world_core.specs.Genotypes.{TakesIn}
 use Rattle.world_core.specs.Lived.{delivered_in, delivery_in, departure_line}
 use Rattle.world_core.specs.Scenes.{Grows, SceneValue, scene_in}
 use Rattle.world_core.specs.declared.ids.Birth.{Birth}
-use Rattle.world_core.specs.declared.ids.Tenant.{Tenant}
+use Rattle.world_core.specs.declared.ids.Departure.{Departure}
 
 -- the scene once these are among the dead of the update
-abbrev pub with_departed : Scene → List Tenant → Scene
+abbrev pub with_departed : Scene → List Departure → Scene
 with_departed scene dead = record scene { gone = scene.gone ++ map (λ one. one.id) dead }
 
 -- the scene once the newborns stand in their cells too
-abbrev pub with_births : ConfigValues → Scene → List Tenant → List Delivery → Scene
+abbrev pub with_births : ConfigValues → Scene → List Departure → List Delivery → Scene
 with_births config scene dead births = after_births config (with_departed scene dead) births
 
 -- the lines of those that died of age, of the births and the events, and of what is counted
 abbrev pub last_lines :
-    ConfigValues → Scene → List Tenant → List Delivery → Stats → List Line
+    ConfigValues → Scene → List Departure → List Delivery → Stats → List Line
 last_lines config scene dead births stats =
     map (departure_line scene.update) dead
     ++ birth_lines config (with_departed scene dead) births
@@ -34,7 +34,7 @@ last_lines config scene dead births stats =
 
 -- a scene as all lives have ended, with these dead and newborns, comes to another one as the events
 -- have happened; a bank that took in the newborns then grows as the list of all does
-pub record Ends (config : ConfigValues) (dead : List Tenant) (births : List Birth)
+pub record Ends (config : ConfigValues) (dead : List Departure) (births : List Birth)
     (before after : SceneValue) (stats : Stats) : Type 0 where
   pub scene : scene_in after
       ≡ after_events config (with_births config (scene_in before) dead (map delivery_in births))

@@ -24,13 +24,13 @@ pub use Rattle.world_tree.specs.WorldTrees
 pub use Rattle.saved_worlds.specs.SavedGrammar
 pub use Rattle.saved_worlds.specs.Resuming
 pub use Rattle.saved_worlds.specs.ValidState
-pub mod Soundness
+pub mod Bounds
 pub mod WorldValue
 pub mod Genotypes
 pub mod Endings
 pub mod Population
 pub mod Happening
-pub mod Residents
+pub mod CellTables
 pub mod Scenes
 pub mod Everyone
 pub mod Sharding

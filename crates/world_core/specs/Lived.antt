@@ -14,7 +14,7 @@ use Rattle.world_rules.specs.Settings.{settings_at}
 use Rattle.world_rules.specs.Update.{Delivery, delivery_of}
 use Rattle.world_rules.specs.World.{Occupant}
 use Rattle.world_core.specs.declared.ids.Birth.{Birth}
-use Rattle.world_core.specs.declared.ids.Tenant.{Tenant}
+use Rattle.world_core.specs.declared.ids.Departure.{Departure}
 
 -- what all lives of an update share
 abbrev pub round_of : ConfigValues → ℕ → RoundNumbers
@@ -37,25 +37,25 @@ delivered_in births = map (λ b. b.newborn) births
 abbrev pub birth_by : List ℕ → Delivered → Birth
 birth_by ids d = record { parent = slice_index_or ids d.cell 0; newborn = d }
 
--- who stood in a cell
-abbrev pub tenant : ℕ → ℕ → Tenant
-tenant cell id = record { cell = cell; id = id }
+-- a departure from a cell, of who has this id
+abbrev pub departure : ℕ → ℕ → Departure
+departure cell id = record { cell = cell; id = id }
 
 -- the same with the id of the cell
-abbrev pub tenant_by : List ℕ → ℕ → Tenant
-tenant_by ids cell = tenant cell (slice_index_or ids cell 0)
+abbrev pub departure_by : List ℕ → ℕ → Departure
+departure_by ids cell = departure cell (slice_index_or ids cell 0)
 
 -- who died of age in a cell, which has this place among the lives
-abbrev pub departed_in : ℕ × CellLife → List Tenant
+abbrev pub departed_in : ℕ × CellLife → List Departure
 departed_in place =
     if place.1.died
-    then option_to_list (option_map (λ o. tenant place.0 o.id) place.1.occupant)
+    then option_to_list (option_map (λ o. departure place.0 o.id) place.1.occupant)
     else []
 
 -- who died of age in these cells, which go on from this one
-abbrev pub departed_from : ℕ → List CellLife → List Tenant
+abbrev pub departed_from : ℕ → List CellLife → List Departure
 departed_from first lives = flat_map departed_in (enumerate_from first lives)
 
 -- the line of a death of age in an update
-abbrev pub departure_line : ℕ → Tenant → Line
+abbrev pub departure_line : ℕ → Departure → Line
 departure_line update one = Death one.id update one.cell

@@ -78,11 +78,11 @@ abbrev pub merit_or_zero : Option Standing → ℕ
 merit_or_zero None = 0
 merit_or_zero (Some one) = one.merit
 
--- who stood in a cell with this key may be counted again as who stands there now
-abbrev pub CanCountAgain : Counts → ℕ → Option Standing → Option Standing → Type 0
-CanCountAgain counts key None now = Unit {0}
-CanCountAgain counts key (Some was) None = CanRemove counts key was.merit was.credited
-CanCountAgain counts key (Some was) (Some now) =
+-- who stood in a cell with this key may be counted as who stands there now
+abbrev pub CanCountChange : Counts → ℕ → Option Standing → Option Standing → Type 0
+CanCountChange counts key None now = Unit {0}
+CanCountChange counts key (Some was) None = CanRemove counts key was.merit was.credited
+CanCountChange counts key (Some was) (Some now) =
     CanRenew counts was.merit was.credited (2 ^ 38) × (now.merit ≤ 2 ^ 38)
 
 -- an organism is counted with the merit and the credited set that it has now
@@ -93,7 +93,7 @@ IsRenewed before after was now =
 
 -- who stood in a cell is counted as who stands there now: nobody, or the same organism after its
 -- life
-abbrev pub CountsAgain : Counts → Counts → ℕ → Option Standing → Option Standing → Type 0
-CountsAgain before after key None now = after ≡ before
-CountsAgain before after key (Some was) None = HasOneFewer before after key was.merit was.credited
-CountsAgain before after key (Some was) (Some now) = IsRenewed before after was now
+abbrev pub CountsChange : Counts → Counts → ℕ → Option Standing → Option Standing → Type 0
+CountsChange before after key None now = after ≡ before
+CountsChange before after key (Some was) None = HasOneFewer before after key was.merit was.credited
+CountsChange before after key (Some was) (Some now) = IsRenewed before after was now

@@ -24,8 +24,8 @@ abbrev pub scene_in : SceneValue → Scene
 scene_in s = record { update = s.update; cells = s.cells; everyone = s.everyone; gone = s.gone }
 
 -- the scene once somebody stands in the cell, and who stood there is among the dead
-abbrev pub comes_over : SceneValue → ℕ → Occupant → SceneValue
-comes_over s cell o = record s {
+abbrev pub with_occupant : SceneValue → ℕ → Occupant → SceneValue
+with_occupant s cell o = record s {
   cells = slice_set s.cells cell (Some o);
   gone = s.gone ++ option_to_list (id_at s.cells cell);
 }

@@ -12,13 +12,13 @@ ghost use Rattle.world_rules.specs.LogText.{birth_line, birth_lines};
 ghost use Rattle.world_rules.specs.Scene.{next_id, standing_at};
 ghost use Rattle.world_rules.specs.Update.{placings_of, with_newborn, after_births};
 ghost use Rattle.world_rules.specs.World.{ids_of};
+ghost use Rattle.world_core.specs.Bounds.{IsDelivery, AreDeliveries};
 ghost use Rattle.world_core.specs.Genotypes.{HasNumber, genomes_ever};
 ghost use Rattle.world_core.specs.Lived.{delivered_in, delivery_in};
 ghost use Rattle.world_core.specs.Scenes.{scene_in};
-ghost use Rattle.world_core.specs.Soundness.{IsDelivery, AreDeliveries};
 
+use crate::cell_table::CellTable;
 use crate::ids::Birth;
-use crate::residents::Residents;
 use crate::scene::Scene;
 use crate::settings::{placing_round_at, torus_of};
 use avida_port::Memory;
@@ -103,7 +103,7 @@ fn parents_of(alloc: Global, births: &[Birth]) -> Result<Parents, Memory>
 }
 
 /// The id of who stands in each cell.
-fn board_of(alloc: Global, cells: &Residents) -> Result<Occupants, Memory>
+fn board_of(alloc: Global, cells: &CellTable) -> Result<Occupants, Memory>
     ensures { IfOk result (λ board. board ≡ ids_of cells.now) }
 {
     let ids = cells.all_ids(alloc)?;
@@ -111,7 +111,7 @@ fn board_of(alloc: Global, cells: &Residents) -> Result<Occupants, Memory>
 }
 
 /// A newborn stands in the cell of its placing, with the next id, and has its line.
-#[tactic(auto, using(crate::proofs::SoundLemmas::set_over), unfolding(world_rules::specs::Update::with_newborn, world_rules::specs::Scene::with_death, world_rules::specs::Scene::with_newcomer, organism::specs::OrganismState::new_organism))]
+#[tactic(auto, using(crate::proofs::BoundedCells::set_over), unfolding(world_rules::specs::Update::with_newborn, world_rules::specs::Scene::with_death, world_rules::specs::Scene::with_newcomer, organism::specs::OrganismState::new_organism))]
 fn place_newborn(
     alloc: Global,
     config: &Config,
@@ -137,7 +137,7 @@ fn place_newborn(
     let Birth { parent, newborn } = birth;
     let Delivered {
         handle,
-        remembered,
+        tree_genome,
         origin,
         merit,
         credited,
@@ -145,17 +145,17 @@ fn place_newborn(
     } = newborn;
     let cell = placing.cell;
     tell_birth(scene, parent, cell, &origin, text)?;
-    scene.enroll(Some(parent), cell, Some(origin), remembered)?;
+    scene.enroll(Some(parent), cell, Some(origin), tree_genome)?;
     let organism = organism_over(
         alloc,
-        scene.die(cell)?,
+        scene.kill(cell)?,
         handle.genome,
         placing.inputs,
         merit,
         credited,
         config.memory_limit,
     )?;
-    scene.come(id, cell, handle.number, organism)
+    scene.put(id, cell, handle.number, organism)
 }
 
 /// An organism at its beginning, in the memory of who stood in its cell, where somebody did.

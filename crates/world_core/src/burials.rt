@@ -1,16 +1,16 @@
-// Those that died of age are told.
+// Those that died of age have their lines.
 ghost use Rattle.std.specs.Prelude.{◌≡◌, ◌++◌, OnOk, map};
 ghost use Rattle.lineage_log.specs.LogGrammar.{lines_text};
 ghost use Rattle.world_core.specs.Lived.{departure_line};
 
-use crate::ids::Tenant;
+use crate::ids::Departure;
 use crate::scene::Scene;
 use avida_port::Memory;
 use log_lines::{LogLine, write_line};
 
 /// Those that died of age, and left their cells, are among the dead of the update, with a line for
 /// each. After `Memory` drop the scene.
-pub(crate) fn bury(scene: &mut Scene, dead: &[Tenant], text: &mut Vec<u8>) -> Result<(), Memory>
+pub(crate) fn bury(scene: &mut Scene, dead: &[Departure], text: &mut Vec<u8>) -> Result<(), Memory>
     ensures scene { OnOk result (scene.new
         ≡ record scene.old { gone = scene.old.gone ++ map (λ one. one.id) dead.now }) }
     ensures text { OnOk result (text.new.items ≡ text.old.items
@@ -18,9 +18,9 @@ pub(crate) fn bury(scene: &mut Scene, dead: &[Tenant], text: &mut Vec<u8>) -> Re
 {
     let update = scene.update;
     for one in dead {
-        let Tenant { cell, id } = *one;
+        let Departure { cell, id } = *one;
         write_line(&LogLine::Death { id, update, cell }, text)?;
-        scene.depart(id)?;
+        scene.add_departure(id)?;
     }
     Ok(())
 }

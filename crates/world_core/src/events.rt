@@ -25,7 +25,7 @@ use std::sync::Wait;
 use world_config::{Config, MOST_EVENTS, What};
 
 /// The events of the scene's update in order, with their lines. After `Memory` drop the scene.
-pub(crate) fn happen<R: Wait>(
+pub(crate) fn apply_events<R: Wait>(
     rt: &R,
     alloc: Global,
     config: &Config,
@@ -47,14 +47,14 @@ pub(crate) fn happen<R: Wait>(
     let update = scene.update;
     for (at, event) in config.event.as_slice().iter().enumerate() {
         if event.update == update {
-            occur(rt, alloc, config, scene, at as u32 + 1, &event.what, text)?;
+            apply_event(rt, alloc, config, scene, at as u32 + 1, &event.what, text)?;
         }
     }
     Ok(())
 }
 
 /// What an event does, given its place in the list from 1, with its lines.
-fn occur<R: Wait>(
+fn apply_event<R: Wait>(
     rt: &R,
     alloc: Global,
     config: &Config,
@@ -147,7 +147,7 @@ fn clear(scene: &mut Scene, first: u32, last: u32, text: &mut Vec<u8>) -> Result
 {
     for cell in first..last + 1 {
         tell_clearing(scene, cell, text)?;
-        scene.die(cell)?;
+        scene.kill(cell)?;
     }
     Ok(())
 }

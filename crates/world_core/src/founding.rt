@@ -96,7 +96,7 @@ pub(crate) fn found_in<R: Wait>(
     let id = scene.next_id();
     let handle = enroll_founder(rt, alloc, scene, cell, genome)?;
     let organism = founder(alloc, config, cell, nth, handle.genome)?;
-    scene.come_over(id, cell, handle.number, organism)
+    scene.put_over(id, cell, handle.number, organism)
 }
 
 /// The next id goes to a founder of this genome, which is interned. After `Memory` drop the scene.
@@ -117,8 +117,8 @@ fn enroll_founder<R: Wait>(
         slice_get scene.new.bank handle.number ≡ Some (letters genome.now)) }
 {
     let handle = scene.intern(rt, alloc, genome.copy(alloc)?)?;
-    let remembered = Arc::try_clone(&handle.genome)?;
-    scene.enroll(None, cell, None, remembered)?;
+    let tree_genome = Arc::try_clone(&handle.genome)?;
+    scene.enroll(None, cell, None, tree_genome)?;
     Ok(handle)
 }
 

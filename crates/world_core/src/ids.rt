@@ -1,6 +1,6 @@
 // The ids of parents and of the dead, looked up by their cells.
 ghost use Rattle.std.specs.Prelude.{◌≡◌, IfOk, map, slice_index_or};
-ghost use Rattle.world_core.specs.Lived.{birth_by, tenant_by};
+ghost use Rattle.world_core.specs.Lived.{birth_by, departure_by};
 
 use avida_port::Memory;
 use cell_shards::Delivered;
@@ -15,7 +15,7 @@ pub(crate) struct Birth {
 
 /// Who died of age in a cell.
 #[derive(Clone, Copy, Debug)]
-pub(crate) struct Tenant {
+pub(crate) struct Departure {
     pub(crate) cell: u32,
     pub(crate) id: u64,
 }
@@ -27,21 +27,21 @@ pub(crate) fn with_ids(
     ids: &[u64],
     newborns: Vec<Delivered>,
     dead: Vec<u32>,
-) -> Result<(Vec<Birth>, Vec<Tenant>), Memory>
+) -> Result<(Vec<Birth>, Vec<Departure>), Memory>
     ensures births { IfOk result (λ both. both.0.items ≡ map (birth_by ids.now) newborns.items) }
-    ensures dead { IfOk result (λ both. both.1.items ≡ map (tenant_by ids.now) dead.items) }
+    ensures dead { IfOk result (λ both. both.1.items ≡ map (departure_by ids.now) dead.items) }
 {
     let mut births = Vec::with_capacity(alloc, newborns.len())?;
     for newborn in newborns {
         let parent = id_in(ids, newborn.cell);
         births.push(Birth { parent, newborn })?;
     }
-    let mut tenants = Vec::with_capacity(alloc, dead.len())?;
+    let mut departures = Vec::with_capacity(alloc, dead.len())?;
     for cell in dead {
         let id = id_in(ids, cell);
-        tenants.push(Tenant { cell, id })?;
+        departures.push(Departure { cell, id })?;
     }
-    Ok((births, tenants))
+    Ok((births, departures))
 }
 
 /// The id of a cell, 0 where there is none for it.

@@ -3,9 +3,10 @@
 
 mod births;
 mod burials;
-mod descent;
+mod cell_table;
 mod events;
 mod everyone;
+mod first_tree;
 mod founding;
 mod genotypes;
 mod ids;
@@ -14,7 +15,6 @@ mod lives;
 mod loads;
 mod picture;
 mod population;
-mod residents;
 mod resuming;
 mod running_world;
 mod scene;

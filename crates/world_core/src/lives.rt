@@ -5,7 +5,7 @@ ghost use Rattle.census.specs.Changes.{CanRenew};
 ghost use Rattle.merit_slices.specs.Slices.{slices_of};
 ghost use Rattle.world_config.specs.Shown.{values_of};
 ghost use Rattle.world_core.specs.Lived.{round_of};
-ghost use Rattle.world_core.specs.Population.{CanCountAgain, CountsAgain, IsRenewed, merit_or_zero};
+ghost use Rattle.world_core.specs.Population.{CanCountChange, CountsChange, IsRenewed, merit_or_zero};
 
 use crate::settings::settings_at;
 use avida_port::Memory;
@@ -68,16 +68,17 @@ fn merit_in(standing: Option<Standing>) -> u64
     }
 }
 
-/// The counts once who stood in a cell has lived: whoever died goes, and whoever bore has another
-/// merit and credited set than before.
-pub(crate) fn count_again(
+/// Counts what a life changed in its cell: whoever died goes, and whoever bore has another merit
+/// and credited set than before.
+#[inline(always)]
+pub(crate) fn count_change(
     census: &mut Census,
     key: u64,
     was: Option<Standing>,
     now: Option<Standing>,
 )
-    requires { CanCountAgain census.old key was now }
-    ensures { CountsAgain census.old census.new key was now }
+    requires { CanCountChange census.old key was now }
+    ensures { CountsChange census.old census.new key was now }
 {
     match (was, now) {
         (Some(was), Some(now)) => renew(census, was, now),

@@ -8,15 +8,15 @@ ghost use Rattle.world_rules.specs.Lives.{lives_of};
 ghost use Rattle.world_rules.specs.Statistics.{dominant_of, organism_in, stats_in};
 ghost use Rattle.world_rules.specs.Update.{births_of};
 ghost use Rattle.world_laws.specs.Keeping.{LiveOn};
+ghost use Rattle.world_core.specs.Bounds.{AreBounded, AreBoundedLives};
 ghost use Rattle.world_core.specs.Genotypes.{TakesIn};
 ghost use Rattle.world_core.specs.Lived.{delivered_in, delivery_in, departed_from, staying_in};
 ghost use Rattle.world_core.specs.Population.{occupant_genome};
-ghost use Rattle.world_core.specs.Soundness.{AreBounded, AreBoundedLives};
 
+use crate::cell_table::CellTable;
 use crate::genotypes::Genotypes;
-use crate::ids::{Birth, Tenant, with_ids};
-use crate::lives::{count_again, round_at, slices_by};
-use crate::residents::Residents;
+use crate::ids::{Birth, Departure, with_ids};
+use crate::lives::{count_change, round_at, slices_by};
 use crate::sharding::{Ended, live_in_shards};
 use avida_port::{Gate, Memory};
 use cell_shards::BoxedOrganism;
@@ -37,7 +37,7 @@ use world_config::{Config, GREATEST_UPDATES};
 /// Who stands in each cell. The counts of the living change as organisms come and go.
 #[derive(Drop)]
 pub(crate) struct Population {
-    pub(crate) cells: Residents,
+    pub(crate) cells: CellTable,
     /// The number of the genome in each cell where somebody stands.
     pub(crate) keys: Vec<u64>,
     pub(crate) genotypes: Genotypes,
@@ -64,7 +64,7 @@ impl Population {
             population ≡ record { cells = replicate cells None; bank = [] }) }
     {
         Ok(Population {
-            cells: Residents::none(alloc, cells)?,
+            cells: CellTable::none(alloc, cells)?,
             keys: vec![in alloc; 0; cells as usize]?,
             genotypes: Genotypes::none(alloc)?,
             census: Census::start(alloc),
@@ -72,7 +72,7 @@ impl Population {
     }
 
     /// Who stands in each cell.
-    pub(crate) fn cells(&self) -> &Residents
+    pub(crate) fn cells(&self) -> &CellTable
         ensures cells { result.now ≡ self.now.cells }
         ensures few { length self.now.cells ≤ CELLS }
     {
@@ -160,7 +160,7 @@ impl Population {
 
     /// The lives of all cells in the update after this one, by as many threads as there are
     /// workers. The dead leave their cells, and the genomes of the newborns are interned. The
-    /// calling thread does its errand once the others have begun. After `Memory` no population is
+    /// calling thread does `meanwhile` once the others have begun. After `Memory` no population is
     /// left.
     pub(crate) fn live<R: Threads + Wait + Sync, G: Gate + Sync, T: Drop, F: FnOnce() -> T + Drop>(
         self,
@@ -170,15 +170,15 @@ impl Population {
         update: u32,
         workers: u32,
         gate: &G,
-        errand: F,
-    ) -> Result<(Population, Vec<Birth>, Vec<Tenant>, T), Memory>
+        meanwhile: F,
+    ) -> Result<(Population, Vec<Birth>, Vec<Departure>, T), Memory>
         requires some { 1 ≤ length self.cells }
         requires update { update < GREATEST_UPDATES }
         requires workers { (1 ≤ workers) × (workers ≤ 64) }
-        requires sound { AreBounded update self.cells }
+        requires bounded { AreBounded update self.cells }
         requires lives { LiveOn (values_of config.now)
             (record { update = update; cells = self.cells; everyone = [] }) }
-        requires errand { F.pre errand }
+        requires meanwhile { F.pre meanwhile }
         ensures cells { IfOk result (λ next. next.0.cells
             ≡ map staying_in (lives_of (values_of config.now) (update + 1) self.cells)) }
         ensures births { IfOk result (λ next. map delivery_in next.1.items
@@ -189,7 +189,7 @@ impl Population {
             (delivered_in next.1.items)) }
         ensures bounds { IfOk result (λ next. AreBoundedLives (values_of config.now) (update + 1)
             next.0.cells (map delivery_in next.1.items)) }
-        ensures errand { IfOk result (λ next. F.post errand next.3) }
+        ensures meanwhile { IfOk result (λ next. F.post meanwhile next.3) }
     {
         one_index();
         let Population {
@@ -198,15 +198,15 @@ impl Population {
             genotypes: known,
             mut census,
         } = self;
-        let Residents {
+        let CellTable {
             organisms,
             ids,
             standings: before,
         } = cells;
         let slices = slices_by(alloc, config, &before)?;
         let round = round_at(config, update + 1);
-        let (genotypes, ended, brought) = live_in_shards(
-            rt, alloc, known, organisms, slices, &round, workers, gate, errand,
+        let (genotypes, ended, outcome) = live_in_shards(
+            rt, alloc, known, organisms, slices, &round, workers, gate, meanwhile,
         )?;
         let Ended {
             organisms: left,
@@ -216,10 +216,10 @@ impl Population {
         } = ended;
         let (births, dead) = with_ids(alloc, &ids, births, dead)?;
         for cell in 0..left.len() {
-            count_again(&mut census, keys[cell], before[cell], standings[cell]);
+            count_change(&mut census, keys[cell], before[cell], standings[cell]);
         }
         let population = Population {
-            cells: Residents {
+            cells: CellTable {
                 organisms: left,
                 ids,
                 standings,
@@ -228,7 +228,7 @@ impl Population {
             genotypes,
             census,
         };
-        Ok((population, births, dead, brought))
+        Ok((population, births, dead, outcome))
     }
 
     /// What is counted after an update of so many births and deaths.

@@ -185,7 +185,7 @@ fn restore<R: Wait>(
 {
     let number = intern_again(rt, alloc, scene, &mut resident.image)?;
     let organism = organism_of(alloc, &resident.image, memory_limit)?;
-    scene.come_over(resident.id, resident.cell, number, organism)
+    scene.put_over(resident.id, resident.cell, number, organism)
 }
 
 /// Interns the genome of an image, which from now on is that of the bank. After `Memory` drop the

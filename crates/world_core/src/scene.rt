@@ -1,5 +1,5 @@
 // A world within an update.
-ghost use Rattle.std.specs.Prelude.{◌≡◌, ◌+◌, ◌++◌, ◌∷◌, [], ◌<◌, ◌≤◌, ◌^◌, Some, IfOk, None, OnOk, drop, length, map, option_map, replicate, slice_get, slice_index_or, slice_set};
+ghost use Rattle.std.specs.Prelude.{◌≡◌, ◌+◌, ◌++◌, ◌∷◌, [], ◌<◌, ◌≤◌, ◌^◌, Some, IfOk, None, OnOk, drop, length, option_map, replicate, slice_get, slice_index_or, slice_set};
 ghost use Rattle.genome.specs.Genome.{letters};
 ghost use Rattle.genotype_bank.specs.BankHistory.{with_genome};
 ghost use Rattle.mutations.specs.BirthRecord.{record_of};
@@ -8,7 +8,8 @@ ghost use Rattle.world_config.specs.Shown.{values_of};
 ghost use Rattle.world_rules.specs.Scene.{next_id, standing_at, with_death};
 ghost use Rattle.world_rules.specs.Statistics.{organism_in, scene_stats};
 ghost use Rattle.world_rules.specs.WorldRun.{world_after};
-ghost use Rattle.world_core.specs.Scenes.{comes_over, scene_in};
+ghost use Rattle.world_core.specs.Bounds.{CanStand};
+ghost use Rattle.world_core.specs.Scenes.{scene_in, with_occupant};
 
 use crate::everyone::Everyone;
 use crate::population::Population;
@@ -36,8 +37,8 @@ pub(crate) struct Scene {
 }
 
 impl Model for Scene {
+    ghost use Rattle.world_core.specs.Bounds.{AreBounded};
     ghost use Rattle.world_core.specs.Scenes.{SceneValue};
-    ghost use Rattle.world_core.specs.Soundness.{AreBounded};
 
     ghost Value = { SceneValue };
 
@@ -55,7 +56,7 @@ impl Model for Scene {
 
 impl Scene {
     /// So many cells in which nobody stands, and an empty bank.
-    #[tactic(auto, using(crate::proofs::SoundLemmas::AreBounded_none))]
+    #[tactic(auto, using(crate::proofs::BoundedCells::AreBounded_none))]
     pub(crate) fn none(
         alloc: Global,
         update: u32,
@@ -95,8 +96,8 @@ impl Scene {
     }
 
     /// Who stands in the cell dies, and is what the result has. After `Memory` drop the scene.
-    #[tactic(auto, unfolding(world_rules::specs::Scene::with_death), using(crate::proofs::SoundLemmas::AreBounded_gone))]
-    pub(crate) fn die(&mut self, cell: u32) -> Result<Option<BoxedOrganism>, Memory>
+    #[tactic(auto, unfolding(world_rules::specs::Scene::with_death), using(crate::proofs::BoundedCells::AreBounded_gone))]
+    pub(crate) fn kill(&mut self, cell: u32) -> Result<Option<BoxedOrganism>, Memory>
         requires { cell < length self.old.cells }
         ensures scene { OnOk result (scene_in self.new ≡ with_death (scene_in self.old) cell) }
         ensures who { IfOk result
@@ -160,8 +161,8 @@ impl Scene {
 
     /// Somebody with this id, whose genome has this number, stands in the cell, which was empty.
     /// After `Memory` drop the scene.
-    #[tactic(auto, using(crate::proofs::SoundLemmas::AreBounded_come))]
-    pub(crate) fn come(
+    #[tactic(auto, using(crate::proofs::BoundedCells::AreBounded_put))]
+    pub(crate) fn put(
         &mut self,
         id: u64,
         cell: u32,
@@ -170,9 +171,7 @@ impl Scene {
     ) -> Result<(), Memory>
         requires cell { cell < length self.old.cells }
         requires empty { slice_index_or self.old.cells cell None ≡ None }
-        requires number { slice_get self.old.bank number ≡ Some organism.genome }
-        requires age { organism.age < 2 ^ 48 }
-        requires merit { organism.merit ≤ 2 ^ 38 }
+        requires organism { CanStand self.old.bank number organism }
         ensures { OnOk result (self.new ≡ record self.old {
           cells = slice_set self.old.cells cell (Some (record { id = id; organism = organism }));
         }) }
@@ -182,7 +181,7 @@ impl Scene {
 
     /// Somebody with this id, whose genome has this number, stands in the cell, and who stood there
     /// dies. After `Memory` drop the scene.
-    pub(crate) fn come_over(
+    pub(crate) fn put_over(
         &mut self,
         id: u64,
         cell: u32,
@@ -190,18 +189,16 @@ impl Scene {
         organism: BoxedOrganism,
     ) -> Result<(), Memory>
         requires cell { cell < length self.old.cells }
-        requires number { slice_get self.old.bank number ≡ Some organism.genome }
-        requires age { organism.age < 2 ^ 48 }
-        requires merit { organism.merit ≤ 2 ^ 38 }
-        ensures { OnOk result (self.new ≡ comes_over self.old cell
+        requires organism { CanStand self.old.bank number organism }
+        ensures { OnOk result (self.new ≡ with_occupant self.old cell
             (record { id = id; organism = organism })) }
     {
-        self.die(cell)?;
-        self.come(id, cell, number, organism)
+        self.kill(cell)?;
+        self.put(id, cell, number, organism)
     }
 
     /// Who died of age is among the dead of this update; the cells have been left.
-    pub(crate) fn depart(&mut self, id: u64) -> Result<(), Memory>
+    pub(crate) fn add_departure(&mut self, id: u64) -> Result<(), Memory>
         ensures { OnOk result (self.new ≡ record self.old { gone = self.old.gone ++ id ∷ [] }) }
     {
         self.gone.push(id)?;

@@ -14,8 +14,7 @@ use crate::loads::{loads_of, start_of};
 use avida_port::{Gate, Items, Memory};
 use cell_shards::laws::{parts_live_as_one, shards_part_the_cells};
 use cell_shards::{
-    BoxedOrganism, Cells, Delivered, Finished, Job, Round, Slices, Standing, bounds,
-    run_with_errand,
+    BoxedOrganism, Cells, Delivered, Finished, Job, Round, Slices, Standing, bounds, run_all_beside,
 };
 use genotype_bank::laws::{calls_number_genotypes, genotypes_are_what_was_interned, numbers_agree};
 use genotype_bank::{Bank, Seat};
@@ -35,7 +34,7 @@ pub(crate) struct Ended {
 }
 
 /// All cells live for an update, in shards, by as many threads as there are workers. One worker has
-/// the cells as they are, and nothing is moved. The calling thread does its errand once the others
+/// the cells as they are, and nothing is moved. The calling thread does `meanwhile` once the others
 /// have begun. After `Memory` all is gone.
 pub(crate) fn live_in_shards<
     R: Threads + Wait + Sync,
@@ -51,7 +50,7 @@ pub(crate) fn live_in_shards<
     round: &Round,
     workers: u32,
     gate: &G,
-    errand: F,
+    meanwhile: F,
 ) -> Result<(Genotypes, Ended, T), Memory>
     requires cells { (1 ≤ length cells.items) × (length cells.items ≤ CELLS) }
     requires slices { length slices.items ≡ length cells.items }
@@ -59,7 +58,7 @@ pub(crate) fn live_in_shards<
     requires total { sum slices.items ≤ 65536000 }
     requires young { All IsYoung cells.items }
     requires workers { (1 ≤ workers) × (workers ≤ 64) }
-    requires errand { F.pre errand }
+    requires meanwhile { F.pre meanwhile }
     ensures cells { IfOk result (λ next. next.1.organisms.items ≡ map left_in
         (shard_lives_of (round_numbers round.now) (part_from 0 cells.items slices.items))) }
     ensures standings { IfOk result
@@ -70,7 +69,7 @@ pub(crate) fn live_in_shards<
         (shard_lives_of (round_numbers round.now) (part_from 0 cells.items slices.items))) }
     ensures bank { IfOk result (λ next. TakesIn genotypes next.0 next.1.births.items) }
     ensures different { IfOk result (λ next. AreDifferent next.0) }
-    ensures errand { IfOk result (λ next. F.post errand next.2) }
+    ensures meanwhile { IfOk result (λ next. F.post meanwhile next.2) }
 {
     calls_number_genotypes();
     genotypes_are_what_was_interned();
@@ -80,7 +79,9 @@ pub(crate) fn live_in_shards<
     seat.owns_all();
     let jobs = jobs_of(alloc, &bank, seat, cells, slices, shards_for(workers))?;
     let threads = workers as usize;
-    let (shards, brought) = run_with_errand(rt, alloc, jobs, threads, &bank, round, gate, errand)?;
+    let (shards, outcome) = run_all_beside(
+        rt, alloc, jobs, threads, &bank, round, gate, meanwhile,
+    )?;
     let Finished {
         cells,
         standings,
@@ -98,7 +99,7 @@ pub(crate) fn live_in_shards<
         births: births.into_vec(),
         dead: dead.into_vec(),
     };
-    Ok((genotypes, ended, brought))
+    Ok((genotypes, ended, outcome))
 }
 
 /// Into how many shards the cells are cut. The threads take shard after shard, so the smaller the
@@ -132,6 +133,9 @@ fn jobs_of(
     ensures seats { IfOk result (λ jobs. ShareSeat seat jobs.items) }
     ensures few { IfOk result (λ jobs. length jobs.items ≤ 64) }
 {
+    if shards == 1 {
+        return one_job(alloc, seat, cells, slices);
+    }
     shards_part_the_cells();
     let mut loads = loads_of(alloc, &slices)?;
     let all: u64 = loads.iter().sum();
@@ -157,6 +161,29 @@ fn jobs_of(
         seat,
     })?;
     jobs.reverse();
+    Ok(jobs)
+}
+
+/// All cells as one job, which has the seat.
+fn one_job(
+    alloc: Global,
+    seat: Seat,
+    cells: Vec<Option<BoxedOrganism>>,
+    slices: Vec<u64>,
+) -> Result<Vec<Job>, Memory>
+    requires { length slices.items ≡ length cells.items }
+    ensures cells { IfOk result (λ jobs. PartCells jobs.items cells.items slices.items) }
+    ensures load { IfOk result (λ jobs. ShareLoad 1 slices.items jobs.items) }
+    ensures seats { IfOk result (λ jobs. ShareSeat seat jobs.items) }
+    ensures few { IfOk result (λ jobs. length jobs.items ≤ 64) }
+{
+    let mut jobs = Vec::with_capacity(alloc, 1)?;
+    jobs.push(Job {
+        first: 0,
+        cells: Cells::from_vec(cells),
+        slices: Slices::from_vec(slices),
+        seat,
+    })?;
     Ok(jobs)
 }
 

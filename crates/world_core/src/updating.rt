@@ -8,16 +8,16 @@ ghost use Rattle.world_laws.specs.Keeping.{LiveOn};
 ghost use Rattle.world_rules.specs.Lives.{lives_of};
 ghost use Rattle.world_rules.specs.LogText.{update_lines};
 ghost use Rattle.world_rules.specs.Update.{births_of, world_of};
+ghost use Rattle.world_core.specs.Bounds.{AreDeliveries};
 ghost use Rattle.world_core.specs.Endings.{Ends, IsNext, last_lines};
 ghost use Rattle.world_core.specs.Genotypes.{HasNumber, TakesIn};
 ghost use Rattle.world_core.specs.Lived.{delivered_in, delivery_in, departed_from, staying_in};
 ghost use Rattle.world_core.specs.Scenes.{scene_in};
-ghost use Rattle.world_core.specs.Soundness.{AreDeliveries};
 
 use crate::births::place_births;
 use crate::burials::bury;
-use crate::events::happen;
-use crate::ids::{Birth, Tenant};
+use crate::events::apply_events;
+use crate::ids::{Birth, Departure};
 use crate::scene::Scene;
 use avida_port::{Gate, Memory};
 use log_lines::{LogLine, Stats, write_line};
@@ -26,8 +26,8 @@ use std::sync::Wait;
 use std::thread::Threads;
 use world_config::{Config, GREATEST_UPDATES};
 
-/// The scene at the end of the next update, what is counted of it, its lines, and what comes of the
-/// errand that the calling thread does once the others have begun.
+/// The scene at the end of the next update, what is counted of it, its lines, and what comes of
+/// `meanwhile`, which the calling thread does once the others have begun.
 pub(crate) fn next_scene<
     R: Threads + Wait + Sync,
     G: Gate + Sync,
@@ -40,26 +40,26 @@ pub(crate) fn next_scene<
     scene: Scene,
     workers: u32,
     gate: &G,
-    errand: F,
+    meanwhile: F,
 ) -> Result<(Scene, Stats, Vec<u8>, T), Memory>
     requires size { length scene.cells ≡ config.now.width * config.now.height }
     requires update { scene.update < GREATEST_UPDATES }
     requires few { length scene.everyone ≤ 2 ^ 62 + 2 ^ 60 }
     requires workers { (1 ≤ workers) × (workers ≤ 64) }
     requires lives { LiveOn (values_of config.now) (world_of (scene_in scene)) }
-    requires errand { F.pre errand }
+    requires meanwhile { F.pre meanwhile }
     ensures next { IfOk result
         (λ next. IsNext (values_of config.now) scene next.0 next.1) }
     ensures text { IfOk result (λ next. next.2.items
         ≡ lines_text (update_lines (values_of config.now) (world_of (scene_in scene)))) }
-    ensures errand { IfOk result (λ next. F.post errand next.3) }
+    ensures meanwhile { IfOk result (λ next. F.post meanwhile next.3) }
 {
-    let (mut scene, births, dead, brought) = scene_of_lives(
-        rt, alloc, config, scene, workers, gate, errand,
+    let (mut scene, births, dead, outcome) = scene_of_lives(
+        rt, alloc, config, scene, workers, gate, meanwhile,
     )?;
     let mut text = Vec::new(alloc);
     let stats = end_update(rt, alloc, config, &mut scene, births, &dead, &mut text)?;
-    Ok((scene, stats, text, brought))
+    Ok((scene, stats, text, outcome))
 }
 
 /// What follows the lives of an update: burials, births and events, with their lines, and what is
@@ -70,7 +70,7 @@ fn end_update<R: Wait>(
     config: &Config,
     scene: &mut Scene,
     births: Vec<Birth>,
-    dead: &[Tenant],
+    dead: &[Departure],
     text: &mut Vec<u8>,
 ) -> Result<Stats, Memory>
     requires size { length scene.old.cells ≡ config.now.width * config.now.height }
@@ -87,7 +87,7 @@ fn end_update<R: Wait>(
     let count = births.len() as u64;
     bury(scene, dead, text)?;
     place_births(alloc, config, scene, births, text)?;
-    happen(rt, alloc, config, scene, text)?;
+    apply_events(rt, alloc, config, scene, text)?;
     let stats = scene.stats(count);
     tell_count(stats, text)?;
     Ok(stats)
@@ -108,13 +108,13 @@ fn scene_of_lives<R: Threads + Wait + Sync, G: Gate + Sync, T: Drop, F: FnOnce()
     scene: Scene,
     workers: u32,
     gate: &G,
-    errand: F,
-) -> Result<(Scene, Vec<Birth>, Vec<Tenant>, T), Memory>
+    meanwhile: F,
+) -> Result<(Scene, Vec<Birth>, Vec<Departure>, T), Memory>
     requires size { length scene.cells ≡ config.now.width * config.now.height }
     requires update { scene.update < GREATEST_UPDATES }
     requires workers { (1 ≤ workers) × (workers ≤ 64) }
     requires lives { LiveOn (values_of config.now) (world_of (scene_in scene)) }
-    requires errand { F.pre errand }
+    requires meanwhile { F.pre meanwhile }
     ensures scene { IfOk result (λ next. scene_in next.0 ≡ record {
       update = scene.update + 1;
       cells = map staying_in (lives_of (values_of config.now) (scene.update + 1) scene.cells);
@@ -131,7 +131,7 @@ fn scene_of_lives<R: Threads + Wait + Sync, G: Gate + Sync, T: Drop, F: FnOnce()
         (delivered_in next.1.items)) }
     ensures size { IfOk result (λ next. length next.0.cells ≡ length scene.cells) }
     ensures first { IfOk result (λ next. next.0.first ≡ scene.first) }
-    ensures errand { IfOk result (λ next. F.post errand next.3) }
+    ensures meanwhile { IfOk result (λ next. F.post meanwhile next.3) }
 {
     let Scene {
         update,
@@ -139,8 +139,8 @@ fn scene_of_lives<R: Threads + Wait + Sync, G: Gate + Sync, T: Drop, F: FnOnce()
         everyone,
         mut gone,
     } = scene;
-    let (cells, births, dead, brought) = cells.live(
-        rt, alloc, config, update, workers, gate, errand,
+    let (cells, births, dead, outcome) = cells.live(
+        rt, alloc, config, update, workers, gate, meanwhile,
     )?;
     gone.clear();
     let scene = Scene {
@@ -149,5 +149,5 @@ fn scene_of_lives<R: Threads + Wait + Sync, G: Gate + Sync, T: Drop, F: FnOnce()
         everyone,
         gone,
     };
-    Ok((scene, births, dead, brought))
+    Ok((scene, births, dead, outcome))
 }

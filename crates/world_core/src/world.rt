@@ -14,7 +14,7 @@ ghost use Rattle.world_tree.specs.WorldTrees.{living_and_ancestors};
 ghost use Rattle.world_core.specs.Genotypes.{genomes_ever};
 ghost use Rattle.world_core.specs.WorldValue.{WorldValue, world_in, genome_in_cell};
 
-use crate::descent::first_tree;
+use crate::first_tree::first_tree;
 use crate::founding::first_scene;
 use crate::late_tree::LateTree;
 use crate::picture::WorldPicture;

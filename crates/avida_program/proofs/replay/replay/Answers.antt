@@ -8,7 +8,7 @@ use Rattle.avida_program.proofs.replay.replay.Goals as goal
 pub returns-in_err-livings : goal.returns-in_err-livings
 returns-in_err-livings g c = λ watch last.
     let p = err_from_is_err_and c.from_residual.result c.from_residual.ensures.1 in
-    rw (p.1, p.2) (not_read _ log_input_of replay_text (λ work told h. h) _ _ watch last _
+    rw (p.1, p.2) (not_read _ log_input_of replay_text (λ work ended h. h) _ _ watch last _
     c.in_err-livings.ensures.err)
 
 pub returns-in_err-write_replayed : goal.returns-in_err-write_replayed
@@ -16,11 +16,11 @@ returns-in_err-write_replayed g c = λ watch last.
     let p = err_from_is_err_and c.from_residual-in_err-write_replayed.result
     c.from_residual-in_err-write_replayed.ensures.1 in
     let read = c.in_ok-livings.ensures.ok in
-    rw (p.1, p.2) (not_written _ log_input_of replay_text (λ work told h. h) _ watch last read.0 _
+    rw (p.1, p.2) (not_written _ log_input_of replay_text (λ work ended h. h) _ watch last read.0 _
     refl read.1 (c.in_err-write_replayed.ensures read.0 read.2))
 
 pub returns : goal.returns
 returns g c = λ watch last.
     let read = c.in_ok-livings.ensures.ok in
-    written _ log_input_of replay_text (λ work told h. h) _ watch last read.0 read.1
+    written _ log_input_of replay_text (λ work ended h. h) _ watch last read.0 read.1
     (c.in_ok-write_replayed.ensures read.0 read.2)

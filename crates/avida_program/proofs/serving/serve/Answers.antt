@@ -10,9 +10,9 @@ use Rattle.avida_program.proofs.serving.serve.Goals as goal
 
 -- what was done, and what tells of it, is what the status promises
 served : {command : Option Command} {work : Work} {err : Change SinkState} {s : Status}
-    (told : Ended)
-    → s ≡ status_of told → Obeys command work told → TellsOf err told → Serves command work err s
-served told is obeys tells = record { told = told; is_told = is; obeys = obeys; tells = tells }
+    (ended : Ended)
+    → s ≡ status_of ended → Obeys command work ended → TellsOf err ended → Serves command work err s
+served ended is obeys tells = record { ended = ended; status_is = is; obeys = obeys; tells = tells }
 
 pub returns : goal.returns
 returns g c = record {

@@ -5,7 +5,7 @@ use Rattle.saved_worlds.specs.SavedGrammar.{SavedFault, saved_of}
 use Rattle.checkpoint.specs.declared.saved_stop.SavedStop.{SavedStop}
 use Rattle.checkpoint.specs.Places.{saved_place_of}
 use Rattle.checkpoint.specs.Reading.{Ends, IsFaultOf}
-use Rattle.checkpoint.specs.ToldValue.{ToldValue}
+use Rattle.checkpoint.specs.SoFarValue.{SoFarValue}
 use Rattle.checkpoint.proofs.ReadLemmas.{left_faulty, left_on}
 use Rattle.checkpoint.proofs.read.read_lines.Goals as goal
 
@@ -18,7 +18,7 @@ returns-in_err-place c =
     (left_faulty c.loop-behind.number (saved_place_of c.loop-behind.place) c.loop-behind.rest.now
     c.split_at.result.0.now c.split_at.result.1 c.split_at.ensures.pieces e c.in-Some.behind
     c.in-Some.is c.in_err-place.ensures) in
-    subst (λ (r : Result ToldValue SavedStop). Ends r (saved_of c.args.bytes.now)) (sym is) bad
+    subst (λ (r : Result SoFarValue SavedStop). Ends r (saved_of c.args.bytes.now)) (sym is) bad
 
 pub loop-behind-preserved : goal.loop-behind-preserved
 loop-behind-preserved c =

@@ -15,10 +15,10 @@ use Rattle.world_config.specs.Shown.{values_of}
 use Rattle.world_rules.specs.LogText.{birth_line}
 use Rattle.world_rules.specs.Scene.{Scene}
 use Rattle.world_rules.specs.Update.{Delivery, after_births, placings_of, turns_of, with_newborn}
+use Rattle.world_core.specs.Bounds.{IsDelivery}
 use Rattle.world_core.specs.Genotypes.{genomes_ever}
 use Rattle.world_core.specs.Lived.{delivery_in}
 use Rattle.world_core.specs.Scenes.{scene_in}
-use Rattle.world_core.specs.Soundness.{IsDelivery}
 use Rattle.world_core.specs.declared.ids.Birth.{Birth}
 use Rattle.world_core.proofs.BirthLemmas.{genomes-beside, placed-genomes, yields-made}
 use Rattle.world_core.proofs.ScanLemmas.{lines-step}

@@ -10,10 +10,10 @@ use Rattle.birth_board.specs.Placement.{placements_of}
 use Rattle.world_rules.specs.Settings.{placing_round_at}
 use Rattle.world_rules.specs.Update.{Delivery, placings_of}
 use Rattle.world_rules.specs.World.{id_of, ids_of}
+use Rattle.world_core.specs.Bounds.{IsDelivery}
 use Rattle.world_core.specs.Lived.{delivery_in}
 use Rattle.world_core.specs.Scenes.{SceneValue, scene_in}
-use Rattle.world_core.specs.Soundness.{IsDelivery}
-use Rattle.world_core.proofs.LivesLemmas.{All-unmap, map-both}
+use Rattle.world_core.proofs.BirthOrderLemmas.{All-unmap, map-both}
 use Rattle.world_core.proofs.births.placings_of.Goals as goal
 
 pub place-requires : goal.place-requires

@@ -1,15 +1,14 @@
-use Rattle.std.proofs.Common.{◌≡◌, ◌∙◌, ap, arith, length, List, slice_get, Some, subst, sym}
+use Rattle.std.proofs.Common.{◌≡◌, ◌∙◌, ap, arith, length, subst, sym}
 use Rattle.std.proofs.lemmas.Result.{on_ok_weaker}
 use Rattle.genome.specs.Genome.{letters}
 use Rattle.genotype_bank.specs.BankHistory.{with_genome}
-use Rattle.instruction_set.specs.declared.letter.Letter.{Letter}
 use Rattle.lineage_log.specs.Links.{Link}
-use Rattle.organism.specs.OrganismState.{OrganismState}
 use Rattle.world_config.specs.Shown.{values_of}
 use Rattle.world_rules.specs.Scene.{next_id}
 use Rattle.world_rules.specs.World.{founder_link, founder_of}
-use Rattle.world_core.specs.Scenes.{SceneValue, comes_over, scene_in}
-use Rattle.world_core.proofs.ComingLemmas.{enrolled, found_is, founder-age, founder-genome, founder-merit, newcomer_is}
+use Rattle.world_core.specs.Bounds.{CanStand}
+use Rattle.world_core.specs.Scenes.{SceneValue, scene_in, with_occupant}
+use Rattle.world_core.proofs.ComingLemmas.{enrolled, found_is, founder-stands, newcomer_is}
 use Rattle.world_core.proofs.founding.found_in.Given as given
 use Rattle.world_core.proofs.founding.found_in.Goals.{In_ok-organism}
 use Rattle.world_core.proofs.founding.found_in.Goals as goal
@@ -28,9 +27,9 @@ made g c = c.in_ok-organism.ensures
 
 -- the scene once it has come
 found : (g : given.Over) (c : In_ok-organism g) (last : SceneValue)
-    → last ≡ comes_over c.enroll_founder.new.scene c.args.cell
+    → last ≡ with_occupant c.enroll_founder.new.scene c.args.cell
     (record { id = c.next_id-id.result; organism = c.in_ok-organism.organism })
-    → last ≡ comes_over (enrolled c.args.scene.now (link g c)
+    → last ≡ with_occupant (enrolled c.args.scene.now (link g c)
     (with_genome c.args.scene.now.bank (letters c.args.genome.now))) c.args.cell
     (record {
       id = next_id (scene_in c.args.scene.now);
@@ -46,63 +45,40 @@ pub founder-requires-clause-genome : goal.founder-requires-clause-genome
 founder-requires-clause-genome g c =
     omega (arith, ap length c.in_ok-handle.ensures.genome, c.requires.genome)
 
-pub come_over-requires-clause-cell : goal.come_over-requires-clause-cell
-come_over-requires-clause-cell g c =
+pub put_over-requires-clause-cell : goal.put_over-requires-clause-cell
+put_over-requires-clause-cell g c =
     omega (
       arith,
       c.requires.cell,
       ap (λ (s : SceneValue). length s.cells) c.in_ok-handle.ensures.scene,
     )
 
-pub come_over-requires-clause-number : goal.come_over-requires-clause-number
-come_over-requires-clause-number g c =
-    let config = values_of c.args.config.now in
-    subst (λ (genome : List Letter). slice_get c.enroll_founder.new.scene.bank
-    c.in_ok-handle.handle.number ≡ Some genome)
-    (sym (ap (λ (o : OrganismState). o.genome)
-    (made g (goal.at.come_over-requires-clause-number g c).In_ok-organism)
-    ∙ founder-genome config c.args.cell c.args.nth (letters c.args.genome.now)))
+pub put_over-requires-clause-organism : goal.put_over-requires-clause-organism
+put_over-requires-clause-organism g c =
+    subst (CanStand c.enroll_founder.new.scene.bank c.in_ok-handle.handle.number)
+    (sym (made g (goal.at.put_over-requires-clause-organism g c).In_ok-organism))
+    (founder-stands (values_of c.args.config.now) c.args.cell c.args.nth
+    c.in_ok-handle.handle.number (letters c.args.genome.now) c.enroll_founder.new.scene.bank
     c.in_ok-handle.ensures.number
-
-pub come_over-requires-clause-age : goal.come_over-requires-clause-age
-come_over-requires-clause-age g c =
-    let config = values_of c.args.config.now in
-    omega (
-      arith,
-      ap (λ (o : OrganismState). o.age)
-          (made g (goal.at.come_over-requires-clause-age g c).In_ok-organism),
-      founder-age config c.args.cell c.args.nth (letters c.args.genome.now),
-    )
-
-pub come_over-requires-clause-merit : goal.come_over-requires-clause-merit
-come_over-requires-clause-merit g c =
-    let config = values_of c.args.config.now in
-    omega (
-      arith,
-      ap (λ (o : OrganismState). o.merit)
-          (made g (goal.at.come_over-requires-clause-merit g c).In_ok-organism),
-      founder-merit config c.args.cell c.args.nth (letters c.args.genome.now),
-      c.requires.genome,
-      c.args.config.now.greatest_length_bounds,
-    )
+    (omega (arith, c.requires.genome, c.args.config.now.greatest_length_bounds)))
 
 pub returns-clause-scene : goal.returns-clause-scene
 returns-clause-scene g c =
     let at = (goal.at.returns-clause-scene g c).In_ok-organism in
-    on_ok_weaker c.come_over.result (λ came. ap scene_in (found g at c.come_over.new.self came)
+    on_ok_weaker c.put_over.result (λ came. ap scene_in (found g at c.put_over.new.self came)
     ∙ newcomer_is c.args.scene.now (link g at)
     (with_genome c.args.scene.now.bank (letters c.args.genome.now))
     (founder_of (values_of c.args.config.now) c.args.cell c.args.nth
-    (letters c.args.genome.now))) c.come_over.ensures
+    (letters c.args.genome.now))) c.put_over.ensures
 
 pub returns-clause-bank : goal.returns-clause-bank
 returns-clause-bank g c =
     let at = (goal.at.returns-clause-bank g c).In_ok-organism in
-    on_ok_weaker c.come_over.result (λ came.
-    ap (λ (s : SceneValue). s.bank) (found g at c.come_over.new.self came)) c.come_over.ensures
+    on_ok_weaker c.put_over.result (λ came.
+    ap (λ (s : SceneValue). s.bank) (found g at c.put_over.new.self came)) c.put_over.ensures
 
 pub returns-clause-first : goal.returns-clause-first
 returns-clause-first g c =
     let at = (goal.at.returns-clause-first g c).In_ok-organism in
-    on_ok_weaker c.come_over.result (λ came.
-    ap (λ (s : SceneValue). s.first) (found g at c.come_over.new.self came)) c.come_over.ensures
+    on_ok_weaker c.put_over.result (λ came.
+    ap (λ (s : SceneValue). s.first) (found g at c.put_over.new.self came)) c.put_over.ensures

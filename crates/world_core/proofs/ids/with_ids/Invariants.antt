@@ -1,6 +1,6 @@
 use Rattle.std.proofs.Common.{◌≡◌, ◌++◌, map}
 use Rattle.std.specs.Vec.Iter.{into_iter_items}
-use Rattle.world_core.specs.Lived.{birth_by, tenant_by}
+use Rattle.world_core.specs.Lived.{birth_by, departure_by}
 use Rattle.world_core.proofs.ids.with_ids.Given as goal
 
 abbrev pub invariant-loop-newborn : goal.invariant-loop-newborn
@@ -10,5 +10,5 @@ invariant-loop-newborn l =
 
 abbrev pub invariant-loop-cell : goal.invariant-loop-cell
 invariant-loop-cell l =
-    l.tenants.items ++ map (tenant_by l.ids) (into_iter_items l.cell-iterator)
-    ≡ map (tenant_by l.ids) (into_iter_items l.initial.cell-iterator)
+    l.departures.items ++ map (departure_by l.ids) (into_iter_items l.cell-iterator)
+    ≡ map (departure_by l.ids) (into_iter_items l.initial.cell-iterator)

@@ -1,9 +1,8 @@
-use Rattle.std.proofs.Common.{◌≡◌, ◌∙◌, ap, arith, length, List, set, slice_get, Some, subst, sym}
+use Rattle.std.proofs.Common.{◌≡◌, ◌∙◌, ap, arith, length, set, Some, subst, sym}
 use Rattle.std.proofs.lemmas.Result.{on_ok_weaker}
-use Rattle.instruction_set.specs.declared.letter.Letter.{Letter}
 use Rattle.organism.specs.Image.{organism_of_image}
 use Rattle.organism.specs.Lived.{IsSoundOrganism}
-use Rattle.organism.specs.OrganismState.{OrganismState}
+use Rattle.world_core.specs.Bounds.{CanStand}
 use Rattle.world_core.specs.Scenes.{SceneValue}
 use Rattle.world_core.proofs.resuming.restore.Given as given
 use Rattle.world_core.proofs.resuming.restore.Goals.{In_ok-organism}
@@ -18,48 +17,37 @@ pub organism_of-requires : goal.organism_of-requires
 organism_of-requires g c =
     subst IsSoundOrganism (sym (c.in_ok-number.ensures.same c.args.memory_limit)) c.requires.sound
 
-pub come_over-requires-clause-cell : goal.come_over-requires-clause-cell
-come_over-requires-clause-cell g c =
+pub put_over-requires-clause-cell : goal.put_over-requires-clause-cell
+put_over-requires-clause-cell g c =
     omega (
       arith,
       c.requires.cell,
       ap (λ (s : SceneValue). length s.cells) c.in_ok-number.ensures.scene,
     )
 
-pub come_over-requires-clause-number : goal.come_over-requires-clause-number
-come_over-requires-clause-number g c =
-    let at = goal.at.come_over-requires-clause-number g c in
-    subst (λ (genome : List Letter). slice_get c.intern_again.new.scene.bank c.in_ok-number.number
-    ≡ Some genome) (sym (ap (λ (o : OrganismState). o.genome) (made g at.In_ok-organism)))
-    c.in_ok-number.ensures.number
-
-pub come_over-requires-clause-age : goal.come_over-requires-clause-age
-come_over-requires-clause-age g c =
-    let at = goal.at.come_over-requires-clause-age g c in
-    omega (arith, c.requires.age, ap (λ (o : OrganismState). o.age) (made g at.In_ok-organism))
-
-pub come_over-requires-clause-merit : goal.come_over-requires-clause-merit
-come_over-requires-clause-merit g c =
-    let at = goal.at.come_over-requires-clause-merit g c in
-    omega (
-      arith,
-      c.requires.sound.merit,
-      ap (λ (o : OrganismState). o.merit) (made g at.In_ok-organism),
-    )
+pub put_over-requires-clause-organism : goal.put_over-requires-clause-organism
+put_over-requires-clause-organism g c =
+    subst (CanStand c.intern_again.new.scene.bank c.in_ok-number.number)
+    (sym (made g (goal.at.put_over-requires-clause-organism g c).In_ok-organism))
+    (record {
+      genome = c.in_ok-number.ensures.number;
+      age = c.requires.age;
+      merit = c.requires.sound.merit;
+    })
 
 pub returns-clause-cells : goal.returns-clause-cells
 returns-clause-cells g c =
     let own = made g (goal.at.returns-clause-cells g c).In_ok-organism in
-    on_ok_weaker c.come_over.result (λ came. ap (λ (s : SceneValue). s.cells) came
+    on_ok_weaker c.put_over.result (λ came. ap (λ (s : SceneValue). s.cells) came
     ∙ (λ i. set (c.in_ok-number.ensures.scene i).cells c.args.resident.now.cell
-    (Some (record { id = c.args.resident.now.id; organism = own i })))) c.come_over.ensures
+    (Some (record { id = c.args.resident.now.id; organism = own i })))) c.put_over.ensures
 
 pub returns-clause-past : goal.returns-clause-past
 returns-clause-past g c =
     let before = c.in_ok-number.ensures.scene in
-    on_ok_weaker c.come_over.result (λ came. record {
+    on_ok_weaker c.put_over.result (λ came. record {
       update = ap (λ (s : SceneValue). s.update) came ∙ ap (λ (s : SceneValue). s.update) before;
       everyone =
           ap (λ (s : SceneValue). s.everyone) came ∙ ap (λ (s : SceneValue). s.everyone) before;
       first = ap (λ (s : SceneValue). s.first) came ∙ ap (λ (s : SceneValue). s.first) before;
-    }) c.come_over.ensures
+    }) c.put_over.ensures

@@ -40,8 +40,8 @@ takes g c ends =
     (c.owns_all.ensures c.genotypes.invariant.1)
     (c.owns_all-2.ensures (ends.share ∙ c.genotypes.invariant.1)) ends
 
-pub run_with_errand-requires-clause-jobs : goal.run_with_errand-requires-clause-jobs
-run_with_errand-requires-clause-jobs g c l b k d within =
+pub run_all_beside-requires-clause-jobs : goal.run_all_beside-requires-clause-jobs
+run_all_beside-requires-clause-jobs g c l b k d within =
     let parts = c.in_ok-jobs.ensures.cells in
     jobs-can-run 0 c.in_ok-jobs.jobs.items parts.beside
     (omega (arith, c.requires.cells, ap length parts.cells_are))

@@ -8,11 +8,11 @@ use Rattle.world_config.specs.Shown.{values_of}
 use Rattle.world_rules.specs.LogText.{birth_lines, event_lines}
 use Rattle.world_rules.specs.Statistics.{scene_stats}
 use Rattle.world_rules.specs.Update.{after_births, after_events}
+use Rattle.world_core.specs.Bounds.{AreDeliveries}
 use Rattle.world_core.specs.Endings.{with_births}
 use Rattle.world_core.specs.Genotypes.{HasNumber, genomes_ever}
 use Rattle.world_core.specs.Lived.{delivered_in, delivery_in, departure_line}
 use Rattle.world_core.specs.Scenes.{Grows, SceneValue, scene_in}
-use Rattle.world_core.specs.Soundness.{AreDeliveries}
 use Rattle.world_core.specs.declared.ids.Birth.{Birth}
 use Rattle.world_core.proofs.GrowLemmas.{Grows_births, Grows_on}
 use Rattle.world_core.proofs.UpdateLemmas.{joined}
@@ -52,19 +52,20 @@ returns-clause-ends g c =
     let last = c.place_births.new.scene in
     let buried = c.in_ok-bury.ensures.scene in
     record {
-      scene = c.in_ok-happen.ensures.scene
+      scene = c.in_ok-apply_events.ensures.scene
           ∙ ap (after_events config) (placed g (goal.at.returns-clause-ends g c).In_ok-place_births);
       counts = c.stats-stats.ensures
-          ∙ ap (scene_stats (scene_in c.happen.new.scene)) (omega (arith, c.len-count.ensures));
-      size = c.in_ok-happen.ensures.size ∙ c.in_ok-place_births.ensures.size
+          ∙ ap (scene_stats (scene_in c.apply_events.new.scene))
+          (omega (arith, c.len-count.ensures));
+      size = c.in_ok-apply_events.ensures.size ∙ c.in_ok-place_births.ensures.size
           ∙ ap (λ (s : SceneValue). length s.cells) buried;
       few = omega (
         arith,
-        c.in_ok-happen.ensures.everyone,
+        c.in_ok-apply_events.ensures.everyone,
         c.in_ok-place_births.ensures.everyone,
         ap (λ (s : SceneValue). length s.everyone) buried,
       );
-      first = c.in_ok-happen.ensures.first ∙ c.in_ok-place_births.ensures.first
+      first = c.in_ok-apply_events.ensures.first ∙ c.in_ok-place_births.ensures.first
           ∙ ap (λ (s : SceneValue). s.first) buried;
       bank = λ old takes. (let all = ap (λ (s : SceneValue). s.everyone) buried in
           let genomes = c.in_ok-place_births.ensures.genomes
@@ -73,10 +74,10 @@ returns-clause-ends g c =
           Grows_births old first.bank first.everyone last.everyone (delivered_in births) takes
           genomes in
           let same = c.in_ok-place_births.ensures.bank ∙ ap (λ (s : SceneValue). s.bank) buried in
-          Grows_on old last.bank c.happen.new.scene.bank first.everyone last.everyone
-          c.happen.new.scene.everyone
+          Grows_on old last.bank c.apply_events.new.scene.bank first.everyone last.everyone
+          c.apply_events.new.scene.everyone
           (subst (λ bank. Grows old bank first.everyone last.everyone) (sym same) born)
-          c.in_ok-happen.ensures.bank);
+          c.in_ok-apply_events.ensures.bank);
     }
 
 pub returns-clause-text : goal.returns-clause-text
@@ -90,7 +91,7 @@ returns-clause-text g c =
     let two = c.in_ok-place_births.ensures.text
     ∙ ap (λ (t : List ℕ). t ++ lines_text (birth_lines config (scene_in c.bury.new.scene) births))
     c.in_ok-bury.ensures.text in
-    let three = c.in_ok-happen.ensures.text
+    let three = c.in_ok-apply_events.ensures.text
     ∙ ap (λ (t : List ℕ). t ++ lines_text
     (event_lines config (scene_in c.place_births.new.scene))) two in
     c.in_ok-tell_count.ensures

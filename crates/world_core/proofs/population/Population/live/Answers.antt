@@ -7,16 +7,16 @@ use Rattle.world_config.specs.Shown.{values_of}
 use Rattle.world_rules.specs.Lives.{lives_of, merit_in, slices_at}
 use Rattle.world_rules.specs.Update.{Delivery, births_of}
 use Rattle.world_rules.specs.World.{Occupant}
+use Rattle.world_core.specs.Bounds.{AreBounded, AreBoundedLives}
+use Rattle.world_core.specs.CellTables.{occupants_of}
 use Rattle.world_core.specs.Genotypes.{TakesIn}
-use Rattle.world_core.specs.Lived.{birth_by, delivery_in, tenant_by}
+use Rattle.world_core.specs.Lived.{birth_by, delivery_in, departure_by}
 use Rattle.world_core.specs.Population.{IsKeptOf, PopulationValue, merit_or_zero, occupant_genome}
-use Rattle.world_core.specs.Residents.{occupants_of}
-use Rattle.world_core.specs.Soundness.{AreBounded, AreBoundedLives}
 use Rattle.world_core.proofs.BoundLemmas.{lives-bounded, lives-keep}
+use Rattle.world_core.proofs.CellTableLemmas.{occupants_of-length}
 use Rattle.world_core.proofs.CountLemmas.{GoesOn}
 use Rattle.world_core.proofs.KeptOfLemmas.{IsKeptOf-more}
 use Rattle.world_core.proofs.LivedLemmas.{LiveApart, cells-long, delivered-are, goes-on, lived-births, lived-cells, lived-dead, lived-length, merits-fit, slices-are, young-are}
-use Rattle.world_core.proofs.ResidentLemmas.{occupants_of-length}
 use Rattle.world_core.proofs.TurnLemmas.{AreRead, IsRead, all-counted, can-count-here, counted-here}
 use Rattle.world_core.proofs.population.Population.live.Given as given
 use Rattle.world_core.proofs.population.Population.live.Goals.{After-index-in-loop-cell-2, In-loop-cell, In_ok-births}
@@ -55,7 +55,7 @@ goes : (g : given.Over) (c : In_ok-births g) → (place : ℕ)
 goes g c = goes-on (apart g c) c.in_ok-genotypes.ended.organisms.items
     c.in_ok-genotypes.ensures.cells
     (λ place. (let kept = lives-keep (values_of c.args.config.now) c.args.update c.args.self.cells
-    c.requires.sound c.requires.lives (few g c) place in (kept.cell, kept.genome)))
+    c.requires.bounded c.requires.lives (few g c) place in (kept.cell, kept.genome)))
 
 -- what the count reads of the cells
 lists : (g : given.Over) (c : In_ok-births g)
@@ -136,7 +136,7 @@ live_in_shards-requires-clause-young g c l b =
     c.cells.invariant.long c.requires.update
     (subst (AreBounded c.args.update)
     (sym (c.cells.view_is ∙ ap (λ (p : PopulationValue). p.cells) c.self.view_is))
-    c.requires.sound)
+    c.requires.bounded)
 
 pub loop-cell-init : goal.loop-cell-init
 loop-cell-init g c =
@@ -178,9 +178,9 @@ index-requires-in-loop-cell-2 g c =
       c.in_ok-genotypes.ended.standings.ok.0,
     )
 
-pub count_again-requires : goal.count_again-requires
-count_again-requires g c =
-    let at = goal.at.count_again-requires g c in
+pub count_change-requires : goal.count_change-requires
+count_change-requires g c =
+    let at = goal.at.count_change-requires g c in
     let before = at.In_ok-births in
     can-count-here (apart g before) c.in_ok-genotypes.ensures.cells c.one_index.ensures.list
     (lists g before) c.args.self.bank c.loop-cell.census c.loop-cell.census
@@ -192,9 +192,9 @@ loop-cell-preserved g c =
     let at = goal.at.loop-cell-preserved g c in
     let before = at.In_ok-births in
     counted-here (apart g before) c.in_ok-genotypes.ensures.cells c.one_index.ensures.list
-    (lists g before) c.args.self.bank c.loop-cell.census c.count_again.new.census
+    (lists g before) c.args.self.bank c.loop-cell.census c.count_change.new.census
     c.loop-cell.cell (inside g at.In-loop-cell) (goes g before c.loop-cell.cell)
-    c.loop-cell.invariant (read g at.After-index-in-loop-cell-2) c.count_again.ensures
+    c.loop-cell.invariant (read g at.After-index-in-loop-cell-2) c.count_change.ensures
 
 pub invariant_of-population : goal.invariant_of-population
 invariant_of-population g c = record {
@@ -243,7 +243,7 @@ pub returns-clause-dead : goal.returns-clause-dead
 returns-clause-dead g c =
     lived-dead (apart g (goal.at.returns-clause-dead g c).In_ok-births)
     c.in_ok-genotypes.ended.dead.items c.in_ok-births.dead.items c.in_ok-genotypes.ensures.dead
-    (c.in_ok-births.ensures.dead ∙ ap (λ (ids : List ℕ). map (tenant_by ids)
+    (c.in_ok-births.ensures.dead ∙ ap (λ (ids : List ℕ). map (departure_by ids)
     c.in_ok-genotypes.ended.dead.items) c.deref-2.ensures.value)
 
 pub returns-clause-bank : goal.returns-clause-bank
@@ -274,7 +274,7 @@ returns-clause-bounds g c =
       length-map c.cells.inside.organisms.items standing_in,
       cells-long live,
     ) in
-    let bounded = lives-bounded config c.args.update cells c.requires.sound c.requires.lives
+    let bounded = lives-bounded config c.args.update cells c.requires.bounded c.requires.lives
     (few g at.In_ok-births) many total in
     let cells_are = lived-cells live c.in_ok-genotypes.ended.organisms.items
     c.in_ok-genotypes.ensures.cells in

@@ -1,5 +1,5 @@
+use Rattle.world_core.specs.CellTables.{occupants_of}
 use Rattle.world_core.specs.Population.{IsKeptOf}
-use Rattle.world_core.specs.Residents.{occupants_of}
 use Rattle.world_core.proofs.CountLemmas.{mixed}
 use Rattle.world_core.proofs.population.Population.live.Given as goal
 

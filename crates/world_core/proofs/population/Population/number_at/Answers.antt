@@ -2,8 +2,8 @@ use Rattle.std.proofs.Common.{◌≡◌, ◌∙◌, ap, sym, get_or, None, Some,
 use Rattle.std.specs.Prelude.{option_map, slice_get}
 use Rattle.std.proofs.lemmas.List.{get_or_read, length-map}
 use Rattle.world_core.specs.Population.{PopulationValue, occupant_genome}
+use Rattle.world_core.proofs.CellTableLemmas.{nobody, somebody}
 use Rattle.world_core.proofs.KeptOfLemmas.{key-is}
-use Rattle.world_core.proofs.ResidentLemmas.{nobody, somebody}
 use Rattle.world_core.proofs.population.Population.number_at.Goals as goal
 
 pub returns-in-Some : goal.returns-in-Some

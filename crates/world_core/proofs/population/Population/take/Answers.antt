@@ -4,8 +4,8 @@ use Rattle.census.specs.Changes.{HasOneFewer}
 use Rattle.world_rules.specs.Statistics.{organism_in}
 use Rattle.world_rules.specs.World.{Occupant}
 use Rattle.world_core.specs.Population.{IsKeptOf, PopulationValue, occupant_genome}
+use Rattle.world_core.proofs.CellTableLemmas.{nobody, somebody}
 use Rattle.world_core.proofs.KeptOfLemmas.{IsKeptOf-empty, IsKeptOf-removed, can-remove}
-use Rattle.world_core.proofs.ResidentLemmas.{nobody, somebody}
 use Rattle.world_core.proofs.population.Population.take.Goals.{in-Some, in_default}
 use Rattle.world_core.proofs.population.Population.take.Goals as goal
 

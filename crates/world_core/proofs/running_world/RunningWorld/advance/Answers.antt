@@ -49,7 +49,7 @@ invariant_of-world g c =
     let trees = subst (λ (n : ℕ). IfOk c.in_ok-scene.grown (IsTreeOf (world_after config n))) seen
     (subst (λ (own : ConfigValues). IfOk c.in_ok-scene.grown
     (IsTreeOf (world_after own c.scene.inside.update))) (ap values_of c.deref-rules.ensures)
-    c.in_ok-scene.ensures.errand) in (
+    c.in_ok-scene.ensures.meanwhile) in (
       subst (λ (s : SceneValue). IsWorldOf config s c.in_ok-scene.stats) (sym left)
           (without_gone config _ c.in_ok-scene.stats
           (next_world_is config before after c.self.inside.stats c.in_ok-scene.stats

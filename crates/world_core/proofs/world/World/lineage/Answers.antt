@@ -6,7 +6,7 @@ use Rattle.world_rules.specs.World.{World, id_at}
 use Rattle.world_rules.specs.WorldRun.{world_after}
 use Rattle.world_laws.specs.Turnover.{IsStanding}
 use Rattle.world_core.specs.WorldValue.{WorldValue, world_in}
-use Rattle.world_core.proofs.TreeLemmas.{stands_by_id}
+use Rattle.world_core.proofs.IdLemmas.{stands_by_id}
 use Rattle.world_core.proofs.world.World.lineage.Goals as goal
 
 pub lineage-requires : goal.lineage-requires

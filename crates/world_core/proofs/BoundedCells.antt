@@ -1,0 +1,29 @@
+-- Cells in which each organism is bounded.
+use Rattle.std.proofs.Common.{◌^◌, ◌≡◌, refl, ap, ℕ, zero, suc, ◌<◌, ◌≤◌, List, [], ◌∷◌, Option, None, Some, replicate, arith}
+use Rattle.std.proofs.Math.ListN.{set}
+use Rattle.std.proofs.lemmas.List.Elements.{All-replicate, All-set}
+use Rattle.world_rules.specs.World.{Occupant}
+use Rattle.world_core.specs.Bounds.{AreBounded, IsBoundedIn}
+
+-- somebody new is bounded in every update
+pub AreBounded_put : (update : ℕ) (cells : List (Option Occupant)) (cell : ℕ) (o : Occupant)
+    → o.organism.age < 2 ^ 48 → o.organism.merit ≤ 2 ^ 38 → AreBounded update cells
+    → AreBounded update (set cells cell (Some o))
+AreBounded_put update cells cell o young fits sound =
+    All-set (IsBoundedIn update) cells cell (Some o)
+    (record { age = omega (arith, young); merit = fits }) sound
+
+-- so are cells in which nobody stands
+pub AreBounded_none : (update count : ℕ) → AreBounded update (replicate count None)
+AreBounded_none update count = All-replicate (IsBoundedIn update) count None tt
+
+-- so is a cell from which somebody went
+pub AreBounded_gone : (update : ℕ) (cells : List (Option Occupant)) (cell : ℕ)
+    → AreBounded update cells → AreBounded update (set cells cell None)
+AreBounded_gone update cells cell sound = All-set (IsBoundedIn update) cells cell None tt sound
+
+-- what is put over something stands there alone
+pub set_over : {X : Type 0} (xs : List X) (i : ℕ) (x y : X) → set (set xs i x) i y ≡ set xs i y
+set_over [] i x y = refl
+set_over (z ∷ zs) zero x y = refl
+set_over (z ∷ zs) (suc i) x y = ap (λ rest. z ∷ rest) (set_over zs i x y)

@@ -1,0 +1,88 @@
+use Rattle.std.proofs.Common.{◌∙◌, refl, sym, ap, subst, ◌<◌, length, get_or, eq-eqb, arith}
+use Rattle.std.proofs.lemmas.Bool.{ne_eqb}
+use Rattle.world_config.specs.Events.{what_value}
+use Rattle.world_core.specs.Happening.{CanHappen}
+use Rattle.world_core.specs.Scenes.{Grows, SceneValue, scene_in}
+use Rattle.world_core.proofs.GrowLemmas.{Grows_on, Grows_same}
+use Rattle.world_core.proofs.EventLemmas.{IsOnTheWay, way-start, way-past, way-on, event-can_happen}
+use Rattle.world_core.proofs.events.apply_events.Goals.{then-event-update+in_ok-apply_event, else-event-update}
+use Rattle.world_core.proofs.events.apply_events.Goals as goal
+
+pub loop-at-init : goal.loop-at-init
+loop-at-init g c =
+    let first = scene_in c.args.scene.now in
+    let start = c.args.text.now.items in
+    record {
+      way = subst (λ update. IsOnTheWay c.args.config.now update 0 first first start start)
+          (sym (ap (λ (s : SceneValue). s.update) c.scene.view_is))
+          (way-start c.args.config.now first start);
+      size = refl;
+      everyone = omega arith;
+      first = refl;
+      bank = Grows_same _ _ _ _ refl refl;
+    }
+
+pub apply_event-requires-clause-fits : goal.apply_event-requires-clause-fits
+apply_event-requires-clause-fits g c =
+    let config = c.args.config.now in
+    let at = c.loop-at.at in
+    let event = c.event-item.result in
+    let events = c.as_slice-event-items.ensures in
+    let within : at < length config.event = omega (arith, ap length events, c.loop-at-test.true) in
+    subst (λ cells. CanHappen cells config.greatest_length (what_value event.what))
+    (sym (c.loop-at.invariant.size ∙ c.requires.size))
+    (event-can_happen config at event within
+    (c.event-item.is ∙ ap (λ events. get_or events at event) events))
+
+pub loop-at-preserved : goal.loop-at-preserved
+loop-at-preserved g c =
+    let config = c.args.config.now in
+    let at = c.loop-at.at in
+    let event = c.event-item.result in
+    let events = c.as_slice-event-items.ensures in
+    let within : at < length config.event = omega (arith, ap length events, c.loop-at-test.true) in
+    let here = c.event-item.is ∙ ap (λ events. get_or events at event) events in
+    let before = c.loop-at.invariant in
+    let first = scene_in c.args.scene.now in
+    let start = c.args.text.now.items in
+    elim c.if-event-update.branch [
+      | then-event-update+in_ok-apply_event w ↦
+          let turn = w.in_ok-apply_event.ensures in
+          record {
+            way = way-on config c.scene.inside.update at event first (scene_in c.loop-at.scene)
+                (scene_in c.if-event-update.scene) start c.loop-at.text.items
+                c.if-event-update.text.items within here
+                (eq-eqb event.update c.scene.inside.update w.if-event-update.true)
+                (ap scene_in w.scene-is ∙ turn.scene)
+                (ap (λ text. text.items) w.text-is ∙ turn.text) before.way;
+            size = ap (λ (s : SceneValue). length s.cells) w.scene-is ∙ turn.size ∙ before.size;
+            everyone = omega (
+              arith,
+              ap (λ (s : SceneValue). length s.everyone) w.scene-is,
+              turn.everyone,
+              before.everyone,
+            );
+            first = ap (λ (s : SceneValue). s.first) w.scene-is ∙ turn.first ∙ before.first;
+            bank = Grows_on _ _ _ _ _ _ before.bank
+                (subst (λ (s : SceneValue).
+                Grows c.loop-at.scene.bank s.bank c.loop-at.scene.everyone s.everyone)
+                (sym w.scene-is) turn.bank);
+          }
+      | else-event-update w ↦
+          let same = way-past config c.scene.inside.update at event first (scene_in c.loop-at.scene)
+          start c.loop-at.text.items within here
+          (ne_eqb event.update c.scene.inside.update w.if-event-update.false) before.way in
+          record {
+            way = rw (w.scene-is, w.text-is) same;
+            size = ap (λ (s : SceneValue). length s.cells) w.scene-is ∙ before.size;
+            everyone = omega (
+              arith,
+              ap (λ (s : SceneValue). length s.everyone) w.scene-is,
+              before.everyone,
+            );
+            first = ap (λ (s : SceneValue). s.first) w.scene-is ∙ before.first;
+            bank = subst (λ (s : SceneValue).
+                Grows c.args.scene.now.bank s.bank c.args.scene.now.everyone s.everyone)
+                (sym w.scene-is) before.bank;
+          }
+    ]
