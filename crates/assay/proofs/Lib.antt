@@ -1,3 +1,2 @@
-pub mod SumLemmas
 mod PictureLemmas
 mod SeedLemmas

@@ -7,15 +7,13 @@ use Rattle.log_lines.specs.declared.stats.Stats.{Stats}
 use Rattle.world_config.specs.Values.{ConfigValues}
 use Rattle.world_core.specs.WorldValue.{WorldValue}
 use Rattle.world_rules.specs.Statistics.{stats_of}
-use Rattle.assay.specs.Assay.{AssayValue, assay_of_seed, dominant_after}
-use Rattle.assay.specs.Sums.{AreSumsOf, IsEndOf}
-use Rattle.assay.specs.declared.sums.Sums.{Sums}
+use Rattle.logged_run.specs.RunSums.{IsEndOf}
+use Rattle.logged_run.specs.declared.sums.Sums.{Sums}
+use Rattle.assay.specs.Assay.{AssayValue, assay_of_seed, dominant_after, with_seed}
 
 -- what is told of the world after the last update is what becomes of the seed's run
 pub seed_is : (config : ConfigValues) (seed : ℕ) (world : WorldValue) (sums : Sums) (last : Stats)
-    (dominant : Option (List Letter))
-    → world.config ≡ record config { seed = seed } → world.update ≡ config.updates
-    → AreSumsOf world sums
+    (dominant : Option (List Letter)) → IsEndOf (with_seed config seed) world sums
     → last ≡ stats_of world.config world.update
     → dominant ≡ dominant_after world.config world.update
     → record {
@@ -25,18 +23,9 @@ pub seed_is : (config : ConfigValues) (seed : ℕ) (world : WorldValue) (sums : 
       last = last;
       dominant = dominant;
     } ≡ assay_of_seed config seed
-seed_is config seed world sums last dominant same at so counted most =
-    rw (most, counted, so.births, so.deaths, at, same) refl
-
--- a new world's run came to its end, or memory ran out in it
-pub end_is : (config : ConfigValues) (first : WorldValue) (ran : Result (WorldValue × Sums) Memory)
-    → first.config ≡ config → IfOk ran (λ (r : WorldValue × Sums). r.0.config ≡ first.config)
-    → IfOk ran (λ (r : WorldValue × Sums). r.0.update ≡ config.updates)
-    → IfOk ran (λ (r : WorldValue × Sums). AreSumsOf r.0 r.1)
-    → IfOk ran (λ (r : WorldValue × Sums). IsEndOf config r.0 r.1)
-end_is config first (Ok r) founded same at so =
-    record { config_is = same ∙ founded; at_end = at; summed = so }
-end_is config first (Err e) founded same at so = tt
+seed_is config seed world sums last dominant so counted most =
+    rw (most, counted, so.summed.births.is, so.summed.deaths.is, so.final.update, so.final.config)
+    refl
 
 -- a run that came to its end
 abbrev ended : AssayValue → Result AssayValue Memory

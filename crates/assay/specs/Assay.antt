@@ -1,23 +1,12 @@
 -- Several seeds of one configuration (docs/WORLD.md, "Several seeds").
 use Rattle.std.specs.Prelude.{ℕ, Bool, List, map, nat_lt, Option, option_map, slice_index}
-use Rattle.std.specs.List.{count_by, range_with_len, sum_by}
+use Rattle.std.specs.List.{count_by, range_with_len}
 use Rattle.instruction_set.specs.declared.letter.Letter.{Letter}
 use Rattle.log_lines.specs.declared.stats.Stats.{Stats}
 use Rattle.world_config.specs.Values.{ConfigValues}
 use Rattle.world_rules.specs.Statistics.{dominant_of, stats_of}
 use Rattle.world_rules.specs.WorldRun.{world_after}
-
--- what is counted after each of so many updates, from the first on
-abbrev pub counts_until : ConfigValues → ℕ → List Stats
-counts_until config updates = map (stats_of config) (range_with_len 1 updates)
-
--- the births of so many updates together
-unfoldable pub births_until : ConfigValues → ℕ → ℕ
-births_until config updates = sum_by (λ stats. stats.births) (counts_until config updates)
-
--- the deaths of so many updates together
-unfoldable pub deaths_until : ConfigValues → ℕ → ℕ
-deaths_until config updates = sum_by (λ stats. stats.deaths) (counts_until config updates)
+use Rattle.logged_run.specs.RunCounts.{births_until, deaths_until}
 
 -- the genome that most of the living have after so many updates, where anybody lives
 abbrev pub dominant_after : ConfigValues → ℕ → Option (List Letter)
@@ -43,9 +32,13 @@ assay_of_run config = record {
   dominant = dominant_after config config.updates;
 }
 
+-- the same configuration with this seed
+abbrev pub with_seed : ConfigValues → ℕ → ConfigValues
+with_seed config seed = record config { seed = seed }
+
 -- what becomes of the run of the same configuration with this seed
 abbrev pub assay_of_seed : ConfigValues → ℕ → AssayValue
-assay_of_seed config seed = assay_of_run (record config { seed = seed })
+assay_of_seed config seed = assay_of_run (with_seed config seed)
 
 -- what becomes of the runs with so many seeds, from the first on, one after another
 unfoldable pub assay_list : ConfigValues → ℕ → ℕ → List AssayValue

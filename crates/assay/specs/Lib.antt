@@ -3,5 +3,4 @@ pub use Rattle.world_config.specs.Shown
 pub use Rattle.world_rules.specs.Statistics
 pub use Rattle.world_rules.specs.WorldRun
 pub mod Assay
-pub mod Sums
 pub mod AssayText

@@ -4,7 +4,6 @@
 mod assayed;
 mod seed_run;
 mod side_by_side;
-mod sums;
 mod tally;
 
 pub use assayed::{Assay, Assays};

@@ -1,60 +1,20 @@
 // The run of one seed.
-ghost use Rattle.std.specs.Prelude.{◌≡◌, ◌+◌, ◌≤◌, ◌<◌, IfOk, option_map};
+ghost use Rattle.std.specs.Prelude.{◌≡◌, ◌≤◌, IfOk, option_map};
 ghost use Rattle.genome.specs.Genome.{letters};
 ghost use Rattle.world_config.specs.Shown.{values_of};
 ghost use Rattle.world_config.specs.Values.{ConfigValues};
-ghost use Rattle.assay.specs.Assay.{assay_of_seed, dominant_after};
-ghost use Rattle.assay.specs.Sums.{AreSumsOf, IsEndOf, with_seed};
+ghost use Rattle.logged_run.specs.RunSums.{IsEndOf};
+ghost use Rattle.assay.specs.Assay.{assay_of_seed, dominant_after, with_seed};
 
 use crate::assayed::Assay;
-use crate::sums::{NONE, Sums};
 use avida_port::{Gate, Memory};
 use genome::Genome;
+use logged_run::{Sums, run_counted};
 use std::alloc::Global;
 use std::sync::Wait;
 use std::thread::Threads;
 use world_config::Config;
 use world_core::World;
-
-/// The world and its sums after one update more.
-fn sum_update<R: Threads + Wait + Sync, G: Gate + Sync>(
-    rt: &R,
-    alloc: Global,
-    world: World,
-    sums: Sums,
-    gate: &G,
-) -> Result<(World, Sums), Memory>
-    requires update { world.update < 1000000 }
-    requires sums { AreSumsOf world sums }
-    ensures config { IfOk result (λ next. next.0.config ≡ world.config) }
-    ensures update { IfOk result (λ next. next.0.update ≡ world.update + 1) }
-    ensures sums { IfOk result (λ next. AreSumsOf next.0 next.1) }
-{
-    let (next, _text) = world.advance(rt, alloc, gate)?;
-    let sums = sums.with(&next.stats());
-    Ok((next, sums))
-}
-
-/// A new world and its sums after so many updates.
-fn sum_updates<R: Threads + Wait + Sync, G: Gate + Sync>(
-    rt: &R,
-    alloc: Global,
-    mut world: World,
-    updates: u32,
-    gate: &G,
-) -> Result<(World, Sums), Memory>
-    requires new { world.update ≡ 0 }
-    requires updates { updates ≤ 1000000 }
-    ensures config { IfOk result (λ after. after.0.config ≡ world.config) }
-    ensures update { IfOk result (λ after. after.0.update ≡ updates) }
-    ensures sums { IfOk result (λ after. AreSumsOf after.0 after.1) }
-{
-    let mut sums = NONE;
-    for _ in 0..updates {
-        (world, sums) = sum_update(rt, alloc, world, sums, gate)?;
-    }
-    Ok((world, sums))
-}
 
 /// The genome that most of the living have.
 fn dominant_in(alloc: Global, world: &World) -> Result<Option<Genome>, Memory>
@@ -66,39 +26,6 @@ fn dominant_in(alloc: Global, world: &World) -> Result<Option<Genome>, Memory>
         Some(dominant) => Ok(Some(dominant.genome.copy(alloc)?)),
         None => Ok(None),
     }
-}
-
-/// Runs a configuration to its end, and sums its updates.
-fn sum_run<R: Threads + Wait + Sync, G: Gate + Sync>(
-    rt: &R,
-    alloc: Global,
-    config: Config,
-    workers: u32,
-    gate: &G,
-) -> Result<(World, Sums), Memory>
-    requires { (1 ≤ workers) × (workers ≤ 64) }
-    ensures { IfOk result (λ ran. IsEndOf (values_of config) ran.0 ran.1) }
-{
-    let updates = config.updates;
-    let world = World::found(rt, alloc, config, workers)?;
-    sum_updates(rt, alloc, world, updates, gate)
-}
-
-/// The same of the configuration with this seed.
-fn sum_seed<R: Threads + Wait + Sync, G: Gate + Sync>(
-    rt: &R,
-    alloc: Global,
-    config: &Config,
-    seed: u64,
-    workers: u32,
-    gate: &G,
-) -> Result<(World, Sums), Memory>
-    requires seed { seed ≤ 9223372036854775807 }
-    requires workers { (1 ≤ workers) × (workers ≤ 64) }
-    ensures { IfOk result (λ ran. IsEndOf (with_seed (values_of config.now) seed) ran.0 ran.1) }
-{
-    let config = config.with_seed(alloc, seed)?;
-    sum_run(rt, alloc, config, workers, gate)
 }
 
 /// What became of a seed's run that came to this end.
@@ -129,6 +56,7 @@ pub(crate) fn run_seed<R: Threads + Wait + Sync, G: Gate + Sync>(
     requires workers { (1 ≤ workers) × (workers ≤ 64) }
     ensures { IfOk result (λ assay. assay ≡ assay_of_seed (values_of config.now) seed) }
 {
-    let (world, sums) = sum_seed(rt, alloc, config, seed, workers, gate)?;
+    let config = config.with_seed(alloc, seed)?;
+    let (world, sums) = run_counted(rt, alloc, config, workers, gate)?;
     assay_of(alloc, seed, &world, sums)
 }

@@ -1,4 +1,4 @@
--- How the births and the bytes of a run add up, and the configuration that `bench` runs.
+-- What `bench` counts of a run, and the configuration that it runs.
 use Rattle.std.proofs.Common.{◌≡◌, ◌∙◌, ◌+◌, ℕ, suc, List, [], ◌++◌, Option, Ok, Err, refl, sym, ap, subst, length, length-append, add-one, arith, rules}
 use Rattle.std.proofs.lemmas.Bool.{false≢true}
 use Rattle.std.specs.Prelude.{codes, decimal}
@@ -15,33 +15,24 @@ use Rattle.world_config.specs.Lookup.{items_at, number_at}
 use Rattle.world_config.specs.Refusal.{refusal_at}
 use Rattle.world_config.specs.Values.{ConfigValues}
 use Rattle.world_core.specs.WorldValue.{WorldValue}
-use Rattle.world_rules.specs.LogText.{end_text, head_text, log_text, update_text, updates_text}
+use Rattle.world_rules.specs.LogText.{end_text, head_text, log_text, updates_text}
 use Rattle.world_rules.specs.Statistics.{stats_of}
 use Rattle.written_texts.specs.SinkChanges.{Change, change, unchanged}
 use Rattle.written_texts.specs.WrittenText.{WritesAll}
 use Rattle.written_texts.specs.declared.stop.WriteStop.{WriteStop}
 use Rattle.written_texts.specs.declared.stop.WriteStop.TheVariants as stop
-use Rattle.assay.specs.Assay.{births_until}
-use Rattle.assay.proofs.SumLemmas.{births_more}
-use Rattle.avida_program.specs.declared.bench.Counted.{Counted}
-use Rattle.avida_program.specs.declared.bench.Sums.{Sums}
+use Rattle.logged_run.specs.RunSums.{IsEndOf}
+use Rattle.logged_run.specs.RunText.{run_text}
+use Rattle.logged_run.specs.declared.sums.Sums.{Sums}
 use Rattle.command_line.specs.declared.bench.Bench.{Bench}
 use Rattle.avida_program.specs.declared.command.Command.TheVariants as command
-use Rattle.avida_program.specs.BenchSums.{IsCounted, IsSummed}
 use Rattle.avida_program.specs.BenchText.{bench_config, bench_text, sums_text}
 use Rattle.avida_program.specs.FinalWorld.{LeavesFinal}
 use Rattle.avida_program.specs.Endings.{error_at}
 use Rattle.avida_program.specs.Commands.{CarriesOut}
 
--- one update more adds the bytes of its text
-bytes_more : (config : ConfigValues) (n : ℕ)
-    → length (updates_text config (n + 1)) ≡ length (updates_text config n) + length
-    (update_text config (n + 1))
-bytes_more config n =
-    rw (add-one n) (length-append (updates_text config n) (update_text config (suc n)))
-
 -- the bytes of a log are those of its three parts
-pub log_bytes : (config : ConfigValues) (updates : ℕ)
+log_bytes : (config : ConfigValues) (updates : ℕ)
     → length (log_text config updates)
     ≡ length (head_text config) + length (updates_text config updates) + length
     (end_text updates)
@@ -79,47 +70,23 @@ events_fit values frame is =
     subst (AreEvents frame) (sym (ap (λ (v : ConfigValues). v.event) (plain_values values is)))
     (no_events frame)
 
--- the births of one more update, of a world that has come so far
-pub births_next : (config : ConfigValues) (n : ℕ) (here : WorldValue) (sum births next : ℕ)
-    → here.config ≡ config → here.update ≡ n + 1
-    → births ≡ (stats_of here.config here.update).births → sum ≡ births_until config n
-    → next ≡ sum + births → next ≡ births_until config (n + 1)
-births_next config n here sum births next same now told so is =
-    is ∙ ap (λ s. s + births) so
-    ∙ ap (λ b. births_until config n + b) (told
-    ∙ ap (λ (c : ConfigValues). (stats_of c here.update).births) same
-    ∙ ap (λ k. (stats_of config k).births) now)
-    ∙ sym (births_more config n)
-
--- the bytes of the first line and of the updates so far, with those of one more
-pub bytes_next : (config : ConfigValues) (n sum bytes next : ℕ)
-    → bytes ≡ length (update_text config (n + 1))
-    → sum ≡ length (head_text config) + length (updates_text config n)
-    → next ≡ sum + bytes
-    → next ≡ length (head_text config) + length (updates_text config (n + 1))
-bytes_next config n sum bytes next told so is = omega (arith, bytes_more config n)
-
--- a world that has come so far, said of itself
-pub counted_again : {config : ConfigValues} {n : ℕ} {counted : Counted}
-    → IsCounted config n counted
-    → IsCounted counted.world.config counted.world.update counted
-counted_again {config = config} {counted = counted} so =
-    subst (λ (of : ConfigValues). IsCounted of counted.world.update counted) (sym so.config_is)
-    (subst (λ (k : ℕ). IsCounted config k counted) (sym so.update_is) so)
-
--- the three lines of a run
-pub sums_told : (config : ConfigValues) (world : WorldValue) (sums : Sums) (stats : Stats)
-    (text : List ℕ) → IsSummed config world sums → stats ≡ stats_of world.config world.update
+-- the three lines of a run that came to this end
+pub sums_told : (world : WorldValue) (sums : Sums) (stats : Stats) (bytes : ℕ) (text : List ℕ)
+    → IsEndOf world.config world sums → stats ≡ stats_of world.config world.update
+    → bytes ≡ length (head_text world.config) + sums.bytes + length (end_text world.update)
     → text ≡ line_text (Count stats)
     ++ codes "births " ++ decimal sums.births ++ codes "\n"
-    ++ codes "bytes " ++ decimal sums.bytes ++ codes "\n"
-    → text ≡ sums_text config
+    ++ codes "bytes " ++ decimal bytes ++ codes "\n"
+    → text ≡ sums_text world.config
 unfolding sums_text
-sums_told config world sums stats text so told is =
+sums_told world sums stats bytes text so told long is =
+    let config = world.config in
     let counted : stats ≡ stats_of config config.updates =
-    told ∙ ap (λ (c : ConfigValues). stats_of c world.update) so.final.config
-    ∙ ap (stats_of config) so.final.update in
-    rw (← counted, ← so.births, ← so.bytes) is
+    told ∙ ap (stats_of config) so.final.update in
+    let last = ap (λ n. length (end_text n)) so.final.update in
+    let all : bytes ≡ length (run_text config) =
+    omega (arith, long, last, so.summed.bytes.is, log_bytes config config.updates) in
+    rw (← counted, ← so.summed.births.is, ← all) is
 
 -- all of `bench` is done
 pub benched : {a b : SinkState} (asked : Bench) (source : SourceState) (watch : SinkState)

@@ -5,7 +5,6 @@ pub mod TextEnds
 pub mod ReadEnds
 pub mod RunEnds
 pub mod BenchLemmas
-pub mod GrowingTexts
 pub mod ResumeLemmas
 pub mod SavedLemmas
 pub mod LongerRuns

@@ -8,7 +8,7 @@ use Rattle.world_rules.specs.LogText.{end_text}
 use Rattle.written_texts.specs.declared.stop.WriteStop.{WriteStop}
 use Rattle.written_texts.specs.WrittenText.{WritesAll}
 use Rattle.written_texts.proofs.WriteLemmas.{writes_short, writes_then}
-use Rattle.avida_program.proofs.GrowingTexts.{Grows, part_stopped, part_written}
+use Rattle.written_texts.proofs.GrowingTexts.{Grows, part_stopped, part_written}
 
 -- one update more
 pub next_state_update : (state : SavedState)

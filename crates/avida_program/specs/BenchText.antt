@@ -6,7 +6,7 @@ use Rattle.log_lines.specs.LineText.{line_text}
 use Rattle.world_config.specs.Config.{values_in_table}
 use Rattle.world_config.specs.Values.{ConfigValues}
 use Rattle.world_rules.specs.Statistics.{stats_of}
-use Rattle.assay.specs.Assay.{births_until}
+use Rattle.logged_run.specs.RunCounts.{births_until}
 use Rattle.logged_run.specs.RunText.{run_text}
 
 -- the configuration that is run: each key has its default but the seed and the updates

@@ -12,5 +12,4 @@ pub mod Changes
 pub mod Endings
 pub mod FinalWorld
 pub mod BenchText
-pub mod BenchSums
 pub mod Commands

@@ -1,7 +1,7 @@
 // The command `advance`.
-ghost use Rattle.std.specs.Prelude.{◌≡◌, ◌≤◌, ◌<◌, ◌+◌, IfOk, Option};
+ghost use Rattle.std.specs.Prelude.{◌≡◌, ◌≤◌, ◌+◌, IfOk, Option};
 ghost use Rattle.avida_port.specs.Ports.{SinkState};
-ghost use Rattle.saved_worlds.specs.Resuming.{next_state, saved_state_after};
+ghost use Rattle.saved_worlds.specs.Resuming.{saved_state_after};
 ghost use Rattle.world_core.specs.WorldValue.{WorldValue};
 ghost use Rattle.written_texts.specs.SinkChanges.{change, unchanged};
 ghost use Rattle.written_texts.specs.WrittenText.{WritesAll};
@@ -11,6 +11,7 @@ ghost use Rattle.avida_program.specs.Commands.{CarriesOut};
 
 use crate::call_error::CallError;
 use crate::input::read_state_for;
+use crate::resume::write_updates;
 use crate::saved_world::write_state;
 use avida_port::{Gate, Memory, Sink, Source};
 use command_line::Advance;
@@ -18,37 +19,25 @@ use std::alloc::Global;
 use std::sync::Wait;
 use std::thread::Threads;
 use world_core::State;
-use written_texts::WriteStop;
-
-/// One update, whose text is dropped.
-fn pass_update<R: Threads + Wait + Sync, G: Gate + Sync>(
-    rt: &R,
-    alloc: Global,
-    state: State,
-    gate: &G,
-) -> Result<State, Memory>
-    requires { state.head.update < 1000000 }
-    ensures { IfOk result (λ next. next ≡ next_state state) }
-{
-    let (next, _text) = state.advance(rt, alloc, gate)?;
-    Ok(next)
-}
+use written_texts::{NoSink, WriteStop};
 
 /// So many updates more, without their texts.
 fn pass_updates<R: Threads + Wait + Sync, G: Gate + Sync>(
     rt: &R,
     alloc: Global,
-    mut state: State,
+    state: State,
     more: u32,
     gate: &G,
 ) -> Result<State, Memory>
     requires { state.head.update + more ≤ 1000000 }
     ensures { IfOk result (λ after. after ≡ saved_state_after state more) }
 {
-    for _ in 0..more {
-        state = pass_update(rt, alloc, state, gate)?;
+    let mut out = NoSink;
+    match write_updates(rt, alloc, state, more, &mut out, gate) {
+        Ok(after) => Ok(after),
+        Err(WriteStop::Memory) => Err(Memory),
+        Err(WriteStop::Fault) => unreachable!(),
     }
-    Ok(state)
 }
 
 /// Writes the saved world that is there so many updates later.

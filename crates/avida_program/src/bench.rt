@@ -4,10 +4,11 @@ ghost use Rattle.avida_port.specs.Ports.{SinkState, SourceState};
 ghost use Rattle.log_lines.specs.Line.{Count};
 ghost use Rattle.log_lines.specs.LineText.{line_text};
 ghost use Rattle.world_config.specs.Shown.{values_of};
+ghost use Rattle.world_rules.specs.LogText.{end_text, head_text};
 ghost use Rattle.avida_program.specs.declared.command.Command.TheVariants as command;
-ghost use Rattle.avida_program.specs.BenchSums.{IsCounted, IsSummed};
 ghost use Rattle.avida_program.specs.BenchText.{bench_config, bench_text, sums_text};
 ghost use Rattle.written_texts.specs.SinkChanges.{change, unchanged};
+ghost use Rattle.logged_run.specs.RunSums.{IsEndOf};
 ghost use Rattle.logged_run.specs.RunText.{IsFinalWorld};
 ghost use Rattle.avida_program.specs.Commands.{CarriesOut};
 
@@ -16,28 +17,15 @@ use crate::puts::put_text;
 use avida_port::{Gate, Memory, Sink};
 use command_line::Bench;
 use log_lines::{LogLine, Stats, write_line};
+use logged_run::{Sums, run_counted};
 use std::alloc::Global;
 use std::sync::Wait;
 use std::thread::Threads;
 use world_config::Config;
-use world_core::{RunningWorld, World};
+use world_core::World;
 
 /// How many updates are run.
 const UPDATES: u32 = 200;
-
-/// The births and the bytes of some updates.
-#[derive(Clone, Copy)]
-pub(crate) struct Sums {
-    pub(crate) births: u128,
-    pub(crate) bytes: u128,
-}
-
-/// A world, with the births and the bytes of its log so far.
-#[derive(Drop)]
-pub(crate) struct Counted {
-    pub(crate) world: RunningWorld,
-    pub(crate) sums: Sums,
-}
 
 /// The configuration that is run.
 fn config_with(alloc: Global, seed: u64) -> Result<Config, Memory>
@@ -48,106 +36,6 @@ fn config_with(alloc: Global, seed: u64) -> Result<Config, Memory>
     config.seed = seed;
     config.updates = UPDATES;
     Ok(config)
-}
-
-/// The sums with those of one more text.
-fn sums_with(sums: Sums, births: u64, bytes: usize) -> Sums
-    requires births { sums.births ≤ 2 ^ 100 }
-    requires bytes { sums.bytes ≤ 2 ^ 100 }
-    ensures births { result.births ≡ sums.births + births }
-    ensures bytes { result.bytes ≡ sums.bytes + bytes }
-    ensures few_births { result.births ≤ sums.births + 2 ^ 64 }
-    ensures few_bytes { result.bytes ≤ sums.bytes + 2 ^ 64 }
-{
-    Sums {
-        births: sums.births + u128::from(births),
-        bytes: sums.bytes + bytes as u128,
-    }
-}
-
-/// A new world, with the bytes of its log's first line.
-fn begin_counted<R: Wait>(
-    rt: &R,
-    alloc: Global,
-    config: Config,
-    workers: u32,
-) -> Result<Counted, Memory>
-    requires { (1 ≤ workers) × (workers ≤ 64) }
-    ensures { IfOk result (IsCounted (values_of config) 0) }
-{
-    let world = World::found(rt, alloc, config, workers)?;
-    let first = world.first_line(alloc)?;
-    Ok(Counted {
-        world: world.into_running(),
-        sums: Sums {
-            births: 0,
-            bytes: first.len() as u128,
-        },
-    })
-}
-
-/// One update, whose text is counted and dropped.
-fn count_update<R: Threads + Wait + Sync, G: Gate + Sync>(
-    rt: &R,
-    alloc: Global,
-    counted: Counted,
-    gate: &G,
-) -> Result<Counted, Memory>
-    requires update { counted.world.update < 1000000 }
-    requires counted { IsCounted counted.world.config counted.world.update counted }
-    ensures { IfOk result (IsCounted counted.world.config (counted.world.update + 1)) }
-{
-    let Counted { world, sums } = counted;
-    let (world, text) = world.advance(rt, alloc, gate)?;
-    let sums = sums_with(sums, world.stats().births, text.len());
-    Ok(Counted { world, sums })
-}
-
-/// The updates of a new world, whose texts are counted and dropped.
-fn count_updates<R: Threads + Wait + Sync, G: Gate + Sync>(
-    rt: &R,
-    alloc: Global,
-    mut counted: Counted,
-    updates: u32,
-    gate: &G,
-) -> Result<Counted, Memory>
-    requires updates { updates ≤ 1000000 }
-    requires new { IsCounted counted.world.config 0 counted }
-    ensures { IfOk result (IsCounted counted.world.config updates) }
-{
-    for _ in 0..updates {
-        counted = count_update(rt, alloc, counted, gate)?;
-    }
-    Ok(counted)
-}
-
-/// The world after a run's last update, and the sums with the bytes of the log's last line.
-fn end_counted(alloc: Global, counted: Counted) -> Result<(World, Sums), Memory>
-    requires updates { counted.world.update ≤ 1000000 }
-    requires counted { IsCounted counted.world.config counted.world.config.updates counted }
-    ensures { IfOk result (λ ran. IsSummed counted.world.config ran.0 ran.1) }
-{
-    let Counted { world, sums } = counted;
-    let world = world.into_world()?;
-    let last = world.last_line(alloc)?;
-    Ok((world, sums_with(sums, 0, last.len())))
-}
-
-/// Runs a configuration to its end. The sums are its births and the bytes of its whole log.
-fn run_and_sum<R: Threads + Wait + Sync, G: Gate + Sync>(
-    rt: &R,
-    alloc: Global,
-    config: Config,
-    workers: u32,
-    gate: &G,
-) -> Result<(World, Sums), Memory>
-    requires { (1 ≤ workers) × (workers ≤ 64) }
-    ensures { IfOk result (λ ran. IsSummed (values_of config) ran.0 ran.1) }
-{
-    let updates = config.updates;
-    let counted = begin_counted(rt, alloc, config, workers)?;
-    let counted = count_updates(rt, alloc, counted, updates, gate)?;
-    end_counted(alloc, counted)
 }
 
 /// Appends the line of a sum.
@@ -163,16 +51,37 @@ fn add_sum(text: &mut Vec<u8>, before: &str, sum: u128) -> Result<(), Memory>
 }
 
 /// The three lines.
-fn lines_of(alloc: Global, stats: Stats, sums: Sums) -> Result<Vec<u8>, Memory>
+fn lines_of(alloc: Global, stats: Stats, births: u128, bytes: u128) -> Result<Vec<u8>, Memory>
     ensures { IfOk result (λ text. text.items ≡ line_text (Count stats)
-        ++ codes "births " ++ decimal sums.births ++ codes "\n"
-        ++ codes "bytes " ++ decimal sums.bytes ++ codes "\n") }
+        ++ codes "births " ++ decimal births ++ codes "\n"
+        ++ codes "bytes " ++ decimal bytes ++ codes "\n") }
 {
     let mut text = Vec::new(alloc);
     write_line(&LogLine::Count(stats), &mut text)?;
-    add_sum(&mut text, "births ", sums.births)?;
-    add_sum(&mut text, "bytes ", sums.bytes)?;
+    add_sum(&mut text, "births ", births)?;
+    add_sum(&mut text, "bytes ", bytes)?;
     Ok(text)
+}
+
+/// The bytes of the whole log whose updates' texts have so many.
+fn log_bytes(alloc: Global, world: &World, updates: u128) -> Result<u128, Memory>
+    requires { updates < 2 ^ 100 }
+    ensures { IfOk result (λ bytes. bytes
+        ≡ length (head_text world.now.config) + updates + length (end_text world.now.update)) }
+{
+    let first = world.first_line(alloc)?;
+    let last = world.last_line(alloc)?;
+    Ok(first.len() as u128 + updates + last.len() as u128)
+}
+
+/// The three lines of a run that came to this end.
+fn tell(alloc: Global, world: &World, sums: Sums) -> Result<Vec<u8>, Memory>
+    requires updates { world.now.update ≤ 1000000 }
+    requires end { IsEndOf world.now.config world.now sums }
+    ensures { IfOk result (λ text. text.items ≡ sums_text world.now.config) }
+{
+    let bytes = log_bytes(alloc, world, sums.bytes)?;
+    lines_of(alloc, world.stats(), sums.births, bytes)
 }
 
 /// Runs a configuration to its end, and gives the last world and the three lines.
@@ -187,8 +96,8 @@ fn run_and_tell<R: Threads + Wait + Sync, G: Gate + Sync>(
     ensures world { IfOk result (λ ran. IsFinalWorld (values_of config) ran.0) }
     ensures text { IfOk result (λ ran. ran.1.items ≡ sums_text (values_of config)) }
 {
-    let (world, sums) = run_and_sum(rt, alloc, config, workers, gate)?;
-    let text = lines_of(alloc, world.stats(), sums)?;
+    let (world, sums) = run_counted(rt, alloc, config, workers, gate)?;
+    let text = tell(alloc, &world, sums)?;
     Ok((world, text))
 }
 

@@ -38,7 +38,7 @@ fn write_update<R: Threads + Wait + Sync, O: Sink, G: Gate + Sync>(
 }
 
 /// So many updates more, with their texts.
-fn write_updates<R: Threads + Wait + Sync, O: Sink, G: Gate + Sync>(
+pub fn write_updates<R: Threads + Wait + Sync, O: Sink, G: Gate + Sync>(
     rt: &R,
     alloc: Global,
     mut state: State,

@@ -1,5 +1,5 @@
 // The command `run`.
-ghost use Rattle.std.specs.Prelude.{◌≡◌, ◌≤◌, ◌<◌, ◌+◌, Some, IfOk};
+ghost use Rattle.std.specs.Prelude.{◌≤◌, Some, IfOk};
 ghost use Rattle.world_config.specs.Shown.{values_of};
 ghost use Rattle.written_texts.specs.SinkChanges.{change};
 ghost use Rattle.logged_run.specs.RunText.{IsFinalWorld};
@@ -10,49 +10,14 @@ use crate::call_error::CallError;
 use crate::input::read_config;
 use avida_port::{Gate, Memory, Sink, Source};
 use command_line::Run;
-use logged_run::write_run;
+use logged_run::{run_counted, write_run};
 use std::alloc::Global;
 use std::sync::Wait;
 use std::thread::Threads;
 use std::time::Clock;
 use world_config::Config;
+use world_core::World;
 use world_core::laws::replay_gives_living;
-use world_core::{RunningWorld, World};
-
-/// One update, whose text is dropped.
-fn pass_update<R: Threads + Wait + Sync, G: Gate + Sync>(
-    rt: &R,
-    alloc: Global,
-    world: RunningWorld,
-    gate: &G,
-) -> Result<RunningWorld, Memory>
-    requires { world.update < 1000000 }
-    ensures config { IfOk result (λ next. next.config ≡ world.config) }
-    ensures update { IfOk result (λ next. next.update ≡ world.update + 1) }
-{
-    let (next, _text) = world.advance(rt, alloc, gate)?;
-    Ok(next)
-}
-
-/// The updates of a new world, without their texts.
-fn pass_updates<R: Threads + Wait + Sync, G: Gate + Sync>(
-    rt: &R,
-    alloc: Global,
-    world: World,
-    updates: u32,
-    gate: &G,
-) -> Result<World, Memory>
-    requires new { world.update ≡ 0 }
-    requires updates { updates ≤ 1000000 }
-    ensures config { IfOk result (λ after. after.config ≡ world.config) }
-    ensures update { IfOk result (λ after. after.update ≡ updates) }
-{
-    let mut running = world.into_running();
-    for _ in 0..updates {
-        running = pass_update(rt, alloc, running, gate)?;
-    }
-    running.into_world()
-}
 
 /// Runs a configuration to its last update, and gives the world then.
 pub fn run_to_end<R: Threads + Wait + Sync, G: Gate + Sync>(
@@ -65,9 +30,8 @@ pub fn run_to_end<R: Threads + Wait + Sync, G: Gate + Sync>(
     requires workers { (1 ≤ workers) × (workers ≤ 64) }
     ensures { IfOk result (IsFinalWorld (values_of config)) }
 {
-    let updates = config.updates;
-    let world = World::found(rt, alloc, config, workers)?;
-    pass_updates(rt, alloc, world, updates, gate)
+    let (world, _) = run_counted(rt, alloc, config, workers, gate)?;
+    Ok(world)
 }
 
 /// Reads a configuration, and writes the log of its run, which replays to the living at its end.

@@ -1,4 +1,5 @@
 pub mod RunLemmas
+pub mod SumLemmas
 pub mod LookLemmas
 pub mod PublishedLemmas
 pub mod NewsLemmas

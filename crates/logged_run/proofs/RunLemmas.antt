@@ -1,32 +1,25 @@
 -- How the texts of a run add up.
-use Rattle.std.proofs.Common.{◌≡◌, ◌≤◌, ◌+◌, ◌-◌, ℕ, zero, suc, List, [], ◌++◌, Result, Ok, Err, refl, sym, ap, ◌∙◌, append_assoc, append-nil, add-zero, add-one, arith, subst}
+use Rattle.std.proofs.Common.{◌≡◌, ◌<◌, ◌+◌, ℕ, ◌++◌, Result, Ok, Err, refl, add-one, arith, subst}
 use Rattle.avida_port.specs.Ports.{SinkState}
 use Rattle.world_config.specs.Values.{ConfigValues}
 use Rattle.world_rules.specs.LogText.{head_text, update_text, updates_text, end_text, log_text}
 use Rattle.written_texts.specs.declared.stop.WriteStop.{WriteStop}
 use Rattle.written_texts.specs.WrittenText.{WritesAll}
+use Rattle.written_texts.proofs.GrowingTexts.{Grows, part_stopped, part_written}
 use Rattle.written_texts.proofs.WriteLemmas.{writes_short, writes_then}
 
--- the texts up to an update, and those behind it
-updates_more : (config : ConfigValues) (n k : ℕ)
-    → (rest : List ℕ) × (updates_text config n ++ rest ≡ updates_text config (n + k))
-updates_more config n zero = ([], rw add-zero (append-nil (updates_text config n)))
-updates_more config n (suc k) =
-    let h = updates_more config n k in
-    let text = update_text config (suc (n + k)) in
-    let next : suc (n + k) ≡ n + suc k = omega arith in (
-      h.0 ++ text,
-      sym (append_assoc (updates_text config n) h.0 text) ∙ ap (λ l. l ++ text) h.1
-          ∙ ap (updates_text config) next,
-    )
+-- the texts of the updates so far grow by the next one
+updates_grow : (config : ConfigValues) (end : ℕ)
+    → Grows (updates_text config) (λ n. update_text config (n + 1)) end
+updates_grow config end n within = rw (add-one n) refl
 
--- the texts up to an update before the last one
-updates_front : (config : ConfigValues) (n updates : ℕ) → n ≤ updates
-    → (rest : List ℕ) × (updates_text config n ++ rest ≡ updates_text config updates)
-updates_front config n updates h =
-    let more = updates_more config n (updates - n) in
-    let same : n + (updates - n) ≡ updates = omega arith in
-    (more.0, more.1 ∙ ap (updates_text config) same)
+-- an update's text, said of the run that has come so far
+text_at : {T : Type 0} {b c : SinkState} {r : Result T WriteStop} (config here : ConfigValues)
+    (n at : ℕ) → here ≡ config → at ≡ n → WritesAll b c (update_text here (at + 1)) r
+    → WritesAll b c (update_text config (n + 1)) r
+text_at {T = T} {b = b} {c = c} {r = r} config here n at same now q =
+    subst (λ k. WritesAll {T = T} b c (update_text config (k + 1)) r) now
+    (subst (λ (d : ConfigValues). WritesAll {T = T} b c (update_text d (at + 1)) r) same q)
 
 -- one more update is written
 pub update_written : {T : Type 0} {a b c : SinkState} {r : Result T WriteStop}
@@ -34,21 +27,19 @@ pub update_written : {T : Type 0} {a b c : SinkState} {r : Result T WriteStop}
     → WritesAll {T = Unit {0}} a b (updates_text config n) (Ok tt)
     → WritesAll b c (update_text here (at + 1)) r
     → here ≡ config → at ≡ n → WritesAll a c (updates_text config (n + 1)) r
-update_written {T = T} {a = a} {c = c} {r = r} config here n at p q same now =
-    let text : update_text here (at + 1) ≡ update_text config (suc n) =
-    ap (λ k. update_text here (k + 1)) now ∙ ap (λ k. update_text here k) (add-one n)
-    ∙ ap (λ d. update_text d (suc n)) same in
-    rw add-one (subst (λ l. WritesAll {T = T} a c (updates_text config n ++ l) r) text
-    (writes_then (update_text here (at + 1)) p q))
+update_written config here n at p q same now =
+    part_written (updates_text config) (λ k. update_text config (k + 1)) (n + 1) n
+    (updates_grow config (n + 1)) (omega arith) p (text_at config here n at same now q)
 
--- an update stopped before the last one
-pub update_stopped : {T U : Type 0} {a c : SinkState} {e : WriteStop} (config : ConfigValues)
-    (n updates : ℕ)
-    → WritesAll {T = T} a c (updates_text config n) (Err e) → n ≤ updates
-    → WritesAll {T = U} a c (updates_text config updates) (Err e)
-update_stopped {U = U} {a = a} {c = c} {e = e} config n updates p h =
-    let rest = updates_front config n updates h in
-    subst (λ l. WritesAll {T = U} a c l (Err e)) rest.1 (writes_short rest.0 p)
+-- an update stopped
+pub update_stopped : {T U : Type 0} {a b c : SinkState} {e : WriteStop}
+    (config here : ConfigValues) (n at updates : ℕ) → n < updates
+    → WritesAll {T = Unit {0}} a b (updates_text config n) (Ok tt)
+    → WritesAll {T = T} b c (update_text here (at + 1)) (Err e)
+    → here ≡ config → at ≡ n → WritesAll {T = U} a c (updates_text config updates) (Err e)
+update_stopped {T = T} config here n at updates within p q same now =
+    part_stopped {T = T} (updates_text config) (λ k. update_text config (k + 1)) updates n
+    (updates_grow config updates) within p (text_at config here n at same now q)
 
 -- the log's three parts
 pub log_parts : (config : ConfigValues) (updates : ℕ)

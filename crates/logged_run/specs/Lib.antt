@@ -1,4 +1,6 @@
 pub mod RunText
+pub mod RunCounts
+pub mod RunSums
 pub mod WatchText
 pub mod RunStops
 pub mod Watching

@@ -48,7 +48,7 @@ fn write_next<R: Threads + Wait + Sync, O: Sink, G: Gate + Sync>(
     ensures text { WritesAll (O.seen out.old) (O.seen out.new)
         (update_text world.config (world.update + 1)) result }
 {
-    let running = write_update(rt, alloc, world.into_running(), out, gate)?;
+    let (running, _) = write_update(rt, alloc, world.into_running(), out, gate)?;
     Ok(running.into_world()?)
 }
 

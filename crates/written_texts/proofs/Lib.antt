@@ -2,3 +2,4 @@ pub mod GainedLemmas
 pub mod PutLemmas
 pub mod PieceLemmas
 pub mod WriteLemmas
+pub mod GrowingTexts

@@ -1,5 +1,5 @@
 -- How texts that are written, or stop, add up.
-use Rattle.std.proofs.Common.{◌≡◌, Result, Ok, Err, List, ℕ, [], ◌++◌, append-nil, arith, refl, subst}
+use Rattle.std.proofs.Common.{◌≡◌, Result, Ok, Err, List, ℕ, [], ◌++◌, append-nil, arith, inl, inr, refl, subst}
 use Rattle.avida_port.specs.Ports.{SinkState, GainedPrefix, Puts}
 use Rattle.avida_port.specs.declared.sink.SinkStop.{SinkStop}
 use Rattle.avida_port.specs.declared.sink.SinkStop.TheVariants as sink
@@ -90,3 +90,14 @@ wanting_after {xs = xs} p = record {
   fault = λ is. absurd (cc);
   counts = p.counts;
 }
+
+-- where no write of a sink ever failed, none stopped this text
+pub never_fails : {T : Type 0} {a b : SinkState} {text : List ℕ} (r : Result T WriteStop)
+    → WritesAll a b text r → b.faults ≡ 0 → r ≡ Err stop.Fault → ⊥
+never_fails (Ok t) p none is = absurd cc
+never_fails (Err e) p none is =
+    let fault : e ≡ stop.Fault = cc is in
+    elim (p.fault fault) [
+      | inl less ↦ absurd (omega (arith, less, none))
+      | inr last ↦ absurd (omega (arith, last, none))
+    ]

@@ -6,5 +6,4 @@ use Rattle.assay.proofs.seed_run.assay_of.Goals as goal
 pub returns : goal.returns
 returns c = λ config so.
     seed_is config c.args.seed c.args.world.now c.args.sums c.stats.result
-    (option_map letters c.in_ok-dominant.dominant) so.config_is so.at_end so.summed
-    c.stats.ensures c.in_ok-dominant.ensures
+    (option_map letters c.in_ok-dominant.dominant) so c.stats.ensures c.in_ok-dominant.ensures

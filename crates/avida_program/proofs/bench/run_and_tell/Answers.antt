@@ -1,8 +1,20 @@
-use Rattle.world_config.specs.Shown.{values_of}
-use Rattle.avida_program.proofs.BenchLemmas.{sums_told}
+use Rattle.std.proofs.Common.{◌∙◌, ap, arith, subst, sym}
+use Rattle.world_config.specs.Values.{ConfigValues}
+use Rattle.logged_run.specs.RunSums.{IsEndOf}
+use Rattle.avida_program.specs.BenchText.{sums_text}
 use Rattle.avida_program.proofs.bench.run_and_tell.Goals as goal
 
+pub tell-text-requires-clause-end : goal.tell-text-requires-clause-end
+tell-text-requires-clause-end g c =
+    let so = c.in_ok-world.ensures in
+    subst (λ (of : ConfigValues). IsEndOf of c.in_ok-world.world c.in_ok-world.sums)
+    (sym so.final.config) so
+
+pub tell-text-requires-clause-updates : goal.tell-text-requires-clause-updates
+tell-text-requires-clause-updates g c = omega (arith, c.in_ok-world.ensures.final.update)
+
+pub returns-clause-world : goal.returns-clause-world
+returns-clause-world g c = c.in_ok-world.ensures.final
+
 pub returns-clause-text : goal.returns-clause-text
-returns-clause-text g c =
-    sums_told (values_of c.args.config) c.in_ok-world.world c.in_ok-world.sums c.stats.result _
-    c.in_ok-world.ensures c.stats.ensures c.in_ok-text.ensures
+returns-clause-text g c = c.in_ok-text.ensures ∙ ap sums_text c.in_ok-world.ensures.final.config

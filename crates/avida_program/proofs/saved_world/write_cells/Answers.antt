@@ -4,7 +4,7 @@ use Rattle.checkpoint.specs.Parts.{first_cells_text}
 use Rattle.saved_worlds.specs.SavedWorldText.{slot_text}
 use Rattle.written_texts.specs.WrittenText.{WritesAll}
 use Rattle.written_texts.proofs.WriteLemmas.{writes_nothing, writes_same}
-use Rattle.avida_program.proofs.GrowingTexts.{part_stopped, part_written}
+use Rattle.written_texts.proofs.GrowingTexts.{part_stopped, part_written}
 use Rattle.avida_program.proofs.saved_world.write_cells.Goals as goal
 
 pub loop-cell-init : goal.loop-cell-init

@@ -1,43 +1,14 @@
-use Rattle.std.proofs.Common.{◌∙◌}
 use Rattle.std.proofs.lemmas.Result.{err_from_is_err_and}
-use Rattle.world_config.specs.Shown.{values_of}
-use Rattle.logged_run.proofs.RunLemmas.{first_stopped, last_written, updates_stopped}
 use Rattle.written_texts.proofs.WriteLemmas.{stopped_same, writes_same}
 use Rattle.logged_run.proofs.logging.write_log.Goals as goal
 
-pub returns-in_err-write_first-clause-text : goal.returns-in_err-write_first-clause-text
-returns-in_err-write_first-clause-text g c =
-    let p = err_from_is_err_and c.from_residual-in_err-write_first.result
-    c.from_residual-in_err-write_first.ensures.1 in
-    rw (p.1, p.2)
-    (first_stopped (values_of c.args.config) c.in_ok-world.world.config c.args.config.updates
-    c.in_err-write_first.ensures c.in_ok-world.ensures.0)
+pub returns-in_err-world-clause-text : goal.returns-in_err-world-clause-text
+returns-in_err-world-clause-text g c =
+    let p = err_from_is_err_and c.from_residual.result c.from_residual.ensures.1 in
+    rw (p.1, p.2) (stopped_same c.in_err-world.ensures.text)
 
-pub returns-in_err-world-2-clause-text : goal.returns-in_err-world-2-clause-text
-returns-in_err-world-2-clause-text g c =
-    let p = err_from_is_err_and c.from_residual-in_err-world-2.result
-    c.from_residual-in_err-world-2.ensures.1 in
-    let founded = c.in_ok-world.ensures.0 in
-    rw (p.1, p.2)
-    (updates_stopped (values_of c.args.config) c.in_ok-world.world.config c.in_ok-world.world.config
-    c.args.config.updates
-    c.in_ok-write_first.ensures founded c.in_err-world-2.ensures.text founded)
+pub returns-clause-world : goal.returns-clause-world
+returns-clause-world g c = c.in_ok-world.ensures.ended.final
 
-pub returns-in-Err-clause-text : goal.returns-in-Err-clause-text
-returns-in-Err-clause-text g c =
-    let founded = c.in_ok-world.ensures.0 in
-    stopped_same (last_written founded founded c.args.config.updates
-    c.in_ok-world-2.world.update c.in_ok-write_first.ensures c.in_ok-world-2.ensures.text
-    c.in-Err.ensures c.in_ok-world-2.ensures.world.update)
-
-pub returns-in-Ok-clause-world : goal.returns-in-Ok-clause-world
-returns-in-Ok-clause-world g c =
-    let so = c.in_ok-world-2.ensures.world in
-    record { config = so.config ∙ c.in_ok-world.ensures.0; update = so.update }
-
-pub returns-in-Ok-clause-text : goal.returns-in-Ok-clause-text
-returns-in-Ok-clause-text g c =
-    let founded = c.in_ok-world.ensures.0 in
-    writes_same (last_written founded founded c.args.config.updates
-    c.in_ok-world-2.world.update c.in_ok-write_first.ensures c.in_ok-world-2.ensures.text
-    c.in-Ok.ensures c.in_ok-world-2.ensures.world.update)
+pub returns-clause-text : goal.returns-clause-text
+returns-clause-text g c = writes_same c.in_ok-world.ensures.text

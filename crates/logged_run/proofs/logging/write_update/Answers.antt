@@ -1,4 +1,4 @@
-use Rattle.std.proofs.Common.{◌+◌, ◌∙◌}
+use Rattle.std.proofs.Common.{◌≡◌, ◌+◌, ◌∙◌, ap, arith, length}
 use Rattle.std.proofs.lemmas.Result.{err_from_is_err_and}
 use Rattle.world_rules.specs.LogText.{update_text}
 use Rattle.written_texts.proofs.WriteLemmas.{nothing_written, put_ended}
@@ -18,3 +18,9 @@ returns-clause-text g c =
 pub returns-in-Ok-clause-world : goal.returns-in-Ok-clause-world
 returns-in-Ok-clause-world g c =
     record { config = c.in_ok-next.ensures.config; update = c.in_ok-next.ensures.update }
+
+pub returns-in-Ok-clause-bytes : goal.returns-in-Ok-clause-bytes
+returns-in-Ok-clause-bytes g c =
+    let long : c.len.result ≡ length c.in_ok-next.text.items =
+    omega (arith, c.len.ensures, c.in_ok-next.text.ok.0) in
+    long ∙ ap length c.in_ok-next.ensures.text

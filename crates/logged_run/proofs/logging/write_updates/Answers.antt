@@ -1,21 +1,36 @@
-use Rattle.std.proofs.Common.{◌≡◌, ◌≤◌, ◌+◌, ◌∙◌, Ok, ap, arith, subst}
+use Rattle.std.proofs.Common.{◌≡◌, ◌<◌, ◌+◌, ◌∙◌, Ok, ap, arith, refl, subst}
 use Rattle.std.proofs.lemmas.Result.{err_from_is_err_and}
 use Rattle.world_core.specs.WorldValue.{WorldValue}
 use Rattle.world_rules.specs.LogText.{updates_text}
 use Rattle.written_texts.specs.WrittenText.{WritesAll}
-use Rattle.written_texts.proofs.WriteLemmas.{wanting_after, writes_same}
+use Rattle.written_texts.proofs.WriteLemmas.{wanting_after, writes_nothing, writes_same}
+use Rattle.logged_run.specs.RunSums.{AreSumsOf}
 use Rattle.logged_run.proofs.RunLemmas.{update_stopped, update_written}
+use Rattle.logged_run.proofs.SumLemmas.{sums_here, sums_none, sums_then}
 use Rattle.logged_run.proofs.logging.write_updates.Goals as goal
+
+pub loop-init : goal.loop-init
+loop-init g c = record {
+  at = record {
+    config = ap (λ (w : WorldValue). w.config) c.into_running-running.ensures;
+    update = ap (λ (w : WorldValue). w.update) c.into_running-running.ensures ∙ c.requires.new;
+  };
+  summed = sums_none c.args.world.config _ refl refl refl;
+  written = writes_nothing _;
+}
+
+pub count_update-requires-clause-sums : goal.count_update-requires-clause-sums
+count_update-requires-clause-sums g c κs within =
+    sums_here c.loop.invariant.at c.loop.invariant.summed
 
 pub returns-in_err-running-clause-text : goal.returns-in_err-running-clause-text
 returns-in_err-running-clause-text g c =
     let p = err_from_is_err_and c.from_residual.result c.from_residual.ensures.1 in
     let so = c.loop.invariant in
-    let within : c.loop.counter + 1 ≤ c.args.updates = omega arith in
-    let wrote = update_written c.args.world.config c.loop.running.config c.loop.counter
-    c.loop.running.update so.written c.in_err-running.ensures.text so.at.config so.at.update in
-    rw (p.1, p.2) (update_stopped c.args.world.config (c.loop.counter + 1) c.args.updates wrote
-    within)
+    let within : c.loop.counter < c.args.updates = omega arith in
+    rw (p.1, p.2) (update_stopped c.args.world.config c.loop.running.config c.loop.counter
+    c.loop.running.update c.args.updates within so.written c.in_err-running.ensures.text
+    so.at.config so.at.update)
 
 pub returns-in_err-into_world-clause-text : goal.returns-in_err-into_world-clause-text
 returns-in_err-into_world-clause-text g c =
@@ -44,6 +59,11 @@ returns-clause-world g c =
       update = ap (λ (w : WorldValue). w.update) same ∙ so.update ∙ all;
     }
 
+pub returns-clause-sums : goal.returns-clause-sums
+returns-clause-sums g c =
+    let all : c.loop.counter ≡ c.args.updates = omega arith in
+    subst (λ n. AreSumsOf c.args.world.config n c.loop.sums) all c.loop.invariant.summed
+
 pub loop-preserved : goal.loop-preserved
 loop-preserved g c =
     let so = c.loop.invariant in
@@ -53,6 +73,7 @@ loop-preserved g c =
         config = next.world.config ∙ so.at.config;
         update = next.world.update ∙ ap (λ n. n + 1) so.at.update;
       };
+      summed = sums_then so.at next.sums;
       written = writes_same (update_written c.args.world.config c.loop.running.config
           c.loop.counter c.loop.running.update so.written next.text so.at.config so.at.update);
     }

@@ -1,4 +1,4 @@
-use Rattle.std.proofs.Common.{◌≡◌, ◌≤◌, ◌+◌, ℕ, Ok, arith, subst}
+use Rattle.std.proofs.Common.{◌≡◌, ◌<◌, ◌+◌, ℕ, Ok, arith, subst}
 use Rattle.std.proofs.lemmas.Result.{err_from_is_err_and}
 use Rattle.world_rules.specs.LogText.{updates_text}
 use Rattle.written_texts.specs.WrittenText.{WritesAll}
@@ -16,12 +16,10 @@ pub returns-in_err-progress-clause-text : goal.returns-in_err-progress-clause-te
 returns-in_err-progress-clause-text g c =
     let p = err_from_is_err_and c.from_residual.result c.from_residual.ensures.1 in
     let so = c.loop.invariant in
-    let within : c.loop.counter + 1 ≤ c.args.updates = omega arith in
-    let wrote = update_written c.args.progress.world.config c.loop.progress.world.config
-    c.loop.counter c.loop.progress.world.update so.written c.in_err-progress.ensures.text
-    so.come.world.config so.come.world.update in
-    rw (p.1, p.2) (update_stopped c.args.progress.world.config (c.loop.counter + 1) c.args.updates
-    wrote within)
+    let within : c.loop.counter < c.args.updates = omega arith in
+    rw (p.1, p.2) (update_stopped c.args.progress.world.config c.loop.progress.world.config
+    c.loop.counter c.loop.progress.world.update c.args.updates within so.written
+    c.in_err-progress.ensures.text so.come.world.config so.come.world.update)
 
 pub returns-clause-come : goal.returns-clause-come
 returns-clause-come g c =

@@ -1,0 +1,17 @@
+use Rattle.std.proofs.Common.{arith}
+use Rattle.avida_program.proofs.BenchLemmas.{sums_told}
+use Rattle.avida_program.proofs.bench.tell.Goals as goal
+
+pub log_bytes-bytes-requires : goal.log_bytes-bytes-requires
+log_bytes-bytes-requires c =
+    omega (
+      arith,
+      c.requires.updates,
+      c.requires.end.final.update,
+      c.requires.end.summed.bytes.small,
+    )
+
+pub returns : goal.returns
+returns c =
+    sums_told c.args.world.now c.args.sums c.stats.result c.in_ok-bytes.bytes _ c.requires.end
+    c.stats.ensures c.in_ok-bytes.ensures c.lines_of.ensures
