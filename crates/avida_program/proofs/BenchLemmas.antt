@@ -71,22 +71,21 @@ events_fit values frame is =
     (no_events frame)
 
 -- the three lines of a run that came to this end
-pub sums_told : (world : WorldValue) (sums : Sums) (stats : Stats) (bytes : ℕ) (text : List ℕ)
+pub sums_told : (world : WorldValue) (sums : Sums) (stats : Stats) (bytes : ℕ)
     → IsEndOf world.config world sums → stats ≡ stats_of world.config world.update
     → bytes ≡ length (head_text world.config) + sums.bytes + length (end_text world.update)
-    → text ≡ line_text (Count stats)
+    → line_text (Count stats)
     ++ codes "births " ++ decimal sums.births ++ codes "\n"
-    ++ codes "bytes " ++ decimal bytes ++ codes "\n"
-    → text ≡ sums_text world.config
+    ++ codes "bytes " ++ decimal bytes ++ codes "\n" ≡ sums_text world.config
 unfolding sums_text
-sums_told world sums stats bytes text so told long is =
+sums_told world sums stats bytes so told long =
     let config = world.config in
     let counted : stats ≡ stats_of config config.updates =
     told ∙ ap (stats_of config) so.final.update in
     let last = ap (λ n. length (end_text n)) so.final.update in
     let all : bytes ≡ length (run_text config) =
     omega (arith, long, last, so.summed.bytes.is, log_bytes config config.updates) in
-    rw (← counted, ← so.summed.births.is, ← all) is
+    rw (counted, so.summed.births.is, all) refl
 
 -- all of `bench` is done
 pub benched : {a b : SinkState} (asked : Bench) (source : SourceState) (watch : SinkState)

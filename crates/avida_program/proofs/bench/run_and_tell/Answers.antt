@@ -1,4 +1,4 @@
-use Rattle.std.proofs.Common.{◌∙◌, ap, arith, subst, sym}
+use Rattle.std.proofs.Common.{◌≡◌, ◌∙◌, ap, arith, subst, sym}
 use Rattle.world_config.specs.Values.{ConfigValues}
 use Rattle.logged_run.specs.RunSums.{IsEndOf}
 use Rattle.avida_program.specs.BenchText.{sums_text}
@@ -11,7 +11,10 @@ tell-text-requires-clause-end g c =
     (sym so.final.config) so
 
 pub tell-text-requires-clause-updates : goal.tell-text-requires-clause-updates
-tell-text-requires-clause-updates g c = omega (arith, c.in_ok-world.ensures.final.update)
+tell-text-requires-clause-updates g c =
+    let last : c.in_ok-world.world.update ≡ c.args.config.updates =
+    c.in_ok-world.ensures.final.update in
+    omega (arith, last, c.args.config.updates_bounds)
 
 pub returns-clause-world : goal.returns-clause-world
 returns-clause-world g c = c.in_ok-world.ensures.final

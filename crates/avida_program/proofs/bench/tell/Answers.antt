@@ -1,4 +1,5 @@
-use Rattle.std.proofs.Common.{arith}
+use Rattle.std.proofs.Common.{◌≡◌, ℕ, List, arith, subst}
+use Rattle.std.specs.Prelude.{IfOk}
 use Rattle.avida_program.proofs.BenchLemmas.{sums_told}
 use Rattle.avida_program.proofs.bench.tell.Goals as goal
 
@@ -13,5 +14,6 @@ log_bytes-bytes-requires c =
 
 pub returns : goal.returns
 returns c =
-    sums_told c.args.world.now c.args.sums c.stats.result c.in_ok-bytes.bytes _ c.requires.end
-    c.stats.ensures c.in_ok-bytes.ensures c.lines_of.ensures
+    subst (λ (lines : List ℕ). IfOk c.lines_of.result (λ text. text.items ≡ lines))
+    (sums_told c.args.world.now c.args.sums c.stats.result c.in_ok-bytes.bytes c.requires.end
+    c.stats.ensures c.in_ok-bytes.ensures) c.lines_of.ensures
