@@ -1,4 +1,4 @@
-use Rattle.std.proofs.Common.{◌≡◌, ◌<◌, ◌+◌, ℕ, Ok, arith, subst}
+use Rattle.std.proofs.Common.{◌≡◌, ◌<◌, ℕ, Ok, arith, subst}
 use Rattle.std.proofs.lemmas.Result.{err_from_is_err_and}
 use Rattle.world_rules.specs.LogText.{updates_text}
 use Rattle.written_texts.specs.WrittenText.{WritesAll}
