@@ -1,5 +1,5 @@
 -- What becomes of the seeds, one after another.
-use Rattle.std.proofs.Common.{◌≡◌, ℕ, suc, ◌<◌, List, [], ◌∷◌, length, map, get_or, Option, Result, Ok, Err, refl, subst, arith, ◌∙◌}
+use Rattle.std.proofs.Common.{◌≡◌, ℕ, suc, ◌<◌, List, [], ◌∷◌, length, map, get_or, Option, Result, Ok, refl, subst, arith}
 use Rattle.std.specs.Prelude.{IfOk}
 use Rattle.avida_port.specs.declared.memory.Memory.{Memory}
 use Rattle.instruction_set.specs.declared.letter.Letter.{Letter}
