@@ -4,14 +4,14 @@ use Rattle.logged_run.specs.RunSums.{IsEndOf}
 use Rattle.avida_program.specs.BenchText.{sums_text}
 use Rattle.avida_program.proofs.bench.run_and_tell.Goals as goal
 
-pub tell-text-requires-clause-end : goal.tell-text-requires-clause-end
-tell-text-requires-clause-end g c =
+pub tell-requires-clause-end : goal.tell-requires-clause-end
+tell-requires-clause-end g c =
     let so = c.in_ok-world.ensures in
     subst (λ (of : ConfigValues). IsEndOf of c.in_ok-world.world c.in_ok-world.sums)
     (sym so.final.config) so
 
-pub tell-text-requires-clause-updates : goal.tell-text-requires-clause-updates
-tell-text-requires-clause-updates g c =
+pub tell-requires-clause-updates : goal.tell-requires-clause-updates
+tell-requires-clause-updates g c =
     let last : c.in_ok-world.world.update ≡ c.args.config.updates =
     c.in_ok-world.ensures.final.update in
     omega (arith, last, c.args.config.updates_bounds)

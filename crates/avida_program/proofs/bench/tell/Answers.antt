@@ -3,8 +3,8 @@ use Rattle.std.specs.Prelude.{IfOk}
 use Rattle.avida_program.proofs.BenchLemmas.{sums_told}
 use Rattle.avida_program.proofs.bench.tell.Goals as goal
 
-pub log_bytes-bytes-requires : goal.log_bytes-bytes-requires
-log_bytes-bytes-requires c =
+pub log_bytes-requires : goal.log_bytes-requires
+log_bytes-requires c =
     omega (
       arith,
       c.requires.updates,
