@@ -1,9 +1,8 @@
 -- What `bench` counts of a run, and the configuration that it runs.
-use Rattle.std.proofs.Common.{◌≡◌, ◌∙◌, ◌+◌, ℕ, suc, List, [], ◌++◌, Option, Ok, Err, refl, sym, ap, subst, length, length-append, add-one, arith, rules}
+use Rattle.std.proofs.Common.{◌≡◌, ◌∙◌, ◌+◌, ℕ, [], ◌++◌, Ok, OnErr, OnOk, refl, sym, ap, subst, length, length-append, arith, rules}
 use Rattle.std.proofs.lemmas.Bool.{false≢true}
 use Rattle.std.specs.Prelude.{codes, decimal}
 use Rattle.toml.specs.Data.{no_members}
-use Rattle.avida_port.specs.Ports.{SinkState, SourceState}
 use Rattle.instruction_set.specs.Letter.{letter_of_byte}
 use Rattle.log_lines.specs.Line.{Count}
 use Rattle.log_lines.specs.LineText.{line_text}
@@ -17,10 +16,7 @@ use Rattle.world_config.specs.Values.{ConfigValues}
 use Rattle.world_core.specs.WorldValue.{WorldValue}
 use Rattle.world_rules.specs.LogText.{end_text, head_text, log_text, updates_text}
 use Rattle.world_rules.specs.Statistics.{stats_of}
-use Rattle.written_texts.specs.SinkChanges.{Change, change, unchanged}
-use Rattle.written_texts.specs.WrittenText.{WritesAll}
-use Rattle.written_texts.specs.declared.stop.WriteStop.{WriteStop}
-use Rattle.written_texts.specs.declared.stop.WriteStop.TheVariants as stop
+use Rattle.written_texts.specs.SinkChanges.{Stays}
 use Rattle.logged_run.specs.RunSums.{IsEndOf}
 use Rattle.logged_run.specs.RunText.{run_text}
 use Rattle.logged_run.specs.declared.sums.Sums.{Sums}
@@ -28,8 +24,10 @@ use Rattle.command_line.specs.declared.bench.Bench.{Bench}
 use Rattle.avida_program.specs.declared.command.Command.TheVariants as command
 use Rattle.avida_program.specs.BenchText.{bench_config, bench_text, sums_text}
 use Rattle.avida_program.specs.FinalWorld.{LeavesFinal}
-use Rattle.avida_program.specs.Endings.{error_at}
+use Rattle.avida_program.specs.Changes.{Work, WritesText}
+use Rattle.avida_program.specs.Status.{Ended}
 use Rattle.avida_program.specs.Commands.{CarriesOut}
+use Rattle.avida_program.proofs.ReadEnds.{carried, text_caused}
 
 -- the bytes of a log are those of its three parts
 log_bytes : (config : ConfigValues) (updates : ℕ)
@@ -87,51 +85,13 @@ sums_told world sums stats bytes so told long =
     omega (arith, long, last, so.summed.bytes.is, log_bytes config config.updates) in
     rw (counted, so.summed.births.is, all) refl
 
--- all of `bench` is done
-pub benched : {a b : SinkState} (asked : Bench) (source : SourceState) (watch : SinkState)
-    (last : Change (Option WorldValue))
-    → WritesAll {T = Unit {0}} a b (bench_text asked.seed) (Ok tt) → LeavesFinal last (bench_config asked.seed)
-    → CarriesOut (command.Bench asked) (record {
-      source = unchanged source;
-      out = change a b;
-      watch = unchanged watch;
-      last = last;
-    }) (Ok tt)
-benched asked source watch last wrote left = record {
-  words = λ e. cc;
-  read_fault = λ e. absurd (cc);
-  write_fault = λ e. absurd (cc);
-  watch_stays = λ e. refl;
-  last_stays = tt;
-  no_world = λ e. absurd (false≢true (sym e));
-  does = record { source_stays = refl; writes = wrote.ok; last_world = left };
-}
-
--- `bench` stopped
-pub bench_stopped : {T : Type 0} {a b : SinkState} (asked : Bench) (source : SourceState)
-    (watch : SinkState) (last : Option WorldValue) (e : WriteStop)
-    → WritesAll {T = T} a b (bench_text asked.seed) (Err e)
-    → CarriesOut (command.Bench asked) (record {
-      source = unchanged source;
-      out = change a b;
-      watch = unchanged watch;
-      last = unchanged last;
-    }) (Err (error_at e))
-bench_stopped asked source watch last stop.Fault stops = record {
-  words = λ e. cc;
-  read_fault = λ e. absurd (cc);
-  write_fault = λ e. stops.fault refl;
-  watch_stays = λ e. refl;
-  last_stays = refl;
-  no_world = λ e. refl;
-  does = record { source_stays = refl; writes = (stops.fault refl, stops.err); last_world = tt };
-}
-bench_stopped asked source watch last stop.Memory stops = record {
-  words = λ e. cc;
-  read_fault = λ e. absurd (cc);
-  write_fault = λ e. absurd (cc);
-  watch_stays = λ e. refl;
-  last_stays = refl;
-  no_world = λ e. refl;
-  does = record { source_stays = refl; writes = stops.err; last_world = tt };
-}
+-- `bench` ends so
+pub benched : (asked : Bench) (work : Work) (ended : Ended) → Stays work.source → Stays work.watch
+    → WritesText (bench_text asked.seed) work.out ended → OnErr ended (Stays work.last)
+    → OnOk ended (LeavesFinal work.last (bench_config asked.seed))
+    → CarriesOut (command.Bench asked) work ended
+benched asked work ended source watch wrote last left =
+    let bench = command.Bench asked in
+    carried bench work ended (text_caused bench refl work (bench_text asked.seed) ended wrote)
+    (λ is. watch) last (λ e. absurd (false≢true (sym e)))
+    (record { source_stays = source; writes = wrote; last_world = left })

@@ -5,7 +5,7 @@ use Rattle.world_core.specs.WorldValue.{WorldValue}
 use Rattle.avida_port.specs.Ports.{SinkState, SourceState}
 use Rattle.written_texts.proofs.GainedLemmas.{stays_front}
 use Rattle.avida_program.specs.declared.command.Command.{Command}
-use Rattle.avida_program.specs.declared.command.Command.TheVariants.{Trace, Run, Lineage, Bench, Assay, Save, Resume, Advance, Replay, Upgrade, Tree, Landscape}
+use Rattle.avida_program.specs.declared.command.Command.TheVariants.{Run, Lineage, Bench}
 use Rattle.avida_program.specs.declared.call_error.CallError.TheVariants as error
 use Rattle.avida_program.specs.declared.refusal.Refusal.{Refusal}
 use Rattle.avida_program.specs.Input.{configuration_of}
@@ -13,6 +13,7 @@ use Rattle.avida_program.specs.BenchText.{bench_text}
 use Rattle.avida_program.specs.Changes.{Work}
 use Rattle.written_texts.specs.SinkChanges.{Stays, unchanged}
 use Rattle.avida_program.specs.Commands.{Does, Obeys, Watches}
+use Rattle.avida_program.proofs.ReadEnds.{carried}
 
 -- a watcher that has written nothing
 nothing_watched : (looks : Option ℕ) (read : Result ConfigValues Refusal) (work : Work)
@@ -32,7 +33,6 @@ untouched source out watch last = record {
 -- each command may run out of memory before anything was read, written or left
 does_nothing : (command : Command) (source : SourceState) (out watch : SinkState)
     (last : Option WorldValue) → Does command (untouched source out watch last) (Err error.Memory)
-does_nothing (Trace trace) source out watch last = λ bytes is. inl refl
 does_nothing (Run run) source out watch last = record {
   reads = λ bytes is. inl refl;
   watches = λ bytes is. nothing_watched run.watch (configuration_of bytes)
@@ -47,14 +47,7 @@ does_nothing (Bench bench) source out watch last = record {
   writes = stays_front (unchanged out) (bench_text bench.seed) refl;
   last_world = tt;
 }
-does_nothing (Assay assay) source out watch last = λ bytes is. inl refl
-does_nothing (Save workers) source out watch last = λ bytes is. inl refl
-does_nothing (Resume resume) source out watch last = λ bytes is. inl refl
-does_nothing (Advance advance) source out watch last = λ bytes is. inl refl
-does_nothing Replay source out watch last = λ bytes is. inl refl
-does_nothing Upgrade source out watch last = λ bytes is. inl refl
-does_nothing Tree source out watch last = λ bytes is. inl refl
-does_nothing (Landscape steps) source out watch last = λ bytes is. inl refl
+does_nothing _ source out watch last = λ bytes is. inl refl
 
 -- memory ran out before anything was done, whatever the words give
 pub nothing_done : (command : Option Command) (source : SourceState) (out watch : SinkState)
@@ -67,12 +60,6 @@ nothing_done None source out watch last = record {
   watch_stays = refl;
   last_stays = refl;
 }
-nothing_done (Some command) source out watch last = record {
-  words = λ e. cc;
-  read_fault = λ e. absurd (cc);
-  write_fault = λ e. absurd (cc);
-  watch_stays = λ e. refl;
-  last_stays = refl;
-  no_world = λ e. refl;
-  does = does_nothing command source out watch last;
-}
+nothing_done (Some command) source out watch last =
+    carried command (untouched source out watch last) (Err error.Memory) tt (λ e. refl) refl
+    (λ e. refl) (does_nothing command source out watch last)

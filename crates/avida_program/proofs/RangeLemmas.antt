@@ -1,8 +1,9 @@
--- The workers that the words of `run` give are from 1 to 64.
+-- The workers that the words of `run` and of `lineage` give are from 1 to 64.
 use Rattle.std.proofs.Common.{◌≡◌, ◌≤◌, ℕ, List, Option, None, Some, subst, refl, option_and_then, option_map, rules}
 use Rattle.numerals.specs.Numeral.{number_of}
-use Rattle.command_line.specs.Commands.{looks_of_value, option_value_at, run_of, run_with}
+use Rattle.command_line.specs.Commands.{lineage_told, looks_of_value, option_value_at, run_of, run_with}
 use Rattle.command_line.specs.Form.{Told}
+use Rattle.command_line.specs.declared.lineage.Lineage.{Lineage}
 use Rattle.command_line.specs.declared.run.Run.{Run}
 
 -- a number that was read of a text is in its range
@@ -42,3 +43,9 @@ pub workers_in_range : (told : Option Told) (run : Run) → option_and_then run_
 workers_in_range None run e = absurd (cc)
 workers_in_range (Some told) run e =
     from_text (option_value_at 0 told) (option_value_at 1 told) run e
+
+-- the workers of a line of descent that the words ask for are from 1 to 64
+pub descent_in_range : (words : List (List ℕ)) (lineage : Lineage)
+    → lineage_told words ≡ Some lineage → (1 ≤ lineage.workers) × (lineage.workers ≤ 64)
+unfolding number_of
+descent_in_range words lineage e = search rules

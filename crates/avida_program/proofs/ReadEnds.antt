@@ -1,9 +1,9 @@
--- How a command ends that reads an input, writes a text of it, and leaves no world.
-use Rattle.std.proofs.Common.{◌≡◌, ℕ, List, Option, None, Result, Ok, Err, refl, inl, inr, sym, subst}
+-- How a command ends that reads an input and writes a text of it.
+use Rattle.std.proofs.Common.{◌≡◌, ◌⊎◌, ℕ, List, false, Option, None, Result, Ok, Err, IsErrAnd, OnErr, refl, inl, inr, sym, subst}
+use Rattle.std.specs.Prelude.{⊤}
 use Rattle.avida_port.specs.Ports.{SinkState, SourceState}
 use Rattle.logged_run.specs.RunStops.{PutFailed}
-use Rattle.world_core.specs.WorldValue.{WorldValue}
-use Rattle.written_texts.specs.SinkChanges.{Change, change, unchanged}
+use Rattle.written_texts.specs.SinkChanges.{Change, Stays, change, unchanged}
 use Rattle.written_texts.specs.WrittenText.{WritesAll}
 use Rattle.written_texts.specs.declared.stop.WriteStop.{WriteStop}
 use Rattle.written_texts.specs.declared.stop.WriteStop.TheVariants as stop
@@ -11,100 +11,143 @@ use Rattle.avida_program.specs.declared.call_error.CallError.{CallError}
 use Rattle.avida_program.specs.declared.call_error.CallError.TheVariants as error
 use Rattle.avida_program.specs.declared.command.Command.{Command}
 use Rattle.avida_program.specs.declared.refusal.Refusal.{Refusal}
-use Rattle.avida_program.specs.Changes.{Work}
-use Rattle.avida_program.specs.CommandLine.{looks_of}
-use Rattle.avida_program.specs.Commands.{CarriesOut, Does, Reads}
-use Rattle.avida_program.specs.Endings.{GivesInput, GivesNoInput, error_at}
+use Rattle.avida_program.specs.Changes.{OnBytes, SourceFailed, Work, WritesText}
+use Rattle.avida_program.specs.CommandLine.{leaves_world, looks_of}
+use Rattle.avida_program.specs.Commands.{CarriesOut, Does, Reads, ReadsInput}
+use Rattle.avida_program.specs.Endings.{GivesInput, GivesNoInput, ReadsAndWrites, ended_by}
 use Rattle.avida_program.specs.Status.{Ended}
 
--- the row of a command that only reads and writes
-abbrev pub OnlyReads : {A : Type 0} → (List ℕ → Result A Refusal) → (A → List ℕ) → Command → Type 0
-OnlyReads input_of text_of command =
-    (work : Work) (ended : Ended) → Reads input_of text_of work ended → Does command work ended
+-- a fault has its cause
+abbrev pub IsCaused : Command → Work → Ended → Type 0
+IsCaused command work (Ok done) = ⊤
+IsCaused command work (Err error.BadWords) = ⊥
+IsCaused command work (Err (error.BadInput why)) = ⊤
+IsCaused command work (Err error.ReadFault) = SourceFailed work.source
+IsCaused command work (Err error.WriteFault) = PutFailed (looks_of command) work.out work.watch
+IsCaused command work (Err error.Memory) = ⊤
 
--- a call that read and wrote, and left all else
-abbrev pub read_and_wrote : Change SourceState → Change SinkState → SinkState → Option WorldValue
-    → Work
-read_and_wrote source out watch last = record {
-  source = source;
-  out = out;
-  watch = unchanged watch;
-  last = unchanged last;
+-- a command is carried out that has its cause, leaves what it has to, and does what it does
+pub carried : (command : Command) (work : Work) (ended : Ended) → IsCaused command work ended
+    → (looks_of command ≡ None → Stays work.watch) → OnErr ended (Stays work.last)
+    → (leaves_world command ≡ false → Stays work.last) → Does command work ended
+    → CarriesOut command work ended
+carried command work ended cause watch last no_world does = record {
+  words = λ is. subst (IsCaused command work) is cause;
+  read_fault = λ is. subst (IsCaused command work) is cause;
+  write_fault = λ is. subst (IsCaused command work) is cause;
+  watch_stays = watch;
+  last_stays = last;
+  no_world = no_world;
+  does = does;
 }
 
-module _ {A : Type 0} (command : Command) (input_of : List ℕ → Result A Refusal)
-    (text_of : A → List ℕ) (row : OnlyReads input_of text_of command) where
-  -- no input was read
-  pub not_read : (source : Change SourceState) (out watch : SinkState) (last : Option WorldValue)
-      (e : CallError) → GivesNoInput input_of source e
-      → CarriesOut command (read_and_wrote source (unchanged out) watch last) (Err e)
-  not_read source out watch last error.BadWords h = absurd h
-  not_read source out watch last (error.BadInput why) h = record {
-    words = λ e. cc;
-    read_fault = λ e. absurd (cc);
-    write_fault = λ e. absurd (cc);
-    watch_stays = λ e. refl;
-    last_stays = refl;
-    no_world = λ e. refl;
-    does = row _ _ (λ bytes is. (refl, h bytes is));
-  }
-  not_read source out watch last error.ReadFault h = record {
-    words = λ e. cc;
-    read_fault = λ e. h;
-    write_fault = λ e. absurd (cc);
-    watch_stays = λ e. refl;
-    last_stays = refl;
-    no_world = λ e. refl;
-    does = row _ _ (λ bytes is. (refl, h));
-  }
-  not_read source out watch last error.WriteFault h = absurd h
-  not_read source out watch last error.Memory h = record {
-    words = λ e. cc;
-    read_fault = λ e. absurd (cc);
-    write_fault = λ e. absurd (cc);
-    watch_stays = λ e. refl;
-    last_stays = refl;
-    no_world = λ e. refl;
-    does = row _ _ (λ bytes is. inl refl);
-  }
+-- what stays, stays where a call isn't done
+if_not_done : (P : Type 0) (ended : Ended) → P → OnErr ended P
+if_not_done P (Ok done) h = tt
+if_not_done P (Err e) h = h
 
-  -- the text was not written whole
-  pub not_written : {T : Type 0} {a b : SinkState} (source : Change SourceState)
-      (watch : SinkState) (last : Option WorldValue) (input : A) (e : WriteStop)
-      → looks_of command ≡ None → GivesInput input_of source input
-      → WritesAll {T = T} a b (text_of input) (Err e)
-      → CarriesOut command (read_and_wrote source (change a b) watch last) (Err (error_at e))
-  not_written {a = a} {b = b} source watch last input stop.Fault alone read stops = record {
-    words = λ e. cc;
-    read_fault = λ e. absurd (cc);
-    write_fault = λ e. subst (λ looks. PutFailed looks (change a b) (unchanged watch)) (sym alone)
-        (stops.fault refl);
-    watch_stays = λ e. refl;
-    last_stays = refl;
-    no_world = λ e. refl;
-    does = row _ _ (λ bytes is. (stops.fault refl, (input, read.reads bytes is, stops.err)));
-  }
-  not_written source watch last input stop.Memory alone read stops = record {
-    words = λ e. cc;
-    read_fault = λ e. absurd (cc);
-    write_fault = λ e. absurd (cc);
-    watch_stays = λ e. refl;
-    last_stays = refl;
-    no_world = λ e. refl;
-    does = row _ _ (λ bytes is. inr (input, read.reads bytes is, stops.err));
-  }
+-- what holds of an error holds of how a call ends that gives it
+gives_error : (ended : Ended) (P : CallError → Type 0) (e : CallError)
+    → IsErrAnd ended (λ given. given ≡ e) → P e → IsErrAnd ended P
+gives_error (Ok done) P e is h = absurd is
+gives_error (Err given) P e is h = subst P (sym is) h
 
-  -- all is done
-  pub written : {T : Type 0} {a b : SinkState} {t : T} (source : Change SourceState)
-      (watch : SinkState) (last : Option WorldValue) (input : A)
-      → GivesInput input_of source input → WritesAll {T = T} a b (text_of input) (Ok t)
-      → CarriesOut command (read_and_wrote source (change a b) watch last) (Ok tt)
-  written source watch last input read wrote = record {
-    words = λ e. cc;
-    read_fault = λ e. absurd (cc);
-    write_fault = λ e. absurd (cc);
-    watch_stays = λ e. refl;
-    last_stays = tt;
-    no_world = λ e. refl;
-    does = row _ _ (λ bytes is. (read.whole bytes is, (input, read.reads bytes is, wrote.ok)));
-  }
+-- no input was read
+pub not_read : {A : Type 0} {input_of : List ℕ → Result A Refusal} {text_of : A → List ℕ}
+    {source : Change SourceState} {out : SinkState} {ended : Ended} (e : CallError)
+    → IsErrAnd ended (λ given. given ≡ e) → GivesNoInput input_of source e
+    → ReadsAndWrites input_of text_of source (unchanged out) ended
+not_read {input_of = input_of} {source = source} {ended = ended} e is h =
+    record { by_input = inl (refl, gives_error ended (GivesNoInput input_of source) e is h) }
+
+-- a text is written, or stops
+pub text_ended : {T : Type 0} {a b : SinkState} (text : List ℕ) (r : Result T WriteStop)
+    → WritesAll a b text r → WritesText text (change a b) (ended_by r)
+text_ended text (Ok t) wrote = wrote.ok
+text_ended text (Err stop.Fault) wrote = (wrote.fault refl, wrote.err)
+text_ended text (Err stop.Memory) wrote = wrote.err
+
+-- an input was read, and its text is written, or stops
+pub read_and_wrote : {A T : Type 0} {input_of : List ℕ → Result A Refusal} {text_of : A → List ℕ}
+    {source : Change SourceState} {a b : SinkState} {input : A} {r : Result T WriteStop}
+    {ended : Ended} → GivesInput input_of source input → WritesAll a b (text_of input) r
+    → ended ≡ ended_by r → ReadsAndWrites input_of text_of source (change a b) ended
+read_and_wrote {text_of = text_of} {a = a} {b = b} {input = input} {r = r} read wrote is =
+    let text = text_of input in
+    let so = subst (WritesText text (change a b)) (sym is) (text_ended text r wrote) in
+    record { by_input = inr (input, read, so) }
+
+-- where no input is read, a fault has its cause
+pub nothing_caused : {A : Type 0} (input_of : List ℕ → Result A Refusal) (command : Command)
+    (work : Work) (e : CallError) → GivesNoInput input_of work.source e
+    → IsCaused command work (Err e)
+nothing_caused input_of command work error.BadWords h = h
+nothing_caused input_of command work (error.BadInput why) h = tt
+nothing_caused input_of command work error.ReadFault h = h
+nothing_caused input_of command work error.WriteFault h = absurd h
+nothing_caused input_of command work error.Memory h = tt
+
+-- where a text is written, a fault has its cause
+pub text_caused : (command : Command) → looks_of command ≡ None → (work : Work) (text : List ℕ)
+    (ended : Ended) → WritesText text work.out ended → IsCaused command work ended
+text_caused command alone work text (Ok done) wrote = tt
+text_caused command alone work text (Err error.BadWords) wrote = wrote
+text_caused command alone work text (Err (error.BadInput why)) wrote = tt
+text_caused command alone work text (Err error.ReadFault) wrote = absurd wrote
+text_caused command alone work text (Err error.WriteFault) wrote =
+    subst (λ looks. PutFailed looks work.out work.watch) (sym alone) wrote.0
+text_caused command alone work text (Err error.Memory) wrote = tt
+
+module _ {A : Type 0} (input_of : List ℕ → Result A Refusal) (text_of : A → List ℕ) where
+  -- of no input nothing is written
+  pub nothing_read : (looks : Option ℕ) (work : Work) (e : CallError)
+      → GivesNoInput input_of work.source e → Stays work.out
+      → OnBytes work.source (λ bytes. ReadsInput looks (input_of bytes) text_of work (Err e))
+  nothing_read looks work error.BadWords h stays = absurd h
+  nothing_read looks work (error.BadInput why) h stays = λ bytes told. (stays, h bytes told)
+  nothing_read looks work error.ReadFault h stays = λ bytes told. (stays, h)
+  nothing_read looks work error.WriteFault h stays = absurd h
+  nothing_read looks work error.Memory h stays = λ bytes told. inl stays
+
+  -- the text of an input is written, or stops
+  input_read : (work : Work) (ended : Ended) (input : A) → GivesInput input_of work.source input
+      → WritesText (text_of input) work.out ended → Reads input_of text_of work ended
+  input_read work (Ok done) input read wrote =
+      λ bytes told. (read.whole bytes told, (input, read.reads bytes told, wrote))
+  input_read work (Err error.BadWords) input read wrote = absurd wrote
+  input_read work (Err (error.BadInput why)) input read wrote = absurd wrote
+  input_read work (Err error.ReadFault) input read wrote = absurd wrote
+  input_read work (Err error.WriteFault) input read wrote =
+      λ bytes told. (wrote.0, (input, read.reads bytes told, wrote.1))
+  input_read work (Err error.Memory) input read wrote =
+      λ bytes told. inr (input, read.reads bytes told, wrote)
+
+  -- what it reads and writes, and what causes a fault
+  pub reads_and_writes : (command : Command) → looks_of command ≡ None → (work : Work)
+      (ended : Ended) → ReadsAndWrites input_of text_of work.source work.out ended
+      → IsCaused command work ended × Reads input_of text_of work ended
+  reads_and_writes command alone work ended so = by ended so.by_input
+    where
+      by : (end : Ended)
+          → ((Stays work.out × IsErrAnd end (GivesNoInput input_of work.source))
+          ⊎ ((input : A) × GivesInput input_of work.source input
+          × WritesText (text_of input) work.out end))
+          → IsCaused command work end × Reads input_of text_of work end
+      by (Ok done) (inl h) = absurd h.1
+      by (Err e) (inl h) =
+          (nothing_caused input_of command work e h.1, nothing_read None work e h.1 h.0)
+      by end (inr an) = (
+        text_caused command alone work (text_of an.0) end an.2,
+        input_read work end an.0 an.1 an.2,
+      )
+
+  -- a command that only reads and writes is carried out
+  pub only_reads : (command : Command)
+      → ((work : Work) (ended : Ended) → Reads input_of text_of work ended
+      → Does command work ended)
+      → looks_of command ≡ None → (work : Work) (ended : Ended) → Stays work.watch → Stays work.last
+      → ReadsAndWrites input_of text_of work.source work.out ended → CarriesOut command work ended
+  only_reads command row alone work ended watch last so =
+      let does = reads_and_writes command alone work ended so in
+      carried command work ended does.0 (λ is. watch)
+      (if_not_done (Stays work.last) ended last) (λ is. last) (row work ended does.1)

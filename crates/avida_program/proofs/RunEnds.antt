@@ -1,8 +1,8 @@
 -- A run whose configuration was read, by how it ended.
-use Rattle.std.proofs.Common.{◌≡◌, ◌∙◌, ℕ, List, Option, None, Some, IfSome, Ok, Err, refl, sym, ap, inl, inr}
+use Rattle.std.proofs.Common.{◌≡◌, ◌∙◌, ℕ, List, Option, None, Some, IfSome, Result, Ok, Err, OnErr, OnOk, refl, sym, ap, inl, inr}
 use Rattle.std.proofs.lemmas.Bool.{false≢true}
 use Rattle.world_config.specs.Values.{ConfigValues}
-use Rattle.avida_port.specs.Ports.{SinkState, SourceState}
+use Rattle.avida_port.specs.Ports.{SinkState}
 use Rattle.world_core.specs.WorldValue.{WorldValue, world_in}
 use Rattle.world_rules.specs.Laws.{ReplaysToLiving}
 use Rattle.world_rules.specs.WorldRun.{residents_of_world, world_after}
@@ -11,20 +11,21 @@ use Rattle.command_line.specs.declared.run.Run.{Run}
 use Rattle.avida_program.specs.declared.command.Command.TheVariants as command
 use Rattle.avida_program.specs.declared.call_error.CallError.{CallError}
 use Rattle.avida_program.specs.declared.call_error.CallError.TheVariants as error
+use Rattle.avida_program.specs.declared.refusal.Refusal.{Refusal}
 use Rattle.written_texts.specs.declared.stop.WriteStop.{WriteStop}
 use Rattle.written_texts.specs.declared.stop.WriteStop.TheVariants as stop
-use Rattle.written_texts.specs.SinkChanges.{Change, GainedText, Stays, change, unchanged}
-use Rattle.written_texts.specs.WrittenText.{WritesAll}
-use Rattle.avida_program.specs.Changes.{Work}
-use Rattle.avida_program.specs.Input.{configuration_of, lineage_input_of}
-use Rattle.avida_program.specs.Endings.{GivesInput, GivesNoInput, error_at}
+use Rattle.written_texts.specs.SinkChanges.{Change, GainedText, Stays}
+use Rattle.avida_program.specs.Changes.{OnBytes, Work}
+use Rattle.avida_program.specs.Input.{IsInputWith, configuration_of, lineage_input_of}
+use Rattle.avida_program.specs.Endings.{GivesInput, GivesNoInput, ReadsAndWrites, error_at}
 use Rattle.logged_run.specs.RunStops.{StopsRun}
 use Rattle.logged_run.specs.RunText.{IsFinalWorld, run_text}
 use Rattle.avida_program.specs.FinalWorld.{GainedLogOf, LeavesFinal}
 use Rattle.avida_program.specs.PathText.{path_text}
+use Rattle.avida_program.specs.Status.{Ended}
 use Rattle.logged_run.specs.WatchText.{GainedPictures}
 use Rattle.avida_program.specs.Commands.{CarriesOut, Watches}
-use Rattle.avida_program.proofs.ReadEnds.{read_and_wrote}
+use Rattle.avida_program.proofs.ReadEnds.{carried, nothing_caused, nothing_read, reads_and_writes}
 
 -- the world after the last update, by its value
 final_is : (config : ConfigValues) (final world : WorldValue) → IsFinalWorld config final
@@ -64,97 +65,29 @@ watch_wanted : (looks : Option ℕ) (bytes : List ℕ) (work : Work) (config : C
 watch_wanted None bytes work config is stops = tt
 watch_wanted (Some n) bytes work config is stops = inr (config, is, stops.pictures)
 
--- the configuration of a run was not read
-pub run_not_read : (asked : Run) (source : Change SourceState) (out watch : SinkState)
-    (last : Option WorldValue) (e : CallError) → GivesNoInput configuration_of source e
-    → CarriesOut (command.Run asked) (read_and_wrote source (unchanged out) watch last) (Err e)
-run_not_read asked source out watch last error.BadWords h = absurd h
-run_not_read asked source out watch last (error.BadInput why) h = record {
-  words = λ e. cc;
-  read_fault = λ e. absurd (cc);
-  write_fault = λ e. absurd (cc);
-  watch_stays = λ e. refl;
-  last_stays = refl;
-  no_world = λ e. refl;
-  does = record {
-    reads = λ bytes is. (refl, h bytes is);
-    watches = λ bytes is. where_watched asked.watch _ (λ n. refl);
-    last_world = tt;
-    replays = tt;
-  };
-}
-run_not_read asked source out watch last error.ReadFault h = record {
-  words = λ e. cc;
-  read_fault = λ e. h;
-  write_fault = λ e. absurd (cc);
-  watch_stays = λ e. refl;
-  last_stays = refl;
-  no_world = λ e. refl;
-  does = record {
-    reads = λ bytes is. (refl, h);
-    watches = λ bytes is. where_watched asked.watch _ (λ n. refl);
-    last_world = tt;
-    replays = tt;
-  };
-}
-run_not_read asked source out watch last error.WriteFault h = absurd h
-run_not_read asked source out watch last error.Memory h = record {
-  words = λ e. cc;
-  read_fault = λ e. absurd (cc);
-  write_fault = λ e. absurd (cc);
-  watch_stays = λ e. refl;
-  last_stays = refl;
-  no_world = λ e. refl;
-  does = record {
-    reads = λ bytes is. inl refl;
-    watches = λ bytes is. where_watched asked.watch _ (λ n. inl refl);
-    last_world = tt;
-    replays = tt;
-  };
-}
+-- of no configuration no picture is written
+nothing_shown : (looks : ℕ) (read : Result ConfigValues Refusal) (work : Work) (e : CallError)
+    → GivesNoInput configuration_of work.source e → Stays work.watch
+    → Watches looks read work (Err e)
+nothing_shown looks read work error.BadWords h stays = h
+nothing_shown looks read work (error.BadInput why) h stays = stays
+nothing_shown looks read work error.ReadFault h stays = stays
+nothing_shown looks read work error.WriteFault h stays = absurd h
+nothing_shown looks read work error.Memory h stays = inl stays
 
--- the configuration of a line of descent was not read
-pub descent_not_read : (asked : Lineage) (source : Change SourceState) (out watch : SinkState)
-    (last : Option WorldValue) (e : CallError) → GivesNoInput (lineage_input_of asked.cell) source e
-    → CarriesOut (command.Lineage asked) (read_and_wrote source (unchanged out) watch last) (Err e)
-descent_not_read asked source out watch last error.BadWords h = absurd h
-descent_not_read asked source out watch last (error.BadInput why) h = record {
-  words = λ e. cc;
-  read_fault = λ e. absurd (cc);
-  write_fault = λ e. absurd (cc);
-  watch_stays = λ e. refl;
-  last_stays = refl;
-  no_world = λ e. refl;
-  does = record {
-    reads = λ bytes is. (refl, h bytes is);
-    last_world = tt;
-  };
-}
-descent_not_read asked source out watch last error.ReadFault h = record {
-  words = λ e. cc;
-  read_fault = λ e. h;
-  write_fault = λ e. absurd (cc);
-  watch_stays = λ e. refl;
-  last_stays = refl;
-  no_world = λ e. refl;
-  does = record {
-    reads = λ bytes is. (refl, h);
-    last_world = tt;
-  };
-}
-descent_not_read asked source out watch last error.WriteFault h = absurd h
-descent_not_read asked source out watch last error.Memory h = record {
-  words = λ e. cc;
-  read_fault = λ e. absurd (cc);
-  write_fault = λ e. absurd (cc);
-  watch_stays = λ e. refl;
-  last_stays = refl;
-  no_world = λ e. refl;
-  does = record {
-    reads = λ bytes is. inl refl;
-    last_world = tt;
-  };
-}
+-- the configuration of a run was not read
+pub run_not_read : (asked : Run) (work : Work) (e : CallError)
+    → GivesNoInput configuration_of work.source e → Stays work.out → Stays work.watch
+    → Stays work.last → CarriesOut (command.Run asked) work (Err e)
+run_not_read asked work e h out watch last =
+    carried _ work (Err e) (nothing_caused configuration_of (command.Run asked) work e h)
+    (λ is. watch) last (λ is. last) (record {
+      reads = nothing_read configuration_of run_text asked.watch work e h out;
+      watches = λ bytes told. where_watched asked.watch _
+          (λ n. nothing_shown n (configuration_of bytes) work e h watch);
+      last_world = tt;
+      replays = tt;
+    })
 
 -- the log of a run that came to its end replays to who lives in the world that it left
 gained_log : (out : Change SinkState) (config : ConfigValues) (final world : WorldValue)
@@ -170,107 +103,51 @@ gained_log out config final world gained log is same = record {
 
 -- the run came to its end
 pub ran_to_end : (asked : Run) (work : Work) (config : ConfigValues)
-    → GivesInput configuration_of work.source config
-    → GainedText work.out (run_text config) → IfSome asked.watch (λ n. GainedPictures n config work.watch)
+    → GivesInput configuration_of work.source config → GainedText work.out (run_text config)
+    → IfSome asked.watch (λ n. GainedPictures n config work.watch)
     → (asked.watch ≡ None → Stays work.watch)
     → LeavesFinal work.last config → ReplaysToLiving config config.updates
     → CarriesOut (command.Run asked) work (Ok tt)
-ran_to_end asked work config read wrote pictures unwatched left replays = record {
-  words = λ e. cc;
-  read_fault = λ e. absurd (cc);
-  write_fault = λ e. absurd (cc);
-  watch_stays = unwatched;
-  last_stays = tt;
-  no_world = λ e. absurd (false≢true (sym e));
-  does = record {
-    reads = λ bytes is. (read.whole bytes is, (config, read.reads bytes is, wrote));
-    watches = λ bytes is. watched asked.watch bytes work config (read.reads bytes is) pictures;
-    last_world = λ bytes is. (config, read.reads bytes is, left);
-    replays = λ world is. gained_log work.out config left.0 world wrote replays left.2 (cc (left.1, is));
-  };
-}
+ran_to_end asked work config read wrote pictures unwatched left replays =
+    carried _ work (Ok tt) tt unwatched tt (λ e. absurd (false≢true (sym e))) (record {
+      reads = λ bytes is. (read.whole bytes is, (config, read.reads bytes is, wrote));
+      watches = λ bytes is. watched asked.watch bytes work config (read.reads bytes is) pictures;
+      last_world = λ bytes is. (config, read.reads bytes is, left);
+      replays = λ world is.
+          gained_log work.out config left.0 world wrote replays left.2 (cc (left.1, is));
+    })
 
 -- the run stopped
 pub run_stopped : (asked : Run) (work : Work) (config : ConfigValues)
     (e : WriteStop) → GivesInput configuration_of work.source config
     → StopsRun asked.watch config work.out work.watch e → (asked.watch ≡ None → Stays work.watch)
     → Stays work.last → CarriesOut (command.Run asked) work (Err (error_at e))
-run_stopped asked work config stop.Fault read stops unwatched kept = record {
-  words = λ e. cc;
-  read_fault = λ e. absurd (cc);
-  write_fault = λ e. stops.fault refl;
-  watch_stays = unwatched;
-  last_stays = kept;
-  no_world = λ e. absurd (false≢true (sym e));
-  does = record {
-    reads = λ bytes is. (stops.fault refl, (config, read.reads bytes is, stops.front));
-    watches = λ bytes is. watch_faulted asked.watch bytes work config (read.reads bytes is) stops;
-    last_world = tt;
-    replays = tt;
-  };
-}
-run_stopped asked work config stop.Memory read stops unwatched kept = record {
-  words = λ e. cc;
-  read_fault = λ e. absurd (cc);
-  write_fault = λ e. absurd (cc);
-  watch_stays = unwatched;
-  last_stays = kept;
-  no_world = λ e. absurd (false≢true (sym e));
-  does = record {
-    reads = λ bytes is. inr (config, read.reads bytes is, stops.front);
-    watches = λ bytes is. watch_wanted asked.watch bytes work config (read.reads bytes is) stops;
-    last_world = tt;
-    replays = tt;
-  };
-}
+run_stopped asked work config stop.Fault read stops unwatched kept =
+    carried _ work (Err error.WriteFault) (stops.fault refl) unwatched kept (λ e. kept) (record {
+      reads = λ bytes is. (stops.fault refl, (config, read.reads bytes is, stops.front));
+      watches = λ bytes is.
+          watch_faulted asked.watch bytes work config (read.reads bytes is) stops;
+      last_world = tt;
+      replays = tt;
+    })
+run_stopped asked work config stop.Memory read stops unwatched kept =
+    carried _ work (Err error.Memory) tt unwatched kept (λ e. kept) (record {
+      reads = λ bytes is. inr (config, read.reads bytes is, stops.front);
+      watches = λ bytes is. watch_wanted asked.watch bytes work config (read.reads bytes is) stops;
+      last_world = tt;
+      replays = tt;
+    })
 
--- a run stopped whose line of descent was to be written
-pub descent_stopped : {T : Type 0} {a b : SinkState} (asked : Lineage)
-    (source : Change SourceState) (watch : SinkState) (last : Option WorldValue)
-    (config : ConfigValues) (e : WriteStop)
-    → GivesInput (lineage_input_of asked.cell) source config
-    → WritesAll {T = T} a b (path_text config asked.cell) (Err e)
-    → CarriesOut (command.Lineage asked) (read_and_wrote source (change a b) watch last)
-    (Err (error_at e))
-descent_stopped asked source watch last config stop.Fault read stops = record {
-  words = λ e. cc;
-  read_fault = λ e. absurd (cc);
-  write_fault = λ e. stops.fault refl;
-  watch_stays = λ e. refl;
-  last_stays = refl;
-  no_world = λ e. refl;
-  does = record {
-    reads = λ bytes is. (stops.fault refl, (config, read.reads bytes is, stops.err));
-    last_world = tt;
-  };
-}
-descent_stopped asked source watch last config stop.Memory read stops = record {
-  words = λ e. cc;
-  read_fault = λ e. absurd (cc);
-  write_fault = λ e. absurd (cc);
-  watch_stays = λ e. refl;
-  last_stays = refl;
-  no_world = λ e. refl;
-  does = record {
-    reads = λ bytes is. inr (config, read.reads bytes is, stops.err);
-    last_world = tt;
-  };
-}
-
--- a run came to its end, and its line of descent is written
-pub descent_written : (asked : Lineage) (work : Work) (config : ConfigValues)
-    → GivesInput (lineage_input_of asked.cell) work.source config → Stays work.watch
-    → GainedText work.out (path_text config asked.cell) → LeavesFinal work.last config
-    → CarriesOut (command.Lineage asked) work (Ok tt)
-descent_written asked work config read unwatched wrote left = record {
-  words = λ e. cc;
-  read_fault = λ e. absurd (cc);
-  write_fault = λ e. absurd (cc);
-  watch_stays = λ e. unwatched;
-  last_stays = tt;
-  no_world = λ e. absurd (false≢true (sym e));
-  does = record {
-    reads = λ bytes is. (read.whole bytes is, (config, read.reads bytes is, wrote));
-    last_world = λ bytes is. (config, read.reads bytes is, left);
-  };
-}
+-- the line of descent in a run's last world
+pub descended : (asked : Lineage) (work : Work) (ended : Ended)
+    → ReadsAndWrites (lineage_input_of asked.cell) (λ config. path_text config asked.cell)
+    work.source work.out ended
+    → Stays work.watch → OnErr ended (Stays work.last)
+    → OnOk ended (OnBytes work.source (λ bytes.
+    IsInputWith (lineage_input_of asked.cell bytes) (LeavesFinal work.last)))
+    → CarriesOut (command.Lineage asked) work ended
+descended asked work ended so watch last left =
+    let does = reads_and_writes (lineage_input_of asked.cell)
+    (λ config. path_text config asked.cell) (command.Lineage asked) refl work ended so in
+    carried _ work ended does.0 (λ is. watch) last (λ e. absurd (false≢true (sym e)))
+    (record { reads = does.1; last_world = left })

@@ -5,6 +5,7 @@ use Rattle.avida_port.specs.Ports.{SourceState, SinkState}
 use Rattle.world_core.specs.WorldValue.{WorldValue}
 use Rattle.written_texts.specs.SinkChanges.{Change, GainedFront, GainedText, SinkFailed, Stays}
 use Rattle.avida_program.specs.declared.call_error.CallError.{CallError}
+use Rattle.avida_program.specs.declared.call_error.CallError.TheVariants as error
 use Rattle.avida_program.specs.Status.{Ended, fault_line}
 
 -- what a call of the program finds and leaves, but for its fault line
@@ -25,6 +26,15 @@ SourceFailed source = Rose source.before.faults source.after.faults
 -- the faults or the wants of a sink rose
 abbrev pub SinkStopped : Change SinkState → Type 0
 SinkStopped sink = SinkFailed sink ⊎ Rose sink.before.wants sink.after.wants
+
+-- a text is written whole, or a prefix of it where a put fails or memory runs out
+abbrev pub WritesText : List ℕ → Change SinkState → Ended → Type 0
+WritesText text out (Ok done) = GainedText out text
+WritesText text out (Err error.BadWords) = ⊥
+WritesText text out (Err (error.BadInput why)) = ⊥
+WritesText text out (Err error.ReadFault) = ⊥
+WritesText text out (Err error.WriteFault) = SinkFailed out × GainedFront out text
+WritesText text out (Err error.Memory) = GainedFront out text
 
 -- the fault line of an error on `err`
 pub record TellsFault (err : Change SinkState) (e : CallError) : Type 0 where

@@ -1,7 +1,7 @@
 -- What words give a command (docs/FORMATS.md, "The command line").
 use Rattle.std.specs.Prelude.{Bool, true, false, ℕ, List, [], ◌∷◌, Option, None, ◌≤◌, ⊤, codes, if◌then◌else◌, option_map}
 use Rattle.std.specs.Str.{bytes_eq}
-use Rattle.command_line.specs.Commands as command_line
+use Rattle.command_line.specs.Commands as told
 use Rattle.avida_program.specs.declared.command.Command.{Command}
 use Rattle.avida_program.specs.declared.command.Command.TheVariants.{Trace, Run, Lineage, Bench, Assay, Save, Resume, Advance, Replay, Upgrade, Tree, Landscape}
 use Rattle.avida_program.specs.declared.command.Spelling.{Spelling}
@@ -11,61 +11,26 @@ use Rattle.avida_program.specs.declared.command.Spelling.TheVariants.{Letters, N
 abbrev pub spelling_of : Bool → Spelling
 spelling_of org = if org then Names else Letters
 
--- `trace` by the words after the name
-abbrev pub trace_command : List (List ℕ) → Option Command
-trace_command words = option_map (λ trace. Trace trace) (command_line.trace_told words)
-
--- `run` by the words after the name
-abbrev pub run_command : List (List ℕ) → Option Command
-run_command words = option_map (λ run. Run run) (command_line.run_told words)
-
--- `lineage` by the words after the name
-abbrev pub lineage_command : List (List ℕ) → Option Command
-lineage_command words = option_map (λ lineage. Lineage lineage) (command_line.lineage_told words)
-
--- `bench` by the words after the name
-abbrev pub bench_command : List (List ℕ) → Option Command
-bench_command words = option_map (λ bench. Bench bench) (command_line.bench_told words)
-
--- `landscape` by the words after the name
-abbrev pub landscape_command : List (List ℕ) → Option Command
-landscape_command words = option_map (λ steps. Landscape steps) (command_line.landscape_told words)
-
--- `assay` by the words after the name
-abbrev pub assay_command : List (List ℕ) → Option Command
-assay_command words = option_map (λ assay. Assay assay) (command_line.assay_told words)
-
--- `save` by the words after the name
-abbrev pub save_command : List (List ℕ) → Option Command
-save_command words = option_map (λ workers. Save workers) (command_line.save_told words)
-
--- `resume` by the words after the name
-abbrev pub resume_command : List (List ℕ) → Option Command
-resume_command words = option_map (λ resume. Resume resume) (command_line.resume_told words)
-
--- `advance` by the words after the name
-abbrev pub advance_command : List (List ℕ) → Option Command
-advance_command words = option_map (λ advance. Advance advance) (command_line.advance_told words)
-
 -- a command that takes no words
 abbrev pub bare_command : Command → List (List ℕ) → Option Command
-bare_command command words = option_map (λ nothing. command) (command_line.nothing_told words)
+bare_command command words = option_map (λ nothing. command) (told.nothing_told words)
 
--- the command of a name, by the words after it
+-- the command of a name, with what the words after it tell it
 abbrev pub command_named : List ℕ → List (List ℕ) → Option Command
 command_named name words =
-    if bytes_eq name (codes "trace") then trace_command words
-    else if bytes_eq name (codes "run") then run_command words
-    else if bytes_eq name (codes "lineage") then lineage_command words
-    else if bytes_eq name (codes "bench") then bench_command words
-    else if bytes_eq name (codes "assay") then assay_command words
-    else if bytes_eq name (codes "save") then save_command words
-    else if bytes_eq name (codes "resume") then resume_command words
-    else if bytes_eq name (codes "advance") then advance_command words
+    if bytes_eq name (codes "trace") then option_map Trace (told.trace_told words)
+    else if bytes_eq name (codes "run") then option_map Run (told.run_told words)
+    else if bytes_eq name (codes "lineage") then option_map Lineage (told.lineage_told words)
+    else if bytes_eq name (codes "bench") then option_map Bench (told.bench_told words)
+    else if bytes_eq name (codes "assay") then option_map Assay (told.assay_told words)
+    else if bytes_eq name (codes "save") then option_map Save (told.save_told words)
+    else if bytes_eq name (codes "resume") then option_map Resume (told.resume_told words)
+    else if bytes_eq name (codes "advance") then option_map Advance (told.advance_told words)
     else if bytes_eq name (codes "replay") then bare_command Replay words
     else if bytes_eq name (codes "upgrade") then bare_command Upgrade words
     else if bytes_eq name (codes "tree") then bare_command Tree words
-    else if bytes_eq name (codes "landscape") then landscape_command words
+    else if bytes_eq name (codes "landscape")
+    then option_map Landscape (told.landscape_told words)
     else None
 
 -- the first word is the name, and the words after it are read by its form

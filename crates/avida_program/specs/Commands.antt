@@ -19,7 +19,7 @@ use Rattle.avida_program.specs.declared.call_error.CallError.TheVariants as erro
 use Rattle.avida_program.specs.declared.refusal.Refusal.{Refusal}
 use Rattle.avida_program.specs.declared.status.Status.{Status}
 use Rattle.avida_program.specs.BenchText.{bench_config, bench_text}
-use Rattle.avida_program.specs.Changes.{OnBytes, SourceFailed, TellsOf, Work}
+use Rattle.avida_program.specs.Changes.{OnBytes, SourceFailed, TellsOf, Work, WritesText}
 use Rattle.avida_program.specs.CommandLine.{leaves_world, looks_of, spelling_of}
 use Rattle.avida_program.specs.FinalWorld.{GainedLogOf, LeavesFinal}
 use Rattle.avida_program.specs.Input.{IsInputWith, assay_input_of, configuration_of, genome_of_input, lineage_input_of, log_input_of, resume_input_of}
@@ -87,15 +87,6 @@ pub record Descends (cell : ℕ) (work : Work) (ended : Ended) : Type 0 where
   -- Done: the world after the last update is left
   pub last_world : OnOk ended (OnBytes work.source (λ bytes.
       IsInputWith (lineage_input_of cell bytes) (LeavesFinal work.last)))
-
--- a text is written whole, or a prefix of it where a put fails or memory runs out
-abbrev pub WritesText : List ℕ → Change SinkState → Ended → Type 0
-WritesText text out (Ok done) = GainedText out text
-WritesText text out (Err error.BadWords) = ⊥
-WritesText text out (Err (error.BadInput why)) = ⊥
-WritesText text out (Err error.ReadFault) = ⊥
-WritesText text out (Err error.WriteFault) = SinkFailed out × GainedFront out text
-WritesText text out (Err error.Memory) = GainedFront out text
 
 -- `bench` of a seed, which reads nothing
 pub record Benches (seed : ℕ) (work : Work) (ended : Ended) : Type 0 where

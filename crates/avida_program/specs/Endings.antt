@@ -1,19 +1,25 @@
 -- How reading and writing below `serve` end (docs/FORMATS.md, "Statuses and fault lines").
-use Rattle.std.specs.Prelude.{◌≡◌, ◌<◌, ⊤, ℕ, List, [], length, Some, Result, Ok, Err}
-use Rattle.avida_port.specs.Ports.{SourceState}
+use Rattle.std.specs.Prelude.{◌≡◌, ◌<◌, ◌⊎◌, ⊤, ℕ, List, [], length, Some, Result, Ok, Err, IsErrAnd}
+use Rattle.avida_port.specs.Ports.{SinkState, SourceState}
 use Rattle.avida_program.specs.declared.call_error.CallError.{CallError}
 use Rattle.avida_program.specs.declared.call_error.CallError.TheVariants as error
 use Rattle.avida_program.specs.declared.refusal.Refusal.{Refusal}
 use Rattle.avida_program.specs.declared.refusal.Refusal.TheVariants.{TooLong}
 use Rattle.written_texts.specs.declared.stop.WriteStop.{WriteStop}
 use Rattle.written_texts.specs.declared.stop.WriteStop.TheVariants.{Fault, Memory}
-use Rattle.written_texts.specs.SinkChanges.{Change}
-use Rattle.avida_program.specs.Changes.{OnBytes, SourceFailed}
+use Rattle.written_texts.specs.SinkChanges.{Change, Stays}
+use Rattle.avida_program.specs.Changes.{OnBytes, SourceFailed, WritesText}
+use Rattle.avida_program.specs.Status.{Ended}
 
 -- why a call isn't done whose text is not written whole
 abbrev pub error_at : WriteStop → CallError
 error_at Fault = error.WriteFault
 error_at Memory = error.Memory
+
+-- how a call ends whose text is written so
+abbrev pub ended_by : {T : Type 0} → Result T WriteStop → Ended
+ended_by (Ok done) = Ok tt
+ended_by (Err stop) = Err (error_at stop)
 
 -- how the reading of bytes stops, of which there may be so many
 abbrev pub StopsReading : ℕ → Change SourceState → CallError → Type 0
@@ -39,3 +45,10 @@ GivesNoInput input_of source (error.BadInput why) =
 GivesNoInput input_of source error.ReadFault = SourceFailed source
 GivesNoInput input_of source error.WriteFault = ⊥
 GivesNoInput input_of source error.Memory = ⊤
+
+-- how a call ends that reads an input and writes a text of it
+pub record ReadsAndWrites {A : Type 0} (input_of : List ℕ → Result A Refusal) (text_of : A → List ℕ)
+    (source : Change SourceState) (out : Change SinkState) (ended : Ended) : Type 0 where
+  -- there is no input, and nothing is written; or the text is written, perhaps not to its end
+  pub by_input : (Stays out × IsErrAnd ended (GivesNoInput input_of source))
+      ⊎ ((input : A) × GivesInput input_of source input × WritesText (text_of input) out ended)

@@ -14,6 +14,7 @@ ghost use Rattle.avida_program.specs.Commands.{CarriesOut};
 
 use crate::call_error::CallError;
 use crate::puts::put_text;
+use crate::run::leave;
 use avida_port::{Gate, Memory, Sink};
 use command_line::Bench;
 use log_lines::{LogLine, Stats, write_line};
@@ -141,6 +142,6 @@ pub fn bench<R: Threads + Wait + Sync, O: Sink, G: Gate + Sync>(
 {
     let (world, text) = run_seed(rt, alloc, asked.seed, asked.workers, gate)?;
     put_text(&text, out)?;
-    *last = Some(world);
+    leave(last, world);
     Ok(())
 }

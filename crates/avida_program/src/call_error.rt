@@ -1,4 +1,6 @@
 // Why a call isn't done.
+ghost use Rattle.std.specs.Prelude.{◌≡◌};
+ghost use Rattle.avida_program.specs.Endings.{ended_by};
 
 use crate::refusal::Refusal;
 use avida_port::Memory;
@@ -39,4 +41,11 @@ impl From<WriteStop> for CallError {
             WriteStop::Memory => CallError::Memory,
         }
     }
+}
+
+/// How a call ends whose text was written so.
+pub fn ended_by(written: Result<(), WriteStop>) -> Result<(), CallError>
+    ensures { result ≡ ended_by written }
+{
+    Ok(written?)
 }

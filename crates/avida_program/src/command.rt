@@ -1,7 +1,7 @@
 // The words of a command line.
 ghost use Rattle.std.specs.Prelude.{◌≡◌, ◌<◌, Some, MatchResult, IfOk, drop, length, map, string_bytes};
 ghost use Rattle.command_line.specs.Refusals.{Refuses};
-ghost use Rattle.avida_program.specs.CommandLine.{HasNumbersInRange, advance_command, assay_command, bare_command, bench_command, command_named, command_of, landscape_command, lineage_command, resume_command, run_command, save_command, spelling_of, trace_command};
+ghost use Rattle.avida_program.specs.CommandLine.{HasNumbersInRange, bare_command, command_named, command_of, spelling_of};
 
 use command_line::{
     Advance, Assay, Bench, Lineage, Refused, Resume, Run, Trace, read_advance, read_assay,
@@ -45,100 +45,8 @@ pub fn genome_spelling(org: bool) -> Spelling
     }
 }
 
-fn read_trace_words(alloc: Global, words: &[String]) -> Result<Command, Refused>
-    requires { 0 < length words.now }
-    ensures { MatchResult result
-        (λ command. trace_command (drop 1 (map string_bytes words.now)) ≡ Some command)
-        (Refuses (trace_command (drop 1 (map string_bytes words.now)))) }
-{
-    let trace = read_trace(alloc, words)?;
-    Ok(Command::Trace(trace))
-}
-
-#[tactic(auto, unfolding(numerals::specs::Numeral::number_of))]
-fn read_run_words(alloc: Global, words: &[String]) -> Result<Command, Refused>
-    requires { 0 < length words.now }
-    ensures command { MatchResult result
-        (λ command. run_command (drop 1 (map string_bytes words.now)) ≡ Some command)
-        (Refuses (run_command (drop 1 (map string_bytes words.now)))) }
-    ensures range { IfOk result HasNumbersInRange }
-{
-    let run = read_run(alloc, words)?;
-    Ok(Command::Run(run))
-}
-
-fn read_lineage_words(alloc: Global, words: &[String]) -> Result<Command, Refused>
-    requires { 0 < length words.now }
-    ensures { MatchResult result
-        (λ command. lineage_command (drop 1 (map string_bytes words.now)) ≡ Some command)
-        (Refuses (lineage_command (drop 1 (map string_bytes words.now)))) }
-{
-    let lineage = read_lineage(alloc, words)?;
-    Ok(Command::Lineage(lineage))
-}
-
-fn read_bench_words(alloc: Global, words: &[String]) -> Result<Command, Refused>
-    requires { 0 < length words.now }
-    ensures { MatchResult result
-        (λ command. bench_command (drop 1 (map string_bytes words.now)) ≡ Some command)
-        (Refuses (bench_command (drop 1 (map string_bytes words.now)))) }
-{
-    let bench = read_bench(alloc, words)?;
-    Ok(Command::Bench(bench))
-}
-
-fn read_landscape_words(alloc: Global, words: &[String]) -> Result<Command, Refused>
-    requires { 0 < length words.now }
-    ensures { MatchResult result
-        (λ command. landscape_command (drop 1 (map string_bytes words.now)) ≡ Some command)
-        (Refuses (landscape_command (drop 1 (map string_bytes words.now)))) }
-{
-    let steps = read_landscape(alloc, words)?;
-    Ok(Command::Landscape { steps })
-}
-
-fn read_assay_words(alloc: Global, words: &[String]) -> Result<Command, Refused>
-    requires { 0 < length words.now }
-    ensures { MatchResult result
-        (λ command. assay_command (drop 1 (map string_bytes words.now)) ≡ Some command)
-        (Refuses (assay_command (drop 1 (map string_bytes words.now)))) }
-{
-    let assay = read_assay(alloc, words)?;
-    Ok(Command::Assay(assay))
-}
-
-fn read_save_words(alloc: Global, words: &[String]) -> Result<Command, Refused>
-    requires { 0 < length words.now }
-    ensures { MatchResult result
-        (λ command. save_command (drop 1 (map string_bytes words.now)) ≡ Some command)
-        (Refuses (save_command (drop 1 (map string_bytes words.now)))) }
-{
-    let workers = read_save(alloc, words)?;
-    Ok(Command::Save { workers })
-}
-
-fn read_resume_words(alloc: Global, words: &[String]) -> Result<Command, Refused>
-    requires { 0 < length words.now }
-    ensures { MatchResult result
-        (λ command. resume_command (drop 1 (map string_bytes words.now)) ≡ Some command)
-        (Refuses (resume_command (drop 1 (map string_bytes words.now)))) }
-{
-    let resume = read_resume(alloc, words)?;
-    Ok(Command::Resume(resume))
-}
-
-fn read_advance_words(alloc: Global, words: &[String]) -> Result<Command, Refused>
-    requires { 0 < length words.now }
-    ensures { MatchResult result
-        (λ command. advance_command (drop 1 (map string_bytes words.now)) ≡ Some command)
-        (Refuses (advance_command (drop 1 (map string_bytes words.now)))) }
-{
-    let advance = read_advance(alloc, words)?;
-    Ok(Command::Advance(advance))
-}
-
 /// A command that takes no words.
-fn read_bare_words(alloc: Global, words: &[String], command: Command) -> Result<Command, Refused>
+fn read_bare(alloc: Global, words: &[String], command: Command) -> Result<Command, Refused>
     requires { 0 < length words.now }
     ensures command { MatchResult result
         (λ given. bare_command command (drop 1 (map string_bytes words.now)) ≡ Some given)
@@ -159,18 +67,22 @@ fn read_named(alloc: Global, name: &str, words: &[String]) -> Result<Command, Re
     ensures range { IfOk result HasNumbersInRange }
 {
     match name {
-        "trace" => read_trace_words(alloc, words),
-        "run" => read_run_words(alloc, words),
-        "lineage" => read_lineage_words(alloc, words),
-        "bench" => read_bench_words(alloc, words),
-        "assay" => read_assay_words(alloc, words),
-        "save" => read_save_words(alloc, words),
-        "resume" => read_resume_words(alloc, words),
-        "advance" => read_advance_words(alloc, words),
-        "replay" => read_bare_words(alloc, words, Command::Replay),
-        "upgrade" => read_bare_words(alloc, words, Command::Upgrade),
-        "tree" => read_bare_words(alloc, words, Command::Tree),
-        "landscape" => read_landscape_words(alloc, words),
+        "trace" => Ok(Command::Trace(read_trace(alloc, words)?)),
+        "run" => Ok(Command::Run(read_run(alloc, words)?)),
+        "lineage" => Ok(Command::Lineage(read_lineage(alloc, words)?)),
+        "bench" => Ok(Command::Bench(read_bench(alloc, words)?)),
+        "assay" => Ok(Command::Assay(read_assay(alloc, words)?)),
+        "save" => Ok(Command::Save {
+            workers: read_save(alloc, words)?,
+        }),
+        "resume" => Ok(Command::Resume(read_resume(alloc, words)?)),
+        "advance" => Ok(Command::Advance(read_advance(alloc, words)?)),
+        "replay" => read_bare(alloc, words, Command::Replay),
+        "upgrade" => read_bare(alloc, words, Command::Upgrade),
+        "tree" => read_bare(alloc, words, Command::Tree),
+        "landscape" => Ok(Command::Landscape {
+            steps: read_landscape(alloc, words)?,
+        }),
         _ => Err(Refused::BadWords),
     }
 }

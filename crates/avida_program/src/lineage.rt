@@ -15,7 +15,7 @@ ghost use Rattle.avida_program.specs.Commands.{CarriesOut};
 use crate::call_error::CallError;
 use crate::input::read_config_with;
 use crate::puts::{put_rest, put_text};
-use crate::run::run_to_end;
+use crate::run::{leave, run_to_end};
 use avida_port::{Gate, Memory, Sink, Source};
 use command_line::Lineage;
 use genome::letters_text;
@@ -158,6 +158,6 @@ pub fn lineage<R: Threads + Wait + Sync, S: Source, O: Sink, G: Gate + Sync>(
 {
     let config = read_config_with(alloc, source, asked.cell)?;
     let world = run_and_write(rt, alloc, config, asked.cell, asked.workers, out, gate)?;
-    *last = Some(world);
+    leave(last, world);
     Ok(())
 }

@@ -1,17 +1,16 @@
 // The command `landscape`.
-ghost use Rattle.std.specs.Prelude.{◌≡◌, ◌+◌, ◌++◌, ◌≤◌, Option, cond, flat_map};
+ghost use Rattle.std.specs.Prelude.{◌≡◌, ◌+◌, ◌++◌, ◌≤◌, cond, flat_map};
 ghost use Rattle.arrayvec.specs.ArrayVec.{array_vec_len};
-ghost use Rattle.avida_port.specs.Ports.{SinkState};
 ghost use Rattle.genome.specs.Genome.{letters};
 ghost use Rattle.landscape.specs.LandscapeText.{base_line, entry_line, landscape_text, neighbour_line, survey_text, totals_line, trial_text};
-ghost use Rattle.world_core.specs.WorldValue.{WorldValue};
-ghost use Rattle.avida_program.specs.declared.command.Command.TheVariants.{Landscape};
-ghost use Rattle.written_texts.specs.SinkChanges.{change, unchanged};
+ghost use Rattle.written_texts.specs.SinkChanges.{change};
 ghost use Rattle.written_texts.specs.Pieces.{Writes};
 ghost use Rattle.written_texts.specs.WrittenText.{WritesAll};
-ghost use Rattle.avida_program.specs.Commands.{CarriesOut};
+ghost use Rattle.avida_program.specs.declared.command.Spelling.TheVariants.{Letters};
+ghost use Rattle.avida_program.specs.Endings.{ReadsAndWrites};
+ghost use Rattle.avida_program.specs.Input.{genome_of_input};
 
-use crate::call_error::CallError;
+use crate::call_error::{CallError, ended_by};
 use crate::command::Spelling;
 use crate::input::read_genome;
 use crate::puts::put_rest;
@@ -167,15 +166,10 @@ pub fn landscape<R: Threads + Sync, S: Source, O: Sink>(
     source: &mut S,
     out: &mut O,
 ) -> Result<(), CallError>
-    ensures { (watch : SinkState) (last : Option WorldValue)
-        → CarriesOut (Landscape steps) (record {
-          source = change (S.seen source.old) (S.seen source.new);
-          out = change (O.seen out.old) (O.seen out.new);
-          watch = unchanged watch;
-          last = unchanged last;
-        }) result }
+    ensures { ReadsAndWrites (genome_of_input Letters) (λ genome. landscape_text genome steps)
+        (change (S.seen source.old) (S.seen source.new)) (change (O.seen out.old) (O.seen out.new))
+        result }
 {
     let genome = read_genome(alloc, Spelling::Letters, source)?;
-    write_landscape(rt, alloc, &genome, steps, out)?;
-    Ok(())
+    ended_by(write_landscape(rt, alloc, &genome, steps, out))
 }

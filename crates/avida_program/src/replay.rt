@@ -1,18 +1,16 @@
 // The command `replay`.
-ghost use Rattle.std.specs.Prelude.{◌≡◌, ◌+◌, ◌++◌, ◌≤◌, List, Option, flat_map, codes, decimal};
+ghost use Rattle.std.specs.Prelude.{◌≡◌, ◌+◌, ◌++◌, ◌≤◌, List, flat_map, codes, decimal};
 ghost use Rattle.arrayvec.specs.ArrayVec.{array_vec_len};
-ghost use Rattle.avida_port.specs.Ports.{SinkState};
 ghost use Rattle.lineage_log.specs.Replay.{replay_of};
 ghost use Rattle.log_lines.specs.Line.{Line};
-ghost use Rattle.world_core.specs.WorldValue.{WorldValue};
-ghost use Rattle.avida_program.specs.declared.command.Command.TheVariants.{Replay};
-ghost use Rattle.written_texts.specs.SinkChanges.{change, unchanged};
+ghost use Rattle.written_texts.specs.SinkChanges.{change};
 ghost use Rattle.written_texts.specs.Pieces.{Writes};
 ghost use Rattle.written_texts.specs.WrittenText.{WritesAll};
 ghost use Rattle.avida_program.specs.ReplayText.{replay_text, resident_line};
-ghost use Rattle.avida_program.specs.Commands.{CarriesOut};
+ghost use Rattle.avida_program.specs.Endings.{ReadsAndWrites};
+ghost use Rattle.avida_program.specs.Input.{log_input_of};
 
-use crate::call_error::CallError;
+use crate::call_error::{CallError, ended_by};
 use crate::input::read_livings;
 use crate::puts::put_rest;
 use avida_port::{Sink, SinkStop, Source};
@@ -70,14 +68,10 @@ pub fn replay<S: Source, O: Sink>(
     source: &mut S,
     out: &mut O,
 ) -> Result<(), CallError>
-    ensures { (watch : SinkState) (last : Option WorldValue) → CarriesOut Replay (record {
-      source = change (S.seen source.old) (S.seen source.new);
-      out = change (O.seen out.old) (O.seen out.new);
-      watch = unchanged watch;
-      last = unchanged last;
-    }) result }
+    ensures { ReadsAndWrites log_input_of replay_text
+        (change (S.seen source.old) (S.seen source.new)) (change (O.seen out.old) (O.seen out.new))
+        result }
 {
     let livings = read_livings(alloc, source)?;
-    write_replayed(livings, out)?;
-    Ok(())
+    ended_by(write_replayed(livings, out))
 }

@@ -1,15 +1,13 @@
 // The command `resume`.
-ghost use Rattle.std.specs.Prelude.{◌≡◌, ◌≤◌, ◌<◌, ◌+◌, IfOk, Option};
-ghost use Rattle.avida_port.specs.Ports.{SinkState};
+ghost use Rattle.std.specs.Prelude.{◌≡◌, ◌≤◌, ◌<◌, ◌+◌, IfOk};
 ghost use Rattle.saved_worlds.specs.Resuming.{continued_text, later_texts, next_state, next_text, saved_state_after};
-ghost use Rattle.world_core.specs.WorldValue.{WorldValue};
 ghost use Rattle.world_rules.specs.LogText.{end_text};
-ghost use Rattle.written_texts.specs.SinkChanges.{change, unchanged};
+ghost use Rattle.written_texts.specs.SinkChanges.{change};
 ghost use Rattle.written_texts.specs.WrittenText.{WritesAll};
-ghost use Rattle.avida_program.specs.declared.command.Command.TheVariants as command;
-ghost use Rattle.avida_program.specs.Commands.{CarriesOut};
+ghost use Rattle.avida_program.specs.Endings.{ReadsAndWrites};
+ghost use Rattle.avida_program.specs.Input.{resume_input_of};
 
-use crate::call_error::CallError;
+use crate::call_error::{CallError, ended_by};
 use crate::input::read_state_for;
 use avida_port::{Gate, Sink, Source};
 use command_line::Resume;
@@ -93,15 +91,10 @@ pub fn resume<R: Threads + Wait + Sync, S: Source, O: Sink, G: Gate + Sync>(
     gate: &G,
 ) -> Result<(), CallError>
     requires { (1 ≤ asked.workers) × (asked.workers ≤ 64) }
-    ensures { (watch : SinkState) (last : Option WorldValue)
-        → CarriesOut (command.Resume asked) (record {
-          source = change (S.seen source.old) (S.seen source.new);
-          out = change (O.seen out.old) (O.seen out.new);
-          watch = unchanged watch;
-          last = unchanged last;
-        }) result }
+    ensures { ReadsAndWrites (resume_input_of asked.more) (λ state. continued_text state asked.more)
+        (change (S.seen source.old) (S.seen source.new)) (change (O.seen out.old) (O.seen out.new))
+        result }
 {
     let state = read_state_for(rt, alloc, source, asked.more, asked.workers)?;
-    write_on(rt, alloc, state, asked.more, out, gate)?;
-    Ok(())
+    ended_by(write_on(rt, alloc, state, asked.more, out, gate))
 }

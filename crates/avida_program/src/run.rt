@@ -1,5 +1,5 @@
 // The command `run`.
-ghost use Rattle.std.specs.Prelude.{◌≤◌, Some, IfOk};
+ghost use Rattle.std.specs.Prelude.{◌≡◌, ◌≤◌, Some, IfOk};
 ghost use Rattle.world_config.specs.Shown.{values_of};
 ghost use Rattle.written_texts.specs.SinkChanges.{change};
 ghost use Rattle.logged_run.specs.RunText.{IsFinalWorld};
@@ -32,6 +32,13 @@ pub fn run_to_end<R: Threads + Wait + Sync, G: Gate + Sync>(
 {
     let (world, _) = run_counted(rt, alloc, config, workers, gate)?;
     Ok(world)
+}
+
+/// Leaves a world, in place of one that was there before.
+pub fn leave(last: &mut Option<World>, world: World)
+    ensures { last.new ≡ Some world }
+{
+    *last = Some(world);
 }
 
 /// Reads a configuration, and writes the log of its run, which replays to the living at its end.
@@ -73,6 +80,6 @@ pub fn run<
         watch,
         gate,
     )?;
-    *last = Some(world);
+    leave(last, world);
     Ok(())
 }

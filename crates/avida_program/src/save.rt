@@ -1,15 +1,13 @@
 // The command `save`.
-ghost use Rattle.std.specs.Prelude.{◌≡◌, ◌≤◌, Option};
-ghost use Rattle.avida_port.specs.Ports.{SinkState};
+ghost use Rattle.std.specs.Prelude.{◌≡◌, ◌≤◌};
 ghost use Rattle.world_config.specs.Shown.{values_of};
-ghost use Rattle.world_core.specs.WorldValue.{WorldValue};
-ghost use Rattle.written_texts.specs.SinkChanges.{change, unchanged};
+ghost use Rattle.written_texts.specs.SinkChanges.{change};
 ghost use Rattle.written_texts.specs.WrittenText.{WritesAll};
-ghost use Rattle.avida_program.specs.declared.command.Command.TheVariants.{Save};
 ghost use Rattle.avida_program.specs.SaveText.{save_text};
-ghost use Rattle.avida_program.specs.Commands.{CarriesOut};
+ghost use Rattle.avida_program.specs.Endings.{ReadsAndWrites};
+ghost use Rattle.avida_program.specs.Input.{configuration_of};
 
-use crate::call_error::CallError;
+use crate::call_error::{CallError, ended_by};
 use crate::input::read_config;
 use crate::run::run_to_end;
 use crate::saved_world::write_state;
@@ -47,14 +45,10 @@ pub fn save<R: Threads + Wait + Sync, S: Source, O: Sink, G: Gate + Sync>(
     gate: &G,
 ) -> Result<(), CallError>
     requires { (1 ≤ workers) × (workers ≤ 64) }
-    ensures { (watch : SinkState) (last : Option WorldValue) → CarriesOut (Save workers) (record {
-      source = change (S.seen source.old) (S.seen source.new);
-      out = change (O.seen out.old) (O.seen out.new);
-      watch = unchanged watch;
-      last = unchanged last;
-    }) result }
+    ensures { ReadsAndWrites configuration_of save_text
+        (change (S.seen source.old) (S.seen source.new)) (change (O.seen out.old) (O.seen out.new))
+        result }
 {
     let config = read_config(alloc, source)?;
-    run_and_write(rt, alloc, config, workers, out, gate)?;
-    Ok(())
+    ended_by(run_and_write(rt, alloc, config, workers, out, gate))
 }

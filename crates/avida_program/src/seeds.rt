@@ -1,17 +1,15 @@
 // The command `assay`.
-ghost use Rattle.std.specs.Prelude.{◌≡◌, ◌≤◌, ◌∷◌, ◌++◌, IfOk, OnOk, Option, decimal, map, option_map};
-ghost use Rattle.avida_port.specs.Ports.{SinkState};
+ghost use Rattle.std.specs.Prelude.{◌≡◌, ◌≤◌, ◌∷◌, ◌++◌, IfOk, OnOk, decimal, map, option_map};
 ghost use Rattle.genome.specs.Genome.{letters};
 ghost use Rattle.log_lines.specs.LineText.{words_text};
 ghost use Rattle.world_config.specs.Shown.{values_of};
-ghost use Rattle.world_core.specs.WorldValue.{WorldValue};
 ghost use Rattle.assay.specs.AssayText.{assay_line, assay_numbers, assay_text, assays_text, dominant_word, tally_line};
-ghost use Rattle.avida_program.specs.declared.command.Command.TheVariants as command;
-ghost use Rattle.written_texts.specs.SinkChanges.{change, unchanged};
+ghost use Rattle.written_texts.specs.SinkChanges.{change};
 ghost use Rattle.written_texts.specs.WrittenText.{WritesAll};
-ghost use Rattle.avida_program.specs.Commands.{CarriesOut};
+ghost use Rattle.avida_program.specs.Endings.{ReadsAndWrites};
+ghost use Rattle.avida_program.specs.Input.{assay_input_of};
 
-use crate::call_error::CallError;
+use crate::call_error::{CallError, ended_by};
 use crate::input::read_config_for;
 use crate::puts::put_text;
 use assay::{Assay, seeds_with_each};
@@ -163,13 +161,10 @@ pub fn assay<R: Threads + Wait + Sync, S: Source, O: Sink, G: Gate + Sync>(
     requires count { (1 ≤ asked.count) × (asked.count ≤ 64) }
     requires first { asked.first ≤ 9223372036854775744 }
     requires workers { (1 ≤ asked.workers) × (asked.workers ≤ 64) }
-    ensures { (watch : SinkState) (last : Option WorldValue)
-        → CarriesOut (command.Assay asked) (record {
-          source = change (S.seen source.old) (S.seen source.new);
-          out = change (O.seen out.old) (O.seen out.new);
-          watch = unchanged watch;
-          last = unchanged last;
-        }) result }
+    ensures { ReadsAndWrites (assay_input_of asked.count)
+        (λ config. assay_text config asked.first asked.count)
+        (change (S.seen source.old) (S.seen source.new)) (change (O.seen out.old) (O.seen out.new))
+        result }
 {
     let command_line::Assay {
         count,
@@ -177,6 +172,5 @@ pub fn assay<R: Threads + Wait + Sync, S: Source, O: Sink, G: Gate + Sync>(
         workers,
     } = asked;
     let config = read_config_for(alloc, source, count)?;
-    write_assay(rt, alloc, &config, count, first, workers, out, gate)?;
-    Ok(())
+    ended_by(write_assay(rt, alloc, &config, count, first, workers, out, gate))
 }

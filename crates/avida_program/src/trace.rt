@@ -1,15 +1,14 @@
 // The command `trace`.
-ghost use Rattle.std.specs.Prelude.{◌≡◌, Option};
-ghost use Rattle.avida_port.specs.Ports.{SinkState};
+ghost use Rattle.std.specs.Prelude.{◌≡◌};
 ghost use Rattle.genome.specs.Genome.{letters};
-ghost use Rattle.world_core.specs.WorldValue.{WorldValue};
-ghost use Rattle.written_texts.specs.SinkChanges.{change, unchanged};
+ghost use Rattle.written_texts.specs.SinkChanges.{change};
 ghost use Rattle.written_texts.specs.WrittenText.{WritesAll};
-ghost use Rattle.avida_program.specs.declared.command.Command.TheVariants as command;
-ghost use Rattle.avida_program.specs.Commands.{CarriesOut};
+ghost use Rattle.avida_program.specs.CommandLine.{spelling_of};
+ghost use Rattle.avida_program.specs.Endings.{ReadsAndWrites};
+ghost use Rattle.avida_program.specs.Input.{genome_of_input};
 ghost use Rattle.avida_program.specs.TraceText.{trace_lines, trace_text};
 
-use crate::call_error::CallError;
+use crate::call_error::{CallError, ended_by};
 use crate::command::genome_spelling;
 use crate::input::read_genome;
 use crate::puts::put_rest;
@@ -62,15 +61,11 @@ pub fn trace<S: Source, O: Sink>(
     source: &mut S,
     out: &mut O,
 ) -> Result<(), CallError>
-    ensures { (watch : SinkState) (last : Option WorldValue)
-        → CarriesOut (command.Trace asked) (record {
-          source = change (S.seen source.old) (S.seen source.new);
-          out = change (O.seen out.old) (O.seen out.new);
-          watch = unchanged watch;
-          last = unchanged last;
-        }) result }
+    ensures { ReadsAndWrites (genome_of_input (spelling_of asked.org))
+        (λ genome. trace_text genome asked.inputs asked.steps)
+        (change (S.seen source.old) (S.seen source.new)) (change (O.seen out.old) (O.seen out.new))
+        result }
 {
     let genome = read_genome(alloc, genome_spelling(asked.org), source)?;
-    write_trace(alloc, genome, asked.inputs, asked.steps, out)?;
-    Ok(())
+    ended_by(write_trace(alloc, genome, asked.inputs, asked.steps, out))
 }

@@ -1,17 +1,15 @@
 // The command `tree`.
-ghost use Rattle.std.specs.Prelude.{◌≡◌, ◌+◌, ◌++◌, ◌≤◌, Option, flat_map};
+ghost use Rattle.std.specs.Prelude.{◌≡◌, ◌+◌, ◌++◌, ◌≤◌, flat_map};
 ghost use Rattle.arrayvec.specs.ArrayVec.{array_vec_len};
-ghost use Rattle.avida_port.specs.Ports.{SinkState};
 ghost use Rattle.phylogeny.specs.TreeText.{ancestor_line, depth_line, tree_text};
-ghost use Rattle.world_core.specs.WorldValue.{WorldValue};
-ghost use Rattle.avida_program.specs.declared.command.Command.TheVariants.{Tree};
-ghost use Rattle.written_texts.specs.SinkChanges.{change, unchanged};
+ghost use Rattle.written_texts.specs.SinkChanges.{change};
 ghost use Rattle.written_texts.specs.Pieces.{Writes};
 ghost use Rattle.written_texts.specs.WrittenText.{WritesAll};
 ghost use Rattle.avida_program.specs.TreeText.{counts_line, last_lines, lines_of_tree};
-ghost use Rattle.avida_program.specs.Commands.{CarriesOut};
+ghost use Rattle.avida_program.specs.Endings.{ReadsAndWrites};
+ghost use Rattle.avida_program.specs.Input.{log_input_of};
 
-use crate::call_error::CallError;
+use crate::call_error::{CallError, ended_by};
 use crate::input::read_lines;
 use crate::puts::put_rest;
 use avida_port::{Sink, SinkStop, Source};
@@ -115,14 +113,10 @@ fn write_tree<O: Sink>(alloc: Global, log: &Log, out: &mut O) -> Result<(), Writ
 
 /// Reads a log, and writes how the organisms alive at its end descend from each other.
 pub fn tree<S: Source, O: Sink>(alloc: Global, source: &mut S, out: &mut O) -> Result<(), CallError>
-    ensures { (watch : SinkState) (last : Option WorldValue) → CarriesOut Tree (record {
-      source = change (S.seen source.old) (S.seen source.new);
-      out = change (O.seen out.old) (O.seen out.new);
-      watch = unchanged watch;
-      last = unchanged last;
-    }) result }
+    ensures { ReadsAndWrites log_input_of tree_text
+        (change (S.seen source.old) (S.seen source.new)) (change (O.seen out.old) (O.seen out.new))
+        result }
 {
     let log = read_lines(alloc, source)?;
-    write_tree(alloc, &log, out)?;
-    Ok(())
+    ended_by(write_tree(alloc, &log, out))
 }

@@ -1,16 +1,13 @@
 // The command `upgrade`.
-ghost use Rattle.std.specs.Prelude.{Option};
 ghost use Rattle.lineage_log.specs.LogGrammar.{lines_text};
 ghost use Rattle.lineage_log.specs.LogValues.{lines_of};
-ghost use Rattle.avida_port.specs.Ports.{SinkState};
-ghost use Rattle.world_core.specs.WorldValue.{WorldValue};
-ghost use Rattle.written_texts.specs.SinkChanges.{change, unchanged};
+ghost use Rattle.written_texts.specs.SinkChanges.{change};
 ghost use Rattle.written_texts.specs.WrittenText.{WritesAll};
-ghost use Rattle.avida_program.specs.declared.command.Command.TheVariants.{Upgrade};
-ghost use Rattle.avida_program.specs.Commands.{CarriesOut};
+ghost use Rattle.avida_program.specs.Endings.{ReadsAndWrites};
+ghost use Rattle.avida_program.specs.Input.{log_input_of};
 ghost use Rattle.avida_program.specs.ReplayText.{upgrade_text};
 
-use crate::call_error::CallError;
+use crate::call_error::{CallError, ended_by};
 use crate::input::read_lines;
 use crate::puts::put_rest;
 use avida_port::{Sink, Source};
@@ -45,14 +42,10 @@ pub fn upgrade<S: Source, O: Sink>(
     source: &mut S,
     out: &mut O,
 ) -> Result<(), CallError>
-    ensures { (watch : SinkState) (last : Option WorldValue) → CarriesOut Upgrade (record {
-      source = change (S.seen source.old) (S.seen source.new);
-      out = change (O.seen out.old) (O.seen out.new);
-      watch = unchanged watch;
-      last = unchanged last;
-    }) result }
+    ensures { ReadsAndWrites log_input_of upgrade_text
+        (change (S.seen source.old) (S.seen source.new)) (change (O.seen out.old) (O.seen out.new))
+        result }
 {
     let log = read_lines(alloc, source)?;
-    write_upgraded(alloc, log, out)?;
-    Ok(())
+    ended_by(write_upgraded(alloc, log, out))
 }

@@ -1,5 +1,4 @@
-use Rattle.std.proofs.Common.{◌≡◌, ◌∙◌, ap, arith, length}
-use Rattle.world_rules.specs.LogText.{end_text, head_text}
+use Rattle.std.proofs.Common.{ap, arith, length}
 use Rattle.avida_program.proofs.bench.log_bytes.Goals as goal
 
 pub returns : goal.returns

@@ -1,8 +1,10 @@
+use Rattle.std.proofs.Common.{refl}
+use Rattle.avida_program.proofs.ReadEnds.{only_reads}
 use Rattle.avida_program.proofs.serving.carry_out.Goals as goal
 
 pub returns-in-Trace : goal.returns-in-Trace
 returns-in-Trace g c =
-    rw c.in-Trace.is (c.trace.ensures (g.W.Sink.seen c.args.watch.now) c.args.last.now)
+    rw c.in-Trace.is (only_reads _ _ _ (λ work ended h. h) refl _ _ refl refl c.trace.ensures)
 
 pub returns-in-Run : goal.returns-in-Run
 returns-in-Run g c = rw c.in-Run.is c.run.ensures
@@ -16,32 +18,32 @@ returns-in-Bench g c = rw c.in-Bench.is
 
 pub returns-in-Assay : goal.returns-in-Assay
 returns-in-Assay g c =
-    rw c.in-Assay.is (c.assay.ensures (g.W.Sink.seen c.args.watch.now) c.args.last.now)
+    rw c.in-Assay.is (only_reads _ _ _ (λ work ended h. h) refl _ _ refl refl c.assay.ensures)
 
 pub returns-in-Save : goal.returns-in-Save
 returns-in-Save g c =
-    rw c.in-Save.is (c.save.ensures (g.W.Sink.seen c.args.watch.now) c.args.last.now)
+    rw c.in-Save.is (only_reads _ _ _ (λ work ended h. h) refl _ _ refl refl c.save.ensures)
 
 pub returns-in-Resume : goal.returns-in-Resume
 returns-in-Resume g c =
-    rw c.in-Resume.is (c.resume.ensures (g.W.Sink.seen c.args.watch.now) c.args.last.now)
+    rw c.in-Resume.is (only_reads _ _ _ (λ work ended h. h) refl _ _ refl refl c.resume.ensures)
 
 pub returns-in-Advance : goal.returns-in-Advance
 returns-in-Advance g c =
-    rw c.in-Advance.is (c.advance.ensures (g.W.Sink.seen c.args.watch.now) c.args.last.now)
+    rw c.in-Advance.is (only_reads _ _ _ (λ work ended h. h) refl _ _ refl refl c.advance.ensures)
 
 pub returns-in-Replay : goal.returns-in-Replay
 returns-in-Replay g c =
-    rw c.in-Replay.is (c.replay.ensures (g.W.Sink.seen c.args.watch.now) c.args.last.now)
+    rw c.in-Replay.is (only_reads _ _ _ (λ work ended h. h) refl _ _ refl refl c.replay.ensures)
 
 pub returns-in-Upgrade : goal.returns-in-Upgrade
 returns-in-Upgrade g c =
-    rw c.in-Upgrade.is (c.upgrade.ensures (g.W.Sink.seen c.args.watch.now) c.args.last.now)
+    rw c.in-Upgrade.is (only_reads _ _ _ (λ work ended h. h) refl _ _ refl refl c.upgrade.ensures)
 
 pub returns-in-Tree : goal.returns-in-Tree
 returns-in-Tree g c =
-    rw c.in-Tree.is (c.tree.ensures (g.W.Sink.seen c.args.watch.now) c.args.last.now)
+    rw c.in-Tree.is (only_reads _ _ _ (λ work ended h. h) refl _ _ refl refl c.tree.ensures)
 
 pub returns-in-Landscape : goal.returns-in-Landscape
 returns-in-Landscape g c =
-    rw c.in-Landscape.is (c.landscape.ensures (g.W.Sink.seen c.args.watch.now) c.args.last.now)
+    rw c.in-Landscape.is (only_reads _ _ _ (λ work ended h. h) refl _ _ refl refl c.landscape.ensures)
