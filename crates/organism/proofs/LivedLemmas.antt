@@ -8,12 +8,13 @@ use Rattle.divide_rules.specs.Rules.{RuleNumbers, AreRules}
 use Rattle.mutations.specs.declared.stop.ApplyStop.{ApplyStop}
 use Rattle.mutations.specs.ChildTexts.{AreTextsOfChild, IsLengthWithin}
 use Rattle.mutations.specs.BirthRecord.{child_of}
+use Rattle.virtual_cpu.specs.Machine.{letter_under_ip}
 use Rattle.organism.specs.declared.outcome.Outcome.{Outcome}
 use Rattle.organism.specs.declared.outcome.Outcome.TheVariants as outcome
 use Rattle.organism.specs.SettingNumbers.{SettingNumbers}
 use Rattle.organism.specs.OrganismState.{OrganismState}
 use Rattle.organism.specs.Life.{life_step, renewed, OnViable}
-use Rattle.organism.specs.UpdateLife.{LifeState, copy_drawn, after_copy, clean_text, written_text, child_range, birth_record, letters_made, child_letters, newborn_of, after_outcome, after_step, life_state_after, dies_at, death_in, ended, life}
+use Rattle.organism.specs.UpdateLife.{LifeState, copy_of, after_copy_of, clean_text, written_text, child_range, birth_record, letters_made, child_letters, newborn_of, after_outcome, after_step, life_state_after, dies_at, death_in, ended, life}
 use Rattle.organism.specs.Lived.{IsSoundOrganism, IsBornOf, beginning, HasLived}
 use Rattle.organism.proofs.BirthLemmas.{child_part-length}
 use Rattle.organism.proofs.UpdateLifeLemmas.{state_after-zero, state_after-next}
@@ -121,14 +122,14 @@ lived-next : LowerLaws → (settings : SettingNumbers) → AreRules settings.rul
     → HasLived settings start (steps + 1) (after_step settings words s)
 unfolding after_step
 lived-next laws settings are words fits start steps s h =
-    let copy : Option Letter = copy_drawn words settings.rates.copy s.next s.organism in
+    let copy : Option Letter = copy_of (letter_under_ip s.organism.machine) words settings.rates.copy s.next in
     let told : Told settings.rules (record s.organism { age = s.organism.age + 1 })
     (life_step s.organism copy settings.rules) =
     stepped laws settings.rules are s.organism copy h.sound in
     let between : LifeState =
     record s {
       organism = (life_step s.organism copy settings.rules).0;
-      next = after_copy words settings.rates.copy s.next s.organism;
+      next = after_copy_of (letter_under_ip s.organism.machine) words settings.rates.copy s.next;
     } in
     let more : Continues settings between
     (after_outcome settings words between (life_step s.organism copy settings.rules).1) =

@@ -14,9 +14,9 @@ use Rattle.divide_rules.specs.Rules.{RuleNumbers, AreRules}
 use Rattle.divide_rules.specs.declared.verdict.Verdict.{Verdict}
 use Rattle.divide_rules.specs.declared.verdict.Verdict.TheVariants as verdict
 use Rattle.divide_rules.specs.Viability.{verdict_of, child_length, IsViable}
-use Rattle.mutations.specs.BirthRecord.{child_of, origin_of}
-use Rattle.mutations.specs.ChildTexts.{AreTextsOfChild, IsLengthWithin}
-use Rattle.mutations.specs.Rates.{RateNumbers, LengthRange}
+use Rattle.mutations.specs.BirthRecord.{child_of}
+use Rattle.mutations.specs.ChildTexts.{IsLengthWithin}
+use Rattle.mutations.specs.DrawnRecords.{OfDrawnRecords}
 use Rattle.mutations.specs.RecordForm.{HasRecordForm}
 use Rattle.virtual_cpu.specs.declared.step_answer.StepAnswer.{StepAnswer}
 use Rattle.virtual_cpu.specs.declared.step_answer.StepAnswer.TheVariants.{Plain, Copied, Output, Asks, Allocated}
@@ -51,15 +51,9 @@ pub record LowerLaws : Type 0 where
       → merit_of genome_length executed copied tasks ≤ 2 ^ 38
   pub positive : (genome_length executed copied : ℕ) (tasks : List Bool) → 1 ≤ genome_length
       → 1 ≤ executed → 1 ≤ copied → 1 ≤ merit_of genome_length executed copied tasks
-  pub applies : (words : ℕ → ℕ) (k : ℕ) (rates : RateNumbers) (limits : LengthRange)
-      (clean written parent : List Letter) → ((n : ℕ) → words n < 2 ^ 32) → 8 ≤ limits.least
-      → limits.greatest ≤ 8192 → AreTextsOfChild limits clean written
-      → IsOkAnd (child_of parent (origin_of words k rates limits clean written parent))
-      (IsLengthWithin limits)
-  pub form : (words : ℕ → ℕ) (k : ℕ) (rates : RateNumbers) (limits : LengthRange)
-      (clean written parent : List Letter) → ((n : ℕ) → words n < 2 ^ 32) → 8 ≤ limits.least
-      → limits.greatest ≤ 8192 → AreTextsOfChild limits clean written
-      → HasRecordForm (origin_of words k rates limits clean written parent)
+  pub applies : OfDrawnRecords (λ limits parent drawn.
+      IsOkAnd (child_of parent drawn) (IsLengthWithin limits))
+  pub form : OfDrawnRecords (λ limits parent drawn. HasRecordForm drawn)
 
 -- a viable divide of this organism
 pub record IsAsked (rules : RuleNumbers) (o : OrganismState) (ask : DivideAsk) : Type 0 where

@@ -1,5 +1,6 @@
 -- One step within an update, by whether something follows from its letter.
-use Rattle.std.proofs.Common.{◌≡◌, ◌∙◌, ap, refl, sym, ℕ, false, None}
+use Rattle.std.proofs.Common.{◌≡◌, ◌∙◌, ap, refl, sym, ℕ, false, Option, None}
+use Rattle.divide_rules.specs.Rules.{RuleNumbers}
 use Rattle.instruction_set.specs.declared.letter.Letter.{Letter}
 use Rattle.virtual_cpu.specs.Machine.{letter_under_ip, with_ip_marked}
 use Rattle.virtual_cpu.specs.Step.{step}
@@ -9,6 +10,14 @@ use Rattle.organism.specs.SettingNumbers.{SettingNumbers}
 use Rattle.organism.specs.UpdateLife.{LifeState, after_effect, after_outcome, after_step, after_copy_of, copy_of, is_copy}
 use Rattle.organism.specs.declared.outcome.Outcome.{Outcome}
 use Rattle.organism.specs.declared.outcome.Outcome.TheVariants.{Nothing}
+
+-- the effect of the letter under IP, once its place is marked, is one step of the life
+pub letter-step : (o marked : OrganismState) (letter : Letter) (copy : Option Letter)
+    (rules : RuleNumbers) → letter ≡ letter_under_ip o.machine
+    → marked ≡ record o { machine = with_ip_marked o.machine }
+    → after_letter marked letter copy rules ≡ life_step o copy rules
+unfolding life_step after_letter step
+letter-step o marked letter copy rules taken mark = rw (taken, mark) refl
 
 module _ (settings : SettingNumbers) (words : ℕ → ℕ) (s : LifeState) (letter : Letter)
     (marked : OrganismState) (taken : letter ≡ letter_under_ip s.organism.machine)

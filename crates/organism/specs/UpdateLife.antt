@@ -1,5 +1,7 @@
 -- The life of one update (docs/WORLD.md, "The life of one update").
-use Rattle.std.specs.Prelude.{◌^◌, ◌-◌, ℕ, zero, suc, ◌+◌, ◌*◌, Bool, true, false, ◌&&◌, ◌==◌, List, [], ◌∷◌, ◌++◌, Option, None, Some, Result, Ok, Err, length, map, find, if◌then◌else◌}
+use Rattle.std.specs.Prelude.{◌^◌, ◌-◌, ℕ, zero, suc, ◌+◌, ◌*◌, Bool, true, false, ◌&&◌, ◌==◌, List}
+use Rattle.std.specs.Prelude.{[], ◌∷◌, ◌++◌, Option, None, Some, Result, Ok, Err, length, map, find}
+use Rattle.std.specs.Prelude.{if◌then◌else◌}
 use Rattle.std.specs.List.{range_with_len}
 use Rattle.instruction_set.specs.declared.letter.Letter.{Letter}
 use Rattle.instruction_set.specs.declared.letter.Letter.TheVariants.{HCopy}
@@ -48,14 +50,6 @@ copy_of letter words rate k = if is_copy letter then error_letter words rate k e
 -- the number of the word after that test
 abbrev pub after_copy_of : Letter → (ℕ → ℕ) → ℕ → ℕ → ℕ
 after_copy_of letter words rate k = if is_copy letter then after_error words rate k else k
-
--- the letter of a copy error, where the letter under IP is h-copy
-abbrev pub copy_drawn : (ℕ → ℕ) → ℕ → ℕ → OrganismState → Option Letter
-copy_drawn words rate k o = copy_of (letter_under_ip o.machine) words rate k
-
--- the number of the word after that test
-abbrev pub after_copy : (ℕ → ℕ) → ℕ → ℕ → OrganismState → ℕ
-after_copy words rate k o = after_copy_of (letter_under_ip o.machine) words rate k
 
 -- the child's part of the clean text
 abbrev pub clean_text : OrganismState → DivideAsk → List Letter
@@ -117,12 +111,13 @@ after_effect settings words s letter copy =
     let stepped = after_letter s.organism letter copy settings.rules in
     after_outcome settings words (record s { organism = stepped.0 }) stepped.1
 
--- the state after one more step
+-- the state after one more step, of the letter under IP
 unfoldable pub after_step : SettingNumbers → (ℕ → ℕ) → LifeState → LifeState
 after_step settings words s =
-    let copy = copy_drawn words settings.rates.copy s.next s.organism in
+    let letter = letter_under_ip s.organism.machine in
+    let copy = copy_of letter words settings.rates.copy s.next in
     let stepped = life_step s.organism copy settings.rules in
-    let next = after_copy words settings.rates.copy s.next s.organism in
+    let next = after_copy_of letter words settings.rates.copy s.next in
     after_outcome settings words (record s { organism = stepped.0; next = next }) stepped.1
 
 -- the state after so many steps

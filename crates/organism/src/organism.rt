@@ -1,6 +1,7 @@
 // An organism: its genome, its machine, and what it has done since its birth or its last viable
 // divide.
-ghost use Rattle.std.specs.Prelude.{◌≡◌, ◌≢◌, ◌+◌, ◌*◌, ◌-◌, ◌<◌, ◌≤◌, ◌^◌, IfOk, OnErr, OnOk, length};
+ghost use Rattle.std.specs.Prelude.{◌≡◌, ◌≢◌, ◌+◌, ◌*◌, ◌-◌, ◌<◌, ◌≤◌, ◌^◌, IfOk, OnErr, OnOk};
+ghost use Rattle.std.specs.Prelude.{length};
 ghost use Rattle.divide_rules.specs.Rules.{RuleNumbers, rule_numbers};
 ghost use Rattle.instruction_set.specs.declared.letter.Letter.TheVariants.{HDivide, Io};
 ghost use Rattle.genome.specs.Genome.{letters};
@@ -10,7 +11,9 @@ ghost use Rattle.virtual_cpu.specs.Step.{AsksOf};
 ghost use Rattle.virtual_cpu.specs.Divide.{divide_question};
 ghost use Rattle.organism.specs.OrganismState.{new_organism, IsOrganism};
 ghost use Rattle.organism.specs.Image.{organism_of_image};
-ghost use Rattle.organism.specs.Life.{newly_done, after_output, after_question, after_did, after_letter, life_step, renewed, IsDivide, HasAllowedLength, OnViable};
+ghost use Rattle.organism.specs.Life.{newly_done, after_output, after_question, after_did};
+ghost use Rattle.organism.specs.Life.{after_letter, life_step, renewed, IsDivide, HasAllowedLength};
+ghost use Rattle.organism.specs.Life.{OnViable};
 
 use crate::Image;
 use crate::outcome::Outcome;
@@ -151,12 +154,14 @@ impl Organism {
         })
     }
 
+    /// The genome, which no step of its life changes.
     pub fn genome(&self) -> &Arc<Genome, Global>
         ensures { letters result.now.value ≡ self.now.genome }
     {
         &self.genome
     }
 
+    /// The merit, which its share of the steps follows.
     pub fn merit(&self) -> u64
         ensures { result ≡ self.now.merit }
     {
@@ -187,36 +192,6 @@ impl Organism {
         ensures age { self.new.age ≡ self.old.age + 1 }
     {
         let letter = self.take();
-        self.perform(letter, copy, rules)
-    }
-
-    /// The machine takes its letter; `perform` does the rest of the step.
-    #[inline(always)]
-    pub(crate) fn take(&mut self) -> Letter
-        ensures letter { result ≡ letter_under_ip self.old.machine }
-        ensures marked { self.new ≡ record self.old { machine = with_ip_marked self.old.machine } }
-    {
-        self.machine.take()
-    }
-
-    /// The letter that was taken has its effect, and what follows from it.
-    #[inline(always)]
-    #[tactic(auto, unfolding(crate::specs::Life::after_letter))]
-    pub(crate) fn perform(
-        &mut self,
-        letter: Letter,
-        copy: Option<Letter>,
-        rules: &DivideRules,
-    ) -> Outcome
-        requires { self.old.age < 2 ^ 63 }
-        ensures step { (self.new, result)
-            ≡ after_letter self.old letter copy (rule_numbers rules.now) }
-        ensures divide { OnViable result (IsDivide self.new) }
-        ensures child { OnViable result (HasAllowedLength (rule_numbers rules.now)) }
-        ensures age { self.new.age ≡ self.old.age + 1 }
-        ensures merit { self.new.merit ≡ self.old.merit }
-        ensures genome { self.new.genome ≡ self.old.genome }
-    {
         match letter {
             Letter::Io | Letter::HDivide => self.perform_telling(letter, copy, rules),
             _ => {
@@ -224,6 +199,15 @@ impl Organism {
                 Outcome::Nothing
             }
         }
+    }
+
+    /// The machine takes its letter; one of the next two does the rest of the step.
+    #[inline(always)]
+    pub(crate) fn take(&mut self) -> Letter
+        ensures letter { result ≡ letter_under_ip self.old.machine }
+        ensures marked { self.new ≡ record self.old { machine = with_ip_marked self.old.machine } }
+    {
+        self.machine.take()
     }
 
     /// The letter that was taken has its effect, and nothing follows from it.
