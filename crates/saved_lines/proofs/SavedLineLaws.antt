@@ -5,6 +5,7 @@ use Rattle.std.specs.Str.{bytes_eq}
 use Rattle.std.specs.List.{join_with_byte}
 use Rattle.std.proofs.lemmas.List.Splits.{join_with_byte-slice_split}
 use Rattle.std.proofs.lemmas.Option.{cond_some}
+use Rattle.logic_tasks.specs.InputsLaws.{inputs_of-top}
 use Rattle.logic_tasks.specs.TaskBitsLaws.{length-tasks_of}
 use Rattle.log_lines.specs.Fields.{genome_field}
 use Rattle.log_lines.specs.Kinds.{large}
@@ -20,7 +21,7 @@ use Rattle.saved_lines.specs.SavedRows.{AreWithin, Front, several, within, ◌�
 use Rattle.saved_lines.specs.SavedText.{head_ranges, head_row, head_numbers, organism_ranges, organism_row, organism_numbers, machine_ranges, machine_row, machine_fields, texts_row}
 use Rattle.saved_lines.proofs.FrontLaws.{IsFront, front_law, front_lower, several_law, whole_law, within_law}
 use Rattle.saved_lines.proofs.SavedFieldLaws.{signed_law, marks_law, nops_law}
-use Rattle.saved_lines.proofs.SavedValueLaws.{inputs_top, head_again, head_taken, organism_again, organism_taken, machine_again, machine_taken}
+use Rattle.saved_lines.proofs.SavedValueLaws.{head_again, head_taken, organism_again, organism_taken, machine_again, machine_taken}
 
 -- the line has this text
 abbrev LineIs : List ℕ → SavedLine → Type 0
@@ -145,7 +146,7 @@ module _ (numbers : OneNumber) where
           fields = (subst (λ (l : List ℕ). AreWithin organism_ranges l) (sym back) t.1.0, t.1.1);
           credited = length-tasks_of (saved_number_at p.0 3);
           gestation = length-tasks_of (saved_number_at p.0 6);
-          inputs = inputs_top (drop 7 p.0);
+          inputs = inputs_of-top (drop 7 p.0);
         },
       )
 

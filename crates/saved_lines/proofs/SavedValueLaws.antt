@@ -127,19 +127,6 @@ inputs_again (a ∷ b ∷ c ∷ d ∷ inputs) top =
     sym (length-map (a ∷ b ∷ c ∷ d ∷ inputs) (λ (n : ℕ). n / 2 ^ 24))
     ∙ ap (λ (l : List ℕ). length l) top in absurd (omega (arith, more))
 
--- the top byte of an input
-input_top : (top n : ℕ) → (top * 2 ^ 24 + n % 2 ^ 24) / 2 ^ 24 ≡ top
-input_top top n = omega arith
-
--- the top bytes of three inputs
-pub inputs_top : (words : List ℕ) → HasTopBytes (inputs_of words)
-inputs_top words =
-    rw (
-      input_top 15 (get_or words 0 0),
-      input_top 51 (get_or words 1 0),
-      input_top 85 (get_or words 2 0),
-    ) refl
-
 -- the low bits of an input
 input_taken : (top n : ℕ) → n ≤ 16777215 → (top * 2 ^ 24 + n % 2 ^ 24) % 2 ^ 24 ≡ n
 input_taken top n low = omega (arith, low)
