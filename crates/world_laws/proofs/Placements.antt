@@ -1,26 +1,14 @@
 -- Newborns are placed in cells of the torus, one placing each.
-use Rattle.std.proofs.Common.{◌≡◌, ℕ, zero, suc, ◌+◌, ◌*◌, ◌/◌, ◌^◌, ◌<◌, ◌≤◌, Bool, true, false, cond, List, [], ◌∷◌, ◌++◌, length, Option, arith, length-append, refl}
-use Rattle.std.specs.Prelude.{◌%◌, ◌==◌, count_by, slice_index_or, filter, fold}
+use Rattle.std.proofs.Common.{◌≡◌, ℕ, zero, suc, ◌+◌, ◌*◌, ◌/◌, ◌<◌, ◌≤◌, Bool, true, false, cond, List, [], ◌∷◌, ◌++◌, length, Option, arith, length-append}
+use Rattle.std.specs.Prelude.{◌==◌, count_by, slice_index_or, filter, fold}
 use Rattle.std.specs.List.{AllByRecursion}
 use Rattle.std.proofs.Math.Nat.{mul-le-mul_left, div-lt_iff_lt-mul}
-use Rattle.logic_tasks.specs.Inputs.{HasTopBytes, inputs_of}
+use Rattle.logic_tasks.specs.Inputs.{HasTopBytes}
+use Rattle.logic_tasks.specs.InputsLaws.{inputs_of-top}
 use Rattle.birth_board.specs.declared.placing.Placing.{Placing}
 use Rattle.birth_board.specs.declared.placing_round.PlacingRound.{PlacingRound}
 use Rattle.birth_board.specs.Torus.{TorusNumbers, cells_of, column_of, row_of, west_of, east_of, north_of, south_of, around, neighbours_of}
 use Rattle.birth_board.specs.Placement.{Board, is_free, choices_of, chosen_cell, placing_words, placing_of, next_placing, next_board, placements_of}
-
--- the top byte of an input
-input_top : (top n : ℕ) → (top * 2 ^ 24 + n % 2 ^ 24) / 2 ^ 24 ≡ top
-input_top top n = omega arith
-
--- the inputs that are made of three words have the top bytes
-pub inputs_top : (words : List ℕ) → HasTopBytes (inputs_of words)
-inputs_top words =
-    rw (
-      input_top 15 (slice_index_or words 0 0),
-      input_top 51 (slice_index_or words 1 0),
-      input_top 85 (slice_index_or words 2 0),
-    ) refl
 
 -- in the torus
 abbrev pub IsCell : TorusNumbers → ℕ → Type 0
@@ -191,7 +179,7 @@ placing_equipped : (torus : TorusNumbers) (prefer : Bool) (occupants : List (Opt
     → IsEquipped (placing_of torus prefer occupants id parent words)
 unfolding placing_of
 placing_equipped torus prefer occupants id parent words =
-    inputs_top (slice_index_or words 1 0 ∷ slice_index_or words 2 0 ∷ slice_index_or words 3 0 ∷ [])
+    inputs_of-top (slice_index_or words 1 0 ∷ slice_index_or words 2 0 ∷ slice_index_or words 3 0 ∷ [])
 
 -- where those of all of a board's placings do, so do they once more newborns are placed
 placed_equipped : (torus : TorusNumbers) (round : PlacingRound) (board : Board) (parents : List ℕ)

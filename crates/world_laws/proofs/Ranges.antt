@@ -9,6 +9,7 @@ use Rattle.std.proofs.lemmas.List.FromFn.{length-map-range_with_len}
 use Rattle.std.proofs.lemmas.List.Sums.{get_or-le-sum_by}
 use Rattle.instruction_set.specs.declared.letter.Letter.{Letter}
 use Rattle.logic_tasks.specs.Inputs.{HasTopBytes, inputs_of}
+use Rattle.logic_tasks.specs.InputsLaws.{inputs_of-top}
 use Rattle.logic_tasks.specs.TaskSet.{no_tasks}
 use Rattle.random_streams.specs.declared.purpose.Purpose.TheVariants.{Run}
 use Rattle.random_streams.specs.RandomStream.{draw}
@@ -35,7 +36,7 @@ use Rattle.world_laws.proofs.Endings.{all_come, all_grown, all_steps, next_own, 
 use Rattle.world_laws.proofs.LifeRanges.{BringsNine, KeepLimits, LeavesInRange, LivesWithNine, life-in-range}
 use Rattle.world_laws.proofs.ListLemmas.{got_some}
 use Rattle.world_laws.proofs.Mirror.{written}
-use Rattle.world_laws.proofs.Placements.{IsEquipped, inputs_top, placements_equipped}
+use Rattle.world_laws.proofs.Placements.{IsEquipped, placements_equipped}
 use Rattle.world_laws.proofs.RunForms.{everyone_few}
 use Rattle.world_laws.proofs.Scenes.{Each, id_below}
 use Rattle.world_laws.proofs.WholeLogs.{only_founder, run_after}
@@ -77,7 +78,7 @@ module _ (config : ConfigValues) (fit : IsConfig config) (ages : ℕ) (some : 1 
   range_founder cell nth letters least greatest =
       let words = founder_words config.seed cell nth in
       range_new letters (inputs_of words) (length letters) no_tasks least greatest
-      (length-replicate 9 false) (inputs_top words)
+      (length-replicate 9 false) (inputs_of-top words)
 
   -- a newborn, with its placing
   record ComesInRange (turn : Delivery × Placing) : Type 0 where
