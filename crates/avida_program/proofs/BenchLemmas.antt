@@ -20,7 +20,7 @@ use Rattle.written_texts.specs.SinkChanges.{Stays}
 use Rattle.logged_run.specs.RunSums.{IsEndOf}
 use Rattle.logged_run.specs.RunText.{run_text}
 use Rattle.logged_run.specs.declared.sums.Sums.{Sums}
-use Rattle.command_line.specs.declared.bench.Bench.{Bench}
+use Rattle.command_line.specs.declared.positional.Bench.{Bench}
 use Rattle.avida_program.specs.declared.command.Command.TheVariants as command
 use Rattle.avida_program.specs.BenchText.{bench_config, bench_text, sums_text}
 use Rattle.avida_program.specs.FinalWorld.{LeavesFinal}

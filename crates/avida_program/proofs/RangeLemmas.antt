@@ -3,7 +3,7 @@ use Rattle.std.proofs.Common.{◌≡◌, ◌≤◌, ℕ, List, Option, None, Som
 use Rattle.numerals.specs.Numeral.{number_of}
 use Rattle.command_line.specs.Commands.{lineage_told, looks_of_value, option_value_at, run_of, run_with}
 use Rattle.command_line.specs.Form.{Told}
-use Rattle.command_line.specs.declared.lineage.Lineage.{Lineage}
+use Rattle.command_line.specs.declared.positional.Lineage.{Lineage}
 use Rattle.command_line.specs.declared.run.Run.{Run}
 
 -- a number that was read of a text is in its range

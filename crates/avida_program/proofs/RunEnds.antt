@@ -6,7 +6,7 @@ use Rattle.avida_port.specs.Ports.{SinkState}
 use Rattle.world_core.specs.WorldValue.{WorldValue, world_in}
 use Rattle.world_rules.specs.Laws.{ReplaysToLiving}
 use Rattle.world_rules.specs.WorldRun.{residents_of_world, world_after}
-use Rattle.command_line.specs.declared.lineage.Lineage.{Lineage}
+use Rattle.command_line.specs.declared.positional.Lineage.{Lineage}
 use Rattle.command_line.specs.declared.run.Run.{Run}
 use Rattle.avida_program.specs.declared.command.Command.TheVariants as command
 use Rattle.avida_program.specs.declared.call_error.CallError.{CallError}

@@ -4,13 +4,13 @@ use Rattle.command_line.specs.Form.{Form, Told, Valued}
 use Rattle.command_line.specs.Words.{is_set, told_by}
 use Rattle.command_line.specs.Numbers.{three_numbers_of}
 use Rattle.numerals.specs.Numeral.{number_of}
-use Rattle.command_line.specs.declared.advance.Advance.{Advance}
+use Rattle.command_line.specs.declared.positional.Advance.{Advance}
 use Rattle.command_line.specs.declared.assay.Assay.{Assay}
-use Rattle.command_line.specs.declared.bench.Bench.{Bench}
+use Rattle.command_line.specs.declared.positional.Bench.{Bench}
 use Rattle.command_line.specs.declared.run.Run.{Run}
-use Rattle.command_line.specs.declared.lineage.Lineage.{Lineage}
+use Rattle.command_line.specs.declared.positional.Lineage.{Lineage}
 use Rattle.command_line.specs.declared.positional.Positional.{Positional}
-use Rattle.command_line.specs.declared.resume.Resume.{Resume}
+use Rattle.command_line.specs.declared.positional.Resume.{Resume}
 use Rattle.command_line.specs.declared.trace.Trace.{Trace}
 
 -- `--inputs a,b,c`

@@ -5,10 +5,8 @@ ghost use Rattle.command_line.specs.Parsers.{parsed_by};
 ghost use Rattle.command_line.specs.Words.{told_by, undashed};
 
 use crate::assay::{MOST_FIRST_SEED, MOST_SEEDS};
-use crate::bench::MOST_SEED;
 use crate::landscape::MOST_TRIED_STEPS;
-use crate::lineage::MOST_CELL;
-use crate::resume::MOST_FURTHER_UPDATES;
+use crate::positional::{MOST_CELL, MOST_FURTHER_UPDATES, MOST_SEED};
 use crate::run::MOST_LOOKS;
 use crate::trace::{GREATEST_INPUT, MOST_STEPS};
 use crate::workers::{LEAST_WORKERS, MOST_WORKERS};

@@ -1,6 +1,7 @@
-// The words of a command with one number and `--workers`.
+// The words of the commands with one number and `--workers`.
 ghost use Rattle.std.specs.Prelude.{◌≡◌, ◌<◌, ◌≤◌, ◌∷◌, [], IfOk, IfSome, length, option_and_then};
 ghost use Rattle.clap.specs.Words.{found_of, rows_of};
+ghost use Rattle.command_line.specs.Commands.{advance_told, bench_told, lineage_told, resume_told};
 ghost use Rattle.command_line.specs.Commands.{positional_form, positional_of};
 ghost use Rattle.command_line.specs.Parsers.{told_in};
 ghost use Rattle.command_line.specs.Reading.{IsReadableRow};
@@ -14,6 +15,15 @@ use crate::workers::{positional_command, workers_in};
 use clap::ArgMatches;
 use numerals::laws::one_spelling;
 use std::alloc::Global;
+
+/// The greatest cell that `lineage` accepts.
+pub const MOST_CELL: u64 = 65_535;
+
+/// The greatest seed that `bench` accepts.
+pub const MOST_SEED: u64 = 9_223_372_036_854_775_807;
+
+/// The greatest number of further updates that `resume` and `advance` accept.
+pub const MOST_FURTHER_UPDATES: u64 = 1_000_000;
 
 /// The number, and the number of workers.
 #[derive(Clone, Copy)]
@@ -55,4 +65,84 @@ pub(crate) fn read_positional<'a>(
     };
     let matches = matches(command, words)?;
     taken(&matches, positional, greatest).ok_or(Refused::BadWords)
+}
+
+/// The values of `lineage`: the cell whose line of descent is asked for, and the number of workers.
+#[derive(Clone, Copy, Debug)]
+pub struct Lineage {
+    pub cell: u32,
+    pub workers: u32,
+}
+
+/// Reads the words of `lineage`. The first word is the name of the command.
+#[tactic(auto, using(crate::proofs::CommandForms::lineage_reads))]
+pub fn read_lineage(alloc: Global, words: &[String]) -> Result<Lineage, Refused>
+    requires { 0 < length words.now }
+    ensures { IsTold lineage_told words.now result }
+{
+    let told = read_positional(alloc, "lineage", "cell", MOST_CELL, words)?;
+    Ok(Lineage {
+        cell: told.number as u32,
+        workers: told.workers,
+    })
+}
+
+/// The values of `bench`: the seed of the world that it runs, and the number of workers.
+#[derive(Clone, Copy, Debug)]
+pub struct Bench {
+    pub seed: u64,
+    pub workers: u32,
+}
+
+/// Reads the words of `bench`. The first word is the name of the command.
+#[tactic(auto, using(crate::proofs::CommandForms::bench_reads))]
+pub fn read_bench(alloc: Global, words: &[String]) -> Result<Bench, Refused>
+    requires { 0 < length words.now }
+    ensures { IsTold bench_told words.now result }
+{
+    let told = read_positional(alloc, "bench", "seed", MOST_SEED, words)?;
+    Ok(Bench {
+        seed: told.number,
+        workers: told.workers,
+    })
+}
+
+/// The values of `resume`: the number of further updates, and the number of workers.
+#[derive(Clone, Copy, Debug)]
+pub struct Resume {
+    pub more: u32,
+    pub workers: u32,
+}
+
+/// Reads the words of `resume`. The first word is the name of the command.
+#[tactic(auto, using(crate::proofs::CommandForms::resume_reads))]
+pub fn read_resume(alloc: Global, words: &[String]) -> Result<Resume, Refused>
+    requires { 0 < length words.now }
+    ensures { IsTold resume_told words.now result }
+{
+    let told = read_positional(alloc, "resume", "more", MOST_FURTHER_UPDATES, words)?;
+    Ok(Resume {
+        more: told.number as u32,
+        workers: told.workers,
+    })
+}
+
+/// The values of `advance`: the number of further updates, and the number of workers.
+#[derive(Clone, Copy, Debug)]
+pub struct Advance {
+    pub more: u32,
+    pub workers: u32,
+}
+
+/// Reads the words of `advance`. The first word is the name of the command.
+#[tactic(auto, using(crate::proofs::CommandForms::advance_reads))]
+pub fn read_advance(alloc: Global, words: &[String]) -> Result<Advance, Refused>
+    requires { 0 < length words.now }
+    ensures { IsTold advance_told words.now result }
+{
+    let told = read_positional(alloc, "advance", "more", MOST_FURTHER_UPDATES, words)?;
+    Ok(Advance {
+        more: told.number as u32,
+        workers: told.workers,
+    })
 }

@@ -57,6 +57,7 @@ impl Arguments for Run {
 }
 
 /// Reads the words of `run`. The first word is the name of the command.
+#[tactic(auto, using(crate::proofs::CommandForms::run_reads))]
 pub fn read_run(alloc: Global, words: &[String]) -> Result<Run, Refused>
     requires { 0 < length words.now }
     ensures { IsTold run_told words.now result }
