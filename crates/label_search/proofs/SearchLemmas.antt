@@ -2,7 +2,7 @@
 use Rattle.std.proofs.Common.{◌-◌, zero, suc, true, false, arith, ◌≡◌, sym, ap, refl, ℕ, ◌+◌, ◌<◌, ◌≤◌, List, Bool, cond, length, take, drop, Option, Some, None, subst, inl, inr, length-drop, length-take, get_or}
 use Rattle.std.specs.Prelude.{◌&&◌}
 use Rattle.std.proofs.Math.Nat.{eq-or-lt_of_le}
-use Rattle.std.proofs.lemmas.List.{drop_more, get_or-take}
+use Rattle.std.proofs.lemmas.List.{drop_more, get_or-take, length-map}
 use Rattle.std.specs.Cmp.Lexicographic.{pointwise}
 use Rattle.std.specs.Bool.{Decides}
 use Rattle.std.specs.List.{find, range_with_len}
@@ -11,14 +11,15 @@ use Rattle.std.proofs.lemmas.Bool.Decides.{not_from_Decides}
 use Rattle.instruction_set.specs.declared.letter.Letter.{Letter}
 use Rattle.instruction_set.specs.declared.letter.Letter.TheVariants.{NopA}
 use Rattle.instruction_set.specs.Letter.{same_letter, same_letters}
+use Rattle.label_search.specs.Site.{Site, letters_of}
 use Rattle.label_search.specs.Search.{OccursAt, occurs_at, first_match}
 
--- the search among the places from one on
-pub find-next : (test : ℕ → Bool) (place n : ℕ) → place < n
+-- the search among the places from one on, where this place passes the test or not
+pub find-next : (test : ℕ → Bool) (place n : ℕ) (passes : Bool) → place < n → passes ≡ test place
     → find test (range_with_len place (n - place))
-    ≡ cond (test place) (Some place) (find test (range_with_len (place + 1) (n - (place + 1))))
-find-next test place n h =
-    let more : n - place ≡ suc (n - (place + 1)) = omega arith in rw more refl
+    ≡ cond passes (Some place) (find test (range_with_len (place + 1) (n - (place + 1))))
+find-next test place n passes h is =
+    let more : n - place ≡ suc (n - (place + 1)) = omega arith in rw (more, is) refl
 
 -- the first of some places that pass a test: it has the fact, and none before it has
 abbrev pub IsLeast : (P : ℕ → Type 0) → ℕ → ℕ → Option ℕ → Type 0
@@ -98,14 +99,17 @@ module _ (one_list : (letters others : List Letter)
       (first_match-least memory template some)
 
 -- a template and the letters under it, compared from a place on: here, and then the rests
-pub compared : (what letters : List Letter) (at : ℕ) (same : Bool) → at < length what
-    → at < length letters → same_letter (get_or what at NopA) (get_or letters at NopA) ≡ same
-    → pointwise same_letter (drop at what) (drop at (take (length what) letters))
-    ≡ (same
-    && pointwise same_letter (drop (at + 1) what) (drop (at + 1) (take (length what) letters)))
-compared what letters at same within inside is =
+pub compared : (what : List Letter) (sites : List Site) (at : ℕ) (letter : Letter) (same : Bool)
+    → at < length what → at < length sites → letter ≡ get_or (letters_of sites) at NopA
+    → same ≡ same_letter (get_or what at NopA) letter
+    → pointwise same_letter (drop at what) (drop at (take (length what) (letters_of sites)))
+    ≡ (same && pointwise same_letter (drop (at + 1) what)
+    (drop (at + 1) (take (length what) (letters_of sites))))
+compared what sites at letter same within inside read is =
+    let letters = letters_of sites in
     let under = take (length what) letters in
-    let here : at < length under = omega (arith, length-take (length what) letters) in
+    let long = length-map sites (λ (site : Site). site.letter) in
+    let here : at < length under = omega (arith, length-take (length what) letters, long) in
     let there : get_or under at NopA ≡ get_or letters at NopA =
     get_or-take (length what) letters at NopA within in
-    rw (drop_more what at NopA within, drop_more under at NopA here, there, is) refl
+    rw (drop_more what at NopA within, drop_more under at NopA here, there, is, read) refl

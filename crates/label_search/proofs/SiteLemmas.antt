@@ -1,5 +1,5 @@
 -- A clean letter and two marks in one number.
-use Rattle.std.proofs.Common.{◌≡◌, ◌∙◌, sym, ap, refl, ℕ, ◌+◌, ◌*◌, ◌/◌, ◌%◌, ◌<◌, Bool, true, false, Some, arith}
+use Rattle.std.proofs.Common.{◌≡◌, ◌∙◌, sym, ap, refl, ℕ, ◌+◌, ◌*◌, ◌/◌, ◌%◌, ◌<◌, Bool, true, false, cond, Some, arith}
 use Rattle.std.specs.Prelude.{◌==◌, unwrap_or}
 use Rattle.instruction_set.specs.declared.letter.Letter.{Letter}
 use Rattle.instruction_set.specs.declared.letter.Letter.TheVariants.{NopA}
@@ -36,12 +36,19 @@ module _ (clean clean' : Letter) (executed executed' copied copied' : Bool) (is 
   same-rest : rest_of clean executed copied ≡ rest_of clean' executed' copied'
   same-rest = rw (is, was, became) refl
 
--- numbers that are 1 or 0, tested for 1
-one : (n : ℕ) → n ≡ 1 → (n == 1) ≡ true
-one n is = ap (λ k. k == 1) is
+-- a digit that is 1 or 0, tested for 1
+tested : (digit : ℕ) (mark : Bool) → digit ≡ cond mark 1 0 → (digit == 1) ≡ mark
+tested digit true is = ap (λ k. k == 1) is
+tested digit false is = ap (λ k. k == 1) is
 
-none : (n : ℕ) → n ≡ 0 → (n == 1) ≡ false
-none n is = ap (λ k. k == 1) is
+-- the digits of the two marks
+digits : (clean : Letter) (executed copied : Bool)
+    → (rest_of clean executed copied / 32 % 2 ≡ cond executed 1 0)
+    × (rest_of clean executed copied / 64 % 2 ≡ cond copied 1 0)
+digits clean true true = (omega (arith, index-small clean), omega (arith, index-small clean))
+digits clean true false = (omega (arith, index-small clean), omega (arith, index-small clean))
+digits clean false true = (omega (arith, index-small clean), omega (arith, index-small clean))
+digits clean false false = (omega (arith, index-small clean), omega (arith, index-small clean))
 
 -- what is packed is found again
 clean-packed : (clean : Letter) (executed copied : Bool)
@@ -52,25 +59,11 @@ clean-packed clean executed copied =
 
 executed-packed : (clean : Letter) (executed copied : Bool)
     → executed_in (rest_of clean executed copied) ≡ executed
-executed-packed clean true true =
-    one (rest_of clean true true / 32 % 2) (omega (arith, index-small clean))
-executed-packed clean true false =
-    one (rest_of clean true false / 32 % 2) (omega (arith, index-small clean))
-executed-packed clean false true =
-    none (rest_of clean false true / 32 % 2) (omega (arith, index-small clean))
-executed-packed clean false false =
-    none (rest_of clean false false / 32 % 2) (omega (arith, index-small clean))
+executed-packed clean executed copied = tested _ executed (digits clean executed copied).0
 
 copied-packed : (clean : Letter) (executed copied : Bool)
     → copied_in (rest_of clean executed copied) ≡ copied
-copied-packed clean true true =
-    one (rest_of clean true true / 64 % 2) (omega (arith, index-small clean))
-copied-packed clean true false =
-    none (rest_of clean true false / 64 % 2) (omega (arith, index-small clean))
-copied-packed clean false true =
-    one (rest_of clean false true / 64 % 2) (omega (arith, index-small clean))
-copied-packed clean false false =
-    none (rest_of clean false false / 64 % 2) (omega (arith, index-small clean))
+copied-packed clean executed copied = tested _ copied (digits clean executed copied).1
 
 -- a number in which a letter and two marks are packed
 module _ (clean : Letter) (executed copied : Bool) (rest : ℕ)

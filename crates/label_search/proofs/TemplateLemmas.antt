@@ -23,13 +23,17 @@ pub next-place : (ip counter n place next : ℕ) → place ≡ (ip + counter) % 
 next-place ip counter n place next here further = further ∙ ap (λ k. (k + 1) % n) here
     ∙ mod-add-mod (ip + counter) n 1 ∙ ap (λ k. k % n) (omega arith)
 
--- the letter at the place that is so many steps further
-pub letter-there : (sites : List Site) (ip steps place : ℕ) → place ≡ (ip + steps) % length sites
-    → get_or (letters_of sites) place NopA ≡ letter_after (letters_of sites) ip steps
-letter-there sites ip steps place here =
+-- the letter at that next place
+pub letter-next : (sites : List Site) (ip counter place next : ℕ) (letter : Letter)
+    → place ≡ (ip + counter) % length sites → next ≡ (place + 1) % length sites
+    → letter ≡ get_or (letters_of sites) next NopA
+    → letter ≡ letter_after (letters_of sites) ip (counter + 1)
+letter-next sites ip counter place next letter here further read =
     let long : length sites ≡ length (letters_of sites) =
     sym (length-map sites (λ site. site.letter)) in
-    ap (λ k. get_or (letters_of sites) k NopA) (here ∙ ap (λ n. (ip + steps) % n) long)
+    read ∙ ap (λ k. get_or (letters_of sites) k NopA)
+    (next-place ip counter (length sites) place next here further
+    ∙ ap (λ n. (ip + (counter + 1)) % n) long)
 
 -- the letters from a step on, the first apart
 pub letters_from-next : (memory : List Letter) (ip counter left : ℕ) → 10 - counter ≡ left + 1

@@ -15,20 +15,12 @@ loop-place-init c =
 
 pub returns-then-stands_at : goal.returns-then-stands_at
 returns-then-stands_at c =
-    let sites = c.args.memory.now in
-    let place = c.loop-place.place in
-    let next = find-next (occurs_at (letters_of sites) c.args.what.now) place
-    (length sites) c.loop-place-test.true in
-    let here : occurs_at (letters_of sites) c.args.what.now place ≡ true =
-    sym c.stands_at.ensures ∙ c.if-stands_at.true in
-    sym (rw here at next) ∙ c.loop-place.invariant
+    sym (find-next (occurs_at (letters_of c.args.memory.now) c.args.what.now) c.loop-place.place
+    (length c.args.memory.now) true c.loop-place-test.true
+    (sym c.if-stands_at.true ∙ c.stands_at.ensures)) ∙ c.loop-place.invariant
 
 pub loop-place-preserved : goal.loop-place-preserved
 loop-place-preserved c =
-    let sites = c.args.memory.now in
-    let place = c.loop-place.place in
-    let next = find-next (occurs_at (letters_of sites) c.args.what.now) place
-    (length sites) c.loop-place-test.true in
-    let elsewhere : occurs_at (letters_of sites) c.args.what.now place ≡ false =
-    sym c.stands_at.ensures ∙ c.if-stands_at.false in
-    sym (rw elsewhere at next) ∙ c.loop-place.invariant
+    sym (find-next (occurs_at (letters_of c.args.memory.now) c.args.what.now) c.loop-place.place
+    (length c.args.memory.now) false c.loop-place-test.true
+    (sym c.if-stands_at.false ∙ c.stands_at.ensures)) ∙ c.loop-place.invariant

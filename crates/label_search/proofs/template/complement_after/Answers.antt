@@ -5,7 +5,7 @@ use Rattle.std.proofs.lemmas.Grind.{common_steps}
 use Rattle.instruction_set.specs.Letter.{complement_of}
 use Rattle.label_search.specs.Site.{letters_of}
 use Rattle.label_search.specs.Template.{is_nop, letter_after, template_after, complements_of}
-use Rattle.label_search.proofs.TemplateLemmas.{letter-there, nops_read-room, next-place, nops-next, nops-end, is_nop-complement}
+use Rattle.label_search.proofs.TemplateLemmas.{letter-next, nops_read-room, next-place, nops-next, nops-end, is_nop-complement}
 use Rattle.label_search.proofs.template.complement_after.Goals as goal
 
 pub loop-init : goal.loop-init
@@ -18,13 +18,10 @@ loop-init c = record {
 
 pub returns-then-not-is_nop-clause-complement : goal.returns-then-not-is_nop-clause-complement
 returns-then-not-is_nop-clause-complement c =
-    let next = next-place c.args.ip c.loop.counter _ _ _ c.loop.invariant.place
-    c.next_place-place.ensures in
     let letters = letters_of c.args.memory.now in
-    let letter = letter_after letters c.args.ip (c.loop.counter + 1) in
-    let read : c.letter_at-letter.result ≡ letter = c.letter_at-letter.ensures
-    ∙ letter-there c.args.memory.now c.args.ip (c.loop.counter + 1) _ next in
-    let other : is_nop letter ≡ false =
+    let read = letter-next c.args.memory.now c.args.ip c.loop.counter _ _ _ c.loop.invariant.place
+    c.next_place-place.ensures c.letter_at-letter.ensures in
+    let other : is_nop (letter_after letters c.args.ip (c.loop.counter + 1)) ≡ false =
     ap is_nop (sym read) ∙ sym c.is_nop.ensures ∙ c.if-not-is_nop.true in
     let none = nops-end letters c.args.ip c.loop.counter (omega arith) other [] in
     sym (append-nil c.loop.complement)
@@ -32,12 +29,11 @@ returns-then-not-is_nop-clause-complement c =
 
 pub loop-preserved : goal.loop-preserved
 loop-preserved c =
-    let next = next-place c.args.ip c.loop.counter _ _ _ c.loop.invariant.place
-    c.next_place-place.ensures in
     let letters = letters_of c.args.memory.now in
     let letter = letter_after letters c.args.ip (c.loop.counter + 1) in
-    let read : c.letter_at-letter.result ≡ letter = c.letter_at-letter.ensures
-    ∙ letter-there c.args.memory.now c.args.ip (c.loop.counter + 1) _ next in
+    let read : c.letter_at-letter.result ≡ letter =
+    letter-next c.args.memory.now c.args.ip c.loop.counter _ _ _ c.loop.invariant.place
+    c.next_place-place.ensures c.letter_at-letter.ensures in
     let nop : is_nop letter ≡ true =
     ap is_nop (sym read) ∙ sym c.is_nop.ensures ∙ c.if-not-is_nop.false in
     let rest = nops-next letters c.args.ip c.loop.counter (10 - (c.loop.counter + 1))
@@ -51,7 +47,8 @@ loop-preserved c =
     ∙ nops_read-room c.loop.complement (unwrap_or (complement_of letter) letter) nop-too
     (omega arith) in
     record {
-      place = next;
+      place = next-place c.args.ip c.loop.counter _ _ _ c.loop.invariant.place
+          c.next_place-place.ensures;
       count = rw (
         noted,
         length-append c.loop.complement
