@@ -38,17 +38,26 @@ fresh text birth_length limit least within twice room greatest = record {
   limit = greatest;
 }
 
--- other heads, which are in memory
-with_heads : (m : Machine) (heads : Heads) → IsMachine m → heads.ip < length m.memory
-    → heads.read < length m.memory → heads.write < length m.memory → heads.flow < length m.memory
-    → IsMachine (record m { heads = heads })
-with_heads m heads h ip read write flow = record {
+-- other registers, stacks, executed places and heads
+with_parts : (m : Machine) (registers : Registers) (stacks : List (List ℤ)) (active : ℕ)
+    (executed : List Bool) (heads : Heads) → IsMachine m → length stacks ≡ 2
+    → All (λ stack. length stack ≡ 10) stacks → active < 2 → length executed ≡ length m.memory
+    → heads.ip < length m.memory → heads.read < length m.memory → heads.write < length m.memory
+    → heads.flow < length m.memory
+    → IsMachine (record m {
+      registers = registers;
+      stacks = stacks;
+      active = active;
+      executed = executed;
+      heads = heads;
+    })
+with_parts m registers stacks active executed heads h two ten one_of marks ip read write flow = record {
   clean = h.clean;
-  executed = h.executed;
+  executed = marks;
   copied = h.copied;
-  stacks = h.stacks;
-  ten = h.ten;
-  active = h.active;
+  stacks = two;
+  ten = ten;
+  active = one_of;
   template = h.template;
   ip = ip;
   read = read;
@@ -61,49 +70,26 @@ with_heads m heads h ip read write flow = record {
   limit = h.limit;
 }
 
+-- other heads, which are in memory
+with_heads : (m : Machine) (heads : Heads) → IsMachine m → heads.ip < length m.memory
+    → heads.read < length m.memory → heads.write < length m.memory → heads.flow < length m.memory
+    → IsMachine (record m { heads = heads })
+with_heads m heads h =
+    with_parts m m.registers m.stacks m.active m.executed heads h h.stacks h.ten h.active h.executed
+
 -- other registers, other numbers on two stacks, and one of the two active
 pub with_numbers : (m : Machine) (registers : Registers) (stacks : List (List ℤ)) (active : ℕ)
     → IsMachine m → length stacks ≡ 2 → All (λ stack. length stack ≡ 10) stacks → active < 2
     → IsMachine (record m { registers = registers; stacks = stacks; active = active })
-with_numbers m registers stacks active h two ten one_of = record {
-  clean = h.clean;
-  executed = h.executed;
-  copied = h.copied;
-  stacks = two;
-  ten = ten;
-  active = one_of;
-  template = h.template;
-  ip = h.ip;
-  read = h.read;
-  write = h.write;
-  flow = h.flow;
-  least = h.least;
-  greatest = h.greatest;
-  growth = h.growth;
-  birth_length = h.birth_length;
-  limit = h.limit;
-}
+with_numbers m registers stacks active h two ten one_of =
+    with_parts m registers stacks active m.executed m.heads h two ten one_of h.executed h.ip h.read
+    h.write h.flow
 
 -- a place is marked
 pub marked : (m : Machine) → IsMachine m → IsMachine (with_ip_marked m)
-marked m h = record {
-  clean = h.clean;
-  executed = length-set m.executed m.heads.ip true ∙ h.executed;
-  copied = h.copied;
-  stacks = h.stacks;
-  ten = h.ten;
-  active = h.active;
-  template = h.template;
-  ip = h.ip;
-  read = h.read;
-  write = h.write;
-  flow = h.flow;
-  least = h.least;
-  greatest = h.greatest;
-  growth = h.growth;
-  birth_length = h.birth_length;
-  limit = h.limit;
-}
+marked m h =
+    with_parts m m.registers m.stacks m.active (set m.executed m.heads.ip true) m.heads h h.stacks
+    h.ten h.active (length-set m.executed m.heads.ip true ∙ h.executed) h.ip h.read h.write h.flow
 
 -- a head is at another place of memory
 pub head_at : (m : Machine) (head : Head) (place : ℕ) → IsMachine m → place < length m.memory

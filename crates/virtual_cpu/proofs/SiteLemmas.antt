@@ -160,10 +160,13 @@ lists-whole sites letters clean executed copied at room l c e p l-all c-all e-al
     (e ∙ take_all at executed e-all) (p ∙ take_all at copied p-all)
 
 -- one thing of the sites from one place up to another
-pub part : {A : Type 0} (f : Site → A) (sites : List Site) (from count : ℕ)
-    → map f (take count (drop from sites)) ≡ take count (drop from (map f sites))
-part f sites from count = sym (take-map f count (drop from sites))
-    ∙ ap (take count) (sym (drop-map f from sites))
+pub part : {A : Type 0} (f : Site → A) (shown sites : List Site) (seen : List A) (from count : ℕ)
+    → shown ≡ sites → map f sites ≡ seen
+    → map f (take count (drop from shown)) ≡ take count (drop from seen)
+part f shown sites seen from count is view =
+    ap (λ (s : List Site). map f (take count (drop from s))) is
+    ∙ sym (take-map f count (drop from sites)) ∙ ap (take count) (sym (drop-map f from sites))
+    ∙ ap (λ l. take count (drop from l)) view
 
 -- sites that pass a test are counted by what the test gives of each
 pub counted : (f : Site → Bool) (sites : List Site) → count_by f sites ≡ count_of (map f sites)

@@ -150,6 +150,19 @@ impl Sites {
         count_executed(&self.items[..end])
     }
 
+    /// The sites from one place up to another.
+    #[inline(always)]
+    fn part(&self, from: usize, end: usize) -> &[Site]
+        requires order { from ≤ end }
+        requires within { end ≤ length self.now.letters }
+        ensures letters { letters_of result.now ≡ child_part self.now.letters from end }
+        ensures clean { clean_of result.now ≡ child_part self.now.clean from end }
+        ensures copied { copied_of result.now ≡ child_part self.now.copied from end }
+        ensures length { length result.now ≡ end - from }
+    {
+        &self.items[from..end]
+    }
+
     /// How many places from one up to another were copied to.
     pub(crate) fn count_copied(&self, from: usize, end: usize) -> usize
         requires order { from ≤ end }
@@ -157,7 +170,7 @@ impl Sites {
         ensures count { result ≡ count_of (child_part self.now.copied from end) }
         ensures bound { result ≤ end - from }
     {
-        count_copied(&self.items[from..end])
+        count_copied(self.part(from, end))
     }
 
     /// The letters from one place up to another.
@@ -171,7 +184,7 @@ impl Sites {
         requires within { end ≤ length self.now.letters }
         ensures { IfOk result (λ v. v.items ≡ child_part self.now.letters from end) }
     {
-        letters_in(alloc, &self.items[from..end])
+        letters_in(alloc, self.part(from, end))
     }
 
     /// The clean letters from one place up to another.
@@ -185,7 +198,7 @@ impl Sites {
         requires within { end ≤ length self.now.letters }
         ensures { IfOk result (λ v. v.items ≡ child_part self.now.clean from end) }
     {
-        clean_in(alloc, &self.items[from..end])
+        clean_in(alloc, self.part(from, end))
     }
 
     pub(crate) fn all_letters(&self, alloc: Global) -> Result<Vec<Letter>, AllocError>
