@@ -113,6 +113,13 @@ splits id v two free idle' s k at =
           )) k.state;
     }
 
+-- a memo of a seat that was joined from two: what it has seen begins what the longer of the two has,
+-- and its calls are theirs
+abbrev FitsJoined : List Entry → View → View → Memo → Type 0
+FitsJoined history v w m = IsPrefix m.seen (longer v.seen w.seen)
+    × SawOwn m.carried m.seen history
+    × ((i : ℕ) → is_among i m.carried ≡ true → is_among i (v.carried ++ w.carried) ≡ true)
+
 -- joining a seat into another, which leaves it spent, keeps the rule
 pub joins : (id : ℕ) (v : View) (other : ℕ) (w : View) → 0 < v.share → v.ticket ≡ None
     → w.ticket ≡ None → v.holding ≡ false → w.holding ≡ false
@@ -240,22 +247,15 @@ joins id v other w pos free free' idle' idle'' s k at apart there =
         → IsPrefix v.seen history → IsPrefix w.seen history → SawOwn v.carried v.seen history
         → SawOwn w.carried w.seen history
         → (n : ℕ) (m : Memo) → get_elem? (memo_of v ∷ memo_of w ∷ []) n ≡ some m
-        → IsPrefix m.seen (longer v.seen w.seen) × SawOwn m.carried m.seen history
-        × ((i : ℕ) → is_among i m.carried ≡ true → is_among i (v.carried ++ w.carried) ≡ true)
+        → FitsJoined history v w m
     recall history v w p a b sv sw zero m e =
-        subst (λ (x : Memo). IsPrefix x.seen (longer v.seen w.seen)
-        × SawOwn x.carried x.seen history
-        × ((i : ℕ) → is_among i x.carried ≡ true → is_among i (v.carried ++ w.carried) ≡ true))
-        (some-injective (memo_of v) m e) (
+        subst (FitsJoined history v w) (some-injective (memo_of v) m e) (
           pre_two v.seen (longer v.seen w.seen) history a p (longer_least v.seen w.seen).0,
           sv,
           λ i h. has_left i v.carried w.carried h,
         )
     recall history v w p a b sv sw (suc zero) m e =
-        subst (λ (x : Memo). IsPrefix x.seen (longer v.seen w.seen)
-        × SawOwn x.carried x.seen history
-        × ((i : ℕ) → is_among i x.carried ≡ true → is_among i (v.carried ++ w.carried) ≡ true))
-        (some-injective (memo_of w) m e) (
+        subst (FitsJoined history v w) (some-injective (memo_of w) m e) (
           pre_two w.seen (longer v.seen w.seen) history b p (longer_least v.seen w.seen).1,
           sw,
           λ i h. has_right i v.carried w.carried h,

@@ -33,39 +33,14 @@ load-requires c =
       recalls _ _ _ (omega arith) (ap (λ m. m.0.ticket) e) (ap (λ m. m.0.holding) e),
     )
 
-pub returns-clause-seen : goal.returns-clause-seen
-returns-clause-seen c =
-    let e = c.join_seat.ensures.2 in
-    let told = c.load.ensures.2 in
-    let now = sym (ap (λ m. m.0.seen) told.0) in
-    let a = told.1 0 (memo_of c.seat.inside.pass.me.0) (ap (λ m. get_elem? m.0.past 0) e) in
-    let b = told.1 1 (memo_of c.other.inside.pass.me.0) (ap (λ m. get_elem? m.0.past 1) e) in (
-      subst (λ (x : List Entry × List Entry). IsPrefix x.0 x.1)
-          (λ i. ((c.seat.view_is i).seen, now i)) a.0,
-      subst (λ (x : List Entry × List Entry). IsPrefix x.0 x.1)
-          (λ i. ((c.other.view_is i).seen, now i)) b.0,
-    )
-
-pub returns-clause-own : goal.returns-clause-own
-returns-clause-own c =
-    let e = c.join_seat.ensures.2 in
-    let told = c.load.ensures.2 in
-    let now = sym (ap (λ m. m.0.seen) told.0) in
-    let a = told.1 0 (memo_of c.seat.inside.pass.me.0) (ap (λ m. get_elem? m.0.past 0) e) in
-    let b = told.1 1 (memo_of c.other.inside.pass.me.0) (ap (λ m. get_elem? m.0.past 1) e) in (
-      subst (λ (x : List Entry × List Entry × List ℕ). calls_under x.2 x.1 ≡ calls_under x.2 x.0)
-          (λ i. ((c.seat.view_is i).seen, now i, (c.seat.view_is i).numbers)) a.1,
-      subst (λ (x : List Entry × List Entry × List ℕ). calls_under x.2 x.1 ≡ calls_under x.2 x.0)
-          (λ i. ((c.other.view_is i).seen, now i, (c.other.view_is i).numbers)) b.1,
-    )
-
-pub returns-clause-once : goal.returns-clause-once
-returns-clause-once c =
+pub returns : goal.returns
+returns c =
     let e = c.join_seat.ensures.2 in
     let told = c.load.ensures.2 in
     let v = c.seat.inside.pass.me.0 in
     let w = c.other.inside.pass.me.0 in
     let m = c.join_seat.new.seat.me in
+    let now = sym (ap (λ m. m.0.seen) told.0) in
     let at0 = ap (λ m. get_elem? m.0.past 0) e in
     let at1 = ap (λ m. get_elem? m.0.past 1) e in
     let a = told.1 0 (memo_of v) at0 in
@@ -80,4 +55,22 @@ returns-clause-once c =
     ≡ calls_under c.load.new.seat.me.0.carried c.load.new.seat.me.0.seen =
     ap (λ x. calls_under x.0.carried m.0.seen) (sym e)
     ∙ sym (ap (λ x. calls_under x.0.carried x.0.seen) told.0) in
-    subst (λ (x : List Entry × List Entry). IsPermutation x.0 x.1) (λ i. (left i, right i)) perm
+    record {
+      bank = search rules;
+      share = search rules;
+      numbers = search rules;
+      seen = (
+        subst (λ (x : List Entry × List Entry). IsPrefix x.0 x.1)
+            (λ i. ((c.seat.view_is i).seen, now i)) a.0,
+        subst (λ (x : List Entry × List Entry). IsPrefix x.0 x.1)
+            (λ i. ((c.other.view_is i).seen, now i)) b.0,
+      );
+      once = subst (λ (x : List Entry × List Entry). IsPermutation x.0 x.1)
+          (λ i. (left i, right i)) perm;
+      own = (
+        subst (λ (x : List Entry × List Entry × List ℕ). calls_under x.2 x.1 ≡ calls_under x.2 x.0)
+            (λ i. ((c.seat.view_is i).seen, now i, (c.seat.view_is i).numbers)) a.1,
+        subst (λ (x : List Entry × List Entry × List ℕ). calls_under x.2 x.1 ≡ calls_under x.2 x.0)
+            (λ i. ((c.other.view_is i).seen, now i, (c.other.view_is i).numbers)) b.1,
+      );
+    }
