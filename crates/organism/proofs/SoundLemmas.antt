@@ -61,14 +61,18 @@ pub record IsAsked (rules : RuleNumbers) (o : OrganismState) (ask : DivideAsk) :
   pub question : ask ≡ divide_question o.machine
   pub viable : IsViable ask (length o.genome) rules
 
--- what one step has made of an organism, before the renewal
-pub record Told (rules : RuleNumbers) (o : OrganismState) (told : OrganismState × Outcome) : Type 0
-  where
-    pub sound : IsSoundOrganism told.0
-    pub genome : told.0.genome ≡ o.genome
-    pub inputs : told.0.inputs ≡ o.inputs
-    pub age : told.0.age ≡ o.age
-    pub asked : OnViable told.1 (IsAsked rules told.0)
+-- what one step has made of an organism with these values, before the renewal
+pub record ToldWith (rules : RuleNumbers) (old_genome : List Letter) (old_inputs : List ℕ)
+    (old_age : ℕ) (told : OrganismState × Outcome) : Type 0 where
+  pub sound : IsSoundOrganism told.0
+  pub genome : told.0.genome ≡ old_genome
+  pub inputs : told.0.inputs ≡ old_inputs
+  pub age : told.0.age ≡ old_age
+  pub asked : OnViable told.1 (IsAsked rules told.0)
+
+-- what one step has made of this organism
+abbrev pub Told : RuleNumbers → OrganismState → OrganismState × Outcome → Type 0
+Told rules o told = ToldWith rules o.genome o.inputs o.age told
 
 -- nothing that is viable was told
 plain : (rules : RuleNumbers) (o : OrganismState) → IsSoundOrganism o
@@ -108,14 +112,7 @@ put_out rules o output before h =
       some_merit = h.some_merit;
       merit = h.merit;
     } in
-    let told = done rules next (newly_done o output) sound in
-    record {
-      sound = told.sound;
-      genome = told.genome;
-      inputs = told.inputs;
-      age = told.age;
-      asked = told.asked;
-    }
+    done rules next (newly_done o output) sound
 
 -- a question that the rules find viable
 judged : (P : DivideAsk → Type 0) (v : Verdict) (ask : DivideAsk) → (v ≡ verdict.Viable → P ask)
@@ -171,15 +168,8 @@ stepped laws rules are o copy h =
       some_merit = h.some_merit;
       merit = h.merit;
     } in
-    let told = followed laws rules are (older o machine) (step o.machine (next_input o) copy).1
-    (omega (arith, h.organism.read)) (laws.asks o.machine (next_input o) copy) sound in
-    record {
-      sound = told.sound;
-      genome = told.genome;
-      inputs = told.inputs;
-      age = told.age;
-      asked = told.asked;
-    }
+    followed laws rules are (older o machine) (step o.machine (next_input o) copy).1
+    (omega (arith, h.organism.read)) (laws.asks o.machine (next_input o) copy) sound
 
 -- the numbers of a viable divide
 pub record IsWithin (rules : RuleNumbers) (o : OrganismState) (ask : DivideAsk) : Type 0 where

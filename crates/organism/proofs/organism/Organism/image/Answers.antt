@@ -3,6 +3,7 @@ use Rattle.instruction_set.specs.declared.letter.Letter.{Letter}
 use Rattle.genome.specs.Genome.{letters}
 use Rattle.virtual_cpu.specs.Machine.{Machine}
 use Rattle.organism.specs.OrganismState.{OrganismState}
+use Rattle.organism.specs.View.{organism_view}
 use Rattle.organism.proofs.ImageLemmas.{machine-again}
 use Rattle.organism.proofs.organism.Organism.image.Goals as goal
 
@@ -17,15 +18,7 @@ returns-clause-organism c =
     ap length same ∙ sym c.self.invariant.birth_length in
     let machine = machine-again c.images_are_whole.ensures old.machine c.in_ok-cpu.cpu _ _
     c.in_ok-cpu.ensures.machine c.in_ok-cpu.ensures.image birth_length limit in
-    let of : List Letter → Machine → OrganismState = λ genome machine. record {
-      genome = genome;
-      inputs = old.inputs;
-      merit = old.merit;
-      credited = old.credited;
-      age = old.age;
-      read = old.read;
-      gestation = old.gestation;
-      machine = machine;
-    } in
+    let of : List Letter → Machine → OrganismState =
+    λ genome machine. record (organism_view old) { genome = genome; machine = machine } in
     ap (of (letters c.in_ok-genome.genome.value)) machine
     ∙ ap (λ (genome : List Letter). of genome old.machine) same ∙ c.self.view_is
