@@ -42,13 +42,17 @@ ids_stay config steps from (slot ∷ cells) (l ∷ lives) are =
     let rest = ids_stay config steps (from + 1) cells lives are.1 in
     ap (λ s. s ∷ ids_of (left_by lives)) first ∙ ap (λ (r : List (Option ℕ)). id_of slot ∷ r) rest
 
--- who stood in a cell before
-pub record WasThere (cells : List (Option Occupant)) (cell : ℕ) (o : Occupant) : Type 0 where
+-- who stood in a cell before, of which this is known
+pub record WasIn (slot : Option (Option Occupant)) (o : Occupant) : Type 0 where
   pub who : Occupant
-  pub stood : Stands cells cell who
+  pub stood : slot ≡ Some (Some who)
   pub id : who.id ≡ o.id
   pub genome : who.organism.genome ≡ o.organism.genome
   pub sound : IsSoundOrganism o.organism
+
+-- who stood in one of these cells before
+abbrev pub WasThere : List (Option Occupant) → ℕ → Occupant → Type 0
+WasThere cells cell o = WasIn (slice_get cells cell) o
 
 -- who stands in the first cell after its life stood there before
 slot_was : (config : ConfigValues) (steps : ℕ) (slot : Option Occupant) (l : CellLife)
@@ -76,14 +80,7 @@ was_there config steps from (slot ∷ cells) [] are cell o h = absurd are
 was_there config steps from (slot ∷ cells) (l ∷ lives) are zero o h =
     let e : l.occupant ≡ Some o = cc in slot_was config (steps from) slot l cells o are.0 e
 was_there config steps from (slot ∷ cells) (l ∷ lives) are (suc cell) o h =
-    let there = was_there config steps (from + 1) cells lives are.1 cell o h in
-    record {
-      who = there.who;
-      stood = there.stood;
-      id = there.id;
-      genome = there.genome;
-      sound = there.sound;
-    }
+    was_there config steps (from + 1) cells lives are.1 cell o h
 
 -- lives leave the cells their ids and genomes
 pub folk_kept : (config : ConfigValues) (steps : ℕ → ℕ) (from : ℕ) (cells : List (Option Occupant))
