@@ -16,57 +16,34 @@ use Rattle.world_rules.specs.Settings.{first_rates, rates_after, rates_after_wha
 use Rattle.saved_worlds.specs.SavedState.{head_at}
 use Rattle.saved_worlds.specs.ValidState.{AreRates, IsHead}
 
+-- six rates, each in range
+six_fit : (rates : RateNumbers) → rates.copy ≤ 1000000 → rates.insert ≤ 1000000
+    → rates.delete ≤ 1000000 → rates.site_point ≤ 1000000 → rates.site_insert ≤ 1000000
+    → rates.site_delete ≤ 1000000 → AreRates rates
+six_fit rates copy insert delete site_point site_insert site_delete = record {
+  copy = copy;
+  insert = insert;
+  delete = delete;
+  site_point = site_point;
+  site_insert = site_insert;
+  site_delete = site_delete;
+}
+
 -- another value of one rate
 with_fit : (rates : RateNumbers) (name : RateName) (ppm : ℕ) → AreRates rates → ppm ≤ 1000000
     → AreRates (with_rate rates name ppm)
-with_fit rates Copy ppm are low = record {
-  copy = low;
-  insert = are.insert;
-  delete = are.delete;
-  site_point = are.site_point;
-  site_insert = are.site_insert;
-  site_delete = are.site_delete;
-}
-with_fit rates Insert ppm are low = record {
-  copy = are.copy;
-  insert = low;
-  delete = are.delete;
-  site_point = are.site_point;
-  site_insert = are.site_insert;
-  site_delete = are.site_delete;
-}
-with_fit rates Delete ppm are low = record {
-  copy = are.copy;
-  insert = are.insert;
-  delete = low;
-  site_point = are.site_point;
-  site_insert = are.site_insert;
-  site_delete = are.site_delete;
-}
-with_fit rates SitePoint ppm are low = record {
-  copy = are.copy;
-  insert = are.insert;
-  delete = are.delete;
-  site_point = low;
-  site_insert = are.site_insert;
-  site_delete = are.site_delete;
-}
-with_fit rates SiteInsert ppm are low = record {
-  copy = are.copy;
-  insert = are.insert;
-  delete = are.delete;
-  site_point = are.site_point;
-  site_insert = low;
-  site_delete = are.site_delete;
-}
-with_fit rates SiteDelete ppm are low = record {
-  copy = are.copy;
-  insert = are.insert;
-  delete = are.delete;
-  site_point = are.site_point;
-  site_insert = are.site_insert;
-  site_delete = low;
-}
+with_fit rates Copy ppm are low =
+    six_fit _ low are.insert are.delete are.site_point are.site_insert are.site_delete
+with_fit rates Insert ppm are low =
+    six_fit _ are.copy low are.delete are.site_point are.site_insert are.site_delete
+with_fit rates Delete ppm are low =
+    six_fit _ are.copy are.insert low are.site_point are.site_insert are.site_delete
+with_fit rates SitePoint ppm are low =
+    six_fit _ are.copy are.insert are.delete low are.site_insert are.site_delete
+with_fit rates SiteInsert ppm are low =
+    six_fit _ are.copy are.insert are.delete are.site_point low are.site_delete
+with_fit rates SiteDelete ppm are low =
+    six_fit _ are.copy are.insert are.delete are.site_point are.site_insert low
 
 -- what an event does
 after_fit : (frame : Frame) (rates : RateNumbers) (what : WhatValue) → AreRates rates
