@@ -1,5 +1,6 @@
 -- What the parser makes of the words of a command is what they tell by its form.
-use Rattle.std.proofs.Common.{◌≡◌, ◌∙◌, ◌<◌, refl, sym, subst, ap, List, [], ◌∷◌, length, drop, Option, Some, None, Result, MatchResult, option_and_then}
+use Rattle.std.proofs.Common.{◌≡◌, ◌∙◌, ◌<◌, refl, sym, subst, ap, List, [], ◌∷◌, length, drop, Option, Some, None, Result, MatchResult, option_and_then, String, map, string_bytes}
+use Rattle.std.proofs.lemmas.List.{length-map}
 use Rattle.std.specs.Option.{ok_or}
 use Rattle.clap.specs.Walk.{Row, Text}
 use Rattle.clap.specs.Simple.{App, matches_of}
@@ -9,7 +10,7 @@ use Rattle.clap.specs.declared.error.kind.ErrorKind.{ErrorKind}
 use Rattle.command_line.specs.Parsers.{app_by, told_in}
 use Rattle.command_line.specs.Reading.{IsReadableRow, NoMinus}
 use Rattle.command_line.specs.Rows.{CommandRow, told_by_row}
-use Rattle.command_line.specs.Refusals.{IsRefusedBy, Refuses}
+use Rattle.command_line.specs.Refusals.{IsRefusedBy, IsTold, Refuses}
 use Rattle.command_line.specs.declared.refused.Refused.{Refused}
 use Rattle.command_line.specs.declared.refused.Refused.TheVariants.{Memory, BadWords}
 use Rattle.command_line.proofs.FormLaw.{form_fits, form_stops}
@@ -29,16 +30,18 @@ told_or_bad (Some t) = refl
 
 module _ {T : Type 0} {row : CommandRow T} (reads : IsReadableRow row) (no_minus : NoMinus) where
   -- words that the parser refuses
-  pub stops : (words : List Text) (a : App) (r : Refused) → 0 < length words
-      → a ≡ app_by row.name row.form row.texts → IsRefusedBy (fault_of a words) r
-      → Refuses (told_by_row row (drop 1 words)) r
-  stops words a r some is refused =
+  pub stops : {A : Type 0} (texts : List (String A)) (a : App) (r : Refused) → 0 < length texts
+      → a ≡ app_by row.name row.form row.texts
+      → IsRefusedBy (fault_of a (map string_bytes texts)) r
+      → Refuses (told_by_row row (drop 1 (map string_bytes texts))) r
+  stops texts a r some is refused =
+      let words : List Text = map string_bytes texts in
       let here : IsRefusedBy (fault_of (app_by row.name row.form row.texts) words) r =
       subst (λ (b : App). IsRefusedBy (fault_of b words) r) is refused in
       refuses_fault (told_by_row row (drop 1 words))
       (fault_of (app_by row.name row.form row.texts) words) r here
       (form_stops row.name row.form row.texts reads.distinct T row.take
-      (reads.refuses no_minus) words some)
+      (reads.refuses no_minus) words (rw (length-map texts string_bytes) some))
 
   -- what is taken of the rows, where the parser finds no fault, is what the words tell the command
   fits : (words : List Text) (a : App) (rows : List Row) → 0 < length words
@@ -52,14 +55,13 @@ module _ {T : Type 0} {row : CommandRow T} (reads : IsReadableRow row) (no_minus
       (ap (λ b. fault_of b words) (sym is) ∙ free)
 
   -- words that the parser takes
-  pub ends : (words : List Text) (a : App) (rows : List Row) (taken : Option T)
-      (result : Result T Refused) → 0 < length words → a ≡ app_by row.name row.form row.texts
-      → fault_of a words ≡ [] → rows ≡ matches_of a words
+  pub ends : {A : Type 0} (texts : List (String A)) (a : App) (rows : List Row) (taken : Option T)
+      (result : Result T Refused) → 0 < length texts → a ≡ app_by row.name row.form row.texts
+      → fault_of a (map string_bytes texts) ≡ [] → rows ≡ matches_of a (map string_bytes texts)
       → taken ≡ option_and_then row.take (told_in row.form row.texts rows)
-      → result ≡ ok_or taken BadWords
-      → MatchResult result (λ t. told_by_row row (drop 1 words) ≡ Some t)
-      (Refuses (told_by_row row (drop 1 words)))
-  ends words a rows taken result some is free same from gives =
+      → result ≡ ok_or taken BadWords → IsTold (told_by_row row) texts result
+  ends texts a rows taken result some is free same from gives =
+      let words : List Text = map string_bytes texts in
       let told : taken ≡ told_by_row row (drop 1 words) =
-      from ∙ fits words a rows some is free same in
+      from ∙ fits words a rows (rw (length-map texts string_bytes) some) is free same in
       rw (gives, told) (told_or_bad (told_by_row row (drop 1 words)))

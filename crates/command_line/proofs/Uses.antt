@@ -34,24 +34,11 @@ value_rule id long index defaults required = record {
 
 -- a flag
 abbrev pub flag_filled : Text → Rule
-flag_filled id = record {
-  id = id;
-  long = Some id;
-  aliases = [];
-  short = None;
-  short_aliases = [];
-  index = None;
+flag_filled id = record (value_rule id (Some id) None (codes "false" ∷ []) false) {
   action = Some SetTrue;
   range = Some (record { start_inclusive = 0; end_inclusive = 0 });
-  value_names = 0;
-  defaults = codes "false" ∷ [];
   missing = codes "true" ∷ [];
-  trailing_var_arg = false;
   parser = Some vp.Bool;
-  ignore_case = false;
-  required = false;
-  is_simple = true;
-  is_free = true;
 }
 
 -- one use of an argument, or its default

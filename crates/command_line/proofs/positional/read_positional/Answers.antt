@@ -1,5 +1,4 @@
-use Rattle.std.proofs.Common.{◌∙◌, ◌<◌, ◌≤◌, ap, length, map, string_bytes}
-use Rattle.std.proofs.lemmas.List.{length-map}
+use Rattle.std.proofs.Common.{◌∙◌, ◌≤◌, ap}
 use Rattle.std.proofs.lemmas.Result.{err_from_is_err_and}
 use Rattle.clap.specs.Words.{app_of, found_of, is_simple, is_simple_and_free, rows_of}
 use Rattle.command_line.specs.declared.refused.Refused.TheVariants.{BadWords}
@@ -15,21 +14,17 @@ matches-requires-clause-free c = ap is_simple_and_free c.in-Ok.ensures ∙ c.req
 
 pub returns-in_err-matches-clause-told : goal.returns-in_err-matches-clause-told
 returns-in_err-matches-clause-told c =
-    let words = map string_bytes c.args.words.now in
-    let some : 0 < length words = rw (length-map c.args.words.now string_bytes) c.requires.some in
     let p = err_from_is_err_and c.from_residual.result c.from_residual.ensures.1 in
-    rw (p.1, p.2) (stops c.requires.reads c.one_spelling.ensures.no_minus words
-    (app_of c.in-Ok.command) c.in_err-matches.field-0.0 some c.in-Ok.ensures
-    c.in_err-matches.ensures)
+    rw (p.1, p.2) (stops c.requires.reads c.one_spelling.ensures.no_minus
+    c.args.words.now (app_of c.in-Ok.command) c.in_err-matches.field-0.0 c.requires.some
+    c.in-Ok.ensures c.in_err-matches.ensures)
 
 pub returns-clause-told : goal.returns-clause-told
 returns-clause-told c =
-    let words = map string_bytes c.args.words.now in
-    let some : 0 < length words = rw (length-map c.args.words.now string_bytes) c.requires.some in
-    ends c.requires.reads c.one_spelling.ensures.no_minus words (app_of c.in-Ok.command)
-    (rows_of (found_of c.in_ok-matches.matches)) c.taken.result c.ok_or.result some
-    c.in-Ok.ensures c.in_ok-matches.ensures.0 c.in_ok-matches.ensures.1 c.taken.ensures.told
-    c.ok_or.ensures.value
+    ends c.requires.reads c.one_spelling.ensures.no_minus c.args.words.now
+    (app_of c.in-Ok.command) (rows_of (found_of c.in_ok-matches.matches)) c.taken.result
+    c.ok_or.result c.requires.some c.in-Ok.ensures c.in_ok-matches.ensures.0
+    c.in_ok-matches.ensures.1 c.taken.ensures.told c.ok_or.ensures.value
 
 pub returns-clause-bound : goal.returns-clause-bound
 returns-clause-bound c =

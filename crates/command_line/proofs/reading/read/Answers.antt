@@ -1,5 +1,4 @@
-use Rattle.std.proofs.Common.{◌∙◌, ◌<◌, ap, length, map, string_bytes}
-use Rattle.std.proofs.lemmas.List.{length-map}
+use Rattle.std.proofs.Common.{◌∙◌, ap}
 use Rattle.std.proofs.lemmas.Result.{err_from_is_err_and}
 use Rattle.clap.specs.Words.{app_of, found_of, is_simple, is_simple_and_free, rows_of}
 use Rattle.command_line.proofs.ParserEnds.{ends, stops}
@@ -13,18 +12,14 @@ matches-requires-clause-free g c = ap is_simple_and_free c.in-Ok.ensures ∙ c.r
 
 pub returns-in_err-matches : goal.returns-in_err-matches
 returns-in_err-matches g c =
-    let words = map string_bytes c.args.words.now in
-    let some : 0 < length words = rw (length-map c.args.words.now string_bytes) c.requires.some in
     let p = err_from_is_err_and c.from_residual.result c.from_residual.ensures.1 in
-    rw (p.1, p.2) (stops c.requires.reads c.one_spelling.ensures.no_minus words
-    (app_of c.in-Ok.command) c.in_err-matches.field-0.0 some c.in-Ok.ensures
-    c.in_err-matches.ensures)
+    rw (p.1, p.2) (stops c.requires.reads c.one_spelling.ensures.no_minus
+    c.args.words.now (app_of c.in-Ok.command) c.in_err-matches.field-0.0 c.requires.some
+    c.in-Ok.ensures c.in_err-matches.ensures)
 
 pub returns : goal.returns
 returns g c =
-    let words = map string_bytes c.args.words.now in
-    let some : 0 < length words = rw (length-map c.args.words.now string_bytes) c.requires.some in
-    ends c.requires.reads c.one_spelling.ensures.no_minus words (app_of c.in-Ok.command)
-    (rows_of (found_of c.in_ok-matches.matches)) c.taken.result c.ok_or.result some
-    c.in-Ok.ensures c.in_ok-matches.ensures.0 c.in_ok-matches.ensures.1 c.taken.ensures
-    c.ok_or.ensures.value
+    ends c.requires.reads c.one_spelling.ensures.no_minus c.args.words.now
+    (app_of c.in-Ok.command) (rows_of (found_of c.in_ok-matches.matches)) c.taken.result
+    c.ok_or.result c.requires.some c.in-Ok.ensures c.in_ok-matches.ensures.0
+    c.in_ok-matches.ensures.1 c.taken.ensures c.ok_or.ensures.value
