@@ -1,7 +1,7 @@
 -- The question of a divide is the machine's.
 use Rattle.std.proofs.Common.{◌≡◌, refl, ℤ, Bool, true, false, Option}
 use Rattle.instruction_set.specs.declared.letter.Letter.{Letter}
-use Rattle.instruction_set.specs.declared.letter.Letter.TheVariants.{NopA, NopB, NopC, IfNEqu, IfLess, IfLabel, MovHead, JmpHead, GetHead, SetFlow, ShiftR, ShiftL, Inc, Dec, Push, Pop, SwapStk, Swap, Add, Sub, Nand, HCopy, HAlloc, HDivide, Io, HSearch}
+use Rattle.instruction_set.specs.declared.letter.Letter.TheVariants.{MovHead, HAlloc, HDivide}
 use Rattle.virtual_cpu.specs.declared.heads.Head.{Head}
 use Rattle.virtual_cpu.specs.declared.heads.Head.TheVariants.{Ip, Read, Write}
 use Rattle.virtual_cpu.specs.Machine.{Machine, with_ip_advanced}
@@ -34,26 +34,4 @@ pub effect-asks : (letter : Letter) (m : Machine) (input : ℤ) (copy : Option L
 effect-asks HDivide m input copy = asked m
 effect-asks MovHead m input copy = moving-asks (head m) (after_mov_head m)
 effect-asks HAlloc m input copy = allocating-asks (can_allocate m) m
-effect-asks NopA m input copy = tt
-effect-asks NopB m input copy = tt
-effect-asks NopC m input copy = tt
-effect-asks IfNEqu m input copy = tt
-effect-asks IfLess m input copy = tt
-effect-asks IfLabel m input copy = tt
-effect-asks JmpHead m input copy = tt
-effect-asks GetHead m input copy = tt
-effect-asks SetFlow m input copy = tt
-effect-asks ShiftR m input copy = tt
-effect-asks ShiftL m input copy = tt
-effect-asks Inc m input copy = tt
-effect-asks Dec m input copy = tt
-effect-asks Push m input copy = tt
-effect-asks Pop m input copy = tt
-effect-asks SwapStk m input copy = tt
-effect-asks Swap m input copy = tt
-effect-asks Add m input copy = tt
-effect-asks Sub m input copy = tt
-effect-asks Nand m input copy = tt
-effect-asks HCopy m input copy = tt
-effect-asks Io m input copy = tt
-effect-asks HSearch m input copy = tt
+effect-asks _ m input copy = tt
