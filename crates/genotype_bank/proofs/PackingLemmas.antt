@@ -7,7 +7,7 @@ use Rattle.std.proofs.lemmas.Grind.{flat_map-append}
 use Rattle.std.proofs.lemmas.List.Sums.{fold_more}
 use Rattle.std.proofs.lemmas.Nat.{div_below, div-mul-add, mod-mul-add}
 use Rattle.instruction_set.specs.declared.letter.Letter.{Letter}
-use Rattle.instruction_set.specs.declared.letter.Letter.TheVariants.{NopA, NopB, NopC, IfNEqu, IfLess, IfLabel, MovHead, JmpHead, GetHead, SetFlow, ShiftR, ShiftL, Inc, Dec, Push, Pop, SwapStk, Swap, Add, Sub, Nand, HCopy, HAlloc, HDivide, Io, HSearch}
+use Rattle.instruction_set.specs.declared.letter.Letter.TheVariants.{NopA}
 use Rattle.instruction_set.specs.Letter.{index_of, letter_at}
 use Rattle.genotype_bank.specs.Packing.{Packing, digit_of, full_word, letters_within, packed, packing, packing_of, unpacked, with_letter, words_in}
 
@@ -20,31 +20,7 @@ record HasRow (letter : Letter) : Type 0 where
 has_row : (letter : Letter) → HasRow letter
 unfolding letter_at
 has_row NopA = record { row = omega arith; found = refl }
-has_row NopB = record { row = omega arith; found = refl }
-has_row NopC = record { row = omega arith; found = refl }
-has_row IfNEqu = record { row = omega arith; found = refl }
-has_row IfLess = record { row = omega arith; found = refl }
-has_row IfLabel = record { row = omega arith; found = refl }
-has_row MovHead = record { row = omega arith; found = refl }
-has_row JmpHead = record { row = omega arith; found = refl }
-has_row GetHead = record { row = omega arith; found = refl }
-has_row SetFlow = record { row = omega arith; found = refl }
-has_row ShiftR = record { row = omega arith; found = refl }
-has_row ShiftL = record { row = omega arith; found = refl }
-has_row Inc = record { row = omega arith; found = refl }
-has_row Dec = record { row = omega arith; found = refl }
-has_row Push = record { row = omega arith; found = refl }
-has_row Pop = record { row = omega arith; found = refl }
-has_row SwapStk = record { row = omega arith; found = refl }
-has_row Swap = record { row = omega arith; found = refl }
-has_row Add = record { row = omega arith; found = refl }
-has_row Sub = record { row = omega arith; found = refl }
-has_row Nand = record { row = omega arith; found = refl }
-has_row HCopy = record { row = omega arith; found = refl }
-has_row HAlloc = record { row = omega arith; found = refl }
-has_row HDivide = record { row = omega arith; found = refl }
-has_row Io = record { row = omega arith; found = refl }
-has_row HSearch = record { row = omega arith; found = refl }
+has_row _ = record { row = omega arith; found = refl }
 
 -- the lowest digit is the last letter
 letters-step : (most word : ℕ) → letters_within (suc most) word ≡ cond (word == 0) []
