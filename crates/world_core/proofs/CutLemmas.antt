@@ -54,6 +54,14 @@ pub record HaveCut (seat : SeatValue) (cells : List (Option OrganismState)) (sli
 pub jobs-push : (jobs : List Job) (job : Job) → reverse (jobs ++ job ∷ []) ≡ job ∷ reverse jobs
 jobs-push jobs job = reverse-append jobs (job ∷ [])
 
+-- the two parts of a list that was cut, and what comes behind them
+put_back : {A : Type 0} (first : ℕ) (all front back behind : List A) → front ≡ take first all
+    → back ≡ drop first all → front ++ (back ++ behind) ≡ all ++ behind
+put_back first all front back behind front_is back_is =
+    (λ i. front_is i ++ (back_is i ++ behind))
+    ∙ sym (append_assoc (take first all) (drop first all) behind)
+    ∙ ap (λ l. l ++ behind) (take-append-drop first all)
+
 module _ (seat : SeatValue) (cells : List (Option OrganismState)) (slices : List ℕ)
     (jobs : List Job) (left : List (Option OrganismState)) (steps : List ℕ) (now : SeatValue)
     (cut : HaveCut seat cells slices jobs left steps now) (job : Job) where
@@ -80,16 +88,10 @@ module _ (seat : SeatValue) (cells : List (Option OrganismState)) (slices : List
           subst (λ n. LieSideBySide n (reverse jobs)) end cut.beside,
         );
         cells_are = ap (λ all. front ++ cells_in all) ordered
-            ∙ (λ i. front_is i ++ (cells_is i ++ cells_in (reverse jobs)))
-            ∙ sym (append_assoc (take job.first left) (drop job.first left)
-            (cells_in (reverse jobs)))
-            ∙ ap (λ all. all ++ cells_in (reverse jobs)) (take-append-drop job.first left)
+            ∙ put_back job.first left front job.cells (cells_in (reverse jobs)) front_is cells_is
             ∙ cut.cells_are;
         slices_are = ap (λ all. fewer ++ slices_in all) ordered
-            ∙ (λ i. fewer_is i ++ (slices_is i ++ slices_in (reverse jobs)))
-            ∙ sym (append_assoc (take job.first steps) (drop job.first steps)
-            (slices_in (reverse jobs)))
-            ∙ ap (λ all. all ++ slices_in (reverse jobs)) (take-append-drop job.first steps)
+            ∙ put_back job.first steps fewer job.slices (slices_in (reverse jobs)) fewer_is slices_is
             ∙ cut.slices_are;
         long = ap length fewer_is ∙ length-take-le job.first steps (omega (arith, within, cut.long))
             ∙ sym size;

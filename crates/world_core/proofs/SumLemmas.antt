@@ -1,5 +1,5 @@
 -- The sums over the cells, as one of them changes.
-use Rattle.std.proofs.Common.{◌≡◌, ◌∙◌, refl, sym, ap, ℕ, ◌+◌, ◌-◌, ◌*◌, ◌<◌, ◌≤◌, ◌^◌, Bool, true, false, cond, List, [], ◌∷◌, length, map, set, get_or, Option, Some, None, replicate, arith}
+use Rattle.std.proofs.Common.{◌≡◌, ◌∙◌, refl, sym, ap, ℕ, ◌+◌, ◌-◌, ◌*◌, ◌<◌, ◌≤◌, ◌^◌, Bool, true, false, cond, List, [], ◌∷◌, length, map, set, get_or, Option, Some, None, replicate, subst, get_or-set_same, lt-length-set, set-set, arith}
 use Rattle.std.specs.Prelude.{slice_index}
 use Rattle.std.specs.Int.{from_bool}
 use Rattle.std.specs.List.{All, count_by}
@@ -10,7 +10,7 @@ use Rattle.std.proofs.lemmas.List.Sums.{sum_by-set, sum_by-le, get_or-le-sum_by,
 use Rattle.census.specs.Changes.{AreCounted, CanRenew, tasks_with, tasks_without}
 use Rattle.census.specs.Counts.{GenotypeCount}
 use Rattle.logic_tasks.specs.declared.task.Task.{Task}
-use Rattle.logic_tasks.specs.declared.task.Task.TheVariants.{Not, Nand, And, Orn, Or, Andn, Nor, Xor, Equ}
+use Rattle.logic_tasks.specs.declared.task.Task.TheVariants.{Not}
 use Rattle.logic_tasks.specs.LogicTasks.{all_tasks, task_place}
 use Rattle.logic_tasks.specs.TaskSet.{has_task}
 use Rattle.world_rules.specs.World.{Occupant}
@@ -28,14 +28,7 @@ map_alike f g alike (x ∷ xs) =
 pub at_task : (f : Task → ℕ) (task : Task)
     → slice_index (map f all_tasks) (task_place task) ≡ f task
 at_task f Not = refl
-at_task f Nand = refl
-at_task f And = refl
-at_task f Orn = refl
-at_task f Or = refl
-at_task f Andn = refl
-at_task f Nor = refl
-at_task f Xor = refl
-at_task f Equ = refl
+at_task f _ = refl
 
 -- one where the test holds
 abbrev pub one : Bool → ℕ
@@ -187,31 +180,20 @@ AreSummedIn-put cells cell o merit tasks within here fits are =
       ap one (ap (is_credited task) here),
     ))
 
--- an organism has another merit and credited set
+-- an organism has another merit and credited set, as if one went and the other came
 pub AreSummedIn-renewed : (cells : List (Option Occupant)) (cell : ℕ) (o next : Occupant)
     (merit : ℕ) (tasks : List ℕ) → cell < length cells → get_or cells cell None ≡ Some o
     → next.organism.merit ≤ 2 ^ 38 → AreSummedIn cells merit tasks
     → AreSummedIn (set cells cell (Some next)) (merit - o.organism.merit + next.organism.merit)
     (tasks_with (tasks_without tasks o.organism.credited) next.organism.credited)
 AreSummedIn-renewed cells cell o next merit tasks within here fits are =
-    let fewer : Task → ℕ =
-    λ task. slice_index tasks (task_place task) - from_bool (has_task o.organism.credited task) in
-    AreSummedIn-set cells cell (Some next) merit (merit - o.organism.merit + next.organism.merit)
-    tasks (tasks_with (tasks_without tasks o.organism.credited) next.organism.credited)
-    (λ task. slice_index (tasks_without tasks o.organism.credited) (task_place task) + from_bool
-    (has_task next.organism.credited task)) within fits are
-    (omega (arith, merit-counted cells cell o merit tasks within here are, ap merit_in here)) refl
-    (λ task. (let stands = ap (is_credited task) here in
-    let least = get_or-le-sum_by (λ slot. one (is_credited task slot)) cells cell None within in
-    omega (
-      arith,
-      task_sum cells merit tasks are task,
-      at_task fewer task,
-      from_bool-one (has_task o.organism.credited task),
-      from_bool-one (has_task next.organism.credited task),
-      ap one stands,
-      least,
-    )))
+    subst (λ all. AreSummedIn all (merit - o.organism.merit + next.organism.merit)
+    (tasks_with (tasks_without tasks o.organism.credited) next.organism.credited))
+    (set-set cells cell None (Some next))
+    (AreSummedIn-put (set cells cell None) cell next (merit - o.organism.merit)
+    (tasks_without tasks o.organism.credited) (lt-length-set cells cell None within)
+    (get_or-set_same cells cell None None within) fits
+    (AreSummedIn-removed cells cell o merit tasks within here are))
 
 -- an organism has its merit and credited set as before
 pub AreSummedIn-same : (cells : List (Option Occupant)) (cell : ℕ) (slot : Option Occupant)

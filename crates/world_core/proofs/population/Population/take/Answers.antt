@@ -12,9 +12,8 @@ use Rattle.world_core.proofs.population.Population.take.Goals as goal
 pub remove-requires : goal.remove-requires
 remove-requires c =
     let cells = c.self.inside.cells in
-    let were : cells ≡ c.args.self.now.cells =
-    ap (λ (p : PopulationValue). p.cells) c.self.view_is in
-    let within : c.args.cell < length cells = rw were c.requires in
+    let within : c.args.cell < length cells =
+    rw (ap (λ (p : PopulationValue). p.cells) c.self.view_is) c.requires in
     let who = somebody (get_or cells c.args.cell None) _
     (sym c.standing_at.ensures ∙ c.in-Some.is) in
     let key : c.index-key.result.now ≡ get_or c.self.inside.keys.items c.args.cell 0 =
@@ -28,9 +27,8 @@ remove-requires c =
 pub invariant_of-self : goal.invariant_of-self
 invariant_of-self c =
     let cells = c.self.inside.cells in
-    let were : cells ≡ c.args.self.now.cells =
-    ap (λ (p : PopulationValue). p.cells) c.self.view_is in
-    let within : c.args.cell < length cells = rw were c.requires in
+    let within : c.args.cell < length cells =
+    rw (ap (λ (p : PopulationValue). p.cells) c.self.view_is) c.requires in
     let before = c.self.inside.census in
     elim c.match-standing_at.branch [
       | in-Some w ↦
