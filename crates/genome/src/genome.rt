@@ -68,9 +68,14 @@ impl Genome {
         }
     }
 
-    /// The genome of a vector's letters, which stay where they are.
-    pub(crate) fn from_vec(from: Vec<Letter>) -> Result<Genome, GenomeStop>
-        ensures ok { IfOk result (λ genome. genome_of from.items ≡ Ok (letters genome)) }
+    /// The genome of a vector's letters, which stay where they are. It takes no memory.
+    pub fn from_vec(from: Vec<Letter>) -> Result<Genome, GenomeStop>
+        ensures ok { IfOk result (λ genome. letters genome ≡ from.items) }
+        ensures genome { IfOk result (λ genome. genome_of from.items ≡ Ok (letters genome)) }
+        ensures too_short { (length from.items < shortest_genome) ↔
+            (result ≡ Err (GenomeStop.TooShort (length from.items))) }
+        ensures too_long { (longest_genome < length from.items) ↔
+            (result ≡ Err (GenomeStop.TooLong (length from.items))) }
         ensures refused { IfErr result (λ stop. genome_of from.items ≡ Err stop) }
     {
         check_length(from.len())?;

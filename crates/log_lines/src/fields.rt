@@ -11,7 +11,7 @@ ghost use Rattle.log_lines.specs.Words.{ToChange, pieces_of};
 
 use crate::words::split_at;
 use avida_port::Memory;
-use genome::{GREATEST_LENGTH, Genome, GenomeStop, LEAST_LENGTH};
+use genome::{GREATEST_LENGTH, Genome, LEAST_LENGTH};
 use instruction_set::Letter;
 use mutations::{Base, Change, Changes};
 use numerals::small_number;
@@ -54,19 +54,18 @@ pub fn genome(alloc: Global, word: &[u8]) -> Result<Option<Genome>, Memory>
         ≡ genome_of_word word.now) }
 {
     match genome_letters(alloc, word)? {
-        Some(letters) => genome_from(alloc, &letters),
+        Some(letters) => Ok(genome_from(letters)),
         None => Ok(None),
     }
 }
 
-fn genome_from(alloc: Global, letters: &[Letter]) -> Result<Option<Genome>, Memory>
-    ensures { IfOk result (λ found. option_map genome_spec.letters found
-        ≡ (if is_genome_length (length letters.now) then Some letters.now else None)) }
+fn genome_from(letters: Vec<Letter>) -> Option<Genome>
+    ensures { option_map genome_spec.letters result
+        ≡ (if is_genome_length (length letters.items) then Some letters.items else None) }
 {
-    match Genome::from_letters(alloc, letters) {
-        Ok(genome) => Ok(Some(genome)),
-        Err(GenomeStop::Memory) => Err(Memory),
-        Err(_) => Ok(None),
+    match Genome::from_vec(letters) {
+        Ok(genome) => Some(genome),
+        Err(_) => None,
     }
 }
 

@@ -6,9 +6,9 @@ ghost use Rattle.mutations.specs.Change.{text_after};
 ghost use Rattle.mutations.specs.BirthRecord.{child_of, record_of};
 
 use crate::{ApplyStop, Base, Change, Origin};
-use genome::{GREATEST_LENGTH, Genome, GenomeStop, LEAST_LENGTH};
+use genome::{GREATEST_LENGTH, Genome, LEAST_LENGTH};
 use instruction_set::Letter;
-use std::alloc::Global;
+use std::alloc::{AllocError, Global};
 
 /// The child's genome: the changes are made in turn on the base. The first change that has no
 /// place, or that leaves a length which no genome has, rejects the record and is told by its
@@ -32,16 +32,25 @@ fn changed(alloc: Global, base: &[Letter], changes: &[Change]) -> Result<Genome,
     ensures refused { IfErr result (λ stop. stop ≢ ApplyStop.Memory
         → text_after 1 changes.now base.now ≡ Err stop) }
 {
-    let Ok(mut text) = Vec::from_slice(alloc, base) else {
+    let Ok(mut text) = roomy_copy(alloc, base, changes.len()) else {
         return Err(ApplyStop::Memory);
     };
     for (before, change) in changes.iter().enumerate() {
         change_text(&mut text, *change, before as u64 + 1)?;
     }
-    match Genome::from_letters(alloc, &text) {
+    match Genome::from_vec(text) {
         Ok(child) => Ok(child),
-        Err(_) => Err(ApplyStop::Memory),
+        Err(_) => unreachable!(),
     }
+}
+
+/// The base's letters, with room for so many more: a change makes the text longer by at most one.
+fn roomy_copy(alloc: Global, base: &[Letter], more: usize) -> Result<Vec<Letter>, AllocError>
+    ensures { IfOk result (λ text. text.items ≡ base.now) }
+{
+    let mut text = Vec::with_capacity(alloc, base.len().saturating_add(more))?;
+    text.extend_from_slice(base)?;
+    Ok(text)
 }
 
 /// Makes one change. A rejected change leaves the text.
