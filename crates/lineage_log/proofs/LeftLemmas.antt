@@ -1,12 +1,11 @@
 -- What was given of a log, beside what is left.
-use Rattle.std.proofs.Common.{◌≡◌, ℕ, List, [], ◌∷◌, ◌++◌, Option, Some, Result, Ok, subst, sym, ap, ◌∙◌}
-use Rattle.log_lines.specs.Line.{Line, line_values}
-use Rattle.log_lines.specs.declared.log_line.LogLine.{LogLine}
+use Rattle.std.proofs.Common.{◌≡◌, ℕ, true, List, [], ◌∷◌, ◌++◌, Result, Ok, sym, ap, ◌∙◌}
+use Rattle.log_lines.specs.Line.{Line}
 use Rattle.lineage_log.specs.declared.reason.Reason.{Reason}
 use Rattle.lineage_log.specs.declared.log_reader.LogReader.{LogReader}
 use Rattle.lineage_log.specs.Order.{LogPlace, Before, told, told_all, and_on}
 use Rattle.lineage_log.specs.LogGrammar.{Fault, log_of, pieces_log, with_line}
-use Rattle.lineage_log.specs.LogReading.{GivesNext, IsAtStart, left_of}
+use Rattle.lineage_log.specs.LogReading.{IsAtStart, TellsNext, left_of}
 use Rattle.lineage_log.specs.LogValues.{with_front}
 use Rattle.lineage_log.specs.Places.{place_of}
 use Rattle.lineage_log.proofs.LogLaws.{cut, went_on, place_is}
@@ -60,12 +59,10 @@ given_more read before after left behind line given is next = record {
   told = told_more Before before after given.front line given.told next;
 }
 
--- one line more was given
-pub given_line : (read : Result (List Line) Fault) (before after : LogReader)
-    (found : Option LogLine) (line : LogLine)
-    → HasGiven read (place_of before.place) (left_of before) → GivesNext (Ok found) before after
-    → found ≡ Some line → HasGiven read (place_of after.place) (left_of after)
-given_line read before after found line given gives is =
-    let one = subst (λ (o : Option LogLine). GivesNext (Ok o) before after) is gives in
+-- one line more was given, where it was told
+pub given_told : (read : Result (List Line) Fault) (before after : LogReader)
+    → HasGiven read (place_of before.place) (left_of before) → TellsNext (Ok true) before after
+    → HasGiven read (place_of after.place) (left_of after)
+given_told read before after given tells =
     given_more read (place_of before.place) (place_of after.place) (left_of before) (left_of after)
-    (line_values line) given one.left one.told
+    tells.0 given tells.1.left tells.1.told

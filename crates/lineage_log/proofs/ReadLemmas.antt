@@ -12,6 +12,7 @@ use Rattle.lineage_log.specs.declared.refusal.Refusal.TheVariants.{Memory, Fault
 use Rattle.lineage_log.specs.declared.log_stop.LogStop.{LogStop}
 use Rattle.lineage_log.specs.declared.log_stop.LogStop.TheVariants as wanting
 use Rattle.lineage_log.specs.Order.{LogPlace, told}
+use Rattle.lineage_log.specs.LogReading.{TellsPiece}
 use Rattle.lineage_log.specs.Places.{TellsPlace}
 use Rattle.lineage_log.specs.LogGrammar.{Fault, BadLine, OutOfOrder, with_line, one_piece, after_told, pieces_log, log_of, lines_text, Reads, IsGoodLog}
 use Rattle.lineage_log.specs.LogValues.{stop_of, answer_of, with_front}
@@ -87,6 +88,16 @@ module _ (number : ℕ) (place : LogPlace) (piece rest : List ℕ) where
       ∙ ap (λ (o : Option Line). one_piece number place o others) is
       ∙ ap (λ (t : Result LogPlace Reason). after_told number one t others) good
       ∙ ap (λ (n : ℕ). with_line one (pieces_log n next (cut rest))) (sym more)
+
+  -- a piece that was not taken is the fault, for the same reason
+  pub refused_piece : (refusal : Refusal) (stop : LogStop) (after : LogPlace)
+      → stop ≡ stop_of number refusal → (stop ≢ wanting.Memory)
+      → TellsPiece (Err refusal) (line_of piece) place after
+      → answer_of (pieces_log number place (piece ∷ cut rest)) ≡ Err stop
+  refused_piece Memory stop after is other tells = absurd (other is)
+  refused_piece (Faulty reason) stop after is other tells =
+      ap answer_of (bad_order tells.0 reason tells.1 tells.2)
+      ∙ ap (λ (s : LogStop). Err s) (sym is)
 
 -- what is read of bytes is a good log that has them as its text
 abbrev pub ReadsExactly : Type 0

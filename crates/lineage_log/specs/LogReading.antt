@@ -1,11 +1,13 @@
 -- Reading a log line by line (docs/FORMATS.md, "The log").
-use Rattle.std.specs.Prelude.{◌≡◌, ◌≢◌, ℕ, ◌<◌, List, [], length, Option, Some, None, Result, Ok, Err, ◌==◌}
+use Rattle.std.specs.Prelude.{◌≡◌, ◌≢◌, ℕ, ◌<◌, List, [], length, Option, Some, None, Result, Ok, Err, Bool, true, false, ⊤, ◌==◌}
 use Rattle.std.specs.List.{slice_split}
 use Rattle.log_lines.specs.Line.{Line, line_values}
 use Rattle.log_lines.specs.declared.log_line.LogLine.{LogLine}
 use Rattle.lineage_log.specs.declared.log_stop.LogStop.{LogStop}
 use Rattle.lineage_log.specs.declared.log_stop.LogStop.TheVariants as stop
 use Rattle.lineage_log.specs.declared.log_reader.LogReader.{LogReader}
+use Rattle.lineage_log.specs.declared.refusal.Refusal.{Refusal}
+use Rattle.lineage_log.specs.declared.refusal.Refusal.TheVariants.{Memory, Faulty}
 use Rattle.lineage_log.specs.Order.{LogPlace, Before, told}
 use Rattle.lineage_log.specs.LogGrammar.{Fault, pieces_log, with_line}
 use Rattle.lineage_log.specs.LogValues.{answer_of}
@@ -41,6 +43,23 @@ abbrev pub GivesNext : Result (Option LogLine) LogStop → LogReader → LogRead
 GivesNext (Ok (Some line)) before after = ReadsLine (line_values line) before after
 GivesNext (Ok None) before after = IsRead before after
 GivesNext (Err e) before after = e ≢ stop.Memory → answer_of (left_of before) ≡ Err e
+
+-- what a piece did: its line is told, and this place is reached; or it is no line; or why its line
+-- is faulty; running out of memory says nothing of it
+abbrev pub TellsPiece : Result Bool Refusal → Option Line → LogPlace → LogPlace → Type 0
+TellsPiece (Ok true) piece before after =
+    (line : Line) × (piece ≡ Some line) × (told before line ≡ Ok after)
+TellsPiece (Ok false) piece _ _ = piece ≡ None
+TellsPiece (Err Memory) piece _ _ = ⊤
+TellsPiece (Err (Faulty reason)) piece before after =
+    (line : Line) × (piece ≡ Some line) × (told before line ≡ Err reason)
+
+-- what the next line does: it is told, or the log has its end, or why the first faulty line is;
+-- running out of memory says nothing of it
+abbrev pub TellsNext : Result Bool LogStop → LogReader → LogReader → Type 0
+TellsNext (Ok true) before after = (line : Line) × ReadsLine line before after
+TellsNext (Ok false) before after = IsRead before after
+TellsNext (Err e) before after = e ≢ stop.Memory → answer_of (left_of before) ≡ Err e
 
 -- the bytes end here: a whole log ends, or why it doesn't
 abbrev pub EndsAt : Result (Unit {0}) LogStop → LogPlace → Result (List Line) Fault → Type 0

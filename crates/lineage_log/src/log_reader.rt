@@ -1,16 +1,21 @@
 // Reads the lines of a log one after another.
 ghost use Rattle.std.specs.Prelude.{◌≡◌, ◌<◌, length};
 ghost use Rattle.lineage_log.specs.LogGrammar.{last_piece};
-ghost use Rattle.lineage_log.specs.Places.{place_of};
+ghost use Rattle.lineage_log.specs.Places.{TellsPlace, place_of};
 ghost use Rattle.lineage_log.specs.LogValues.{stop_of};
-ghost use Rattle.lineage_log.specs.LogReading.{EndsAt, GivesNext, IsAtStart};
+ghost use Rattle.lineage_log.specs.LogReading.{EndsAt, GivesNext, IsAtStart, TellsNext, TellsPiece};
+ghost use Rattle.lineage_log.specs.Order.{told};
+ghost use Rattle.log_lines.specs.Line.{birth_values};
+ghost use Rattle.log_lines.specs.LineReading.{line_of};
 
 use crate::log_stop::LogStop;
 use crate::place::{LogPlace, tell};
 use crate::reason::Reason;
-use crate::refusal::Refusal;
-use log_lines::{LogLine, read_line, split_at};
+use crate::refusal::{OUT_OF_ORDER, Refusal};
+use log_lines::{Birth, LogLine, read_birth, read_line, split_at};
+use mutations::Change;
 use std::alloc::Global;
+use std::mem;
 
 /// A log that is read line by line. It keeps none of the lines.
 #[derive(Drop)]
@@ -21,16 +26,19 @@ pub struct LogReader<'a> {
     pub number: u64,
     /// Where the log stands.
     pub place: LogPlace,
+    /// Room for the changes of a birth.
+    pub spare: Vec<Change>,
 }
 
 /// A log at its start.
-pub fn reader_of_bytes(bytes: &[u8]) -> LogReader<'_>
+pub fn reader_of_bytes(alloc: Global, bytes: &[u8]) -> LogReader<'_>
     ensures { IsAtStart bytes.now result }
 {
     LogReader {
         rest: bytes,
         number: 1,
         place: LogPlace::Before,
+        spare: Vec::new(alloc),
     }
 }
 
@@ -81,4 +89,81 @@ pub fn next_line(alloc: Global, reader: &mut LogReader<'_>) -> Result<Option<Log
     reader.number = next;
     reader.rest = behind;
     Ok(Some(line))
+}
+
+/// A birth more. After an error the place is not used again.
+fn tell_birth(alloc: Global, place: &mut LogPlace, birth: &Birth) -> Result<(), Refusal>
+    ensures { TellsPlace result (place_of place.new)
+        (told (place_of place.old) (birth_values birth.now)) }
+{
+    match place {
+        LogPlace::Within(reader) => reader.birth(
+            alloc,
+            birth.id,
+            birth.parent,
+            birth.update,
+            birth.cell,
+            birth.over,
+            &birth.origin,
+        ),
+        LogPlace::Before | LogPlace::After(_) => Err(OUT_OF_ORDER),
+    }
+}
+
+/// Tells the line of a piece, and says whether it is one.
+fn tell_line(alloc: Global, place: &mut LogPlace, piece: &[u8]) -> Result<bool, Refusal>
+    ensures { TellsPiece result (line_of piece.now) (place_of place.old) (place_of place.new) }
+{
+    match read_line(alloc, piece)? {
+        Some(line) => {
+            tell(alloc, place, &line)?;
+            Ok(true)
+        }
+        None => Ok(false),
+    }
+}
+
+/// As `tell_line`. Most lines are births, so these are tried first, and their changes are put where
+/// those of the birth before stood.
+fn tell_piece(
+    alloc: Global,
+    place: &mut LogPlace,
+    spare: &mut Vec<Change>,
+    piece: &[u8],
+) -> Result<bool, Refusal>
+    ensures { TellsPiece result (line_of piece.now) (place_of place.old) (place_of place.new) }
+{
+    let room = mem::replace(spare, Vec::new(alloc));
+    match read_birth(alloc, room, piece)? {
+        Some(birth) => {
+            tell_birth(alloc, place, &birth)?;
+            *spare = birth.origin.changes.into_vec();
+            Ok(true)
+        }
+        None => tell_line(alloc, place, piece),
+    }
+}
+
+/// Tells the next line, and says whether there was one: none is left at the end of a whole log.
+/// After an error the reader is not used again.
+pub fn tell_next(alloc: Global, reader: &mut LogReader<'_>) -> Result<bool, LogStop>
+    ensures { TellsNext result reader.old reader.new }
+{
+    let number = reader.number;
+    let (piece, others) = split_at(reader.rest, b'\n');
+    let Some(behind) = others else {
+        end_at(number, &reader.place, piece)?;
+        return Ok(false);
+    };
+    match tell_piece(alloc, &mut reader.place, &mut reader.spare, piece) {
+        Ok(true) => {}
+        Ok(false) => return Err(LogStop::BadLine { line: number }),
+        Err(refusal) => return Err(stop_for(refusal, number)),
+    }
+    let Some(next) = number.checked_add(1) else {
+        return Err(LogStop::Memory);
+    };
+    reader.number = next;
+    reader.rest = behind;
+    Ok(true)
 }

@@ -22,7 +22,7 @@ fn read_lines(alloc: Global, bytes: &[u8]) -> Result<Vec<LogLine>, LogStop>
     ensures { Gives result (log_of bytes.now) }
 {
     let mut lines = Vec::new(alloc);
-    let mut reader = reader_of_bytes(bytes);
+    let mut reader = reader_of_bytes(alloc, bytes);
     while let Some(line) = next_line(alloc, &mut reader)? {
         lines.push(line)?;
     }

@@ -11,7 +11,7 @@ ghost use Rattle.lineage_log.specs.Residents.{EachIsKept, kept_genomes};
 use crate::laws::read_exactly;
 use crate::living::{Living, Livings};
 use crate::log::Log;
-use crate::log_reader::{next_line, reader_of_bytes};
+use crate::log_reader::{reader_of_bytes, tell_next};
 use crate::log_stop::LogStop;
 use crate::place::{LogPlace, into_reader, tell};
 use crate::reader::Reader;
@@ -57,8 +57,8 @@ pub fn living_at_end(alloc: Global, bytes: &[u8]) -> Result<Livings, LogStop>
 fn reader_at_end(alloc: Global, bytes: &[u8]) -> Result<Reader, LogStop>
     ensures { LeavesReader result (log_of bytes.now) }
 {
-    let mut log = reader_of_bytes(bytes);
-    while let Some(_line) = next_line(alloc, &mut log)? {}
+    let mut log = reader_of_bytes(alloc, bytes);
+    while tell_next(alloc, &mut log)? {}
     Ok(into_reader(log.place))
 }
 

@@ -1,8 +1,8 @@
 -- The form that a mark of one byte chooses.
-use Rattle.std.proofs.Common.{◌≡◌, ℕ, true, false, cond, List, [], ◌∷◌, refl, sym, ap, ◌∙◌, arith, Option}
+use Rattle.std.proofs.Common.{◌≡◌, ℕ, Bool, true, false, cond, List, [], ◌∷◌, refl, sym, ap, subst, ◌∙◌, arith, Option, Some, None, option_map}
 use Rattle.std.specs.Prelude.{◌&&◌, ◌==◌}
 use Rattle.std.proofs.lemmas.Bool.Decides.{nat_tests}
-use Rattle.log_lines.specs.Line.{Line}
+use Rattle.log_lines.specs.Line.{IsNoBirth, Line}
 use Rattle.log_lines.specs.Forms.{LineForm, birth_form, cleared_form, count_form, death_form, end_form, forms, injected_form, plain_forms, rate_form, start_form}
 use Rattle.log_lines.specs.LineReading.{read_as, read_by}
 
@@ -16,6 +16,17 @@ other_side : (mark n : ℕ) (x o : Option Line) → (mark ≡ n → ⊥)
     → o ≡ cond ((mark == n) && true) x o
 other_side mark n x o apart =
     let no : (mark == n) ≡ false = grind (arith, nat_tests, apart) in rw no refl
+
+-- what a form reads that tells no birth
+other_read : {A : Type 0} (line : A → Line) (found : Option A)
+    → ((a : A) → IsNoBirth (Some (line a))) → IsNoBirth (option_map line found)
+other_read line None others = tt
+other_read line (Some a) others = others a
+
+-- of two that are no birth either is none
+either : (b : Bool) (x o : Option Line) → IsNoBirth x → IsNoBirth o → IsNoBirth (cond b x o)
+either true x o first second = first
+either false x o first second = second
 
 module _ (words : List (List ℕ)) (mark : ℕ) where
   -- a form with another mark is passed over
@@ -33,3 +44,28 @@ module _ (words : List (List ℕ)) (mark : ℕ) where
       (other_mark injected_form behind injected
       ∙ other_mark birth_form (injected_form ∷ behind) birth)
       ∙ other_mark start_form (death_form ∷ birth_form ∷ injected_form ∷ behind) start
+
+  -- where the first form tells no birth, and no other one gives one, there is none
+  none_on : (form : LineForm) (others : List LineForm)
+      → ((fields : form.Fields) → IsNoBirth (Some (form.line fields)))
+      → IsNoBirth (read_by others (mark ∷ []) words)
+      → IsNoBirth (read_by (form ∷ others) (mark ∷ []) words)
+  none_on form others told behind =
+      either ((mark == form.mark) && true) (read_as form words) (read_by others (mark ∷ []) words)
+      (other_read form.line (form.row.read words) told) behind
+
+  -- another mark than that of a birth gives none
+  pub no_birth : (mark ≡ 66 → ⊥) → IsNoBirth (read_by forms (mark ∷ []) words)
+  no_birth birth =
+      let last : List LineForm = end_form ∷ [] in
+      let counts : List LineForm = count_form ∷ last in
+      let rates : List LineForm = rate_form ∷ counts in
+      let cleared : List LineForm = cleared_form ∷ rates in
+      let behind : List LineForm = injected_form ∷ cleared in
+      none_on start_form (death_form ∷ birth_form ∷ behind) (λ f. tt)
+      (none_on death_form (birth_form ∷ behind) (λ f. tt)
+      (subst (λ (o : Option Line). IsNoBirth o) (other_mark birth_form behind birth)
+      (none_on injected_form cleared (λ f. tt)
+      (none_on cleared_form rates (λ f. tt)
+      (none_on rate_form counts (λ f. tt)
+      (none_on count_form last (λ f. tt) (none_on end_form [] (λ f. tt) tt)))))))

@@ -2,11 +2,12 @@
 -- who came into which cell in which update, and who died. For example, `B 7 3 12 45 - = p4k,d9` is
 -- `Birth 7 3 12 45 None birth`: in update 12 organism 7 was born to organism 3, into the empty cell
 -- 45. The record `birth` tells its genome: the parent's (`written` is None), with two `changes`.
-use Rattle.std.specs.Prelude.{ℕ, List, Option}
+use Rattle.std.specs.Prelude.{⊤, ℕ, List, Option, Some}
 use Rattle.instruction_set.specs.declared.letter.Letter.{Letter}
 use Rattle.genome.specs.Genome.{letters}
 use Rattle.mutations.specs.BirthRecord.{BirthRecord, record_of}
 use Rattle.mutations.specs.declared.rate_name.RateName.{RateName}
+use Rattle.log_lines.specs.declared.birth.Birth as told
 use Rattle.log_lines.specs.declared.stats.Stats.{Stats}
 use Rattle.log_lines.specs.declared.log_line.LogLine.{LogLine}
 use Rattle.log_lines.specs.declared.log_line.LogLine.TheVariants as log_line
@@ -43,3 +44,12 @@ line_values (log_line.Cleared id update cell) = Cleared id update cell
 line_values (log_line.Rate update name ppm) = Rate update name ppm
 line_values (log_line.Count stats) = Count stats
 line_values (log_line.End updates) = End updates
+
+-- the line of a birth that was read by itself
+abbrev pub birth_values : told.Birth → Line
+birth_values b = Birth b.id b.parent b.update b.cell b.over (record_of b.origin)
+
+-- no line, or one that tells no birth
+abbrev pub IsNoBirth : Option Line → Type 0
+IsNoBirth (Some (Birth id parent update cell over birth)) = ⊥
+IsNoBirth _ = ⊤

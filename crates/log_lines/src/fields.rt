@@ -131,11 +131,12 @@ fn item(word: &[u8]) -> Option<Change>
 }
 
 /// The changes that stand between commas, in any order.
-fn item_list(alloc: Global, word: &[u8]) -> Result<Option<Vec<Change>>, Memory>
+fn item_list(spare: Vec<Change>, word: &[u8]) -> Result<Option<Vec<Change>>, Memory>
     ensures { IfOk result (λ found. option_map (λ v. v.items) found
         ≡ each read_change (pieces_of 44 (Some word.now))) }
 {
-    let mut found = Vec::new(alloc);
+    let mut found = spare;
+    found.clear();
     let mut left = Some(word);
     while let Some(rest) = left {
         let (piece, others) = split_at(rest, b',');
@@ -149,13 +150,13 @@ fn item_list(alloc: Global, word: &[u8]) -> Result<Option<Vec<Change>>, Memory>
 }
 
 /// The changes in any order, or a dash for none.
-fn items(alloc: Global, word: &[u8]) -> Result<Option<Vec<Change>>, Memory>
+fn items(alloc: Global, spare: Vec<Change>, word: &[u8]) -> Result<Option<Vec<Change>>, Memory>
     ensures { IfOk result (λ found. option_map (λ v. v.items) found
         ≡ (list_of change_field).read word.now) }
 {
     match word {
         [b'-'] => Ok(Some(Vec::new(alloc))),
-        _ => item_list(alloc, word),
+        _ => item_list(spare, word),
     }
 }
 
@@ -187,10 +188,10 @@ fn is_in_order(changes: &[Change]) -> bool
 }
 
 /// The changes of a birth, in the order that a log asks for.
-pub fn changes(alloc: Global, word: &[u8]) -> Result<Option<Changes>, Memory>
+pub fn changes(alloc: Global, spare: Vec<Change>, word: &[u8]) -> Result<Option<Changes>, Memory>
     ensures { IfOk result (λ found. found ≡ changes_field.read word.now) }
 {
-    match items(alloc, word)? {
+    match items(alloc, spare, word)? {
         Some(found) => {
             if is_in_order(&found) {
                 Ok(Some(Changes::from_vec(found)))

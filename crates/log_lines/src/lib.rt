@@ -1,6 +1,7 @@
 //! The lines of a log, and their texts.
 #![tactic(auto)]
 
+mod birth;
 mod fields;
 pub mod laws;
 mod log_line;
@@ -10,9 +11,10 @@ mod stats;
 mod words;
 mod writing;
 
+pub use birth::Birth;
 pub use fields::genome_letters;
 pub use log_line::{LAST_VERSION, LogLine};
-pub use reading::{genome_last, read_line};
+pub use reading::{genome_last, read_birth, read_line};
 pub use stats::Stats;
 pub use words::{last_word, split_at};
 pub use writing::{

@@ -1,22 +1,23 @@
 // Reads the line that a text has.
-ghost use Rattle.std.specs.Prelude.{◌≡◌, ◌∷◌, [], Some, IfOk, length, option_copied, option_map};
+ghost use Rattle.std.specs.Prelude.{◌≡◌, ◌∷◌, [], Some, IfNone, IfOk, IfSome, length, option_copied, option_map};
 ghost use Rattle.genome.specs.Genome as genome_spec;
 ghost use Rattle.mutations.specs.BirthRecord.{written_in};
 ghost use Rattle.log_lines.specs.Fields as fields_spec;
 ghost use Rattle.log_lines.specs.Kinds.{base_field, changes_field, over_field, record_row};
 ghost use Rattle.log_lines.specs.Rows.{read_last};
 ghost use Rattle.log_lines.specs.Words.{read_arrival, read_first, read_newborn, read_opening, words_of};
-ghost use Rattle.log_lines.specs.Line.{line_values};
+ghost use Rattle.log_lines.specs.Line.{IsNoBirth, birth_values, line_values};
 ghost use Rattle.log_lines.specs.Forms.{birth_form, forms, injected_form, start_form};
 ghost use Rattle.log_lines.specs.LineReading.{line_of, read_as, read_by};
 
+use crate::birth::Birth;
 use crate::fields::{base, changes, genome};
 use crate::log_line::{LAST_VERSION, LogLine};
 use crate::plain_lines::read_plain;
 use crate::words::{after_word, large_first, last_word, small_first, split_at};
 use avida_port::Memory;
 use genome::Genome;
-use mutations::{Base, Changes, Origin};
+use mutations::{Base, Change, Changes, Origin};
 use random_streams::GREATEST_SIDE;
 use std::alloc::Global;
 
@@ -32,28 +33,41 @@ pub fn genome_last(alloc: Global, rest: Option<&[u8]>) -> Result<Option<Genome>,
 }
 
 /// The changes that end the line.
-fn changes_last(alloc: Global, rest: Option<&[u8]>) -> Result<Option<Changes>, Memory>
+fn changes_last(
+    alloc: Global,
+    spare: Vec<Change>,
+    rest: Option<&[u8]>,
+) -> Result<Option<Changes>, Memory>
     ensures { IfOk result (λ found. found
         ≡ read_last changes_field.read (words_of (option_copied rest.entry))) }
 {
     match rest {
-        Some(bytes) => changes_in(alloc, bytes),
+        Some(bytes) => changes_in(alloc, spare, bytes),
         None => Ok(None),
     }
 }
 
 /// As `changes_last`. Many births have no changes, so the dash for none is tried first.
-fn changes_in(alloc: Global, bytes: &[u8]) -> Result<Option<Changes>, Memory>
+fn changes_in(alloc: Global, spare: Vec<Change>, bytes: &[u8]) -> Result<Option<Changes>, Memory>
     ensures { IfOk result (λ found. found
         ≡ read_last changes_field.read (words_of (Some bytes.now))) }
 {
     match bytes {
-        [b'-'] => Ok(Some(Changes::none(alloc))),
+        [b'-'] => Ok(Some(no_changes(spare))),
         _ => match last_word(Some(bytes)) {
-            Some(word) => changes(alloc, word),
+            Some(word) => changes(alloc, spare, word),
             None => Ok(None),
         },
     }
+}
+
+/// No changes. The room of `spare` is kept.
+fn no_changes(spare: Vec<Change>) -> Changes
+    ensures { result ≡ [] }
+{
+    let mut none = spare;
+    none.clear();
+    Changes::from_vec(none)
 }
 
 fn over_first<'a>(rest: Option<&'a [u8]>) -> Option<(Option<u64>, Option<&'a [u8]>)>
@@ -187,12 +201,16 @@ fn base_in(alloc: Global, bytes: &[u8]) -> Result<Option<(Base, Option<&[u8]>)>,
 }
 
 /// The record that ends a birth's line.
-fn origin_last(alloc: Global, rest: Option<&[u8]>) -> Result<Option<Origin>, Memory>
+fn origin_last(
+    alloc: Global,
+    spare: Vec<Change>,
+    rest: Option<&[u8]>,
+) -> Result<Option<Origin>, Memory>
     ensures { IfOk result (λ found. option_map (λ o. (written_in o.base, o.changes)) found
         ≡ record_row.read (words_of (option_copied rest.entry))) }
 {
     match base_first(alloc, rest)? {
-        Some((base, rest)) => match changes_last(alloc, rest)? {
+        Some((base, rest)) => match changes_last(alloc, spare, rest)? {
             Some(changes) => Ok(Some(Origin { base, changes })),
             None => Ok(None),
         },
@@ -223,22 +241,64 @@ fn newborn_first<'a>(rest: Option<&'a [u8]>) -> Option<(Newborn, Option<&'a [u8]
     Some((newborn, rest))
 }
 
+/// A birth, from what stands behind its mark.
 #[inline(never)]
-fn read_birth(alloc: Global, rest: Option<&[u8]>) -> Result<Option<LogLine>, Memory>
-    ensures { IfOk result (λ found. option_map line_values found
+fn birth_behind(
+    alloc: Global,
+    spare: Vec<Change>,
+    rest: Option<&[u8]>,
+) -> Result<Option<Birth>, Memory>
+    ensures { IfOk result (λ found. option_map birth_values found
         ≡ read_as birth_form (words_of (option_copied rest.entry))) }
 {
     let Some((newborn, rest)) = newborn_first(rest) else {
         return Ok(None);
     };
-    match origin_last(alloc, rest) {
-        Ok(Some(origin)) => Ok(Some(LogLine::Birth {
+    match origin_last(alloc, spare, rest) {
+        Ok(Some(origin)) => Ok(Some(Birth {
             id: newborn.id,
             parent: newborn.parent,
             update: newborn.arrival.update,
             cell: newborn.arrival.cell,
             over: newborn.arrival.over,
             origin,
+        })),
+        Ok(None) => Ok(None),
+        Err(Memory) => Err(Memory),
+    }
+}
+
+/// Reads the text of a birth's line, which stands before its newline. None exactly where the text is
+/// not that of a birth. The changes are put into `spare`, in place of what it holds.
+pub fn read_birth(alloc: Global, spare: Vec<Change>, text: &[u8]) -> Result<Option<Birth>, Memory>
+    ensures birth { IfOk result (λ found. IfSome found (λ birth.
+        line_of text.now ≡ Some (birth_values birth))) }
+    ensures none { IfOk result (λ found. IfNone found (IsNoBirth (line_of text.now))) }
+{
+    match text {
+        [mark, part, rest @ ..] => {
+            if *mark == b'B' && *part == b' ' {
+                birth_behind(alloc, spare, Some(rest))
+            } else {
+                Ok(None)
+            }
+        }
+        _ => Ok(None),
+    }
+}
+
+fn birth_line_behind(alloc: Global, rest: Option<&[u8]>) -> Result<Option<LogLine>, Memory>
+    ensures { IfOk result (λ found. option_map line_values found
+        ≡ read_as birth_form (words_of (option_copied rest.entry))) }
+{
+    match birth_behind(alloc, Vec::new(alloc), rest) {
+        Ok(Some(birth)) => Ok(Some(LogLine::Birth {
+            id: birth.id,
+            parent: birth.parent,
+            update: birth.update,
+            cell: birth.cell,
+            over: birth.over,
+            origin: birth.origin,
         })),
         Ok(None) => Ok(None),
         Err(Memory) => Err(Memory),
@@ -274,7 +334,7 @@ fn read_form(alloc: Global, mark: u8, rest: Option<&[u8]>) -> Result<Option<LogL
         ≡ read_by forms (mark ∷ []) (words_of (option_copied rest.entry))) }
 {
     match mark {
-        b'B' => read_birth(alloc, rest),
+        b'B' => birth_line_behind(alloc, rest),
         b'L' => read_start(alloc, rest),
         b'I' => read_injected(alloc, rest),
         _ => Ok(read_plain(mark, rest)),
