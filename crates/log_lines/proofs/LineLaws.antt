@@ -10,17 +10,13 @@ use Rattle.log_lines.specs.Fields.{Field}
 use Rattle.log_lines.specs.Rows.{Row, ◌◂◌}
 use Rattle.log_lines.specs.Line.{Line, Start, Death, Birth, Injected, Cleared, Rate, Count, End}
 use Rattle.log_lines.specs.Kinds.{small, large, side, death_row, arrival_then, record_row}
-use Rattle.log_lines.specs.Forms.{LineForm, FilledForm, forms, filled_form, start_form, death_form, birth_form, injected_form, cleared_form, rate_form, count_form, end_form}
+use Rattle.log_lines.specs.Forms.{LineForm, FilledForm, filled, forms, filled_form, start_form, death_form, birth_form, injected_form, cleared_form, rate_form, count_form, end_form}
 use Rattle.log_lines.specs.LineText.{words_text, filled_text, FitsForm, row_text, HasForm}
 use Rattle.log_lines.specs.LineReading.{read_as, read_by, read_words, line_of}
 use Rattle.log_lines.proofs.FieldLaws.{Above, IsField, IsRow, OneNumber, chosen, some_map, number_law, letters_law, last_law, row_law}
 use Rattle.log_lines.proofs.ListLaws.{times_law}
 use Rattle.log_lines.proofs.RowLaws.{words_in, joined_words, row_words, row_plain, row_takes}
 use Rattle.log_lines.proofs.KindLaws.{low, small_law, large_law, rate_law, over_law, base_law, changes_law}
-
--- a form with these fields
-abbrev filled : (form : LineForm) → form.Fields → FilledForm
-filled form fields = record { form = form; fields = fields }
 
 -- what is proved of a form: its mark is above a space, its words are read as they were written, the
 -- line of some fields has the form with these fields, and the table gives the form at its mark

@@ -2,11 +2,8 @@
 -- line `R 12 copy_error 500` has the mark `R` and the three fields (12, (Copy, 500)), and it sets
 -- the rate of copy errors to 500 in a million.
 use Prim.Native.Char.{code}
-use Rattle.std.specs.Prelude.{ℕ, List, [], ◌∷◌, Option}
-use Rattle.instruction_set.specs.declared.letter.Letter.{Letter}
+use Rattle.std.specs.Prelude.{ℕ, List, [], ◌∷◌}
 use Rattle.random_streams.specs.RandomStream.{million}
-use Rattle.mutations.specs.declared.change.Change.{Change}
-use Rattle.mutations.specs.declared.rate_name.RateName.{RateName}
 use Rattle.log_lines.specs.Line.{Line, Start, Death, Birth, Injected, Cleared, Rate, Count, End}
 use Rattle.log_lines.specs.Fields.{number, genome_field}
 use Rattle.log_lines.specs.Rows.{Row, last, times, ◌◂◌}
@@ -25,91 +22,66 @@ pub record FilledForm : Type 1 where
   pub form : LineForm
   pub fields : form.Fields
 
+-- the form with this mark and this row, whose fields tell this line
+abbrev pub line_form : {A : Type 0} → ℕ → Row A → (A → Line) → LineForm
+line_form {A} mark row line = record { Fields = A; mark = mark; row = row; line = line }
+
+-- a form with these fields
+abbrev pub filled : (form : LineForm) → form.Fields → FilledForm
+filled form fields = record { form = form; fields = fields }
+
 -- the first line: the version, which is 1 or 2, the width and the height of the world, and the
 -- founder's cell and letters
 abbrev pub start_form : LineForm
 start_form =
-    record {
-      Fields = ℕ × (ℕ × (ℕ × (ℕ × List Letter)));
-      mark = code "L";
-      row = number 1 2 ◂ side ◂ side ◂ small ◂ last genome_field;
-      line = λ (version, (width, (height, (cell, genome)))). Start version width height cell genome;
-    }
+    line_form (code "L") (number 1 2 ◂ side ◂ side ◂ small ◂ last genome_field)
+    (λ (version, (width, (height, (cell, genome)))). Start version width height cell genome)
 
 -- a death of age: the id, the update and the cell
 abbrev pub death_form : LineForm
-death_form =
-    record {
-      Fields = ℕ × (ℕ × ℕ);
-      mark = code "D";
-      row = death_row;
-      line = λ (id, (update, cell)). Death id update cell;
-    }
+death_form = line_form (code "D") death_row (λ (id, (update, cell)). Death id update cell)
 
 -- a birth: the id, the parent's id, the update, the cell, who stood there, the base and the changes
 abbrev pub birth_form : LineForm
 birth_form =
-    record {
-      Fields = ℕ × (ℕ × (ℕ × (ℕ × (Option ℕ × (Option (List Letter) × List Change)))));
-      mark = code "B";
-      row = large ◂ large ◂ arrival_then record_row;
-      line = λ (id, (parent, (update, (cell, (over, (written, changes)))))).
-          Birth id parent update cell over (record { written = written; changes = changes });
-    }
+    line_form (code "B") (large ◂ large ◂ arrival_then record_row)
+    (λ (id, (parent, (update, (cell, (over, (written, changes)))))).
+    Birth id parent update cell over (record { written = written; changes = changes }))
 
 -- an injected organism: the id, the update, the cell, who stood there and the letters
 abbrev pub injected_form : LineForm
 injected_form =
-    record {
-      Fields = ℕ × (ℕ × (ℕ × (Option ℕ × List Letter)));
-      mark = code "I";
-      row = large ◂ arrival_then (last genome_field);
-      line = λ (id, (update, (cell, (over, genome)))). Injected id update cell over genome;
-    }
+    line_form (code "I") (large ◂ arrival_then (last genome_field))
+    (λ (id, (update, (cell, (over, genome)))). Injected id update cell over genome)
 
 -- an organism cleared by an event: the id, the update and the cell
 abbrev pub cleared_form : LineForm
-cleared_form =
-    record {
-      Fields = ℕ × (ℕ × ℕ);
-      mark = code "X";
-      row = death_row;
-      line = λ (id, (update, cell)). Cleared id update cell;
-    }
+cleared_form = line_form (code "X") death_row (λ (id, (update, cell)). Cleared id update cell)
 
 -- a rate that an event sets: the update, the name and the parts per million
 abbrev pub rate_form : LineForm
 rate_form =
-    record {
-      Fields = ℕ × (RateName × ℕ);
-      mark = code "R";
-      row = small ◂ rate_name ◂ last (number 0 million);
-      line = λ (update, (name, ppm)). Rate update name ppm;
-    }
+    line_form (code "R") (small ◂ rate_name ◂ last (number 0 million))
+    (λ (update, (name, ppm)). Rate update name ppm)
 
 -- the end of an update: its number, how many live, the births and deaths in it, the number of
 -- different genomes, the sum of merits, and for each of the nine tasks how many have done it
 abbrev pub count_form : LineForm
 count_form =
-    record {
-      Fields = ℕ × (ℕ × (ℕ × (ℕ × (ℕ × (ℕ × List ℕ)))));
-      mark = code "U";
-      row = small ◂ large ◂ large ◂ large ◂ large ◂ large ◂ times 9 large;
-      line = λ (update, (living, (births, (deaths, (genotypes, (merit, tasks)))))).
-          Count (record {
-            update = update;
-            living = living;
-            births = births;
-            deaths = deaths;
-            genotypes = genotypes;
-            merit = merit;
-            tasks = tasks;
-          });
-    }
+    line_form (code "U") (small ◂ large ◂ large ◂ large ◂ large ◂ large ◂ times 9 large)
+    (λ (update, (living, (births, (deaths, (genotypes, (merit, tasks)))))). Count (record {
+      update = update;
+      living = living;
+      births = births;
+      deaths = deaths;
+      genotypes = genotypes;
+      merit = merit;
+      tasks = tasks;
+    }))
 
 -- the last line: the number of updates
 abbrev pub end_form : LineForm
-end_form = record { Fields = ℕ; mark = code "E"; row = last small; line = End }
+end_form = line_form (code "E") (last small) End
 
 -- the forms without genomes
 abbrev pub plain_forms : List LineForm
@@ -118,33 +90,21 @@ plain_forms = death_form ∷ cleared_form ∷ rate_form ∷ count_form ∷ end_f
 -- the table of the forms, each of which has another mark
 abbrev pub forms : List LineForm
 forms =
-    start_form
-    ∷ death_form
-    ∷ birth_form
-    ∷ injected_form
-    ∷ cleared_form
-    ∷ rate_form
-    ∷ count_form
-    ∷ end_form
-    ∷ []
+    start_form ∷ death_form ∷ birth_form ∷ injected_form ∷ cleared_form ∷ rate_form ∷ count_form
+    ∷ end_form ∷ []
 
 -- the form that a line has, with the values of its fields
 abbrev pub filled_form : Line → FilledForm
 filled_form (Start version width height cell genome) =
-    record { form = start_form; fields = (version, (width, (height, (cell, genome)))) }
-filled_form (Death id update cell) = record { form = death_form; fields = (id, (update, cell)) }
+    filled start_form (version, (width, (height, (cell, genome))))
+filled_form (Death id update cell) = filled death_form (id, (update, cell))
 filled_form (Birth id parent update cell over birth) =
-    record {
-      form = birth_form;
-      fields = (id, (parent, (update, (cell, (over, (birth.written, birth.changes))))));
-    }
+    filled birth_form (id, (parent, (update, (cell, (over, (birth.written, birth.changes))))))
 filled_form (Injected id update cell over genome) =
-    record { form = injected_form; fields = (id, (update, (cell, (over, genome)))) }
-filled_form (Cleared id update cell) = record { form = cleared_form; fields = (id, (update, cell)) }
-filled_form (Rate update name ppm) = record { form = rate_form; fields = (update, (name, ppm)) }
+    filled injected_form (id, (update, (cell, (over, genome))))
+filled_form (Cleared id update cell) = filled cleared_form (id, (update, cell))
+filled_form (Rate update name ppm) = filled rate_form (update, (name, ppm))
 filled_form (Count s) =
-    record {
-      form = count_form;
-      fields = (s.update, (s.living, (s.births, (s.deaths, (s.genotypes, (s.merit, s.tasks))))));
-    }
-filled_form (End updates) = record { form = end_form; fields = updates }
+    filled count_form
+    (s.update, (s.living, (s.births, (s.deaths, (s.genotypes, (s.merit, s.tasks))))))
+filled_form (End updates) = filled end_form updates
