@@ -15,7 +15,7 @@ use Rattle.lineage_log.specs.declared.stage.Stage.{Stage}
 use Rattle.lineage_log.specs.declared.stage.Stage.TheVariants.{Dying, Placing, Happening}
 use Rattle.lineage_log.specs.Slots.{holds, taken}
 use Rattle.lineage_log.specs.Reader.{Reader, may_die, may_be_born, is_quiet, parent_in, reader_with_newcomer, reader_with_death}
-use Rattle.lineage_log.specs.Order.{LogPlace, Before, Within, After, within_if, opened, at_next_update, may_happen, with_child, with_parent, told_start, told_death, told_birth, told_injected, told_cleared, told_rate, told_count, told_end, told_within, told_all}
+use Rattle.lineage_log.specs.Order.{LogPlace, Before, Within, After, within_if, opened, at_next_update, may_happen, with_child, with_parent, told_start, told_death, told_birth, told_injected, told_cleared, told_rate, told_count, told_end, told, told_all}
 use Rattle.lineage_log.specs.LogGrammar.{IsGoodLog}
 use Rattle.lineage_log.specs.Replay.{Seen, born_in, seen_on, seen_all, Resident, residents_from, replay_of}
 use Rattle.lineage_log.specs.Residents.{EachIsKept, kept_genomes}
@@ -218,7 +218,7 @@ last_tests a b c d is =
 
 -- the two agree still after a line within the log
 line_agrees : (r : Reader) (s : Seen) (line : Line) (p : LogPlace) → Agrees r s
-    → told_within r line ≡ Ok p → AgreesAt p (seen_on s line)
+    → told (Within r) line ≡ Ok p → AgreesAt p (seen_on s line)
 unfolding told_death told_birth told_injected told_cleared told_rate told_count told_end
 line_agrees r s (Start version width height cell genome) p agrees is = absurd cc
 line_agrees r s (Death id update cell) p agrees is =
@@ -263,7 +263,7 @@ all_agree p s [] q agrees is =
     subst (λ (x : LogPlace). AgreesAt x s) (place_is p (After q) is) agrees
 all_agree Before s (line ∷ lines) q agrees is = absurd agrees
 all_agree (Within r) s (line ∷ lines) q agrees is =
-    let step = went_on (told_within r line) (λ p. told_all p lines) (After q) is in
+    let step = went_on (told (Within r) line) (λ p. told_all p lines) (After q) is in
     all_agree step.0 (seen_on s line) lines q (line_agrees r s line step.0 agrees step.1) step.2
 all_agree (After r) s (line ∷ lines) q agrees is = absurd cc
 

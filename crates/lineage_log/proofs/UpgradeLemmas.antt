@@ -11,7 +11,7 @@ use Rattle.lineage_log.specs.declared.reason.Reason.TheVariants.{BadOrder}
 use Rattle.lineage_log.specs.declared.stage.Stage.TheVariants.{Dying, Placing, Happening}
 use Rattle.lineage_log.specs.Slots.{holds, taken}
 use Rattle.lineage_log.specs.Reader.{Reader, may_die, may_be_born, is_quiet, parent_in, reader_with_newcomer, reader_with_death}
-use Rattle.lineage_log.specs.Order.{LogPlace, Before, Within, After, within_if, opened, at_next_update, with_child, with_parent, told_start, told_death, told_birth, told_injected, told_cleared, told_rate, told_count, told_end, told_within, and_on, told_all, IsWhole}
+use Rattle.lineage_log.specs.Order.{LogPlace, Before, Within, After, within_if, opened, at_next_update, with_child, with_parent, told_start, told_death, told_birth, told_injected, told_cleared, told_rate, told_count, told_end, told, and_on, told_all, IsWhole}
 use Rattle.lineage_log.specs.LogGrammar.{IsGoodLog}
 use Rattle.lineage_log.specs.Upgrade.{newer, upgraded}
 use Rattle.lineage_log.proofs.LogLaws.{went_on, whole_is, place_is}
@@ -90,8 +90,8 @@ end_still true r q is = ap (λ (p : LogPlace). Ok (up p)) (place_is (After r) q 
 end_still false r q is = absurd cc
 
 -- so does each line within a log
-told_still : (r : Reader) (line : Line) (q : LogPlace) → told_within r line ≡ Ok q
-    → told_within (up_reader r) line ≡ Ok (up q)
+told_still : (r : Reader) (line : Line) (q : LogPlace) → told (Within r) line ≡ Ok q
+    → told (Within (up_reader r)) line ≡ Ok (up q)
 unfolding told_death told_birth told_injected told_cleared told_rate told_count told_end
 told_still r (Start version width height cell genome) q is = absurd cc
 told_still r (Death id update cell) q is =
@@ -129,10 +129,10 @@ whole_still Before lines w = w
 whole_still (Within r) [] w = absurd w
 whole_still (Within r) (line ∷ lines) w =
     let end = whole_is (told_all (Within r) (line ∷ lines)) w in
-    let step = went_on (told_within r line) (λ p. told_all p lines) (After end.0) end.1 in
+    let step = went_on (told (Within r) line) (λ p. told_all p lines) (After end.0) end.1 in
     let rest : IsWhole (told_all step.0 lines) = subst IsWhole (sym step.2) tt in
     let deep = whole_still step.0 lines rest in
-    whole_step (told_within r line) (told_within (up_reader r) line) (up step.0)
+    whole_step (told (Within r) line) (told (Within (up_reader r)) line) (up step.0)
     (λ p. told_all p lines) (told_still r line step.0 step.1) deep
 whole_still (After r) [] w = tt
 whole_still (After r) (line ∷ lines) w = absurd w

@@ -5,7 +5,7 @@ use Rattle.log_lines.specs.Line.{Line}
 use Rattle.log_lines.specs.LineText.{line_text, HasForm}
 use Rattle.log_lines.specs.LineReading.{line_of}
 use Rattle.lineage_log.specs.declared.reason.Reason.{Reason}
-use Rattle.lineage_log.specs.Order.{LogPlace, Before, Within, After, told, told_all, IsWhole}
+use Rattle.lineage_log.specs.Order.{LogPlace, Before, After, told, told_all, IsWhole}
 
 -- why a line is faulty
 pub data Cause : Type 0 where
@@ -24,9 +24,8 @@ fault number cause = Err (record { line = number; cause = cause })
 
 -- the end of the bytes, behind the last newline
 abbrev pub log_end : ℕ → LogPlace → Result (List Line) Fault
-log_end number Before = fault number Unended
-log_end number (Within r) = fault number Unended
 log_end number (After r) = Ok []
+log_end number _ = fault number Unended
 
 -- the last piece, which has no newline
 abbrev pub last_piece : ℕ → LogPlace → List ℕ → Result (List Line) Fault

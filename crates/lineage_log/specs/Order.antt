@@ -113,28 +113,19 @@ unfoldable pub told_end : Reader → ℕ → Result LogPlace Reason
 told_end r updates =
     if is_quiet r.stage && (updates + 1 == r.due) then Ok (After r) else Err BadOrder
 
--- one line within the log
-abbrev pub told_within : Reader → Line → Result LogPlace Reason
-told_within r (Start version width height cell genome) = Err BadOrder
-told_within r (Death id update cell) = told_death r id update cell
-told_within r (Birth id parent update cell over birth) =
-    told_birth r id parent update cell over birth
-told_within r (Injected id update cell over genome) = told_injected r id update cell over genome
-told_within r (Cleared id update cell) = told_cleared r id update cell
-told_within r (Rate update name ppm) = told_rate r update
-told_within r (Count stats) = told_count r stats
-told_within r (End updates) = told_end r updates
-
--- the first line
-abbrev pub told_first : Line → Result LogPlace Reason
-told_first (Start version width height cell genome) = told_start version width height cell genome
-told_first _ = Err BadOrder
-
--- one line
+-- one line: the first one opens the log, and none stands behind the last
 abbrev pub told : LogPlace → Line → Result LogPlace Reason
-told Before line = told_first line
-told (Within r) line = told_within r line
-told (After r) line = Err BadOrder
+told Before (Start version width height cell genome) = told_start version width height cell genome
+told (Within r) (Death id update cell) = told_death r id update cell
+told (Within r) (Birth id parent update cell over birth) =
+    told_birth r id parent update cell over birth
+told (Within r) (Injected id update cell over genome) =
+    told_injected r id update cell over genome
+told (Within r) (Cleared id update cell) = told_cleared r id update cell
+told (Within r) (Rate update name ppm) = told_rate r update
+told (Within r) (Count stats) = told_count r stats
+told (Within r) (End updates) = told_end r updates
+told _ _ = Err BadOrder
 
 -- what follows a line, unless it is faulty
 abbrev pub and_on : Result LogPlace Reason → (LogPlace → Result LogPlace Reason)
@@ -149,7 +140,5 @@ told_all place (line ∷ lines) = and_on (told place line) (λ next. told_all ne
 
 -- the last line has come
 abbrev pub IsWhole : Result LogPlace Reason → Type 0
-IsWhole (Ok Before) = ⊥
-IsWhole (Ok (Within r)) = ⊥
 IsWhole (Ok (After r)) = Unit {0}
-IsWhole (Err reason) = ⊥
+IsWhole _ = ⊥

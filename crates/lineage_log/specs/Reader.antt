@@ -3,7 +3,7 @@ use Rattle.std.specs.Prelude.{ℕ, List, [], ◌∷◌, ◌++◌, length, Option
 use Rattle.std.specs.Option.{option_to_list}
 use Rattle.instruction_set.specs.declared.letter.Letter.{Letter}
 use Rattle.lineage_log.specs.declared.stage.Stage.{Stage}
-use Rattle.lineage_log.specs.declared.stage.Stage.TheVariants.{Quiet, Dying, Placing, Happening}
+use Rattle.lineage_log.specs.declared.stage.Stage.TheVariants.{Quiet, Dying, Happening}
 
 -- the version, the update that is due, who stands in each cell, and by id the genome of each who
 -- lives or died in this update; the next id as the update began, who died in it, and its births
@@ -21,22 +21,17 @@ pub record Reader : Type 0 where
 abbrev pub may_die : Stage → ℕ → Bool
 may_die Quiet cell = true
 may_die (Dying last) cell = nat_lt last cell
-may_die Placing cell = false
-may_die Happening cell = false
+may_die _ cell = false
 
 -- a birth may come at this stage
 abbrev pub may_be_born : Stage → Bool
-may_be_born Quiet = true
-may_be_born (Dying last) = true
-may_be_born Placing = true
 may_be_born Happening = false
+may_be_born _ = true
 
 -- nothing of the update has come yet
 abbrev pub is_quiet : Stage → Bool
 is_quiet Quiet = true
-is_quiet (Dying last) = false
-is_quiet Placing = false
-is_quiet Happening = false
+is_quiet _ = false
 
 -- the genome of somebody who lived when the update began
 abbrev pub parent_in : Reader → ℕ → Option (List Letter)

@@ -3,7 +3,7 @@ use Rattle.std.specs.Prelude.{ℕ, suc, ◌*◌, List, [], ◌∷◌, ◌++◌, 
 use Rattle.std.specs.Result.{result_ok}
 use Rattle.instruction_set.specs.declared.letter.Letter.{Letter}
 use Rattle.mutations.specs.BirthRecord.{BirthRecord, child_of}
-use Rattle.log_lines.specs.Line.{Line, Start, Death, Birth, Injected, Cleared, Rate, Count, End}
+use Rattle.log_lines.specs.Line.{Line, Start, Death, Birth, Injected, Cleared}
 
 -- who stands in each cell, and the genome of every id so far
 pub record Seen : Type 0 where
@@ -32,9 +32,7 @@ seen_on s (Birth id parent update cell over birth) =
 seen_on s (Injected id update cell over genome) =
     record { standing = slice_set s.standing cell (Some id); genomes = s.genomes ++ genome ∷ [] }
 seen_on s (Cleared id update cell) = record s { standing = slice_set s.standing cell None }
-seen_on s (Rate update name ppm) = s
-seen_on s (Count stats) = s
-seen_on s (End updates) = s
+seen_on s _ = s
 
 -- all lines
 abbrev pub seen_all : Seen → List Line → Seen

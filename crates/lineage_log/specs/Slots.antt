@@ -4,9 +4,8 @@ use Rattle.std.specs.Prelude.{ℕ, List, Option, Some, None, Bool, true, false, 
 -- the same id, or none in both
 abbrev pub same_slot : Option ℕ → Option ℕ → Bool
 same_slot None None = true
-same_slot None (Some b) = false
-same_slot (Some a) None = false
 same_slot (Some a) (Some b) = a == b
+same_slot _ _ = false
 
 -- the cell is there, and this stands in it
 abbrev pub holds : Option (Option ℕ) → Option ℕ → Bool

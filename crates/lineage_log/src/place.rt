@@ -1,7 +1,7 @@
 // Where a log stands between two lines.
 ghost use Rattle.std.specs.Prelude.{◌≡◌};
 ghost use Rattle.log_lines.specs.Line.{End, line_values};
-ghost use Rattle.lineage_log.specs.Order.{After, told, told_first};
+ghost use Rattle.lineage_log.specs.Order.{After, Before, told};
 ghost use Rattle.lineage_log.specs.Readings.{TellsReader, reader_of};
 ghost use Rattle.lineage_log.specs.Places.{IsAfter, TellsPlace, place_of};
 
@@ -40,7 +40,7 @@ pub fn tell(alloc: Global, place: &mut LogPlace, line: &LogLine) -> Result<(), R
 }
 
 fn tell_first(alloc: Global, line: &LogLine) -> Result<Reader, Refusal>
-    ensures { TellsReader result (told_first (line_values line.now)) }
+    ensures { TellsReader result (told Before (line_values line.now)) }
 {
     match line {
         LogLine::Start {

@@ -5,7 +5,7 @@ ghost use Rattle.mutations.specs.BirthRecord.{record_of};
 ghost use Rattle.log_lines.specs.Line.{End, line_values};
 ghost use Rattle.lineage_log.specs.Slots.{holds, taken};
 ghost use Rattle.lineage_log.specs.Reader.{is_quiet, may_be_born, may_die, parent_in, reader_with_death, reader_with_newcomer};
-ghost use Rattle.lineage_log.specs.Order.{told_birth, told_cleared, told_count, told_death, told_end, told_injected, told_rate, told_start, may_happen, at_next_update, told_within, After};
+ghost use Rattle.lineage_log.specs.Order.{told_birth, told_cleared, told_count, told_death, told_end, told_injected, told_rate, told_start, may_happen, at_next_update, told, Within, After};
 
 use crate::child::child_of_shared;
 use crate::people::{People, shared_copy};
@@ -313,7 +313,7 @@ impl Reader {
     pub fn tell(&mut self, alloc: Global, line: &LogLine) -> Result<(), Refusal>
         requires { (updates : ℕ) → line_values line.now ≢ End updates }
         ensures { Tells result (reader_of self.new)
-            (told_within (reader_of self.old) (line_values line.now)) }
+            (told (Within (reader_of self.old)) (line_values line.now)) }
     {
         match line {
             LogLine::Start { .. } => Err(OUT_OF_ORDER),

@@ -10,7 +10,7 @@ use Rattle.log_lines.specs.Line.{Line, Start, Death, Birth, Injected, Cleared, R
 use Rattle.lineage_log.specs.declared.reason.Reason.{Reason}
 use Rattle.lineage_log.specs.declared.stage.Stage.TheVariants.{Dying, Happening}
 use Rattle.lineage_log.specs.LogGrammar.{IsGoodLog}
-use Rattle.lineage_log.specs.Order.{LogPlace, Before, Within, After, IsWhole, may_happen, opened, at_next_update, told_all, told_birth, told_cleared, told_count, told_death, told_end, told_injected, told_rate, told_start, told_within}
+use Rattle.lineage_log.specs.Order.{LogPlace, Before, Within, After, IsWhole, may_happen, opened, at_next_update, told_all, told_birth, told_cleared, told_count, told_death, told_end, told_injected, told_rate, told_start, told}
 use Rattle.lineage_log.specs.Reader.{Reader, is_quiet, may_be_born, may_die, reader_with_death, reader_with_newcomer}
 use Rattle.lineage_log.specs.Replay.{Seen, replay_of, residents_from, seen_all, seen_on}
 use Rattle.lineage_log.specs.Slots.{holds, taken}
@@ -190,7 +190,7 @@ follow (Within r) (Start version width height cell genome ∷ lines) q count sta
     absurd cc
 follow (Within r) (Death id update cell ∷ lines) q count standing is now =
     let step =
-    went_on (told_within r (Death id update cell)) (λ p. told_all p lines) (After q) is in
+    went_on (told (Within r) (Death id update cell)) (λ p. told_all p lines) (After q) is in
     let test =
     (update == r.due) && may_die r.stage cell && holds (slice_get r.standing cell) (Some id) in
     let after = within_gives test (reader_with_death r (Dying cell) cell id) step.0 count
@@ -199,7 +199,7 @@ follow (Within r) (Death id update cell ∷ lines) q count standing is now =
     (λ _. refl) refl (set_cells standing cell None)
     (follow step.0 lines q count (set standing cell None) step.2 after)
 follow (Within r) (Birth id parent update cell over birth ∷ lines) q count standing is now =
-    let step = went_on (told_within r (Birth id parent update cell over birth))
+    let step = went_on (told (Within r) (Birth id parent update cell over birth))
     (λ p. told_all p lines) (After q) is in
     let a = update == r.due in
     let b = may_be_born r.stage in
@@ -214,8 +214,8 @@ follow (Within r) (Birth id parent update cell over birth ∷ lines) q count sta
     refl (set_cells standing cell (Some id))
     (follow step.0 lines q (count + 1) (set standing cell (Some id)) step.2 born.2)
 follow (Within r) (Injected id update cell over genome ∷ lines) q count standing is now =
-    let step = went_on (told_within r (Injected id update cell over genome)) (λ p. told_all p lines)
-    (After q) is in
+    let step = went_on (told (Within r) (Injected id update cell over genome))
+    (λ p. told_all p lines) (After q) is in
     let a = r.version == 2 in
     let b = update == r.due in
     let d = holds (slice_get r.standing cell) over in
@@ -234,7 +234,7 @@ follow (Within r) (Injected id update cell over genome ∷ lines) q count standi
     (follow step.0 lines q (count + 1) (set standing cell (Some id)) step.2 after)
 follow (Within r) (Cleared id update cell ∷ lines) q count standing is now =
     let step =
-    went_on (told_within r (Cleared id update cell)) (λ p. told_all p lines) (After q) is in
+    went_on (told (Within r) (Cleared id update cell)) (λ p. told_all p lines) (After q) is in
     let test = may_happen r update && holds (slice_get r.standing cell) (Some id) in
     let after = within_gives test (reader_with_death r Happening cell id) step.0 count
     (set standing cell None) step.1 (λ _. death_at r Happening cell id count standing now) in
@@ -243,14 +243,14 @@ follow (Within r) (Cleared id update cell ∷ lines) q count standing is now =
     (follow step.0 lines q count (set standing cell None) step.2 after)
 follow (Within r) (Rate update name ppm ∷ lines) q count standing is now =
     let step =
-    went_on (told_within r (Rate update name ppm)) (λ p. told_all p lines) (After q) is in
+    went_on (told (Within r) (Rate update name ppm)) (λ p. told_all p lines) (After q) is in
     let after = within_gives (may_happen r update) (record r { stage = Happening }) step.0 count
     standing step.1 (λ _. record { as_many = now.as_many; same = now.same; below = now.below })
     in
     stays count standing standing (Rate update name ppm) lines refl refl (λ _. refl) refl refl
     (follow step.0 lines q count standing step.2 after)
 follow (Within r) (Count s ∷ lines) q count standing is now =
-    let step = went_on (told_within r (Count s)) (λ p. told_all p lines) (After q) is in
+    let step = went_on (told (Within r) (Count s)) (λ p. told_all p lines) (After q) is in
     let test = (s.update == r.due) && (s.living == taken r.standing) && (s.births == r.births)
     && (s.deaths == length r.leaving) in
     let after = within_gives test (at_next_update r) step.0 count standing step.1
@@ -262,7 +262,7 @@ follow (Within r) (Count s ∷ lines) q count standing is now =
     stays count standing standing (Count s) lines refl refl (λ _. refl) refl refl
     (follow step.0 lines q count standing step.2 after)
 follow (Within r) (End updates ∷ lines) q count standing is now =
-    let step = went_on (told_within r (End updates)) (λ p. told_all p lines) (After q) is in
+    let step = went_on (told (Within r) (End updates)) (λ p. told_all p lines) (After q) is in
     let after =
     end_at (is_quiet r.stage && (updates + 1 == r.due)) r step.0 count standing step.1 now in
     stays count standing standing (End updates) lines refl refl (λ _. refl) refl refl
