@@ -10,12 +10,13 @@ use Rattle.virtual_cpu.specs.Image.{image_of, machine_of_image}
 use Rattle.virtual_cpu.specs.Machine.{Machine, IsMachine}
 use Rattle.lineage_log.specs.Slots.{taken}
 use Rattle.log_lines.specs.LineText.{form_text}
+use Rattle.log_lines.specs.Fields.{given}
 use Rattle.saved_lines.specs.SavedValues.{HeadValues}
 use Rattle.saved_lines.specs.SavedText.{count_text, machine_fields, machine_row, machine_text, organism_numbers, organism_row, organism_text, saved_head_text}
 use Rattle.saved_lines.specs.SavedForms.{HasSavedForm, saved_row_text}
 use Rattle.saved_lines.specs.SavedReading.{SavedLine, Head, Organism, Machine as MachineLine, Count, saved_line_of}
 use Rattle.saved_worlds.specs.SavedState.{SavedState}
-use Rattle.saved_worlds.specs.SavedGrammar.{SavedPlace, Before, Among, Halfway, After, Placed, SavedFault, after_saved_line, may_follow, may_stand, one_saved_piece, pieces_state, place_if, placed_of, saved_of, state_of_lines, told_saved_line, with_placed}
+use Rattle.saved_worlds.specs.SavedGrammar.{SavedPlace, Before, Among, Halfway, After, Placed, SavedFault, after_saved_line, may_follow, may_stand, one_saved_piece, pieces_state, placed_of, saved_of, state_of_lines, told_saved_line, with_placed}
 use Rattle.saved_worlds.specs.SavedWorldText.{cell_text, saved_text, slot_text, values_in}
 use Rattle.saved_worlds.specs.ValidState.{AreSaved}
 use Rattle.checkpoint.specs.Writable.{IsWritable}
@@ -122,10 +123,10 @@ organism_on number head placed cell o rest back =
     (append_assoc (machine_row_text o) (10 ∷ []) rest) in
     let first : told_saved_line (Among head placed) (Organism values)
     ≡ Some (Halfway head placed values) =
-    ap (λ (b : Bool). place_if b (Halfway head placed values)) back.stands in
+    ap (λ (b : Bool). given b (Halfway head placed values)) back.stands in
     let second : told_saved_line (Halfway head placed values) (MachineLine image)
     ≡ Some (Among head (placed ++ one ∷ [])) =
-    ap (λ (b : Bool). place_if b (Among head (placed ++ placed_of head values image ∷ [])))
+    ap (λ (b : Bool). given b (Among head (placed ++ placed_of head values image ∷ [])))
     back.follows
     ∙ ap (λ (p : Placed). Some (Among head (placed ++ p ∷ []))) back.again in
     ap (λ (l : List ℕ). pieces_state number (Among head placed) (cut l)) text
@@ -255,7 +256,7 @@ read_back spell whole state is =
     let cells = cells_on 2 head [] 0 state.cells last
     (all_read_back spell whole head [] 0 state.cells saved) in
     let ends : told_saved_line (Among head standing) (Count count) ≡ Some (After after) =
-    ap (λ (b : Bool). place_if b (After after))
+    ap (λ (b : Bool). given b (After after))
     (eq-eqb count (length standing) (counted 0 state.cells)) in
     let with_cells = λ (cells : List (Option Occupant)).
     let birth_length : SavedState = record { head = head; cells = cells } in birth_length in

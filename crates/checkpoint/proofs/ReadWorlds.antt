@@ -3,10 +3,11 @@ use Rattle.std.proofs.Common.{◌≡◌, ℕ, ◌+◌, ◌==◌, Bool, true, fal
 use Rattle.std.proofs.lemmas.List.Elements.{All-from_recursion}
 use Rattle.std.specs.List.{slice_split}
 use Rattle.virtual_cpu.specs.declared.cpu_image.CpuImage.{CpuImage}
+use Rattle.log_lines.specs.Fields.{given}
 use Rattle.saved_lines.specs.SavedForms.{HasSavedForm}
 use Rattle.saved_lines.specs.SavedReading.{SavedLine, Head, Organism, Machine, Count, saved_line_of}
 use Rattle.saved_lines.specs.SavedValues.{HeadValues, OrganismValues}
-use Rattle.saved_worlds.specs.SavedGrammar.{SavedPlace, Before, Among, Halfway, After, Placed, SavedFault, after_saved_line, last_saved_piece, may_follow, may_stand, one_saved_piece, pieces_state, place_if, placed_of, saved_end, saved_of, state_of_lines, told_saved_line}
+use Rattle.saved_worlds.specs.SavedGrammar.{SavedPlace, Before, Among, Halfway, After, Placed, SavedFault, after_saved_line, last_saved_piece, may_follow, may_stand, one_saved_piece, pieces_state, placed_of, saved_end, saved_of, state_of_lines, told_saved_line}
 use Rattle.saved_worlds.specs.SavedState.{SavedState}
 use Rattle.saved_worlds.specs.ValidState.{AreSaved, IsHead, MayStandThere}
 use Rattle.checkpoint.specs.Readable.{IsReadImage, IsReadOrganism, IsReadable}
@@ -24,7 +25,7 @@ IsGood (Halfway head placed o) =
 IsGood (After state) = IsWritable state
 
 -- what follows where a test holds
-if_holds : (test : Bool) (place next : SavedPlace) → place_if test place ≡ Some next
+if_holds : (test : Bool) (place next : SavedPlace) → given test place ≡ Some next
     → (test ≡ true → IsGood place) → IsGood next
 if_holds true place next h good =
     let same : place ≡ next = cc in subst IsGood same (good refl)

@@ -2,7 +2,7 @@
 ghost use Rattle.std.specs.Prelude.{◌≡◌, IfOk, option_map};
 ghost use Rattle.saved_lines.specs.SavedLines.{values_of_line, values_of_organism};
 ghost use Rattle.saved_lines.specs.SavedReading.{Machine};
-ghost use Rattle.saved_worlds.specs.SavedGrammar.{told_among, told_halfway, told_head, told_saved_line};
+ghost use Rattle.saved_worlds.specs.SavedGrammar.{Among, Before, Halfway, told_saved_line};
 ghost use Rattle.checkpoint.specs.Places.{saved_place_of};
 ghost use Rattle.checkpoint.specs.Readable.{IsReadImage, IsReadOrganism, IsReadable};
 
@@ -46,7 +46,7 @@ pub(crate) fn told_saved_line(
 
 fn told_first(alloc: Global, line: SavedLine) -> Option<ReadPlace>
     requires { IsReadable (values_of_line line) }
-    ensures { option_map saved_place_of result ≡ told_head (values_of_line line) }
+    ensures { option_map saved_place_of result ≡ told_saved_line Before (values_of_line line) }
 {
     match line {
         SavedLine::Head(head) => Some(ReadPlace::Among(SoFar::new(alloc, head))),
@@ -57,7 +57,7 @@ fn told_first(alloc: Global, line: SavedLine) -> Option<ReadPlace>
 fn told_among(so_far: SoFar, line: SavedLine) -> Option<ReadPlace>
     requires { IsReadable (values_of_line line) }
     ensures { option_map saved_place_of result
-        ≡ told_among so_far.head so_far.placed (values_of_line line) }
+        ≡ told_saved_line (Among so_far.head so_far.placed) (values_of_line line) }
 {
     match line {
         SavedLine::Organism(organism) => told_organism(so_far, organism),
@@ -69,7 +69,8 @@ fn told_among(so_far: SoFar, line: SavedLine) -> Option<ReadPlace>
 fn told_organism(so_far: SoFar, organism: OrganismLine) -> Option<ReadPlace>
     requires { IsReadOrganism (values_of_organism organism) }
     ensures { option_map saved_place_of result
-        ≡ told_among so_far.head so_far.placed (values_of_line (SavedLine.Organism organism)) }
+        ≡ told_saved_line (Among so_far.head so_far.placed)
+        (values_of_line (SavedLine.Organism organism)) }
 {
     if so_far.may_stand(&organism) {
         Some(ReadPlace::Halfway(Half { so_far, organism }))
@@ -80,7 +81,8 @@ fn told_organism(so_far: SoFar, organism: OrganismLine) -> Option<ReadPlace>
 
 fn told_count(so_far: SoFar, organisms: u64) -> Option<ReadPlace>
     ensures { option_map saved_place_of result
-        ≡ told_among so_far.head so_far.placed (values_of_line (SavedLine.Count organisms)) }
+        ≡ told_saved_line (Among so_far.head so_far.placed)
+        (values_of_line (SavedLine.Count organisms)) }
 {
     if organisms == so_far.len() as u64 {
         Some(ReadPlace::After(so_far))
@@ -92,7 +94,8 @@ fn told_count(so_far: SoFar, organisms: u64) -> Option<ReadPlace>
 fn told_halfway(alloc: Global, half: Half, line: SavedLine) -> Result<Option<ReadPlace>, Memory>
     requires { IsReadable (values_of_line line) }
     ensures { IfOk result (λ next. option_map saved_place_of next
-        ≡ told_halfway half.so_far.head half.so_far.placed (values_of_organism half.organism)
+        ≡ told_saved_line
+        (Halfway half.so_far.head half.so_far.placed (values_of_organism half.organism))
         (values_of_line line)) }
 {
     match line {
@@ -104,7 +107,8 @@ fn told_halfway(alloc: Global, half: Half, line: SavedLine) -> Result<Option<Rea
 fn told_machine(alloc: Global, half: Half, image: CpuImage) -> Result<Option<ReadPlace>, Memory>
     requires { IsReadImage image }
     ensures { IfOk result (λ next. option_map saved_place_of next
-        ≡ told_halfway half.so_far.head half.so_far.placed (values_of_organism half.organism)
+        ≡ told_saved_line
+        (Halfway half.so_far.head half.so_far.placed (values_of_organism half.organism))
         (Machine image)) }
 {
     let Half { so_far, organism } = half;

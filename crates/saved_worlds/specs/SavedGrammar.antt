@@ -1,6 +1,7 @@
 -- The state that bytes are the text of, or the first faulty line (docs/FORMATS.md, "Saved worlds").
 use Rattle.std.specs.Prelude.{ℕ, ◌+◌, ◌*◌, ◌^◌, ◌==◌, ◌&&◌, Bool, true, not, nat_lt, nat_le, List, [], ◌∷◌, ◌++◌, length, fold, replicate, Option, None, Some, Result, Ok, Err, if◌then◌else◌, slice_set}
 use Rattle.std.specs.List.{slice_split, list_all}
+use Rattle.log_lines.specs.Fields.{given}
 use Rattle.organism.specs.OrganismState.{OrganismState}
 use Rattle.virtual_cpu.specs.declared.cpu_image.CpuImage.{CpuImage}
 use Rattle.virtual_cpu.specs.Image.{machine_of_image}
@@ -94,39 +95,16 @@ state_of_lines head placed = record {
   cells = fold with_placed (replicate (head.width * head.height) None) placed;
 }
 
--- the place where the test holds
-abbrev pub place_if : Bool → SavedPlace → Option SavedPlace
-place_if test place = if test then Some place else None
-
--- the place after a line between organisms
-abbrev pub told_among : HeadValues → List Placed → SavedLine → Option SavedPlace
-told_among head placed (Head other) = None
-told_among head placed (Organism o) = place_if (may_stand head placed o) (Halfway head placed o)
-told_among head placed (MachineLine image) = None
-told_among head placed (Count organisms) =
-    place_if (organisms == length placed) (After (state_of_lines head placed))
-
--- the place after the line behind that of an organism
-abbrev pub told_halfway : HeadValues → List Placed → OrganismValues → SavedLine → Option SavedPlace
-told_halfway head placed o (Head other) = None
-told_halfway head placed o (Organism other) = None
-told_halfway head placed o (MachineLine image) =
-    place_if (may_follow head o image) (Among head (placed ++ placed_of head o image ∷ []))
-told_halfway head placed o (Count organisms) = None
-
--- the place after the first line
-abbrev pub told_head : SavedLine → Option SavedPlace
-told_head (Head head) = Some (Among head [])
-told_head (Organism o) = None
-told_head (MachineLine image) = None
-told_head (Count organisms) = None
-
 -- the place after a line; none where the line doesn't fit
 abbrev pub told_saved_line : SavedPlace → SavedLine → Option SavedPlace
-told_saved_line Before line = told_head line
-told_saved_line (Among head placed) line = told_among head placed line
-told_saved_line (Halfway head placed o) line = told_halfway head placed o line
-told_saved_line (After state) line = None
+told_saved_line Before (Head head) = Some (Among head [])
+told_saved_line (Among head placed) (Organism o) =
+    given (may_stand head placed o) (Halfway head placed o)
+told_saved_line (Halfway head placed o) (MachineLine image) =
+    given (may_follow head o image) (Among head (placed ++ placed_of head o image ∷ []))
+told_saved_line (Among head placed) (Count organisms) =
+    given (organisms == length placed) (After (state_of_lines head placed))
+told_saved_line _ _ = None
 
 -- why a line is faulty
 pub data SavedCause : Type 0 where
@@ -146,9 +124,7 @@ fault_at_line number cause = Err (record { line = number; cause = cause })
 -- the end of the bytes, behind the last newline
 abbrev pub saved_end : ℕ → SavedPlace → Result SavedState SavedFault
 saved_end number (After state) = Ok state
-saved_end number Before = fault_at_line number Unended
-saved_end number (Among head placed) = fault_at_line number Unended
-saved_end number (Halfway head placed o) = fault_at_line number Unended
+saved_end number _ = fault_at_line number Unended
 
 -- the last piece, which has no newline
 abbrev pub last_saved_piece : ℕ → SavedPlace → List ℕ → Result SavedState SavedFault
