@@ -1,5 +1,5 @@
 -- The line of a saved world that a text has (docs/FORMATS.md, "Saved worlds").
-use Rattle.std.specs.Prelude.{ℕ, ℤ, ◌==◌, ◌&&◌, Bool, nat_le, List, [], ◌∷◌, drop, Option, None, if◌then◌else◌, option_and_then, option_map, slice_index_or}
+use Rattle.std.specs.Prelude.{ℕ, ◌==◌, ◌&&◌, Bool, nat_le, List, [], ◌∷◌, drop, Option, None, if◌then◌else◌, option_and_then, option_map, slice_index_or}
 use Rattle.std.specs.Str.{bytes_eq}
 use Rattle.std.specs.List.{slice_split}
 use Rattle.instruction_set.specs.declared.letter.Letter.{Letter}
@@ -10,7 +10,7 @@ use Rattle.log_lines.specs.Kinds.{large}
 use Rattle.log_lines.specs.Rows.{last}
 use Rattle.virtual_cpu.specs.declared.cpu_image.CpuImage.{CpuImage}
 use Rattle.saved_lines.specs.SavedValues.{HeadValues, OrganismValues}
-use Rattle.saved_lines.specs.SavedText.{head_row, organism_row, machine_row}
+use Rattle.saved_lines.specs.SavedText.{MachineFields, head_row, organism_row, machine_row}
 
 -- one line of a saved world
 pub data SavedLine : Type 0 where
@@ -79,20 +79,14 @@ organism_of p = Organism (record {
 })
 
 -- the machine of the fields of its line
-abbrev pub machine_of :
-    List ℤ × (List ℕ × (List Letter × (List ℤ × (List ℤ
-    × (List Letter × (List Letter × (List Bool × List Bool)))))))
-    → SavedLine
+abbrev pub machine_of : MachineFields → SavedLine
 machine_of (registers, (numbers, (nops, (first, (second, (memory, (clean, (executed, copied))))))))
     =
     Machine (record {
       registers = registers;
       active = saved_number_at numbers 0;
-      heads = saved_number_at numbers 1
-          ∷ saved_number_at numbers 2
-          ∷ saved_number_at numbers 3
-          ∷ saved_number_at numbers 4
-          ∷ [];
+      heads = saved_number_at numbers 1 ∷ saved_number_at numbers 2
+          ∷ saved_number_at numbers 3 ∷ saved_number_at numbers 4 ∷ [];
       pending = saved_flag_at numbers 5;
       nops = nops;
       first = first;

@@ -50,10 +50,9 @@ read_within (range ∷ ranges) (word ∷ words) =
 -- there is a number for each range, and it is within it
 abbrev pub AreWithin : List Range → List ℕ → Type 0
 AreWithin [] [] = Unit {0}
-AreWithin [] (n ∷ ns) = ⊥
-AreWithin (range ∷ ranges) [] = ⊥
 AreWithin (range ∷ ranges) (n ∷ ns) =
     (range.least ≤ n) × (n ≤ range.greatest) × AreWithin ranges ns
+AreWithin _ _ = ⊥
 
 -- a number for each range
 abbrev pub within : List Range → Front (List ℕ)

@@ -29,40 +29,16 @@ any_flag = from_to 0 1
 abbrev pub any_rate : Range
 any_rate = from_to 0 1000000
 
--- the number of a set of tasks
-abbrev pub any_tasks : Range
-any_tasks = from_to 0 511
-
--- the low 24 bits of an input
-abbrev pub any_input : Range
-any_input = from_to 0 16777215
-
--- the ranges of the first line: its version, and the values of a head in their order
+-- the ranges of the first line: its version, and the values of a head in their order, in lines like
+-- those of `head_numbers`
 abbrev pub head_ranges : List Range
 head_ranges =
-    from_to 1 1
-    ∷ from_to 1 256
-    ∷ from_to 1 256
-    ∷ from_to 0 1000000
-    ∷ from_to 1 4611686018427387904
-    ∷ from_to 0 9223372036854775807
-    ∷ from_to 1 1000
-    ∷ any_flag
-    ∷ from_to 1 1000
-    ∷ any_rate
-    ∷ any_rate
-    ∷ any_rate
-    ∷ any_rate
-    ∷ any_rate
-    ∷ any_rate
-    ∷ any_flag
-    ∷ any_flag
-    ∷ from_to 1 100
-    ∷ from_to 1 100
-    ∷ from_to 8 8192
-    ∷ from_to 8 8192
-    ∷ from_to 8 8192
-    ∷ []
+    from_to 1 1 ∷ from_to 1 256 ∷ from_to 1 256 ∷ from_to 0 1000000
+    ∷ from_to 1 4611686018427387904 ∷ from_to 0 9223372036854775807
+    ∷ from_to 1 1000 ∷ any_flag ∷ from_to 1 1000
+    ∷ any_rate ∷ any_rate ∷ any_rate ∷ any_rate ∷ any_rate ∷ any_rate
+    ∷ any_flag ∷ any_flag ∷ from_to 1 100 ∷ from_to 1 100
+    ∷ from_to 8 8192 ∷ from_to 8 8192 ∷ from_to 8 8192 ∷ []
 
 -- 1 for true, and 0 for false
 abbrev pub flag_number : Bool → ℕ
@@ -71,63 +47,35 @@ flag_number is_set = if is_set then 1 else 0
 -- the numbers of the first line
 abbrev pub head_numbers : HeadValues → List ℕ
 head_numbers head =
-    1
-    ∷ head.width
-    ∷ head.height
-    ∷ head.update
-    ∷ head.next_id
-    ∷ head.seed
-    ∷ head.average_slices
-    ∷ flag_number head.death
-    ∷ head.age_limit
-    ∷ head.rates.copy
-    ∷ head.rates.insert
-    ∷ head.rates.delete
-    ∷ head.rates.site_point
-    ∷ head.rates.site_insert
-    ∷ head.rates.site_delete
-    ∷ flag_number head.prefer_empty
-    ∷ flag_number head.need_alloc
-    ∷ head.executed_percent
-    ∷ head.copied_percent
-    ∷ head.least_length
-    ∷ head.greatest_length
-    ∷ head.memory_limit
-    ∷ []
+    1 ∷ head.width ∷ head.height ∷ head.update
+    ∷ head.next_id ∷ head.seed
+    ∷ head.average_slices ∷ flag_number head.death ∷ head.age_limit
+    ∷ head.rates.copy ∷ head.rates.insert ∷ head.rates.delete
+    ∷ head.rates.site_point ∷ head.rates.site_insert ∷ head.rates.site_delete
+    ∷ flag_number head.prefer_empty ∷ flag_number head.need_alloc
+    ∷ head.executed_percent ∷ head.copied_percent
+    ∷ head.least_length ∷ head.greatest_length ∷ head.memory_limit ∷ []
 
 -- the first line
 abbrev pub head_row : Row (List ℕ)
 head_row = whole (within head_ranges)
 
--- cell, id, merit, credited set, age, inputs read, gestation set, and three inputs
+-- cell, id and merit; credited set, age, inputs read and gestation set, where a set of tasks is a
+-- number up to 511; and the low 24 bits of the three inputs
 abbrev pub organism_ranges : List Range
 organism_ranges =
-    any_small
-    ∷ any_large
-    ∷ any_large
-    ∷ any_tasks
-    ∷ any_large
-    ∷ any_large
-    ∷ any_tasks
-    ∷ any_input
-    ∷ any_input
-    ∷ any_input
-    ∷ []
+    any_small ∷ any_large ∷ any_large
+    ∷ from_to 0 511 ∷ any_large ∷ any_large ∷ from_to 0 511
+    ∷ from_to 0 16777215 ∷ from_to 0 16777215 ∷ from_to 0 16777215 ∷ []
 
 -- the numbers of an organism's line
 abbrev pub organism_numbers : OrganismValues → List ℕ
 organism_numbers o =
-    o.cell
-    ∷ o.id
-    ∷ o.merit
-    ∷ bits_of_tasks o.credited
-    ∷ o.age
-    ∷ o.read
-    ∷ bits_of_tasks o.gestation
+    o.cell ∷ o.id ∷ o.merit
+    ∷ bits_of_tasks o.credited ∷ o.age ∷ o.read ∷ bits_of_tasks o.gestation
     ∷ slice_index_or (low_of o.inputs) 0 0
     ∷ slice_index_or (low_of o.inputs) 1 0
-    ∷ slice_index_or (low_of o.inputs) 2 0
-    ∷ []
+    ∷ slice_index_or (low_of o.inputs) 2 0 ∷ []
 
 -- the line of an organism: numbers, and its genome
 abbrev pub organism_row : Row (List ℕ × List Letter)
@@ -142,50 +90,36 @@ machine_ranges =
 abbrev pub machine_numbers : CpuImage → List ℕ
 machine_numbers image =
     image.active
-    ∷ slice_index_or image.heads 0 0
-    ∷ slice_index_or image.heads 1 0
-    ∷ slice_index_or image.heads 2 0
-    ∷ slice_index_or image.heads 3 0
-    ∷ flag_number image.pending
-    ∷ []
+    ∷ slice_index_or image.heads 0 0 ∷ slice_index_or image.heads 1 0
+    ∷ slice_index_or image.heads 2 0 ∷ slice_index_or image.heads 3 0
+    ∷ flag_number image.pending ∷ []
 
 -- memory, clean text, and the places that are marked executed and copied
-abbrev pub texts_row : Row (List Letter × (List Letter × (List Bool × List Bool)))
+abbrev pub MachineTexts : Type 0
+MachineTexts = List Letter × (List Letter × (List Bool × List Bool))
+
+-- the words of these four texts
+abbrev pub texts_row : Row MachineTexts
 texts_row = genome_field ◂ (genome_field ◂ (marks ◂ last marks))
 
 -- the four texts of a machine
-abbrev pub texts_of : CpuImage → List Letter × (List Letter × (List Bool × List Bool))
+abbrev pub texts_of : CpuImage → MachineTexts
 texts_of image = (image.memory, (image.clean, (image.executed, image.copied)))
 
--- the line of a machine: registers, numbers, nops read last, both stacks, and the four texts
-abbrev pub machine_row :
-    Row (List ℤ × (List ℕ × (List Letter × (List ℤ × (List ℤ
-    × (List Letter × (List Letter × (List Bool × List Bool))))))))
+-- the fields of a machine's line: registers, numbers, nops read last, stacks, and the four texts
+abbrev pub MachineFields : Type 0
+MachineFields = List ℤ × (List ℕ × (List Letter × (List ℤ × (List ℤ × MachineTexts))))
+
+-- the line of a machine
+abbrev pub machine_row : Row MachineFields
 machine_row =
     several 3 signed ◁ (within machine_ranges ◁ (nops ◂ (several 10 signed
     ◁ (several 10 signed ◁ texts_row))))
 
--- the fields of a machine's line
-abbrev pub machine_fields :
-    CpuImage
-    → List ℤ × (List ℕ × (List Letter × (List ℤ × (List ℤ
-    × (List Letter × (List Letter × (List Bool × List Bool)))))))
-machine_fields image = (
-  image.registers,
-  (
-    machine_numbers image,
-    (
-      image.nops,
-      (
-        image.first,
-        (
-          image.second,
-          texts_of image,
-        ),
-      ),
-    ),
-  ),
-)
+-- the fields of a machine
+abbrev pub machine_fields : CpuImage → MachineFields
+machine_fields m =
+    (m.registers, (machine_numbers m, (m.nops, (m.first, (m.second, texts_of m)))))
 
 -- the line of a head
 unfoldable pub saved_head_text : HeadValues → List ℕ
