@@ -15,10 +15,7 @@ use Rattle.command_line.specs.declared.trace.Trace.{Trace}
 
 -- `--inputs a,b,c`
 abbrev pub inputs_option : Valued
-inputs_option = record {
-  name = codes "inputs";
-  default = Some (codes "986895,3355443,5592405");
-}
+inputs_option = record { name = codes "inputs"; default = Some (codes "986895,3355443,5592405") }
 
 -- `--inputs a,b,c` alone
 abbrev pub inputs_form : Form
@@ -26,11 +23,7 @@ inputs_form = record { options = inputs_option ∷ []; flags = []; positionals =
 
 -- `trace steps [--org] [--inputs a,b,c]`
 abbrev pub trace_form : Form
-trace_form = record {
-  options = inputs_option ∷ [];
-  flags = codes "org" ∷ [];
-  positionals = 1;
-}
+trace_form = record { options = inputs_option ∷ []; flags = codes "org" ∷ []; positionals = 1 }
 
 -- `--workers k`
 abbrev pub workers_option : Valued
@@ -40,13 +33,13 @@ workers_option = record { name = codes "workers"; default = Some (codes "1") }
 abbrev pub workers_form : Form
 workers_form = record { options = workers_option ∷ []; flags = []; positionals = 0 }
 
+-- `--watch looks`
+abbrev pub watch_option : Valued
+watch_option = record { name = codes "watch"; default = None }
+
 -- `run [--workers k] [--watch looks]`
 abbrev pub run_form : Form
-run_form = record {
-  options = workers_option ∷ record { name = codes "watch"; default = None } ∷ [];
-  flags = [];
-  positionals = 0;
-}
+run_form = record { options = workers_option ∷ watch_option ∷ []; flags = []; positionals = 0 }
 
 -- `lineage cell`, `bench seed`, `resume more` and `advance more`, each with `[--workers k]`
 abbrev pub positional_form : Form
