@@ -8,7 +8,6 @@ use Rattle.checkpoint.specs.declared.saved_stop.SavedStop.{SavedStop}
 use Rattle.checkpoint.specs.declared.saved_stop.SavedStop.TheVariants as saved
 use Rattle.log_lines.specs.Line.{Line}
 use Rattle.lineage_log.specs.LogGrammar.{log_of}
-use Rattle.lineage_log.specs.LogValues.{answer_of}
 use Rattle.saved_worlds.specs.SavedGrammar.{SavedCause, SavedFault, BadLine, BadState, Unended, saved_of}
 use Rattle.saved_worlds.specs.SavedState.{SavedState}
 use Rattle.world_config.specs.Config.{config_of}
@@ -69,7 +68,7 @@ assay_input_of count bytes = with_worlds count (configuration_of bytes)
 
 -- the lines of an input that is a log, or why it is refused
 abbrev pub log_input_of : List ℕ → Result (List Line) Refusal
-log_input_of bytes = unless_too_long 536870912 bytes (refused_as Log (answer_of (log_of bytes)))
+log_input_of bytes = unless_too_long 536870912 bytes (refused_as Log (log_of bytes))
 
 -- the answer for a faulty line of a saved world
 abbrev pub saved_stop_at : ℕ → SavedCause → SavedStop

@@ -1,10 +1,11 @@
 -- What was given of a log, beside what is left.
 use Rattle.std.proofs.Common.{◌≡◌, ℕ, true, List, [], ◌∷◌, ◌++◌, Result, Ok, sym, ap, ◌∙◌}
 use Rattle.log_lines.specs.Line.{Line}
+use Rattle.lineage_log.specs.declared.log_stop.LogStop.{LogStop}
 use Rattle.lineage_log.specs.declared.reason.Reason.{Reason}
 use Rattle.lineage_log.specs.declared.log_reader.LogReader.{LogReader}
 use Rattle.lineage_log.specs.Order.{LogPlace, Before, told, told_all, and_on}
-use Rattle.lineage_log.specs.LogGrammar.{Fault, log_of, pieces_log, with_line}
+use Rattle.lineage_log.specs.LogGrammar.{log_of, pieces_log, with_line}
 use Rattle.lineage_log.specs.LogReading.{IsAtStart, TellsNext, left_of}
 use Rattle.lineage_log.specs.LogValues.{with_front}
 use Rattle.lineage_log.specs.Places.{place_of}
@@ -12,8 +13,8 @@ use Rattle.lineage_log.proofs.LogLaws.{cut, went_on, place_is}
 use Rattle.lineage_log.proofs.ReadLemmas.{front_none, front_more}
 
 -- the lines that were given are before those that are left, and lead to this place
-pub record HasGiven (read : Result (List Line) Fault) (place : LogPlace)
-    (left : Result (List Line) Fault) : Type 0 where
+pub record HasGiven (read : Result (List Line) LogStop) (place : LogPlace)
+    (left : Result (List Line) LogStop) : Type 0 where
   pub front : List Line
   pub so_far : with_front front left ≡ read
   pub told : told_all Before front ≡ Ok place
@@ -49,8 +50,8 @@ told_more place before after (first ∷ front) line so next =
     ∙ told_more step.0 before after front line step.2 next
 
 -- where what is left begins with a line that is told, it is given, and the others are left
-pub given_more : (read : Result (List Line) Fault) (before after : LogPlace)
-    (left behind : Result (List Line) Fault) (line : Line) → HasGiven read before left
+pub given_more : (read : Result (List Line) LogStop) (before after : LogPlace)
+    (left behind : Result (List Line) LogStop) (line : Line) → HasGiven read before left
     → left ≡ with_line line behind → told before line ≡ Ok after → HasGiven read after behind
 given_more read before after left behind line given is next = record {
   front = given.front ++ line ∷ [];
@@ -60,7 +61,7 @@ given_more read before after left behind line given is next = record {
 }
 
 -- one line more was given, where it was told
-pub given_told : (read : Result (List Line) Fault) (before after : LogReader)
+pub given_told : (read : Result (List Line) LogStop) (before after : LogReader)
     → HasGiven read (place_of before.place) (left_of before) → TellsNext (Ok true) before after
     → HasGiven read (place_of after.place) (left_of after)
 given_told read before after given tells =

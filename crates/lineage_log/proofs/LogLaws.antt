@@ -9,10 +9,11 @@ use Rattle.std.proofs.lemmas.List.Splits.{join_with_byte-slice_split}
 use Rattle.log_lines.specs.Line.{Line}
 use Rattle.log_lines.specs.LineText.{HasForm, row_text}
 use Rattle.log_lines.specs.LineReading.{line_of}
+use Rattle.lineage_log.specs.declared.log_stop.LogStop.{LogStop}
 use Rattle.lineage_log.specs.declared.reason.Reason.{Reason}
 use Rattle.lineage_log.specs.Reader.{Reader}
 use Rattle.lineage_log.specs.Order.{LogPlace, Before, Within, After, told, and_on, told_all, IsWhole}
-use Rattle.lineage_log.specs.LogGrammar.{Fault, log_end, with_line, after_told, one_piece, pieces_log, log_of, lines_text, IsGoodLog}
+use Rattle.lineage_log.specs.LogGrammar.{log_end, with_line, after_told, one_piece, pieces_log, log_of, lines_text, IsGoodLog}
 
 -- what is used of the lines' texts
 pub record OneSpelling : Type 0 where
@@ -85,7 +86,7 @@ pieces_again spell number place (line ∷ lines) r good fits =
     ap (λ (l : List (List ℕ)). pieces_log number place l) parts
     ∙ ap (λ (o : Option Line). one_piece number place o others) (spell.again line fits.0)
     ∙ ap (λ (t : Result LogPlace Reason). after_told number line t others) step.1
-    ∙ ap (λ (l : Result (List Line) Fault). with_line line l) deep
+    ∙ ap (λ (l : Result (List Line) LogStop). with_line line l) deep
 
 -- the text of the lines of a whole log is read as these lines
 pub log_again : (spell : OneSpelling) (lines : List Line) (r : Reader)
@@ -112,7 +113,7 @@ end_read number (After r) lines is = let e : [] ≡ lines = cc in
     (record { text = refl; fits = tt; whole = tt })
 
 -- lines that are read with a line in front are that line and the others that are read
-with_is : (line : Line) (others : Result (List Line) Fault) (lines : List Line)
+with_is : (line : Line) (others : Result (List Line) LogStop) (lines : List Line)
     → with_line line others ≡ Ok lines → (rest : List Line) × (others ≡ Ok rest)
     × (line ∷ rest ≡ lines)
 with_is line (Ok rest) lines is = (rest, refl, cc)
@@ -120,7 +121,7 @@ with_is line (Err e) lines is = absurd cc
 
 -- where a line and the others were read, the line was told, and they were read from there
 told_is : (number : ℕ) (line : Line) (t : Result LogPlace Reason)
-    (others : LogPlace → Result (List Line) Fault) (lines : List Line)
+    (others : LogPlace → Result (List Line) LogStop) (lines : List Line)
     → after_told number line t others ≡ Ok lines → (p : LogPlace) × (t ≡ Ok p)
     × (with_line line (others p) ≡ Ok lines)
 told_is number line (Ok p) others lines is = (p, refl, is)
@@ -128,7 +129,7 @@ told_is number line (Err e) others lines is = absurd cc
 
 -- where a piece and the others were read, the piece is the text of a line
 piece_is : (number : ℕ) (place : LogPlace) (o : Option Line)
-    (others : LogPlace → Result (List Line) Fault) (lines : List Line)
+    (others : LogPlace → Result (List Line) LogStop) (lines : List Line)
     → one_piece number place o others ≡ Ok lines → (line : Line) × (o ≡ Some line)
     × (after_told number line (told place line) others ≡ Ok lines)
 piece_is number place None others lines is = absurd cc

@@ -14,17 +14,17 @@ use Rattle.lineage_log.specs.declared.log_stop.LogStop.TheVariants as wanting
 use Rattle.lineage_log.specs.Order.{LogPlace, told}
 use Rattle.lineage_log.specs.LogReading.{TellsPiece}
 use Rattle.lineage_log.specs.Places.{TellsPlace}
-use Rattle.lineage_log.specs.LogGrammar.{Fault, BadLine, OutOfOrder, with_line, one_piece, after_told, pieces_log, log_of, lines_text, Reads, IsGoodLog}
-use Rattle.lineage_log.specs.LogValues.{stop_of, answer_of, with_front}
+use Rattle.lineage_log.specs.LogGrammar.{stop_at, with_line, one_piece, after_told, pieces_log, log_of, lines_text, Reads, IsGoodLog}
+use Rattle.lineage_log.specs.LogValues.{stop_of, with_front}
 use Rattle.lineage_log.proofs.LogLaws.{cut}
 
 -- no lines in front of what is read leave it as it is
-pub front_none : (r : Result (List Line) Fault) → with_front [] r ≡ r
+pub front_none : (r : Result (List Line) LogStop) → with_front [] r ≡ r
 front_none (Ok lines) = refl
 front_none (Err fault) = refl
 
 -- a line in front of what is read is the last of the lines in front
-pub front_more : (front : List Line) (one : Line) (r : Result (List Line) Fault)
+pub front_more : (front : List Line) (one : Line) (r : Result (List Line) LogStop)
     → with_front front (with_line one r) ≡ with_front (front ++ one ∷ []) r
 front_more front one (Ok lines) =
     ap (λ (l : List Line). Ok l) (sym (append_assoc front (one ∷ []) lines))
@@ -61,7 +61,7 @@ more_pieces number place piece (b ∷ bs) = elim (cases_Bool (b == 10)) [
 module _ (number : ℕ) (place : LogPlace) (piece rest : List ℕ) where
   -- a piece that is no line is the fault
   pub bad_line : line_of piece ≡ None
-      → pieces_log number place (piece ∷ cut rest) ≡ Err (record { line = number; cause = BadLine })
+      → pieces_log number place (piece ∷ cut rest) ≡ Err (wanting.BadLine number)
   bad_line none = more_pieces number place piece rest
       ∙ ap (λ (o : Option Line). one_piece number place o
       (λ p. pieces_log (number + 1) p (cut rest))) none
@@ -70,7 +70,7 @@ module _ (number : ℕ) (place : LogPlace) (piece rest : List ℕ) where
   pub bad_order : (one : Line) (reason : Reason) → line_of piece ≡ Some one
       → told place one ≡ Err reason
       → pieces_log number place (piece ∷ cut rest)
-      ≡ Err (record { line = number; cause = OutOfOrder reason })
+      ≡ Err (stop_at number reason)
   bad_order one reason is bad =
       let others = λ (p : LogPlace). pieces_log (number + 1) p (cut rest) in
       more_pieces number place piece rest
@@ -93,11 +93,10 @@ module _ (number : ℕ) (place : LogPlace) (piece rest : List ℕ) where
   pub refused_piece : (refusal : Refusal) (stop : LogStop) (after : LogPlace)
       → stop ≡ stop_of number refusal → (stop ≢ wanting.Memory)
       → TellsPiece (Err refusal) (line_of piece) place after
-      → answer_of (pieces_log number place (piece ∷ cut rest)) ≡ Err stop
+      → pieces_log number place (piece ∷ cut rest) ≡ Err stop
   refused_piece Memory stop after is other tells = absurd (other is)
   refused_piece (Faulty reason) stop after is other tells =
-      ap answer_of (bad_order tells.0 reason tells.1 tells.2)
-      ∙ ap (λ (s : LogStop). Err s) (sym is)
+      bad_order tells.0 reason tells.1 tells.2 ∙ ap (λ (s : LogStop). Err s) (sym is)
 
 -- what is read of bytes is a good log that has them as its text
 abbrev pub ReadsExactly : Type 0
@@ -111,10 +110,10 @@ good_read law bytes lines is = ((law bytes lines).0 is).1
 
 -- the answer for a line that was not taken
 pub refused : (refusal : Refusal) (number : ℕ) (stop : LogStop) (next : LogPlace)
-    (t : Result LogPlace Reason) (read : Result (List Line) Fault) → stop ≡ stop_of number refusal
+    (t : Result LogPlace Reason) (read : Result (List Line) LogStop) → stop ≡ stop_of number refusal
     → (stop ≢ wanting.Memory) → TellsPlace (Err refusal) next t
     → ((reason : Reason) → t ≡ Err reason
-    → read ≡ Err (record { line = number; cause = OutOfOrder reason })) → answer_of read ≡ Err stop
+    → read ≡ Err (stop_at number reason)) → read ≡ Err stop
 refused Memory number stop next t read is other told faulty = absurd (other is)
 refused (Faulty reason) number stop next t read is other told faulty =
-    ap answer_of (faulty reason told) ∙ ap (λ (s : LogStop). Err s) (sym is)
+    faulty reason told ∙ ap (λ (s : LogStop). Err s) (sym is)

@@ -5,24 +5,22 @@ use Rattle.lineage_log.specs.declared.log_stop.LogStop.{LogStop}
 use Rattle.lineage_log.specs.declared.log_stop.LogStop.TheVariants as stop
 use Rattle.lineage_log.specs.declared.reader.Reader as code
 use Rattle.lineage_log.specs.Order.{Before, After, told_all}
-use Rattle.lineage_log.specs.LogGrammar.{Fault}
-use Rattle.lineage_log.specs.LogValues.{answer_of, stop_at}
 use Rattle.lineage_log.specs.Readings.{reader_of}
 use Rattle.lineage_log.specs.Replay.{Resident, replay_of}
 
 -- who lives at the end of what was read, or why it was not read
-abbrev pub living_residents_of : Result (List Line) Fault → Result (List Resident) LogStop
+abbrev pub living_residents_of : Result (List Line) LogStop → Result (List Resident) LogStop
 living_residents_of (Ok lines) = Ok (replay_of lines)
-living_residents_of (Err e) = Err (stop_at e.line e.cause)
+living_residents_of (Err e) = Err e
 
 -- these lines were read, and all of them were told to this reader
 pub record HasTold (lines : List Line) (reader : code.Reader)
-    (read : Result (List Line) Fault) : Type 0 where
+    (read : Result (List Line) LogStop) : Type 0 where
   pub read_so : read ≡ Ok lines
   pub told : told_all Before lines ≡ Ok (After (reader_of reader))
 
 -- the reader that is left by the bytes of a log, or why they are none; running out of memory says
 -- nothing of them
-abbrev pub LeavesReader : Result code.Reader LogStop → Result (List Line) Fault → Type 0
+abbrev pub LeavesReader : Result code.Reader LogStop → Result (List Line) LogStop → Type 0
 LeavesReader (Ok reader) read = (lines : List Line) × HasTold lines reader read
-LeavesReader (Err e) read = e ≢ stop.Memory → answer_of read ≡ Err e
+LeavesReader (Err e) read = e ≢ stop.Memory → read ≡ Err e

@@ -4,61 +4,56 @@ use Rattle.std.specs.List.{slice_split, AllByRecursion}
 use Rattle.log_lines.specs.Line.{Line}
 use Rattle.log_lines.specs.LineText.{line_text, HasForm}
 use Rattle.log_lines.specs.LineReading.{line_of}
+use Rattle.lineage_log.specs.declared.log_stop.LogStop.{LogStop}
+use Rattle.lineage_log.specs.declared.log_stop.LogStop.TheVariants as stop
 use Rattle.lineage_log.specs.declared.reason.Reason.{Reason}
+use Rattle.lineage_log.specs.declared.reason.Reason.TheVariants as reason
 use Rattle.lineage_log.specs.Order.{LogPlace, Before, After, told, told_all, IsWhole}
 
--- why a line is faulty
-pub data Cause : Type 0 where
-  BadLine : Cause
-  OutOfOrder : Reason → Cause
-  Unended : Cause
-
--- the first faulty line, numbered from 1
-pub record Fault : Type 0 where
-  pub line : ℕ
-  pub cause : Cause
-
--- a fault at a line
-abbrev pub fault : ℕ → Cause → Result (List Line) Fault
-fault number cause = Err (record { line = number; cause = cause })
+-- the answer for a line that is out of order
+abbrev pub stop_at : ℕ → Reason → LogStop
+stop_at line reason.BadOrder = stop.BadOrder line
+stop_at line reason.UnknownParent = stop.UnknownParent line
+stop_at line reason.BadChange = stop.BadChange line
 
 -- the end of the bytes, behind the last newline
-abbrev pub log_end : ℕ → LogPlace → Result (List Line) Fault
+abbrev pub log_end : ℕ → LogPlace → Result (List Line) LogStop
 log_end number (After r) = Ok []
-log_end number _ = fault number Unended
+log_end number _ = Err (stop.Unended number)
 
 -- the last piece, which has no newline
-abbrev pub last_piece : ℕ → LogPlace → List ℕ → Result (List Line) Fault
+abbrev pub last_piece : ℕ → LogPlace → List ℕ → Result (List Line) LogStop
 last_piece number place [] = log_end number place
-last_piece number place (b ∷ bs) = fault number BadLine
+last_piece number place (b ∷ bs) = Err (stop.BadLine number)
 
 -- the line before those that are read
-abbrev pub with_line : Line → Result (List Line) Fault → Result (List Line) Fault
+abbrev pub with_line : Line → Result (List Line) LogStop → Result (List Line) LogStop
 with_line line (Ok lines) = Ok (line ∷ lines)
 with_line line (Err e) = Err e
 
 -- a line that was told, and the others
 abbrev pub after_told :
-    ℕ → Line → Result LogPlace Reason → (LogPlace → Result (List Line) Fault)
-    → Result (List Line) Fault
+    ℕ → Line → Result LogPlace Reason → (LogPlace → Result (List Line) LogStop)
+    → Result (List Line) LogStop
 after_told number line (Ok place) others = with_line line (others place)
-after_told number line (Err reason) others = fault number (OutOfOrder reason)
+after_told number line (Err reason) others = Err (stop_at number reason)
 
 -- a piece with its line or none, and the others
 abbrev pub one_piece :
-    ℕ → LogPlace → Option Line → (LogPlace → Result (List Line) Fault) → Result (List Line) Fault
-one_piece number place None others = fault number BadLine
+    ℕ → LogPlace → Option Line → (LogPlace → Result (List Line) LogStop)
+    → Result (List Line) LogStop
+one_piece number place None others = Err (stop.BadLine number)
 one_piece number place (Some line) others = after_told number line (told place line) others
 
 -- the lines of the pieces, each but the last a line
-abbrev pub pieces_log : ℕ → LogPlace → List (List ℕ) → Result (List Line) Fault
-pieces_log number place [] = fault number Unended
+abbrev pub pieces_log : ℕ → LogPlace → List (List ℕ) → Result (List Line) LogStop
+pieces_log number place [] = Err (stop.Unended number)
 pieces_log number place (piece ∷ []) = last_piece number place piece
 pieces_log number place (piece ∷ next ∷ pieces) =
     one_piece number place (line_of piece) (λ p. pieces_log (number + 1) p (next ∷ pieces))
 
--- the lines of a log, or the first faulty one
-unfoldable pub log_of : List ℕ → Result (List Line) Fault
+-- the lines of a log, or the first faulty one, numbered from 1; `Memory` is never the answer
+unfoldable pub log_of : List ℕ → Result (List Line) LogStop
 log_of bytes = pieces_log 1 Before (slice_split (λ b. b == 10) bytes)
 
 -- the text of a list of lines

@@ -9,12 +9,11 @@ use Rattle.lineage_log.specs.declared.log_reader.LogReader.{LogReader}
 use Rattle.lineage_log.specs.declared.refusal.Refusal.{Refusal}
 use Rattle.lineage_log.specs.declared.refusal.Refusal.TheVariants.{Memory, Faulty}
 use Rattle.lineage_log.specs.Order.{LogPlace, Before, told}
-use Rattle.lineage_log.specs.LogGrammar.{Fault, pieces_log, with_line}
-use Rattle.lineage_log.specs.LogValues.{answer_of}
+use Rattle.lineage_log.specs.LogGrammar.{pieces_log, with_line}
 use Rattle.lineage_log.specs.Places.{IsAfter, place_of}
 
 -- what the rest of a log gives
-abbrev pub left_of : LogReader → Result (List Line) Fault
+abbrev pub left_of : LogReader → Result (List Line) LogStop
 left_of reader =
     pieces_log reader.number (place_of reader.place)
     (slice_split (λ b. b == 10) reader.rest.now)
@@ -42,7 +41,7 @@ pub record IsRead (before after : LogReader) : Type 0 where
 abbrev pub GivesNext : Result (Option LogLine) LogStop → LogReader → LogReader → Type 0
 GivesNext (Ok (Some line)) before after = ReadsLine (line_values line) before after
 GivesNext (Ok None) before after = IsRead before after
-GivesNext (Err e) before after = e ≢ stop.Memory → answer_of (left_of before) ≡ Err e
+GivesNext (Err e) before after = e ≢ stop.Memory → left_of before ≡ Err e
 
 -- what a piece did: its line is told, and this place is reached; or it is no line; or why its line
 -- is faulty; running out of memory says nothing of it
@@ -59,9 +58,9 @@ TellsPiece (Err (Faulty reason)) piece before after =
 abbrev pub TellsNext : Result Bool LogStop → LogReader → LogReader → Type 0
 TellsNext (Ok true) before after = (line : Line) × ReadsLine line before after
 TellsNext (Ok false) before after = IsRead before after
-TellsNext (Err e) before after = e ≢ stop.Memory → answer_of (left_of before) ≡ Err e
+TellsNext (Err e) before after = e ≢ stop.Memory → left_of before ≡ Err e
 
 -- the bytes end here: a whole log ends, or why it doesn't
-abbrev pub EndsAt : Result (Unit {0}) LogStop → LogPlace → Result (List Line) Fault → Type 0
+abbrev pub EndsAt : Result (Unit {0}) LogStop → LogPlace → Result (List Line) LogStop → Type 0
 EndsAt (Ok done) place left = (left ≡ Ok []) × IsAfter place
-EndsAt (Err e) place left = answer_of left ≡ Err e
+EndsAt (Err e) place left = left ≡ Err e

@@ -1,7 +1,7 @@
 // Reads a log.
 ghost use Rattle.std.specs.Prelude.{◌≡◌, ◌≢◌, Err};
 ghost use Rattle.lineage_log.specs.LogGrammar.{log_of};
-ghost use Rattle.lineage_log.specs.LogValues.{Gives, answer_of};
+ghost use Rattle.lineage_log.specs.LogValues.{Gives};
 
 use crate::laws::read_exactly;
 use crate::log::Log;
@@ -12,7 +12,7 @@ use std::alloc::Global;
 
 /// Reads the text of a log, or tells its first faulty line.
 pub fn read_log(alloc: Global, bytes: &[u8]) -> Result<Log, LogStop>
-    ensures { result ≢ Err LogStop.Memory → result ≡ answer_of (log_of bytes.now) }
+    ensures { result ≢ Err LogStop.Memory → result ≡ log_of bytes.now }
 {
     read_exactly();
     Ok(Log::from_lines(read_lines(alloc, bytes)?))

@@ -6,7 +6,6 @@ use Rattle.lineage_log.specs.Order.{told}
 use Rattle.lineage_log.specs.LogGrammar.{pieces_log}
 use Rattle.lineage_log.specs.LogReading.{left_of}
 use Rattle.lineage_log.specs.Places.{TellsPlace, place_of}
-use Rattle.lineage_log.specs.LogValues.{answer_of}
 use Rattle.lineage_log.specs.declared.refusal.Refusal.{Refusal}
 use Rattle.lineage_log.proofs.LogLaws.{cut}
 use Rattle.lineage_log.proofs.ReadLemmas.{next_piece, bad_line, bad_order, good_line, refused}
@@ -28,10 +27,10 @@ has_line c = sym c.in_ok-line.ensures ∙ ap (option_map line_values) c.in-Some-
 
 pub returns-in_default-2 : goal.returns-in_default-2
 returns-in_default-2 c =
-    λ other. ap answer_of (begins (goal.at.returns-in_default-2 c).In-Some
+    λ other. begins (goal.at.returns-in_default-2 c).In-Some
     ∙ bad_line c.args.reader.now.number (place_of c.args.reader.now.place)
     c.split_at.result.0.now c.in-Some.behind.now
-    (sym c.in_ok-line.ensures ∙ ap (option_map line_values) c.in_default-2.is))
+    (sym c.in_ok-line.ensures ∙ ap (option_map line_values) c.in_default-2.is)
 
 pub returns-in-Err : goal.returns-in-Err
 returns-in-Err c =

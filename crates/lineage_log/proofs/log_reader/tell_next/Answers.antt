@@ -4,7 +4,6 @@ use Rattle.log_lines.specs.LineReading.{line_of}
 use Rattle.lineage_log.specs.LogGrammar.{pieces_log}
 use Rattle.lineage_log.specs.LogReading.{TellsPiece, left_of}
 use Rattle.lineage_log.specs.Places.{place_of}
-use Rattle.lineage_log.specs.LogValues.{answer_of}
 use Rattle.lineage_log.specs.declared.refusal.Refusal.{Refusal}
 use Rattle.lineage_log.proofs.LogLaws.{cut}
 use Rattle.lineage_log.proofs.ReadLemmas.{next_piece, bad_line, good_line, refused_piece}
@@ -28,8 +27,8 @@ returns-in-Ok-false c =
     at next) c.in-Ok-false.is c.tell_piece.ensures in
     let none = subst (λ (b : Bool). TellsPiece (Ok b) (line_of c.split_at.result.0.now) at next)
     c.in-Ok-false.field-0-test gives in
-    λ other. ap answer_of (begins (goal.at.returns-in-Ok-false c).In-Some
-    ∙ bad_line c.args.reader.now.number at c.split_at.result.0.now c.in-Some.behind.now none)
+    λ other. begins (goal.at.returns-in-Ok-false c).In-Some
+    ∙ bad_line c.args.reader.now.number at c.split_at.result.0.now c.in-Some.behind.now none
 
 pub returns-in-Err : goal.returns-in-Err
 returns-in-Err c =
@@ -38,7 +37,7 @@ returns-in-Err c =
     let next = place_of c.tell_piece.new.place in
     let bad = subst (λ (t : Result Bool Refusal). TellsPiece t (line_of c.split_at.result.0.now)
     at next) c.in-Err.is c.tell_piece.ensures in
-    λ other. ap answer_of (begins (goal.at.returns-in-Err c).In-Some)
+    λ other. begins (goal.at.returns-in-Err c).In-Some
     ∙ refused_piece n at c.split_at.result.0.now c.in-Some.behind.now c.in-Err.refusal
     c.stop_for.result next c.stop_for.ensures other bad
 
