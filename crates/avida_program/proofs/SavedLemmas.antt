@@ -9,8 +9,8 @@ use Rattle.saved_worlds.proofs.Updates.{update_of}
 use Rattle.world_config.specs.Values.{ConfigValues}
 use Rattle.world_rules.specs.LogText.{end_text, head_text, log_text, updates_text}
 use Rattle.avida_program.specs.declared.refusal.Refusal.{Refusal}
-use Rattle.avida_program.specs.declared.refusal.Refusal.TheVariants.{TooLong, Updates}
-use Rattle.avida_program.specs.Input.{refused_as, resume_input_of, saved_input_of, saved_refusal, unless_too_long, with_more}
+use Rattle.avida_program.specs.declared.refusal.Refusal.TheVariants.{Saved, TooLong, Updates}
+use Rattle.avida_program.specs.Input.{refused_as, resume_input_of, saved_input_of, unless_too_long, with_more}
 use Rattle.avida_program.specs.ResumedRun.{CanResume, ResumesExactly}
 use Rattle.avida_program.specs.SaveText.{save_text}
 
@@ -43,8 +43,8 @@ pub read_again : (more : ℕ) (bytes : List ℕ) (state : SavedState) → saved_
     → resume_input_of more bytes ≡ Ok state
 read_again more bytes state again short early =
     ap (with_more more)
-    (read_within 536870912 bytes (refused_as saved_refusal (saved_of bytes)) short
-    ∙ ap (refused_as saved_refusal) again)
+    (read_within 536870912 bytes (refused_as Saved (saved_of bytes)) short
+    ∙ ap (refused_as Saved) again)
     ∙ more_within more state early
 
 -- bytes of a saved world that are not too many, and not too late for so many more updates
@@ -96,9 +96,9 @@ pub read_as : (more : ℕ) (bytes : List ℕ) (state : SavedState)
 read_as more bytes state reads =
     let early = early_enough more (saved_input_of bytes) state reads in
     let short =
-    short_enough 536870912 bytes (refused_as saved_refusal (saved_of bytes)) state early.0 in
+    short_enough 536870912 bytes (refused_as Saved (saved_of bytes)) state early.0 in
     record {
-      is = accepted saved_refusal (saved_of bytes) state short.1;
+      is = accepted Saved (saved_of bytes) state short.1;
       short = short.0;
       early = early.1;
     }

@@ -4,11 +4,9 @@ use Rattle.std.specs.Prelude.{◌≡◌, ◌*◌, ◌+◌, ℕ, List, Result, Ok
 use Rattle.instruction_set.specs.declared.letter.Letter.{Letter}
 use Rattle.genome.specs.declared.stop.GenomeStop.{GenomeStop}
 use Rattle.genome.specs.GenomeText.{spelled_by_letters, spelled_by_names}
-use Rattle.checkpoint.specs.declared.saved_stop.SavedStop.{SavedStop}
-use Rattle.checkpoint.specs.declared.saved_stop.SavedStop.TheVariants as saved
 use Rattle.log_lines.specs.Line.{Line}
 use Rattle.lineage_log.specs.LogGrammar.{log_of}
-use Rattle.saved_worlds.specs.SavedGrammar.{SavedCause, SavedFault, BadLine, BadState, Unended, saved_of}
+use Rattle.saved_worlds.specs.SavedGrammar.{saved_of}
 use Rattle.saved_worlds.specs.SavedState.{SavedState}
 use Rattle.world_config.specs.Config.{config_of}
 use Rattle.world_config.specs.Values.{ConfigValues}
@@ -70,19 +68,9 @@ assay_input_of count bytes = with_worlds count (configuration_of bytes)
 abbrev pub log_input_of : List ℕ → Result (List Line) Refusal
 log_input_of bytes = unless_too_long 536870912 bytes (refused_as Log (log_of bytes))
 
--- the answer for a faulty line of a saved world
-abbrev pub saved_stop_at : ℕ → SavedCause → SavedStop
-saved_stop_at line BadLine = saved.BadLine line
-saved_stop_at line BadState = saved.BadState line
-saved_stop_at line Unended = saved.Unended line
-
--- which line of a saved world is faulty, and how
-abbrev pub saved_refusal : SavedFault → Refusal
-saved_refusal fault = Saved (saved_stop_at fault.line fault.cause)
-
 -- the state of an input that is a saved world, or why it is refused
 abbrev pub saved_input_of : List ℕ → Result SavedState Refusal
-saved_input_of bytes = unless_too_long 536870912 bytes (refused_as saved_refusal (saved_of bytes))
+saved_input_of bytes = unless_too_long 536870912 bytes (refused_as Saved (saved_of bytes))
 
 -- a saved world, unless so many more updates go past the greatest; what refuses it comes first
 abbrev pub with_more : ℕ → Result SavedState Refusal → Result SavedState Refusal

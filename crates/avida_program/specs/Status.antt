@@ -11,8 +11,8 @@ use Rattle.genome.specs.declared.stop.GenomeStop.{GenomeStop}
 use Rattle.genome.specs.declared.stop.GenomeStop.TheVariants as stop
 use Rattle.lineage_log.specs.declared.log_stop.LogStop.{LogStop}
 use Rattle.lineage_log.specs.declared.log_stop.LogStop.TheVariants as log
-use Rattle.checkpoint.specs.declared.saved_stop.SavedStop.{SavedStop}
-use Rattle.checkpoint.specs.declared.saved_stop.SavedStop.TheVariants as saved
+use Rattle.saved_worlds.specs.declared.saved_stop.SavedStop.{SavedStop}
+use Rattle.saved_worlds.specs.declared.saved_stop.SavedStop.TheVariants as saved
 use Rattle.world_config.specs.KeyTable.{key_name}
 use Rattle.world_config.specs.declared.stop.ConfigStop.{ConfigStop}
 use Rattle.world_config.specs.declared.stop.ConfigStop.TheVariants as config

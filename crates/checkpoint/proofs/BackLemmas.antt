@@ -16,7 +16,8 @@ use Rattle.saved_lines.specs.SavedText.{count_text, machine_fields, machine_row,
 use Rattle.saved_lines.specs.SavedForms.{HasSavedForm, saved_row_text}
 use Rattle.saved_lines.specs.SavedReading.{SavedLine, Head, Organism, Machine as MachineLine, Count, saved_line_of}
 use Rattle.saved_worlds.specs.SavedState.{SavedState}
-use Rattle.saved_worlds.specs.SavedGrammar.{SavedPlace, Before, Among, Halfway, After, Placed, SavedFault, after_saved_line, may_follow, may_stand, one_saved_piece, pieces_state, placed_of, saved_of, state_of_lines, told_saved_line, with_placed}
+use Rattle.saved_worlds.specs.declared.saved_stop.SavedStop.{SavedStop}
+use Rattle.saved_worlds.specs.SavedGrammar.{SavedPlace, Before, Among, Halfway, After, Placed, after_saved_line, may_follow, may_stand, one_saved_piece, pieces_state, placed_of, saved_of, state_of_lines, told_saved_line, with_placed}
 use Rattle.saved_worlds.specs.SavedWorldText.{cell_text, saved_text, slot_text, values_in}
 use Rattle.saved_worlds.specs.ValidState.{AreSaved}
 use Rattle.checkpoint.specs.Writable.{IsWritable}
@@ -271,4 +272,4 @@ read_back spell whole state is =
     ∙ line_on cells.0 (Among head standing) (After after) (saved_row_text (Count count)) []
     (Count count)
     (spell.one_line (Count count) end) (spell.again (Count count) end) ends
-    ∙ ap (λ (s : SavedState). let read : Result SavedState SavedFault = Ok s in read) again
+    ∙ ap (λ (s : SavedState). let read : Result SavedState SavedStop = Ok s in read) again

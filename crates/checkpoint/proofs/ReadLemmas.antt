@@ -7,8 +7,8 @@ use Rattle.std.proofs.lemmas.Bool.{cases_Bool}
 use Rattle.log_lines.specs.Words.{pieces_of}
 use Rattle.saved_lines.specs.SavedReading.{saved_line_of}
 use Rattle.saved_worlds.specs.SavedState.{SavedState}
-use Rattle.saved_worlds.specs.SavedGrammar.{SavedFault, SavedPlace, one_saved_piece, pieces_state}
-use Rattle.checkpoint.specs.declared.saved_stop.SavedStop.{SavedStop}
+use Rattle.saved_worlds.specs.SavedGrammar.{SavedPlace, one_saved_piece, pieces_state}
+use Rattle.saved_worlds.specs.declared.saved_stop.SavedStop.{SavedStop}
 use Rattle.checkpoint.specs.Reading.{IsFaultOf}
 
 -- the pieces between newlines
@@ -48,7 +48,7 @@ module _ (number : ℕ) (place : SavedPlace) (left piece : List ℕ) (others : O
 
   -- what is left goes on from the next place
   pub left_on : (next : SavedPlace) (behind : Bor (List ℕ)) → others ≡ Some behind
-      → ((f : SavedPlace → Result SavedState SavedFault)
+      → ((f : SavedPlace → Result SavedState SavedStop)
       → one_saved_piece number place (saved_line_of piece) f ≡ f next)
       → pieces_state number place (cut left) ≡ pieces_state (number + 1) next (cut behind.now)
   left_on next behind is step =
@@ -56,9 +56,9 @@ module _ (number : ℕ) (place : SavedPlace) (left piece : List ℕ) (others : O
 
   -- what is left has a faulty line
   pub left_faulty : (e : SavedStop) (behind : Bor (List ℕ)) → others ≡ Some behind
-      → ((f : SavedPlace → Result SavedState SavedFault)
+      → ((f : SavedPlace → Result SavedState SavedStop)
       → IsFaultOf e (one_saved_piece number place (saved_line_of piece) f))
       → IsFaultOf e (pieces_state number place (cut left))
   left_faulty e behind is bad =
-      subst (λ (r : Result SavedState SavedFault). IsFaultOf e r) (sym (left_more behind is))
+      subst (λ (r : Result SavedState SavedStop). IsFaultOf e r) (sym (left_more behind is))
       (bad (λ p. pieces_state (number + 1) p (cut behind.now)))

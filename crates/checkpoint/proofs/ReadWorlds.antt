@@ -7,8 +7,9 @@ use Rattle.log_lines.specs.Fields.{given}
 use Rattle.saved_lines.specs.SavedForms.{HasSavedForm}
 use Rattle.saved_lines.specs.SavedReading.{SavedLine, Head, Organism, Machine, Count, saved_line_of}
 use Rattle.saved_lines.specs.SavedValues.{HeadValues, OrganismValues}
-use Rattle.saved_worlds.specs.SavedGrammar.{SavedPlace, Before, Among, Halfway, After, Placed, SavedFault, after_saved_line, last_saved_piece, may_follow, may_stand, one_saved_piece, pieces_state, placed_of, saved_end, saved_of, state_of_lines, told_saved_line}
+use Rattle.saved_worlds.specs.SavedGrammar.{SavedPlace, Before, Among, Halfway, After, Placed, after_saved_line, last_saved_piece, may_follow, may_stand, one_saved_piece, pieces_state, placed_of, saved_end, saved_of, state_of_lines, told_saved_line}
 use Rattle.saved_worlds.specs.SavedState.{SavedState}
+use Rattle.saved_worlds.specs.declared.saved_stop.SavedStop.{SavedStop}
 use Rattle.saved_worlds.specs.ValidState.{AreSaved, IsHead, MayStandThere}
 use Rattle.checkpoint.specs.Readable.{IsReadImage, IsReadOrganism, IsReadable}
 use Rattle.checkpoint.specs.Writable.{IsWritable}
@@ -100,12 +101,12 @@ module _ (takes : TakesForms) (made : LinesAreWritable) where
   last_good number place (b ∷ bs) state good h = absurd cc
 
   -- what the others make of each place
-  abbrev Leads : (SavedPlace → Result SavedState SavedFault) → SavedState → Type 0
+  abbrev Leads : (SavedPlace → Result SavedState SavedStop) → SavedState → Type 0
   Leads others state = (next : SavedPlace) → IsGood next → others next ≡ Ok state → IsWritable state
 
   -- a place, and others
   after_good : (number : ℕ) (place : SavedPlace) (line : SavedLine) (found : Option SavedPlace)
-      (others : SavedPlace → Result SavedState SavedFault) (state : SavedState) → IsReadable line
+      (others : SavedPlace → Result SavedState SavedStop) (state : SavedState) → IsReadable line
       → IsGood place → told_saved_line place line ≡ found → Leads others state
       → after_saved_line number found others ≡ Ok state → IsWritable state
   after_good number place line None others state read good is leads h = absurd cc
@@ -114,7 +115,7 @@ module _ (takes : TakesForms) (made : LinesAreWritable) where
 
   -- a piece, and others
   piece_good : (number : ℕ) (place : SavedPlace) (piece : List ℕ) (found : Option SavedLine)
-      (others : SavedPlace → Result SavedState SavedFault) (state : SavedState) → IsGood place
+      (others : SavedPlace → Result SavedState SavedStop) (state : SavedState) → IsGood place
       → saved_line_of piece ≡ found → Leads others state
       → one_saved_piece number place found others ≡ Ok state → IsWritable state
   piece_good number place piece None others state good is leads h = absurd cc

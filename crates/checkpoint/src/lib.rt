@@ -6,10 +6,9 @@ pub mod laws;
 mod place;
 mod read;
 mod rules;
-mod saved_stop;
 mod so_far;
 mod writing;
 
 pub use read::read_saved;
-pub use saved_stop::SavedStop;
+pub use saved_worlds::SavedStop;
 pub use writing::{cell_text, head_text, tail_text};

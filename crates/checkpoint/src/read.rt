@@ -6,11 +6,11 @@ ghost use Rattle.checkpoint.specs.Places.{saved_place_of};
 ghost use Rattle.checkpoint.specs.Reading.{Ends, IsFaultOf, Steps};
 
 use crate::place::{ReadPlace, told_saved_line};
-use crate::saved_stop::SavedStop;
 use crate::so_far::SoFar;
 use log_lines::split_at;
 use saved_lines::laws::one_spelling;
 use saved_lines::read_saved_line;
+use saved_worlds::SavedStop;
 use std::alloc::Global;
 use std::sync::Wait;
 use world_core::State;

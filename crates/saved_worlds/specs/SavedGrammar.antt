@@ -9,6 +9,8 @@ use Rattle.world_rules.specs.World.{Occupant}
 use Rattle.saved_lines.specs.SavedValues.{HeadValues, OrganismValues}
 use Rattle.saved_lines.specs.SavedReading.{SavedLine, Head, Organism, Machine as MachineLine, Count, saved_line_of}
 use Rattle.saved_worlds.specs.SavedState.{SavedState}
+use Rattle.saved_worlds.specs.declared.saved_stop.SavedStop.{SavedStop}
+use Rattle.saved_worlds.specs.declared.saved_stop.SavedStop.TheVariants as stop
 
 -- an organism of a saved world, in its cell
 pub record Placed : Type 0 where
@@ -106,54 +108,40 @@ told_saved_line (Among head placed) (Count organisms) =
     given (organisms == length placed) (After (state_of_lines head placed))
 told_saved_line _ _ = None
 
--- why a line is faulty
-pub data SavedCause : Type 0 where
-  BadLine : SavedCause
-  BadState : SavedCause
-  Unended : SavedCause
-
--- the first faulty line, numbered from 1
-pub record SavedFault : Type 0 where
-  pub line : ℕ
-  pub cause : SavedCause
-
--- a fault at a line
-abbrev pub fault_at_line : ℕ → SavedCause → Result SavedState SavedFault
-fault_at_line number cause = Err (record { line = number; cause = cause })
-
 -- the end of the bytes, behind the last newline
-abbrev pub saved_end : ℕ → SavedPlace → Result SavedState SavedFault
+abbrev pub saved_end : ℕ → SavedPlace → Result SavedState SavedStop
 saved_end number (After state) = Ok state
-saved_end number _ = fault_at_line number Unended
+saved_end number _ = Err (stop.Unended number)
 
 -- the last piece, which has no newline
-abbrev pub last_saved_piece : ℕ → SavedPlace → List ℕ → Result SavedState SavedFault
+abbrev pub last_saved_piece : ℕ → SavedPlace → List ℕ → Result SavedState SavedStop
 last_saved_piece number place [] = saved_end number place
-last_saved_piece number place (b ∷ bs) = fault_at_line number BadLine
+last_saved_piece number place (b ∷ bs) = Err (stop.BadLine number)
 
 -- a place or none, and what follows
 abbrev pub after_saved_line :
-    ℕ → Option SavedPlace → (SavedPlace → Result SavedState SavedFault)
-    → Result SavedState SavedFault
-after_saved_line number None others = fault_at_line number BadState
+    ℕ → Option SavedPlace → (SavedPlace → Result SavedState SavedStop)
+    → Result SavedState SavedStop
+after_saved_line number None others = Err (stop.BadState number)
 after_saved_line number (Some place) others = others place
 
 -- a piece with its line or none, and what follows
 abbrev pub one_saved_piece :
-    ℕ → SavedPlace → Option SavedLine → (SavedPlace → Result SavedState SavedFault)
-    → Result SavedState SavedFault
-one_saved_piece number place None others = fault_at_line number BadLine
+    ℕ → SavedPlace → Option SavedLine → (SavedPlace → Result SavedState SavedStop)
+    → Result SavedState SavedStop
+one_saved_piece number place None others = Err (stop.BadLine number)
 one_saved_piece number place (Some line) others =
     after_saved_line number (told_saved_line place line) others
 
 -- the state of the pieces, each but the last a line
-abbrev pub pieces_state : ℕ → SavedPlace → List (List ℕ) → Result SavedState SavedFault
-pieces_state number place [] = fault_at_line number Unended
+abbrev pub pieces_state : ℕ → SavedPlace → List (List ℕ) → Result SavedState SavedStop
+pieces_state number place [] = Err (stop.Unended number)
 pieces_state number place (piece ∷ []) = last_saved_piece number place piece
 pieces_state number place (piece ∷ next ∷ pieces) =
     one_saved_piece number place (saved_line_of piece)
     (λ p. pieces_state (number + 1) p (next ∷ pieces))
 
--- the state whose text the bytes are, or the first faulty line
-unfoldable pub saved_of : List ℕ → Result SavedState SavedFault
+-- the state whose text the bytes are, or the first faulty line, numbered from 1; `Memory` is never
+-- the answer
+unfoldable pub saved_of : List ℕ → Result SavedState SavedStop
 saved_of bytes = pieces_state 1 Before (slice_split (λ b. b == 10) bytes)

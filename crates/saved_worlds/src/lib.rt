@@ -2,3 +2,6 @@
 #![tactic(auto)]
 
 pub mod laws;
+mod saved_stop;
+
+pub use saved_stop::SavedStop;

@@ -1,8 +1,8 @@
 use Rattle.std.proofs.Common.{◌≡◌, ◌<◌, ℕ, List, Option, Bor, Result, Err, length, sym, subst, ◌∙◌, arith, rules}
 use Rattle.std.specs.Prelude.{IfSome}
 use Rattle.saved_worlds.specs.SavedState.{SavedState}
-use Rattle.saved_worlds.specs.SavedGrammar.{SavedFault, saved_of}
-use Rattle.checkpoint.specs.declared.saved_stop.SavedStop.{SavedStop}
+use Rattle.saved_worlds.specs.SavedGrammar.{saved_of}
+use Rattle.saved_worlds.specs.declared.saved_stop.SavedStop.{SavedStop}
 use Rattle.checkpoint.specs.Places.{saved_place_of}
 use Rattle.checkpoint.specs.Reading.{Ends, IsFaultOf}
 use Rattle.checkpoint.specs.SoFarValue.{SoFarValue}
@@ -14,7 +14,7 @@ returns-in_err-place c =
     let e : SavedStop = c.in_err-place.field-0.0 in
     let is : c.from_residual.result ≡ Err e = search rules in
     let bad : IsFaultOf e (saved_of c.args.bytes.now) =
-    subst (λ (r : Result SavedState SavedFault). IsFaultOf e r) c.loop-behind.invariant.left
+    subst (λ (r : Result SavedState SavedStop). IsFaultOf e r) c.loop-behind.invariant.left
     (left_faulty c.loop-behind.number (saved_place_of c.loop-behind.place) c.loop-behind.rest.now
     c.split_at.result.0.now c.split_at.result.1 c.split_at.ensures.pieces e c.in-Some.behind
     c.in-Some.is c.in_err-place.ensures) in

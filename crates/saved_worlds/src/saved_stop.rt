@@ -1,6 +1,6 @@
 // Why bytes are no saved world.
 ghost use Rattle.std.specs.Prelude.{◌≡◌};
-ghost use Rattle.checkpoint.specs.declared.saved_stop.SavedStop.TheVariants as stop;
+ghost use Rattle.saved_worlds.specs.declared.saved_stop.SavedStop.TheVariants as stop;
 
 use avida_port::Memory;
 
