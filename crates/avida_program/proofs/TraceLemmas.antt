@@ -1,5 +1,6 @@
 -- The lines of a trace, cut at a step.
 use Rattle.std.proofs.Common.{◌≡◌, ◌<◌, ◌-◌, ◌+◌, ℕ, zero, suc, List, [], ◌∷◌, ◌++◌, Result, Ok, sym, ap, ◌∙◌, add-zero, add-one, append_assoc, append-nil, arith, subst}
+use Rattle.std.specs.List.{flat_map, range_with_len}
 use Rattle.std.proofs.lemmas.Grind.{flat_map-append}
 use Rattle.avida_port.specs.declared.sink.SinkStop.{SinkStop}
 use Rattle.avida_port.specs.Ports.{SinkState}
@@ -7,15 +8,26 @@ use Rattle.organism.specs.OrganismState.{OrganismState}
 use Rattle.organism.specs.TracedStep.{TracedStep, trace_step_of}
 use Rattle.written_texts.specs.Pieces.{Writes}
 use Rattle.landscape.specs.Trace.{organism_after, step_after}
-use Rattle.avida_program.specs.TraceText.{numbers_below, trace_line, trace_lines}
+use Rattle.avida_program.specs.TraceText.{trace_line, trace_lines}
 use Rattle.written_texts.proofs.PieceLemmas.{writes_then}
+
+-- the numbers from one on, and the next one
+range_more : (a n next : ℕ) → a + n ≡ next
+    → range_with_len a (suc n) ≡ range_with_len a n ++ next ∷ []
+range_more a zero next is =
+    let same : a ≡ next = omega (arith, is) in ap (λ (k : ℕ). k ∷ []) same
+range_more a (suc n) next is =
+    let others : a + 1 + n ≡ next = omega (arith, is) in
+    ap (λ (ns : List ℕ). a ∷ ns) (range_more (a + 1) n next others)
 
 -- one more line
 pub lines_next : (o : OrganismState) (n : ℕ)
     → trace_lines o (n + 1) ≡ trace_lines o n ++ trace_line (n + 1) (step_after o n)
 lines_next o n =
+    let lines = λ (k : ℕ). trace_line (k + 1) (step_after o k) in
     ap (trace_lines o) (add-one n)
-    ∙ flat_map-append (λ k. trace_line (k + 1) (step_after o k)) (numbers_below n) (n ∷ [])
+    ∙ ap (λ (ns : List ℕ). flat_map lines ns) (range_more 0 n n (omega arith))
+    ∙ flat_map-append lines (range_with_len 0 n) (n ∷ [])
     ∙ ap (λ l. trace_lines o n ++ l) (append-nil (trace_line (n + 1) (step_after o n)))
 
 -- the lines up to a step, and those behind it

@@ -27,14 +27,13 @@ SourceFailed source = Rose source.before.faults source.after.faults
 abbrev pub SinkStopped : Change SinkState → Type 0
 SinkStopped sink = SinkFailed sink ⊎ Rose sink.before.wants sink.after.wants
 
--- a text is written whole, or a prefix of it where a put fails or memory runs out
+-- a text is written whole, or a prefix of it where a put fails or memory runs out; nothing else ends
+-- the call
 abbrev pub WritesText : List ℕ → Change SinkState → Ended → Type 0
 WritesText text out (Ok done) = GainedText out text
-WritesText text out (Err error.BadWords) = ⊥
-WritesText text out (Err (error.BadInput why)) = ⊥
-WritesText text out (Err error.ReadFault) = ⊥
 WritesText text out (Err error.WriteFault) = SinkFailed out × GainedFront out text
 WritesText text out (Err error.Memory) = GainedFront out text
+WritesText text out _ = ⊥
 
 -- the fault line of an error on `err`
 pub record TellsFault (err : Change SinkState) (e : CallError) : Type 0 where

@@ -1,6 +1,6 @@
 -- What `trace` writes (docs/FORMATS.md, "Trace lines").
-use Rattle.std.specs.Prelude.{ℕ, zero, suc, ◌+◌, ◌++◌, ◌∷◌, [], List, map, codes, decimal}
-use Rattle.std.specs.List.{flat_map}
+use Rattle.std.specs.Prelude.{ℕ, ◌+◌, ◌++◌, [], List, map, codes, decimal}
+use Rattle.std.specs.List.{flat_map, range_with_len}
 use Rattle.instruction_set.specs.declared.letter.Letter.{Letter}
 use Rattle.instruction_set.specs.Letter.{byte_of, name_of}
 use Rattle.logic_tasks.specs.LogicTasks as tasks
@@ -31,15 +31,10 @@ step_text number step =
 abbrev pub trace_line : ℕ → TracedStep → List ℕ
 trace_line number step = step_text number step ++ remark_text step.remark ++ codes "\n"
 
--- the numbers below this one
-abbrev pub numbers_below : ℕ → List ℕ
-numbers_below zero = []
-numbers_below (suc n) = numbers_below n ++ n ∷ []
-
 -- the lines of an organism's first steps, numbered from 1
 abbrev pub trace_lines : OrganismState → ℕ → List ℕ
 trace_lines organism steps =
-    flat_map (λ n. trace_line (n + 1) (step_after organism n)) (numbers_below steps)
+    flat_map (λ n. trace_line (n + 1) (step_after organism n)) (range_with_len 0 steps)
 
 -- what the trace of a genome writes, with the inputs of which these are the low bits
 abbrev pub trace_text : List Letter → List ℕ → ℕ → List ℕ
