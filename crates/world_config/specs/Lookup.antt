@@ -2,7 +2,7 @@
 -- key has its default: of a document that is only `width = 20`, the number at Width is 20, and that
 -- at Height is 60. What is of another kind counts as 0, false or nothing, since Refusal rejects it.
 -- `Members` are the keys of a table with their values, and `Items` the members of an array.
-use Rattle.std.specs.Prelude.{ℕ, pos, ◌+◌, Bool, false, List, [], unwrap_or, Result, Ok, Err}
+use Rattle.std.specs.Prelude.{ℕ, pos, ◌+◌, ◌-◌, ◌*◌, Bool, false, List, [], unwrap_or, Result, Ok, Err}
 use Rattle.toml.specs.Data.{Data, string, integer, boolean, array}
 use Rattle.toml.specs.Data.{Items, no_items, item, Members, get_member}
 use Rattle.instruction_set.specs.declared.letter.Letter.{Letter}
@@ -11,7 +11,6 @@ use Rattle.genome.specs.GenomeText.{spelled_by_letters}
 use Rattle.world_config.specs.declared.key.Key.{Key}
 use Rattle.world_config.specs.declared.key.Key.TheVariants as code
 use Rattle.world_config.specs.KeyTable.{KeyRow, Frame, no_frame, key_name, key_row}
-use Rattle.world_config.specs.Bounds.{frame_of}
 
 -- the value at the row's name, or the row's default
 abbrev pub value_at : KeyRow → Members → Data
@@ -67,10 +66,12 @@ genome_at key ms = letters_of_value (value_at (key_row no_frame key) ms)
 unfoldable pub items_at : Key → Members → Items
 items_at key ms = items_of_value (value_at (key_row no_frame key) ms)
 
--- the numbers of a table that bound its other values; their own names and defaults are the same in
--- every frame
+-- the numbers of a table that bound its other values, of which the cells are numbered from 0; their
+-- own names and defaults are the same in every frame
 abbrev pub frame_in : Members → Frame
-frame_in ms =
-    frame_of (number_at no_frame code.Width ms) (number_at no_frame code.Height ms)
-    (number_at no_frame code.Updates ms)
-    (number_at no_frame code.LeastLength ms) (number_at no_frame code.GreatestLength ms)
+frame_in ms = record {
+  last_cell = number_at no_frame code.Width ms * number_at no_frame code.Height ms - 1;
+  updates = number_at no_frame code.Updates ms;
+  least_length = number_at no_frame code.LeastLength ms;
+  greatest_length = number_at no_frame code.GreatestLength ms;
+}
