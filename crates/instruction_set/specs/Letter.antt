@@ -14,34 +14,56 @@ letter_table = NopA ∷ NopB ∷ NopC ∷ IfNEqu ∷ IfLess ∷ IfLabel ∷ MovH
     ∷ ShiftR ∷ ShiftL ∷ Inc ∷ Dec ∷ Push ∷ Pop ∷ SwapStk ∷ Swap ∷ Add ∷ Sub ∷ Nand ∷ HCopy ∷ HAlloc
     ∷ HDivide ∷ Io ∷ HSearch ∷ []
 
+-- a row of the table: its place, from 0, its name, and what the operand of its letter is
+pub record LetterRow : Type 0 where
+  pub place : ℕ
+  pub name : List ℕ
+  pub operand : Class
+
+-- the row of these three
+abbrev pub row : ℕ → List ℕ → Class → LetterRow
+row place name operand = record { place = place; name = name; operand = operand }
+
+-- the table: the row of each letter
+abbrev pub letter_row : Letter → LetterRow
+letter_row NopA = row 0 (codes "nop-A") Nop
+letter_row NopB = row 1 (codes "nop-B") Nop
+letter_row NopC = row 2 (codes "nop-C") Nop
+letter_row IfNEqu = row 3 (codes "if-n-equ") Register
+letter_row IfLess = row 4 (codes "if-less") Register
+letter_row IfLabel = row 5 (codes "if-label") Template
+letter_row MovHead = row 6 (codes "mov-head") Head
+letter_row JmpHead = row 7 (codes "jmp-head") Head
+letter_row GetHead = row 8 (codes "get-head") Head
+letter_row SetFlow = row 9 (codes "set-flow") Register
+letter_row ShiftR = row 10 (codes "shift-r") Register
+letter_row ShiftL = row 11 (codes "shift-l") Register
+letter_row Inc = row 12 (codes "inc") Register
+letter_row Dec = row 13 (codes "dec") Register
+letter_row Push = row 14 (codes "push") Register
+letter_row Pop = row 15 (codes "pop") Register
+letter_row SwapStk = row 16 (codes "swap-stk") Plain
+letter_row Swap = row 17 (codes "swap") Register
+letter_row Add = row 18 (codes "add") Register
+letter_row Sub = row 19 (codes "sub") Register
+letter_row Nand = row 20 (codes "nand") Register
+letter_row HCopy = row 21 (codes "h-copy") Plain
+letter_row HAlloc = row 22 (codes "h-alloc") Plain
+letter_row HDivide = row 23 (codes "h-divide") Plain
+letter_row Io = row 24 (codes "IO") Register
+letter_row HSearch = row 25 (codes "h-search") Template
+
 -- the place of a letter in the table
 abbrev pub index_of : Letter → ℕ
-index_of NopA = 0
-index_of NopB = 1
-index_of NopC = 2
-index_of IfNEqu = 3
-index_of IfLess = 4
-index_of IfLabel = 5
-index_of MovHead = 6
-index_of JmpHead = 7
-index_of GetHead = 8
-index_of SetFlow = 9
-index_of ShiftR = 10
-index_of ShiftL = 11
-index_of Inc = 12
-index_of Dec = 13
-index_of Push = 14
-index_of Pop = 15
-index_of SwapStk = 16
-index_of Swap = 17
-index_of Add = 18
-index_of Sub = 19
-index_of Nand = 20
-index_of HCopy = 21
-index_of HAlloc = 22
-index_of HDivide = 23
-index_of Io = 24
-index_of HSearch = 25
+index_of letter = (letter_row letter).place
+
+-- what the operand of a letter is
+abbrev pub class_of : Letter → Class
+class_of letter = (letter_row letter).operand
+
+-- the name of a letter
+abbrev pub name_of : Letter → List ℕ
+name_of letter = (letter_row letter).name
 
 -- a letter is written as the byte `a` to `z`
 abbrev pub byte_of : Letter → ℕ
@@ -55,70 +77,12 @@ same_letter letter other = index_of letter == index_of other
 abbrev pub same_letters : List Letter → List Letter → Bool
 same_letters letters others = pointwise same_letter letters others
 
--- what the operand of a letter is
-abbrev pub class_of : Letter → Class
-class_of NopA = Nop
-class_of NopB = Nop
-class_of NopC = Nop
-class_of IfNEqu = Register
-class_of IfLess = Register
-class_of IfLabel = Template
-class_of MovHead = Head
-class_of JmpHead = Head
-class_of GetHead = Head
-class_of SetFlow = Register
-class_of ShiftR = Register
-class_of ShiftL = Register
-class_of Inc = Register
-class_of Dec = Register
-class_of Push = Register
-class_of Pop = Register
-class_of SwapStk = Plain
-class_of Swap = Register
-class_of Add = Register
-class_of Sub = Register
-class_of Nand = Register
-class_of HCopy = Plain
-class_of HAlloc = Plain
-class_of HDivide = Plain
-class_of Io = Register
-class_of HSearch = Template
-
 -- the complement of a nop; no other letter has one
 abbrev pub complement_of : Letter → Option Letter
 complement_of NopA = Some NopB
 complement_of NopB = Some NopC
 complement_of NopC = Some NopA
 complement_of _ = None
-
--- the name of a letter
-abbrev pub name_of : Letter → List ℕ
-name_of NopA = codes "nop-A"
-name_of NopB = codes "nop-B"
-name_of NopC = codes "nop-C"
-name_of IfNEqu = codes "if-n-equ"
-name_of IfLess = codes "if-less"
-name_of IfLabel = codes "if-label"
-name_of MovHead = codes "mov-head"
-name_of JmpHead = codes "jmp-head"
-name_of GetHead = codes "get-head"
-name_of SetFlow = codes "set-flow"
-name_of ShiftR = codes "shift-r"
-name_of ShiftL = codes "shift-l"
-name_of Inc = codes "inc"
-name_of Dec = codes "dec"
-name_of Push = codes "push"
-name_of Pop = codes "pop"
-name_of SwapStk = codes "swap-stk"
-name_of Swap = codes "swap"
-name_of Add = codes "add"
-name_of Sub = codes "sub"
-name_of Nand = codes "nand"
-name_of HCopy = codes "h-copy"
-name_of HAlloc = codes "h-alloc"
-name_of HDivide = codes "h-divide"
-name_of Io = codes "IO"
-name_of HSearch = codes "h-search"
 
 -- the letter of an index
 unfoldable pub letter_at : ℕ → Option Letter
