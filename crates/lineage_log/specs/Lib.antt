@@ -11,6 +11,7 @@ pub mod Readings
 pub mod Children
 pub mod Places
 pub mod LogGrammar
+pub mod ReadsLog
 pub mod LogValues
 pub mod LogReading
 pub mod Upgrade
