@@ -1,5 +1,6 @@
 pub mod LogLaws
 pub mod ReadLemmas
+pub mod ReadsLogLemmas
 pub mod UpgradeLemmas
 mod StandingLemmas
 pub mod ReplayLemmas

@@ -27,7 +27,7 @@ abbrev pub cut : List ℕ → List (List ℕ)
 cut bytes = slice_split (λ b. b == 10) bytes
 
 -- a text of bytes above 10 is the first piece, if a newline comes behind it
-cut_first : (text rest : List ℕ) → AllByRecursion (λ b. 10 < b) text
+pub cut_first : (text rest : List ℕ) → AllByRecursion (λ b. 10 < b) text
     → cut (text ++ 10 ∷ rest) ≡ text ∷ cut rest
 cut_first [] rest all = refl
 cut_first (b ∷ bs) rest all =
@@ -41,7 +41,7 @@ onto_some b [] = (b ∷ [], [], refl)
 onto_some b (part ∷ parts) = (b ∷ part, parts, refl)
 
 -- any bytes have at least one piece
-cut_some : (bytes : List ℕ) → (next : List ℕ) × (others : List (List ℕ))
+pub cut_some : (bytes : List ℕ) → (next : List ℕ) × (others : List (List ℕ))
     × (cut bytes ≡ next ∷ others)
 cut_some [] = ([], [], refl)
 cut_some (b ∷ bs) = elim (cases_Bool (b == 10)) [

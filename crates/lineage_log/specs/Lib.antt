@@ -10,8 +10,8 @@ pub mod Order
 pub mod Readings
 pub mod Children
 pub mod Places
-pub mod LogGrammar
 pub mod ReadsLog
+pub mod LogGrammar
 pub mod LogValues
 pub mod LogReading
 pub mod Upgrade

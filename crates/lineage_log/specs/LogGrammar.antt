@@ -1,20 +1,14 @@
--- The lines of a log's bytes, or the first faulty one (docs/FORMATS.md, "The log").
-use Rattle.std.specs.Prelude.{◌≡◌, ℕ, ◌+◌, List, [], ◌∷◌, flat_map, Option, Some, None, Result, Ok, Err, ◌==◌}
-use Rattle.std.specs.List.{slice_split, AllByRecursion}
+-- What a reader answers for the bytes of a log: its lines, or the first faulty one (docs/FORMATS.md,
+-- "The log"). ReadsLog says the same without the way of the reading.
+use Rattle.std.specs.Prelude.{◌≡◌, ℕ, ◌+◌, List, [], ◌∷◌, Option, Some, None, Result, Ok, Err, ◌==◌}
+use Rattle.std.specs.List.{slice_split}
 use Rattle.log_lines.specs.Line.{Line}
-use Rattle.log_lines.specs.LineText.{line_text, HasForm}
 use Rattle.log_lines.specs.LineReading.{line_of}
 use Rattle.lineage_log.specs.declared.log_stop.LogStop.{LogStop}
 use Rattle.lineage_log.specs.declared.log_stop.LogStop.TheVariants as stop
 use Rattle.lineage_log.specs.declared.reason.Reason.{Reason}
-use Rattle.lineage_log.specs.declared.reason.Reason.TheVariants as reason
-use Rattle.lineage_log.specs.Order.{LogPlace, Before, After, told, told_all, IsWhole}
-
--- the answer for a line that is out of order
-abbrev pub stop_at : ℕ → Reason → LogStop
-stop_at line reason.BadOrder = stop.BadOrder line
-stop_at line reason.UnknownParent = stop.UnknownParent line
-stop_at line reason.BadChange = stop.BadChange line
+use Rattle.lineage_log.specs.Order.{LogPlace, Before, After, told}
+pub use Rattle.lineage_log.specs.ReadsLog.{lines_text, stop_at, IsGoodLog}
 
 -- the end of the bytes, behind the last newline
 abbrev pub log_end : ℕ → LogPlace → Result (List Line) LogStop
@@ -56,15 +50,6 @@ pieces_log number place (piece ∷ next ∷ pieces) =
 unfoldable pub log_of : List ℕ → Result (List Line) LogStop
 log_of bytes = pieces_log 1 Before (slice_split (λ b. b == 10) bytes)
 
--- the text of a list of lines
-abbrev pub lines_text : List Line → List ℕ
-lines_text lines = flat_map line_text lines
-
 -- the bytes are read as this list
 abbrev pub Reads : List ℕ → List Line → Type 0
 Reads bytes lines = log_of bytes ≡ Ok lines
-
--- each line has a form, their order is good, and the last one is an end
-pub record IsGoodLog (lines : List Line) : Type 0 where
-  pub forms : AllByRecursion HasForm lines
-  pub order : IsWhole (told_all Before lines)

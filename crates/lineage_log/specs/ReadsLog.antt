@@ -1,17 +1,25 @@
 -- What the bytes of a log are read as (docs/FORMATS.md, "The log"). They are read as lines where they
 -- are the text of a good log. Else they begin with good lines, and what is left behind these tells
--- the first fault. For example, behind a first line the bytes `U 2` and a newline have the fault
--- `BadOrder` in line 2, since update 1 is due, and the bytes `U 1` without a newline have the fault
--- `BadLine`.
-use Rattle.std.specs.Prelude.{◌≡◌, ◌≢◌, ◌+◌, ℕ, List, [], ◌++◌, length, Result, Ok, Err}
+-- the fault. For example, behind a first line `E 5` and a newline are out of order in line 2, since no
+-- update has its end yet, and `E 0` without a newline is a bad line.
+use Rattle.std.specs.Prelude.{◌≡◌, ◌≢◌, ◌+◌, ℕ, List, [], ◌++◌, flat_map, length, Result, Ok, Err}
 use Rattle.std.specs.List.{AllByRecursion}
 use Rattle.log_lines.specs.Line.{Line}
 use Rattle.log_lines.specs.LineText.{HasForm, line_text}
 use Rattle.lineage_log.specs.declared.log_stop.LogStop.{LogStop}
 use Rattle.lineage_log.specs.declared.log_stop.LogStop.TheVariants as stop
 use Rattle.lineage_log.specs.declared.reason.Reason.{Reason}
+use Rattle.lineage_log.specs.declared.reason.Reason.TheVariants as reason
 use Rattle.lineage_log.specs.Order.{LogPlace, Before, IsWhole, told, told_all}
-use Rattle.lineage_log.specs.LogGrammar.{IsGoodLog, lines_text, stop_at}
+
+-- the text of a list of lines
+abbrev pub lines_text : List Line → List ℕ
+lines_text lines = flat_map line_text lines
+
+-- each line has a form, their order is good, and the last one is an end
+pub record IsGoodLog (lines : List Line) : Type 0 where
+  pub forms : AllByRecursion HasForm lines
+  pub order : IsWhole (told_all Before lines)
 
 -- good lines with which the bytes begin, the place to which they lead, and the bytes behind them
 pub record GoodFront (bytes : List ℕ) : Type 0 where
@@ -28,6 +36,12 @@ pub record BeginsWith (bytes : List ℕ) (line : Line) : Type 0 where
   pub text : line_text line ++ rest ≡ bytes
   pub form : HasForm line
 
+-- the answer for a line that is out of order
+abbrev pub stop_at : ℕ → Reason → LogStop
+stop_at line reason.BadOrder = stop.BadOrder line
+stop_at line reason.UnknownParent = stop.UnknownParent line
+stop_at line reason.BadChange = stop.BadChange line
+
 -- why the bytes behind good lines are faulty, the first line of which has this number
 abbrev pub IsFaulty : LogPlace → ℕ → List ℕ → LogStop → Type 0
 IsFaulty place number left (stop.Unended line) =
@@ -36,8 +50,8 @@ IsFaulty place number left (stop.BadLine line) =
     (line ≡ number) × (left ≢ []) × ((first : Line) → ¬ BeginsWith left first)
 IsFaulty place number left stop.Memory = ⊥
 IsFaulty place number left why =
-    (first : Line) × (reason : Reason) × BeginsWith left first × (told place first ≡ Err reason)
-    × (why ≡ stop_at number reason)
+    (first : Line) × (cause : Reason) × BeginsWith left first × (told place first ≡ Err cause)
+    × (why ≡ stop_at number cause)
 
 -- the bytes are read as these lines, or rejected for this
 abbrev pub ReadsLog : List ℕ → Result (List Line) LogStop → Type 0

@@ -1,14 +1,24 @@
-ghost use Rattle.std.specs.Prelude.{ℕ, ◌≡◌, ◌<◌, ◌↔◌, ◌++◌, ◌∷◌, [], All, Contains, List, Some};
-ghost use Rattle.log_lines.specs.Line.{Line};
+ghost use Rattle.std.specs.Prelude.{ℕ, ◌≡◌, ◌<◌, ◌↔◌, ◌++◌, ◌∷◌, [], All, Contains, List, Result, Some};
 ghost use Rattle.std.specs.Option.{option_map_or};
+ghost use Rattle.log_lines.specs.Line.{Line};
+ghost use Rattle.lineage_log.specs.declared.log_stop.LogStop.{LogStop};
 ghost use Rattle.lineage_log.specs.Ancestry.{AreOlder, kept_of, line_of_descent, link_of};
 ghost use Rattle.lineage_log.specs.Links.{Link};
-ghost use Rattle.lineage_log.specs.LogGrammar.{IsGoodLog, Reads, lines_text};
+ghost use Rattle.lineage_log.specs.LogGrammar.{IsGoodLog, Reads, lines_text, log_of};
+ghost use Rattle.lineage_log.specs.ReadsLog.{ReadsLog};
 
 /// Bytes are read as a list of lines exactly where they are its text and it is a good log.
 pub fn read_exactly()
     ensures { (bytes : List ℕ) (lines : List Line)
         → Reads bytes lines ↔ ((lines_text lines ≡ bytes) × IsGoodLog lines) }
+{
+    log_lines::laws::one_spelling();
+}
+
+/// Bytes are read as what `log_of` gives, lines or a rejection, and as nothing else.
+pub fn one_answer()
+    ensures { (bytes : List ℕ) (answer : Result (List Line) LogStop)
+        → ReadsLog bytes answer ↔ (log_of bytes ≡ answer) }
 {
     log_lines::laws::one_spelling();
 }
