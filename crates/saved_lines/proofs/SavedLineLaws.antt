@@ -5,6 +5,7 @@ use Rattle.std.specs.Str.{bytes_eq}
 use Rattle.std.specs.List.{join_with_byte}
 use Rattle.std.proofs.lemmas.List.Splits.{join_with_byte-slice_split}
 use Rattle.std.proofs.lemmas.Option.{cond_some}
+use Rattle.numerals.proofs.SpellingLemmas.{spelled, taken, decimal_digits, empty_is_none, minus_is_none}
 use Rattle.logic_tasks.specs.InputsLaws.{inputs_of-top}
 use Rattle.logic_tasks.specs.TaskBitsLaws.{length-tasks_of}
 use Rattle.log_lines.specs.Fields.{genome_field}
@@ -22,6 +23,16 @@ use Rattle.saved_lines.specs.SavedText.{head_ranges, head_row, head_numbers, org
 use Rattle.saved_lines.proofs.FrontLaws.{IsFront, front_law, front_lower, several_law, whole_law, within_law}
 use Rattle.saved_lines.proofs.SavedFieldLaws.{signed_law, marks_law, nops_law}
 use Rattle.saved_lines.proofs.SavedValueLaws.{head_again, head_taken, organism_again, organism_taken, machine_again, machine_taken}
+
+-- numbers have one spelling
+pub numbers_spell : OneNumber
+numbers_spell = record {
+  again = spelled;
+  takes = taken;
+  digits = decimal_digits;
+  no_digits = empty_is_none;
+  no_minus = minus_is_none;
+}
 
 -- the line has this text
 abbrev LineIs : List ℕ → SavedLine → Type 0
