@@ -4,14 +4,15 @@ use Rattle.std.specs.Prelude.{◌≢◌, flat_map, option_and_then}
 use Rattle.std.specs.List.{AllByRecursion, join_with_byte}
 use Rattle.std.proofs.lemmas.List.Splits.{join_with_byte-slice_split}
 use Rattle.log_lines.proofs.FieldLaws.{some_then}
-use Rattle.saved_lines.specs.SavedForms.{HasSavedForm, saved_row_text}
-use Rattle.saved_lines.specs.SavedReading.{SavedLine, saved_line_of}
+use Rattle.saved_lines.specs.SavedForms.{HasSavedForm}
+use Rattle.saved_lines.specs.SavedReading.{saved_line_of}
+use Rattle.saved_lines.specs.SavedText.{SavedLine, saved_line_text, saved_row_text}
 use Rattle.saved_lines.proofs.SavedLineLaws.{line_again, line_plain, line_takes, numbers_spell}
 use Rattle.saved_worlds.specs.SavedState.{SavedState}
 use Rattle.saved_worlds.specs.declared.saved_stop.SavedStop.{SavedStop}
 use Rattle.saved_worlds.specs.declared.saved_stop.SavedStop.TheVariants as stop
 use Rattle.saved_worlds.specs.SavedGrammar.{SavedPlace, Before, Among, Halfway, After, after_saved_line, last_saved_piece, one_saved_piece, pieces_state, saved_of, told_saved_line}
-use Rattle.saved_worlds.specs.ReadsSaved.{BeginsWithLine, EndsSaved, ReadsSaved, saved_line_text, told_saved_lines}
+use Rattle.saved_worlds.specs.ReadsSaved.{BeginsWithLine, EndsSaved, ReadsSaved, told_saved_lines}
 use Rattle.saved_worlds.proofs.SavedPieces.{cut, cut_line, cut_parts, cut_some, line_on, line_told}
 
 -- a line and its newline before other bytes
@@ -23,7 +24,7 @@ line_before line rest = append_assoc (saved_row_text line) (10 ∷ []) rest
 begins_cut : (bytes : List ℕ) (begin : BeginsWithLine bytes)
     → cut bytes ≡ saved_row_text begin.line ∷ cut begin.rest
 begins_cut bytes begin =
-    ap cut (begin.text ∙ line_before begin.line begin.rest)
+    ap cut (sym begin.text ∙ line_before begin.line begin.rest)
     ∙ cut_line (saved_row_text begin.line) begin.rest
     (line_plain numbers_spell begin.line begin.form)
 
@@ -50,7 +51,7 @@ record GoesOn (place : SavedPlace) (number : ℕ) (bytes : List ℕ)
     next : SavedPlace
     left : List ℕ
     at : ℕ
-    text : bytes ≡ flat_map saved_line_text lines ++ left
+    text : flat_map saved_line_text lines ++ left ≡ bytes
     forms : AllByRecursion HasSavedForm lines
     order : told_saved_lines place lines ≡ Some next
     counted : at ≡ length lines + number
@@ -81,9 +82,9 @@ one_more place next number bytes begin answer told on = record {
   next = on.next;
   left = on.left;
   at = on.at;
-  text = begin.text ∙ ap (λ (l : List ℕ). saved_line_text begin.line ++ l) on.text
-      ∙ sym (append_assoc (saved_line_text begin.line) (flat_map saved_line_text on.lines)
-      on.left);
+  text = append_assoc (saved_line_text begin.line) (flat_map saved_line_text on.lines) on.left
+      ∙ ap (λ (l : List ℕ). saved_line_text begin.line ++ l) on.text
+      ∙ begin.text;
   forms = (begin.form, on.forms);
   order = ap (option_and_then (λ (p : SavedPlace). told_saved_lines p on.lines)) told ∙ on.order;
   counted = omega (arith, on.counted);
@@ -110,12 +111,12 @@ module _ (number : ℕ) (bytes piece rest next : List ℕ) (pieces : List (List 
     (others : SavedPlace → Result SavedState SavedStop)
     (on : (p : SavedPlace) → GoesOn p (number + 1) rest (others p)) where
   -- the bytes begin with the line that is read of their first piece
-  begin_is : (line : SavedLine) → saved_row_text line ≡ piece → HasSavedForm line
+  abbrev begin_is : (line : SavedLine) → saved_row_text line ≡ piece → HasSavedForm line
       → BeginsWithLine bytes
   begin_is line row form = record {
     line = line;
     rest = rest;
-    text = text ∙ ap (λ (l : List ℕ). l ++ 10 ∷ rest) (sym row) ∙ sym (line_before line rest);
+    text = line_before line rest ∙ ap (λ (l : List ℕ). l ++ 10 ∷ rest) row ∙ sym text;
     form = form;
   }
 
@@ -219,7 +220,7 @@ bad_piece place number bytes piece rest others (Some line) text is none =
     absurd (none (record {
       line = line;
       rest = rest;
-      text = text ∙ ap (λ (l : List ℕ). l ++ 10 ∷ rest) (sym t.0) ∙ sym (line_before line rest);
+      text = line_before line rest ∙ ap (λ (l : List ℕ). l ++ 10 ∷ rest) t.0 ∙ sym text;
       form = t.1;
     }))
 
@@ -257,7 +258,7 @@ end_reads place number left (Err (stop.BadLine line)) end =
 end_reads place number left (Err (stop.BadState line)) end =
     let begin = end.1 in
     ap (λ (l : List ℕ). pieces_state number place (cut l))
-    (begin.text ∙ line_before begin.line begin.rest)
+    (sym begin.text ∙ line_before begin.line begin.rest)
     ∙ line_told number place None (saved_row_text begin.line) begin.rest begin.line
     (line_plain numbers_spell begin.line begin.form)
     (line_again numbers_spell begin.line begin.form) end.2
@@ -274,6 +275,6 @@ pub reads_one_saved : (bytes : List ℕ) (answer : Result SavedState SavedStop)
 unfolding saved_of
 reads_one_saved bytes answer reads =
     let front = reads.0 in
-    ap (λ (l : List ℕ). pieces_state 1 Before (cut l)) front.text
+    ap (λ (l : List ℕ). pieces_state 1 Before (cut l)) (sym front.text)
     ∙ lines_on Before front.place 1 front.lines front.left front.forms front.order
     ∙ end_reads front.place (length front.lines + 1) front.left answer reads.1

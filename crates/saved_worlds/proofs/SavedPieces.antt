@@ -4,7 +4,8 @@ use Rattle.std.specs.Prelude.{◌==◌}
 use Rattle.std.specs.List.{slice_split, onto_first, AllByRecursion}
 use Rattle.std.proofs.lemmas.Bool.{cases_Bool}
 use Rattle.std.proofs.lemmas.Bool.Decides.{nat_tests}
-use Rattle.saved_lines.specs.SavedReading.{SavedLine, saved_line_of}
+use Rattle.saved_lines.specs.SavedReading.{saved_line_of}
+use Rattle.saved_lines.specs.SavedText.{SavedLine}
 use Rattle.saved_worlds.specs.SavedState.{SavedState}
 use Rattle.saved_worlds.specs.declared.saved_stop.SavedStop.{SavedStop}
 use Rattle.saved_worlds.specs.SavedGrammar.{SavedPlace, after_saved_line, one_saved_piece, pieces_state, told_saved_line}
