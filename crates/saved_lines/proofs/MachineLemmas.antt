@@ -7,8 +7,8 @@ use Rattle.log_lines.specs.Fields.{Field}
 use Rattle.log_lines.specs.Rows.{Row, ◌◂◌}
 use Rattle.log_lines.specs.Words.{read_first}
 use Rattle.saved_lines.specs.SavedFields.{signed, nops}
+use Rattle.saved_lines.specs.SavedTables.{machine_ranges, machine_row, texts_row}
 use Rattle.saved_lines.specs.SavedRows.{Front, read_several, read_within, several, within, ◌◁◌}
-use Rattle.saved_lines.specs.SavedText.{machine_ranges, machine_row, texts_row}
 
 -- the words in front are read
 front_on : {A B : Type 0} (f : Front A) (r : Row B) (words left : List (List ℕ)) (a : A)

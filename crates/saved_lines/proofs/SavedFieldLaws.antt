@@ -21,7 +21,8 @@ use Rattle.label_search.specs.Template.{IsTemplate, is_nop}
 use Rattle.log_lines.specs.Fields.{given}
 use Rattle.log_lines.proofs.LetterLemmas.{letter_of_byte-byte_of}
 use Rattle.log_lines.proofs.FieldLaws.{above_letters, each_takes, letters_again, letters_taken, not_equal, same_bytes}
-use Rattle.saved_lines.specs.SavedFields.{below_zero, read_signed, signed, digit_of, mark_of, if_any, marks, are_nops, some_nops, read_nops, nops_text, nops}
+use Rattle.saved_lines.specs.SavedFields.{below_zero, read_signed, signed, mark_of, if_any, marks, are_nops, some_nops, read_nops, nops}
+use Rattle.saved_lines.specs.SavedText.{digit_of, nops_text}
 use Rattle.saved_lines.proofs.TextLemmas.{nops_text-some}
 
 -- the field writes this word for the number

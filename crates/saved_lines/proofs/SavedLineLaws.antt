@@ -5,6 +5,7 @@ use Rattle.std.specs.Str.{bytes_eq}
 use Rattle.std.specs.List.{join_with_byte}
 use Rattle.std.proofs.lemmas.List.Splits.{join_with_byte-slice_split}
 use Rattle.std.proofs.lemmas.Option.{cond_some}
+use Rattle.numerals.proofs.SpellingLemmas.{spelled, taken, decimal_digits, empty_is_none, minus_is_none}
 use Rattle.logic_tasks.specs.InputsLaws.{inputs_of-top}
 use Rattle.logic_tasks.specs.TaskBitsLaws.{length-tasks_of}
 use Rattle.log_lines.specs.Fields.{genome_field}
@@ -15,13 +16,25 @@ use Rattle.log_lines.proofs.FieldLaws.{Above, IsField, IsRow, OneNumber, chosen,
 use Rattle.log_lines.proofs.KindLaws.{low, large_law}
 use Rattle.log_lines.proofs.RowLaws.{words_in, joined_words, row_words, row_plain, row_takes}
 use Rattle.saved_lines.specs.SavedFields.{signed, nops, marks}
-use Rattle.saved_lines.specs.SavedForms.{saved_row_text, HasSavedForm}
-use Rattle.saved_lines.specs.SavedReading.{SavedLine, Head, Organism, Machine, Count, are_ordered, head_of, saved_head_line, organism_of, machine_of, saved_number_at, read_form, read_saved_words, saved_line_of}
+use Rattle.saved_lines.specs.SavedForms.{HasSavedForm}
+use Rattle.saved_lines.specs.SavedReading.{are_ordered, head_of, saved_head_line, organism_at, organism_of, machine_at, machine_of, saved_number_at, read_form, read_saved_words, saved_line_of}
+use Rattle.saved_lines.specs.SavedTables.{head_ranges, head_row, organism_ranges, organism_row, machine_ranges, machine_row, machine_fields, texts_row}
+use Rattle.saved_lines.specs.SavedText.{saved_row_text, SavedLine, Head, Organism, Machine, Count, head_numbers, organism_numbers}
 use Rattle.saved_lines.specs.SavedRows.{AreWithin, Front, several, within, ◌◁◌}
-use Rattle.saved_lines.specs.SavedText.{head_ranges, head_row, head_numbers, organism_ranges, organism_row, organism_numbers, machine_ranges, machine_row, machine_fields, texts_row}
 use Rattle.saved_lines.proofs.FrontLaws.{IsFront, front_law, front_lower, several_law, whole_law, within_law}
 use Rattle.saved_lines.proofs.SavedFieldLaws.{signed_law, marks_law, nops_law}
+use Rattle.saved_lines.proofs.FitsLemmas.{head_fits, head_is, head_ordered, organism_fits, organism_is, machine_fits, machine_is}
 use Rattle.saved_lines.proofs.SavedValueLaws.{head_again, head_taken, organism_again, organism_taken, machine_again, machine_taken}
+
+-- numbers have one spelling
+pub numbers_spell : OneNumber
+numbers_spell = record {
+  again = spelled;
+  takes = taken;
+  digits = decimal_digits;
+  no_digits = empty_is_none;
+  no_minus = minus_is_none;
+}
 
 -- the line has this text
 abbrev LineIs : List ℕ → SavedLine → Type 0
@@ -84,32 +97,37 @@ module _ (numbers : OneNumber) where
       → saved_line_of (saved_row_text line) ≡ Some line
   unfolding saved_line_of
   line_again (Head head) form =
-      ap read_saved_words (row_words head_law 83 (head_numbers head) (omega arith) form.numbers)
-      ∙ ap (option_and_then saved_head_line) (head_law.again (head_numbers head) form.numbers)
-      ∙ rw (head_again head, form.ordered) refl
+      let fits = head_fits head form in
+      ap read_saved_words (row_words head_law 83 (head_numbers head) (omega arith) fits)
+      ∙ ap (option_and_then saved_head_line) (head_law.again (head_numbers head) fits)
+      ∙ rw (head_again head, head_ordered head form) refl
   line_again (Organism o) form =
+      let fits = organism_fits o form in
       ap read_saved_words (row_words organism_law 79 (organism_numbers o, o.genome) (omega arith)
-      form.fields)
-      ∙ ap (option_map organism_of) (organism_law.again (organism_numbers o, o.genome) form.fields)
+      fits)
+      ∙ ap (option_map organism_of) (organism_law.again (organism_numbers o, o.genome) fits)
       ∙ ap Some (organism_again o form)
   line_again (Machine image) form =
-      ap read_saved_words (row_words machine_law 77 (machine_fields image) (omega arith)
-      form.fields)
-      ∙ ap (option_map machine_of) (machine_law.again (machine_fields image) form.fields)
+      let fits = machine_fits image form in
+      ap read_saved_words (row_words machine_law 77 (machine_fields image) (omega arith) fits)
+      ∙ ap (option_map machine_of) (machine_law.again (machine_fields image) fits)
       ∙ ap Some (machine_again image form)
   line_again (Count organisms) form =
-      ap read_saved_words (row_words count_law 90 organisms (omega arith) form)
-      ∙ ap (option_map Count) (count_law.again organisms form)
+      let fits : (last large).Fits organisms = (omega arith, omega (arith, form)) in
+      ap read_saved_words (row_words count_law 90 organisms (omega arith) fits)
+      ∙ ap (option_map Count) (count_law.again organisms fits)
 
   -- no line has a newline in it
   pub line_plain : (line : SavedLine) → HasSavedForm line → Above 10 (saved_row_text line)
   line_plain (Head head) form =
-      row_plain head_law 83 (head_numbers head) (omega arith) form.numbers
+      row_plain head_law 83 (head_numbers head) (omega arith) (head_fits head form)
   line_plain (Organism o) form =
-      row_plain organism_law 79 (organism_numbers o, o.genome) (omega arith) form.fields
+      row_plain organism_law 79 (organism_numbers o, o.genome) (omega arith)
+      (organism_fits o form)
   line_plain (Machine image) form =
-      row_plain machine_law 77 (machine_fields image) (omega arith) form.fields
-  line_plain (Count organisms) form = row_plain count_law 90 organisms (omega arith) form
+      row_plain machine_law 77 (machine_fields image) (omega arith) (machine_fits image form)
+  line_plain (Count organisms) form =
+      row_plain count_law 90 organisms (omega arith) (omega arith, omega (arith, form))
 
   -- a head that is read was written so
   head_takes : (word : List ℕ) (words : List (List ℕ)) (line : SavedLine)
@@ -124,10 +142,8 @@ module _ (numbers : OneNumber) where
       let back = head_taken ns t.1 in
       subst (λ (l : SavedLine). LineIs (word ++ words_text words) l) passed.1 (
         ap (λ (l : List ℕ). form_text 83 head_row l) back ∙ t.0,
-        record {
-          numbers = subst (λ (l : List ℕ). AreWithin head_ranges l) (sym back) t.1;
-          ordered = passed.0;
-        },
+        head_is (head_of ns) (subst (λ (l : List ℕ). AreWithin head_ranges l) (sym back) t.1)
+            passed.0,
       )
 
   -- an organism that is read was written so
@@ -142,12 +158,10 @@ module _ (numbers : OneNumber) where
       let back = organism_taken p.0 p.1 t.1.0 in
       subst (λ (l : SavedLine). LineIs (word ++ words_text words) l) some.2 (
         ap (λ (l : List ℕ). form_text 79 organism_row (l, p.1)) back ∙ t.0,
-        record {
-          fields = (subst (λ (l : List ℕ). AreWithin organism_ranges l) (sym back) t.1.0, t.1.1);
-          credited = length-tasks_of (saved_number_at p.0 3);
-          gestation = length-tasks_of (saved_number_at p.0 6);
-          inputs = inputs_of-top (drop 7 p.0);
-        },
+        organism_is (organism_at p.0 p.1)
+            (subst (λ (l : List ℕ). AreWithin organism_ranges l) (sym back) t.1.0, t.1.1)
+            (length-tasks_of (saved_number_at p.0 3)) (length-tasks_of (saved_number_at p.0 6))
+            (inputs_of-top (drop 7 p.0)),
       )
 
   -- a machine that is read was written so
@@ -162,13 +176,11 @@ module _ (numbers : OneNumber) where
       let back = machine_taken p.1.0 t.1.1.0 in
       subst (λ (l : SavedLine). LineIs (word ++ words_text words) l) some.2 (
         ap (λ (l : List ℕ). form_text 77 machine_row (p.0, (l, p.1.1))) back ∙ t.0,
-        record {
-          fields = (
-            t.1.0,
-            (subst (λ (l : List ℕ). AreWithin machine_ranges l) (sym back) t.1.1.0, t.1.1.1),
-          );
-          heads = refl;
-        },
+        machine_is (machine_at p) (saved_number_at p.1.0 1) (saved_number_at p.1.0 2)
+            (saved_number_at p.1.0 3) (saved_number_at p.1.0 4) refl (
+              t.1.0,
+              (subst (λ (l : List ℕ). AreWithin machine_ranges l) (sym back) t.1.1.0, t.1.1.1),
+            ),
       )
 
   -- a count that is read was written so
@@ -179,7 +191,8 @@ module _ (numbers : OneNumber) where
   count_takes word words line same is =
       let some = some_map Count ((last large).read words) line is in
       let t = row_takes count_law 90 word words some.0 same some.1 in
-      subst (λ (l : SavedLine). LineIs (word ++ words_text words) l) some.2 (t.0, t.1)
+      subst (λ (l : SavedLine). LineIs (word ++ words_text words) l) some.2
+      (t.0, omega (arith, t.1.1))
 
   -- what is read of words was written so
   word_takes : (word : List ℕ) (words : List (List ℕ)) (line : SavedLine)

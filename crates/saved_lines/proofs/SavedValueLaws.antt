@@ -9,9 +9,10 @@ use Rattle.logic_tasks.specs.TaskBitsLaws.{bit_at-number_of, get_or-tasks_of, le
 use Rattle.virtual_cpu.specs.declared.cpu_image.CpuImage.{CpuImage}
 use Rattle.saved_lines.specs.declared.range.Range.{Range}
 use Rattle.saved_lines.specs.SavedForms.{IsOrganismLine, IsMachineLine}
-use Rattle.saved_lines.specs.SavedReading.{saved_number_at, head_of, organism_of, machine_of, Organism, Machine}
+use Rattle.saved_lines.specs.SavedReading.{saved_number_at, head_of, organism_at, organism_of, machine_of}
+use Rattle.saved_lines.specs.SavedTables.{head_ranges, organism_ranges, machine_ranges, machine_fields}
+use Rattle.saved_lines.specs.SavedText.{Organism, Machine, flag_number, head_numbers, organism_numbers}
 use Rattle.saved_lines.specs.SavedRows.{AreWithin}
-use Rattle.saved_lines.specs.SavedText.{flag_number, head_numbers, head_ranges, organism_numbers, organism_ranges, machine_ranges, machine_fields}
 use Rattle.saved_lines.specs.SavedValues.{HeadValues, OrganismValues}
 use Rattle.saved_lines.proofs.RangeLemmas.{bound_at, within_length}
 
@@ -143,20 +144,6 @@ organism_again o form =
       inputs_again o.inputs form.inputs,
     ) refl
 
--- the organism of numbers and a genome
-abbrev pub organism_at : List ℕ → List Letter → OrganismValues
-organism_at ns genome = record {
-  cell = saved_number_at ns 0;
-  id = saved_number_at ns 1;
-  merit = saved_number_at ns 2;
-  credited = tasks_of (saved_number_at ns 3);
-  age = saved_number_at ns 4;
-  read = saved_number_at ns 5;
-  gestation = tasks_of (saved_number_at ns 6);
-  inputs = inputs_of (drop 7 ns);
-  genome = genome;
-}
-
 module _ (ns : List ℕ) (genome : List Letter) (all : AreWithin organism_ranges ns) where
   -- the numbers of their organism
   pub organism_taken : organism_numbers (organism_at ns genome) ≡ ns
@@ -182,7 +169,7 @@ module _ (ns : List ℕ) (genome : List Letter) (all : AreWithin organism_ranges
 pub machine_again : (image : CpuImage) → IsMachineLine image
     → machine_of (machine_fields image) ≡ Machine image
 machine_again image form =
-    rw (flag_again image.pending, sym (from_is image.heads 0 4 form.heads)) refl
+    rw (flag_again image.pending, sym (from_is image.heads 0 4 form.heads.0)) refl
 
 -- the numbers of their machine
 pub machine_taken : (ns : List ℕ) → AreWithin machine_ranges ns

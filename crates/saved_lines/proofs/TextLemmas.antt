@@ -1,14 +1,13 @@
 -- The words of a line, part by part.
-use Rattle.std.proofs.Common.{◌≡◌, ℕ, ◌<◌, ◌∙◌, arith, refl, sym, ap, length, List, [], ◌∷◌, ◌++◌, map, decimal, append_assoc, append-nil}
+use Rattle.std.proofs.Common.{◌≡◌, ℕ, ◌<◌, ◌∙◌, arith, refl, sym, ap, length, List, [], ◌∷◌, ◌++◌, map, append_assoc, append-nil}
 use Rattle.instruction_set.specs.declared.letter.Letter.{Letter}
 use Rattle.instruction_set.specs.Letter.{byte_of}
 use Rattle.virtual_cpu.specs.declared.cpu_image.CpuImage.{CpuImage}
 use Rattle.std.specs.Prelude.{Result, Ok, Err, OnOk}
 use Rattle.log_lines.specs.LineText.{words_text}
+use Rattle.saved_lines.specs.SavedText.{digit_of, machine_numbers, machine_words, nops_text, number_words, signed_words}
 use Rattle.log_lines.proofs.KeptLemmas.{keeps_front}
 use Rattle.log_lines.proofs.TextLemmas.{words_text-append, words_text_more}
-use Rattle.saved_lines.specs.SavedFields.{signed, nops_text}
-use Rattle.saved_lines.specs.SavedText.{texts_row, texts_of, machine_row, machine_fields, machine_numbers}
 
 -- numbers, and a text
 pub organism_line : (numbers : List (List ℕ)) (text : List ℕ)
@@ -22,21 +21,27 @@ pub stacks_text : (word : List ℕ) (first second : List (List ℕ))
 stacks_text word first second =
     ap (λ (l : List ℕ). (32 ∷ word) ++ l) (words_text-append first second)
 
+-- the words of the four texts
+abbrev pub image_texts : CpuImage → List (List ℕ)
+image_texts image =
+    map byte_of image.memory ∷ map byte_of image.clean ∷ map digit_of image.executed
+    ∷ map digit_of image.copied ∷ []
+
 -- registers, numbers, nops with stacks, and the four texts
 pub machine_line : (image : CpuImage)
-    → words_text (machine_row.texts (machine_fields image))
-    ≡ words_text (map signed.text image.registers)
-    ++ (words_text (map (λ (n : ℕ). decimal n) (machine_numbers image))
+    → words_text (machine_words image)
+    ≡ words_text (signed_words image.registers)
+    ++ (words_text (number_words (machine_numbers image))
     ++ (words_text (nops_text image.nops
-    ∷ (map signed.text image.first ++ map signed.text image.second))
-    ++ words_text (texts_row.texts (texts_of image))))
+    ∷ (signed_words image.first ++ signed_words image.second))
+    ++ words_text (image_texts image)))
 machine_line image =
-    let registers = map signed.text image.registers in
-    let numbers = map (λ (n : ℕ). decimal n) (machine_numbers image) in
+    let registers = signed_words image.registers in
+    let numbers = number_words (machine_numbers image) in
     let nops = nops_text image.nops in
-    let first = map signed.text image.first in
-    let second = map signed.text image.second in
-    let texts = texts_row.texts (texts_of image) in
+    let first = signed_words image.first in
+    let second = signed_words image.second in
+    let texts = image_texts image in
     let stacks : words_text (nops ∷ (first ++ (second ++ texts)))
     ≡ words_text (nops ∷ (first ++ second)) ++ words_text texts =
     ap (λ (l : List (List ℕ)). words_text (nops ∷ l)) (sym (append_assoc first second texts))

@@ -5,10 +5,11 @@ use Rattle.std.specs.Fmt.{signed_decimal}
 use Rattle.std.specs.List.{list_all}
 use Rattle.std.specs.Str.{bytes_eq}
 use Rattle.instruction_set.specs.declared.letter.Letter.{Letter}
-use Rattle.instruction_set.specs.Letter.{byte_of, letter_of_byte}
+use Rattle.instruction_set.specs.Letter.{letter_of_byte}
 use Rattle.label_search.specs.Template.{is_nop, IsTemplate}
 use Rattle.numerals.specs.Numeral.{number_of}
 use Rattle.log_lines.specs.Fields.{Field, each, given}
+use Rattle.saved_lines.specs.SavedText.{digit_of, nops_text}
 
 -- the number behind a minus
 abbrev pub below_zero : ℕ → ℤ
@@ -26,11 +27,6 @@ abbrev pub signed : Field ℤ
 signed =
     record { text = signed_decimal; read = read_signed; Fits = λ number. FitsSigned w32 number }
 
--- 1 for a marked place, and 0 for another
-abbrev pub digit_of : Bool → ℕ
-digit_of true = 49
-digit_of false = 48
-
 -- the place that a digit is of
 abbrev pub mark_of : ℕ → Option Bool
 mark_of byte = if byte == 49 then Some true else if byte == 48 then Some false else None
@@ -47,11 +43,6 @@ marks =
       read = λ word. option_and_then if_any (each mark_of word);
       Fits = λ places. 0 < length places;
     }
-
--- a dash for no nops, or their letters
-abbrev pub nops_text : List Letter → List ℕ
-nops_text [] = 45 ∷ []
-nops_text (nop ∷ nops) = map byte_of (nop ∷ nops)
 
 -- from one to ten letters, all of them nops
 abbrev pub are_nops : List Letter → Bool

@@ -1,42 +1,80 @@
--- The lines of a saved world that have a text (docs/FORMATS.md, "Saved worlds").
-use Rattle.std.specs.Prelude.{◌≡◌, ℕ, true, List, length}
+-- The ranges of the values of each line of a saved world (docs/FORMATS.md, "Saved worlds").
+use Rattle.std.specs.Prelude.{◌≡◌, ℕ, ◌<◌, ◌≤◌, ◌^◌, ℤ, FitsSigned, List, length}
+use Rattle.std.specs.Int.{w32}
+use Rattle.std.specs.List.{AllByRecursion}
+use Rattle.genome.specs.Genome.{IsGenome}
+use Rattle.label_search.specs.Template.{IsTemplate}
 use Rattle.logic_tasks.specs.Inputs.{HasTopBytes}
-use Rattle.log_lines.specs.Kinds.{large}
-use Rattle.log_lines.specs.LineText.{form_text}
-use Rattle.log_lines.specs.Rows.{last}
+use Rattle.mutations.specs.Rates.{RateNumbers}
 use Rattle.virtual_cpu.specs.declared.cpu_image.CpuImage.{CpuImage}
-use Rattle.saved_lines.specs.SavedReading.{SavedLine, Head, Organism, Machine, Count, are_ordered}
-use Rattle.saved_lines.specs.SavedText.{head_row, head_numbers, organism_row, organism_numbers, machine_row, machine_fields}
+use Rattle.saved_lines.specs.SavedText.{SavedLine, Head, Organism, Machine, Count}
 use Rattle.saved_lines.specs.SavedValues.{HeadValues, OrganismValues}
 
--- a line without its newline
-abbrev pub saved_row_text : SavedLine → List ℕ
-saved_row_text (Head head) = form_text 83 head_row (head_numbers head)
-saved_row_text (Organism o) = form_text 79 organism_row (organism_numbers o, o.genome)
-saved_row_text (Machine image) = form_text 77 machine_row (machine_fields image)
-saved_row_text (Count organisms) = form_text 90 (last large) organisms
+-- the third of these numbers lies between the first and the second, or is one of them
+abbrev pub IsWithin : ℕ → ℕ → ℕ → Type 0
+IsWithin least greatest n = (least ≤ n) × (n ≤ greatest)
 
--- the numbers of a head are in their ranges, and its lengths in order
-pub record IsHeadLine (head : HeadValues) : Type 0 where
-  pub numbers : head_row.Fits (head_numbers head)
-  pub ordered : are_ordered head ≡ true
+-- six rates in parts per million
+pub record AreRates (rates : RateNumbers) : Type 0 where
+  pub copy : rates.copy ≤ 1000000
+  pub insert : rates.insert ≤ 1000000
+  pub delete : rates.delete ≤ 1000000
+  pub site_point : rates.site_point ≤ 1000000
+  pub site_insert : rates.site_insert ≤ 1000000
+  pub site_delete : rates.site_delete ≤ 1000000
 
--- the fields of an organism are in their ranges; its sets are of nine tasks, and its inputs are
--- such
+-- the values of a first line, with a next id of at most this
+pub record IsHeadUpTo (greatest_id : ℕ) (head : HeadValues) : Type 0 where
+  pub width : IsWithin 1 256 head.width
+  pub height : IsWithin 1 256 head.height
+  pub update : head.update ≤ 1000000
+  pub next_id : IsWithin 1 greatest_id head.next_id
+  pub seed : head.seed < 2 ^ 63
+  pub average_slices : IsWithin 1 1000 head.average_slices
+  pub age_limit : IsWithin 1 1000 head.age_limit
+  pub rates : AreRates head.rates
+  pub executed_percent : IsWithin 1 100 head.executed_percent
+  pub copied_percent : IsWithin 1 100 head.copied_percent
+  pub least_length : IsWithin 8 8192 head.least_length
+  pub greatest_length : IsWithin head.least_length 8192 head.greatest_length
+  pub memory_limit : IsWithin head.greatest_length 8192 head.memory_limit
+
+-- the values of a first line
+abbrev pub IsHead : HeadValues → Type 0
+IsHead head = IsHeadUpTo (2 ^ 62) head
+
+-- the values of an organism's line; its sets are of nine tasks
 pub record IsOrganismLine (o : OrganismValues) : Type 0 where
-  pub fields : organism_row.Fits (organism_numbers o, o.genome)
+  pub cell : o.cell < 2 ^ 32
+  pub id : o.id < 2 ^ 64
+  pub merit : o.merit < 2 ^ 64
   pub credited : length o.credited ≡ 9
+  pub age : o.age < 2 ^ 64
+  pub read : o.read < 2 ^ 64
   pub gestation : length o.gestation ≡ 9
   pub inputs : HasTopBytes o.inputs
+  pub genome : IsGenome o.genome
 
--- the fields of a machine are in their ranges, and it has four heads
-pub record IsMachineLine (image : CpuImage) : Type 0 where
-  pub fields : machine_row.Fits (machine_fields image)
-  pub heads : length image.heads ≡ 4
+-- so many numbers of 32 bits
+abbrev pub AreWords : ℕ → List ℤ → Type 0
+AreWords count numbers = (length numbers ≡ count) × AllByRecursion (λ n. FitsSigned w32 n) numbers
 
--- a line has one of the four forms
+-- the values of a machine's line
+pub record IsMachineLine (m : CpuImage) : Type 0 where
+  pub registers : AreWords 3 m.registers
+  pub active : m.active < 2
+  pub heads : (length m.heads ≡ 4) × AllByRecursion (λ head. head < 2 ^ 32) m.heads
+  pub nops : IsTemplate m.nops
+  pub first : AreWords 10 m.first
+  pub second : AreWords 10 m.second
+  pub memory : IsGenome m.memory
+  pub clean : IsGenome m.clean
+  pub executed : 0 < length m.executed
+  pub copied : 0 < length m.copied
+
+-- the values of a line are in their ranges, so that its text is read as the line again
 abbrev pub HasSavedForm : SavedLine → Type 0
-HasSavedForm (Head head) = IsHeadLine head
+HasSavedForm (Head head) = IsHead head
 HasSavedForm (Organism o) = IsOrganismLine o
-HasSavedForm (Machine image) = IsMachineLine image
-HasSavedForm (Count organisms) = large.Fits organisms
+HasSavedForm (Machine m) = IsMachineLine m
+HasSavedForm (Count organisms) = organisms < 2 ^ 64

@@ -3,7 +3,7 @@ use Rattle.genome.specs.Genome.{letters}
 use Rattle.saved_lines.specs.declared.saved_line.OrganismLine.{OrganismLine}
 use Rattle.saved_lines.specs.declared.saved_line.SavedLine as read_line
 use Rattle.saved_lines.specs.declared.saved_line.SavedLine.TheVariants as of
-use Rattle.saved_lines.specs.SavedReading.{SavedLine, Head, Organism, Machine, Count}
+use Rattle.saved_lines.specs.SavedText.{SavedLine, Head, Organism, Machine, Count}
 use Rattle.saved_lines.specs.SavedValues.{OrganismValues, head_values}
 
 -- the values of an organism's line

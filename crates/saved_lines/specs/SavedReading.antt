@@ -10,14 +10,8 @@ use Rattle.log_lines.specs.Kinds.{large}
 use Rattle.log_lines.specs.Rows.{last}
 use Rattle.virtual_cpu.specs.declared.cpu_image.CpuImage.{CpuImage}
 use Rattle.saved_lines.specs.SavedValues.{HeadValues, OrganismValues}
-use Rattle.saved_lines.specs.SavedText.{MachineFields, head_row, organism_row, machine_row}
-
--- one line of a saved world
-pub data SavedLine : Type 0 where
-  Head : HeadValues → SavedLine
-  Organism : OrganismValues → SavedLine
-  Machine : CpuImage → SavedLine
-  Count : (organisms : ℕ) → SavedLine
+use Rattle.saved_lines.specs.SavedTables.{MachineFields, head_row, organism_row, machine_row}
+use Rattle.saved_lines.specs.SavedText.{SavedLine, Head, Organism, Machine, Count}
 
 -- the number at a place of a line
 abbrev pub saved_number_at : List ℕ → ℕ → ℕ
@@ -64,25 +58,29 @@ are_ordered head =
 abbrev pub saved_head_line : List ℕ → Option SavedLine
 saved_head_line numbers = given (are_ordered (head_of numbers)) (Head (head_of numbers))
 
--- the organism of the fields of its line
+-- the organism of the numbers of its line and its genome
+abbrev pub organism_at : List ℕ → List Letter → OrganismValues
+organism_at numbers genome = record {
+  cell = saved_number_at numbers 0;
+  id = saved_number_at numbers 1;
+  merit = saved_number_at numbers 2;
+  credited = tasks_of (saved_number_at numbers 3);
+  age = saved_number_at numbers 4;
+  read = saved_number_at numbers 5;
+  gestation = tasks_of (saved_number_at numbers 6);
+  inputs = inputs_of (drop 7 numbers);
+  genome = genome;
+}
+
+-- the line of an organism
 abbrev pub organism_of : List ℕ × List Letter → SavedLine
-organism_of p = Organism (record {
-  cell = saved_number_at p.0 0;
-  id = saved_number_at p.0 1;
-  merit = saved_number_at p.0 2;
-  credited = tasks_of (saved_number_at p.0 3);
-  age = saved_number_at p.0 4;
-  read = saved_number_at p.0 5;
-  gestation = tasks_of (saved_number_at p.0 6);
-  inputs = inputs_of (drop 7 p.0);
-  genome = p.1;
-})
+organism_of p = Organism (organism_at p.0 p.1)
 
 -- the machine of the fields of its line
-abbrev pub machine_of : MachineFields → SavedLine
-machine_of (registers, (numbers, (nops, (first, (second, (memory, (clean, (executed, copied))))))))
+abbrev pub machine_at : MachineFields → CpuImage
+machine_at (registers, (numbers, (nops, (first, (second, (memory, (clean, (executed, copied))))))))
     =
-    Machine (record {
+    record {
       registers = registers;
       active = saved_number_at numbers 0;
       heads = saved_number_at numbers 1 ∷ saved_number_at numbers 2
@@ -95,7 +93,11 @@ machine_of (registers, (numbers, (nops, (first, (second, (memory, (clean, (execu
       clean = clean;
       executed = executed;
       copied = copied;
-    })
+    }
+
+-- the line of a machine
+abbrev pub machine_of : MachineFields → SavedLine
+machine_of fields = Machine (machine_at fields)
 
 -- the line with this mark and these fields
 abbrev pub read_form : List ℕ → List (List ℕ) → Option SavedLine

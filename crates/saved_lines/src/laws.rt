@@ -1,7 +1,8 @@
 ghost use Rattle.std.specs.Prelude.{ℕ, ◌≡◌, ◌<◌, ◌++◌, ◌∷◌, [], List, Some};
 ghost use Rattle.std.specs.List.{AllByRecursion};
-ghost use Rattle.saved_lines.specs.SavedForms.{HasSavedForm, saved_row_text};
-ghost use Rattle.saved_lines.specs.SavedReading.{SavedLine, saved_line_of};
+ghost use Rattle.saved_lines.specs.SavedForms.{HasSavedForm};
+ghost use Rattle.saved_lines.specs.SavedReading.{saved_line_of};
+ghost use Rattle.saved_lines.specs.SavedText.{saved_row_text, SavedLine};
 
 /// Each line of a saved world has one spelling, which has no newline in it.
 pub fn one_spelling()

@@ -6,10 +6,11 @@ ghost use Rattle.log_lines.specs.Kinds as kinds;
 ghost use Rattle.log_lines.specs.Rows as rows;
 ghost use Rattle.log_lines.specs.Words.{read_first, words_of};
 ghost use Rattle.saved_lines.specs.SavedFields.{marks, nops, signed};
+ghost use Rattle.saved_lines.specs.SavedTables.{head_ranges, head_row, machine_ranges, machine_row, organism_ranges, organism_row, texts_row};
 ghost use Rattle.saved_lines.specs.SavedLines.{values_of_line, values_of_organism};
 ghost use Rattle.saved_lines.specs.SavedReading as reading;
 ghost use Rattle.saved_lines.specs.SavedRows.{AreWithin, read_several, read_within};
-ghost use Rattle.saved_lines.specs.SavedText.{head_ranges, head_row, machine_ranges, machine_row, organism_ranges, organism_row, texts_row};
+ghost use Rattle.saved_lines.specs.SavedText as text;
 ghost use Rattle.saved_lines.specs.SavedValues.{head_values};
 
 use crate::fields;
@@ -173,7 +174,7 @@ fn ordered(head: StateHead) -> Option<StateHead>
 
 #[inline(never)]
 fn read_head(rest: Option<&[u8]>) -> Option<StateHead>
-    ensures { option_map (λ head. reading.Head (head_values head)) result
+    ensures { option_map (λ head. text.Head (head_values head)) result
         ≡ option_and_then reading.saved_head_line
         (head_row.read (words_of (option_copied rest.entry))) }
 {
@@ -187,7 +188,7 @@ fn read_head(rest: Option<&[u8]>) -> Option<StateHead>
 /// The organism of the numbers of its line and its genome.
 fn organism_of(numbers: &[u64; 10], genome: Genome) -> OrganismLine
     requires { AreWithin organism_ranges numbers.now }
-    ensures { reading.Organism (values_of_organism result)
+    ensures { text.Organism (values_of_organism result)
         ≡ reading.organism_of (numbers.now, genome_spec.letters genome) }
 {
     OrganismLine {

@@ -3,11 +3,8 @@ ghost use Rattle.std.specs.Prelude.{◌≡◌, ◌∷◌, ◌++◌, [], map, tak
 ghost use Rattle.std.specs.Fmt.{signed_decimal};
 ghost use Rattle.instruction_set.specs.Letter.{byte_of};
 ghost use Rattle.log_lines.specs.Kept.{Keeps};
-ghost use Rattle.log_lines.specs.Kinds.{large};
-ghost use Rattle.log_lines.specs.LineText.{form_text, words_text};
-ghost use Rattle.log_lines.specs.Rows.{last};
-ghost use Rattle.saved_lines.specs.SavedFields.{digit_of, marks, nops_text, signed};
-ghost use Rattle.saved_lines.specs.SavedText.{count_text, flag_number, head_numbers, head_row, machine_fields, machine_numbers, machine_row, organism_numbers, organism_text, resident_text, saved_head_text, texts_of, texts_row};
+ghost use Rattle.log_lines.specs.LineText.{words_text};
+ghost use Rattle.saved_lines.specs.SavedText.{Count, Head, Machine, count_text, digit_of, flag_number, head_numbers, machine_numbers, nops_text, organism_numbers, organism_text, resident_text, saved_head_text, saved_row_text, signed_words};
 ghost use Rattle.saved_lines.specs.SavedValues.{head_values, organism_values};
 
 use crate::resident::Resident;
@@ -54,7 +51,7 @@ fn integer(out: &mut Vec<u8>, number: i32) -> Result<(), Memory>
 #[tactic(auto, using(crate::proofs::TextLemmas::words_grow))]
 fn integers(out: &mut Vec<u8>, numbers: &[i32]) -> Result<(), Memory>
     ensures ok { OnOk result (out.new.items
-        ≡ out.old.items ++ words_text (map signed.text numbers.now)) }
+        ≡ out.old.items ++ words_text (signed_words numbers.now)) }
     ensures err { OnErr result (Keeps out.old.items out.new.items) }
 {
     for number in numbers {
@@ -105,7 +102,7 @@ fn digits(out: &mut Vec<u8>, places: &[bool]) -> Result<(), Memory>
 
 /// A digit for each place, behind a space.
 fn places(out: &mut Vec<u8>, places: &[bool]) -> Result<(), Memory>
-    ensures ok { OnOk result (out.new.items ≡ out.old.items ++ 32 ∷ marks.text places.now) }
+    ensures ok { OnOk result (out.new.items ≡ out.old.items ++ 32 ∷ map digit_of places.now) }
     ensures err { OnErr result (Keeps out.old.items out.new.items) }
 {
     byte(out, b' ')?;
@@ -206,7 +203,7 @@ fn machine_numbers(image: &CpuImage) -> [u64; 6]
 #[tactic(auto, using(crate::proofs::TextLemmas::fronts_stay))]
 fn head(head: &StateHead, out: &mut Vec<u8>) -> Result<(), Memory>
     ensures ok { OnOk result (out.new.items
-        ≡ out.old.items ++ form_text 83 head_row (head_numbers (head_values head.now))) }
+        ≡ out.old.items ++ saved_row_text (Head (head_values head.now))) }
     ensures err { OnErr result (Keeps out.old.items out.new.items) }
 {
     byte(out, b'S')?;
@@ -230,7 +227,8 @@ fn organism(resident: &Resident, out: &mut Vec<u8>) -> Result<(), Memory>
 #[tactic(auto, using(crate::proofs::TextLemmas::fronts_stay))]
 fn texts(image: &CpuImage, out: &mut Vec<u8>) -> Result<(), Memory>
     ensures ok { OnOk result (out.new.items
-        ≡ out.old.items ++ words_text (texts_row.texts (texts_of image.now))) }
+        ≡ out.old.items ++ words_text (map byte_of image.now.memory ∷ map byte_of image.now.clean
+        ∷ map digit_of image.now.executed ∷ map digit_of image.now.copied ∷ [])) }
     ensures err { OnErr result (Keeps out.old.items out.new.items) }
 {
     text(out, image.memory.as_slice())?;
@@ -244,7 +242,7 @@ fn texts(image: &CpuImage, out: &mut Vec<u8>) -> Result<(), Memory>
 fn nops_and_stacks(image: &CpuImage, out: &mut Vec<u8>) -> Result<(), Memory>
     ensures ok { OnOk result (out.new.items
         ≡ out.old.items ++ words_text (nops_text image.now.nops
-        ∷ map signed.text image.now.first ++ map signed.text image.now.second)) }
+        ∷ signed_words image.now.first ++ signed_words image.now.second)) }
     ensures err { OnErr result (Keeps out.old.items out.new.items) }
 {
     template(out, &image.nops)?;
@@ -256,7 +254,7 @@ fn nops_and_stacks(image: &CpuImage, out: &mut Vec<u8>) -> Result<(), Memory>
 #[tactic(auto, using(crate::proofs::TextLemmas::fronts_stay))]
 fn machine(image: &CpuImage, out: &mut Vec<u8>) -> Result<(), Memory>
     ensures ok { OnOk result (out.new.items
-        ≡ out.old.items ++ form_text 77 machine_row (machine_fields image.now)) }
+        ≡ out.old.items ++ saved_row_text (Machine image.now)) }
     ensures err { OnErr result (Keeps out.old.items out.new.items) }
 {
     byte(out, b'M')?;
@@ -271,7 +269,7 @@ fn machine(image: &CpuImage, out: &mut Vec<u8>) -> Result<(), Memory>
 fn resident(resident: &Resident, out: &mut Vec<u8>) -> Result<(), Memory>
     ensures ok { OnOk result (out.new.items
         ≡ out.old.items ++ (organism_text (organism_values resident.now)
-        ++ form_text 77 machine_row (machine_fields resident.now.image.cpu))) }
+        ++ saved_row_text (Machine resident.now.image.cpu))) }
     ensures err { OnErr result (Keeps out.old.items out.new.items) }
 {
     organism(resident, out)?;
@@ -282,7 +280,7 @@ fn resident(resident: &Resident, out: &mut Vec<u8>) -> Result<(), Memory>
 #[tactic(auto, using(crate::proofs::TextLemmas::fronts_stay))]
 fn count(organisms: u64, out: &mut Vec<u8>) -> Result<(), Memory>
     ensures ok { OnOk result (out.new.items
-        ≡ out.old.items ++ form_text 90 (last large) organisms) }
+        ≡ out.old.items ++ saved_row_text (Count organisms)) }
     ensures err { OnErr result (Keeps out.old.items out.new.items) }
 {
     byte(out, b'Z')?;

@@ -6,3 +6,5 @@ mod Heads
 mod Valid
 mod Lines
 mod Runs
+pub mod SavedPieces
+pub mod ReadsSavedLemmas

@@ -5,4 +5,5 @@ pub mod SavedState
 pub mod Resuming
 pub mod SavedWorldText
 pub mod SavedGrammar
+pub mod ReadsSaved
 pub mod ValidState

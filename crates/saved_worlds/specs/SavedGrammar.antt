@@ -7,7 +7,8 @@ use Rattle.virtual_cpu.specs.declared.cpu_image.CpuImage.{CpuImage}
 use Rattle.virtual_cpu.specs.Image.{machine_of_image}
 use Rattle.world_rules.specs.World.{Occupant}
 use Rattle.saved_lines.specs.SavedValues.{HeadValues, OrganismValues}
-use Rattle.saved_lines.specs.SavedReading.{SavedLine, Head, Organism, Machine as MachineLine, Count, saved_line_of}
+use Rattle.saved_lines.specs.SavedReading.{saved_line_of}
+use Rattle.saved_lines.specs.SavedText.{SavedLine, Head, Organism, Machine as MachineLine, Count}
 use Rattle.saved_worlds.specs.SavedState.{SavedState}
 use Rattle.saved_worlds.specs.declared.saved_stop.SavedStop.{SavedStop}
 use Rattle.saved_worlds.specs.declared.saved_stop.SavedStop.TheVariants as stop

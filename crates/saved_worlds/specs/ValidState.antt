@@ -3,44 +3,15 @@ use Rattle.std.specs.Prelude.{◌≡◌, ◌≢◌, ℕ, ◌+◌, ◌*◌, ◌<�
 use Rattle.logic_tasks.specs.Inputs.{HasTopBytes}
 use Rattle.organism.specs.Lived.{IsSoundOrganism}
 use Rattle.organism.specs.OrganismState.{OrganismState}
-use Rattle.mutations.specs.Rates.{RateNumbers}
 use Rattle.world_config.specs.Bounds.{IsWithin}
 use Rattle.world_rules.specs.World.{Occupant}
 use Rattle.world_laws.specs.Ranges.{StandInRange}
+pub use Rattle.saved_lines.specs.SavedForms.{AreRates, IsHead, IsHeadUpTo}
 use Rattle.saved_lines.specs.SavedValues.{HeadValues, organism_values}
 use Rattle.saved_lines.specs.declared.resident.Resident.{Resident}
 use Rattle.saved_worlds.specs.Resuming.{config_of_head, world_of_state}
 use Rattle.saved_worlds.specs.SavedGrammar.{Placed, placed_of}
 use Rattle.saved_worlds.specs.SavedState.{SavedState}
-
--- six rates in parts per million
-pub record AreRates (rates : RateNumbers) : Type 0 where
-  pub copy : rates.copy ≤ 1000000
-  pub insert : rates.insert ≤ 1000000
-  pub delete : rates.delete ≤ 1000000
-  pub site_point : rates.site_point ≤ 1000000
-  pub site_insert : rates.site_insert ≤ 1000000
-  pub site_delete : rates.site_delete ≤ 1000000
-
--- the values of a first line, with a next id of at most this
-pub record IsHeadUpTo (greatest_id : ℕ) (head : HeadValues) : Type 0 where
-  pub width : IsWithin 1 256 head.width
-  pub height : IsWithin 1 256 head.height
-  pub update : head.update ≤ 1000000
-  pub next_id : IsWithin 1 greatest_id head.next_id
-  pub seed : head.seed < 2 ^ 63
-  pub average_slices : IsWithin 1 1000 head.average_slices
-  pub age_limit : IsWithin 1 1000 head.age_limit
-  pub rates : AreRates head.rates
-  pub executed_percent : IsWithin 1 100 head.executed_percent
-  pub copied_percent : IsWithin 1 100 head.copied_percent
-  pub least_length : IsWithin 8 8192 head.least_length
-  pub greatest_length : IsWithin head.least_length 8192 head.greatest_length
-  pub memory_limit : IsWithin head.greatest_length 8192 head.memory_limit
-
--- the values of a first line
-abbrev pub IsHead : HeadValues → Type 0
-IsHead head = IsHeadUpTo (2 ^ 62) head
 
 -- its sets are of nine tasks, and its inputs have the top bytes
 pub record HasKinds (o : OrganismState) : Type 0 where

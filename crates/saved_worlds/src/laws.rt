@@ -1,5 +1,5 @@
 // A saved world goes on as its run would have (docs/WORLD.md, "Saved worlds").
-ghost use Rattle.std.specs.Prelude.{◌≡◌, ℕ, ◌+◌, ◌++◌, ◌<◌, ◌≤◌, List};
+ghost use Rattle.std.specs.Prelude.{◌≡◌, ℕ, ◌+◌, ◌++◌, ◌<◌, ◌≤◌, ◌↔◌, List, Result};
 ghost use Rattle.lineage_log.specs.LogGrammar.{lines_text};
 ghost use Rattle.world_config.specs.Shown.{values_of};
 ghost use Rattle.world_rules.specs.LogText.{head_text, log_text, update_lines, updates_text};
@@ -7,13 +7,21 @@ ghost use Rattle.world_rules.specs.Update.{next_world};
 ghost use Rattle.world_rules.specs.World.{World};
 ghost use Rattle.world_rules.specs.WorldRun.{world_after};
 ghost use Rattle.saved_lines.specs.SavedValues.{HeadValues};
-ghost use Rattle.saved_worlds.specs.SavedGrammar.{Placed, state_of_lines};
+ghost use Rattle.saved_worlds.specs.ReadsSaved.{ReadsSaved};
+ghost use Rattle.saved_worlds.specs.SavedGrammar.{Placed, saved_of, state_of_lines};
 ghost use Rattle.saved_worlds.specs.SavedState.{SavedState, state_of, state_of_world};
 ghost use Rattle.saved_worlds.specs.Resuming.{continued_text, next_state, next_text, saved_state_after};
 ghost use Rattle.saved_worlds.specs.ValidState.{AreSaved, CanGoOn, FitsText, HasRoomFor};
+ghost use Rattle.saved_worlds.specs.declared.saved_stop.SavedStop.{SavedStop};
 
 use world_config::Config;
 use world_laws::laws::{organisms_are_sound, organisms_stay_in_range, ranges_are_kept};
+
+/// What bytes are read as is what the function that reads them answers, and nothing else.
+pub fn bytes_are_read_once()
+    ensures { (bytes : List ℕ) (answer : Result SavedState SavedStop)
+        → (saved_of bytes ≡ answer) ↔ ReadsSaved bytes answer }
+{}
 
 /// The state that a run leaves, after `more` further updates, is that of the run that is longer by
 /// as many. The log without its last line, and then what the resumed world writes, are the log of

@@ -2,7 +2,7 @@ use Rattle.std.proofs.Common.{◌≡◌, ◌∙◌, ◌<◌, ◌≤◌, ℕ, Lis
 use Rattle.std.specs.Prelude.{option_copied}
 use Rattle.log_lines.specs.Words.{words_of}
 use Rattle.saved_lines.specs.SavedRows.{read_within}
-use Rattle.saved_lines.specs.SavedText.{any_flag}
+use Rattle.saved_lines.specs.SavedTables.{any_flag}
 use Rattle.saved_lines.proofs.ItemLemmas.{all_within, behind, number_ends}
 use Rattle.saved_lines.proofs.reading.numbers_first.Goals as goal
 

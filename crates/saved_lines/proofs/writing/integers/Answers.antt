@@ -1,9 +1,9 @@
 use Rattle.std.proofs.Common.{◌<◌, pos, length, append_assoc, arith, rules, get_or}
 use Rattle.std.specs.Prelude.{FitsSigned}
+use Rattle.std.specs.Fmt.{signed_decimal}
 use Rattle.std.specs.Int.{w32}
 use Rattle.std.proofs.lemmas.Int.{to_z-of_z}
 use Rattle.log_lines.proofs.TextLemmas.{words_text_more}
-use Rattle.saved_lines.specs.SavedFields.{signed}
 use Rattle.saved_lines.proofs.writing.integers.Goals as goal
 
 pub loop-number-preserved : goal.loop-number-preserved
@@ -11,7 +11,7 @@ loop-number-preserved c =
     let numbers = c.args.numbers.now in
     let i = c.loop-number.number-index in
     let within : i < length numbers = omega arith in
-    let more = words_text_more signed.text numbers i (pos 0) within in
+    let more = words_text_more signed_decimal numbers i (pos 0) within in
     let number = get_or numbers i (pos 0) in
     let fits : FitsSigned w32 number = search rules in
     rw (

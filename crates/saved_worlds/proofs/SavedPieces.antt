@@ -1,0 +1,105 @@
+-- The pieces of a saved world's bytes.
+use Rattle.std.proofs.Common.{◌≡◌, ℕ, ◌+◌, ◌<◌, false, true, List, [], ◌∷◌, ◌++◌, Option, Some, Result, refl, sym, ap, subst, ◌∙◌, arith, inl, inr}
+use Rattle.std.specs.Prelude.{◌==◌}
+use Rattle.std.specs.List.{slice_split, onto_first, AllByRecursion}
+use Rattle.std.proofs.lemmas.Bool.{cases_Bool}
+use Rattle.std.proofs.lemmas.Bool.Decides.{nat_tests}
+use Rattle.saved_lines.specs.SavedReading.{saved_line_of}
+use Rattle.saved_lines.specs.SavedText.{SavedLine}
+use Rattle.saved_worlds.specs.SavedState.{SavedState}
+use Rattle.saved_worlds.specs.declared.saved_stop.SavedStop.{SavedStop}
+use Rattle.saved_worlds.specs.SavedGrammar.{SavedPlace, after_saved_line, one_saved_piece, pieces_state, told_saved_line}
+
+-- the pieces between newlines
+abbrev pub cut : List ℕ → List (List ℕ)
+cut bytes = slice_split (λ b. b == 10) bytes
+
+-- a byte put onto the first of some pieces leaves at least one piece
+onto_some : (b : ℕ) (parts : List (List ℕ))
+    → (next : List ℕ) × (others : List (List ℕ)) × (onto_first b parts ≡ next ∷ others)
+onto_some b [] = (b ∷ [], [], refl)
+onto_some b (part ∷ parts) = (b ∷ part, parts, refl)
+
+-- any bytes have at least one piece
+pub cut_some : (bytes : List ℕ)
+    → (next : List ℕ) × (others : List (List ℕ)) × (cut bytes ≡ next ∷ others)
+cut_some [] = ([], [], refl)
+cut_some (b ∷ bs) = elim (cases_Bool (b == 10)) [
+  | inl is ↦ ([], cut bs, rw is refl)
+  | inr not ↦ let r = onto_some b (cut bs) in (r.0, r.1, rw not r.2)
+]
+
+-- a line before others is a piece of its own
+pub cut_line : (text rest : List ℕ) → AllByRecursion (λ b. 10 < b) text
+    → cut (text ++ 10 ∷ rest) ≡ text ∷ cut rest
+cut_line [] rest all = refl
+cut_line (b ∷ bs) rest all =
+    let other : (b == 10) ≡ false = grind (arith, nat_tests, all.0) in
+    rw (other, cut_line bs rest all.1) refl
+
+-- the first of several pieces begins with the byte that was put onto it
+onto_parts : (b : ℕ) (parts : List (List ℕ)) (piece next : List ℕ) (pieces : List (List ℕ))
+    → onto_first b parts ≡ piece ∷ next ∷ pieces
+    → (front : List ℕ) × (parts ≡ front ∷ next ∷ pieces) × (b ∷ front ≡ piece)
+onto_parts b [] piece next pieces is = absurd cc
+onto_parts b (part ∷ parts) piece next pieces is =
+    let others : parts ≡ next ∷ pieces = cc in
+    (part, ap (λ (l : List (List ℕ)). part ∷ l) others, cc)
+
+-- the first of several pieces is followed by a newline, and by the bytes of the others
+pub cut_parts : (bytes piece next : List ℕ) (pieces : List (List ℕ))
+    → cut bytes ≡ piece ∷ next ∷ pieces
+    → (rest : List ℕ) × (bytes ≡ piece ++ 10 ∷ rest) × (cut rest ≡ next ∷ pieces)
+cut_parts [] piece next pieces is = absurd cc
+cut_parts (b ∷ bs) piece next pieces is = elim (cases_Bool (b == 10)) [
+  | inl newline ↦
+      let same : b ≡ 10 = grind (arith, nat_tests, newline) in
+      let parts : [] ∷ cut bs ≡ piece ∷ next ∷ pieces = rw newline at is in
+      let empty : [] ≡ piece = cc in
+      let others : cut bs ≡ next ∷ pieces = cc in (
+        bs,
+        ap (λ (n : ℕ). n ∷ bs) same ∙ ap (λ (l : List ℕ). l ++ 10 ∷ bs) empty,
+        others,
+      )
+  | inr other ↦
+      let parts : onto_first b (cut bs) ≡ piece ∷ next ∷ pieces = rw other at is in
+      let front = onto_parts b (cut bs) piece next pieces parts in
+      let deep = cut_parts bs front.0 next pieces front.1 in (
+        deep.0,
+        ap (λ (l : List ℕ). b ∷ l) deep.1 ∙ ap (λ (l : List ℕ). l ++ 10 ∷ deep.0) front.2,
+        deep.2,
+      )
+]
+
+-- a piece before a newline, and the others
+pub more_pieces : (number : ℕ) (place : SavedPlace) (piece rest : List ℕ)
+    → pieces_state number place (piece ∷ cut rest)
+    ≡ one_saved_piece number place (saved_line_of piece)
+    (λ p. pieces_state (number + 1) p (cut rest))
+more_pieces number place piece rest =
+    let some = cut_some rest in
+    subst (λ (l : List (List ℕ)). pieces_state number place (piece ∷ l)
+    ≡ one_saved_piece number place (saved_line_of piece) (λ p. pieces_state (number + 1) p l))
+    (sym some.2) refl
+
+-- a line that is read
+pub line_told : (number : ℕ) (place : SavedPlace) (told : Option SavedPlace) (text rest : List ℕ)
+    (line : SavedLine) → AllByRecursion (λ b. 10 < b) text → saved_line_of text ≡ Some line
+    → told_saved_line place line ≡ told
+    → pieces_state number place (cut (text ++ 10 ∷ rest))
+    ≡ after_saved_line number told (λ p. pieces_state (number + 1) p (cut rest))
+line_told number place told text rest line plain is fits =
+    let others = λ (p : SavedPlace). pieces_state (number + 1) p (cut rest) in
+    ap (λ (l : List (List ℕ)). pieces_state number place l) (cut_line text rest plain)
+    ∙ more_pieces number place text rest
+    ∙ ap (λ (o : Option SavedLine). one_saved_piece number place o others) is
+    ∙ ap (λ (t : Option SavedPlace). after_saved_line number t others) fits
+
+-- a line that is read and fits
+pub line_on : (number : ℕ) (place next : SavedPlace) (text rest : List ℕ) (line : SavedLine)
+    → AllByRecursion (λ b. 10 < b) text → saved_line_of text ≡ Some line
+    → told_saved_line place line ≡ Some next
+    → pieces_state number place (cut (text ++ 10 ∷ rest))
+    ≡ pieces_state (number + 1) next (cut rest)
+line_on number place next text rest line plain is fits =
+    line_told number place (Some next) text rest line plain is fits
