@@ -22,7 +22,11 @@ pub(crate) fn in_order(
     done.sort_unstable_by_key(|one| one.number);
     let mut all = Vec::with_capacity(alloc, done.len())?;
     for one in done {
-        let Done { number, finished } = one;
+        let Done {
+            number,
+            finished,
+            ..
+        } = one;
         if number != all.len() {
             return Err(Memory);
         }

@@ -11,6 +11,7 @@ mod gathering;
 mod job;
 pub mod laws;
 mod lives;
+mod looking;
 mod pending_birth;
 mod pool;
 mod round;

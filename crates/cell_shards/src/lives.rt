@@ -12,6 +12,7 @@ use crate::delivered::Deliveries;
 use crate::delivering::deliver;
 use crate::finished::{Dead, Finished};
 use crate::job::{Cells, Job};
+use crate::looking::{AHEAD, look_ahead};
 use crate::round::Round;
 use crate::standing::{Standing, Standings};
 use avida_port::Memory;
@@ -37,18 +38,18 @@ pub(crate) struct Left {
     pub(crate) seat: Seat,
 }
 
-/// The job with its cells' lives behind them. Where the cells have room for more, so has the list
-/// beside them, for both are joined with those of other jobs.
+/// The job with its cells' lives behind them, and what was seen ahead of them. Where the cells have
+/// room for more, so has the list beside them, for both are joined with those of other jobs.
 pub(crate) fn live<R: Wait>(
     rt: &R,
     alloc: Global,
     job: Job,
     bank: &Bank,
     round: &Round,
-) -> Result<Finished, Memory>
+) -> Result<(Finished, u64), Memory>
     requires job { CanRun job }
     requires seat { job.seat.bank ≡ bank.now }
-    ensures { IfOk result (IsFinished (round_numbers round.now) job) }
+    ensures { IfOk result (λ lived. IsFinished (round_numbers round.now) job lived.0) }
 {
     let Job {
         first,
@@ -59,7 +60,11 @@ pub(crate) fn live<R: Wait>(
     let mut cells = cells.into_vec();
     let slices = slices.into_vec();
     let mut left = nothing_left(alloc, cells.capacity(), seat)?;
+    let mut seen = 0;
     for place in 0..cells.len() {
+        if place % AHEAD == 0 {
+            seen ^= look_ahead(&cells, place);
+        }
         let cell = first + place as u32;
         let slot = &mut cells[place];
         live_at(rt, alloc, bank, round, cell, slices[place], slot, &mut left)?;
@@ -70,14 +75,15 @@ pub(crate) fn live<R: Wait>(
         dead,
         seat,
     } = left;
-    Ok(Finished {
+    let finished = Finished {
         first,
         cells: Cells::from_vec(cells),
         standings,
         births,
         dead,
         seat,
-    })
+    };
+    Ok((finished, seen))
 }
 
 /// Before any cell has lived, with room for what is counted of so many.

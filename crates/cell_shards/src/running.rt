@@ -167,7 +167,11 @@ fn run_if_free<R: Wait>(
     let Some(job) = pool.take(seat, number) else {
         return Ok(());
     };
-    let finished = live(rt, alloc, job, bank, round)?;
-    done.push(Done { number, finished })?;
+    let (finished, seen) = live(rt, alloc, job, bank, round)?;
+    done.push(Done {
+        number,
+        finished,
+        seen,
+    })?;
     Ok(())
 }

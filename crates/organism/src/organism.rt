@@ -161,6 +161,21 @@ impl Organism {
         &self.genome
     }
 
+    /// Its machine.
+    #[inline(always)]
+    pub fn machine(&self) -> &Cpu
+        ensures { result.now ≡ self.now.machine }
+    {
+        &self.machine
+    }
+
+    /// How many inputs it has read since its birth or its last viable divide.
+    pub fn read(&self) -> u64
+        ensures { result ≡ self.now.read }
+    {
+        self.read
+    }
+
     /// The merit, which its share of the steps follows.
     pub fn merit(&self) -> u64
         ensures { result ≡ self.now.merit }

@@ -5,7 +5,7 @@ ghost use Rattle.genome.specs.Genome.{letters};
 ghost use Rattle.virtual_cpu.specs.Registers.{value_of};
 ghost use Rattle.virtual_cpu.specs.Heads.{head_place};
 ghost use Rattle.virtual_cpu.specs.Stack.{pushed, popped, top_of};
-ghost use Rattle.virtual_cpu.specs.Machine.{IsMachine, fresh_machine, letter_under_ip, place_after, place_of_number, with_ip_marked, with_ip_advanced, with_head_at, with_flow_at, with_value};
+ghost use Rattle.virtual_cpu.specs.Machine.{letter_in_memory, IsMachine, fresh_machine, letter_under_ip, place_after, place_of_number, with_ip_marked, with_ip_advanced, with_head_at, with_flow_at, with_value};
 ghost use Rattle.virtual_cpu.specs.Image.{image_of, machine_of_image};
 ghost use Rattle.virtual_cpu.specs.RegisterEffects.{active_stack, with_active_stack};
 ghost use Rattle.virtual_cpu.specs.Copying.{after_h_copy};
@@ -200,6 +200,25 @@ impl Cpu {
         ensures { result ≡ letter_under_ip self.now }
     {
         self.sites.letter(self.heads.ip as usize)
+    }
+
+    /// The letters under IP, READ and WRITE.
+    #[inline(always)]
+    pub fn letters_under_heads(&self) -> [Letter; 3]
+        ensures { let m = self.now in result ≡ letter_in_memory m m.heads.ip
+            ∷ letter_in_memory m m.heads.read ∷ letter_in_memory m m.heads.write ∷ [] }
+    {
+        let Heads {
+            ip,
+            read,
+            write,
+            ..
+        } = self.heads;
+        [
+            self.sites.letter(ip as usize),
+            self.sites.letter(read as usize),
+            self.sites.letter(write as usize),
+        ]
     }
 
     /// The place of IP.
