@@ -3,6 +3,7 @@ pub mod ListTexts
 pub mod RangeLemmas
 pub mod TextEnds
 pub mod ReadEnds
+pub mod ReadInputs
 pub mod RunEnds
 pub mod BenchLemmas
 pub mod ResumeLemmas

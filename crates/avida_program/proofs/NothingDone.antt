@@ -8,7 +8,7 @@ use Rattle.avida_program.specs.declared.command.Command.{Command}
 use Rattle.avida_program.specs.declared.command.Command.TheVariants.{Run, Lineage, Bench}
 use Rattle.avida_program.specs.declared.call_error.CallError.TheVariants as error
 use Rattle.avida_program.specs.declared.refusal.Refusal.{Refusal}
-use Rattle.avida_program.specs.Input.{configuration_of}
+use Rattle.avida_program.specs.Input.{GivenBy, configuration_of}
 use Rattle.avida_program.specs.BenchText.{bench_text}
 use Rattle.avida_program.specs.Changes.{Work}
 use Rattle.written_texts.specs.SinkChanges.{Stays, unchanged}
@@ -16,10 +16,11 @@ use Rattle.avida_program.specs.Commands.{Does, Obeys, Watches}
 use Rattle.avida_program.proofs.ReadEnds.{carried}
 
 -- a watcher that has written nothing
-nothing_watched : (looks : Option ℕ) (read : Result ConfigValues Refusal) (work : Work)
-    → Stays work.watch → IfSome looks (λ n. Watches n read work (Err error.Memory))
-nothing_watched None read work stays = tt
-nothing_watched (Some n) read work stays = inl stays
+nothing_watched : (looks : Option ℕ) (reading : Result ConfigValues Refusal → Type 0)
+    (work : Work)
+    → Stays work.watch → IfSome looks (λ n. Watches n reading work (Err error.Memory))
+nothing_watched None reading work stays = tt
+nothing_watched (Some n) reading work stays = inl stays
 
 -- nothing was read, written or left
 abbrev pub untouched : SourceState → SinkState → SinkState → Option WorldValue → Work
@@ -35,7 +36,7 @@ does_nothing : (command : Command) (source : SourceState) (out watch : SinkState
     (last : Option WorldValue) → Does command (untouched source out watch last) (Err error.Memory)
 does_nothing (Run run) source out watch last = record {
   reads = λ bytes is. inl refl;
-  watches = λ bytes is. nothing_watched run.watch (configuration_of bytes)
+  watches = λ bytes is. nothing_watched run.watch (GivenBy configuration_of bytes)
       (untouched source out watch last) refl;
   last_world = tt;
   replays = tt;

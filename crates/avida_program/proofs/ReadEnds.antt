@@ -1,5 +1,5 @@
 -- How a command ends that reads an input and writes a text of it.
-use Rattle.std.proofs.Common.{◌≡◌, ◌⊎◌, ℕ, List, false, Option, None, Result, Ok, Err, IsErrAnd, OnErr, refl, inl, inr, sym, subst}
+use Rattle.std.proofs.Common.{◌≡◌, ◌↔◌, ◌⊎◌, ℕ, List, false, Option, None, Result, Ok, Err, IsErrAnd, OnErr, refl, inl, inr, sym, subst}
 use Rattle.std.specs.Prelude.{⊤}
 use Rattle.avida_port.specs.Ports.{SinkState, SourceState}
 use Rattle.logged_run.specs.RunStops.{PutFailed}
@@ -15,6 +15,7 @@ use Rattle.avida_program.specs.Changes.{OnBytes, SourceFailed, Work, WritesText}
 use Rattle.avida_program.specs.CommandLine.{leaves_world, looks_of}
 use Rattle.avida_program.specs.Commands.{CarriesOut, Does, Reads, ReadsInput}
 use Rattle.avida_program.specs.Endings.{GivesInput, GivesNoInput, ReadsAndWrites, ended_by}
+use Rattle.avida_program.specs.Input.{GivenBy, IsInputWith}
 use Rattle.avida_program.specs.Status.{Ended}
 
 -- a fault has its cause
@@ -102,7 +103,8 @@ module _ {A : Type 0} (input_of : List ℕ → Result A Refusal) (text_of : A �
   -- of no input nothing is written
   pub nothing_read : (looks : Option ℕ) (work : Work) (e : CallError)
       → GivesNoInput input_of work.source e → Stays work.out
-      → OnBytes work.source (λ bytes. ReadsInput looks (input_of bytes) text_of work (Err e))
+      → OnBytes work.source (λ bytes.
+      ReadsInput looks (GivenBy input_of bytes) text_of work (Err e))
   nothing_read looks work error.BadWords h stays = absurd h
   nothing_read looks work (error.BadInput why) h stays = λ bytes told. (stays, h bytes told)
   nothing_read looks work error.ReadFault h stays = λ bytes told. (stays, h)
@@ -111,7 +113,7 @@ module _ {A : Type 0} (input_of : List ℕ → Result A Refusal) (text_of : A �
 
   -- the text of an input is written, or stops
   input_read : (work : Work) (ended : Ended) (input : A) → GivesInput input_of work.source input
-      → WritesText (text_of input) work.out ended → Reads input_of text_of work ended
+      → WritesText (text_of input) work.out ended → Reads (GivenBy input_of) text_of work ended
   input_read work (Ok done) input read wrote =
       λ bytes told. (read.whole bytes told, (input, read.reads bytes told, wrote))
   input_read work (Err error.BadWords) input read wrote = absurd wrote
@@ -125,14 +127,14 @@ module _ {A : Type 0} (input_of : List ℕ → Result A Refusal) (text_of : A �
   -- what it reads and writes, and what causes a fault
   pub reads_and_writes : (command : Command) → looks_of command ≡ None → (work : Work)
       (ended : Ended) → ReadsAndWrites input_of text_of work.source work.out ended
-      → IsCaused command work ended × Reads input_of text_of work ended
+      → IsCaused command work ended × Reads (GivenBy input_of) text_of work ended
   reads_and_writes command alone work ended so = by ended so.by_input
     where
       by : (end : Ended)
           → ((Stays work.out × IsErrAnd end (GivesNoInput input_of work.source))
           ⊎ ((input : A) × GivesInput input_of work.source input
           × WritesText (text_of input) work.out end))
-          → IsCaused command work end × Reads input_of text_of work end
+          → IsCaused command work end × Reads (GivenBy input_of) text_of work end
       by (Ok done) (inl h) = absurd h.1
       by (Err e) (inl h) =
           (nothing_caused input_of command work e h.1, nothing_read None work e h.1 h.0)
@@ -143,7 +145,7 @@ module _ {A : Type 0} (input_of : List ℕ → Result A Refusal) (text_of : A �
 
   -- a command that only reads and writes is carried out
   pub only_reads : (command : Command)
-      → ((work : Work) (ended : Ended) → Reads input_of text_of work ended
+      → ((work : Work) (ended : Ended) → Reads (GivenBy input_of) text_of work ended
       → Does command work ended)
       → looks_of command ≡ None → (work : Work) (ended : Ended) → Stays work.watch → Stays work.last
       → ReadsAndWrites input_of text_of work.source work.out ended → CarriesOut command work ended
@@ -151,3 +153,27 @@ module _ {A : Type 0} (input_of : List ℕ → Result A Refusal) (text_of : A �
       let does = reads_and_writes command alone work ended so in
       carried command work ended does.0 (λ is. watch)
       (if_not_done (Stays work.last) ended last) (λ is. last) (row work ended does.1)
+
+module _ {A : Type 0} (input_of : List ℕ → Result A Refusal)
+    (reading : List ℕ → Result A Refusal → Type 0)
+    (exactly : (bytes : List ℕ) (answer : Result A Refusal)
+    → reading bytes answer ↔ (input_of bytes ≡ answer)) where
+  -- an input that the function gives is one that is read
+  input_read_so : {P : A → Type 0} (bytes : List ℕ) → IsInputWith (GivenBy input_of bytes) P
+      → IsInputWith (reading bytes) P
+  input_read_so bytes given = (given.0, (exactly bytes (Ok given.0)).1 given.1, given.2)
+
+  -- what reads by the function reads so
+  pub reads_so : (text_of : A → List ℕ) (work : Work) (ended : Ended)
+      → Reads (GivenBy input_of) text_of work ended → Reads reading text_of work ended
+  reads_so text_of work (Ok done) reads = λ bytes told.
+      let did = reads bytes told in (did.0, input_read_so bytes did.1)
+  reads_so text_of work (Err error.BadWords) reads = reads
+  reads_so text_of work (Err (error.BadInput why)) reads = λ bytes told.
+      let did = reads bytes told in (did.0, (exactly bytes (Err why)).1 did.1)
+  reads_so text_of work (Err error.ReadFault) reads = reads
+  reads_so text_of work (Err error.WriteFault) reads = λ bytes told.
+      let did = reads bytes told in (did.0, input_read_so bytes did.1)
+  reads_so text_of work (Err error.Memory) reads = λ bytes told.
+      elim (reads bytes told)
+      [ inl stays ↦ inl stays | inr given ↦ inr (input_read_so bytes given) ]

@@ -1,6 +1,9 @@
 -- A run whose configuration was read, by how it ended.
 use Rattle.std.proofs.Common.{◌≡◌, ◌∙◌, ℕ, List, Option, None, Some, IfSome, Result, Ok, Err, OnErr, OnOk, refl, sym, ap, inl, inr}
 use Rattle.std.proofs.lemmas.Bool.{false≢true}
+use Rattle.log_lines.specs.Line.{Line}
+use Rattle.lineage_log.specs.LogGrammar.{Reads}
+use Rattle.lineage_log.specs.ReadsLog.{ReadsLog}
 use Rattle.world_config.specs.Values.{ConfigValues}
 use Rattle.avida_port.specs.Ports.{SinkState}
 use Rattle.world_core.specs.WorldValue.{WorldValue, world_in}
@@ -16,7 +19,7 @@ use Rattle.written_texts.specs.declared.stop.WriteStop.{WriteStop}
 use Rattle.written_texts.specs.declared.stop.WriteStop.TheVariants as stop
 use Rattle.written_texts.specs.SinkChanges.{Change, GainedText, Stays}
 use Rattle.avida_program.specs.Changes.{OnBytes, Work}
-use Rattle.avida_program.specs.Input.{IsInputWith, configuration_of, lineage_input_of}
+use Rattle.avida_program.specs.Input.{GivenBy, IsInputWith, configuration_of, lineage_input_of}
 use Rattle.avida_program.specs.Endings.{GivesInput, GivesNoInput, ReadsAndWrites, error_at}
 use Rattle.logged_run.specs.RunStops.{StopsRun}
 use Rattle.logged_run.specs.RunText.{IsFinalWorld, run_text}
@@ -44,7 +47,7 @@ where_watched (Some n) P h = h n
 watched : (looks : Option ℕ) (bytes : List ℕ) (work : Work) (config : ConfigValues)
     → configuration_of bytes ≡ Ok config
     → IfSome looks (λ n. GainedPictures n config work.watch)
-    → IfSome looks (λ n. Watches n (configuration_of bytes) work (Ok tt))
+    → IfSome looks (λ n. Watches n (GivenBy configuration_of bytes) work (Ok tt))
 watched None bytes work config is h = h
 watched (Some n) bytes work config is h = (config, is, h)
 
@@ -52,7 +55,7 @@ watched (Some n) bytes work config is h = (config, is, h)
 watch_faulted : (looks : Option ℕ) (bytes : List ℕ) (work : Work) (config : ConfigValues)
     → configuration_of bytes ≡ Ok config
     → StopsRun looks config work.out work.watch stop.Fault
-    → IfSome looks (λ n. Watches n (configuration_of bytes) work (Err error.WriteFault))
+    → IfSome looks (λ n. Watches n (GivenBy configuration_of bytes) work (Err error.WriteFault))
 watch_faulted None bytes work config is stops = tt
 watch_faulted (Some n) bytes work config is stops =
     (config, is, record { pictures = stops.pictures; whole_log = stops.whole_log refl })
@@ -61,19 +64,20 @@ watch_faulted (Some n) bytes work config is stops =
 watch_wanted : (looks : Option ℕ) (bytes : List ℕ) (work : Work) (config : ConfigValues)
     → configuration_of bytes ≡ Ok config
     → StopsRun looks config work.out work.watch stop.Memory
-    → IfSome looks (λ n. Watches n (configuration_of bytes) work (Err error.Memory))
+    → IfSome looks (λ n. Watches n (GivenBy configuration_of bytes) work (Err error.Memory))
 watch_wanted None bytes work config is stops = tt
 watch_wanted (Some n) bytes work config is stops = inr (config, is, stops.pictures)
 
 -- of no configuration no picture is written
-nothing_shown : (looks : ℕ) (read : Result ConfigValues Refusal) (work : Work) (e : CallError)
+nothing_shown : (looks : ℕ) (reading : Result ConfigValues Refusal → Type 0) (work : Work)
+    (e : CallError)
     → GivesNoInput configuration_of work.source e → Stays work.watch
-    → Watches looks read work (Err e)
-nothing_shown looks read work error.BadWords h stays = h
-nothing_shown looks read work (error.BadInput why) h stays = stays
-nothing_shown looks read work error.ReadFault h stays = stays
-nothing_shown looks read work error.WriteFault h stays = absurd h
-nothing_shown looks read work error.Memory h stays = inl stays
+    → Watches looks reading work (Err e)
+nothing_shown looks reading work error.BadWords h stays = stays
+nothing_shown looks reading work (error.BadInput why) h stays = stays
+nothing_shown looks reading work error.ReadFault h stays = stays
+nothing_shown looks reading work error.WriteFault h stays = absurd h
+nothing_shown looks reading work error.Memory h stays = inl stays
 
 -- the configuration of a run was not read
 pub run_not_read : (asked : Run) (work : Work) (e : CallError)
@@ -84,7 +88,7 @@ run_not_read asked work e h out watch last =
     (λ is. watch) last (λ is. last) (record {
       reads = nothing_read configuration_of run_text asked.watch work e h out;
       watches = λ bytes told. where_watched asked.watch _
-          (λ n. nothing_shown n (configuration_of bytes) work e h watch);
+          (λ n. nothing_shown n (GivenBy configuration_of bytes) work e h watch);
       last_world = tt;
       replays = tt;
     })
@@ -92,12 +96,13 @@ run_not_read asked work e h out watch last =
 -- the log of a run that came to its end replays to who lives in the world that it left
 gained_log : (out : Change SinkState) (config : ConfigValues) (final world : WorldValue)
     → GainedText out (run_text config) → ReplaysToLiving config config.updates
+    → ((bytes : List ℕ) (lines : List Line) → Reads bytes lines → ReadsLog bytes (Ok lines))
     → IsFinalWorld config final → final ≡ world → GainedLogOf out world
-gained_log out config final world gained log is same = record {
+gained_log out config final world gained log exactly is same = record {
   text = run_text config;
   gained = gained;
   lines = log.lines;
-  reads = log.good;
+  reads = exactly (run_text config) log.lines log.good;
   replays = log.replays ∙ ap residents_of_world (final_is config final world is same);
 }
 
@@ -107,14 +112,15 @@ pub ran_to_end : (asked : Run) (work : Work) (config : ConfigValues)
     → IfSome asked.watch (λ n. GainedPictures n config work.watch)
     → (asked.watch ≡ None → Stays work.watch)
     → LeavesFinal work.last config → ReplaysToLiving config config.updates
+    → ((bytes : List ℕ) (lines : List Line) → Reads bytes lines → ReadsLog bytes (Ok lines))
     → CarriesOut (command.Run asked) work (Ok tt)
-ran_to_end asked work config read wrote pictures unwatched left replays =
+ran_to_end asked work config read wrote pictures unwatched left replays exactly =
     carried _ work (Ok tt) tt unwatched tt (λ e. absurd (false≢true (sym e))) (record {
       reads = λ bytes is. (read.whole bytes is, (config, read.reads bytes is, wrote));
       watches = λ bytes is. watched asked.watch bytes work config (read.reads bytes is) pictures;
       last_world = λ bytes is. (config, read.reads bytes is, left);
       replays = λ world is.
-          gained_log work.out config left.0 world wrote replays left.2 (cc (left.1, is));
+          gained_log work.out config left.0 world wrote replays exactly left.2 (cc (left.1, is));
     })
 
 -- the run stopped
@@ -144,7 +150,7 @@ pub descended : (asked : Lineage) (work : Work) (ended : Ended)
     work.source work.out ended
     → Stays work.watch → OnErr ended (Stays work.last)
     → OnOk ended (OnBytes work.source (λ bytes.
-    IsInputWith (lineage_input_of asked.cell bytes) (LeavesFinal work.last)))
+    IsInputWith (GivenBy (lineage_input_of asked.cell) bytes) (LeavesFinal work.last)))
     → CarriesOut (command.Lineage asked) work ended
 descended asked work ended so watch last left =
     let does = reads_and_writes (lineage_input_of asked.cell)

@@ -10,7 +10,8 @@ use Rattle.world_config.specs.Values.{ConfigValues}
 use Rattle.world_rules.specs.LogText.{end_text, head_text, log_text, updates_text}
 use Rattle.avida_program.specs.declared.refusal.Refusal.{Refusal}
 use Rattle.avida_program.specs.declared.refusal.Refusal.TheVariants.{Saved, TooLong, Updates}
-use Rattle.avida_program.specs.Input.{refused_as, resume_input_of, saved_input_of, unless_too_long, with_more}
+use Rattle.avida_program.specs.Input.{refused_as, unless_too_long, with_more}
+use Rattle.avida_program.specs.InputAnswers.{resume_input_of, saved_input_of}
 use Rattle.avida_program.specs.ResumedRun.{CanResume, ResumesExactly}
 use Rattle.avida_program.specs.SaveText.{save_text}
 

@@ -5,7 +5,7 @@ use Rattle.saved_worlds.specs.SavedState.{SavedState}
 use Rattle.saved_worlds.specs.ValidState.{FitsText}
 use Rattle.world_config.specs.Values.{ConfigValues}
 use Rattle.world_rules.specs.LogText.{end_text}
-use Rattle.avida_program.specs.Input.{resume_input_of}
+use Rattle.avida_program.specs.InputAnswers.{resume_input_of}
 use Rattle.avida_program.specs.SaveText.{advanced_text, save_text}
 
 -- the configuration of the same run with so many more updates

@@ -22,7 +22,7 @@ use Rattle.avida_program.specs.BenchText.{bench_config, bench_text}
 use Rattle.avida_program.specs.Changes.{OnBytes, SourceFailed, TellsOf, Work, WritesText}
 use Rattle.avida_program.specs.CommandLine.{leaves_world, looks_of, spelling_of}
 use Rattle.avida_program.specs.FinalWorld.{GainedLogOf, LeavesFinal}
-use Rattle.avida_program.specs.Input.{IsInputWith, assay_input_of, configuration_of, genome_of_input, lineage_input_of, log_input_of, resume_input_of}
+use Rattle.avida_program.specs.Input.{GivenBy, IsInputWith, ReadsLines, ReadsState, assay_input_of, configuration_of, genome_of_input, lineage_input_of}
 use Rattle.avida_program.specs.PathText.{path_text}
 use Rattle.avida_program.specs.ReplayText.{replay_text, upgrade_text}
 use Rattle.avida_program.specs.SaveText.{advanced_text, save_text}
@@ -33,22 +33,22 @@ use Rattle.avida_program.specs.TraceText.{trace_text}
 -- `out` gained exactly the text. Of an input that is refused, or not read, nothing is written; where
 -- a put fails, perhaps one of a watcher, or memory runs out, a prefix of the text is
 abbrev pub ReadsInput : {A : Type 0} →
-    Option ℕ → Result A Refusal → (A → List ℕ) → Work → Ended → Type 0
-ReadsInput looks read text_of work (Ok done) = (work.source.after.left ≡ Some [])
-    × IsInputWith read (λ input. GainedText work.out (text_of input))
-ReadsInput looks read text_of work (Err error.BadWords) = ⊥
-ReadsInput looks read text_of work (Err (error.BadInput why)) = Stays work.out × (read ≡ Err why)
-ReadsInput looks read text_of work (Err error.ReadFault) = Stays work.out × SourceFailed work.source
-ReadsInput looks read text_of work (Err error.WriteFault) = PutFailed looks work.out work.watch
-    × IsInputWith read (λ input. GainedFront work.out (text_of input))
-ReadsInput looks read text_of work (Err error.Memory) =
-    Stays work.out ⊎ IsInputWith read (λ input. GainedFront work.out (text_of input))
+    Option ℕ → (Result A Refusal → Type 0) → (A → List ℕ) → Work → Ended → Type 0
+ReadsInput looks reading text work (Ok done) = (work.source.after.left ≡ Some [])
+    × IsInputWith reading (λ input. GainedText work.out (text input))
+ReadsInput looks reading text work (Err error.BadWords) = ⊥
+ReadsInput looks reading text work (Err (error.BadInput why)) = Stays work.out × reading (Err why)
+ReadsInput looks reading text work (Err error.ReadFault) = Stays work.out × SourceFailed work.source
+ReadsInput looks reading text work (Err error.WriteFault) = PutFailed looks work.out work.watch
+    × IsInputWith reading (λ input. GainedFront work.out (text input))
+ReadsInput looks reading text work (Err error.Memory) =
+    Stays work.out ⊎ IsInputWith reading (λ input. GainedFront work.out (text input))
 
 -- a command that reads its input so, and writes this text of it
 abbrev pub Reads : {A : Type 0} →
-    (List ℕ → Result A Refusal) → (A → List ℕ) → Work → Ended → Type 0
-Reads input_of text_of work ended =
-    OnBytes work.source (λ bytes. ReadsInput None (input_of bytes) text_of work ended)
+    (List ℕ → Result A Refusal → Type 0) → (A → List ℕ) → Work → Ended → Type 0
+Reads reading text_of work ended =
+    OnBytes work.source (λ bytes. ReadsInput None (reading bytes) text_of work ended)
 
 -- where a put failed, a watcher of so many looks has written pictures or a prefix of their lines,
 -- and the log is whole unless a put to `out` failed
@@ -56,26 +56,24 @@ pub record StopsWatched (looks : ℕ) (work : Work) (config : ConfigValues) : Ty
   pub pictures : GainedPicturesFront looks config work.watch
   pub whole_log : ¬ SinkFailed work.out → GainedText work.out (run_text config)
 
--- what the watcher of a run has written, where the configuration is read so
-abbrev pub Watches : ℕ → Result ConfigValues Refusal → Work → Ended → Type 0
-Watches looks read work (Ok done) =
-    IsInputWith read (λ config. GainedPictures looks config work.watch)
-Watches looks read work (Err error.BadWords) = ⊥
-Watches looks read work (Err (error.BadInput why)) = Stays work.watch
-Watches looks read work (Err error.ReadFault) = Stays work.watch
-Watches looks read work (Err error.WriteFault) = IsInputWith read (StopsWatched looks work)
-Watches looks read work (Err error.Memory) = Stays work.watch
-    ⊎ IsInputWith read (λ config. GainedPicturesFront looks config work.watch)
+-- what the watcher of a run has written, where the configuration is read so, and nothing otherwise
+abbrev pub Watches : ℕ → (Result ConfigValues Refusal → Type 0) → Work → Ended → Type 0
+Watches looks reading work (Ok done) =
+    IsInputWith reading (λ config. GainedPictures looks config work.watch)
+Watches looks reading work (Err error.WriteFault) = IsInputWith reading (StopsWatched looks work)
+Watches looks reading work (Err error.Memory) = Stays work.watch
+    ⊎ IsInputWith reading (λ config. GainedPicturesFront looks config work.watch)
+Watches looks reading work _ = Stays work.watch
 
 -- `run`, perhaps with a watcher
 pub record Runs (looks : Option ℕ) (work : Work) (ended : Ended) : Type 0 where
   pub reads : OnBytes work.source (λ bytes.
-      ReadsInput looks (configuration_of bytes) run_text work ended)
+      ReadsInput looks (GivenBy configuration_of bytes) run_text work ended)
   pub watches : OnBytes work.source (λ bytes.
-      IfSome looks (λ n. Watches n (configuration_of bytes) work ended))
+      IfSome looks (λ n. Watches n (GivenBy configuration_of bytes) work ended))
   -- Done: the world after the last update is left
   pub last_world : OnOk ended (OnBytes work.source (λ bytes.
-      IsInputWith (configuration_of bytes) (LeavesFinal work.last)))
+      IsInputWith (GivenBy configuration_of bytes) (LeavesFinal work.last)))
   -- Done: what `out` gained is a log that replays to who lives in the world that is left
   pub replays : OnOk ended ((world : WorldValue) → work.last.after ≡ Some world
       → GainedLogOf work.out world)
@@ -83,10 +81,10 @@ pub record Runs (looks : Option ℕ) (work : Work) (ended : Ended) : Type 0 wher
 -- `lineage` of a cell
 pub record Descends (cell : ℕ) (work : Work) (ended : Ended) : Type 0 where
   -- a cell that is not in the world is refused
-  pub reads : Reads (lineage_input_of cell) (λ config. path_text config cell) work ended
+  pub reads : Reads (GivenBy (lineage_input_of cell)) (λ config. path_text config cell) work ended
   -- Done: the world after the last update is left
   pub last_world : OnOk ended (OnBytes work.source (λ bytes.
-      IsInputWith (lineage_input_of cell bytes) (LeavesFinal work.last)))
+      IsInputWith (GivenBy (lineage_input_of cell) bytes) (LeavesFinal work.last)))
 
 -- `bench` of a seed, which reads nothing
 pub record Benches (seed : ℕ) (work : Work) (ended : Ended) : Type 0 where
@@ -97,23 +95,23 @@ pub record Benches (seed : ℕ) (work : Work) (ended : Ended) : Type 0 where
 
 -- what each command reads, writes and leaves
 abbrev pub Does : Command → Work → Ended → Type 0
-Does (Trace trace) work ended = Reads (genome_of_input (spelling_of trace.org))
+Does (Trace trace) work ended = Reads (GivenBy (genome_of_input (spelling_of trace.org)))
     (λ genome. trace_text genome trace.inputs trace.steps) work ended
 Does (Run run) work ended = Runs run.watch work ended
 Does (Lineage lineage) work ended = Descends lineage.cell work ended
 Does (Bench bench) work ended = Benches bench.seed work ended
-Does (Assay assay) work ended = Reads (assay_input_of assay.count)
+Does (Assay assay) work ended = Reads (GivenBy (assay_input_of assay.count))
     (λ config. assay_text config assay.first assay.count) work ended
-Does (Save workers) work ended = Reads configuration_of save_text work ended
-Does (Resume resume) work ended = Reads (resume_input_of resume.more)
+Does (Save workers) work ended = Reads (GivenBy configuration_of) save_text work ended
+Does (Resume resume) work ended = Reads (ReadsState resume.more)
     (λ state. continued_text state resume.more) work ended
-Does (Advance advance) work ended = Reads (resume_input_of advance.more)
+Does (Advance advance) work ended = Reads (ReadsState advance.more)
     (λ state. advanced_text state advance.more) work ended
-Does Replay work ended = Reads log_input_of replay_text work ended
-Does Upgrade work ended = Reads log_input_of upgrade_text work ended
-Does Tree work ended = Reads log_input_of tree_text work ended
+Does Replay work ended = Reads ReadsLines replay_text work ended
+Does Upgrade work ended = Reads ReadsLines upgrade_text work ended
+Does Tree work ended = Reads ReadsLines tree_text work ended
 Does (Landscape steps) work ended =
-    Reads (genome_of_input Letters) (λ genome. landscape_text genome steps) work ended
+    Reads (GivenBy (genome_of_input Letters)) (λ genome. landscape_text genome steps) work ended
 
 -- a command is carried out, and ends so
 pub record CarriesOut (command : Command) (work : Work) (ended : Ended) : Type 0 where

@@ -2,7 +2,7 @@
 use Rattle.std.specs.Prelude.{◌≡◌, ℕ, List, Option, Some, Ok}
 use Rattle.avida_port.specs.Ports.{SinkState}
 use Rattle.log_lines.specs.Line.{Line}
-use Rattle.lineage_log.specs.LogGrammar.{log_of}
+use Rattle.lineage_log.specs.ReadsLog.{ReadsLog}
 use Rattle.lineage_log.specs.Replay.{replay_of}
 use Rattle.world_config.specs.Values.{ConfigValues}
 use Rattle.world_rules.specs.WorldRun.{residents_of_world}
@@ -20,5 +20,5 @@ pub record GainedLogOf (sink : Change SinkState) (world : WorldValue) : Type 0 w
   pub text : List ℕ
   pub gained : GainedText sink text
   pub lines : List Line
-  pub reads : log_of text ≡ Ok lines
+  pub reads : ReadsLog text (Ok lines)
   pub replays : replay_of lines ≡ residents_of_world (world_in world)

@@ -5,9 +5,11 @@ use Rattle.instruction_set.specs.declared.letter.Letter.{Letter}
 use Rattle.genome.specs.declared.stop.GenomeStop.{GenomeStop}
 use Rattle.genome.specs.GenomeText.{spelled_by_letters, spelled_by_names}
 use Rattle.log_lines.specs.Line.{Line}
-use Rattle.lineage_log.specs.LogGrammar.{log_of}
-use Rattle.saved_worlds.specs.SavedGrammar.{saved_of}
+use Rattle.lineage_log.specs.ReadsLog.{ReadsLog}
+use Rattle.lineage_log.specs.declared.log_stop.LogStop.{LogStop}
+use Rattle.saved_worlds.specs.ReadsSaved.{ReadsSaved}
 use Rattle.saved_worlds.specs.SavedState.{SavedState}
+use Rattle.saved_worlds.specs.declared.saved_stop.SavedStop.{SavedStop}
 use Rattle.world_config.specs.Config.{config_of}
 use Rattle.world_config.specs.Values.{ConfigValues}
 use Rattle.avida_program.specs.declared.command.Spelling.{Spelling}
@@ -25,8 +27,13 @@ abbrev pub unless_too_long : {A : Type 0} → ℕ → List ℕ → Result A Refu
 unless_too_long limit bytes read = if nat_lt limit (length bytes) then Err TooLong else read
 
 -- the input is accepted, and this holds of it
-abbrev pub IsInputWith : {A : Type 0} → Result A Refusal → (A → Type 0) → Type 0
-IsInputWith {A} read P = (input : A) × (read ≡ Ok input) × P input
+abbrev pub IsInputWith : {A : Type 0} → (Result A Refusal → Type 0) → (A → Type 0) → Type 0
+IsInputWith {A} reading P = (input : A) × reading (Ok input) × P input
+
+-- the bytes are read as what this function gives of them
+abbrev pub GivenBy : {A : Type 0}
+    → (List ℕ → Result A Refusal) → List ℕ → Result A Refusal → Type 0
+GivenBy input_of bytes answer = input_of bytes ≡ answer
 
 -- the genome that is spelled so, or what refuses the bytes
 abbrev pub genome_spelled : Spelling → List ℕ → Result (List Letter) GenomeStop
@@ -64,14 +71,6 @@ with_worlds count (Err why) = Err why
 abbrev pub assay_input_of : ℕ → List ℕ → Result ConfigValues Refusal
 assay_input_of count bytes = with_worlds count (configuration_of bytes)
 
--- the lines of an input that is a log, or why it is refused
-abbrev pub log_input_of : List ℕ → Result (List Line) Refusal
-log_input_of bytes = unless_too_long 536870912 bytes (refused_as Log (log_of bytes))
-
--- the state of an input that is a saved world, or why it is refused
-abbrev pub saved_input_of : List ℕ → Result SavedState Refusal
-saved_input_of bytes = unless_too_long 536870912 bytes (refused_as Saved (saved_of bytes))
-
 -- a saved world, unless so many more updates go past the greatest; what refuses it comes first
 abbrev pub with_more : ℕ → Result SavedState Refusal → Result SavedState Refusal
 with_more more (Ok state) =
@@ -79,6 +78,13 @@ with_more more (Ok state) =
     if nat_lt 1000000 updates then Err (Updates updates) else Ok state
 with_more more (Err why) = Err why
 
--- the state of an input of which so many more updates are asked for, or why it is refused
-abbrev pub resume_input_of : ℕ → List ℕ → Result SavedState Refusal
-resume_input_of more bytes = with_more more (saved_input_of bytes)
+-- the bytes are a log of these lines, or are refused for this
+abbrev pub ReadsLines : List ℕ → Result (List Line) Refusal → Type 0
+ReadsLines bytes answer = (read : Result (List Line) LogStop) × ReadsLog bytes read
+    × (unless_too_long 536870912 bytes (refused_as Log read) ≡ answer)
+
+-- the bytes are a saved world in this state, of which so many more updates are asked for, or are
+-- refused for this
+abbrev pub ReadsState : ℕ → List ℕ → Result SavedState Refusal → Type 0
+ReadsState more bytes answer = (read : Result SavedState SavedStop) × ReadsSaved bytes read
+    × (with_more more (unless_too_long 536870912 bytes (refused_as Saved read)) ≡ answer)

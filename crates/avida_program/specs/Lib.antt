@@ -3,6 +3,7 @@ pub mod Status
 pub mod TraceText
 pub mod PathText
 pub mod Input
+pub mod InputAnswers
 pub mod ReplayText
 pub mod TreeText
 pub mod SaveText

@@ -2,7 +2,7 @@
 use Rattle.std.specs.Prelude.{◌++◌, ℕ, List, codes, decimal, flat_map, map}
 use Rattle.instruction_set.specs.Letter.{byte_of}
 use Rattle.log_lines.specs.Line.{Line}
-use Rattle.lineage_log.specs.LogGrammar.{lines_text}
+use Rattle.lineage_log.specs.ReadsLog.{lines_text}
 use Rattle.lineage_log.specs.Replay.{Resident, replay_of}
 use Rattle.lineage_log.specs.Upgrade.{upgraded}
 

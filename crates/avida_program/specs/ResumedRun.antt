@@ -5,7 +5,7 @@ use Rattle.saved_worlds.specs.Resuming.{continued_text}
 use Rattle.saved_worlds.specs.SavedState.{SavedState}
 use Rattle.world_config.specs.Values.{ConfigValues}
 use Rattle.world_rules.specs.LogText.{end_text, log_text}
-use Rattle.avida_program.specs.Input.{resume_input_of}
+use Rattle.avida_program.specs.InputAnswers.{resume_input_of}
 use Rattle.avida_program.specs.SaveText.{save_text}
 
 -- what `save` writes of a run is not too long, and so many more updates don't go past the greatest

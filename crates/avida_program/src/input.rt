@@ -6,7 +6,8 @@ ghost use Rattle.lineage_log.specs.Replay.{replay_of};
 ghost use Rattle.log_lines.specs.Line.{Line};
 ghost use Rattle.world_config.specs.Shown.{values_of};
 ghost use Rattle.written_texts.specs.SinkChanges.{change};
-ghost use Rattle.avida_program.specs.Input.{assay_input_of, configuration_of, genome_of_input, genome_spelled, lineage_input_of, log_input_of, resume_input_of, saved_input_of};
+ghost use Rattle.avida_program.specs.Input.{assay_input_of, configuration_of, genome_of_input, genome_spelled, lineage_input_of};
+ghost use Rattle.avida_program.specs.InputAnswers.{log_input_of, resume_input_of, saved_input_of};
 ghost use Rattle.avida_program.specs.Endings.{GivesInput, GivesNoInput, StopsReading};
 
 use crate::call_error::CallError;

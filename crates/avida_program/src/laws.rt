@@ -1,14 +1,19 @@
 // The program's limits, and what holds of its commands together (docs/FORMATS.md, "The command
 // line" and "Statuses and fault lines"; docs/WORLD.md, "Saved worlds").
-ghost use Rattle.std.specs.Prelude.{◌≡◌, ℕ, List};
+ghost use Rattle.std.specs.Prelude.{◌≡◌, ◌↔◌, ℕ, List, Result};
+ghost use Rattle.log_lines.specs.Line.{Line};
 ghost use Rattle.saved_worlds.specs.SavedState.{SavedState};
 ghost use Rattle.world_config.specs.Shown.{values_of};
 ghost use Rattle.avida_program.specs.AdvancedRun.{AddsUp, AdvancesExactly, AdvancesInTwo, CanAdvanceInTwo, ResumesInTwo};
+ghost use Rattle.avida_program.specs.Input.{ReadsLines, ReadsState};
+ghost use Rattle.avida_program.specs.InputAnswers.{log_input_of, resume_input_of};
 ghost use Rattle.avida_program.specs.ResumedRun.{CanResume, ResumesExactly};
+ghost use Rattle.avida_program.specs.declared.refusal.Refusal.{Refusal};
 
 use crate::input::{INPUT_LIMIT, MOST_CELLS};
 use checkpoint::laws::{advanced_worlds_are_read_again, runs_are_read_again};
-use saved_worlds::laws::resumed_runs_go_on;
+use lineage_log::laws::one_answer;
+use saved_worlds::laws::{bytes_are_read_once, resumed_runs_go_on};
 use world_config::Config;
 use written_texts::PIECE_SIZE;
 
@@ -18,6 +23,18 @@ pub fn limits()
     ensures cells { MOST_CELLS ≡ 131072 }
     ensures piece { PIECE_SIZE ≡ 8192 }
 {}
+
+/// Bytes are read as one log and one saved world, or rejected for one reason each: what the main
+/// theorem says that they are read as is what the functions below `serve` answer.
+pub fn inputs_are_read_one_way()
+    ensures lines { (bytes : List ℕ) (answer : Result (List Line) Refusal)
+        → ReadsLines bytes answer ↔ (log_input_of bytes ≡ answer) }
+    ensures state { (more : ℕ) (bytes : List ℕ) (answer : Result SavedState Refusal)
+        → ReadsState more bytes answer ↔ (resume_input_of more bytes ≡ answer) }
+{
+    one_answer();
+    bytes_are_read_once();
+}
 
 /// A run that is saved and resumed goes on: its log without the last line, and then what `resume`
 /// writes of what `save` wrote, are the log of a run so much longer.

@@ -8,7 +8,7 @@ ghost use Rattle.written_texts.specs.Pieces.{Writes};
 ghost use Rattle.written_texts.specs.WrittenText.{WritesAll};
 ghost use Rattle.avida_program.specs.ReplayText.{replay_text, resident_line};
 ghost use Rattle.avida_program.specs.Endings.{ReadsAndWrites};
-ghost use Rattle.avida_program.specs.Input.{log_input_of};
+ghost use Rattle.avida_program.specs.InputAnswers.{log_input_of};
 
 use crate::call_error::{CallError, ended_by};
 use crate::input::read_livings;

@@ -5,7 +5,7 @@ ghost use Rattle.world_rules.specs.LogText.{end_text};
 ghost use Rattle.written_texts.specs.SinkChanges.{change};
 ghost use Rattle.written_texts.specs.WrittenText.{WritesAll};
 ghost use Rattle.avida_program.specs.Endings.{ReadsAndWrites};
-ghost use Rattle.avida_program.specs.Input.{resume_input_of};
+ghost use Rattle.avida_program.specs.InputAnswers.{resume_input_of};
 
 use crate::call_error::{CallError, ended_by};
 use crate::input::read_state_for;

@@ -10,6 +10,7 @@ use crate::call_error::CallError;
 use crate::input::read_config;
 use avida_port::{Gate, Memory, Sink, Source};
 use command_line::Run;
+use lineage_log::laws::read_exactly;
 use logged_run::{run_counted, write_run};
 use std::alloc::Global;
 use std::sync::Wait;
@@ -70,6 +71,7 @@ pub fn run<
 {
     let config = read_config(alloc, source)?;
     replay_gives_living(&config, config.updates);
+    read_exactly();
     let world = write_run(
         rt,
         alloc,

@@ -11,6 +11,7 @@ use crate::bench::bench;
 use crate::call_error::CallError;
 use crate::command::{Command, read_words};
 use crate::fault_line::line_of;
+use crate::laws::inputs_are_read_one_way;
 use crate::lineage::lineage;
 use crate::neighbours::landscape;
 use crate::replay::replay;
@@ -64,6 +65,7 @@ fn carry_out<
       last = change last.old last.new;
     }) result }
 {
+    inputs_are_read_one_way();
     match command {
         Command::Trace(asked) => trace(alloc, asked, source, out),
         Command::Run(asked) => run(rt, alloc, asked, source, out, watch, last, gate),

@@ -7,7 +7,7 @@ ghost use Rattle.written_texts.specs.Pieces.{Writes};
 ghost use Rattle.written_texts.specs.WrittenText.{WritesAll};
 ghost use Rattle.avida_program.specs.TreeText.{counts_line, last_lines, lines_of_tree};
 ghost use Rattle.avida_program.specs.Endings.{ReadsAndWrites};
-ghost use Rattle.avida_program.specs.Input.{log_input_of};
+ghost use Rattle.avida_program.specs.InputAnswers.{log_input_of};
 
 use crate::call_error::{CallError, ended_by};
 use crate::input::read_lines;

@@ -4,7 +4,7 @@ ghost use Rattle.lineage_log.specs.LogValues.{lines_of};
 ghost use Rattle.written_texts.specs.SinkChanges.{change};
 ghost use Rattle.written_texts.specs.WrittenText.{WritesAll};
 ghost use Rattle.avida_program.specs.Endings.{ReadsAndWrites};
-ghost use Rattle.avida_program.specs.Input.{log_input_of};
+ghost use Rattle.avida_program.specs.InputAnswers.{log_input_of};
 ghost use Rattle.avida_program.specs.ReplayText.{upgrade_text};
 
 use crate::call_error::{CallError, ended_by};

@@ -23,3 +23,4 @@ returns g c =
     ran_to_end c.args.asked _ (values_of c.in_ok-config.config)
     c.in_ok-config.ensures.ok ran.ok ran.watched ran.unwatched
     (c.in_ok-world.world, c.leave.ensures, ran.world) c.replay_gives_living.ensures
+    (λ bytes lines. (c.read_exactly.ensures bytes lines).0)

@@ -1,5 +1,7 @@
 use Rattle.std.proofs.Common.{refl}
-use Rattle.avida_program.proofs.ReadEnds.{only_reads}
+use Rattle.avida_program.proofs.ReadEnds.{only_reads, reads_so}
+use Rattle.avida_program.specs.Input.{ReadsLines, ReadsState}
+use Rattle.avida_program.specs.InputAnswers.{log_input_of, resume_input_of}
 use Rattle.avida_program.proofs.serving.carry_out.Goals as goal
 
 pub returns-in-Trace : goal.returns-in-Trace
@@ -26,23 +28,32 @@ returns-in-Save g c =
 
 pub returns-in-Resume : goal.returns-in-Resume
 returns-in-Resume g c =
-    rw c.in-Resume.is (only_reads _ _ _ (λ work ended h. h) refl _ _ refl refl c.resume.ensures)
+    let more = c.in-Resume.asked.more in
+    let reads = reads_so (resume_input_of more) (ReadsState more)
+    (c.inputs_are_read_one_way.ensures.state more) _ in
+    rw c.in-Resume.is (only_reads _ _ _ reads refl _ _ refl refl c.resume.ensures)
 
 pub returns-in-Advance : goal.returns-in-Advance
 returns-in-Advance g c =
-    rw c.in-Advance.is (only_reads _ _ _ (λ work ended h. h) refl _ _ refl refl c.advance.ensures)
+    let more = c.in-Advance.asked.more in
+    let reads = reads_so (resume_input_of more) (ReadsState more)
+    (c.inputs_are_read_one_way.ensures.state more) _ in
+    rw c.in-Advance.is (only_reads _ _ _ reads refl _ _ refl refl c.advance.ensures)
 
 pub returns-in-Replay : goal.returns-in-Replay
 returns-in-Replay g c =
-    rw c.in-Replay.is (only_reads _ _ _ (λ work ended h. h) refl _ _ refl refl c.replay.ensures)
+    let reads = reads_so log_input_of ReadsLines c.inputs_are_read_one_way.ensures.lines _ in
+    rw c.in-Replay.is (only_reads _ _ _ reads refl _ _ refl refl c.replay.ensures)
 
 pub returns-in-Upgrade : goal.returns-in-Upgrade
 returns-in-Upgrade g c =
-    rw c.in-Upgrade.is (only_reads _ _ _ (λ work ended h. h) refl _ _ refl refl c.upgrade.ensures)
+    let reads = reads_so log_input_of ReadsLines c.inputs_are_read_one_way.ensures.lines _ in
+    rw c.in-Upgrade.is (only_reads _ _ _ reads refl _ _ refl refl c.upgrade.ensures)
 
 pub returns-in-Tree : goal.returns-in-Tree
 returns-in-Tree g c =
-    rw c.in-Tree.is (only_reads _ _ _ (λ work ended h. h) refl _ _ refl refl c.tree.ensures)
+    let reads = reads_so log_input_of ReadsLines c.inputs_are_read_one_way.ensures.lines _ in
+    rw c.in-Tree.is (only_reads _ _ _ reads refl _ _ refl refl c.tree.ensures)
 
 pub returns-in-Landscape : goal.returns-in-Landscape
 returns-in-Landscape g c =
