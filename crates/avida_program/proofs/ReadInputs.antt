@@ -34,9 +34,8 @@ lines_exactly exactly bytes answer =
 -- and as a saved world exactly so
 pub state_exactly :
     ((bytes : List ℕ) (answer : Result SavedState SavedStop)
-    → (saved_of bytes ≡ answer) ↔ ReadsSaved bytes answer)
+    → ReadsSaved bytes answer ↔ (saved_of bytes ≡ answer))
     → (more : ℕ) (bytes : List ℕ) (answer : Result SavedState Refusal)
     → ReadsState more bytes answer ↔ (resume_input_of more bytes ≡ answer)
 state_exactly exactly more bytes answer =
-    made_exactly (ReadsSaved bytes) (saved_of bytes)
-    (λ read. ((exactly bytes read).1, (exactly bytes read).0)) _ answer
+    made_exactly (ReadsSaved bytes) (saved_of bytes) (exactly bytes) _ answer

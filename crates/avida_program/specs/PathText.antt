@@ -1,7 +1,7 @@
 -- What `lineage` writes (docs/FORMATS.md, "Lines of descent").
 use Rattle.std.specs.Prelude.{ℕ, [], ◌∷◌, ◌++◌, List, Option, None, Some, codes, flat_map, map}
 use Rattle.instruction_set.specs.Letter.{byte_of}
-use Rattle.log_lines.specs.Kinds.{base_field, changes_field}
+use Rattle.log_lines.specs.LineWords.{base_word, changes_word}
 use Rattle.log_lines.specs.LineText.{words_text}
 use Rattle.mutations.specs.BirthRecord.{BirthRecord}
 use Rattle.lineage_log.specs.Links.{Link}
@@ -19,7 +19,7 @@ parent_text (Some id) = spaced id
 abbrev pub origin_text : Option BirthRecord → List ℕ
 origin_text None = codes " - -"
 origin_text (Some birth) =
-    words_text (base_field.text birth.written ∷ changes_field.text birth.changes ∷ [])
+    words_text (base_word birth.written ∷ changes_word birth.changes ∷ [])
 
 -- who it is, and where it came from: the id, the parent, the update and the cell
 abbrev pub place_text : Link → List ℕ

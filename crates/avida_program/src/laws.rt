@@ -12,8 +12,7 @@ ghost use Rattle.avida_program.specs.declared.refusal.Refusal.{Refusal};
 
 use crate::input::{INPUT_LIMIT, MOST_CELLS};
 use checkpoint::laws::{advanced_worlds_are_read_again, runs_are_read_again};
-use lineage_log::laws::one_answer;
-use saved_worlds::laws::{bytes_are_read_once, resumed_runs_go_on};
+use saved_worlds::laws::resumed_runs_go_on;
 use world_config::Config;
 use written_texts::PIECE_SIZE;
 
@@ -32,8 +31,8 @@ pub fn inputs_are_read_one_way()
     ensures state { (more : ℕ) (bytes : List ℕ) (answer : Result SavedState Refusal)
         → ReadsState more bytes answer ↔ (resume_input_of more bytes ≡ answer) }
 {
-    one_answer();
-    bytes_are_read_once();
+    lineage_log::laws::one_answer();
+    saved_worlds::laws::one_answer();
 }
 
 /// A run that is saved and resumed goes on: its log without the last line, and then what `resume`

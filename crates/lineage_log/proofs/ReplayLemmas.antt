@@ -405,7 +405,7 @@ pub leaves : (lines : List Line) (r : Reader) → IsGoodLog lines
     → told_all Before lines ≡ Ok (After r) → Leaves lines r
 leaves [] r good is = absurd cc
 leaves (Start version width height cell genome ∷ lines) r good is =
-    start_leaves version width height cell genome lines r good.forms.0.1.0.1 good.forms.0.1.1.0.1 is
+    start_leaves version width height cell genome lines r good.forms.0.1.1 good.forms.0.2.1 is
 leaves (Death id update cell ∷ lines) r good is = absurd cc
 leaves (Birth id parent update cell over birth ∷ lines) r good is = absurd cc
 leaves (Injected id update cell over genome ∷ lines) r good is = absurd cc

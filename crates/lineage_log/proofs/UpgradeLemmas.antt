@@ -139,7 +139,8 @@ whole_still (After r) (line ∷ lines) w = absurd w
 
 -- a line that has a form has one with version 2
 form_still : (line : Line) → HasForm line → HasForm (newer line)
-form_still (Start version width height cell genome) fits = ((omega arith, omega arith), fits.1)
+form_still (Start version width height cell genome) fits =
+    ((omega arith, omega arith), fits.1, fits.2, fits.3, fits.4)
 form_still (Death id update cell) fits = fits
 form_still (Birth id parent update cell over birth) fits = fits
 form_still (Injected id update cell over genome) fits = fits

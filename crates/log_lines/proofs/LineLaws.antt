@@ -10,13 +10,49 @@ use Rattle.log_lines.specs.Fields.{Field}
 use Rattle.log_lines.specs.Rows.{Row, ◌◂◌}
 use Rattle.log_lines.specs.Line.{Line, Start, Death, Birth, Injected, Cleared, Rate, Count, End}
 use Rattle.log_lines.specs.Kinds.{small, large, side, death_row, arrival_then, record_row}
-use Rattle.log_lines.specs.Forms.{LineForm, FilledForm, filled, forms, filled_form, start_form, death_form, birth_form, injected_form, cleared_form, rate_form, count_form, end_form}
-use Rattle.log_lines.specs.LineText.{words_text, filled_text, FitsForm, row_text, HasForm}
+use Rattle.log_lines.specs.Forms.{LineForm, FilledForm, filled, forms, filled_form, filled_text, FitsForm, start_form, death_form, birth_form, injected_form, cleared_form, rate_form, count_form, end_form}
+use Rattle.log_lines.specs.LineText.{HasForm, row_text, words_text}
 use Rattle.log_lines.specs.LineReading.{read_as, read_by, read_words, line_of}
 use Rattle.log_lines.proofs.FieldLaws.{Above, IsField, IsRow, OneNumber, chosen, some_map, number_law, letters_law, last_law, row_law}
 use Rattle.log_lines.proofs.ListLaws.{times_law}
 use Rattle.log_lines.proofs.RowLaws.{words_in, joined_words, row_words, row_plain, row_takes}
 use Rattle.log_lines.proofs.KindLaws.{low, small_law, large_law, rate_law, over_law, base_law, changes_law}
+
+-- what is said of a line directly is what its form says
+record IsFilled (line : Line) : Type 0 where
+  text : row_text line ≡ filled_text (filled_form line)
+  fits : HasForm line → FitsForm (filled_form line)
+  form : FitsForm (filled_form line) → HasForm line
+
+-- so it is of each line
+by_form : (line : Line) → IsFilled line
+by_form (Start version width height cell genome) = record {
+  text = refl;
+  fits = λ (a, b, c, d, e). (a, (b, (c, (d, e))));
+  form = λ (a, (b, (c, (d, e)))). (a, b, c, d, e);
+}
+by_form (Death id update cell) =
+    record { text = refl; fits = λ (a, b, c). (a, (b, c)); form = λ (a, (b, c)). (a, b, c) }
+by_form (Birth id parent update cell over birth) = record {
+  text = refl;
+  fits = λ (a, b, c, d, e, f, g, h). (a, (b, (c, (d, (e, (f, (g, h)))))));
+  form = λ (a, (b, (c, (d, (e, (f, (g, h))))))). (a, b, c, d, e, f, g, h);
+}
+by_form (Injected id update cell over genome) = record {
+  text = refl;
+  fits = λ (a, b, c, d, e). (a, (b, (c, (d, e))));
+  form = λ (a, (b, (c, (d, e)))). (a, b, c, d, e);
+}
+by_form (Cleared id update cell) =
+    record { text = refl; fits = λ (a, b, c). (a, (b, c)); form = λ (a, (b, c)). (a, b, c) }
+by_form (Rate update name ppm) =
+    record { text = refl; fits = λ (a, b). (a, (tt, b)); form = λ (a, (u, b)). (a, b) }
+by_form (Count s) = record {
+  text = refl;
+  fits = λ (a, (b, (c, (d, (e, (f, g))))), h). (a, (b, (c, (d, (e, (f, (h, g)))))));
+  form = λ (a, (b, (c, (d, (e, (f, (h, g))))))). (a, (b, (c, (d, (e, (f, g))))), h);
+}
+by_form (End updates) = record { text = refl; fits = λ a. a; form = λ a. a }
 
 -- what is proved of a form: its mark is above a space, its words are read as they were written, the
 -- line of some fields has the form with these fields, and the table gives the form at its mark
@@ -46,7 +82,7 @@ module _ (form : LineForm) (law : IsForm form) where
   -- a line that is read by it has it, and this text
   form_takes : (word : List ℕ) (words : List (List ℕ)) (line : Line)
       → bytes_eq word (form.mark ∷ []) ≡ true → read_as form words ≡ Some line
-      → (row_text line ≡ word ++ words_text words) × HasForm line
+      → (filled_text (filled_form line) ≡ word ++ words_text words) × FitsForm (filled_form line)
   form_takes word words line same is =
       let some = some_map form.line (form.row.read words) line is in
       let has : filled_form line ≡ filled form some.0 =
@@ -57,7 +93,7 @@ module _ (form : LineForm) (law : IsForm form) where
 -- a line that a table reads has this text
 table_takes : (table : List LineForm) → AreForms table → (word : List ℕ) (words : List (List ℕ))
     (line : Line) → read_by table word words ≡ Some line
-    → (row_text line ≡ word ++ words_text words) × HasForm line
+    → (filled_text (filled_form line) ≡ word ++ words_text words) × FitsForm (filled_form line)
 unfolding AreForms
 table_takes [] laws word words line is = absurd cc
 table_takes (form ∷ others) laws word words line is =
@@ -197,7 +233,9 @@ module _ (numbers : OneNumber) where
   line_again line fits =
       let has = filled_form line in
       let law = line_law line in
-      form_again has.form law.0 has.fields fits ∙ ap (λ (l : Line). Some l) law.1
+      ap line_of (by_form line).text
+      ∙ form_again has.form law.0 has.fields ((by_form line).fits fits)
+      ∙ ap (λ (l : Line). Some l) law.1
 
   -- what is read as a line was written so
   pub line_takes : (bytes : List ℕ) (line : Line) → line_of bytes ≡ Some line
@@ -211,12 +249,15 @@ module _ (numbers : OneNumber) where
           → (row_text line ≡ bytes) × HasForm line
       words_take bytes [] line joined is = absurd cc
       words_take bytes (word ∷ words) line joined is =
-          let t = table_takes forms forms_law word words line is in
-          (t.0 ∙ sym (joined_words word words) ∙ joined, t.1)
+          let t = table_takes forms forms_law word words line is in (
+            (by_form line).text ∙ t.0 ∙ sym (joined_words word words) ∙ joined,
+            (by_form line).form t.1,
+          )
 
   -- a line has no newline in it
   pub line_plain : (line : Line) → HasForm line → Above 10 (row_text line)
   line_plain line fits =
       let has = filled_form line in
       let law = (line_law line).0 in
-      row_plain law.words has.form.mark has.fields law.high fits
+      subst (λ (text : List ℕ). Above 10 text) (sym (by_form line).text)
+      (row_plain law.words has.form.mark has.fields law.high ((by_form line).fits fits))

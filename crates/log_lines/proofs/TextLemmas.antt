@@ -6,7 +6,7 @@ use Rattle.std.proofs.lemmas.List.{take_more, map-append, length-take-le}
 use Rattle.std.proofs.lemmas.Option.{slice_get_within, get_or_from_slice_get}
 use Rattle.std.proofs.lemmas.Bool.Decides.{nat_tests}
 use Rattle.mutations.specs.declared.change.Change.{Change}
-use Rattle.log_lines.specs.Kinds.{change_text}
+use Rattle.log_lines.specs.LineWords.{change_text}
 use Rattle.log_lines.specs.LineText.{words_text}
 
 -- words behind words

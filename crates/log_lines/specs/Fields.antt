@@ -2,13 +2,15 @@
 -- text is a list of bytes. For example, the field of an organism's id writes 12 as `12`, reads `12`
 -- as 12, and reads nothing from `012`, from `x` or from an empty text.
 use Prim.Native.Char.{code}
-use Rattle.std.specs.Prelude.{◌≡◌, ℕ, ◌≤◌, List, [], ◌∷◌, map, length, Option, Some, None, Bool, true, ◌==◌, if◌then◌else◌, option_and_then, option_map, decimal}
+use Rattle.std.specs.Prelude.{◌≡◌, ℕ, ◌≤◌, List, [], ◌∷◌, map, length, Option, Some, None, Bool, true, ◌==◌, if◌then◌else◌, option_and_then, option_map, IfSome, decimal}
 use Rattle.std.specs.Str.{bytes_eq}
-use Rattle.std.specs.List.{slice_split, join_with_byte, AllByRecursion}
+use Rattle.std.specs.List.{slice_split, AllByRecursion}
+use Rattle.std.specs.Option.{option_map_or}
 use Rattle.instruction_set.specs.declared.letter.Letter.{Letter}
 use Rattle.instruction_set.specs.Letter.{byte_of, letter_of_byte}
 use Rattle.mutations.specs.Change.{is_genome_length}
 use Rattle.numerals.specs.Numeral.{number_of}
+use Rattle.log_lines.specs.LineWords.{comma_word}
 
 -- the text of a value, the value that is read from a text, and which values the field allows
 pub record Field (A : Type 0) : Type 1 where
@@ -51,13 +53,11 @@ genome_field =
 
 -- a sign for none, or the text of a value
 abbrev pub text_or : {A : Type 0} → ℕ → Field A → Option A → List ℕ
-text_or sign f None = sign ∷ []
-text_or sign f (Some a) = f.text a
+text_or sign f value = option_map_or f.text value (sign ∷ [])
 
 -- none, or a value that the field allows
 abbrev pub FitsOr : {A : Type 0} → Field A → Option A → Type 0
-FitsOr f None = Unit {0}
-FitsOr f (Some a) = f.Fits a
+FitsOr f value = IfSome value f.Fits
 
 -- a value that may be missing: a sign for none, such as `-`, or the text of the value
 abbrev pub or_sign : {A : Type 0} → ℕ → Field A → Field (Option A)
@@ -70,8 +70,7 @@ or_sign sign f =
 
 -- a dash for an empty list, or the texts of its items, parted by commas
 abbrev pub list_text : {A : Type 0} → Field A → List A → List ℕ
-list_text f [] = code "-" ∷ []
-list_text f (a ∷ items) = join_with_byte (code ",") (map f.text (a ∷ items))
+list_text f items = comma_word (map f.text items)
 
 -- a list of items: a dash if it is empty, else items parted by commas, as in `p4k,d9`
 abbrev pub list_of : {A : Type 0} → Field A → Field (List A)

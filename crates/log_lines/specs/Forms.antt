@@ -5,6 +5,7 @@ use Prim.Native.Char.{code}
 use Rattle.std.specs.Prelude.{ℕ, List, [], ◌∷◌}
 use Rattle.random_streams.specs.RandomStream.{million}
 use Rattle.log_lines.specs.Line.{Line, Start, Death, Birth, Injected, Cleared, Rate, Count, End}
+use Rattle.log_lines.specs.LineText.{form_text}
 use Rattle.log_lines.specs.Fields.{number, genome_field}
 use Rattle.log_lines.specs.Rows.{Row, last, times, ◌◂◌}
 use Rattle.log_lines.specs.Kinds.{small, large, side, rate_name, death_row, arrival_then, record_row}
@@ -108,3 +109,11 @@ filled_form (Count s) =
     filled count_form
     (s.update, (s.living, (s.births, (s.deaths, (s.genotypes, (s.merit, s.tasks))))))
 filled_form (End updates) = filled end_form updates
+
+-- the text of a form with a value of its fields
+abbrev pub filled_text : FilledForm → List ℕ
+filled_text filled = form_text filled.form.mark filled.form.row filled.fields
+
+-- the fields have values that the form allows
+abbrev pub FitsForm : FilledForm → Type 0
+FitsForm filled = filled.form.row.Fits filled.fields

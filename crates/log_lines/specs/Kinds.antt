@@ -2,15 +2,16 @@
 -- For example, a birth's line ends with the words of its record, `= p4k,d9`: the base is the
 -- parent's genome, the letter `k` is put at its place 4, and then the letter at place 9 is deleted.
 use Prim.Native.Char.{code}
-use Rattle.std.specs.Prelude.{ℕ, ◌-◌, List, [], ◌∷◌, ◌++◌, length, take, Option, None, ◌==◌, if◌then◌else◌, option_and_then, option_map, decimal, slice_index}
+use Rattle.std.specs.Prelude.{ℕ, ◌-◌, List, [], ◌∷◌, length, take, Option, None, ◌==◌, if◌then◌else◌, option_and_then, option_map, slice_index}
 use Rattle.instruction_set.specs.declared.letter.Letter.{Letter}
-use Rattle.instruction_set.specs.Letter.{byte_of, letter_of_byte}
+use Rattle.instruction_set.specs.Letter.{letter_of_byte}
 use Rattle.random_streams.specs.RandomStream.{greatest_side}
 use Rattle.mutations.specs.declared.change.Change.{Change}
 use Rattle.mutations.specs.declared.change.Change.TheVariants.{Point, Insert, Delete}
 use Rattle.mutations.specs.declared.rate_name.RateName.{RateName}
 use Rattle.mutations.specs.RateNames.{name_of_rate, rate_named}
 use Rattle.mutations.specs.RecordForm.{FitsChange, in_order}
+use Rattle.log_lines.specs.LineWords.{change_text}
 use Rattle.log_lines.specs.Fields.{Field, number, genome_field, or_sign, list_of, where_true}
 use Rattle.log_lines.specs.Rows.{Row, last, ◌◂◌}
 
@@ -29,12 +30,6 @@ side = number 1 greatest_side
 -- one of the six rates of errors, by its name, such as `copy_error`
 abbrev pub rate_name : Field RateName
 rate_name = record { text = name_of_rate; read = λ word. rate_named word; Fits = λ name. Unit {0} }
-
--- `p4k` puts k at place 4, `i4k` inserts k before that place, and `d9` deletes what is at place 9
-abbrev pub change_text : Change → List ℕ
-change_text (Point at letter) = code "p" ∷ (decimal at ++ byte_of letter ∷ [])
-change_text (Insert at letter) = code "i" ∷ (decimal at ++ byte_of letter ∷ [])
-change_text (Delete at) = code "d" ∷ decimal at
 
 -- the change with the place and the letter that a text such as `4k` has
 abbrev pub read_lettered : (ℕ → Letter → Change) → List ℕ → Option Change

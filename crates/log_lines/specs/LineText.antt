@@ -1,10 +1,17 @@
--- The text of a line (docs/FORMATS.md, "The log"): its mark, its words, each behind a space, and a
--- newline. For example, `line_text (Death 7 12 45)` is `D 7 12 45` and a newline.
+-- The text of a line and the values that it can have (docs/FORMATS.md, "The log"). The text is the
+-- words, each but the first behind a space, and a newline. For example, `Rate 12 Copy 500` has the
+-- text `R 12 copy_error 500` and a newline, and `Rate 12 Copy 2000000` has no form, since a rate is at
+-- most a million parts per million.
 use Prim.Native.Char.{code}
-use Rattle.std.specs.Prelude.{ℕ, List, [], ◌∷◌, ◌++◌, map, decimal}
+use Rattle.std.specs.Prelude.{◌≡◌, ℕ, ◌≤◌, true, List, [], ◌∷◌, ◌++◌, length, IfSome}
+use Rattle.std.specs.List.{AllByRecursion}
+use Rattle.instruction_set.specs.declared.letter.Letter.{Letter}
+use Rattle.random_streams.specs.RandomStream.{greatest_side, million}
+use Rattle.mutations.specs.Change.{is_genome_length}
+use Rattle.mutations.specs.RecordForm.{FitsChange, in_order}
 use Rattle.log_lines.specs.Rows.{Row}
-use Rattle.log_lines.specs.Line.{Line}
-use Rattle.log_lines.specs.Forms.{FilledForm, filled_form}
+use Rattle.log_lines.specs.Line.{Line, Start, Death, Birth, Injected, Cleared, Rate, Count, End}
+use Rattle.log_lines.specs.LineWords.{decimals, words_of_line}
 
 -- a word behind a space
 abbrev pub spaced_word : List ℕ → List ℕ
@@ -17,28 +24,59 @@ words_text (word ∷ words) = spaced_word word ++ words_text words
 
 -- numbers in decimal digits, each behind a space
 abbrev pub numbers_text : List ℕ → List ℕ
-numbers_text numbers = words_text (map (λ n. decimal n) numbers)
+numbers_text numbers = words_text (decimals numbers)
 
 -- a mark, and the words of these fields, each behind a space
 abbrev pub form_text : {A : Type 0} → ℕ → Row A → A → List ℕ
 form_text mark row fields = mark ∷ words_text (row.texts fields)
 
--- the text of a form with a value of its fields
-abbrev pub filled_text : FilledForm → List ℕ
-filled_text filled = form_text filled.form.mark filled.form.row filled.fields
+-- words, each but the first behind a space
+abbrev pub text_of_words : List (List ℕ) → List ℕ
+text_of_words [] = []
+text_of_words (word ∷ words) = word ++ words_text words
 
 -- the text of a line without its newline
 abbrev pub row_text : Line → List ℕ
-row_text line = filled_text (filled_form line)
+row_text line = text_of_words (words_of_line line)
 
 -- the text of a line, with its newline
 abbrev pub line_text : Line → List ℕ
 line_text line = row_text line ++ code "\n" ∷ []
 
--- the fields have values that the form allows
-abbrev pub FitsForm : FilledForm → Type 0
-FitsForm filled = filled.form.row.Fits filled.fields
+-- a number from least to greatest
+abbrev pub IsBetween : ℕ → ℕ → ℕ → Type 0
+IsBetween least greatest n = (least ≤ n) × (n ≤ greatest)
 
--- the values of a line are ones that its form allows, so that its text is read as the line again
+-- an update, a cell or a place: a number below 2 ^ 32
+abbrev pub IsSmall : ℕ → Type 0
+IsSmall n = IsBetween 0 4294967295 n
+
+-- an id, a count or a merit: a number below 2 ^ 64
+abbrev pub IsLarge : ℕ → Type 0
+IsLarge n = IsBetween 0 18446744073709551615 n
+
+-- the width or the height of a world, from 1 to 256
+abbrev pub IsSide : ℕ → Type 0
+IsSide n = IsBetween 1 greatest_side n
+
+-- as many letters as a genome can have, from 8 to 8,192
+abbrev pub HasGenomeLength : List Letter → Type 0
+HasGenomeLength letters = is_genome_length (length letters) ≡ true
+
+-- the values of a line are ones that a log can have, so that its text is read as the line again
 abbrev pub HasForm : Line → Type 0
-HasForm line = FitsForm (filled_form line)
+HasForm (Start version width height cell genome) =
+    IsBetween 1 2 version × IsSide width × IsSide height × IsSmall cell × HasGenomeLength genome
+HasForm (Death id update cell) = IsLarge id × IsSmall update × IsSmall cell
+HasForm (Birth id parent update cell over birth) =
+    IsLarge id × IsLarge parent × IsSmall update × IsSmall cell × IfSome over IsLarge
+    × IfSome birth.written HasGenomeLength × AllByRecursion FitsChange birth.changes
+    × (in_order birth.changes ≡ true)
+HasForm (Injected id update cell over genome) =
+    IsLarge id × IsSmall update × IsSmall cell × IfSome over IsLarge × HasGenomeLength genome
+HasForm (Cleared id update cell) = IsLarge id × IsSmall update × IsSmall cell
+HasForm (Rate update name ppm) = IsSmall update × IsBetween 0 million ppm
+HasForm (Count s) =
+    IsSmall s.update × AllByRecursion IsLarge
+    (s.living ∷ s.births ∷ s.deaths ∷ s.genotypes ∷ s.merit ∷ s.tasks) × (length s.tasks ≡ 9)
+HasForm (End updates) = IsSmall updates

@@ -4,8 +4,9 @@ ghost use Rattle.instruction_set.specs.Letter.{byte_of};
 ghost use Rattle.genome.specs.Genome as genome_spec;
 ghost use Rattle.mutations.specs.BirthRecord.{record_of, written_in};
 ghost use Rattle.log_lines.specs.Fields.{genome_field, list_text};
-ghost use Rattle.log_lines.specs.Kinds.{base_field, change_field, change_text, changes_field, death_row, over_field, rate_name};
+ghost use Rattle.log_lines.specs.Kinds.{base_field, change_field, changes_field, death_row, over_field, rate_name};
 ghost use Rattle.log_lines.specs.Line.{Birth, Count, End, Injected, Rate, Start, line_values};
+ghost use Rattle.log_lines.specs.LineWords.{change_text};
 ghost use Rattle.log_lines.specs.LineText.{form_text, line_text, numbers_text, row_text, spaced_word, words_text};
 ghost use Rattle.log_lines.specs.Kept.{Keeps};
 

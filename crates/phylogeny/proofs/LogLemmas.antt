@@ -331,7 +331,7 @@ told_by : (lines : List Line) (q : Reader) → IsGoodLog lines → told_all Befo
     → IsToldBy lines
 told_by [] q good is = absurd cc
 told_by (Start version width height cell genome ∷ lines) q good is =
-    start_told version width height cell genome lines q good.forms.0.1.0.1 good.forms.0.1.1.0.1 is
+    start_told version width height cell genome lines q good.forms.0.1.1 good.forms.0.2.1 is
 told_by (Death id update cell ∷ lines) q good is = absurd cc
 told_by (Birth id parent update cell over birth ∷ lines) q good is = absurd cc
 told_by (Injected id update cell over genome ∷ lines) q good is = absurd cc

@@ -1,7 +1,7 @@
 -- The values of a line are in their ranges exactly where its fields fit its row.
-use Rattle.std.proofs.Common.{◌≡◌, ℕ, zero, suc, ◌<◌, ◌≤◌, ◌*◌, ◌%◌, ◌^◌, Bool, true, false, List, [], ◌∷◌, length, refl, sym, subst, arith}
+use Rattle.std.proofs.Common.{◌≡◌, ℕ, zero, suc, ◌<◌, ◌≤◌, ◌%◌, ◌^◌, Bool, true, false, List, [], ◌∷◌, length, refl, sym, subst, arith}
 use Rattle.std.specs.List.{AllByRecursion}
-use Rattle.std.specs.Prelude.{◌&&◌, nat_le, slice_index_or}
+use Rattle.std.specs.Prelude.{nat_le, slice_index_or}
 use Rattle.std.proofs.Math.Nat.{mod-lt}
 use Rattle.std.proofs.lemmas.Bool.{and_from, and_parts, le-leb, leb-true}
 use Rattle.instruction_set.specs.declared.letter.Letter.{Letter}
@@ -14,8 +14,8 @@ use Rattle.virtual_cpu.specs.declared.cpu_image.CpuImage.{CpuImage}
 use Rattle.saved_lines.specs.SavedForms.{IsHead, IsMachineLine, IsOrganismLine}
 use Rattle.saved_lines.specs.SavedReading.{are_ordered}
 use Rattle.saved_lines.specs.SavedRows.{AreWithin}
-use Rattle.saved_lines.specs.SavedTables.{head_ranges, machine_fields, machine_ranges, machine_row, organism_ranges, organism_row}
-use Rattle.saved_lines.specs.SavedText.{flag_number, head_numbers, machine_numbers, organism_numbers}
+use Rattle.saved_lines.specs.SavedTables.{head_ranges, machine_fields, machine_row, organism_row}
+use Rattle.saved_lines.specs.SavedText.{flag_number, head_numbers, organism_numbers}
 use Rattle.saved_lines.specs.SavedValues.{HeadValues, OrganismValues}
 
 -- 0 or 1

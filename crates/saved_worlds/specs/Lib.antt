@@ -4,6 +4,7 @@ pub use Rattle.saved_lines.specs.SavedText
 pub mod SavedState
 pub mod Resuming
 pub mod SavedWorldText
-pub mod SavedGrammar
+pub mod SavedOrder
 pub mod ReadsSaved
+pub mod SavedGrammar
 pub mod ValidState

@@ -6,7 +6,7 @@ use Rattle.std.specs.Prelude.{◌≡◌, ◌≢◌, ℕ, ◌+◌, List, [], ◌�
 use Rattle.std.specs.List.{AllByRecursion}
 use Rattle.saved_lines.specs.SavedForms.{HasSavedForm}
 use Rattle.saved_lines.specs.SavedText.{SavedLine, saved_line_text}
-use Rattle.saved_worlds.specs.SavedGrammar.{SavedPlace, Before, After, told_saved_line}
+use Rattle.saved_worlds.specs.SavedOrder.{SavedPlace, Before, After, told_saved_line}
 use Rattle.saved_worlds.specs.SavedState.{SavedState}
 use Rattle.saved_worlds.specs.declared.saved_stop.SavedStop.{SavedStop}
 use Rattle.saved_worlds.specs.declared.saved_stop.SavedStop.TheVariants as stop

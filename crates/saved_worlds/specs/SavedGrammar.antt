@@ -1,113 +1,13 @@
--- The state that bytes are the text of, or the first faulty line (docs/FORMATS.md, "Saved worlds").
-use Rattle.std.specs.Prelude.{ℕ, ◌+◌, ◌*◌, ◌^◌, ◌==◌, ◌&&◌, Bool, true, not, nat_lt, nat_le, List, [], ◌∷◌, ◌++◌, length, fold, replicate, Option, None, Some, Result, Ok, Err, if◌then◌else◌, slice_set}
-use Rattle.std.specs.List.{slice_split, list_all}
-use Rattle.log_lines.specs.Fields.{given}
-use Rattle.organism.specs.OrganismState.{OrganismState}
-use Rattle.virtual_cpu.specs.declared.cpu_image.CpuImage.{CpuImage}
-use Rattle.virtual_cpu.specs.Image.{machine_of_image}
-use Rattle.world_rules.specs.World.{Occupant}
-use Rattle.saved_lines.specs.SavedValues.{HeadValues, OrganismValues}
+-- The state that bytes are the text of, or the first faulty line, as the bytes are cut into pieces
+-- (docs/FORMATS.md, "Saved worlds").
+use Rattle.std.specs.Prelude.{ℕ, ◌+◌, ◌==◌, List, [], ◌∷◌, Option, None, Some, Result, Ok, Err}
+use Rattle.std.specs.List.{slice_split}
 use Rattle.saved_lines.specs.SavedReading.{saved_line_of}
-use Rattle.saved_lines.specs.SavedText.{SavedLine, Head, Organism, Machine as MachineLine, Count}
+use Rattle.saved_lines.specs.SavedText.{SavedLine}
+pub use Rattle.saved_worlds.specs.SavedOrder.{Placed, SavedPlace, Before, Among, Halfway, After, is_above, is_new, is_young, may_stand, are_within, may_follow, organism_of_lines, placed_of, with_placed, state_of_lines, told_saved_line}
 use Rattle.saved_worlds.specs.SavedState.{SavedState}
 use Rattle.saved_worlds.specs.declared.saved_stop.SavedStop.{SavedStop}
 use Rattle.saved_worlds.specs.declared.saved_stop.SavedStop.TheVariants as stop
-
--- an organism of a saved world, in its cell
-pub record Placed : Type 0 where
-  pub cell : ℕ
-  pub occupant : Occupant
-
--- before the first line, between organisms, behind the line of an organism, or after the last line
-pub data SavedPlace : Type 0 where
-  Before : SavedPlace
-  Among : HeadValues → List Placed → SavedPlace
-  Halfway : HeadValues → List Placed → OrganismValues → SavedPlace
-  After : SavedState → SavedPlace
-
--- the cell is above those that came before
-abbrev pub is_above : ℕ → List Placed → Bool
-is_above cell placed = list_all (λ p. nat_lt p.cell cell) placed
-
--- nobody before has this id
-abbrev pub is_new : ℕ → List Placed → Bool
-is_new id placed = list_all (λ p. not (p.occupant.id == id)) placed
-
--- it has not reached the age of death
-abbrev pub is_young : HeadValues → OrganismValues → Bool
-is_young head o =
-    if head.death then nat_lt o.age (head.age_limit * length o.genome) else true
-
--- the line of an organism may come: its cell, its id, its merit, its genome's length and its age
--- are in order
-abbrev pub may_stand : HeadValues → List Placed → OrganismValues → Bool
-may_stand head placed o =
-    nat_lt o.cell (head.width * head.height)
-    && is_above o.cell placed
-    && nat_lt o.id head.next_id
-    && is_new o.id placed
-    && (nat_le 1 o.merit && nat_le o.merit (2 ^ 38))
-    && (nat_le head.least_length (length o.genome) && nat_le (length o.genome) head.greatest_length)
-    && (nat_lt o.age (2 ^ 48) && nat_le o.read o.age)
-    && is_young head o
-
--- a head is within memory
-abbrev pub are_within : CpuImage → Bool
-are_within image = list_all (λ head. nat_lt head (length image.memory)) image.heads
-
--- the line of a machine may follow that of its organism: its texts have one length, which is not
--- too long, and its heads are within it
-abbrev pub may_follow : HeadValues → OrganismValues → CpuImage → Bool
-may_follow head o image =
-    (length image.clean == length image.memory)
-    && (length image.executed == length image.memory)
-    && (length image.copied == length image.memory)
-    && nat_le (length image.memory) head.memory_limit
-    && nat_le (length image.memory) ((if image.pending then 6 else 2) * length o.genome)
-    && are_within image
-
--- the organism of its two lines
-abbrev pub organism_of_lines : HeadValues → OrganismValues → CpuImage → OrganismState
-organism_of_lines head o image = record {
-  genome = o.genome;
-  inputs = o.inputs;
-  merit = o.merit;
-  credited = o.credited;
-  age = o.age;
-  read = o.read;
-  gestation = o.gestation;
-  machine = machine_of_image image (length o.genome) head.memory_limit;
-}
-
--- and its cell
-abbrev pub placed_of : HeadValues → OrganismValues → CpuImage → Placed
-placed_of head o image =
-    record {
-      cell = o.cell;
-      occupant = record { id = o.id; organism = organism_of_lines head o image };
-    }
-
--- an organism stands in its cell
-abbrev pub with_placed : List (Option Occupant) → Placed → List (Option Occupant)
-with_placed cells placed = slice_set cells placed.cell (Some placed.occupant)
-
--- the state of a head and its organisms
-abbrev pub state_of_lines : HeadValues → List Placed → SavedState
-state_of_lines head placed = record {
-  head = head;
-  cells = fold with_placed (replicate (head.width * head.height) None) placed;
-}
-
--- the place after a line; none where the line doesn't fit
-abbrev pub told_saved_line : SavedPlace → SavedLine → Option SavedPlace
-told_saved_line Before (Head head) = Some (Among head [])
-told_saved_line (Among head placed) (Organism o) =
-    given (may_stand head placed o) (Halfway head placed o)
-told_saved_line (Halfway head placed o) (MachineLine image) =
-    given (may_follow head o image) (Among head (placed ++ placed_of head o image ∷ []))
-told_saved_line (Among head placed) (Count organisms) =
-    given (organisms == length placed) (After (state_of_lines head placed))
-told_saved_line _ _ = None
 
 -- the end of the bytes, behind the last newline
 abbrev pub saved_end : ℕ → SavedPlace → Result SavedState SavedStop

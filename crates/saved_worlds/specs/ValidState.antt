@@ -10,7 +10,7 @@ pub use Rattle.saved_lines.specs.SavedForms.{AreRates, IsHead, IsHeadUpTo}
 use Rattle.saved_lines.specs.SavedValues.{HeadValues, organism_values}
 use Rattle.saved_lines.specs.declared.resident.Resident.{Resident}
 use Rattle.saved_worlds.specs.Resuming.{config_of_head, world_of_state}
-use Rattle.saved_worlds.specs.SavedGrammar.{Placed, placed_of}
+use Rattle.saved_worlds.specs.SavedOrder.{Placed, placed_of}
 use Rattle.saved_worlds.specs.SavedState.{SavedState}
 
 -- its sets are of nine tasks, and its inputs have the top bytes

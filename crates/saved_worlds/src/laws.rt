@@ -17,10 +17,10 @@ ghost use Rattle.saved_worlds.specs.declared.saved_stop.SavedStop.{SavedStop};
 use world_config::Config;
 use world_laws::laws::{organisms_are_sound, organisms_stay_in_range, ranges_are_kept};
 
-/// What bytes are read as is what the function that reads them answers, and nothing else.
-pub fn bytes_are_read_once()
+/// Bytes are read as what `saved_of` gives, a state or a rejection, and as nothing else.
+pub fn one_answer()
     ensures { (bytes : List ℕ) (answer : Result SavedState SavedStop)
-        → (saved_of bytes ≡ answer) ↔ ReadsSaved bytes answer }
+        → ReadsSaved bytes answer ↔ (saved_of bytes ≡ answer) }
 {}
 
 /// The state that a run leaves, after `more` further updates, is that of the run that is longer by

@@ -1,6 +1,6 @@
 -- The parts of a line have the forms that a log asks for.
 use Rattle.std.proofs.Common.{◌≡◌, ℕ, suc, ◌*◌, ◌^◌, ◌<◌, ◌≤◌, true, List, [], ◌∷◌, map, length, Option, Some, None, refl, ap, arith, sum_by}
-use Rattle.std.specs.Prelude.{not, is_some}
+use Rattle.std.specs.Prelude.{not, is_some, IfSome}
 use Rattle.std.specs.List.{AllByRecursion, cons_option}
 use Rattle.std.proofs.lemmas.Bool.Decides.{nat_tests}
 use Rattle.std.proofs.lemmas.List.{length-map}
@@ -13,11 +13,9 @@ use Rattle.logic_tasks.specs.declared.task.Task.{Task}
 use Rattle.logic_tasks.specs.LogicTasks.{all_tasks}
 use Rattle.logic_tasks.specs.TaskSet.{has_task}
 use Rattle.mutations.specs.Change.{is_genome_length}
-use Rattle.mutations.specs.BirthRecord.{BirthRecord}
-use Rattle.mutations.specs.RecordForm.{HasRecordForm, FitsBase}
+use Rattle.mutations.specs.RecordForm.{FitsBase}
 use Rattle.log_lines.specs.Line.{Count}
-use Rattle.log_lines.specs.Kinds.{large, over_field, base_field, record_row}
-use Rattle.log_lines.specs.LineText.{HasForm}
+use Rattle.log_lines.specs.LineText.{HasForm, HasGenomeLength, IsLarge}
 use Rattle.lineage_log.specs.Slots.{taken}
 use Rattle.organism.specs.OrganismState.{OrganismState}
 use Rattle.organism.specs.Lived.{IsSoundOrganism}
@@ -27,15 +25,11 @@ use Rattle.world_rules.specs.Statistics.{organism_in, organisms_in, genomes_of_c
 use Rattle.world_laws.proofs.Scenes.{Each}
 use Rattle.world_laws.proofs.Configs.{filter_few}
 
--- the base of a record that a log can write fits its field
-base_form : (written : Option (List Letter)) → FitsBase written → base_field.Fits written
+-- the base of a record that a log can write has a genome's length
+pub base_form : (written : Option (List Letter)) → FitsBase written
+    → IfSome written HasGenomeLength
 base_form None h = tt
 base_form (Some letters) h = h
-
--- a record that a log can write has a row
-pub record_form : (birth : BirthRecord) → HasRecordForm birth
-    → record_row.Fits (birth.written, birth.changes)
-record_form birth h = (base_form birth.written h.base, (h.changes, h.order))
 
 -- a genome has letters enough and not too many
 pub letters_form : (letters : List Letter) → IsGenome letters
@@ -47,7 +41,7 @@ letters_form letters h =
 
 -- an id, or none
 pub over_form : (slot : Option ℕ) (end : ℕ) → ((id : ℕ) → slot ≡ Some id → id < end)
-    → end ≤ 18446744073709551615 → over_field.Fits slot
+    → end ≤ 18446744073709551615 → IfSome slot IsLarge
 over_form None end low few = tt
 over_form (Some id) end low few = (omega arith, omega (arith, low id refl, few))
 
@@ -102,7 +96,7 @@ merits_sum cells sound =
 -- how many of at most 65536 organisms have a task credited fits its field, task by task
 tasks_form : (cells : List (Option Occupant)) (tasks : List Task)
     → length (organisms_in cells) ≤ 65536
-    → AllByRecursion large.Fits (map (credited_with cells) tasks)
+    → AllByRecursion IsLarge (map (credited_with cells) tasks)
 tasks_form cells [] few = tt
 tasks_form cells (t ∷ tasks) few = (
   (
@@ -116,7 +110,7 @@ tasks_form cells (t ∷ tasks) few = (
   tasks_form cells tasks few,
 )
 
--- what is counted fits its fields
+-- what is counted has the form of its line
 pub count_form : (scene : Scene) (births : ℕ) → Each IsSoundOrganism scene.cells
     → length scene.cells ≤ 65536 → scene.update ≤ 4294967295 → births ≤ 18446744073709551615
     → length scene.gone ≤ 18446744073709551615 → HasForm (Count (scene_stats scene births))
@@ -148,10 +142,11 @@ count_form scene births sound small early few gone =
               (omega arith, omega (arith, genotypes)),
               (
                 (omega arith, merit),
-                (refl, tasks_form cells all_tasks (omega (arith, organisms, small))),
+                tasks_form cells all_tasks (omega (arith, organisms, small)),
               ),
             ),
           ),
         ),
       ),
+      refl,
     )

@@ -1,11 +1,11 @@
 -- Each line of an update has the form that a log asks for.
 use Rattle.std.proofs.Common.{◌≡◌, ℕ, suc, ◌+◌, ◌<◌, ◌≤◌, List, [], ◌∷◌, length, Some, arith, length-append}
+use Rattle.std.specs.Prelude.{IfSome}
 use Rattle.std.specs.List.{AllByRecursion, filter_map, flat_map, scan, zip}
 use Rattle.std.proofs.lemmas.Option.{slice_get_within}
 use Rattle.birth_board.specs.declared.placing.Placing.{Placing}
 use Rattle.log_lines.specs.Line.{Line, Death, Cleared}
-use Rattle.log_lines.specs.Kinds.{over_field}
-use Rattle.log_lines.specs.LineText.{HasForm}
+use Rattle.log_lines.specs.LineText.{HasForm, IsLarge}
 use Rattle.world_config.specs.Events.{EventValue, WhatValue, inject, clear, rate}
 use Rattle.world_config.specs.Values.{ConfigValues}
 use Rattle.world_rules.specs.World.{founder_link}
@@ -20,7 +20,7 @@ use Rattle.world_laws.proofs.Placements.{all_append}
 use Rattle.world_laws.proofs.AfterLives.{IsDelivery}
 use Rattle.world_laws.specs.Bounds.{IsConfig, size_of, FitsWhat}
 use Rattle.world_laws.proofs.Configs.{FitsPlaced, genome_fits, few_cells}
-use Rattle.world_laws.proofs.FormLemmas.{record_form, letters_form, over_form}
+use Rattle.world_laws.proofs.FormLemmas.{base_form, letters_form, over_form}
 
 -- each line has its form
 abbrev pub Forms : List Line → Type 0
@@ -43,7 +43,7 @@ module _ (size : ℕ) (start : People) (small : size ≤ 65536) where
 
   -- who stands in a cell, or nobody, fits the field for it
   over_fits : (scene : Scene) (more : ℕ) → IsScene size start scene → HasRoom scene more
-      → (cell : ℕ) → over_field.Fits (standing_at scene cell)
+      → (cell : ℕ) → IfSome (standing_at scene cell) IsLarge
   over_fits scene more is room cell =
       over_form (standing_at scene cell) (length scene.everyone)
       (λ id h. (standing_low scene is cell id h).0) (omega (arith, room.ids))
@@ -67,7 +67,8 @@ module _ (size : ℕ) (start : People) (small : size ≤ 65536) where
   leaving_form more scene cell id roomy e =
       let low = standing_low scene roomy.0 cell id e in (
         (omega arith, omega (arith, low.0, roomy.1.ids)),
-        ((omega arith, roomy.1.early), (omega arith, omega (arith, low.1, small))),
+        (omega arith, roomy.1.early),
+        (omega arith, omega (arith, low.1, small)),
       )
 
   -- the lines of deaths
@@ -107,16 +108,16 @@ module _ (size : ℕ) (start : People) (small : size ≤ 65536) where
   births_fit config scene (b ∷ births) (p ∷ placings) is room are within =
       let parent = slice_get_within start b.parent (Some are.0.letters) are.0.lived in
       let over = over_fits scene (length (b ∷ births)) is room p.cell in
-      let record_fits = record_form b.newborn.origin are.0.born.form in
+      let form = are.0.born.form in
       let first : HasForm (birth_line scene (b, p)) = (
         (omega arith, omega (arith, room.ids)),
-        (
-          (omega arith, omega (arith, parent, is.grown, room.ids)),
-          (
-            (omega arith, room.early),
-            ((omega arith, omega (arith, within.0, small)), (over, record_fits)),
-          ),
-        ),
+        (omega arith, omega (arith, parent, is.grown, room.ids)),
+        (omega arith, room.early),
+        (omega arith, omega (arith, within.0, small)),
+        over,
+        base_form b.newborn.origin.written form.base,
+        form.changes,
+        form.order,
       ) in (
         first,
         births_fit config (with_newborn config scene (b, p)) births placings
@@ -158,7 +159,10 @@ module _ (start : People) (config : ConfigValues) (fit : IsConfig config) where
       let text = letters_form letters (genome_fits config fit letters fits.1 fits.2) in (
         (
           (omega arith, omega (arith, room.ids)),
-          ((omega arith, room.early), ((omega arith, omega (arith, fits.0, small)), (over, text))),
+          (omega arith, room.early),
+          (omega arith, omega (arith, fits.0, small)),
+          over,
+          text,
         ),
         tt,
       )
@@ -166,7 +170,7 @@ module _ (start : People) (config : ConfigValues) (fit : IsConfig config) where
       cleared_fit (size_of config) start (few_cells config fit) scene (suc more)
       (cells_from first last) is room
   what_fit scene more (rate name ppm) is room fits =
-      (((omega arith, room.early), (tt, (omega arith, fits))), tt)
+      (((omega arith, room.early), (omega arith, fits)), tt)
 
   -- the lines of events
   pub events_fit_forms : (scene : Scene) (events : List (ℕ × EventValue))

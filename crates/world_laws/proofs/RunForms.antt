@@ -121,17 +121,11 @@ module _ (laws : LifeLaws) (config : ConfigValues) (fit : IsConfig config) where
       let small = few_cells config fit in
       let head : HasForm (head_line config) = (
         (omega arith, omega arith),
-        (
-          (fit.columns, fit.few_columns),
-          (
-            (fit.rows, fit.few_rows),
-            (
-              (omega arith, omega (arith, fit.founder, small)),
-              letters_form config.ancestor
-                  (genome_fits config fit config.ancestor fit.long_enough fit.short_enough),
-            ),
-          ),
-        ),
+        (fit.columns, fit.few_columns),
+        (fit.rows, fit.few_rows),
+        (omega arith, omega (arith, fit.founder, small)),
+        letters_form config.ancestor
+            (genome_fits config fit config.ancestor fit.long_enough fit.short_enough),
       ) in (
         head,
         all_append HasForm (updates_lines config n) (End n ∷ []) (updates_forms n h)

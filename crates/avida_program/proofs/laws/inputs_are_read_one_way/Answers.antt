@@ -5,4 +5,4 @@ pub returns-clause-lines : goal.returns-clause-lines
 returns-clause-lines c = lines_exactly c.one_answer.ensures
 
 pub returns-clause-state : goal.returns-clause-state
-returns-clause-state c = state_exactly c.bytes_are_read_once.ensures
+returns-clause-state c = state_exactly c.one_answer-2.ensures
