@@ -9,7 +9,9 @@ pub(crate) const AHEAD: usize = 8;
 
 /// Looks at the letters that the lives from this place on read first, and at the bodies of those
 /// behind them. Each life would wait for its own; a look waits once for all. What it sees is mixed
-/// into a number of no meaning.
+/// into a number of no meaning. It stays out of the loop over cells, which has its registers for the
+/// lives.
+#[inline(never)]
 pub(crate) fn look_ahead(cells: &[Option<BoxedOrganism>], place: usize) -> u64
     requires { place ≤ length cells.now }
 {
