@@ -4,11 +4,11 @@
 use Rattle.std.specs.Prelude.{◌≡◌, pos, List, [], ◌∷◌, ◌++◌}
 use Rattle.toml.specs.Data.{Data, string, integer, boolean, array, Members}
 use Rattle.genome.specs.GenomeText.{letters_text_of}
+use Rattle.mutations.specs.declared.rates.Rates.{Rates}
 use Rattle.world_config.specs.declared.key.Key.{Key}
 use Rattle.world_config.specs.declared.key.Key.TheVariants as code
 use Rattle.world_config.specs.declared.groups.PlaceKeys.{PlaceKeys}
 use Rattle.world_config.specs.declared.groups.LifeKeys.{LifeKeys}
-use Rattle.world_config.specs.declared.groups.ErrorKeys.{ErrorKeys}
 use Rattle.world_config.specs.declared.groups.DivideKeys.{DivideKeys}
 use Rattle.world_config.specs.declared.groups.LengthKeys.{LengthKeys}
 use Rattle.world_config.specs.declared.numbers.Numbers.{Numbers}
@@ -28,8 +28,8 @@ abbrev pub life_keys : List Key
 life_keys = code.AverageSlices ∷ code.Death ∷ code.AgeLimit ∷ []
 
 -- the keys of the six rates of errors
-abbrev pub error_keys : List Key
-error_keys =
+abbrev pub rate_keys : List Key
+rate_keys =
     code.CopyError ∷ code.DivideInsert ∷ code.DivideDelete
     ∷ code.SitePoint ∷ code.SiteInsert ∷ code.SiteDelete ∷ []
 
@@ -44,7 +44,7 @@ length_keys = code.LeastLength ∷ code.GreatestLength ∷ code.MemoryLimit ∷ 
 
 -- the keys whose values are numbers or booleans
 abbrev pub number_keys : List Key
-number_keys = place_keys ++ (life_keys ++ (error_keys ++ (divide_keys ++ length_keys)))
+number_keys = place_keys ++ (life_keys ++ (rate_keys ++ (divide_keys ++ length_keys)))
 
 -- the keys after these
 abbrev pub last_keys : List Key
@@ -64,14 +64,14 @@ pub record AreLife (ms : Members) (life : LifeKeys) : Type 0 where
   pub death : flag_at code.Death ms ≡ life.death
   pub age_limit : number_at (frame_in ms) code.AgeLimit ms ≡ life.age_limit
 
--- the group has the table's values at the keys of the six rates of errors
-pub record AreErrors (ms : Members) (errors : ErrorKeys) : Type 0 where
-  pub copy_error : number_at (frame_in ms) code.CopyError ms ≡ errors.copy_error
-  pub divide_insert : number_at (frame_in ms) code.DivideInsert ms ≡ errors.divide_insert
-  pub divide_delete : number_at (frame_in ms) code.DivideDelete ms ≡ errors.divide_delete
-  pub site_point : number_at (frame_in ms) code.SitePoint ms ≡ errors.site_point
-  pub site_insert : number_at (frame_in ms) code.SiteInsert ms ≡ errors.site_insert
-  pub site_delete : number_at (frame_in ms) code.SiteDelete ms ≡ errors.site_delete
+-- these are the table's six rates of errors
+pub record AreRates (ms : Members) (rates : Rates) : Type 0 where
+  pub copy : number_at (frame_in ms) code.CopyError ms ≡ rates.copy
+  pub insert : number_at (frame_in ms) code.DivideInsert ms ≡ rates.insert
+  pub delete : number_at (frame_in ms) code.DivideDelete ms ≡ rates.delete
+  pub site_point : number_at (frame_in ms) code.SitePoint ms ≡ rates.site_point
+  pub site_insert : number_at (frame_in ms) code.SiteInsert ms ≡ rates.site_insert
+  pub site_delete : number_at (frame_in ms) code.SiteDelete ms ≡ rates.site_delete
 
 -- the group has the table's values at the keys of placing a child and of what a divide must meet
 pub record AreDivide (ms : Members) (divide : DivideKeys) : Type 0 where
@@ -90,7 +90,7 @@ pub record AreLengths (ms : Members) (lengths : LengthKeys) : Type 0 where
 pub record AreNumbers (ms : Members) (numbers : Numbers) : Type 0 where
   pub place : ArePlace ms numbers.place
   pub life : AreLife ms numbers.life
-  pub errors : AreErrors ms numbers.errors
+  pub rates : AreRates ms numbers.rates
   pub divide : AreDivide ms numbers.divide
   pub lengths : AreLengths ms numbers.lengths
 

@@ -4,12 +4,11 @@ ghost use Rattle.toml.specs.Data.{integer, no_members, string};
 ghost use Rattle.toml.specs.View.{items_view, table_view, view};
 ghost use Rattle.genome.specs.Genome.{letters};
 ghost use Rattle.genome.specs.GenomeText.{letters_text_of};
-ghost use Rattle.world_config.specs.Events.{clear, event_value, inject, rate};
+ghost use Rattle.world_config.specs.Events.{event_value};
 ghost use Rattle.world_config.specs.EventTables.{event_members, insert_member, items_for};
 
 use crate::event::{Event, What};
 use genome::Genome;
-use mutations::RateName;
 use std::alloc::{AllocError, Global};
 use toml::{Table, Value};
 
@@ -76,65 +75,29 @@ fn put_genome(
     put(alloc, table, name, Value::from(text))
 }
 
-fn put_inject(
-    alloc: Global,
-    table: &mut Table,
-    update: u32,
-    cell: u32,
-    genome: &Genome,
-) -> Result<(), AllocError>
-    requires { table_view table.old ≡ no_members }
-    ensures { OnOk result (table_view table.new
-        ≡ event_members update (inject cell (letters genome.now))) }
-{
-    put_number(alloc, table, "update", update)?;
-    put_genome(alloc, table, "letters", genome)?;
-    put_text(alloc, table, "kind", "inject")?;
-    put_number(alloc, table, "cell", cell)
-}
-
-fn put_clear(
-    alloc: Global,
-    table: &mut Table,
-    update: u32,
-    first: u32,
-    last: u32,
-) -> Result<(), AllocError>
-    requires { table_view table.old ≡ no_members }
-    ensures { OnOk result (table_view table.new ≡ event_members update (clear first last)) }
-{
-    put_number(alloc, table, "update", update)?;
-    put_number(alloc, table, "last", last)?;
-    put_text(alloc, table, "kind", "clear")?;
-    put_number(alloc, table, "first", first)
-}
-
-fn put_rate(
-    alloc: Global,
-    table: &mut Table,
-    update: u32,
-    name: RateName,
-    ppm: u32,
-) -> Result<(), AllocError>
-    requires { table_view table.old ≡ no_members }
-    ensures { OnOk result (table_view table.new ≡ event_members update (rate name ppm)) }
-{
-    put_number(alloc, table, "update", update)?;
-    put_number(alloc, table, "ppm", ppm)?;
-    put_text(alloc, table, "name", name.name())?;
-    put_text(alloc, table, "kind", "rate")
-}
-
 /// Puts the keys of an event into an empty table.
 fn put_event(alloc: Global, table: &mut Table, event: &Event) -> Result<(), AllocError>
     requires { table_view table.old ≡ no_members }
     ensures { OnOk result (table_view table.new
         ≡ event_members event.now.update (event_value event.now).what) }
 {
+    put_number(alloc, table, "update", event.update)?;
     match &event.what {
-        What::Inject { cell, genome } => put_inject(alloc, table, event.update, *cell, genome),
-        What::Clear { first, last } => put_clear(alloc, table, event.update, *first, *last),
-        What::Rate { name, ppm } => put_rate(alloc, table, event.update, *name, *ppm),
+        What::Inject { cell, genome } => {
+            put_genome(alloc, table, "letters", genome)?;
+            put_text(alloc, table, "kind", "inject")?;
+            put_number(alloc, table, "cell", *cell)
+        }
+        What::Clear { first, last } => {
+            put_number(alloc, table, "last", *last)?;
+            put_text(alloc, table, "kind", "clear")?;
+            put_number(alloc, table, "first", *first)
+        }
+        What::Rate { name, ppm } => {
+            put_number(alloc, table, "ppm", *ppm)?;
+            put_text(alloc, table, "name", name.name())?;
+            put_text(alloc, table, "kind", "rate")
+        }
     }
 }
 

@@ -1,16 +1,16 @@
 // The numbers and truths of a configuration, in groups of keys that stand together.
+#![tactic(auto, unfolding(crate::specs::Refusal::refusal_at, crate::specs::Lookup::number_at, crate::specs::Lookup::flag_at))]
+
 ghost use Rattle.std.specs.Prelude.{◌≡◌, None, Some, IfOk, IfErr, OnOk};
 ghost use Rattle.toml.specs.View.{table_view};
 ghost use Rattle.world_config.specs.Bounds.{IsWithin, last_cell_of};
 
 use crate::key::Key;
-use crate::limits::{
-    GREATEST_AGE, GREATEST_AVERAGE, GREATEST_PERCENT, GREATEST_SEED, GREATEST_UPDATES,
-};
-use crate::lookup::{flag, long_number, number};
+use crate::limits::{GREATEST_AGE, GREATEST_AVERAGE, GREATEST_PERCENT, GREATEST_UPDATES};
+use crate::lookup::{flag, number, seed};
 use crate::stop::ConfigStop;
 use genome::{GREATEST_LENGTH, LEAST_LENGTH};
-use random_streams::{GREATEST_SIDE, MILLION};
+use random_streams::GREATEST_SIDE;
 use toml::Table;
 
 /// Where and how long a run goes.
@@ -36,23 +36,6 @@ pub(crate) struct LifeKeys {
     pub age_limit: u32,
     ghost average_slices_bounds: { IsWithin 1 1000 average_slices },
     ghost age_limit_bounds: { IsWithin 1 1000 age_limit },
-}
-
-/// The six rates of errors.
-#[derive(Clone, Copy)]
-pub(crate) struct ErrorKeys {
-    pub copy_error: u32,
-    pub divide_insert: u32,
-    pub divide_delete: u32,
-    pub site_point: u32,
-    pub site_insert: u32,
-    pub site_delete: u32,
-    ghost copy_error_bounds: { IsWithin 0 1000000 copy_error },
-    ghost divide_insert_bounds: { IsWithin 0 1000000 divide_insert },
-    ghost divide_delete_bounds: { IsWithin 0 1000000 divide_delete },
-    ghost site_point_bounds: { IsWithin 0 1000000 site_point },
-    ghost site_insert_bounds: { IsWithin 0 1000000 site_insert },
-    ghost site_delete_bounds: { IsWithin 0 1000000 site_delete },
 }
 
 /// What a birth asks.
@@ -81,7 +64,6 @@ impl PlaceKeys {
     ghost use Rattle.world_config.specs.Refusal.{first_refusal};
     ghost use Rattle.world_config.specs.Groups.{ArePlace, place_keys};
 
-    #[tactic(auto, unfolding(crate::specs::Refusal::refusal_at, crate::specs::Lookup::number_at))]
     pub(crate) fn read(table: &Table) -> Result<PlaceKeys, ConfigStop>
         ensures value { IfOk result (ArePlace (table_view table.now)) }
         ensures accepted { OnOk result (first_refusal place_keys (table_view table.now) ≡ None) }
@@ -91,7 +73,7 @@ impl PlaceKeys {
         let width = number(table, Key::Width, 60, 1, GREATEST_SIDE)?;
         let height = number(table, Key::Height, 60, 1, GREATEST_SIDE)?;
         let updates = number(table, Key::Updates, 100, 0, GREATEST_UPDATES)?;
-        let seed = long_number(table, Key::Seed, 1, 0, GREATEST_SEED)?;
+        let seed = seed(table)?;
         let founder_cell = number(table, Key::FounderCell, 0, 0, width * height - 1)?;
         Ok(PlaceKeys {
             width,
@@ -107,7 +89,6 @@ impl LifeKeys {
     ghost use Rattle.world_config.specs.Refusal.{first_refusal};
     ghost use Rattle.world_config.specs.Groups.{AreLife, life_keys};
 
-    #[tactic(auto, unfolding(crate::specs::Refusal::refusal_at, crate::specs::Lookup::number_at, crate::specs::Lookup::flag_at))]
     pub(crate) fn read(table: &Table) -> Result<LifeKeys, ConfigStop>
         ensures value { IfOk result (AreLife (table_view table.now)) }
         ensures accepted { OnOk result (first_refusal life_keys (table_view table.now) ≡ None) }
@@ -125,39 +106,10 @@ impl LifeKeys {
     }
 }
 
-impl ErrorKeys {
-    ghost use Rattle.world_config.specs.Refusal.{first_refusal};
-    ghost use Rattle.world_config.specs.Groups.{AreErrors, error_keys};
-
-    #[tactic(auto, unfolding(crate::specs::Refusal::refusal_at, crate::specs::Lookup::number_at))]
-    pub(crate) fn read(table: &Table) -> Result<ErrorKeys, ConfigStop>
-        ensures value { IfOk result (AreErrors (table_view table.now)) }
-        ensures accepted { OnOk result (first_refusal error_keys (table_view table.now) ≡ None) }
-        ensures refused { IfErr result (λ stop. first_refusal error_keys (table_view table.now)
-            ≡ Some stop) }
-    {
-        let copy_error = number(table, Key::CopyError, 7500, 0, MILLION)?;
-        let divide_insert = number(table, Key::DivideInsert, 50000, 0, MILLION)?;
-        let divide_delete = number(table, Key::DivideDelete, 50000, 0, MILLION)?;
-        let site_point = number(table, Key::SitePoint, 0, 0, MILLION)?;
-        let site_insert = number(table, Key::SiteInsert, 0, 0, MILLION)?;
-        let site_delete = number(table, Key::SiteDelete, 0, 0, MILLION)?;
-        Ok(ErrorKeys {
-            copy_error,
-            divide_insert,
-            divide_delete,
-            site_point,
-            site_insert,
-            site_delete,
-        })
-    }
-}
-
 impl DivideKeys {
     ghost use Rattle.world_config.specs.Refusal.{first_refusal};
     ghost use Rattle.world_config.specs.Groups.{AreDivide, divide_keys};
 
-    #[tactic(auto, unfolding(crate::specs::Refusal::refusal_at, crate::specs::Lookup::number_at, crate::specs::Lookup::flag_at))]
     pub(crate) fn read(table: &Table) -> Result<DivideKeys, ConfigStop>
         ensures value { IfOk result (AreDivide (table_view table.now)) }
         ensures accepted { OnOk result (first_refusal divide_keys (table_view table.now) ≡ None) }
@@ -181,7 +133,6 @@ impl LengthKeys {
     ghost use Rattle.world_config.specs.Refusal.{first_refusal};
     ghost use Rattle.world_config.specs.Groups.{AreLengths, length_keys};
 
-    #[tactic(auto, unfolding(crate::specs::Refusal::refusal_at, crate::specs::Lookup::number_at))]
     pub(crate) fn read(table: &Table) -> Result<LengthKeys, ConfigStop>
         ensures value { IfOk result (AreLengths (table_view table.now)) }
         ensures accepted { OnOk result (first_refusal length_keys (table_view table.now) ≡ None) }

@@ -13,6 +13,7 @@ mod limits;
 mod lookup;
 mod numbers;
 mod printing;
+mod rates;
 mod reading;
 mod stop;
 mod unknown;

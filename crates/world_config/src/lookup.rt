@@ -8,6 +8,7 @@ ghost use Rattle.world_config.specs.Lookup.{value_or};
 ghost use Rattle.world_config.specs.Refusal.{refusal_of, unless_within};
 
 use crate::key::Key;
+use crate::limits::GREATEST_SEED;
 use crate::stop::ConfigStop;
 use toml::{Table, Value};
 
@@ -60,24 +61,6 @@ fn integer_or(table: &Table, key: Key, default: u32) -> Result<i64, ConfigStop>
 }
 
 /// The number at a key, or the default, within the bounds.
-pub(crate) fn long_number(
-    table: &Table,
-    key: Key,
-    default: u32,
-    least: u32,
-    greatest: u64,
-) -> Result<u64, ConfigStop>
-    ensures value { IfOk result (λ n. value_or key (integer (pos default)) (table_view table.now)
-        ≡ integer (pos n)) }
-    ensures within { IfOk result (IsWithin least greatest) }
-    ensures refused { IfErr result (λ stop.
-        refusal_of (number least greatest) key (value_or key (integer (pos default))
-        (table_view table.now)) ≡ Some stop) }
-{
-    bounded(key, integer_or(table, key, default)?, least, greatest)
-}
-
-/// The number at a key, or the default, within the bounds.
 pub(crate) fn number(
     table: &Table,
     key: Key,
@@ -92,8 +75,20 @@ pub(crate) fn number(
         refusal_of (number least greatest) key (value_or key (integer (pos default))
         (table_view table.now)) ≡ Some stop) }
 {
-    let number = long_number(table, key, default, least, u64::from(greatest))?;
-    Ok(number as u32)
+    let value = integer_or(table, key, default)?;
+    Ok(bounded(key, value, least, u64::from(greatest))? as u32)
+}
+
+/// The seed, or the default: the one number that may have more than 32 bits.
+pub(crate) fn seed(table: &Table) -> Result<u64, ConfigStop>
+    ensures value { IfOk result (λ n. value_or Key.Seed (integer (pos 1)) (table_view table.now)
+        ≡ integer (pos n)) }
+    ensures within { IfOk result (IsWithin 0 GREATEST_SEED) }
+    ensures refused { IfErr result (λ stop. refusal_of (number 0 GREATEST_SEED) Key.Seed
+        (value_or Key.Seed (integer (pos 1)) (table_view table.now)) ≡ Some stop) }
+{
+    let value = integer_or(table, Key::Seed, 1)?;
+    bounded(Key::Seed, value, 0, GREATEST_SEED)
 }
 
 /// The truth at a key, or the default.

@@ -3,8 +3,10 @@ ghost use Rattle.std.specs.Prelude.{◌≡◌, None, Some, IfOk, IfErr, OnOk};
 ghost use Rattle.toml.specs.View.{table_view};
 
 use crate::event_forms::Frame;
-use crate::groups::{DivideKeys, ErrorKeys, LengthKeys, LifeKeys, PlaceKeys};
+use crate::groups::{DivideKeys, LengthKeys, LifeKeys, PlaceKeys};
+use crate::rates::rates_in;
 use crate::stop::ConfigStop;
+use mutations::Rates;
 use toml::Table;
 
 /// The values of the keys before the ancestor.
@@ -12,7 +14,7 @@ use toml::Table;
 pub(crate) struct Numbers {
     pub place: PlaceKeys,
     pub life: LifeKeys,
-    pub errors: ErrorKeys,
+    pub rates: Rates,
     pub divide: DivideKeys,
     pub lengths: LengthKeys,
 }
@@ -30,13 +32,13 @@ impl Numbers {
     {
         let place = PlaceKeys::read(table)?;
         let life = LifeKeys::read(table)?;
-        let errors = ErrorKeys::read(table)?;
+        let rates = rates_in(table)?;
         let divide = DivideKeys::read(table)?;
         let lengths = LengthKeys::read(table)?;
         Ok(Numbers {
             place,
             life,
-            errors,
+            rates,
             divide,
             lengths,
         })

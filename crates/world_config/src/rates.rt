@@ -1,0 +1,31 @@
+// The rates of errors of a configuration.
+#![tactic(auto, unfolding(crate::specs::Refusal::refusal_at, crate::specs::Lookup::number_at))]
+
+ghost use Rattle.std.specs.Prelude.{◌≡◌, None, Some, IfOk, IfErr, OnOk};
+ghost use Rattle.toml.specs.View.{table_view};
+ghost use Rattle.world_config.specs.Groups.{AreRates, rate_keys};
+ghost use Rattle.world_config.specs.Refusal.{first_refusal};
+
+use crate::key::Key;
+use crate::lookup::number;
+use crate::stop::ConfigStop;
+use mutations::Rates;
+use random_streams::MILLION;
+use toml::Table;
+
+/// The six rates of errors.
+pub(crate) fn rates_in(table: &Table) -> Result<Rates, ConfigStop>
+    ensures value { IfOk result (AreRates (table_view table.now)) }
+    ensures accepted { OnOk result (first_refusal rate_keys (table_view table.now) ≡ None) }
+    ensures refused { IfErr result (λ stop. first_refusal rate_keys (table_view table.now)
+        ≡ Some stop) }
+{
+    Ok(Rates {
+        copy: number(table, Key::CopyError, 7500, 0, MILLION)?,
+        insert: number(table, Key::DivideInsert, 50000, 0, MILLION)?,
+        delete: number(table, Key::DivideDelete, 50000, 0, MILLION)?,
+        site_point: number(table, Key::SitePoint, 0, 0, MILLION)?,
+        site_insert: number(table, Key::SiteInsert, 0, 0, MILLION)?,
+        site_delete: number(table, Key::SiteDelete, 0, 0, MILLION)?,
+    })
+}
