@@ -20,11 +20,8 @@ pub record RoundNumbers : Type 0 where
 
 -- the numbers of a round
 abbrev pub round_numbers : Round → RoundNumbers
-round_numbers round = record {
-  seed = round.seed;
-  update = round.update;
-  settings = setting_numbers round.settings;
-}
+round_numbers round =
+    record { seed = round.seed; update = round.update; settings = setting_numbers round.settings }
 
 -- the life of who stands in a cell, with the run stream of this cell and update, of at most so many
 -- steps
