@@ -35,13 +35,18 @@ module _ (letter : Letter) (index : ℕ) (within : index < 26) where
   abbrev test : ℕ → Bool
   test i = not (eqb i (index_of letter))
 
+  -- the first index of those that are left
+  first_index : others_from letter index (26 - index)
+      ≡ filter_map letter_at (filter test (index ∷ range_with_len (index + 1) (26 - (index + 1))))
+  unfolding others_from
+  first_index =
+      ap (λ (is : List ℕ). filter_map letter_at (filter test is)) (range_next index 26 within)
+
   -- the letter itself is left out
   pub others_itself : index ≡ index_of letter
       → others_from letter index (26 - index) ≡ others_from letter (index + 1) (26 - (index + 1))
   unfolding others_from
-  others_itself same =
-      ap (λ (is : List ℕ). filter_map letter_at (filter test is)) (range_next index 26 within)
-      ∙ ap (filter_map letter_at)
+  others_itself same = first_index ∙ ap (filter_map letter_at)
       (filter_out test index (range_with_len (index + 1) (26 - (index + 1)))
       (equal index (index_of letter) same))
 
@@ -50,9 +55,7 @@ module _ (letter : Letter) (index : ℕ) (within : index < 26) where
       → others_from letter index (26 - index)
       ≡ cons_option (letter_at index) (others_from letter (index + 1) (26 - (index + 1)))
   unfolding others_from
-  others_else apart =
-      ap (λ (is : List ℕ). filter_map letter_at (filter test is)) (range_next index 26 within)
-      ∙ ap (filter_map letter_at)
+  others_else apart = first_index ∙ ap (filter_map letter_at)
       (filter_in test index (range_with_len (index + 1) (26 - (index + 1)))
       (not_equal index (index_of letter) apart))
 
