@@ -9,21 +9,20 @@ use Rattle.world_rules.specs.World.{Occupant, id_of, ids_of}
 use Rattle.virtual_cpu.specs.Image.{image_of, machine_of_image}
 use Rattle.virtual_cpu.specs.Machine.{Machine, IsMachine}
 use Rattle.lineage_log.specs.Slots.{taken}
-use Rattle.log_lines.specs.LineText.{form_text}
 use Rattle.log_lines.specs.Fields.{given}
 use Rattle.saved_lines.specs.SavedValues.{HeadValues}
-use Rattle.saved_lines.specs.SavedText.{count_text, machine_fields, machine_row, machine_text, organism_numbers, organism_row, organism_text, saved_head_text}
-use Rattle.saved_lines.specs.SavedForms.{HasSavedForm, saved_row_text}
-use Rattle.saved_lines.specs.SavedReading.{SavedLine, Head, Organism, Machine as MachineLine, Count, saved_line_of}
+use Rattle.saved_lines.specs.SavedForms.{HasSavedForm}
+use Rattle.saved_lines.specs.SavedReading.{saved_line_of}
+use Rattle.saved_lines.specs.SavedText.{count_text, machine_text, organism_text, saved_head_text, saved_row_text, SavedLine, Head, Organism, Machine as MachineLine, Count}
 use Rattle.saved_worlds.specs.SavedState.{SavedState}
 use Rattle.saved_worlds.specs.declared.saved_stop.SavedStop.{SavedStop}
 use Rattle.saved_worlds.specs.SavedGrammar.{SavedPlace, Before, Among, Halfway, After, Placed, after_saved_line, may_follow, may_stand, one_saved_piece, pieces_state, placed_of, saved_of, state_of_lines, told_saved_line, with_placed}
 use Rattle.saved_worlds.specs.SavedWorldText.{cell_text, saved_text, slot_text, values_in}
 use Rattle.saved_worlds.specs.ValidState.{AreSaved}
 use Rattle.checkpoint.specs.Writable.{IsWritable}
-use Rattle.checkpoint.proofs.FormLemmas.{cells_fit, head_form, machine_form, organism_form}
+use Rattle.checkpoint.proofs.FormLemmas.{cells_fit, machine_form, organism_form}
 use Rattle.checkpoint.proofs.AgainLemmas.{above_those, follows_again, new_to_those, placed_again, stands_again, stands_itself}
-use Rattle.checkpoint.proofs.ReadLemmas.{cut, more_pieces}
+use Rattle.saved_worlds.proofs.SavedPieces.{cut, line_on}
 use Rattle.checkpoint.proofs.WritableLemmas.{standing_from, state_saved}
 
 -- the cells of those who stand in them
@@ -54,35 +53,13 @@ cells_again front first (Some o ∷ cells) same =
     ∙ cells_again (front ++ Some o ∷ []) (first + 1) cells more
     ∙ append_assoc front (Some o ∷ []) cells
 
--- a line before others is a piece of its own
-cut_line : (text rest : List ℕ) → AllByRecursion (λ b. 10 < b) text
-    → cut (text ++ 10 ∷ rest) ≡ text ∷ cut rest
-cut_line [] rest all = refl
-cut_line (b ∷ bs) rest all =
-    let other : (b == 10) ≡ false = grind (arith, nat_tests, all.0) in
-    rw (other, cut_line bs rest all.1) refl
-
--- a line that is read and fits
-pub line_on : (number : ℕ) (place next : SavedPlace) (text rest : List ℕ) (line : SavedLine)
-    → AllByRecursion (λ b. 10 < b) text → saved_line_of text ≡ Some line
-    → told_saved_line place line ≡ Some next
-    → pieces_state number place (cut (text ++ 10 ∷ rest))
-    ≡ pieces_state (number + 1) next (cut rest)
-line_on number place next text rest line plain is fits =
-    let others = λ (p : SavedPlace). pieces_state (number + 1) p (cut rest) in
-    ap (λ (l : List (List ℕ)). pieces_state number place l) (cut_line text rest plain)
-    ∙ more_pieces number place text rest
-    ∙ ap (λ (o : Option SavedLine). one_saved_piece number place o others) is
-    ∙ ap (λ (t : Option SavedPlace). after_saved_line number t others) fits
-
 -- the text of the first of the two lines of an organism, without its newline
 abbrev organism_row_text : ℕ → Occupant → List ℕ
-organism_row_text cell o =
-    form_text 79 organism_row (organism_numbers (values_in cell o), o.organism.genome)
+organism_row_text cell o = saved_row_text (Organism (values_in cell o))
 
 -- the text of the second of them
 abbrev machine_row_text : Occupant → List ℕ
-machine_row_text o = form_text 77 machine_row (machine_fields (image_of o.organism.machine))
+machine_row_text o = saved_row_text (MachineLine (image_of o.organism.machine))
 
 -- its lines are read again, and come in their place
 pub record ReadsBack (head : HeadValues) (placed : List Placed) (cell : ℕ) (o : Occupant) : Type 0
@@ -244,7 +221,7 @@ read_back spell whole state is =
     ≡ saved_row_text (Head head) ++ 10 ∷ (lines ++ last) =
     append_assoc (saved_row_text (Head head) ++ 10 ∷ []) lines last
     ∙ append_assoc (saved_row_text (Head head)) (10 ∷ []) (lines ++ last) in
-    let first : HasSavedForm (Head head) = head_form head saved.values in
+    let first : HasSavedForm (Head head) = saved.values in
     let few : count ≤ 18446744073709551615 =
     omega (
       arith,
@@ -253,7 +230,7 @@ read_back spell whole state is =
       size,
       cells_fit head.width head.height saved.values.width.1 saved.values.height.1,
     ) in
-    let end : HasSavedForm (Count count) = (omega arith, few) in
+    let end : HasSavedForm (Count count) = omega (arith, few) in
     let cells = cells_on 2 head [] 0 state.cells last
     (all_read_back spell whole head [] 0 state.cells saved) in
     let ends : told_saved_line (Among head standing) (Count count) ≡ Some (After after) =

@@ -1,6 +1,5 @@
 pub mod KeptLemmas
 pub mod StandsLemmas
-pub mod ReadableLemmas
 pub mod ReadLemmas
 pub mod PartLemmas
 pub mod SoFarLemmas

@@ -1,38 +1,13 @@
 -- The loop over the pieces of a saved world.
-use Rattle.std.proofs.Common.{◌≡◌, ℕ, ◌+◌, List, [], ◌∷◌, Option, Some, Result, Bor, refl, sym, ap, subst, ◌∙◌, inl, inr}
-use Rattle.std.specs.Prelude.{◌==◌}
+use Rattle.std.proofs.Common.{◌≡◌, ℕ, ◌+◌, List, ◌∷◌, Option, Some, Result, Bor, sym, ap, subst, ◌∙◌}
 use Rattle.std.specs.Option.{option_copied}
-use Rattle.std.specs.List.{slice_split, onto_first}
-use Rattle.std.proofs.lemmas.Bool.{cases_Bool}
 use Rattle.log_lines.specs.Words.{pieces_of}
 use Rattle.saved_lines.specs.SavedReading.{saved_line_of}
 use Rattle.saved_worlds.specs.SavedState.{SavedState}
 use Rattle.saved_worlds.specs.SavedGrammar.{SavedPlace, one_saved_piece, pieces_state}
 use Rattle.saved_worlds.specs.declared.saved_stop.SavedStop.{SavedStop}
+use Rattle.saved_worlds.proofs.SavedPieces.{cut, more_pieces}
 use Rattle.checkpoint.specs.Reading.{IsFaultOf}
-
--- the pieces between newlines
-abbrev pub cut : List ℕ → List (List ℕ)
-cut bytes = slice_split (λ b. b == 10) bytes
-
--- a piece before others, the first of which begins with a byte
-more_onto : (number : ℕ) (place : SavedPlace) (piece : List ℕ) (b : ℕ) (parts : List (List ℕ))
-    → pieces_state number place (piece ∷ onto_first b parts)
-    ≡ one_saved_piece number place (saved_line_of piece)
-    (λ p. pieces_state (number + 1) p (onto_first b parts))
-more_onto number place piece b [] = refl
-more_onto number place piece b (part ∷ parts) = refl
-
--- a piece before a newline, and the others
-pub more_pieces : (number : ℕ) (place : SavedPlace) (piece rest : List ℕ)
-    → pieces_state number place (piece ∷ cut rest)
-    ≡ one_saved_piece number place (saved_line_of piece)
-    (λ p. pieces_state (number + 1) p (cut rest))
-more_pieces number place piece [] = refl
-more_pieces number place piece (b ∷ bs) = elim (cases_Bool (b == 10)) [
-  | inl is ↦ rw is refl
-  | inr not ↦ rw not (more_onto number place piece b (cut bs))
-]
 
 module _ (number : ℕ) (place : SavedPlace) (left piece : List ℕ) (others : Option (Bor (List ℕ)))
     (split : cut left ≡ piece ∷ pieces_of 10 (option_copied others)) where

@@ -4,17 +4,16 @@ use Rattle.std.proofs.lemmas.List.Elements.{All-from_recursion}
 use Rattle.std.specs.List.{slice_split}
 use Rattle.virtual_cpu.specs.declared.cpu_image.CpuImage.{CpuImage}
 use Rattle.log_lines.specs.Fields.{given}
-use Rattle.saved_lines.specs.SavedForms.{HasSavedForm}
-use Rattle.saved_lines.specs.SavedReading.{SavedLine, Head, Organism, Machine, Count, saved_line_of}
+use Rattle.saved_lines.specs.SavedForms.{HasSavedForm, IsMachineLine, IsOrganismLine}
+use Rattle.saved_lines.specs.SavedReading.{saved_line_of}
+use Rattle.saved_lines.specs.SavedText.{SavedLine, Head, Organism, Machine, Count}
 use Rattle.saved_lines.specs.SavedValues.{HeadValues, OrganismValues}
 use Rattle.saved_worlds.specs.SavedGrammar.{SavedPlace, Before, Among, Halfway, After, Placed, after_saved_line, last_saved_piece, may_follow, may_stand, one_saved_piece, pieces_state, placed_of, saved_end, saved_of, state_of_lines, told_saved_line}
 use Rattle.saved_worlds.specs.SavedState.{SavedState}
 use Rattle.saved_worlds.specs.declared.saved_stop.SavedStop.{SavedStop}
 use Rattle.saved_worlds.specs.ValidState.{AreSaved, IsHead, MayStandThere}
-use Rattle.checkpoint.specs.Readable.{IsReadImage, IsReadOrganism, IsReadable}
 use Rattle.checkpoint.specs.Writable.{IsWritable}
 use Rattle.checkpoint.proofs.KeptLemmas.{saved_more}
-use Rattle.checkpoint.proofs.ReadableLemmas.{form_readable}
 use Rattle.checkpoint.proofs.StandsLemmas.{follows_by_rules, may_stand_there, stands_by_rules}
 
 -- what is known at each place of the lines
@@ -22,7 +21,7 @@ abbrev IsGood : SavedPlace → Type 0
 IsGood Before = Unit {0}
 IsGood (Among head placed) = AreSaved head placed
 IsGood (Halfway head placed o) =
-    AreSaved head placed × (may_stand head placed o ≡ true) × IsReadOrganism o
+    AreSaved head placed × (may_stand head placed o ≡ true) × IsOrganismLine o
 IsGood (After state) = IsWritable state
 
 -- what follows where a test holds
@@ -42,7 +41,7 @@ none_saved head is = record {
 
 -- one organism more
 one_saved : (head : HeadValues) (placed : List Placed) (o : OrganismValues) (image : CpuImage)
-    → IsGood (Halfway head placed o) → IsReadImage image → may_follow head o image ≡ true
+    → IsGood (Halfway head placed o) → IsMachineLine image → may_follow head o image ≡ true
     → AreSaved head (placed ++ placed_of head o image ∷ [])
 one_saved head placed o image good read follows =
     let by_rules = stands_by_rules head placed o good.1 in
@@ -62,7 +61,7 @@ LinesAreWritable = (head : HeadValues) (placed : List Placed) → AreSaved head 
 
 module _ (takes : TakesForms) (made : LinesAreWritable) where
   -- the place after one line more
-  told_good : (place next : SavedPlace) (line : SavedLine) → IsReadable line → IsGood place
+  told_good : (place next : SavedPlace) (line : SavedLine) → HasSavedForm line → IsGood place
       → told_saved_line place line ≡ Some next → IsGood next
   told_good Before next (Head head) read good h =
       let same : Among head [] ≡ next = cc in subst IsGood same (none_saved head read)
@@ -106,7 +105,7 @@ module _ (takes : TakesForms) (made : LinesAreWritable) where
 
   -- a place, and others
   after_good : (number : ℕ) (place : SavedPlace) (line : SavedLine) (found : Option SavedPlace)
-      (others : SavedPlace → Result SavedState SavedStop) (state : SavedState) → IsReadable line
+      (others : SavedPlace → Result SavedState SavedStop) (state : SavedState) → HasSavedForm line
       → IsGood place → told_saved_line place line ≡ found → Leads others state
       → after_saved_line number found others ≡ Ok state → IsWritable state
   after_good number place line None others state read good is leads h = absurd cc
@@ -121,7 +120,7 @@ module _ (takes : TakesForms) (made : LinesAreWritable) where
   piece_good number place piece None others state good is leads h = absurd cc
   piece_good number place piece (Some line) others state good is leads h =
       after_good number place line (told_saved_line place line) others state
-      (form_readable line (takes piece line is)) good refl leads h
+      (takes piece line is) good refl leads h
 
   -- all pieces
   pieces_good : (number : ℕ) (place : SavedPlace) (pieces : List (List ℕ)) (state : SavedState)

@@ -7,10 +7,10 @@ use Rattle.std.proofs.lemmas.List.{map-append}
 use Rattle.virtual_cpu.specs.declared.cpu_image.CpuImage.{CpuImage}
 use Rattle.saved_lines.specs.declared.resident.Resident.{Resident}
 use Rattle.saved_lines.specs.declared.state_head.StateHead.{StateHead}
+use Rattle.saved_lines.specs.SavedForms.{IsMachineLine, IsOrganismLine}
 use Rattle.saved_lines.specs.SavedValues.{OrganismValues, head_values, organism_values}
 use Rattle.saved_worlds.specs.SavedGrammar.{Placed, may_follow, may_stand, placed_of}
 use Rattle.saved_worlds.specs.ValidState.{placed_in}
-use Rattle.checkpoint.specs.Readable.{IsReadImage, IsReadOrganism}
 use Rattle.checkpoint.specs.SoFarValue.{SoFarValue, IsKept, so_far_of}
 use Rattle.checkpoint.proofs.KeptLemmas.{above_more, new_more, saved_more}
 use Rattle.checkpoint.proofs.StandsLemmas.{follows_by_rules, may_stand_there, stands_by_rules}
@@ -18,20 +18,20 @@ use Rattle.checkpoint.proofs.StandsLemmas.{follows_by_rules, may_stand_there, st
 -- one organism more was told
 pub kept_more : (so_far : SoFarValue) (next_cell : ℕ) (ids more : BTreeSet ℕ) (o : OrganismValues)
     (cpu : CpuImage) → IsKept so_far next_cell ids → may_stand so_far.head so_far.placed o ≡ true
-    → may_follow so_far.head o cpu ≡ true → IsReadOrganism o → IsReadImage cpu
+    → may_follow so_far.head o cpu ≡ true → IsOrganismLine o → IsMachineLine cpu
     → Updates nat_cmp ids more o.id true
     → IsKept (record {
       head = so_far.head;
       placed = so_far.placed ++ placed_of so_far.head o cpu ∷ [];
     }) (o.cell + 1) more
-kept_more so_far next_cell ids more o cpu kept stands follows organism readable updates =
+kept_more so_far next_cell ids more o cpu kept stands follows organism machine updates =
     let by_rules = stands_by_rules so_far.head so_far.placed o stands in
     let one = placed_of so_far.head o cpu in
     let fits : next_cell ≤ o.cell =
     leb-true next_cell o.cell (sym (kept.above o.cell) ∙ by_rules.above) in
     record {
       saved = saved_more so_far.head so_far.placed one kept.saved
-          (may_stand_there so_far.head o cpu so_far.placed kept.saved.values organism readable
+          (may_stand_there so_far.head o cpu so_far.placed kept.saved.values organism machine
           by_rules (follows_by_rules so_far.head o cpu follows)) by_rules.above by_rules.fresh;
       above = above_more so_far.placed one next_cell kept.above fits;
       fresh = new_more so_far.placed one ids more kept.fresh updates;

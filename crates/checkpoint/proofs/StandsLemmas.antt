@@ -1,18 +1,18 @@
 -- The organism of two lines that may come may stand in its cell.
-use Rattle.std.proofs.Common.{◌≡◌, ℕ, zero, suc, ◌<◌, ◌≤◌, ◌*◌, ◌==◌, Bool, true, List, [], ◌∷◌, length, refl, subst, arith, pos}
-use Rattle.std.specs.List.{list_all}
+use Rattle.std.proofs.Common.{◌≡◌, ℕ, ℤ, zero, suc, ◌<◌, ◌≤◌, ◌*◌, ◌==◌, Bool, true, List, [], ◌∷◌, length, refl, subst, arith, pos}
+use Rattle.std.specs.List.{AllByRecursion, list_all}
 use Rattle.std.specs.Prelude.{All, ◌&&◌, ◌^◌, nat_le, nat_lt, slice_index_or, if◌then◌else◌, FitsSigned}
 use Rattle.std.specs.Int.{w32}
 use Rattle.std.proofs.lemmas.Bool.{and_parts, eqb-true, leb-true, ltb-true}
-use Rattle.std.proofs.lemmas.List.Elements.{All-cons}
+use Rattle.std.proofs.lemmas.List.Elements.{All-cons, All-from_recursion}
 use Rattle.virtual_cpu.specs.declared.cpu_image.CpuImage.{CpuImage}
 use Rattle.virtual_cpu.specs.Image.{machine_of_image}
 use Rattle.virtual_cpu.specs.Machine.{IsMachine}
 use Rattle.virtual_cpu.specs.Words.{HoldsWords}
+use Rattle.saved_lines.specs.SavedForms.{IsMachineLine, IsOrganismLine}
 use Rattle.saved_lines.specs.SavedValues.{HeadValues, OrganismValues}
 use Rattle.saved_worlds.specs.SavedGrammar.{Placed, are_within, is_above, is_new, is_young, may_follow, may_stand, placed_of}
 use Rattle.saved_worlds.specs.ValidState.{IsHead, MayStandThere}
-use Rattle.checkpoint.specs.Readable.{IsReadImage, IsReadOrganism}
 
 -- what each rule of an organism's line says
 pub record Stands (head : HeadValues) (placed : List Placed) (o : OrganismValues) : Type 0 where
@@ -115,13 +115,13 @@ head_within (head ∷ heads) end (suc place) all there =
 
 module _ (head : HeadValues) (o : OrganismValues) (image : CpuImage) where
   -- the machine of two lines is one
-  pub is_machine : IsHead head → length o.genome ≤ head.greatest_length → IsReadImage image
+  pub is_machine : IsHead head → length o.genome ≤ head.greatest_length → IsMachineLine image
       → Follows head o image
       → IsMachine (machine_of_image image (length o.genome) head.memory_limit)
   is_machine in_range short read follows =
       let size = length image.memory in
       let at = λ (place : ℕ) (few : place < 4).
-      head_within image.heads size place follows.heads (omega (arith, few, read.heads)) in
+      head_within image.heads size place follows.heads (omega (arith, few, read.heads.0)) in
       record {
         clean = follows.clean;
         executed = follows.executed;
@@ -136,7 +136,7 @@ module _ (head : HeadValues) (o : OrganismValues) (image : CpuImage) where
         read = at 1 (omega arith);
         write = at 2 (omega arith);
         flow = at 3 (omega arith);
-        least = read.least;
+        least = read.memory.least;
         greatest = follows.limit;
         growth = follows.growth;
         birth_length = omega (arith, short, in_range.memory_limit.0);
@@ -144,17 +144,21 @@ module _ (head : HeadValues) (o : OrganismValues) (image : CpuImage) where
       }
 
   -- and its numbers have 32 bits
-  pub has_words : IsReadImage image
+  pub has_words : IsMachineLine image
       → HoldsWords (machine_of_image image (length o.genome) head.memory_limit)
-  has_words read = record {
-    ax = read.registers.1 0 (pos 0) (omega (arith, read.registers.0));
-    bx = read.registers.1 1 (pos 0) (omega (arith, read.registers.0));
-    cx = read.registers.1 2 (pos 0) (omega (arith, read.registers.0));
-    stacks = All-cons (λ stack. All (λ n. FitsSigned w32 n) stack) image.first
-        (image.second ∷ []) read.first.1
-        (All-cons (λ stack. All (λ n. FitsSigned w32 n) stack) image.second [] read.second.1
-        (λ k d none. absurd (omega (arith, none))));
-  }
+  has_words read =
+      let words = λ (numbers : List ℤ) (all : AllByRecursion (λ n. FitsSigned w32 n) numbers).
+      All-from_recursion (λ n. FitsSigned w32 n) numbers all in
+      let register = words image.registers read.registers.1 in
+      record {
+        ax = register 0 (pos 0) (omega (arith, read.registers.0));
+        bx = register 1 (pos 0) (omega (arith, read.registers.0));
+        cx = register 2 (pos 0) (omega (arith, read.registers.0));
+        stacks = All-cons (λ stack. All (λ n. FitsSigned w32 n) stack) image.first
+            (image.second ∷ []) (words image.first read.first.1)
+            (All-cons (λ stack. All (λ n. FitsSigned w32 n) stack) image.second []
+            (words image.second read.second.1) (λ k d none. absurd (omega (arith, none))));
+      }
 
   -- its age is below the age of death
   young_there : head.death ≡ true → is_young head o ≡ true
@@ -165,8 +169,8 @@ module _ (head : HeadValues) (o : OrganismValues) (image : CpuImage) where
       (subst (λ (b : Bool). (if b then nat_lt o.age most else true) ≡ true) death young)
 
   -- the organism of two lines may stand in its cell
-  pub may_stand_there : (placed : List Placed) → IsHead head → IsReadOrganism o
-      → IsReadImage image → Stands head placed o → Follows head o image
+  pub may_stand_there : (placed : List Placed) → IsHead head → IsOrganismLine o
+      → IsMachineLine image → Stands head placed o → Follows head o image
       → MayStandThere head (placed_of head o image)
   may_stand_there placed in_range organism read stands follows = record {
     cell = stands.cell;

@@ -1,7 +1,6 @@
 pub use Rattle.saved_worlds.specs.SavedGrammar
 pub use Rattle.saved_worlds.specs.SavedWorldText
 pub use Rattle.saved_worlds.specs.ValidState
-pub mod Readable
 pub mod SoFarValue
 pub mod Places
 pub mod Reading

@@ -1,6 +1,6 @@
 -- What the reader of a saved world answers (docs/FORMATS.md, "Saved worlds").
 use Rattle.std.specs.Prelude.{◌≡◌, ⊤, ℕ, Option, Result, Ok, Err}
-use Rattle.saved_lines.specs.SavedReading.{SavedLine}
+use Rattle.saved_lines.specs.SavedText.{SavedLine}
 use Rattle.saved_worlds.specs.SavedState.{SavedState}
 use Rattle.saved_worlds.specs.SavedGrammar.{SavedPlace, one_saved_piece, state_of_lines}
 use Rattle.checkpoint.specs.declared.place.ReadPlace as code

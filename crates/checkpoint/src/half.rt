@@ -1,8 +1,8 @@
 // An organism of which the first of its two lines was read.
 ghost use Rattle.std.specs.Prelude.{IsTrue};
+ghost use Rattle.saved_lines.specs.SavedForms.{IsOrganismLine};
 ghost use Rattle.saved_lines.specs.SavedLines.{values_of_organism};
 ghost use Rattle.saved_worlds.specs.SavedGrammar.{may_stand};
-ghost use Rattle.checkpoint.specs.Readable.{IsReadOrganism};
 
 use crate::so_far::SoFar;
 use saved_lines::OrganismLine;
@@ -13,5 +13,5 @@ pub(crate) struct Half {
     pub(crate) so_far: SoFar,
     pub(crate) organism: OrganismLine,
     ghost stands: { IsTrue (may_stand so_far.head so_far.placed (values_of_organism organism)) },
-    ghost read: { IsReadOrganism (values_of_organism organism) },
+    ghost form: { IsOrganismLine (values_of_organism organism) },
 }

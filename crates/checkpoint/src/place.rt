@@ -1,10 +1,10 @@
 // Where the reader of a saved world stands between two lines.
 ghost use Rattle.std.specs.Prelude.{◌≡◌, IfOk, option_map};
+ghost use Rattle.saved_lines.specs.SavedForms.{HasSavedForm, IsMachineLine, IsOrganismLine};
 ghost use Rattle.saved_lines.specs.SavedLines.{values_of_line, values_of_organism};
-ghost use Rattle.saved_lines.specs.SavedReading.{Machine};
+ghost use Rattle.saved_lines.specs.SavedText.{Machine};
 ghost use Rattle.saved_worlds.specs.SavedGrammar.{Among, Before, Halfway, told_saved_line};
 ghost use Rattle.checkpoint.specs.Places.{saved_place_of};
-ghost use Rattle.checkpoint.specs.Readable.{IsReadImage, IsReadOrganism, IsReadable};
 
 use crate::half::Half;
 use crate::so_far::SoFar;
@@ -31,7 +31,7 @@ pub(crate) fn told_saved_line(
     place: ReadPlace,
     line: SavedLine,
 ) -> Result<Option<ReadPlace>, Memory>
-    requires { IsReadable (values_of_line line) }
+    requires { HasSavedForm (values_of_line line) }
     ensures { IfOk result
         (λ next. option_map saved_place_of next
         ≡ told_saved_line (saved_place_of place) (values_of_line line)) }
@@ -45,7 +45,7 @@ pub(crate) fn told_saved_line(
 }
 
 fn told_first(alloc: Global, line: SavedLine) -> Option<ReadPlace>
-    requires { IsReadable (values_of_line line) }
+    requires { HasSavedForm (values_of_line line) }
     ensures { option_map saved_place_of result ≡ told_saved_line Before (values_of_line line) }
 {
     match line {
@@ -55,7 +55,7 @@ fn told_first(alloc: Global, line: SavedLine) -> Option<ReadPlace>
 }
 
 fn told_among(so_far: SoFar, line: SavedLine) -> Option<ReadPlace>
-    requires { IsReadable (values_of_line line) }
+    requires { HasSavedForm (values_of_line line) }
     ensures { option_map saved_place_of result
         ≡ told_saved_line (Among so_far.head so_far.placed) (values_of_line line) }
 {
@@ -67,7 +67,7 @@ fn told_among(so_far: SoFar, line: SavedLine) -> Option<ReadPlace>
 }
 
 fn told_organism(so_far: SoFar, organism: OrganismLine) -> Option<ReadPlace>
-    requires { IsReadOrganism (values_of_organism organism) }
+    requires { IsOrganismLine (values_of_organism organism) }
     ensures { option_map saved_place_of result
         ≡ told_saved_line (Among so_far.head so_far.placed)
         (values_of_line (SavedLine.Organism organism)) }
@@ -92,7 +92,7 @@ fn told_count(so_far: SoFar, organisms: u64) -> Option<ReadPlace>
 }
 
 fn told_halfway(alloc: Global, half: Half, line: SavedLine) -> Result<Option<ReadPlace>, Memory>
-    requires { IsReadable (values_of_line line) }
+    requires { HasSavedForm (values_of_line line) }
     ensures { IfOk result (λ next. option_map saved_place_of next
         ≡ told_saved_line
         (Halfway half.so_far.head half.so_far.placed (values_of_organism half.organism))
@@ -105,7 +105,7 @@ fn told_halfway(alloc: Global, half: Half, line: SavedLine) -> Result<Option<Rea
 }
 
 fn told_machine(alloc: Global, half: Half, image: CpuImage) -> Result<Option<ReadPlace>, Memory>
-    requires { IsReadImage image }
+    requires { IsMachineLine image }
     ensures { IfOk result (λ next. option_map saved_place_of next
         ≡ told_saved_line
         (Halfway half.so_far.head half.so_far.placed (values_of_organism half.organism))

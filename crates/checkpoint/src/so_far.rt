@@ -1,10 +1,10 @@
 // What the lines of a saved world have told so far.
 ghost use Rattle.std.specs.Prelude.{◌≡◌, ◌∷◌, ◌++◌, ◌*◌, ◌&&◌, ◌==◌, ◌≤◌, [], IfOk, IsTrue, length, nat_le, nat_lt, not};
+ghost use Rattle.saved_lines.specs.SavedForms.{IsMachineLine, IsOrganismLine};
 ghost use Rattle.saved_lines.specs.SavedLines.{values_of_organism};
 ghost use Rattle.saved_lines.specs.SavedValues.{head_values, organism_values};
 ghost use Rattle.saved_worlds.specs.SavedGrammar.{is_above, is_new, may_follow, may_stand, placed_of, state_of_lines};
 ghost use Rattle.saved_worlds.specs.ValidState.{IsHead};
-ghost use Rattle.checkpoint.specs.Readable.{IsReadImage, IsReadOrganism};
 
 use crate::rules::{has_age, has_length, has_merit, may_follow};
 use avida_port::Memory;
@@ -90,8 +90,8 @@ impl SoFar {
     ) -> Result<SoFar, Memory>
         requires stands { IsTrue (may_stand self.head self.placed (values_of_organism line)) }
         requires follows { IsTrue (may_follow self.head (values_of_organism line) cpu) }
-        requires organism { IsReadOrganism (values_of_organism line) }
-        requires readable { IsReadImage cpu }
+        requires organism { IsOrganismLine (values_of_organism line) }
+        requires machine { IsMachineLine cpu }
         ensures { IfOk result (λ so_far. so_far ≡ record {
           head = self.head;
           placed = self.placed ++ placed_of self.head (values_of_organism line) cpu ∷ [];

@@ -20,7 +20,7 @@ invariant_of-result c =
     subst (λ (t : SoFarValue). may_follow t.head o cpu ≡ true) (sym c.self.view_is)
     c.requires.follows in
     let kept = kept_more so_far c.self.inside.next_cell c.self.inside.ids c.insert.new.self o cpu
-    c.self.invariant stands follows c.requires.organism c.requires.readable
+    c.self.invariant stands follows c.requires.organism c.requires.machine
     c.in_ok-insert.ensures.updates in
     let value = ap (λ (l : List Resident). so_far_of head l) c.in_ok-push.ensures.items
     ∙ so_far_more head before c.in_ok-resident_of.field-0 o cpu
