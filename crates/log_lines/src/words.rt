@@ -38,6 +38,7 @@ pub fn after_word(rest: &[u8]) -> Option<Option<&[u8]>>
 }
 
 /// A number from `least` to `greatest`, and what is left of the line.
+#[inline(always)]
 fn number_first<'a>(
     rest: Option<&'a [u8]>,
     least: u64,
@@ -60,6 +61,7 @@ fn number_first<'a>(
 }
 
 /// A number below 2 ^ 64, and what is left of the line.
+#[inline(always)]
 pub fn large_first<'a>(rest: Option<&'a [u8]>) -> Option<(u64, Option<&'a [u8]>)>
     ensures { option_map (λ p. (p.0, words_of (option_copied p.1))) result
         ≡ read_first (number_of 0 18446744073709551615) (words_of (option_copied rest.entry)) }
@@ -68,6 +70,7 @@ pub fn large_first<'a>(rest: Option<&'a [u8]>) -> Option<(u64, Option<&'a [u8]>)
 }
 
 /// A number below 2 ^ 32, and what is left of the line.
+#[inline(always)]
 pub fn small_first<'a>(
     rest: Option<&'a [u8]>,
     least: u32,
