@@ -1,7 +1,8 @@
 -- Digits read one by one.
-use Rattle.std.proofs.Common.{◌≡◌, cond, ℕ, suc, ◌+◌, ◌-◌, ◌*◌, ◌<◌, ◌≤◌, Bool, true, false, List, [], ◌∷◌, ◌++◌, length, get_or, take, drop, refl, sym, ap, subst, ◌∙◌, arith, inl, inr, not, Some, None}
+use Rattle.std.proofs.Common.{◌≡◌, cond, ℕ, suc, ◌+◌, ◌-◌, ◌*◌, ◌^◌, ◌<◌, ◌≤◌, Bool, true, false, List, [], ◌∷◌, ◌++◌, length, get_or, take, drop, refl, sym, ap, subst, ◌∙◌, arith, inl, inr, not, Some, None}
 use Rattle.std.specs.Prelude.{◌&&◌, ◌==◌, nat_le}
 use Rattle.numerals.specs.Numeral.{digits_len, is_numeral, leading_digits, number_of}
+use Rattle.std.proofs.Math.Nat.{pow-le-pow_right, pow-succ'}
 use Rattle.std.specs.Char.{digit_value, is_ascii_digit}
 use Rattle.std.specs.Str.{all_ascii_digits}
 use Rattle.std.specs.Str.Parse.{digits_value, digits_value_after}
@@ -53,6 +54,18 @@ pub value_on : (text : List ℕ) (i value : ℕ) → i < length text
     → digits_value 10 (take (i + 1) text) ≡ value * 10 + (get_or text i 0 - 48)
 value_on text i value h is low high =
     omega (arith, digits_value_more 10 text i h, digit_value_digit (get_or text i 0) (low, high))
+
+-- a power of ten with a digit more
+pub power_more : (n : ℕ) → 10 ^ (n + 1) ≡ 10 * 10 ^ n
+power_more n = let e : n + 1 ≡ suc n = omega arith in ap (λ (k : ℕ). 10 ^ k) e ∙ pow-succ' 10 n
+
+-- the value of fewer than 8 digits is small
+pub short_fits : (n value : ℕ) → value < 10 ^ n → n < 8 → value < 100000000
+short_fits n value fits few =
+    let some : 0 < 10 = omega arith in
+    let low : n ≤ 8 = omega (arith, few) in
+    let most : 10 ^ n ≤ 10 ^ 8 = pow-le-pow_right some low in
+    omega (arith, fits, most)
 
 -- further digits never make a value less
 after_more : (n : ℕ) (ds : List ℕ) → n ≤ digits_value_after 10 n ds

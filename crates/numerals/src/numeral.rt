@@ -6,6 +6,9 @@ ghost use Rattle.numerals.specs.Numeral.{digits_len, is_numeral, leading_digits,
 /// The greatest number that a digit may follow, if it is below 6.
 const GREATEST_TENTH: u64 = u64::MAX / 10;
 
+/// Most numbers have fewer digits.
+const SHORT: usize = 8;
+
 /// The number with a digit more, where it fits.
 fn with_digit(value: u64, digit: u8) -> Option<u64>
     requires { digit < 10 }
@@ -35,7 +38,32 @@ fn with_last_digit(value: u64, digit: u8) -> Option<u64>
 }
 
 /// The number that the digits in front of the text write, and how many they are, where it fits.
+#[tactic(auto, using(crate::proofs::DigitLemmas::short_fits))]
+#[inline(always)]
 fn leading_value(text: &[u8]) -> Option<(u64, usize)>
+    ensures { MatchOption result
+        (2 ^ 64 ≤ digits_value 10 (leading_digits text.now))
+        (λ found. (found.0 ≡ digits_value 10 (leading_digits text.now))
+        × (found.1 ≡ digits_len text.now)) }
+{
+    if text.len() < SHORT {
+        return long_value(text);
+    }
+    let mut value: u64 = 0;
+    // So many digits surely fit, and a loop of a fixed length costs less.
+    for len in 0..SHORT {
+        let digit = text[len];
+        if digit < b'0' || digit > b'9' {
+            return Some((value, len));
+        }
+        value = value * 10 + u64::from(digit - b'0');
+    }
+    long_value(text)
+}
+
+/// As `leading_value`, for digits of any number.
+#[inline(never)]
+fn long_value(text: &[u8]) -> Option<(u64, usize)>
     ensures { MatchOption result
         (2 ^ 64 ≤ digits_value 10 (leading_digits text.now))
         (λ found. (found.0 ≡ digits_value 10 (leading_digits text.now))
@@ -69,6 +97,7 @@ fn is_plain(text: &[u8], len: usize) -> bool
 
 /// The number that the digits in front of the text spell, with no leading zero, and how many digits
 /// they are. None where they spell no number, or one outside `least` to `greatest`.
+#[inline(always)]
 pub fn leading_number(least: u64, greatest: u64, text: &[u8]) -> Option<(u64, usize)>
     ensures number { option_map (λ found. found.0) result
         ≡ number_of least greatest (leading_digits text.now) }
