@@ -1,5 +1,5 @@
 -- The ids of a run are few: those of all who ever were in its world, and those of its log.
-use Rattle.std.proofs.Common.{◌≡◌, ℕ, zero, suc, ◌+◌, ◌^◌, ◌<◌, ◌≤◌, List, [], ◌∷◌, ◌++◌, length, sym, subst, ◌∙◌, arith}
+use Rattle.std.proofs.Common.{◌≡◌, ℕ, ◌+◌, ◌^◌, ◌<◌, ◌≤◌, List, [], ◌∷◌, ◌++◌, length, sym, subst, ◌∙◌, arith}
 use Rattle.std.specs.Prelude.{All, option_map}
 use Rattle.std.specs.List.{AllByRecursion, filter_map, flat_map, scan, zip}
 use Rattle.std.proofs.lemmas.List.Elements.{All-from_recursion}
@@ -25,7 +25,7 @@ use Rattle.world_laws.specs.Bounds.{IsConfig}
 use Rattle.world_laws.proofs.Configs.{FitsPlaced, events_few, events_fit}
 use Rattle.world_laws.proofs.Sounds.{goes_birth, goes_births, goes_deaths, goes_event}
 use Rattle.world_laws.proofs.Runs.{IsRun, few_born, lives_lawful}
-use Rattle.world_laws.proofs.WholeLogs.{kept_after, run_after, run_lines, updates_lines}
+use Rattle.world_laws.proofs.WholeLogs.{each_update, kept_after, run_after, run_lines, updates_lines}
 use Rattle.world_laws.proofs.RunForms.{everyone_few}
 use Rattle.world_laws.proofs.Replays.{ReadLaw, run_reads}
 
@@ -108,12 +108,9 @@ module _ (laws : LifeLaws) (config : ConfigValues) (fit : IsConfig config) where
 
   -- the lines of so many updates give small ids, if they give any
   small_updates : (n : ℕ) → n ≤ 4294967295 → GiveSmall (updates_lines config n)
-  small_updates zero h = tt
-  small_updates (suc n) h =
-      all_append GivesSmallId (updates_lines config n) (update_lines config (world_after config n))
-      (small_updates n (omega (arith, h)))
-      (small_update n (kept_after config n) (world_after config n) (run_after laws config fit n)
-      (omega (arith, everyone_few laws config fit n, h)))
+  small_updates = each_update config GivesSmallId
+      (λ n early. small_update n (kept_after config n) (world_after config n)
+      (run_after laws config fit n) (omega (arith, everyone_few laws config fit n, early)))
 
   module _ (n : ℕ) (early : n ≤ 4294967295) where
     -- all who ever were in a world

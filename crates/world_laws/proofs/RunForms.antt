@@ -21,7 +21,7 @@ use Rattle.world_laws.specs.Bounds.{IsConfig, size_of}
 use Rattle.world_laws.proofs.Configs.{events_fit, events_few, few_cells, genome_fits}
 use Rattle.world_laws.proofs.Sounds.{Goes, goes_deaths, goes_births}
 use Rattle.world_laws.proofs.Runs.{IsRun, scene_ended, lives_lawful, deliveries_lawful, placed_lawful, update_goes, few_born, few_come}
-use Rattle.world_laws.proofs.WholeLogs.{updates_lines, run_lines, kept_after, run_after}
+use Rattle.world_laws.proofs.WholeLogs.{updates_lines, run_lines, each_update, kept_after, run_after}
 use Rattle.world_laws.proofs.FormLemmas.{letters_form, count_form}
 use Rattle.world_laws.proofs.Forms.{Forms, HasRoom, deaths_fit, births_fit, events_fit_forms}
 
@@ -108,12 +108,9 @@ module _ (laws : LifeLaws) (config : ConfigValues) (fit : IsConfig config) where
 
   -- the lines of so many updates have their forms
   updates_forms : (n : ℕ) → n ≤ 4294967295 → Forms (updates_lines config n)
-  updates_forms zero h = tt
-  updates_forms (suc n) h =
-      all_append HasForm (updates_lines config n) (update_lines config (world_after config n))
-      (updates_forms n (omega (arith, h)))
-      (update_forms n (kept_after config n) (world_after config n) (run_after laws config fit n)
-      (omega (arith, h)) (omega (arith, everyone_few n, h)))
+  updates_forms = each_update config HasForm
+      (λ n early. update_forms n (kept_after config n) (world_after config n)
+      (run_after laws config fit n) early (omega (arith, everyone_few n, early)))
 
   -- each line of a run
   pub run_forms : (n : ℕ) → n ≤ 4294967295 → Forms (run_lines config n)

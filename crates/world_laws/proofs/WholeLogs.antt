@@ -1,7 +1,7 @@
 -- The whole log of a run: its lines in order, from the first to the last, and what they replay to.
-use Rattle.std.proofs.Common.{◌≡◌, ℕ, zero, suc, ◌+◌, ◌*◌, true, List, [], ◌∷◌, ◌++◌, map, Option, Some, None, Ok, refl, sym, ap, subst, ◌∙◌, arith, inl, inr}
+use Rattle.std.proofs.Common.{◌≡◌, ℕ, zero, suc, ◌+◌, ◌*◌, ◌<◌, ◌≤◌, true, List, [], ◌∷◌, ◌++◌, map, Option, Some, None, Ok, refl, sym, ap, subst, ◌∙◌, arith, inl, inr}
 use Rattle.std.specs.Prelude.{replicate, slice_get, slice_set, option_map, unwrap_or, nat_lt, ◌==◌}
-use Rattle.std.specs.List.{filter_map, enumerate_from}
+use Rattle.std.specs.List.{AllByRecursion, filter_map, enumerate_from}
 use Rattle.std.proofs.lemmas.List.{map-set, length-set, length-replicate}
 use Rattle.std.proofs.lemmas.Option.{slice_get-map}
 use Rattle.std.proofs.lemmas.Bool.Decides.{nat_tests}
@@ -21,6 +21,7 @@ use Rattle.world_laws.specs.LowerLaws.{LifeLaws}
 use Rattle.world_laws.proofs.ListLemmas.{map-replicate, eqb_same}
 use Rattle.world_laws.proofs.Mirror.{People, written, genomes_of, between, seen_in, Tells, one_line, more_lines, no_lines}
 use Rattle.world_laws.proofs.Scenes.{Stands, Known, Agree, stands_with}
+use Rattle.world_laws.proofs.Placements.{all_append}
 use Rattle.world_laws.proofs.Updates.{people_after}
 use Rattle.world_laws.specs.Bounds.{IsConfig, size_of}
 use Rattle.world_laws.proofs.Sounds.{sound_founder}
@@ -30,6 +31,15 @@ use Rattle.world_laws.proofs.Runs.{IsRun, update_tells, run_next}
 abbrev pub updates_lines : ConfigValues → ℕ → List Line
 updates_lines config zero = []
 updates_lines config (suc n) = updates_lines config n ++ update_lines config (world_after config n)
+
+-- what holds of the lines of each update holds of the lines of so many
+pub each_update : (config : ConfigValues) (P : Line → Type 0)
+    → ((n : ℕ) → n < 4294967295 → AllByRecursion P (update_lines config (world_after config n)))
+    → (n : ℕ) → n ≤ 4294967295 → AllByRecursion P (updates_lines config n)
+each_update config P each zero few = tt
+each_update config P each (suc n) few =
+    all_append P (updates_lines config n) (update_lines config (world_after config n))
+    (each_update config P each n (omega (arith, few))) (each n (omega (arith, few)))
 
 -- the lines of a run
 abbrev pub run_lines : ConfigValues → ℕ → List Line

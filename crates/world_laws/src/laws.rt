@@ -1,6 +1,5 @@
 // Laws of every run (docs/WORLD.md, "Time slices", "The log of a run" and "Lines of descent").
-ghost use Rattle.std.specs.Prelude.{◌≡◌, ℕ, ◌+◌, ◌*◌, ◌≤◌, ◌^◌, All, IfSome, List, Some, map, sum};
-ghost use Rattle.std.specs.Prelude.{slice_get};
+ghost use Rattle.std.specs.Prelude.{◌≡◌, ℕ, ◌+◌, ◌*◌, ◌≤◌, ◌^◌, All, IfSome, List, Some, map, slice_get, sum};
 ghost use Rattle.log_lines.specs.Line.{Line};
 ghost use Rattle.lineage_log.specs.LogGrammar.{Reads};
 ghost use Rattle.organism.specs.Lived.{IsSoundOrganism};
@@ -17,8 +16,7 @@ ghost use Rattle.world_rules.specs.World.{Occupant, World};
 ghost use Rattle.world_rules.specs.WorldRun.{world_after};
 ghost use Rattle.world_laws.specs.Keeping.{AreSound, HasKept, LiveOn};
 ghost use Rattle.world_laws.specs.LowerLaws.{LifeLaws, LineLaws};
-ghost use Rattle.world_laws.specs.Ranges.{GivesSmallId, HasFewIds, HasSmallId, IsInRange};
-ghost use Rattle.world_laws.specs.Ranges.{StandInRange, StayInRange};
+ghost use Rattle.world_laws.specs.Ranges.{GivesSmallId, HasFewIds, HasSmallId, IsInRange, StandInRange, StayInRange};
 ghost use Rattle.world_laws.specs.Bounds.{IsConfig};
 ghost use Rattle.world_laws.specs.Heredity.{AreDescended, IsDescent, IsLastOfLine};
 ghost use Rattle.world_laws.specs.Turnover.{IsTurnover};
