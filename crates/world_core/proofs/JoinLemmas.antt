@@ -135,6 +135,11 @@ module _ (laws : PartsLaws) (round : RoundNumbers) where
       (λ i. are.0.standings i ++ standings-joined jobs all are.1 i)
       ∙ sym (map-append standing_in one.cells (flat_map (λ one. one.cells) all))
 
+  -- the cell behind a job's cells, by its lives
+  cell-behind : (first : ℕ) (job : Job) → first + length job.cells
+      ≡ first + length (shard_lives_of round (part_of job))
+  cell-behind first job = omega (arith, laws.count round job.first job.cells job.slices)
+
   -- so are the newborns
   births-joined : (first : ℕ) (jobs : List Job) (all : List Finished) → LieSideBySide first jobs
       → AllPairwise round jobs all
@@ -143,8 +148,7 @@ module _ (laws : PartsLaws) (round : RoundNumbers) where
   births-joined first [] (one ∷ all) beside are = absurd are
   births-joined first (job ∷ jobs) [] beside are = absurd are
   births-joined first (job ∷ jobs) (one ∷ all) beside are =
-      let many : first + length job.cells ≡ first + length (shard_lives_of round (part_of job)) =
-      omega (arith, laws.count round job.first job.cells job.slices) in
+      let many = cell-behind first job in
       map-append birth_of one.births (flat_map (λ one. one.births) all)
       ∙ (λ i. (are.0.births ∙ ap (λ n. births_from n (shard_lives_of round (part_of job)))
       beside.0) i
@@ -160,8 +164,7 @@ module _ (laws : PartsLaws) (round : RoundNumbers) where
   dead-joined first [] (one ∷ all) beside are = absurd are
   dead-joined first (job ∷ jobs) [] beside are = absurd are
   dead-joined first (job ∷ jobs) (one ∷ all) beside are =
-      let many : first + length job.cells ≡ first + length (shard_lives_of round (part_of job)) =
-      omega (arith, laws.count round job.first job.cells job.slices) in
+      let many = cell-behind first job in
       (λ i. (are.0.dead ∙ ap (λ n. deaths_from n (shard_lives_of round (part_of job))) beside.0) i
       ++ (dead-joined (first + length job.cells) jobs all beside.2 are.1
       ∙ ap (λ n. deaths_from n (lives_in jobs)) many) i)

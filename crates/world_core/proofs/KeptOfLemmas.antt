@@ -1,6 +1,6 @@
 -- What is kept of who stands in the cells, as one of them changes.
 use Rattle.std.proofs.Common.{◌≡◌, ◌∙◌, refl, sym, ap, subst, Result, Ok, Err, OnOk, ℕ, zero, suc, ◌∷◌, ◌<◌, ◌≤◌, ◌^◌, List, [], length, set, get_or, Option, Some, None, is_some, replicate, arith}
-use Rattle.std.proofs.lemmas.List.{get_or-map, map-set, length-map, set-get_or}
+use Rattle.std.proofs.lemmas.List.{get_or-map, get_or_read, map-set, length-map, set-get_or}
 use Rattle.std.specs.Prelude.{OnErr, slice_get}
 use Rattle.std.proofs.lemmas.List.Sums.{count_by-le-length}
 use Rattle.census.specs.Changes.{CanAdd, CanRemove, HasOneFewer, HasOneMore}
@@ -34,6 +34,14 @@ IsKeptOf-none n cells genomes keys counts empty unnumbered long nothing few =
       sums = AreSummedIn-none n few;
     } in
     rw (empty, unnumbered, nothing) start
+
+-- the number that is read at a cell
+pub key-read : (cells : List (Option Occupant)) (genomes : List (List Letter)) (keys : List ℕ)
+    (counts : Counts) (cell key : ℕ) → IsKeptOf cells genomes keys counts → cell < length cells
+    → key ≡ get_or keys cell key → key ≡ get_or keys cell 0
+key-read cells genomes keys counts cell key kept within read =
+    get_or_read keys cell key
+    (omega (arith, within, kept.genotypes.size, length-map cells occupant_genome)) read 0
 
 -- the genome in a cell
 standing-at : (cells : List (Option Occupant)) (cell : ℕ) → cell < length cells

@@ -154,12 +154,7 @@ fn jobs_of(
         jobs.push(job)?;
         shard -= 1;
     }
-    jobs.push(Job {
-        first: 0,
-        cells: Cells::from_vec(cells),
-        slices: Slices::from_vec(slices),
-        seat,
-    })?;
+    jobs.push(job_from(0, cells, slices, seat))?;
     jobs.reverse();
     Ok(jobs)
 }
@@ -178,13 +173,25 @@ fn one_job(
     ensures few { IfOk result (λ jobs. length jobs.items ≤ 64) }
 {
     let mut jobs = Vec::with_capacity(alloc, 1)?;
-    jobs.push(Job {
-        first: 0,
+    jobs.push(job_from(0, cells, slices, seat))?;
+    Ok(jobs)
+}
+
+/// The cells from the first one on as a job.
+fn job_from(first: u32, cells: Vec<Option<BoxedOrganism>>, slices: Vec<u64>, seat: Seat) -> Job
+    ensures { result ≡ record {
+      first = first;
+      cells = cells.items;
+      slices = slices.items;
+      seat = seat;
+    } }
+{
+    Job {
+        first,
         cells: Cells::from_vec(cells),
         slices: Slices::from_vec(slices),
         seat,
-    })?;
-    Ok(jobs)
+    }
 }
 
 /// The cells from this one on leave as a job, which has a seat that was split from this one. After
@@ -213,12 +220,7 @@ fn cut_off(
 {
     let part = cells.split_off(start)?;
     let steps = slices.split_off(start)?;
-    Ok(Job {
-        first: start as u32,
-        cells: Cells::from_vec(part),
-        slices: Slices::from_vec(steps),
-        seat: bank.split(seat),
-    })
+    Ok(job_from(start as u32, part, steps, bank.split(seat)))
 }
 
 /// All shards as one, joined in their order.
@@ -258,19 +260,12 @@ fn join_two(bank: &Bank, front: Finished, back: Finished) -> Result<Finished, Me
     ensures own { IfOk result (λ whole. IsPermutation
         (own_calls_of front.seat ++ own_calls_of back.seat) (own_calls_of whole.seat)) }
 {
-    let Finished {
-        first,
-        cells,
-        standings,
-        births,
-        dead,
-        seat,
-    } = front;
-    let cells = appended(cells, back.cells);
-    let standings = appended(standings, back.standings);
-    let births = appended(births, back.births);
-    let dead = appended(dead, back.dead);
-    let seat = bank.join(seat, back.seat);
+    let first = front.first;
+    let cells = appended(front.cells, back.cells);
+    let standings = appended(front.standings, back.standings);
+    let births = appended(front.births, back.births);
+    let dead = appended(front.dead, back.dead);
+    let seat = bank.join(front.seat, back.seat);
     let ((cells, standings), (births, dead)) = both(both(cells, standings), both(births, dead))?;
     Ok(Finished {
         first,

@@ -1,9 +1,8 @@
-use Rattle.std.proofs.Common.{◌≡◌, ◌∙◌, ap, sym, get_or, None, Some, length, ◌<◌, arith}
+use Rattle.std.proofs.Common.{◌≡◌, ◌∙◌, ap, sym, get_or, None, Some, length, ◌<◌}
 use Rattle.std.specs.Prelude.{option_map, slice_get}
-use Rattle.std.proofs.lemmas.List.{get_or_read, length-map}
 use Rattle.world_core.specs.Population.{PopulationValue, occupant_genome}
 use Rattle.world_core.proofs.CellTableLemmas.{nobody, somebody}
-use Rattle.world_core.proofs.KeptOfLemmas.{key-is}
+use Rattle.world_core.proofs.KeptOfLemmas.{key-is, key-read}
 use Rattle.world_core.proofs.population.Population.number_at.Goals as goal
 
 pub returns-in-Some : goal.returns-in-Some
@@ -18,10 +17,8 @@ returns-in-Some c =
     let within : c.args.cell < length cells = rw were c.requires in
     let who = somebody (get_or cells c.args.cell None) _
     (sym c.standing_at.ensures ∙ c.in-Some.is) in
-    let key : c.index.result.now ≡ get_or keys c.args.cell 0 =
-    get_or_read keys c.args.cell c.index.result.now
-    (omega (arith, within, c.self.invariant.genotypes.size, length-map cells occupant_genome))
-    c.index.ensures 0 in
+    let key = key-read cells bank keys c.self.inside.census c.args.cell c.index.result.now
+    c.self.invariant within c.index.ensures in
     let number : slice_get c.args.self.now.bank c.index.result.now ≡ Some who.0.organism.genome =
     ap (slice_get c.args.self.now.bank) key
     ∙ ap (λ bank. slice_get bank (get_or keys c.args.cell 0)) (sym interned)

@@ -1,11 +1,10 @@
-use Rattle.std.proofs.Common.{◌≡◌, ◌∙◌, List, Option, ap, subst, sym, get_or, None, length, ◌<◌, arith}
-use Rattle.std.proofs.lemmas.List.{get_or_read, length-map}
+use Rattle.std.proofs.Common.{◌≡◌, ◌∙◌, List, Option, ap, subst, sym, get_or, None, length, ◌<◌}
 use Rattle.census.specs.Changes.{HasOneFewer}
 use Rattle.world_rules.specs.Statistics.{organism_in}
 use Rattle.world_rules.specs.World.{Occupant}
-use Rattle.world_core.specs.Population.{IsKeptOf, PopulationValue, occupant_genome}
+use Rattle.world_core.specs.Population.{IsKeptOf, PopulationValue}
 use Rattle.world_core.proofs.CellTableLemmas.{nobody, somebody}
-use Rattle.world_core.proofs.KeptOfLemmas.{IsKeptOf-empty, IsKeptOf-removed, can-remove}
+use Rattle.world_core.proofs.KeptOfLemmas.{IsKeptOf-empty, IsKeptOf-removed, can-remove, key-read}
 use Rattle.world_core.proofs.population.Population.take.Goals.{in-Some, in_default}
 use Rattle.world_core.proofs.population.Population.take.Goals as goal
 
@@ -16,10 +15,9 @@ remove-requires c =
     rw (ap (λ (p : PopulationValue). p.cells) c.self.view_is) c.requires in
     let who = somebody (get_or cells c.args.cell None) _
     (sym c.standing_at.ensures ∙ c.in-Some.is) in
-    let key : c.index-key.result.now ≡ get_or c.self.inside.keys.items c.args.cell 0 =
-    get_or_read c.self.inside.keys.items c.args.cell c.index-key.result.now
-    (omega (arith, within, c.self.invariant.genotypes.size, length-map cells occupant_genome))
-    c.index-key.ensures 0 in
+    let key = key-read cells c.self.inside.genotypes c.self.inside.keys.items
+    c.self.inside.census c.args.cell c.index-key.result.now c.self.invariant within
+    c.index-key.ensures in
     rw (key, sym who.2)
     (can-remove c.one_index.ensures.list cells c.self.inside.genotypes c.self.inside.keys.items
     c.self.inside.census c.self.inside.census c.args.cell within who.0 c.self.invariant who.1)
@@ -34,10 +32,8 @@ invariant_of-self c =
       | in-Some w ↦
           let who = somebody (get_or cells c.args.cell None) _
           (sym c.standing_at.ensures ∙ w.in-Some.is) in
-          let key : w.index-key.result.now ≡ get_or c.self.inside.keys.items c.args.cell 0 =
-          get_or_read c.self.inside.keys.items c.args.cell w.index-key.result.now
-          (omega (arith, within, c.self.invariant.genotypes.size, length-map cells occupant_genome))
-          w.index-key.ensures 0 in
+          let key = key-read cells c.self.inside.genotypes c.self.inside.keys.items before
+          c.args.cell w.index-key.result.now c.self.invariant within w.index-key.ensures in
           rw w.self-inside-is (subst
           (λ (cells : List (Option Occupant)).
           IsKeptOf cells c.self.inside.genotypes c.self.inside.keys.items w.remove.new.self)
