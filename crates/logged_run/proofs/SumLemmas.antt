@@ -16,16 +16,14 @@ births_more : (config : ConfigValues) (n : ℕ)
     → births_until config (n + 1) ≡ births_until config n + (stats_of config (n + 1)).births
 unfolding births_until
 births_more config n =
-    let next : 1 + n ≡ n + 1 = omega arith in
-    sum_by-map-range_with_len_more (λ stats. stats.births) (stats_of config) 1 n (n + 1) next
+    sum_by-map-range_with_len_more (λ stats. stats.births) _ 1 n (n + 1) (omega arith)
 
 -- the deaths of one more update
 deaths_more : (config : ConfigValues) (n : ℕ)
     → deaths_until config (n + 1) ≡ deaths_until config n + (stats_of config (n + 1)).deaths
 unfolding deaths_until
 deaths_more config n =
-    let next : 1 + n ≡ n + 1 = omega arith in
-    sum_by-map-range_with_len_more (λ stats. stats.deaths) (stats_of config) 1 n (n + 1) next
+    sum_by-map-range_with_len_more (λ stats. stats.deaths) _ 1 n (n + 1) (omega arith)
 
 -- the bytes of the text of one more update
 bytes_more : (config : ConfigValues) (n : ℕ)
