@@ -14,11 +14,10 @@ divide_insert = 0
 divide_delete = 0
 ";
 
-/// Words, or several, and an input, which may be the name of one, with the world that is left: how
-/// many live in it or are an ancestor, its cells, its counts, the length of its bank, and who lives
-/// where, with the genome's number. Of the last world it is the begin: an independent program wrote
-/// its log, in which these organisms live at the end or are an ancestor, and so many genomes are
-/// different.
+/// Words and an input, which may be the name of one, with the world that is left: how many live in
+/// it or are an ancestor, its cells, its counts, the length of its bank, and who lives where, with
+/// the genome's number. Of the last world it is the begin: an independent program wrote its log, in
+/// which these organisms live at the end or are an ancestor, and so many genomes are different.
 const WORLDS: &str = "run
 =>
 updates = 0
@@ -31,7 +30,16 @@ bank of 1
 end
 ---
 run --watch 0 --workers 64
-or
+=>
+one cell
+=>
+2 nodes
+1 cells
+U 13 1 1 1 1 97 0 0 0 0 0 0 0 0 0
+bank of 1
+0 0 wzcagcccccccccccccccccccccccccccccccccccccccccccccccccccccccccccccccccccccccccccccccccccccczvfcaxgab
+end
+---
 lineage 0
 =>
 one cell
@@ -172,23 +180,21 @@ fn text_of(alloc: Global, world: &World) -> Result<Vec<u8>, Fail> {
 fn the_world_after_the_last_update_is_left(rt: HostRuntime) -> Result<(), Fail> {
     let alloc = rt.alloc();
     for case in WORLDS.split("---\n") {
-        let (commands, rest) = case.split_once("\n=>\n").ok_or("no input")?;
+        let (words, rest) = case.split_once("\n=>\n").ok_or("no input")?;
         let (input, wanted) = rest.split_once("=>\n").ok_or("no world")?;
         let input = if input == "one cell\n" {
             ONE_CELL
         } else {
             input
         };
-        for words in commands.split("\nor\n") {
-            let served = serve_on(&rt, alloc, words, input.as_bytes())?;
-            match &served.last {
-                Some(world) => {
-                    let text = text_of(alloc, world)?;
-                    assert!(rt; text.starts_with(wanted.as_bytes()), "{words}: {case}");
-                    assert_eq!(rt; world.update(), world.stats().update, "{words}: {case}");
-                }
-                None => assert_eq!(rt; wanted, "no world\n", "{words}: {case}"),
+        let served = serve_on(&rt, alloc, words, input.as_bytes())?;
+        match &served.last {
+            Some(world) => {
+                let text = text_of(alloc, world)?;
+                assert!(rt; text.starts_with(wanted.as_bytes()), "{case}");
+                assert_eq!(rt; world.update(), world.stats().update, "{case}");
             }
+            None => assert_eq!(rt; wanted, "no world\n", "{case}"),
         }
     }
     Ok(())
