@@ -1,12 +1,9 @@
 -- What sites hold, as they are made, marked, written and read.
-use Rattle.std.proofs.Common.{refl, sym, ap, ◌≡◌, ◌∙◌, ℕ, zero, suc, ◌+◌, ◌<◌, ◌≤◌, List, [], ◌∷◌, ◌++◌, Bool, true, false, cond, length, map, replicate, take, drop, get_or, set}
-use Rattle.std.specs.Prelude.{count_by}
+use Rattle.std.proofs.Common.{arith, refl, sym, ap, ◌≡◌, ◌∙◌, ℕ, zero, suc, ◌+◌, ◌<◌, ◌≤◌, List, [], ◌∷◌, ◌++◌, Bool, true, false, length, map, replicate, take, drop, get_or, set}
 use Rattle.std.proofs.lemmas.List.{length-map, map-append, map-set, map_push, take_more, take_all, take-map, drop-map, get_or-map, set-get_or}
-use Rattle.std.proofs.lemmas.List.Sums.{sum_by-cons}
 use Rattle.instruction_set.specs.declared.letter.Letter.{Letter}
 use Rattle.instruction_set.specs.declared.letter.Letter.TheVariants.{NopA}
 use Rattle.label_search.specs.Site.{Site, letters_of}
-use Rattle.virtual_cpu.specs.Divide.{count_of}
 use Rattle.virtual_cpu.specs.SiteLists.{SiteLists, clean_of, executed_of, copied_of, fresh_site, fresh_lists, with_places, with_copy, lists_in}
 
 -- lists that are equal, one by one
@@ -82,39 +79,40 @@ lists-set sites place site room = same _ _ _ _ _ _ _ _ room
     (map-set (λ (s : Site). s.executed) sites place site)
     (map-set (λ (s : Site). s.copied) sites place site)
 
--- what a place has is written there
-unchanged : {A : Type 0} (f : Site → A) (sites : List Site) (place : ℕ) (site : Site)
-    → place < length sites → site ≡ get_or sites place site
-    → set (map f sites) place (f site) ≡ map f sites
-unchanged f sites place site within read =
-    let here : f site ≡ get_or (map f sites) place (f site) =
-    ap f read ∙ sym (get_or-map f sites place site (f site) within) in
-    ap (λ x. set (map f sites) place x) here ∙ set-get_or (map f sites) place (f site)
+module _ (sites : List Site) (place : ℕ) (site : Site) (room : ℕ) (lists : SiteLists)
+    (view : lists_in sites room ≡ lists) (within : place < length lists.letters)
+    (read : site ≡ get_or sites place site) where
+  -- what the place has of one list, put there again, leaves the list
+  unchanged : {A : Type 0} (f : Site → A) → set (map f sites) place (f site) ≡ map f sites
+  unchanged f =
+      let inside : place < length sites =
+      omega (arith, within, length-seen sites room lists view) in
+      let here : f site ≡ get_or (map f sites) place (f site) =
+      ap f read ∙ sym (get_or-map f sites place site (f site) inside) in
+      ap (λ x. set (map f sites) place x) here ∙ set-get_or (map f sites) place (f site)
 
--- a place is marked executed
-pub lists-marked : (sites : List Site) (place : ℕ) (site : Site) (room : ℕ) → place < length sites
-    → site ≡ get_or sites place site
-    → ◌≡◌ {A = SiteLists} (lists_in (set sites place (record site { executed = true })) room)
-    (record (lists_in sites room) { executed = set (executed_of sites) place true })
-lists-marked sites place site room within read =
-    lists-set sites place (record site { executed = true }) room
-    ∙ same _ _ _ _ _ _ _ _ room (unchanged (λ (s : Site). s.letter) sites place site within read)
-    (unchanged (λ (s : Site). s.clean) sites place site within read) refl
-    (unchanged (λ (s : Site). s.copied) sites place site within read)
+  -- the place is marked executed
+  pub lists-marked : ◌≡◌ {A = SiteLists}
+      (lists_in (set sites place (record site { executed = true })) room)
+      (record lists { executed = set lists.executed place true })
+  lists-marked =
+      lists-set sites place (record site { executed = true }) room
+      ∙ same _ _ _ _ _ _ _ _ room (unchanged (λ (s : Site). s.letter))
+      (unchanged (λ (s : Site). s.clean)) refl (unchanged (λ (s : Site). s.copied))
+      ∙ ap (λ (l : SiteLists). record l { executed = set l.executed place true }) view
 
--- a letter is copied to a place
-pub lists-copied : (sites : List Site) (place : ℕ) (site : Site) (letter clean : Letter) (room : ℕ)
-    → place < length sites → site ≡ get_or sites place site
-    → ◌≡◌ {A = SiteLists} (lists_in (set sites place (record {
-      letter = letter;
-      clean = clean;
-      executed = site.executed;
-      copied = true;
-    })) room) (with_copy (lists_in sites room) place letter clean)
-lists-copied sites place site letter clean room within read =
-    lists-set sites place _ room
-    ∙ same _ _ _ _ _ _ _ _ room refl refl
-    (unchanged (λ (s : Site). s.executed) sites place site within read) refl
+  -- a letter is copied to the place
+  pub lists-copied : (letter clean : Letter)
+      → ◌≡◌ {A = SiteLists} (lists_in (set sites place (record {
+        letter = letter;
+        clean = clean;
+        executed = site.executed;
+        copied = true;
+      })) room) (with_copy lists place letter clean)
+  lists-copied letter clean =
+      lists-set sites place _ room
+      ∙ same _ _ _ _ _ _ _ _ room refl refl (unchanged (λ (s : Site). s.executed)) refl
+      ∙ ap (λ (l : SiteLists). with_copy l place letter clean) view
 
 -- one thing of sites that are appended
 appended : {A : Type 0} (f : Site → A) (sites : List Site) (site : Site) (count : ℕ)
@@ -167,10 +165,3 @@ part f shown sites seen from count is view =
     ap (λ (s : List Site). map f (take count (drop from s))) is
     ∙ sym (take-map f count (drop from sites)) ∙ ap (take count) (sym (drop-map f from sites))
     ∙ ap (λ l. take count (drop from l)) view
-
--- sites that pass a test are counted by what the test gives of each
-pub counted : (f : Site → Bool) (sites : List Site) → count_by f sites ≡ count_of (map f sites)
-counted f [] = refl
-counted f (site ∷ sites) = sum_by-cons (λ s. cond (f s) 1 0) site sites
-    ∙ ap (λ n. cond (f site) 1 0 + n) (counted f sites)
-    ∙ sym (sum_by-cons (λ b. cond b 1 0) (f site) (map f sites))

@@ -156,8 +156,8 @@ first-or false low n step others further found =
     let lt : step < low + 1 + n = further found in omega arith
 
 -- a number that is found in a range is below the end of the range
-found-below : (test : ℕ → Bool) (low n step : ℕ) → find test (range_with_len low n) ≡ Some step
-    → step < low + n
+pub found-below : (test : ℕ → Bool) (low n step : ℕ)
+    → find test (range_with_len low n) ≡ Some step → step < low + n
 found-below test low zero step found = absurd cc
 found-below test low (suc n) step found =
     first-or (test low) low n step (find test (range_with_len (low + 1) n))

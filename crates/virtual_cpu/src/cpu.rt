@@ -144,14 +144,29 @@ impl Cpu {
         ensures { let kept = parent_part self.old.memory keep in
             self.new ≡ fresh_machine kept self.old.birth_length self.old.limit }
     {
+        self.rewind();
         self.sites.reset(keep as usize);
+        self.pending = false;
+    }
+
+    /// Registers, stacks, heads and nops are as at the start.
+    #[inline(always)]
+    fn rewind(&mut self)
+        ensures { let start = fresh_machine [] 0 0 in
+            self.new ≡ record self.old {
+              registers = start.registers;
+              stacks = start.stacks;
+              active = start.active;
+              heads = start.heads;
+              nops = start.nops;
+            } }
+    {
         self.registers = Registers::default();
         let stacks = [Stack::new(), Stack::new()];
         self.stacks = stacks;
         self.active = 0;
         self.heads = Heads::default();
         self.nops = Template::none();
-        self.pending = false;
     }
 
     /// The machine is one at its start for this genome, in the memory that it has where that
@@ -183,13 +198,8 @@ impl Cpu {
             self.new ≡ fresh_machine text (length text) self.old.limit }
     {
         let birth_length = genome.len();
+        self.rewind();
         self.sites.begin(genome.letters());
-        self.registers = Registers::default();
-        let stacks = [Stack::new(), Stack::new()];
-        self.stacks = stacks;
-        self.active = 0;
-        self.heads = Heads::default();
-        self.nops = Template::none();
         self.pending = false;
         self.birth_length = birth_length;
     }

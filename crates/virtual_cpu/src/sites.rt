@@ -259,26 +259,14 @@ fn count_executed(sites: &[Site]) -> usize
     ensures count { result ≡ count_of (executed_of sites.now) }
     ensures bound { result ≤ length sites.now }
 {
-    let mut count = 0;
-    for site in sites {
-        if site.executed() {
-            count += 1;
-        }
-    }
-    count
+    sites.iter().filter(|site| site.executed()).count()
 }
 
 fn count_copied(sites: &[Site]) -> usize
     ensures count { result ≡ count_of (copied_of sites.now) }
     ensures bound { result ≤ length sites.now }
 {
-    let mut count = 0;
-    for site in sites {
-        if site.copied() {
-            count += 1;
-        }
-    }
-    count
+    sites.iter().filter(|site| site.copied()).count()
 }
 
 fn letters_in(alloc: Global, sites: &[Site]) -> Result<Vec<Letter>, AllocError>

@@ -1,8 +1,8 @@
-use Rattle.std.proofs.Common.{◌≡◌, ◌<◌, ◌∙◌, ap, arith, length, get_or, set}
+use Rattle.std.proofs.Common.{◌≡◌, ◌∙◌, ap, arith, get_or, set}
 use Rattle.std.specs.Prelude.{vec_capacity}
 use Rattle.std.proofs.lemmas.Grind.{common_steps}
 use Rattle.label_search.specs.Site.{Site}
-use Rattle.virtual_cpu.specs.SiteLists.{SiteLists, lists_in, with_copy}
+use Rattle.virtual_cpu.specs.SiteLists.{lists_in}
 use Rattle.virtual_cpu.proofs.SiteLemmas.{length-seen, lists-copied}
 use Rattle.virtual_cpu.proofs.sites.Sites.copy.Goals as goal
 
@@ -16,11 +16,9 @@ pub returns : goal.returns
 returns c =
     let items = c.self.inside.items.items in
     let room = vec_capacity c.self.inside.items in
-    let place = c.args.place in
     let site = c.index_mut-site.result.now in
     let long = length-seen items room c.args.self.now c.self.view_is in
-    let within : place < length items = omega (arith, long) in
-    let read : site ≡ get_or items place site = grind (arith, common_steps) in
-    ap (λ (s : Site). lists_in (set items place s) room) c.copy.ensures
-    ∙ lists-copied items place site c.args.letter c.args.clean room within read
-    ∙ ap (λ (l : SiteLists). with_copy l place c.args.letter c.args.clean) c.self.view_is
+    let read : site ≡ get_or items c.args.place site = grind (arith, common_steps) in
+    ap (λ (s : Site). lists_in (set items c.args.place s) room) c.copy.ensures
+    ∙ lists-copied items c.args.place site room c.args.self.now c.self.view_is c.requires read
+    c.args.letter c.args.clean
