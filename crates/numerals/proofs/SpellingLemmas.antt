@@ -10,6 +10,7 @@ use Rattle.std.proofs.lemmas.Option.{cond_some}
 use Rattle.std.proofs.lemmas.Str.Parse.{IsNumeralModel, numerals_by_value, tells_all_ascii_digits}
 use Rattle.std.proofs.lemmas.Fmt.{digits_decimal, digits_value-decimal, decimal-digits_value, decimal_nonempty, first_decimal, decimal_digit}
 use Rattle.numerals.specs.Numeral.{is_numeral, number_of}
+use Rattle.numerals.specs.Spelling.{OneNumber}
 
 -- the test for digits alone, and their value, mean what the library's words do
 own : IsNumeralModel (λ ds. all_ascii_digits ds ≡ true) (λ ds. digits_value 10 ds)
@@ -52,7 +53,7 @@ decimal_numeral n small =
     ])
 
 -- the decimal text of a number from least to greatest writes that number
-pub spelled : (least greatest n : ℕ) → greatest < 2 ^ 64 → least ≤ n → n ≤ greatest
+spelled : (least greatest n : ℕ) → greatest < 2 ^ 64 → least ≤ n → n ≤ greatest
     → number_of least greatest (decimal n) ≡ Some n
 unfolding number_of
 spelled least greatest n wide from_least to_greatest =
@@ -63,7 +64,7 @@ spelled least greatest n wide from_least to_greatest =
     rw (decimal_numeral n small, value, low, high) refl
 
 -- a text that writes a number is its decimal text, and the number is from least to greatest
-pub taken : (least greatest n : ℕ) (text : List ℕ) → greatest < 2 ^ 64
+taken : (least greatest n : ℕ) (text : List ℕ) → greatest < 2 ^ 64
     → number_of least greatest text ≡ Some n → (decimal n ≡ text) × (least ≤ n) × (n ≤ greatest)
 unfolding number_of
 taken least greatest n text wide is =
@@ -88,17 +89,27 @@ are_digits (d ∷ ds) all =
     ((grind (arith, nat_tests, parts.0), grind (arith, nat_tests, parts.0)), are_digits ds parts.1)
 
 -- each byte of a decimal text is from 48 to 57
-pub decimal_digits : (n : ℕ) → n < 2 ^ 64 → AllByRecursion (λ b. (48 ≤ b) × (b ≤ 57)) (decimal n)
+decimal_digits : (n : ℕ) → n < 2 ^ 64 → AllByRecursion (λ b. (48 ≤ b) × (b ≤ 57)) (decimal n)
 decimal_digits n small = are_digits (decimal n) (digits_decimal own n small)
 
 -- the empty text writes no number
-pub empty_is_none : (least greatest : ℕ) → number_of least greatest [] ≡ None
+empty_is_none : (least greatest : ℕ) → number_of least greatest [] ≡ None
 unfolding number_of
 empty_is_none least greatest = refl
 
 -- a text that begins with a minus sign writes no number
-pub minus_is_none : (least greatest : ℕ) (text : List ℕ)
+minus_is_none : (least greatest : ℕ) (text : List ℕ)
     → number_of least greatest (45 ∷ text) ≡ None
 unfolding number_of
 minus_is_none least greatest [] = refl
 minus_is_none least greatest (d ∷ ds) = refl
+
+-- numbers have one spelling
+pub numbers_spell : OneNumber
+numbers_spell = record {
+  again = spelled;
+  takes = taken;
+  digits = decimal_digits;
+  no_digits = empty_is_none;
+  no_minus = minus_is_none;
+}
