@@ -10,7 +10,7 @@ use Rattle.std.proofs.lemmas.Slice.Eq.{bytes_eq-Decides}
 use Rattle.instruction_set.specs.declared.letter.Letter.{Letter}
 use Rattle.instruction_set.specs.Letter.{byte_of, letter_of_byte}
 use Rattle.mutations.specs.Change.{is_genome_length}
-use Rattle.numerals.specs.Numeral.{number_of}
+use Rattle.numerals.specs.Spelling.{OneNumber}
 use Rattle.log_lines.specs.Fields.{Field, given, number, genome_of_word, genome_field, text_or, FitsOr, or_sign, each, where_true}
 use Rattle.log_lines.specs.Rows.{Row, read_last, last, read_both, ◌◂◌}
 use Rattle.log_lines.proofs.LetterLemmas.{byte_of_letter, letter_of_byte-byte_of, letter_above}
@@ -71,16 +71,6 @@ split_first c (b ∷ bs) rest all =
     rw (other, split_first c bs rest all.1) refl
 
 -- ---- numbers
-
--- what is known of the spelling of a number
-pub record OneNumber : Type 0 where
-  pub again : (least greatest n : ℕ) → greatest < 2 ^ 64 → least ≤ n → n ≤ greatest
-      → number_of least greatest (decimal n) ≡ Some n
-  pub takes : (least greatest n : ℕ) (word : List ℕ) → greatest < 2 ^ 64
-      → number_of least greatest word ≡ Some n → (decimal n ≡ word) × (least ≤ n) × (n ≤ greatest)
-  pub digits : (n : ℕ) → n < 2 ^ 64 → AllByRecursion (λ b. (48 ≤ b) × (b ≤ 57)) (decimal n)
-  pub no_digits : (least greatest : ℕ) → number_of least greatest [] ≡ None
-  pub no_minus : (least greatest : ℕ) (word : List ℕ) → number_of least greatest (45 ∷ word) ≡ None
 
 -- digits are above a comma
 above_digits : (ds : List ℕ) → AllByRecursion (λ b. (48 ≤ b) × (b ≤ 57)) ds → Above 44 ds

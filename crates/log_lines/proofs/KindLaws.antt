@@ -13,12 +13,13 @@ use Rattle.mutations.specs.declared.rate_name.RateName.TheVariants as rate
 use Rattle.mutations.specs.RecordForm.{FitsChange, in_order}
 use Rattle.mutations.specs.RateNames.{name_of_rate, rate_named, rate_names}
 use Rattle.numerals.specs.Numeral.{number_of}
+use Rattle.numerals.specs.Spelling.{OneNumber}
 use Rattle.log_lines.specs.Fields.{Field, genome_of_word}
 use Rattle.log_lines.specs.LineWords.{change_text}
 use Rattle.log_lines.specs.Kinds.{small, large, rate_name, read_lettered, read_change, change_field, over_field, base_field, changes_field}
 use Rattle.log_lines.specs.Words.{ToChange}
 use Rattle.log_lines.proofs.LetterLemmas.{byte_of_letter, letter_of_byte-byte_of, letter_above, found_passes}
-use Rattle.log_lines.proofs.FieldLaws.{Above, IsField, OneNumber, above_append, same_bytes, chosen, number_law, letters_law, or_sign_law, where_law, field_lower, some_map, some_then}
+use Rattle.log_lines.proofs.FieldLaws.{Above, IsField, above_append, same_bytes, chosen, number_law, letters_law, or_sign_law, where_law, field_lower, some_map, some_then}
 use Rattle.log_lines.proofs.ListLaws.{list_law}
 
 -- the word is the text of the change, which can be written

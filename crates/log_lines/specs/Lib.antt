@@ -12,5 +12,6 @@ pub mod Rows
 pub mod Kinds
 pub mod Forms
 pub mod LineReading
+pub mod LineSpelling
 pub mod Words
 pub mod Kept

@@ -18,5 +18,5 @@ pub use reading::{genome_last, read_birth, read_line};
 pub use stats::Stats;
 pub use words::{last_word, split_at};
 pub use writing::{
-    write_birth, write_injection, write_line, write_number, write_numbers, write_record,
+    write_birth, write_byte, write_injection, write_line, write_number, write_numbers, write_record,
 };

@@ -21,8 +21,8 @@ use mutations::{Base, Change, Changes, Origin, RateName};
 /// Room for a byte and the digits of any number.
 const DIGITS: usize = 21;
 
-/// Appends a byte.
-fn byte(out: &mut Vec<u8>, value: u8) -> Result<(), Memory>
+/// Appends a byte. When memory runs out `out` stays as it was.
+pub fn write_byte(value: u8, out: &mut Vec<u8>) -> Result<(), Memory>
     ensures ok { OnOk result (out.new.items ≡ out.old.items ++ value ∷ []) }
     ensures err { OnErr result (out.new.items ≡ out.old.items) }
 {
@@ -61,7 +61,7 @@ fn letters(out: &mut Vec<u8>, genome: &Genome) -> Result<(), Memory>
         ++ spaced_word (genome_field.text (genome_spec.letters genome.now))) }
     ensures err { OnErr result (Keeps out.old.items out.new.items) }
 {
-    byte(out, b' ')?;
+    write_byte(b' ', out)?;
     letters_text(genome, out)
 }
 
@@ -94,7 +94,7 @@ fn lettered(out: &mut Vec<u8>, mark: u8, at: u32, letter: Letter) -> Result<(), 
     ensures err { OnErr result (Keeps out.old.items out.new.items) }
 {
     write_number(mark, u64::from(at), out)?;
-    byte(out, letter.byte())
+    write_byte(letter.byte(), out)
 }
 
 fn bare_change(out: &mut Vec<u8>, change: Change) -> Result<(), Memory>
@@ -114,7 +114,7 @@ fn change(out: &mut Vec<u8>, before: u8, change: Change) -> Result<(), Memory>
     ensures ok { OnOk result (out.new.items ≡ out.old.items ++ before ∷ change_text change) }
     ensures err { OnErr result (Keeps out.old.items out.new.items) }
 {
-    byte(out, before)?;
+    write_byte(before, out)?;
     bare_change(out, change)
 }
 
@@ -156,7 +156,7 @@ fn marked(out: &mut Vec<u8>, mark: u8, numbers: &[u64]) -> Result<(), Memory>
     ensures ok { OnOk result (out.new.items ≡ out.old.items ++ mark ∷ numbers_text numbers.now) }
     ensures err { OnErr result (Keeps out.old.items out.new.items) }
 {
-    byte(out, mark)?;
+    write_byte(mark, out)?;
     write_numbers(numbers, out)
 }
 
@@ -250,7 +250,7 @@ fn named(out: &mut Vec<u8>, name: RateName) -> Result<(), Memory>
     ensures ok { OnOk result (out.new.items ≡ out.old.items ++ spaced_word (rate_name.text name)) }
     ensures err { OnErr result (Keeps out.old.items out.new.items) }
 {
-    byte(out, b' ')?;
+    write_byte(b' ', out)?;
     text(out, name.name().as_bytes())
 }
 
@@ -334,7 +334,7 @@ fn finish(row: Result<(), Memory>, start: usize, out: &mut Vec<u8>) -> Result<()
     ensures ok { OnOk result (out.new.items ≡ out.old.items ++ codes "\n") }
     ensures err { OnErr result (out.new.items ≡ take start out.old.items) }
 {
-    if row.is_ok() && byte(out, b'\n').is_ok() {
+    if row.is_ok() && write_byte(b'\n', out).is_ok() {
         return Ok(());
     }
     out.truncate(start);

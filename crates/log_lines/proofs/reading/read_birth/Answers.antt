@@ -12,45 +12,42 @@ use Rattle.log_lines.proofs.MarkLemmas.{by_mark, no_birth}
 use Rattle.log_lines.proofs.reading.read_birth.Goals.{else-mark-eq66-via-else-mark-eq66, else-mark-eq66-via-then-mark-eq66+else-part-eq32}
 use Rattle.log_lines.proofs.reading.read_birth.Goals as goal
 
--- a birth that is read as this line has this line
-has_line : (line read : Option Line) (found : Option Birth) → read ≡ line
-    → option_map birth_values found ≡ read → IfSome found (λ birth. line ≡ Some (birth_values birth))
-has_line line read None same is = tt
-has_line line read (Some birth) same is = sym (is ∙ same)
+-- a birth that is read as a line is what it tells, and where none is read it tells none
+tells : (line : Option Line) (found : Option Birth) → option_map birth_values found ≡ line
+    → IfSome found (λ birth. line ≡ Some (birth_values birth)) × IfNone found (IsNoBirth line)
+tells line None is = (tt, subst (λ (o : Option Line). IsNoBirth o) is tt)
+tells line (Some birth) is = (sym is, tt)
+
+-- a birth is read by the words behind its mark
+abbrev IsReadBehind : List ℕ → Option Birth → Type 0
+IsReadBehind text found = option_map birth_values found
+    ≡ read_by forms (66 ∷ []) (words_of (Some (take (length text - 2) (drop 2 text))))
+
+-- what is read behind a birth's mark is what the line tells
+read_behind : (text : List ℕ) → 2 ≤ length text → get_or text 0 0 ≡ 66 → get_or text 1 0 ≡ 32
+    → (found : Option Birth) → IsReadBehind text found
+    → IfSome found (λ birth. line_of text ≡ Some (birth_values birth))
+    × IfNone found (IsNoBirth (line_of text))
+read_behind text long mark part found is =
+    let words = words_of (Some (take (length text - 2) (drop 2 text))) in
+    tells (line_of text) found
+    (is ∙ by_mark forms words _ 66 mark ∙ marked text long part (λ e. omega (arith, e, mark)))
 
 pub returns-then-part-eq32-clause-birth : goal.returns-then-part-eq32-clause-birth
 returns-then-part-eq32-clause-birth c =
     let text = c.args.text.now in
-    let words = words_of (Some (take (length text - 2) (drop 2 text))) in
-    let mark = c.if-mark-eq66.true in
-    let line =
-    by_mark forms words _ 66 mark
-    ∙ marked text c.in-len2-up.len_at_least c.if-part-eq32.true (λ e. omega (arith, e, mark)) in
-    IfOk-weaker c.birth_behind.result
-    (λ (found : Option Birth). option_map birth_values found ≡ read_by forms (66 ∷ []) words)
+    IfOk-weaker c.birth_behind.result (IsReadBehind text)
     (λ (found : Option Birth). IfSome found (λ birth. line_of text ≡ Some (birth_values birth)))
-    (λ found is. has_line (line_of text) (read_by forms (66 ∷ []) words) found line is)
-    c.birth_behind.ensures
-
--- where no birth is read, the line tells none
-no_line : (line read : Option Line) (found : Option Birth) → read ≡ line
-    → option_map birth_values found ≡ read → IfNone found (IsNoBirth line)
-no_line line read None same is = subst (λ (o : Option Line). IsNoBirth o) (is ∙ same) tt
-no_line line read (Some birth) same is = tt
+    (λ found is. (read_behind text c.in-len2-up.len_at_least c.if-mark-eq66.true
+    c.if-part-eq32.true found is).0) c.birth_behind.ensures
 
 pub returns-then-part-eq32-clause-none : goal.returns-then-part-eq32-clause-none
 returns-then-part-eq32-clause-none c =
     let text = c.args.text.now in
-    let words = words_of (Some (take (length text - 2) (drop 2 text))) in
-    let mark = c.if-mark-eq66.true in
-    let line =
-    by_mark forms words _ 66 mark
-    ∙ marked text c.in-len2-up.len_at_least c.if-part-eq32.true (λ e. omega (arith, e, mark)) in
-    IfOk-weaker c.birth_behind.result
-    (λ (found : Option Birth). option_map birth_values found ≡ read_by forms (66 ∷ []) words)
+    IfOk-weaker c.birth_behind.result (IsReadBehind text)
     (λ (found : Option Birth). IfNone found (IsNoBirth (line_of text)))
-    (λ found is. no_line (line_of text) (read_by forms (66 ∷ []) words) found line is)
-    c.birth_behind.ensures
+    (λ found is. (read_behind text c.in-len2-up.len_at_least c.if-mark-eq66.true
+    c.if-part-eq32.true found is).1) c.birth_behind.ensures
 
 -- a text with another mark tells no birth
 other_mark : (text : List ℕ) → 2 ≤ length text → (get_or text 0 0 ≡ 66 → ⊥)
