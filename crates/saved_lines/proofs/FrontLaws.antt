@@ -4,9 +4,10 @@ use Rattle.std.specs.Prelude.{option_and_then, option_map}
 use Rattle.std.specs.List.{AllByRecursion}
 use Rattle.std.proofs.lemmas.Option.{some_pair_parts}
 use Rattle.numerals.specs.Numeral.{number_of}
+use Rattle.numerals.specs.Spelling.{OneNumber}
 use Rattle.log_lines.specs.Fields.{Field}
 use Rattle.log_lines.specs.Rows.{Row}
-use Rattle.log_lines.proofs.FieldLaws.{Above, IsField, IsRow, OneNumber, number_law, above_lower, some_map, some_then}
+use Rattle.log_lines.proofs.FieldLaws.{Above, IsField, IsRow, number_law, above_lower, some_map, some_then}
 use Rattle.saved_lines.specs.declared.range.Range.{Range}
 use Rattle.saved_lines.specs.SavedRows.{Front, with_item, read_several, several, read_within, AreWithin, within, if_last, whole, ◌◁◌}
 

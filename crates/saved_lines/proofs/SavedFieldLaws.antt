@@ -7,8 +7,9 @@ use Rattle.std.proofs.lemmas.Bool.{cases_Bool, eqb-true}
 use Rattle.std.proofs.lemmas.Bool.Decides.{nat_tests}
 use Rattle.std.proofs.lemmas.Option.{cond_some}
 use Rattle.numerals.specs.Numeral.{number_of}
+use Rattle.numerals.specs.Spelling.{OneNumber}
 use Rattle.log_lines.specs.Fields.{each}
-use Rattle.log_lines.proofs.FieldLaws.{Above, IsField, OneNumber, number_law, some_map, some_then}
+use Rattle.log_lines.proofs.FieldLaws.{Above, IsField, number_law, some_map, some_then}
 use Rattle.std.specs.Prelude.{◌&&◌, nat_le}
 use Rattle.std.specs.Str.{bytes_eq}
 use Rattle.std.specs.List.{list_all}

@@ -5,14 +5,15 @@ use Rattle.std.specs.Str.{bytes_eq}
 use Rattle.std.specs.List.{join_with_byte}
 use Rattle.std.proofs.lemmas.List.Splits.{join_with_byte-slice_split}
 use Rattle.std.proofs.lemmas.Option.{cond_some}
-use Rattle.numerals.proofs.SpellingLemmas.{spelled, taken, decimal_digits, empty_is_none, minus_is_none}
+use Rattle.numerals.specs.Spelling.{OneNumber}
+pub use Rattle.numerals.proofs.SpellingLemmas.{numbers_spell}
 use Rattle.logic_tasks.specs.InputsLaws.{inputs_of-top}
 use Rattle.logic_tasks.specs.TaskBitsLaws.{length-tasks_of}
 use Rattle.log_lines.specs.Fields.{genome_field}
 use Rattle.log_lines.specs.Kinds.{large}
 use Rattle.log_lines.specs.Rows.{last, ◌◂◌}
 use Rattle.log_lines.specs.LineText.{words_text, form_text}
-use Rattle.log_lines.proofs.FieldLaws.{Above, IsField, IsRow, OneNumber, chosen, last_law, letters_law, row_law, some_map, some_then}
+use Rattle.log_lines.proofs.FieldLaws.{Above, IsField, IsRow, chosen, last_law, letters_law, row_law, some_map, some_then}
 use Rattle.log_lines.proofs.KindLaws.{low, large_law}
 use Rattle.log_lines.proofs.RowLaws.{words_in, joined_words, row_words, row_plain, row_takes}
 use Rattle.saved_lines.specs.SavedFields.{signed, nops, marks}
@@ -25,16 +26,6 @@ use Rattle.saved_lines.proofs.FrontLaws.{IsFront, front_law, front_lower, severa
 use Rattle.saved_lines.proofs.SavedFieldLaws.{signed_law, marks_law, nops_law}
 use Rattle.saved_lines.proofs.FitsLemmas.{head_fits, head_is, head_ordered, organism_fits, organism_is, machine_fits, machine_is}
 use Rattle.saved_lines.proofs.SavedValueLaws.{head_again, head_taken, organism_again, organism_taken, machine_again, machine_taken}
-
--- numbers have one spelling
-pub numbers_spell : OneNumber
-numbers_spell = record {
-  again = spelled;
-  takes = taken;
-  digits = decimal_digits;
-  no_digits = empty_is_none;
-  no_minus = minus_is_none;
-}
 
 -- the line has this text
 abbrev LineIs : List ℕ → SavedLine → Type 0

@@ -10,3 +10,4 @@ pub mod SavedRows
 pub mod SavedTables
 pub mod SavedReading
 pub mod SavedLines
+pub mod SavedSpelling

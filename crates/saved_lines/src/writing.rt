@@ -12,7 +12,7 @@ use crate::state_head::StateHead;
 use avida_port::Memory;
 use instruction_set::Letter;
 use label_search::Template;
-use log_lines::{write_number, write_numbers};
+use log_lines::{write_byte, write_number, write_numbers};
 use virtual_cpu::CpuImage;
 
 /// 1 for true, and 0 for false.
@@ -22,24 +22,13 @@ fn flag_number(is_set: bool) -> u64
     if is_set { 1 } else { 0 }
 }
 
-/// A byte.
-fn byte(out: &mut Vec<u8>, value: u8) -> Result<(), Memory>
-    ensures ok { OnOk result (out.new.items ≡ out.old.items ++ value ∷ []) }
-    ensures err { OnErr result (out.new.items ≡ out.old.items) }
-{
-    match out.push(value) {
-        Ok(()) => Ok(()),
-        Err(_) => Err(Memory),
-    }
-}
-
 /// A signed number, behind a space.
 #[tactic(auto, using(crate::proofs::TextLemmas::fronts_stay))]
 fn integer(out: &mut Vec<u8>, number: i32) -> Result<(), Memory>
     ensures ok { OnOk result (out.new.items ≡ out.old.items ++ 32 ∷ signed_decimal number) }
     ensures err { OnErr result (Keeps out.old.items out.new.items) }
 {
-    byte(out, b' ')?;
+    write_byte(b' ', out)?;
     let mut digits = itoa::Buffer::new();
     match out.extend_from_slice(digits.format(number).as_bytes()) {
         Ok(()) => Ok(()),
@@ -77,7 +66,7 @@ fn text(out: &mut Vec<u8>, letters: &[Letter]) -> Result<(), Memory>
     ensures ok { OnOk result (out.new.items ≡ out.old.items ++ 32 ∷ map byte_of letters.now) }
     ensures err { OnErr result (Keeps out.old.items out.new.items) }
 {
-    byte(out, b' ')?;
+    write_byte(b' ', out)?;
     spelled(out, letters)
 }
 
@@ -105,7 +94,7 @@ fn places(out: &mut Vec<u8>, places: &[bool]) -> Result<(), Memory>
     ensures ok { OnOk result (out.new.items ≡ out.old.items ++ 32 ∷ map digit_of places.now) }
     ensures err { OnErr result (Keeps out.old.items out.new.items) }
 {
-    byte(out, b' ')?;
+    write_byte(b' ', out)?;
     digits(out, places)
 }
 
@@ -116,7 +105,7 @@ fn nop_letters(out: &mut Vec<u8>, nops: &Template) -> Result<(), Memory>
 {
     for at in 0..nops.len() {
         if let Some(nop) = nops.get(at) {
-            byte(out, nop.byte())?;
+            write_byte(nop.byte(), out)?;
         }
     }
     Ok(())
@@ -128,9 +117,9 @@ fn template(out: &mut Vec<u8>, nops: &Template) -> Result<(), Memory>
     ensures ok { OnOk result (out.new.items ≡ out.old.items ++ 32 ∷ nops_text nops.now) }
     ensures err { OnErr result (Keeps out.old.items out.new.items) }
 {
-    byte(out, b' ')?;
+    write_byte(b' ', out)?;
     if nops.len() == 0 {
-        return byte(out, b'-');
+        return write_byte(b'-', out);
     }
     nop_letters(out, nops)
 }
@@ -206,7 +195,7 @@ fn head(head: &StateHead, out: &mut Vec<u8>) -> Result<(), Memory>
         ≡ out.old.items ++ saved_row_text (Head (head_values head.now))) }
     ensures err { OnErr result (Keeps out.old.items out.new.items) }
 {
-    byte(out, b'S')?;
+    write_byte(b'S', out)?;
     write_numbers(&head_numbers(head), out)
 }
 
@@ -217,10 +206,10 @@ fn organism(resident: &Resident, out: &mut Vec<u8>) -> Result<(), Memory>
         ≡ out.old.items ++ organism_text (organism_values resident.now)) }
     ensures err { OnErr result (Keeps out.old.items out.new.items) }
 {
-    byte(out, b'O')?;
+    write_byte(b'O', out)?;
     write_numbers(&organism_numbers(resident), out)?;
     text(out, resident.image.genome.letters())?;
-    byte(out, b'\n')
+    write_byte(b'\n', out)
 }
 
 /// The four texts of a machine's line.
@@ -257,7 +246,7 @@ fn machine(image: &CpuImage, out: &mut Vec<u8>) -> Result<(), Memory>
         ≡ out.old.items ++ saved_row_text (Machine image.now)) }
     ensures err { OnErr result (Keeps out.old.items out.new.items) }
 {
-    byte(out, b'M')?;
+    write_byte(b'M', out)?;
     integers(out, &image.registers)?;
     write_numbers(&machine_numbers(image), out)?;
     nops_and_stacks(image, out)?;
@@ -283,7 +272,7 @@ fn count(organisms: u64, out: &mut Vec<u8>) -> Result<(), Memory>
         ≡ out.old.items ++ saved_row_text (Count organisms)) }
     ensures err { OnErr result (Keeps out.old.items out.new.items) }
 {
-    byte(out, b'Z')?;
+    write_byte(b'Z', out)?;
     write_number(b' ', organisms, out)
 }
 
@@ -293,7 +282,7 @@ fn finish(line: Result<(), Memory>, start: usize, out: &mut Vec<u8>) -> Result<(
     ensures ok { OnOk result (out.new.items ≡ out.old.items ++ 10 ∷ []) }
     ensures err { OnErr result (out.new.items ≡ take start out.old.items) }
 {
-    if line.is_ok() && byte(out, b'\n').is_ok() {
+    if line.is_ok() && write_byte(b'\n', out).is_ok() {
         return Ok(());
     }
     out.truncate(start);

@@ -19,7 +19,7 @@ returns-clause-ok c =
     ∙ ap (λ (l : List ℕ). l ++ t) (c.in_ok-nops_and_stacks.ensures.ok
     ∙ ap (λ (l : List ℕ). l ++ s) (c.in_ok-write_numbers.ensures.ok
     ∙ ap (λ (l : List ℕ). l ++ n) (c.in_ok-integers.ensures.ok
-    ∙ ap (λ (l : List ℕ). l ++ r) c.in_ok-byte.ensures.ok)))
+    ∙ ap (λ (l : List ℕ). l ++ r) c.in_ok-write_byte.ensures.ok)))
     ∙ four_texts o r n s t
     ∙ ap (λ (ns : List ℕ). o ++ (r ++ (words ns ++ (s ++ t)))) c.machine_numbers.ensures
     ∙ ap (λ (l : List ℕ). o ++ l) (sym (machine_line image))

@@ -4,7 +4,7 @@ use Rattle.std.proofs.lemmas.List.{take_more, map-append}
 use Rattle.std.proofs.lemmas.Option.{slice_get-get_or, slice_get_within, get_or_from_slice_get}
 use Rattle.instruction_set.specs.declared.letter.Letter.{Letter}
 use Rattle.instruction_set.specs.Letter.{byte_of}
-use Rattle.saved_lines.proofs.writing.nop_letters.Goals.{in-Some+in_ok-byte, in_default}
+use Rattle.saved_lines.proofs.writing.nop_letters.Goals.{in-Some+in_ok-write_byte, in_default}
 use Rattle.saved_lines.proofs.writing.nop_letters.Goals as goal
 
 -- the bytes of one nop more
@@ -24,14 +24,14 @@ slice_get_some (nop ∷ nops) k h = (get_or (nop ∷ nops) k nop, slice_get-get_
 pub loop-at-preserved : goal.loop-at-preserved
 loop-at-preserved c =
     elim c.match-get.branch [
-      | in-Some+in_ok-byte w ↦
+      | in-Some+in_ok-write_byte w ↦
           let found : slice_get c.args.nops.now c.loop-at.at ≡ Some w.in-Some.nop.now =
           sym w.in-Some.ensures in
           let more = bytes_more c.args.nops.now c.loop-at.at w.in-Some.nop.now found in
           rw (
             w.out-is,
-            w.in_ok-byte.ensures.ok,
-            w.byte.ensures,
+            w.in_ok-write_byte.ensures.ok,
+            w.write_byte.ensures,
             c.loop-at.invariant,
             more,
             append_assoc,

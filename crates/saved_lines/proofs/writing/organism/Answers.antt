@@ -18,10 +18,10 @@ returns-clause-ok c =
     let letters = c.letters.result.now in
     let made : List ℕ → List Letter → List ℕ = λ ns ls.
     old ++ ((79 ∷ words_text (words ns ++ map byte_of ls ∷ [])) ++ 10 ∷ []) in
-    OnOk_then c.byte-2.result c.byte-2.ensures.ok (λ last. last
+    OnOk_then c.write_byte-2.result c.write_byte-2.ensures.ok (λ last. last
     ∙ ap (λ (l : List ℕ). l ++ 10 ∷ []) (c.in_ok-text.ensures.ok
     ∙ ap (λ (l : List ℕ). l ++ 32 ∷ map byte_of letters) (c.in_ok-write_numbers.ensures.ok
-    ∙ ap (λ (l : List ℕ). l ++ words_text (words numbers)) c.in_ok-byte.ensures.ok))
+    ∙ ap (λ (l : List ℕ). l ++ words_text (words numbers)) c.in_ok-write_byte.ensures.ok))
     ∙ organism_made old (words numbers) (map byte_of letters)
     ∙ ap (λ (ns : List ℕ). made ns letters) c.organism_numbers.ensures
     ∙ ap (λ (ls : List Letter). made (organism_numbers (organism_values c.args.resident.now)) ls)
