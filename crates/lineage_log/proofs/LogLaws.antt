@@ -1,38 +1,24 @@
 -- A good list of lines has a text that is read as that list, and what is read as a list is the text
 -- of a good one.
-use Rattle.std.proofs.Common.{◌≡◌, ℕ, ◌+◌, ◌<◌, false, List, [], ◌∷◌, ◌++◌, Option, Some, None, Result, Ok, Err, refl, sym, ap, subst, ◌∙◌, arith, append_assoc, inl, inr}
+use Rattle.std.proofs.Common.{◌≡◌, ℕ, ◌+◌, List, [], ◌∷◌, ◌++◌, Option, Some, None, Result, Ok, Err, refl, sym, ap, subst, ◌∙◌, append_assoc, inl, inr}
 use Rattle.std.specs.Prelude.{◌==◌}
 use Rattle.std.specs.List.{slice_split, onto_first, AllByRecursion, join_with_byte}
 use Rattle.std.proofs.lemmas.Bool.{cases_Bool}
-use Rattle.std.proofs.lemmas.Bool.Decides.{nat_tests}
 use Rattle.std.proofs.lemmas.List.Splits.{join_with_byte-slice_split}
 use Rattle.log_lines.specs.Line.{Line}
 use Rattle.log_lines.specs.LineText.{HasForm, row_text}
 use Rattle.log_lines.specs.LineReading.{line_of}
+use Rattle.log_lines.specs.LineSpelling.{OneSpelling}
+use Rattle.log_lines.proofs.FieldLaws.{split_first}
 use Rattle.lineage_log.specs.declared.log_stop.LogStop.{LogStop}
 use Rattle.lineage_log.specs.declared.reason.Reason.{Reason}
 use Rattle.lineage_log.specs.Reader.{Reader}
 use Rattle.lineage_log.specs.Order.{LogPlace, Before, Within, After, told, and_on, told_all, IsWhole}
 use Rattle.lineage_log.specs.LogGrammar.{log_end, with_line, after_told, one_piece, pieces_log, log_of, lines_text, IsGoodLog}
 
--- what is used of the lines' texts
-pub record OneSpelling : Type 0 where
-  pub again : (line : Line) → HasForm line → line_of (row_text line) ≡ Some line
-  pub takes : (bytes : List ℕ) (line : Line) → line_of bytes ≡ Some line → (row_text line ≡ bytes)
-      × HasForm line
-  pub one_line : (line : Line) → HasForm line → AllByRecursion (λ b. 10 < b) (row_text line)
-
 -- the pieces between newlines
 abbrev pub cut : List ℕ → List (List ℕ)
 cut bytes = slice_split (λ b. b == 10) bytes
-
--- a text of bytes above 10 is the first piece, if a newline comes behind it
-pub cut_first : (text rest : List ℕ) → AllByRecursion (λ b. 10 < b) text
-    → cut (text ++ 10 ∷ rest) ≡ text ∷ cut rest
-cut_first [] rest all = refl
-cut_first (b ∷ bs) rest all =
-    let other : (b == 10) ≡ false = grind (arith, nat_tests, all.0) in
-    rw (other, cut_first bs rest all.1) refl
 
 -- a byte put onto the first of some pieces leaves at least one piece
 onto_some : (b : ℕ) (parts : List (List ℕ)) → (next : List ℕ) × (others : List (List ℕ))
@@ -77,7 +63,7 @@ pieces_again spell number place (line ∷ lines) r good fits =
     let text : lines_text (line ∷ lines) ≡ row_text line ++ 10 ∷ rest =
     append_assoc (row_text line) (10 ∷ []) rest in
     let parts : cut (lines_text (line ∷ lines)) ≡ row_text line ∷ some.0 ∷ some.1 =
-    ap cut text ∙ cut_first (row_text line) rest (spell.one_line line fits.0)
+    ap cut text ∙ split_first 10 (row_text line) rest (spell.one_line line fits.0)
     ∙ ap (λ (l : List (List ℕ)). row_text line ∷ l) some.2 in
     let others = λ (p : LogPlace). pieces_log (number + 1) p (some.0 ∷ some.1) in
     let deep : others step.0 ≡ Ok lines =

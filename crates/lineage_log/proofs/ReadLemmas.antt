@@ -12,8 +12,9 @@ use Rattle.lineage_log.specs.declared.refusal.Refusal.TheVariants.{Memory, Fault
 use Rattle.lineage_log.specs.declared.log_stop.LogStop.{LogStop}
 use Rattle.lineage_log.specs.declared.log_stop.LogStop.TheVariants as wanting
 use Rattle.lineage_log.specs.Order.{LogPlace, told}
-use Rattle.lineage_log.specs.LogReading.{TellsPiece}
-use Rattle.lineage_log.specs.Places.{TellsPlace}
+use Rattle.lineage_log.specs.declared.log_reader.LogReader.{LogReader}
+use Rattle.lineage_log.specs.LogReading.{TellsPiece, left_of}
+use Rattle.lineage_log.specs.Places.{TellsPlace, place_of}
 use Rattle.lineage_log.specs.LogGrammar.{stop_at, with_line, one_piece, after_told, pieces_log, log_of, lines_text, Reads, IsGoodLog}
 use Rattle.lineage_log.specs.LogValues.{stop_of, with_front}
 use Rattle.lineage_log.proofs.LogLaws.{cut}
@@ -30,16 +31,15 @@ front_more front one (Ok lines) =
     ap (λ (l : List Line). Ok l) (sym (append_assoc front (one ∷ []) lines))
 front_more front one (Err fault) = refl
 
--- what is left of the bytes begins with a piece before a newline
-pub next_piece : (number : ℕ) (place : LogPlace) (left piece : List ℕ)
-    (others : Option (Bor (List ℕ)))
-    (behind : Bor (List ℕ)) → cut left ≡ piece ∷ pieces_of 10 (option_copied others)
-    → others ≡ Some behind → pieces_log number place (cut left)
-    ≡ pieces_log number place (piece ∷ cut behind.now)
-next_piece number place left piece others behind split is =
-    let pieces : cut left ≡ piece ∷ cut behind.now =
+-- what is left of a log begins with a piece before a newline
+pub next_piece : (reader : LogReader) (piece : List ℕ) (others : Option (Bor (List ℕ)))
+    (behind : Bor (List ℕ)) → cut reader.rest.now ≡ piece ∷ pieces_of 10 (option_copied others)
+    → others ≡ Some behind
+    → left_of reader ≡ pieces_log reader.number (place_of reader.place) (piece ∷ cut behind.now)
+next_piece reader piece others behind split is =
+    let pieces : cut reader.rest.now ≡ piece ∷ cut behind.now =
     split ∙ ap (λ (o : Option (Bor (List ℕ))). piece ∷ pieces_of 10 (option_copied o)) is in
-    ap (λ (ps : List (List ℕ)). pieces_log number place ps) pieces
+    ap (λ (ps : List (List ℕ)). pieces_log reader.number (place_of reader.place) ps) pieces
 
 -- a piece before others, the first of which has a byte put onto it, is read as one line
 more_onto : (number : ℕ) (place : LogPlace) (piece : List ℕ) (b : ℕ) (parts : List (List ℕ))

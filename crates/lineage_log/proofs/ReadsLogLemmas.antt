@@ -7,6 +7,8 @@ use Rattle.std.proofs.lemmas.Bool.Decides.{nat_tests}
 use Rattle.log_lines.specs.Line.{Line}
 use Rattle.log_lines.specs.LineText.{HasForm, line_text, row_text}
 use Rattle.log_lines.specs.LineReading.{line_of}
+use Rattle.log_lines.specs.LineSpelling.{OneSpelling}
+use Rattle.log_lines.proofs.FieldLaws.{split_first}
 use Rattle.lineage_log.specs.declared.log_stop.LogStop.{LogStop}
 use Rattle.lineage_log.specs.declared.log_stop.LogStop.TheVariants as stop
 use Rattle.lineage_log.specs.declared.reason.Reason.{Reason}
@@ -15,7 +17,7 @@ use Rattle.lineage_log.specs.Order.{LogPlace, Before, Within, After, IsWhole, an
 use Rattle.lineage_log.specs.LogGrammar.{log_of, pieces_log, with_line}
 use Rattle.lineage_log.specs.LogValues.{with_front}
 use Rattle.lineage_log.specs.ReadsLog.{BeginsWith, GoodFront, IsFaulty, ReadsLog, lines_text, stop_at}
-use Rattle.lineage_log.proofs.LogLaws.{OneSpelling, cut, cut_first, cut_some, log_takes, place_is, read_back, went_on}
+use Rattle.lineage_log.proofs.LogLaws.{cut, cut_some, log_takes, place_is, read_back, went_on}
 use Rattle.lineage_log.proofs.ReadLemmas.{bad_line, bad_order, front_none, good_line}
 
 -- the bytes have a newline, with the first piece before it
@@ -53,7 +55,7 @@ line_first : (spell : OneSpelling) (line : Line) (rest : List ℕ) → HasForm l
     → cut (line_text line ++ rest) ≡ row_text line ∷ cut rest
 line_first spell line rest fits =
     ap cut (append_assoc (row_text line) (10 ∷ []) rest)
-    ∙ cut_first (row_text line) rest (spell.one_line line fits)
+    ∙ split_first 10 (row_text line) rest (spell.one_line line fits)
 
 -- ---- what the bytes are read as is what log_of gives
 

@@ -2,18 +2,12 @@ use Rattle.std.proofs.Common.{List, Result, subst}
 use Rattle.log_lines.specs.Line.{Line}
 use Rattle.lineage_log.specs.declared.log_stop.LogStop.{LogStop}
 use Rattle.lineage_log.specs.ReadsLog.{ReadsLog}
-use Rattle.lineage_log.proofs.LogLaws.{OneSpelling}
 use Rattle.lineage_log.proofs.ReadsLogLemmas.{log_is_read, reads_one_log}
 use Rattle.lineage_log.proofs.laws.one_answer.Goals as goal
 
 pub returns : goal.returns
 returns c =
-    let spell : OneSpelling =
-    record {
-      again = c.one_spelling.ensures.again;
-      takes = c.one_spelling.ensures.takes;
-      one_line = c.one_spelling.ensures.one_line;
-    } in
+    let spell = c.one_spelling.ensures in
     λ bytes answer. (
       reads_one_log spell bytes answer,
       λ is. subst (λ (a : Result (List Line) LogStop). ReadsLog bytes a) is

@@ -1,25 +1,14 @@
-use Rattle.std.proofs.Common.{◌≡◌, ◌<◌, ◌∷◌, ◌∙◌, ℕ, List, Option, Bor, length, Some, Result, sym, ap, subst}
+use Rattle.std.proofs.Common.{◌≡◌, ◌<◌, ◌∙◌, ℕ, List, Option, Bor, length, Some, Result, sym, ap, subst}
 use Rattle.std.specs.Prelude.{option_map, IfSome}
 use Rattle.log_lines.specs.Line.{line_values}
 use Rattle.log_lines.specs.LineReading.{line_of}
 use Rattle.lineage_log.specs.Order.{told}
-use Rattle.lineage_log.specs.LogGrammar.{pieces_log}
 use Rattle.lineage_log.specs.LogReading.{left_of}
 use Rattle.lineage_log.specs.Places.{TellsPlace, place_of}
 use Rattle.lineage_log.specs.declared.refusal.Refusal.{Refusal}
-use Rattle.lineage_log.proofs.LogLaws.{cut}
 use Rattle.lineage_log.proofs.ReadLemmas.{next_piece, bad_line, bad_order, good_line, refused}
-use Rattle.lineage_log.proofs.log_reader.next_line.Goals.{In-Some, After-tell}
+use Rattle.lineage_log.proofs.log_reader.next_line.Goals.{After-tell}
 use Rattle.lineage_log.proofs.log_reader.next_line.Goals as goal
-
--- what is left begins with a piece before a newline
-begins : (c : In-Some) → left_of c.args.reader.now
-    ≡ pieces_log c.args.reader.now.number (place_of c.args.reader.now.place)
-    (c.split_at.result.0.now ∷ cut c.in-Some.behind.now)
-begins c =
-    next_piece c.args.reader.now.number (place_of c.args.reader.now.place)
-    c.args.reader.now.rest.now c.split_at.result.0.now c.split_at.result.1 c.in-Some.behind
-    c.split_at.ensures.pieces c.in-Some.is
 
 -- the piece has the line that is told
 has_line : (c : After-tell) → line_of c.split_at.result.0.now ≡ Some (line_values c.in-Some-2.line)
@@ -27,7 +16,8 @@ has_line c = sym c.in_ok-line.ensures ∙ ap (option_map line_values) c.in-Some-
 
 pub returns-in_default-2 : goal.returns-in_default-2
 returns-in_default-2 c =
-    λ other. begins (goal.at.returns-in_default-2 c).In-Some
+    λ other. next_piece c.args.reader.now _ _ c.in-Some.behind c.split_at.ensures.pieces
+    c.in-Some.is
     ∙ bad_line c.args.reader.now.number (place_of c.args.reader.now.place)
     c.split_at.result.0.now c.in-Some.behind.now
     (sym c.in_ok-line.ensures ∙ ap (option_map line_values) c.in_default-2.is)
@@ -42,7 +32,8 @@ returns-in-Err c =
     c.tell.ensures in
     λ other. refused c.in-Err.refusal n c.stop_for.result next (told at one)
     (left_of c.args.reader.now) c.stop_for.ensures other bad
-    (λ reason faulty. begins (goal.at.returns-in-Err c).In-Some
+    (λ reason faulty. next_piece c.args.reader.now _ _ c.in-Some.behind c.split_at.ensures.pieces
+    c.in-Some.is
     ∙ bad_order n at c.split_at.result.0.now c.in-Some.behind.now one reason
     (has_line (goal.at.returns-in-Err c).After-tell) faulty)
 
@@ -55,7 +46,8 @@ returns c =
     let good = subst (λ (t : Result (Unit {0}) Refusal). TellsPlace t next (told at one))
     c.in_default-tell.is c.tell.ensures in
     record {
-      left = begins (goal.at.returns c).In-Some
+      left = next_piece c.args.reader.now _ _ c.in-Some.behind c.split_at.ensures.pieces
+          c.in-Some.is
           ∙ good_line n at c.split_at.result.0.now c.in-Some.behind.now one next
           c.in-Some-checked_add.next (has_line (goal.at.returns c).After-tell) good
           c.in-Some-checked_add.ensures.1;

@@ -1,23 +1,11 @@
-use Rattle.std.proofs.Common.{◌≡◌, ◌<◌, ◌∷◌, ◌∙◌, ℕ, List, Option, Bor, Bool, length, Result, Ok, ap, subst}
+use Rattle.std.proofs.Common.{◌<◌, ◌∙◌, ℕ, List, Option, Bor, Bool, length, Result, Ok, subst}
 use Rattle.std.specs.Prelude.{IfSome}
 use Rattle.log_lines.specs.LineReading.{line_of}
-use Rattle.lineage_log.specs.LogGrammar.{pieces_log}
-use Rattle.lineage_log.specs.LogReading.{TellsPiece, left_of}
+use Rattle.lineage_log.specs.LogReading.{TellsPiece}
 use Rattle.lineage_log.specs.Places.{place_of}
 use Rattle.lineage_log.specs.declared.refusal.Refusal.{Refusal}
-use Rattle.lineage_log.proofs.LogLaws.{cut}
 use Rattle.lineage_log.proofs.ReadLemmas.{next_piece, bad_line, good_line, refused_piece}
-use Rattle.lineage_log.proofs.log_reader.tell_next.Goals.{In-Some}
 use Rattle.lineage_log.proofs.log_reader.tell_next.Goals as goal
-
--- what is left begins with a piece before a newline
-begins : (c : In-Some) → left_of c.args.reader.now
-    ≡ pieces_log c.args.reader.now.number (place_of c.args.reader.now.place)
-    (c.split_at.result.0.now ∷ cut c.in-Some.behind.now)
-begins c =
-    next_piece c.args.reader.now.number (place_of c.args.reader.now.place)
-    c.args.reader.now.rest.now c.split_at.result.0.now c.split_at.result.1 c.in-Some.behind
-    c.split_at.ensures.pieces c.in-Some.is
 
 pub returns-in-Ok-false : goal.returns-in-Ok-false
 returns-in-Ok-false c =
@@ -27,7 +15,8 @@ returns-in-Ok-false c =
     at next) c.in-Ok-false.is c.tell_piece.ensures in
     let none = subst (λ (b : Bool). TellsPiece (Ok b) (line_of c.split_at.result.0.now) at next)
     c.in-Ok-false.field-0-test gives in
-    λ other. begins (goal.at.returns-in-Ok-false c).In-Some
+    λ other. next_piece c.args.reader.now _ _ c.in-Some.behind c.split_at.ensures.pieces
+    c.in-Some.is
     ∙ bad_line c.args.reader.now.number at c.split_at.result.0.now c.in-Some.behind.now none
 
 pub returns-in-Err : goal.returns-in-Err
@@ -37,7 +26,8 @@ returns-in-Err c =
     let next = place_of c.tell_piece.new.place in
     let bad = subst (λ (t : Result Bool Refusal). TellsPiece t (line_of c.split_at.result.0.now)
     at next) c.in-Err.is c.tell_piece.ensures in
-    λ other. begins (goal.at.returns-in-Err c).In-Some
+    λ other. next_piece c.args.reader.now _ _ c.in-Some.behind c.split_at.ensures.pieces
+    c.in-Some.is
     ∙ refused_piece n at c.split_at.result.0.now c.in-Some.behind.now c.in-Err.refusal
     c.stop_for.result next c.stop_for.ensures other bad
 
@@ -52,7 +42,8 @@ returns c =
     c.in-Ok-true.field-0-test gives in (
       tells.0,
       record {
-        left = begins (goal.at.returns c).In-Some
+        left = next_piece c.args.reader.now _ _ c.in-Some.behind c.split_at.ensures.pieces
+            c.in-Some.is
             ∙ good_line n at c.split_at.result.0.now c.in-Some.behind.now tells.0 next
             c.in-Some-checked_add.next tells.1 tells.2 c.in-Some-checked_add.ensures.1;
         told = tells.2;
