@@ -1,6 +1,6 @@
 -- What holds of an organism through its life.
-use Rattle.std.proofs.Common.{◌≡◌, refl, sym, ◌∙◌, subst, ℕ, zero, suc, ◌+◌, ◌-◌, ◌<◌, ◌≤◌, ◌^◌, Bool, true, false, cond, Option, Some, None, List, [], ◌∷◌, length, Result, Ok, Err, IsOkAnd, arith, length-append}
-use Rattle.std.specs.List.{All, find, range_with_len}
+use Rattle.std.proofs.Common.{◌≡◌, refl, sym, ◌∙◌, subst, ℕ, zero, suc, ◌+◌, ◌-◌, ◌<◌, ◌≤◌, ◌^◌, Option, Some, None, List, [], ◌∷◌, length, Result, Ok, Err, IsOkAnd, arith, length-append}
+use Rattle.std.specs.List.{All}
 use Rattle.std.proofs.lemmas.List.Elements.{All-nil, All-push}
 use Rattle.instruction_set.specs.declared.letter.Letter.{Letter}
 use Rattle.divide_rules.specs.declared.ask.DivideAsk.{DivideAsk}
@@ -9,6 +9,7 @@ use Rattle.mutations.specs.declared.stop.ApplyStop.{ApplyStop}
 use Rattle.mutations.specs.ChildTexts.{AreTextsOfChild, IsLengthWithin}
 use Rattle.mutations.specs.BirthRecord.{child_of}
 use Rattle.virtual_cpu.specs.Machine.{letter_under_ip}
+use Rattle.virtual_cpu.proofs.WordLemmas.{found-below}
 use Rattle.organism.specs.declared.outcome.Outcome.{Outcome}
 use Rattle.organism.specs.declared.outcome.Outcome.TheVariants as outcome
 use Rattle.organism.specs.SettingNumbers.{SettingNumbers}
@@ -184,22 +185,6 @@ lived-all laws settings are words fits start h (suc steps) =
     subst (λ (n : ℕ). HasLived settings start n
     (life_state_after settings words (beginning start) n))
     one_more here
-
--- what is found is this or among the others
-first-or : (here : Bool) (low n step : ℕ) (others : Option ℕ)
-    → (others ≡ Some step → step < low + 1 + n) → cond here (Some low) others ≡ Some step
-    → step < low + suc n
-first-or true low n step others further found = let same : low ≡ step = cc in omega arith
-first-or false low n step others further found =
-    let lt : step < low + 1 + n = further found in omega arith
-
--- a place that is found is one of those searched
-found-below : (test : ℕ → Bool) (low n step : ℕ) → find test (range_with_len low n) ≡ Some step
-    → step < low + n
-found-below test low zero step found = absurd cc
-found-below test low (suc n) step found =
-    first-or (test low) low n step (find test (range_with_len (low + 1) n))
-    (found-below test (low + 1) n step) found
 
 -- no life has more than its steps
 fewer : (settings : SettingNumbers) (start : OrganismState) (some steps : ℕ) (now : LifeState)
