@@ -1,5 +1,5 @@
 -- One turn of the placing.
-use Rattle.std.proofs.Common.{◌≡◌, ◌∙◌, sym, ap, refl, ℕ, ◌+◌, ◌*◌, ◌<◌, ◌≤◌, true, false, ◌==◌, cond, List, [], ◌∷◌, ◌++◌, length, take, get_or, Option, Some, fold, arith, append_assoc, append-nil, count_by, inl, inr}
+use Rattle.std.proofs.Common.{◌≡◌, ◌∙◌, sym, ap, refl, ℕ, ◌+◌, ◌*◌, ◌<◌, ◌≤◌, true, false, ◌==◌, cond, List, [], ◌∷◌, ◌++◌, length, take, get_or, Option, Some, fold, arith, append_assoc, append-nil, length-append, count_by, inl, inr}
 use Rattle.std.proofs.Math.ListN.{set}
 use Rattle.std.proofs.lemmas.Bool.Decides.{eqb_tells, Decides-eqb}
 use Rattle.std.proofs.lemmas.List.{take_all}
@@ -94,3 +94,25 @@ eqb-below a b below = elim (eqb_tells a b) [ inl h ↦ absurd (omega (arith, h.1
 -- a number is itself
 pub eqb-self : (a : ℕ) → (a == a) ≡ true
 eqb-self a = (Decides-eqb a a).1 refl
+
+-- for each parent there is one placing more
+placed_number : (torus : TorusNumbers) (round : PlacingRound) (board : Board) (parents : List ℕ)
+    → length (fold (next_board torus round) board parents).placings
+    ≡ length board.placings + length parents
+unfolding next_board
+placed_number torus round board [] = omega arith
+placed_number torus round board (parent ∷ parents) =
+    omega (
+      arith,
+      placed_number torus round (next_board torus round board parent) parents,
+      length-append board.placings (next_placing torus round board parent ∷ []),
+    )
+
+-- there are as many placings as parents
+pub placements_number : (torus : TorusNumbers) (parents : List ℕ) (occupants : List (Option ℕ))
+    (round : PlacingRound) → length (placements_of torus parents occupants round).placings
+    ≡ length parents
+unfolding placements_of
+placements_number torus parents occupants round =
+    let empty : Board = record { occupants = occupants; placings = []; parents = [] } in
+    omega (arith, placed_number torus round empty parents)
