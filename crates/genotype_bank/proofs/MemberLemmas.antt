@@ -7,11 +7,11 @@ use Rattle.std.proofs.lemmas.List.Elements.{Contains-get_or, Contains-append_rig
 
 module _ {X : Type 0} where
   -- nothing is in the empty list
-  Contains-nil : (x : X) → Contains [] x → ⊥
+  pub Contains-nil : (x : X) → Contains [] x → ⊥
   Contains-nil x h = let l : h.0 < 0 = h.1 in absurd (omega arith)
 
   -- a member of a list is its first item or a member of the rest
-  Contains-cons_cases : (y : X) (xs : List X) (x : X) → Contains (y ∷ xs) x
+  pub Contains-cons_cases : (y : X) (xs : List X) (x : X) → Contains (y ∷ xs) x
       → (y ≡ x) ⊎ Contains xs x
   Contains-cons_cases y xs x h = by h.0 h.1 h.2
     where
@@ -20,11 +20,11 @@ module _ {X : Type 0} where
       by (suc k) l e = inr (k, (omega arith), e)
 
   -- a member of the rest is a member of the list
-  Contains-cons : (y : X) (xs : List X) (x : X) → Contains xs x → Contains (y ∷ xs) x
+  pub Contains-cons : (y : X) (xs : List X) (x : X) → Contains xs x → Contains (y ∷ xs) x
   Contains-cons y xs x h = Contains-append_right (y ∷ []) xs x h
 
   -- the first item is a member
-  Contains-here : (y : X) (xs : List X) (x : X) → y ≡ x → Contains (y ∷ xs) x
+  pub Contains-here : (y : X) (xs : List X) (x : X) → y ≡ x → Contains (y ∷ xs) x
   Contains-here y xs x e = subst (Contains (y ∷ xs)) e (Contains-get_or (y ∷ xs) 0 y (omega arith))
 
 module _ {X Y : Type 0} (f : X → Option Y) where
