@@ -1,5 +1,5 @@
 -- Newborns are placed in cells of the torus, one placing each.
-use Rattle.std.proofs.Common.{◌≡◌, ℕ, zero, suc, ◌+◌, ◌*◌, ◌/◌, ◌<◌, ◌≤◌, Bool, true, false, cond, List, [], ◌∷◌, ◌++◌, length, Option, arith, length-append}
+use Rattle.std.proofs.Common.{ℕ, zero, suc, ◌+◌, ◌*◌, ◌/◌, ◌<◌, ◌≤◌, Bool, true, false, cond, List, [], ◌∷◌, ◌++◌, length, Option, arith}
 use Rattle.std.specs.Prelude.{◌==◌, count_by, slice_index_or, filter, fold}
 use Rattle.std.specs.List.{AllByRecursion}
 use Rattle.std.proofs.Math.Nat.{mul-le-mul_left, div-lt_iff_lt-mul}
@@ -138,19 +138,6 @@ placed_in torus round board (parent ∷ parents) cells before =
     (all_append (PlacedIn torus) board.placings (next_placing torus round board parent ∷ []) before
     (placing_in torus round board parent cells.0, tt))
 
--- for each parent there is one placing more
-placed_number : (torus : TorusNumbers) (round : PlacingRound) (board : Board) (parents : List ℕ)
-    → length (fold (next_board torus round) board parents).placings
-    ≡ length board.placings + length parents
-unfolding next_board
-placed_number torus round board [] = omega arith
-placed_number torus round board (parent ∷ parents) =
-    omega (
-      arith,
-      placed_number torus round (next_board torus round board parent) parents,
-      length-append board.placings (next_placing torus round board parent ∷ []),
-    )
-
 -- all newborns whose parents are in the torus are placed in it
 pub placements_in : (torus : TorusNumbers) (parents : List ℕ) (occupants : List (Option ℕ))
     (round : PlacingRound) → AllByRecursion (IsCell torus) parents
@@ -159,15 +146,6 @@ unfolding placements_of
 placements_in torus parents occupants round cells =
     placed_in torus round (record { occupants = occupants; placings = []; parents = [] }) parents
     cells tt
-
--- there are as many placings as parents
-pub placements_number : (torus : TorusNumbers) (parents : List ℕ) (occupants : List (Option ℕ))
-    (round : PlacingRound) → length (placements_of torus parents occupants round).placings
-    ≡ length parents
-unfolding placements_of
-placements_number torus parents occupants round =
-    let empty : Board = record { occupants = occupants; placings = []; parents = [] } in
-    omega (arith, placed_number torus round empty parents)
 
 -- the inputs of a newborn have the top bytes
 abbrev pub IsEquipped : Placing → Type 0

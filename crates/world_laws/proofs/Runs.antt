@@ -6,6 +6,7 @@ use Rattle.std.proofs.lemmas.List.{length-map}
 use Rattle.std.proofs.lemmas.List.FromFn.{length-range_with_len}
 use Rattle.std.proofs.lemmas.Slice.Zip.{length-zip}
 use Rattle.birth_board.specs.declared.placing.Placing.{Placing}
+use Rattle.birth_board.proofs.PlacementLemmas.{placements_number}
 use Rattle.lineage_log.specs.Order.{LogPlace, Within}
 use Rattle.lineage_log.specs.Replay.{Seen}
 use Rattle.organism.specs.Lived.{IsSoundOrganism}
@@ -22,7 +23,7 @@ use Rattle.world_laws.proofs.Mirror.{People, between, seen_in, Tells}
 use Rattle.world_laws.proofs.Scenes.{Each, IsScene}
 use Rattle.world_laws.proofs.UpdateLines.{IsWhat, IsEvent}
 use Rattle.world_laws.proofs.Updates.{IsWorld, people_after, world_left, scene_begun, begun_is, seen_begun, AreTurns, scene_last, lives_tell}
-use Rattle.world_laws.proofs.Placements.{placements_in, placements_number}
+use Rattle.world_laws.proofs.Placements.{placements_in}
 use Rattle.world_laws.proofs.LivesLemmas.{AreLives, lives_are}
 use Rattle.world_laws.proofs.AfterLives.{IsDelivery, left_by, folk_kept, births_lawful, turns_lawful}
 use Rattle.world_laws.specs.Bounds.{IsConfig, size_of, FitsWhat}
