@@ -1,12 +1,10 @@
 -- The genomes of all organisms that were ever in a world, through an update.
-use Rattle.std.proofs.Common.{◌≡◌, ◌∙◌, refl, sym, ap, ℕ, zero, suc, ◌+◌, List, [], ◌∷◌, ◌++◌, length, map, fold, Option, None, Some, arith, append_assoc, append-nil, length-append, add-one}
+use Rattle.std.proofs.Common.{◌≡◌, ◌∙◌, refl, sym, ap, ℕ, zero, suc, ◌+◌, List, [], ◌∷◌, ◌++◌, length, map, fold, Option, None, Some, arith, append_assoc, append-nil, add-one}
 use Rattle.std.specs.List.{AllByRecursion, zip, flat_map, filter_map, cons_option, enumerate_from, range_with_len}
 use Rattle.std.specs.Option.{option_to_list}
 use Rattle.std.proofs.lemmas.List.{map-append, length-map}
 use Rattle.birth_board.specs.declared.placing.Placing.{Placing}
-use Rattle.birth_board.specs.declared.placing_round.PlacingRound.{PlacingRound}
-use Rattle.birth_board.specs.Placement.{Board, next_placing, next_board, placements_of}
-use Rattle.birth_board.specs.Torus.{TorusNumbers}
+use Rattle.birth_board.proofs.PlacementLemmas.{placements_number}
 use Rattle.instruction_set.specs.declared.letter.Letter.{Letter}
 use Rattle.lineage_log.specs.Links.{Link}
 use Rattle.organism.specs.Newborns.{NewbornValue}
@@ -161,34 +159,13 @@ events_update config scene [] = refl
 events_update config scene (event ∷ events) =
     events_update config (after_event config scene event) events ∙ event_update config scene event
 
--- a board has a placing for each parent
-placed_number : (torus : TorusNumbers) (round : PlacingRound) (board : Board) (parents : List ℕ)
-    → length (fold (next_board torus round) board parents).placings
-    ≡ length board.placings + length parents
-unfolding next_board
-placed_number torus round board [] = omega arith
-placed_number torus round board (parent ∷ parents) =
-    omega (
-      arith,
-      placed_number torus round
-          (next_board torus round board parent) parents,
-      length-append board.placings
-          (next_placing torus round board parent ∷ []),
-    )
-
 -- there is a placing for each newborn
 placings_number : (config : ConfigValues) (scene : Scene) (births : List Delivery)
     → length (placings_of config scene births) ≡ length births
-unfolding placings_of placements_of
+unfolding placings_of
 placings_number config scene births =
-    let empty : Board = record { occupants = ids_of scene.cells; placings = []; parents = [] } in
-    omega (
-      arith,
-      placed_number (torus_of config)
-          (placing_round_at config scene.update (next_id scene)) empty
-          (map (λ b. b.cell) births),
-      length-map births (λ (b : Delivery). b.cell),
-    )
+    placements_number (torus_of config) (map (λ b. b.cell) births) (ids_of scene.cells)
+    (placing_round_at config scene.update (next_id scene)) ∙ length-map births (λ b. b.cell)
 
 module _ (config : ConfigValues) (w : World) (lives : List CellLife) where
   -- the scene once the dead have left

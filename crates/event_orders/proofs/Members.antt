@@ -1,33 +1,12 @@
 -- Members of lists that are made of others.
-use Rattle.std.proofs.Common.{◌≡◌, ◌++◌, Some, ◌⊎◌, ℕ, zero, suc, ◌<◌, List, [], ◌∷◌, length, get_or, map, Contains, refl, sym, subst, ap, ◌∙◌, inl, inr, ⊎_elim, arith, length-append}
+use Rattle.std.proofs.Common.{◌≡◌, ◌++◌, Some, ◌⊎◌, ℕ, zero, suc, ◌<◌, List, [], ◌∷◌, length, map, Contains, refl, sym, subst, ap, ◌∙◌, inl, inr, ⊎_elim, arith, length-append}
 use Rattle.std.specs.Prelude.{◌-◌, slice_get}
 use Rattle.std.specs.List.{flat_map, range_with_len}
-use Rattle.std.proofs.lemmas.List.Elements.{Contains-get_or, Contains-append_left, Contains-append_right, Contains-append_cases}
+use Rattle.std.proofs.lemmas.List.Elements.{Contains-append_left, Contains-append_right, Contains-append_cases}
 use Rattle.std.proofs.lemmas.List.FromFn.{length-map-range_with_len, get_or-map-range_with_len}
 use Rattle.std.proofs.lemmas.Option.{slice_get_within}
+pub use Rattle.genotype_bank.proofs.MemberLemmas.{Contains-nil, Contains-cons_cases, Contains-cons, Contains-here}
 use Rattle.published_world.specs.PublicationHistory.{last_of}
-
-module _ {X : Type 0} where
-  -- nothing is in the empty list
-  pub Contains-nil : (x : X) → Contains [] x → ⊥
-  Contains-nil x h = let l : h.0 < 0 = h.1 in absurd (omega arith)
-
-  -- a member is the first or one of the rest
-  pub Contains-cons_cases : (y : X) (xs : List X) (x : X) → Contains (y ∷ xs) x
-      → (y ≡ x) ⊎ Contains xs x
-  Contains-cons_cases y xs x h = by h.0 h.1 h.2
-    where
-      by : (k : ℕ) → k < length (y ∷ xs) → get_or (y ∷ xs) k x ≡ x → (y ≡ x) ⊎ Contains xs x
-      by zero l e = inl e
-      by (suc k) l e = inr (k, (omega arith), e)
-
-  -- a member of the rest is one
-  pub Contains-cons : (y : X) (xs : List X) (x : X) → Contains xs x → Contains (y ∷ xs) x
-  Contains-cons y xs x h = Contains-append_right (y ∷ []) xs x h
-
-  -- the first is a member
-  pub Contains-here : (y : X) (xs : List X) (x : X) → y ≡ x → Contains (y ∷ xs) x
-  Contains-here y xs x e = subst (Contains (y ∷ xs)) e (Contains-get_or (y ∷ xs) 0 y (omega arith))
 
 module _ {X A : Type 0} (f : X → List A) where
   -- a member of what one of the items gives is a member of all that they give
