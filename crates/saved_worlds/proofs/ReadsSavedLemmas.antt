@@ -3,7 +3,7 @@ use Rattle.std.proofs.Common.{◌≡◌, ℕ, ◌+◌, ◌<◌, List, [], ◌∷
 use Rattle.std.specs.Prelude.{◌≢◌, flat_map, option_and_then}
 use Rattle.std.specs.List.{AllByRecursion, join_with_byte}
 use Rattle.std.proofs.lemmas.List.Splits.{join_with_byte-slice_split}
-use Rattle.log_lines.proofs.FieldLaws.{some_then}
+use Rattle.log_lines.proofs.FieldLaws.{some_then, split_first}
 use Rattle.saved_lines.specs.SavedForms.{HasSavedForm}
 use Rattle.saved_lines.specs.SavedReading.{saved_line_of}
 use Rattle.saved_lines.specs.SavedText.{SavedLine, saved_line_text, saved_row_text}
@@ -13,7 +13,7 @@ use Rattle.saved_worlds.specs.declared.saved_stop.SavedStop.{SavedStop}
 use Rattle.saved_worlds.specs.declared.saved_stop.SavedStop.TheVariants as stop
 use Rattle.saved_worlds.specs.SavedGrammar.{SavedPlace, Before, Among, Halfway, After, after_saved_line, last_saved_piece, one_saved_piece, pieces_state, saved_of, told_saved_line}
 use Rattle.saved_worlds.specs.ReadsSaved.{BeginsWithLine, EndsSaved, ReadsSaved, told_saved_lines}
-use Rattle.saved_worlds.proofs.SavedPieces.{cut, cut_line, cut_parts, cut_some, line_on, line_told}
+use Rattle.saved_worlds.proofs.SavedPieces.{cut, cut_parts, cut_some, line_on, line_told}
 
 -- a line and its newline before other bytes
 line_before : (line : SavedLine) (rest : List ℕ)
@@ -25,7 +25,7 @@ begins_cut : (bytes : List ℕ) (begin : BeginsWithLine bytes)
     → cut bytes ≡ saved_row_text begin.line ∷ cut begin.rest
 begins_cut bytes begin =
     ap cut (sym begin.text ∙ line_before begin.line begin.rest)
-    ∙ cut_line (saved_row_text begin.line) begin.rest
+    ∙ split_first 10 (saved_row_text begin.line) begin.rest
     (line_plain numbers_spell begin.line begin.form)
 
 -- only one piece is no line with its newline

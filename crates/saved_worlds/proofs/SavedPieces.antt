@@ -1,41 +1,14 @@
 -- The pieces of a saved world's bytes.
-use Rattle.std.proofs.Common.{◌≡◌, ℕ, ◌+◌, ◌<◌, false, true, List, [], ◌∷◌, ◌++◌, Option, Some, Result, refl, sym, ap, subst, ◌∙◌, arith, inl, inr}
+use Rattle.std.proofs.Common.{◌≡◌, ℕ, ◌+◌, ◌<◌, List, [], ◌∷◌, ◌++◌, Option, Some, refl, sym, ap, subst, ◌∙◌, arith, inl, inr}
 use Rattle.std.specs.Prelude.{◌==◌}
-use Rattle.std.specs.List.{slice_split, onto_first, AllByRecursion}
+use Rattle.std.specs.List.{onto_first, AllByRecursion}
 use Rattle.std.proofs.lemmas.Bool.{cases_Bool}
 use Rattle.std.proofs.lemmas.Bool.Decides.{nat_tests}
+use Rattle.log_lines.proofs.FieldLaws.{split_first}
+pub use Rattle.lineage_log.proofs.LogLaws.{cut, cut_some}
 use Rattle.saved_lines.specs.SavedReading.{saved_line_of}
 use Rattle.saved_lines.specs.SavedText.{SavedLine}
-use Rattle.saved_worlds.specs.SavedState.{SavedState}
-use Rattle.saved_worlds.specs.declared.saved_stop.SavedStop.{SavedStop}
 use Rattle.saved_worlds.specs.SavedGrammar.{SavedPlace, after_saved_line, one_saved_piece, pieces_state, told_saved_line}
-
--- the pieces between newlines
-abbrev pub cut : List ℕ → List (List ℕ)
-cut bytes = slice_split (λ b. b == 10) bytes
-
--- a byte put onto the first of some pieces leaves at least one piece
-onto_some : (b : ℕ) (parts : List (List ℕ))
-    → (next : List ℕ) × (others : List (List ℕ)) × (onto_first b parts ≡ next ∷ others)
-onto_some b [] = (b ∷ [], [], refl)
-onto_some b (part ∷ parts) = (b ∷ part, parts, refl)
-
--- any bytes have at least one piece
-pub cut_some : (bytes : List ℕ)
-    → (next : List ℕ) × (others : List (List ℕ)) × (cut bytes ≡ next ∷ others)
-cut_some [] = ([], [], refl)
-cut_some (b ∷ bs) = elim (cases_Bool (b == 10)) [
-  | inl is ↦ ([], cut bs, rw is refl)
-  | inr not ↦ let r = onto_some b (cut bs) in (r.0, r.1, rw not r.2)
-]
-
--- a line before others is a piece of its own
-pub cut_line : (text rest : List ℕ) → AllByRecursion (λ b. 10 < b) text
-    → cut (text ++ 10 ∷ rest) ≡ text ∷ cut rest
-cut_line [] rest all = refl
-cut_line (b ∷ bs) rest all =
-    let other : (b == 10) ≡ false = grind (arith, nat_tests, all.0) in
-    rw (other, cut_line bs rest all.1) refl
 
 -- the first of several pieces begins with the byte that was put onto it
 onto_parts : (b : ℕ) (parts : List (List ℕ)) (piece next : List ℕ) (pieces : List (List ℕ))
@@ -90,7 +63,7 @@ pub line_told : (number : ℕ) (place : SavedPlace) (told : Option SavedPlace) (
     ≡ after_saved_line number told (λ p. pieces_state (number + 1) p (cut rest))
 line_told number place told text rest line plain is fits =
     let others = λ (p : SavedPlace). pieces_state (number + 1) p (cut rest) in
-    ap (λ (l : List (List ℕ)). pieces_state number place l) (cut_line text rest plain)
+    ap (λ (l : List (List ℕ)). pieces_state number place l) (split_first 10 text rest plain)
     ∙ more_pieces number place text rest
     ∙ ap (λ (o : Option SavedLine). one_saved_piece number place o others) is
     ∙ ap (λ (t : Option SavedPlace). after_saved_line number t others) fits
