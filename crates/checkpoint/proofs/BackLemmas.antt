@@ -1,10 +1,9 @@
 -- A saved world that is written is read again.
-use Rattle.std.proofs.Common.{◌≡◌, ℕ, ◌+◌, ◌*◌, ◌<◌, ◌≤◌, ◌==◌, Bool, true, false, List, [], ◌∷◌, ◌++◌, Option, Some, None, Result, Ok, length, replicate, refl, sym, ap, subst, ◌∙◌, arith, append_assoc, append-nil, length-append, eq-eqb}
+use Rattle.std.proofs.Common.{◌≡◌, ℕ, ◌+◌, ◌*◌, ◌<◌, ◌≤◌, Bool, true, List, [], ◌∷◌, ◌++◌, Option, Some, None, Result, Ok, length, replicate, refl, sym, ap, subst, ◌∙◌, arith, append_assoc, append-nil, length-append, eq-eqb}
 use Rattle.std.specs.List.{enumerate_from, flat_map, AllByRecursion}
 use Rattle.std.specs.Prelude.{cond, fold, is_some}
 use Rattle.std.proofs.lemmas.List.Sums.{sum_by-cons}
 use Rattle.std.proofs.Math.Seq.{set-append_seam}
-use Rattle.std.proofs.lemmas.Bool.Decides.{nat_tests}
 use Rattle.world_rules.specs.World.{Occupant, id_of, ids_of}
 use Rattle.virtual_cpu.specs.Image.{image_of, machine_of_image}
 use Rattle.virtual_cpu.specs.Machine.{Machine, IsMachine}
@@ -13,10 +12,11 @@ use Rattle.log_lines.specs.Fields.{given}
 use Rattle.saved_lines.specs.SavedValues.{HeadValues}
 use Rattle.saved_lines.specs.SavedForms.{HasSavedForm}
 use Rattle.saved_lines.specs.SavedReading.{saved_line_of}
-use Rattle.saved_lines.specs.SavedText.{count_text, machine_text, organism_text, saved_head_text, saved_row_text, SavedLine, Head, Organism, Machine as MachineLine, Count}
+use Rattle.saved_lines.specs.SavedSpelling.{OneSpelling}
+use Rattle.saved_lines.specs.SavedText.{count_text, machine_text, organism_text, saved_head_text, saved_row_text, Head, Organism, Machine as MachineLine, Count}
 use Rattle.saved_worlds.specs.SavedState.{SavedState}
 use Rattle.saved_worlds.specs.declared.saved_stop.SavedStop.{SavedStop}
-use Rattle.saved_worlds.specs.SavedGrammar.{SavedPlace, Before, Among, Halfway, After, Placed, after_saved_line, may_follow, may_stand, one_saved_piece, pieces_state, placed_of, saved_of, state_of_lines, told_saved_line, with_placed}
+use Rattle.saved_worlds.specs.SavedGrammar.{Before, Among, Halfway, After, Placed, may_follow, may_stand, pieces_state, placed_of, saved_of, state_of_lines, told_saved_line, with_placed}
 use Rattle.saved_worlds.specs.SavedWorldText.{cell_text, saved_text, slot_text, values_in}
 use Rattle.saved_worlds.specs.ValidState.{AreSaved}
 use Rattle.checkpoint.specs.Writable.{IsWritable}
@@ -141,14 +141,7 @@ cells_on number head placed first (Some o ∷ cells) rest back =
           (append_assoc placed (one ∷ []) (standing_from (first + 1) cells)),
     )
 
--- what is used of the spelling of lines
-pub record OneSpelling : Type 0 where
-  pub again : (line : SavedLine) → HasSavedForm line
-      → saved_line_of (saved_row_text line) ≡ Some line
-  pub one_line : (line : SavedLine) → HasSavedForm line
-      → AllByRecursion (λ b. 10 < b) (saved_row_text line)
-
--- and of images
+-- what is used of images
 abbrev pub WholeImages : Type 0
 WholeImages = (m : Machine) → IsMachine m → machine_of_image (image_of m) m.birth_length m.limit ≡ m
 
