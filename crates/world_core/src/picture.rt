@@ -9,7 +9,7 @@ ghost use Rattle.world_rules.specs.Picture.{dominant_words, picture_of, picture_
 use avida_port::Memory;
 use census::Dominant;
 use genome::letters_text;
-use log_lines::write_number;
+use log_lines::{write_byte, write_number};
 use published_world::Picture;
 use std::alloc::Global;
 use std::marker::Model;
@@ -88,11 +88,11 @@ fn write_picture(picture: &WorldPicture, out: &mut Vec<u8>) -> Result<(), Memory
         ++ picture_text (picture_of (values_of picture.now.config.value) picture.now.update)) }
     ensures err { OnErr result (Keeps out.old.items out.new.items) }
 {
-    byte(b'W', out)?;
+    write_byte(b'W', out)?;
     write_number(b' ', u64::from(picture.update), out)?;
     write_counts(picture, out)?;
     write_dominant(&picture.dominant, out)?;
-    byte(b'\n', out)
+    write_byte(b'\n', out)
 }
 
 /// How many live, their genotypes, and the sum of their merits.
@@ -118,21 +118,13 @@ fn write_dominant(dominant: &Option<Dominant>, out: &mut Vec<u8>) -> Result<(), 
     match dominant {
         Some(dominant) => {
             write_number(b' ', dominant.count, out)?;
-            byte(b' ', out)?;
+            write_byte(b' ', out)?;
             letters_text(&dominant.genome, out)
         }
         None => {
             write_number(b' ', 0, out)?;
-            byte(b' ', out)?;
-            byte(b'-', out)
+            write_byte(b' ', out)?;
+            write_byte(b'-', out)
         }
     }
-}
-
-/// A byte.
-fn byte(value: u8, out: &mut Vec<u8>) -> Result<(), Memory>
-    ensures ok { OnOk result (out.new.items ≡ out.old.items ++ value ∷ []) }
-    ensures err { OnErr result (out.new.items ≡ out.old.items) }
-{
-    out.push(value).map_err(|_| Memory)
 }
