@@ -68,6 +68,13 @@ impl Genome {
         }
     }
 
+    /// The letters, in order, as a vector that holds them where they are. It takes no memory.
+    pub fn into_vec(self) -> Vec<Letter>
+        ensures letters { result.items ≡ letters self }
+    {
+        self.letters
+    }
+
     /// The genome of a vector's letters, which stay where they are. It takes no memory.
     pub fn from_vec(from: Vec<Letter>) -> Result<Genome, GenomeStop>
         ensures ok { IfOk result (λ genome. letters genome ≡ from.items) }
