@@ -19,20 +19,31 @@ pub fn apply(alloc: Global, parent: &Genome, origin: &Origin) -> Result<Genome, 
     ensures refused { IfErr result (λ stop. stop ≢ ApplyStop.Memory
         → child_of (letters parent.now) (record_of origin.now) ≡ Err stop) }
 {
+    apply_in(Vec::new(alloc), parent, origin)
+}
+
+/// What `apply` gives, with the child's letters in `room`, in place of what it holds. It takes
+/// memory only where the room is too small.
+pub fn apply_in(room: Vec<Letter>, parent: &Genome, origin: &Origin) -> Result<Genome, ApplyStop>
+    ensures ok { IfOk result (λ child.
+        child_of (letters parent.now) (record_of origin.now) ≡ Ok (letters child)) }
+    ensures refused { IfErr result (λ stop. stop ≢ ApplyStop.Memory
+        → child_of (letters parent.now) (record_of origin.now) ≡ Err stop) }
+{
     let base = match &origin.base {
         Base::Parent => parent.letters(),
         Base::Written(written) => written.letters(),
     };
-    changed(alloc, base, origin.changes.as_slice())
+    changed(room, base, origin.changes.as_slice())
 }
 
-fn changed(alloc: Global, base: &[Letter], changes: &[Change]) -> Result<Genome, ApplyStop>
+fn changed(room: Vec<Letter>, base: &[Letter], changes: &[Change]) -> Result<Genome, ApplyStop>
     requires { IsGenome base.now }
     ensures ok { IfOk result (λ child. text_after 1 changes.now base.now ≡ Ok (letters child)) }
     ensures refused { IfErr result (λ stop. stop ≢ ApplyStop.Memory
         → text_after 1 changes.now base.now ≡ Err stop) }
 {
-    let Ok(mut text) = roomy_copy(alloc, base, changes.len()) else {
+    let Ok(mut text) = roomy_copy(room, base, changes.len()) else {
         return Err(ApplyStop::Memory);
     };
     for (before, change) in changes.iter().enumerate() {
@@ -44,11 +55,20 @@ fn changed(alloc: Global, base: &[Letter], changes: &[Change]) -> Result<Genome,
     }
 }
 
+/// The most letters that a room has to spare once a child is in it.
+const SPARE: usize = 16;
+
 /// The base's letters, with room for so many more: a change makes the text longer by at most one.
-fn roomy_copy(alloc: Global, base: &[Letter], more: usize) -> Result<Vec<Letter>, AllocError>
+fn roomy_copy(room: Vec<Letter>, base: &[Letter], more: usize) -> Result<Vec<Letter>, AllocError>
     ensures { IfOk result (λ text. text.items ≡ base.now) }
 {
-    let mut text = Vec::with_capacity(alloc, base.len().saturating_add(more))?;
+    let needed = base.len().saturating_add(more);
+    let mut text = room;
+    text.clear();
+    if text.capacity() > needed.saturating_add(SPARE) {
+        text.shrink_to(needed);
+    }
+    text.reserve_exact(needed)?;
     text.extend_from_slice(base)?;
     Ok(text)
 }

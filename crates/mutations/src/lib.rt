@@ -19,7 +19,7 @@ mod stop;
 pub use base::Base;
 pub use born::Born;
 pub use change::{Change, Changes};
-pub use child::apply;
+pub use child::{apply, apply_in};
 pub use copying::copy_error;
 pub use dividing::divide_errors;
 pub use limits::Limits;
