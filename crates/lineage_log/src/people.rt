@@ -5,6 +5,7 @@ ghost use Rattle.lineage_log.specs.People.{without};
 
 use avida_port::Memory;
 use genome::Genome;
+use instruction_set::Letter;
 use std::alloc::Global;
 use std::marker::Model;
 use std::rc::Rc;
@@ -13,6 +14,8 @@ use std::rc::Rc;
 #[derive(Drop)]
 pub struct People {
     genomes: Vec<Option<Rc<Genome>>>,
+    /// The letters' room of those who were forgotten last, for those who come.
+    rooms: Vec<Vec<Letter>>,
 }
 
 impl Model for People {
@@ -34,6 +37,7 @@ impl People {
         let founder = shared_copy(alloc, genome)?;
         let mut people = People {
             genomes: Vec::new(alloc),
+            rooms: Vec::new(alloc),
         };
         people.push(founder)?;
         Ok(people)
@@ -69,15 +73,38 @@ impl People {
     {
         let place = id as usize;
         if place < self.genomes.len() {
-            self.genomes[place] = None;
+            let forgotten = self.genomes[place].take();
+            keep_room(&mut self.rooms, forgotten);
         }
     }
 
+    /// The room of those who were forgotten before goes, so that no more is kept than the dead of
+    /// one update had.
     pub fn forget_all(&mut self, ids: &[u64])
         ensures { self.new ≡ without ids.now self.old }
     {
+        self.rooms.clear();
         for id in ids {
             self.forget(*id);
+        }
+    }
+
+    /// Room for the letters of a genome: that of one who was forgotten, or an empty vector.
+    pub fn room(&mut self, alloc: Global) -> Vec<Letter>
+        ensures { self.new ≡ self.old }
+    {
+        match self.rooms.pop() {
+            Some(room) => room,
+            None => Vec::new(alloc),
+        }
+    }
+}
+
+/// Keeps the letters' room of a genome that nobody shares. Where memory runs out, it goes.
+fn keep_room(rooms: &mut Vec<Vec<Letter>>, forgotten: Option<Rc<Genome>>) {
+    if let Some(shared) = forgotten {
+        if let Some(genome) = Rc::into_inner(shared) {
+            let _ = rooms.push(genome.into_vec());
         }
     }
 }

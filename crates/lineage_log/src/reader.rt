@@ -7,7 +7,7 @@ ghost use Rattle.lineage_log.specs.Slots.{holds, taken};
 ghost use Rattle.lineage_log.specs.Reader.{is_quiet, may_be_born, may_die, parent_in, reader_with_death, reader_with_newcomer};
 ghost use Rattle.lineage_log.specs.Order.{told_birth, told_cleared, told_count, told_death, told_end, told_injected, told_rate, told_start, may_happen, at_next_update, told, Within, After};
 
-use crate::child::child_of_shared;
+use crate::child::{child_in, is_unchanged};
 use crate::people::{People, shared_copy};
 use crate::reason::Reason;
 use crate::refusal::{OUT_OF_ORDER, Refusal};
@@ -204,12 +204,22 @@ impl Reader {
         }
     }
 
-    fn child(&self, alloc: Global, parent: u64, origin: &Origin) -> Result<Rc<Genome>, Refusal>
-        ensures { MakesChild result (parent_in (reader_of self.now) parent) (record_of origin.now) }
+    /// The child's genome. Where nothing is changed it is the parent's, which they share.
+    fn child(&mut self, alloc: Global, parent: u64, origin: &Origin) -> Result<Rc<Genome>, Refusal>
+        ensures child { MakesChild result (parent_in (reader_of self.old) parent)
+            (record_of origin.now) }
+        ensures stays { reader_of self.new ≡ reader_of self.old }
     {
+        if is_unchanged(origin) {
+            return match self.parent(parent) {
+                None => Err(Refusal::Faulty(Reason::UnknownParent)),
+                Some(genome) => Ok(genome.clone()?),
+            };
+        }
+        let room = self.people.room(alloc);
         match self.parent(parent) {
             None => Err(Refusal::Faulty(Reason::UnknownParent)),
-            Some(genome) => child_of_shared(alloc, genome, origin),
+            Some(genome) => child_in(alloc, room, genome, origin),
         }
     }
 

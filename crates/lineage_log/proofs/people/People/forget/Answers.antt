@@ -4,16 +4,11 @@ use Rattle.instruction_set.specs.declared.letter.Letter.{Letter}
 use Rattle.std.specs.declared.rc.Rc.{Rc}
 use Rattle.genome.specs.declared.genome.Genome.{Genome}
 use Rattle.genome.specs.Genome.{letters}
-use Rattle.lineage_log.proofs.people.People.forget.Goals.{in-Some-1, in-None-1}
 use Rattle.lineage_log.proofs.people.People.forget.Goals as goal
 
 pub returns-then-place-len : goal.returns-then-place-len
 returns-then-place-len c =
-    let genomes = c.self.inside.genomes.items in
     let seen = map-set (λ (found : Option (Rc Genome Global)).
-    option_map (λ shared. letters shared.value) found) genomes c.args.id None
+    option_map (λ shared. letters shared.value) found) c.self.inside.genomes.items c.args.id None
     ∙ ap (λ (l : List (Option (List Letter))). set l c.args.id None) c.self.view_is in
-    elim c.match-index_mut.branch [
-      | in-Some-1 w ↦ w.self-is ∙ seen
-      | in-None-1 w ↦ w.self-is ∙ seen
-    ]
+    rw c.take-forgotten.ensures.after seen
