@@ -1,5 +1,5 @@
 -- The digits in front of a rest, and the word that they are or begin.
-use Rattle.std.proofs.Common.{◌≡◌, ℕ, ◌<◌, ◌≤◌, ◌-◌, length, get_or, suc, ◌+◌, Bool, true, false, cond, List, [], ◌∷◌, take, drop, length-drop, refl, sym, ap, subst, ◌∙◌, arith, inl, inr, Option, Some, None}
+use Rattle.std.proofs.Common.{◌≡◌, ℕ, ◌<◌, ◌≤◌, ◌-◌, length, get_or, suc, ◌+◌, Bool, true, false, cond, List, [], ◌∷◌, ◌++◌, take, drop, length-drop, refl, sym, ap, subst, ◌∙◌, arith, inl, inr, Option, Some, None}
 use Rattle.std.specs.Prelude.{◌&&◌, ◌==◌, not, is_some, option_map}
 use Rattle.std.specs.Char.{is_ascii_digit}
 use Rattle.std.specs.List.{slice_split, onto_first}
@@ -45,7 +45,7 @@ one_more : (n : ℕ) → 1 + n ≡ suc n
 one_more n = omega arith
 
 -- a digit is put before the digits
-digits_on : (b : ℕ) (bs : List ℕ) → is_ascii_digit b ≡ true
+pub digits_on : (b : ℕ) (bs : List ℕ) → is_ascii_digit b ≡ true
     → leading_digits (b ∷ bs) ≡ b ∷ leading_digits bs
 digits_on b bs is = rw (is, one_more (digits_len bs)) refl
 
@@ -55,13 +55,21 @@ behind_on : (b : ℕ) (bs : List ℕ) → is_ascii_digit b ≡ true
 behind_on b bs is = rw (is, one_more (digits_len bs)) refl
 
 -- another byte has no digits
-no_digits : (b : ℕ) (bs : List ℕ) → is_ascii_digit b ≡ false → leading_digits (b ∷ bs) ≡ []
+pub no_digits : (b : ℕ) (bs : List ℕ) → is_ascii_digit b ≡ false → leading_digits (b ∷ bs) ≡ []
 no_digits b bs isnt = rw isnt refl
 
 -- behind no digits stands the whole
 behind_none : (b : ℕ) (bs : List ℕ) → is_ascii_digit b ≡ false
     → drop (digits_len (b ∷ bs)) (b ∷ bs) ≡ b ∷ bs
 behind_none b bs isnt = rw isnt refl
+
+-- the digits in front, and what follows them
+pub digits_split : (bytes : List ℕ) → leading_digits bytes ++ drop (digits_len bytes) bytes ≡ bytes
+digits_split [] = refl
+digits_split (b ∷ bs) = elim (cases_Bool (is_ascii_digit b)) [
+  | inl is ↦ rw (digits_on b bs is, behind_on b bs is) (ap (λ (l : List ℕ). b ∷ l) (digits_split bs))
+  | inr isnt ↦ rw (no_digits b bs isnt, behind_none b bs isnt) refl
+]
 
 -- a conjunction with false
 and_false : (v : Bool) → (v && false) ≡ false

@@ -12,3 +12,4 @@ pub mod GenomeLemmas
 mod FrontLemmas
 mod BeginLemmas
 mod MarkLemmas
+mod ListedLemmas

@@ -60,31 +60,65 @@ front_more {A = A} items k item low =
     ∙ ap (λ (a : A). take k items ++ a ∷ []) (get_or-set_same items k item item low)
 
 -- something is not nothing
-some_none : (n : ℕ) (behind : List (List ℕ))
-    → ◌≡◌ {A = Option (ℕ × List (List ℕ))} (Some (n, behind)) None → ⊥
-some_none n behind is = cc
+some_none : {A : Type 0} (a : A) (behind : List (List ℕ))
+    → ◌≡◌ {A = Option (A × List (List ℕ))} (Some (a, behind)) None → ⊥
+some_none a behind is = cc
 
 -- a first word that is read, and the words behind it
-same_first : (words behind : List (List ℕ)) (n : ℕ) (o : Option ℕ)
-    → ◌≡◌ {A = Option (ℕ × List (List ℕ))} (Some (n, behind)) (option_map (λ a. (a, words)) o)
-    → (words ≡ behind) × (o ≡ Some n)
-same_first words behind n None is = absurd (some_none n behind is)
-same_first words behind n (Some a) is =
-    let given : ℕ × List (List ℕ) = (n, behind) in
-    let found : ℕ × List (List ℕ) = (a, words) in
+same_first : {A : Type 0} (words behind : List (List ℕ)) (a : A) (o : Option A)
+    → ◌≡◌ {A = Option (A × List (List ℕ))} (Some (a, behind)) (option_map (λ b. (b, words)) o)
+    → (words ≡ behind) × (o ≡ Some a)
+same_first words behind a None is = absurd (some_none a behind is)
+same_first {A = A} words behind a (Some b) is =
+    let given : A × List (List ℕ) = (a, behind) in
+    let found : A × List (List ℕ) = (b, words) in
     let pair : given ≡ found = cc in (
-      sym (ap (λ (p : ℕ × List (List ℕ)). p.1) pair),
-      ap Some (sym (ap (λ (p : ℕ × List (List ℕ)). p.0) pair)),
+      sym (ap (λ (p : A × List (List ℕ)). p.1) pair),
+      ap Some (sym (ap (λ (p : A × List (List ℕ)). p.0) pair)),
     )
 
 -- the first word of what is read
-first_parts : (read : List ℕ → Option ℕ) (left behind : List (List ℕ)) (n : ℕ)
-    → Some (n, behind) ≡ read_first read left → (word : List ℕ) × (left ≡ word ∷ behind)
-    × (read word ≡ Some n)
-first_parts read [] behind n is = absurd cc
-first_parts read (word ∷ words) behind n is =
-    let same = same_first words behind n (read word) is in
+first_parts : {A : Type 0} (read : List ℕ → Option A) (left behind : List (List ℕ)) (a : A)
+    → Some (a, behind) ≡ read_first read left → (word : List ℕ) × (left ≡ word ∷ behind)
+    × (read word ≡ Some a)
+first_parts read [] behind a is = absurd cc
+first_parts read (word ∷ words) behind a is =
+    let same = same_first words behind a (read word) is in
     (word, ap (λ (l : List (List ℕ)). word ∷ l) same.0, same.1)
+
+-- what is left behind the first word is shorter
+pub first_shorter : {A : Type 0} (read : List ℕ → Option A) (left behind : List (List ℕ)) (a : A)
+    → Some (a, behind) ≡ read_first read left → length behind < length left
+first_shorter read left behind a is =
+    let longer : length left ≡ suc (length behind) =
+    ap (λ (l : List (List ℕ)). length l) (first_parts read left behind a is).1 in
+    omega (arith, longer)
+
+-- the first item of those that are left is read
+pub each_first : {A : Type 0} (read : List ℕ → Option A) (front : List A)
+    (left behind : List (List ℕ)) (a : A) (all : Option (List A))
+    → Some (a, behind) ≡ read_first read left
+    → option_map (λ others. front ++ others) (each read left) ≡ all
+    → option_map (λ others. (front ++ a ∷ []) ++ others) (each read behind) ≡ all
+each_first read front left behind a all is so =
+    let parts = first_parts read left behind a is in
+    each_more read front parts.0 a behind all (sym parts.2)
+    (ap (λ (l : List (List ℕ)). option_map (λ others. front ++ others) (each read l)) (sym parts.1)
+    ∙ so)
+
+-- what is none with its words is none
+none_first : {A : Type 0} (words : List (List ℕ)) (o : Option A)
+    → ◌≡◌ {A = Option (A × List (List ℕ))} None (option_map (λ a. (a, words)) o) → None ≡ o
+none_first words None is = refl
+none_first words (Some a) is = absurd (some_none a words (sym is))
+
+-- the first item of those that are left is not readable
+pub each_stops : {A : Type 0} (read : List ℕ → Option A) (front : List A) (left : List (List ℕ))
+    (all : Option (List A)) → 0 < length left → None ≡ read_first read left
+    → option_map (λ others. front ++ others) (each read left) ≡ all → None ≡ all
+each_stops read front [] all some is so = absurd (omega (arith, some))
+each_stops read front (word ∷ words) all some is so =
+    each_none read front word words all (none_first words (read word) is) so
 
 -- one word more is read
 pub read_more : (read : List ℕ → Option ℕ) (words left behind : List (List ℕ)) (front : List ℕ)

@@ -1,20 +1,20 @@
 // Reads the fields of a line that are more than a number.
-ghost use Rattle.std.specs.Prelude.{◌≡◌, ◌∷◌, ◌==◌, ◌&&◌, ℕ, Some, None, IfOk, option_copied, option_map, option_and_then, length, if◌then◌else◌};
-ghost use Rattle.instruction_set.specs.Letter.{letter_of_byte};
+ghost use Rattle.std.specs.Prelude.{◌≡◌, ◌∷◌, ◌==◌, ◌&&◌, ℕ, Some, None, IfOk, IfSome, option_copied, option_map, option_and_then, length, if◌then◌else◌};
+ghost use Rattle.instruction_set.specs.Letter.{byte_of, letter_of_byte};
 ghost use Rattle.genome.specs.Genome as genome_spec;
 ghost use Rattle.mutations.specs.BirthRecord.{written_in};
 ghost use Rattle.mutations.specs.Change.{is_genome_length};
 ghost use Rattle.log_lines.specs.Fields.{each, genome_of_word, list_of, or_sign};
 ghost use Rattle.mutations.specs.RecordForm.{change_may_follow, in_order};
 ghost use Rattle.log_lines.specs.Kinds.{base_field, change_field, changes_field, read_change, read_lettered};
-ghost use Rattle.log_lines.specs.Words.{ToChange, pieces_of};
+ghost use Rattle.log_lines.specs.Words.{ToChange, comma_then, pieces_of, read_first};
 
 use crate::words::split_at;
 use avida_port::Memory;
 use genome::{GREATEST_LENGTH, Genome, LEAST_LENGTH};
 use instruction_set::Letter;
 use mutations::{Base, Change, Changes};
-use numerals::small_number;
+use numerals::{leading_number, small_number};
 use std::alloc::Global;
 
 /// The letters of a word, where each byte is one.
@@ -130,6 +130,73 @@ fn item(word: &[u8]) -> Option<Change>
     }
 }
 
+/// What is left behind the comma that `rest` begins with, or nothing if `rest` is empty.
+fn after_comma(rest: &[u8]) -> Option<Option<&[u8]>>
+    ensures { IfSome result (λ left. rest.now ≡ comma_then (option_copied left)) }
+{
+    match rest {
+        [] => Some(None),
+        [b',', behind @ ..] => Some(Some(behind)),
+        _ => None,
+    }
+}
+
+/// The letter of a change, and what is left behind the comma that follows it.
+fn letter_first(rest: &[u8]) -> Option<(Letter, Option<&[u8]>)>
+    ensures { IfSome result (λ p. rest.now ≡ byte_of p.0 ∷ comma_then (option_copied p.1)) }
+{
+    match rest {
+        [byte, behind @ ..] => {
+            let letter = Letter::from_byte(*byte)?;
+            let left = after_comma(behind)?;
+            Some((letter, left))
+        }
+        [] => None,
+    }
+}
+
+/// The change with this mark and what is left behind its comma, in one pass. It may give None also
+/// where the text is another than that of a change.
+fn quick_change(mark: u8, rest: &[u8]) -> Option<(Change, Option<&[u8]>)>
+    ensures { IfSome result (λ p. read_first read_change (pieces_of 44 (Some (mark ∷ rest.now)))
+        ≡ Some (p.0, pieces_of 44 (option_copied p.1))) }
+{
+    let (value, len) = leading_number(0, u64::from(u32::MAX), rest)?;
+    let at = value as u32;
+    match mark {
+        b'p' => {
+            let (letter, left) = letter_first(&rest[len..])?;
+            Some((Change::Point { at, letter }, left))
+        }
+        b'i' => {
+            let (letter, left) = letter_first(&rest[len..])?;
+            Some((Change::Insert { at, letter }, left))
+        }
+        b'd' => {
+            let left = after_comma(&rest[len..])?;
+            Some((Change::Delete { at }, left))
+        }
+        _ => None,
+    }
+}
+
+/// The first change of a list, and what is left behind its comma.
+fn first_change(rest: &[u8]) -> Option<(Change, Option<&[u8]>)>
+    ensures { option_map (λ p. (p.0, pieces_of 44 (option_copied p.1))) result
+        ≡ read_first read_change (pieces_of 44 (Some rest.now)) }
+{
+    if let [mark, behind @ ..] = rest {
+        if let Some(found) = quick_change(*mark, behind) {
+            return Some(found);
+        }
+    }
+    let (piece, others) = split_at(rest, b',');
+    match item(piece) {
+        Some(one) => Some((one, others)),
+        None => None,
+    }
+}
+
 /// The changes that stand between commas, in any order.
 fn item_list(spare: Vec<Change>, word: &[u8]) -> Result<Option<Vec<Change>>, Memory>
     ensures { IfOk result (λ found. option_map (λ v. v.items) found
@@ -139,8 +206,7 @@ fn item_list(spare: Vec<Change>, word: &[u8]) -> Result<Option<Vec<Change>>, Mem
     found.clear();
     let mut left = Some(word);
     while let Some(rest) = left {
-        let (piece, others) = split_at(rest, b',');
-        let Some(one) = item(piece) else {
+        let Some((one, others)) = first_change(rest) else {
             return Ok(None);
         };
         found.push(one)?;

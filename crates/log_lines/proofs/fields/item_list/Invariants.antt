@@ -1,6 +1,5 @@
-use Rattle.std.proofs.Common.{◌≡◌, ◌++◌, suc, length, Some}
+use Rattle.std.proofs.Common.{◌≡◌, ◌++◌, length, Some}
 use Rattle.std.specs.Prelude.{option_copied, option_map}
-use Rattle.std.specs.Option.{option_map_or}
 use Rattle.log_lines.specs.Fields.{each}
 use Rattle.log_lines.specs.Kinds.{read_change}
 use Rattle.log_lines.specs.Words.{pieces_of}
@@ -13,4 +12,4 @@ invariant-loop-left l =
     ≡ each read_change (pieces_of 44 (Some l.word))
 
 abbrev pub decreases-loop-left : goal.decreases-loop-left
-decreases-loop-left l = option_map_or (λ rest. suc (length rest)) (option_copied l.left) 0
+decreases-loop-left l = length (pieces_of 44 (option_copied l.left))

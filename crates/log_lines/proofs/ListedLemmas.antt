@@ -1,0 +1,111 @@
+-- The first change of a list, from the digits and the letter that it is written with.
+use Rattle.std.proofs.Common.{◌≡◌, ◌<◌, ◌≤◌, ◌-◌, ◌∙◌, ℕ, List, [], ◌∷◌, ◌++◌, Option, Some, None, length, get_or, take, drop, refl, sym, ap, subst, arith, inl, inr, length-append, append-nil, append_assoc}
+use Rattle.std.specs.Prelude.{option_map, ◌==◌}
+use Rattle.std.specs.Char.{is_ascii_digit}
+use Rattle.std.specs.List.{slice_split}
+use Rattle.std.proofs.lemmas.Bool.{cases_Bool}
+use Rattle.std.proofs.lemmas.Bool.Decides.{nat_tests}
+use Rattle.std.proofs.Math.Seq.{take-append_seam, get_or-append_seam}
+use Rattle.instruction_set.specs.declared.letter.Letter.{Letter}
+use Rattle.instruction_set.specs.Letter.{byte_of, letter_of_byte}
+use Rattle.mutations.specs.declared.change.Change.{Change}
+use Rattle.mutations.specs.declared.change.Change.TheVariants.{Delete}
+use Rattle.numerals.specs.Numeral.{digits_len, leading_digits, number_of}
+use Rattle.log_lines.specs.Kinds.{small, read_lettered, read_change}
+use Rattle.log_lines.specs.Words.{ToChange, comma_then, pieces_of, read_first}
+use Rattle.log_lines.proofs.FieldLaws.{Above, above_append, split_first, split_one}
+use Rattle.log_lines.proofs.FrontLemmas.{digits_on, digits_split, no_digits, tail_is}
+use Rattle.log_lines.proofs.LetterLemmas.{byte_of_letter, letter_above, letter_of_byte-byte_of}
+
+-- the first change of a list, and the pieces behind it
+abbrev first_in : List ℕ → Option (Change × List (List ℕ))
+first_in text = read_first read_change (slice_split (λ b. b == 44) text)
+
+-- a change and what is left behind its comma
+abbrev then_left : Change → Option (List ℕ) → Option (Change × List (List ℕ))
+then_left change left =
+    let pair : Change × List (List ℕ) = (change, pieces_of 44 left) in Some pair
+
+-- a piece that a comma follows, or the end
+first_piece : (piece : List ℕ) (left : Option (List ℕ)) (change : Change) → Above 44 piece
+    → read_change piece ≡ Some change → first_in (piece ++ comma_then left) ≡ then_left change left
+first_piece piece None change plain is =
+    ap first_in (append-nil piece) ∙ ap (read_first read_change) (split_one 44 piece plain)
+    ∙ ap (option_map (λ a. (a, []))) is
+first_piece piece (Some behind) change plain is =
+    ap (read_first read_change) (split_first 44 piece behind plain)
+    ∙ ap (option_map (λ a. (a, slice_split (λ b. b == 44) behind))) is
+
+-- a letter in front, and what is left behind its comma
+pub letter_in_front : (rest : List ℕ) (letter : Letter) (left : Option (List ℕ)) → 1 ≤ length rest
+    → Some letter ≡ letter_of_byte (get_or rest 0 0)
+    → take (length rest - 1) (drop 1 rest) ≡ comma_then left → rest ≡ byte_of letter ∷ comma_then left
+letter_in_front [] letter left some is behind = absurd (omega (arith, some))
+letter_in_front (b ∷ bs) letter left some is behind =
+    ap (λ (c : ℕ). c ∷ bs) (sym (byte_of_letter b letter (sym is)))
+    ∙ ap (λ (l : List ℕ). byte_of letter ∷ l) (sym (tail_is 1 (b ∷ bs) (omega arith)) ∙ behind)
+
+-- digits are above a comma
+digits_plain : (bytes : List ℕ) → Above 44 (leading_digits bytes)
+digits_plain [] = tt
+digits_plain (b ∷ bs) = elim (cases_Bool (is_ascii_digit b)) [
+  | inl is ↦
+      let high : 44 < b = grind (arith, nat_tests, is) in
+      subst (λ (l : List ℕ). Above 44 l) (sym (digits_on b bs is)) (high, digits_plain bs)
+  | inr isnt ↦ subst (λ (l : List ℕ). Above 44 l) (sym (no_digits b bs isnt)) tt
+]
+
+-- a place and a letter
+lettered_is : (make : ToChange) (front : List ℕ) (at : ℕ) (letter : Letter)
+    → Some at ≡ small.read front
+    → read_lettered make (front ++ byte_of letter ∷ []) ≡ Some (make at letter)
+lettered_is make front at letter is =
+    let n : length (front ++ byte_of letter ∷ []) - 1 ≡ length front =
+    omega (arith, length-append front (byte_of letter ∷ [])) in
+    let before : take (length front) (front ++ byte_of letter ∷ []) ≡ front =
+    take-append_seam front (byte_of letter ∷ []) in
+    let end : get_or (front ++ byte_of letter ∷ []) (length front) 0 ≡ byte_of letter =
+    get_or-append_seam front (byte_of letter) [] 0 in
+    let number : number_of 0 4294967295 front ≡ Some at = sym is in
+    rw (n, before, end, number, letter_of_byte-byte_of letter) refl
+
+module _ (mark : ℕ) (bytes : List ℕ) (at len : ℕ) (left : Option (List ℕ))
+    (number : Some at ≡ small.read (leading_digits bytes)) (far : len ≡ digits_len bytes)
+    (within : len ≤ length bytes) where
+  -- the digits, and the text that the code reads behind them
+  parted : (behind : List ℕ) → take (length bytes - len) (drop len bytes) ≡ behind
+      → leading_digits bytes ++ behind ≡ bytes
+  parted behind is =
+      ap (λ (l : List ℕ). leading_digits bytes ++ l) (sym is ∙ tail_is len bytes within
+      ∙ ap (λ (k : ℕ). drop k bytes) far) ∙ digits_split bytes
+
+  -- a point or an insertion
+  pub first_lettered : (make : ToChange) (letter : Letter) → 44 < mark
+      → ((rest : List ℕ) → read_change (mark ∷ rest) ≡ read_lettered make rest)
+      → take (length bytes - len) (drop len bytes) ≡ byte_of letter ∷ comma_then left
+      → first_in (mark ∷ bytes) ≡ then_left (make at letter) left
+  first_lettered make letter plain marked is =
+      let front = leading_digits bytes in
+      let piece : List ℕ = mark ∷ (front ++ byte_of letter ∷ []) in
+      let whole : piece ++ comma_then left ≡ mark ∷ bytes =
+      ap (λ (l : List ℕ). mark ∷ l)
+      (append_assoc front (byte_of letter ∷ []) (comma_then left)
+      ∙ parted (byte_of letter ∷ comma_then left) is) in
+      ap first_in (sym whole)
+      ∙ first_piece piece left (make at letter) (
+        plain,
+        above_append 44 front (byte_of letter ∷ []) (digits_plain bytes)
+            (letter_above letter, tt),
+      )
+      (marked (front ++ byte_of letter ∷ []) ∙ lettered_is make front at letter number)
+
+  -- a deletion
+  pub first_deletion : 44 < mark
+      → ((rest : List ℕ) → read_change (mark ∷ rest) ≡ option_map Delete (small.read rest))
+      → take (length bytes - len) (drop len bytes) ≡ comma_then left
+      → first_in (mark ∷ bytes) ≡ then_left (Delete at) left
+  first_deletion plain marked is =
+      let front = leading_digits bytes in
+      ap first_in (sym (ap (λ (l : List ℕ). mark ∷ l) (parted (comma_then left) is)))
+      ∙ first_piece (mark ∷ front) left (Delete at) (plain, digits_plain bytes)
+      (marked front ∙ ap (option_map Delete) (sym number))
