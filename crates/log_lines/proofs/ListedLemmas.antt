@@ -69,9 +69,13 @@ lettered_is make front at letter is =
     let number : number_of 0 4294967295 front ≡ Some at = sym is in
     rw (n, before, end, number, letter_of_byte-byte_of letter) refl
 
-module _ (mark : ℕ) (bytes : List ℕ) (at len : ℕ) (left : Option (List ℕ))
-    (number : Some at ≡ small.read (leading_digits bytes)) (far : len ≡ digits_len bytes)
-    (within : len ≤ length bytes) where
+module _ (mark : ℕ) (bytes : List ℕ) (at len most : ℕ) (left : Option (List ℕ))
+    (greatest : most ≡ 4294967295) (number : Some at ≡ number_of 0 most (leading_digits bytes))
+    (far : len ≡ digits_len bytes) (within : len ≤ length bytes) where
+  -- the place
+  place : Some at ≡ small.read (leading_digits bytes)
+  place = number ∙ ap (λ (m : ℕ). number_of 0 m (leading_digits bytes)) greatest
+
   -- the digits, and the text that the code reads behind them
   parted : (behind : List ℕ) → take (length bytes - len) (drop len bytes) ≡ behind
       → leading_digits bytes ++ behind ≡ bytes
@@ -97,7 +101,7 @@ module _ (mark : ℕ) (bytes : List ℕ) (at len : ℕ) (left : Option (List ℕ
         above_append 44 front (byte_of letter ∷ []) (digits_plain bytes)
             (letter_above letter, tt),
       )
-      (marked (front ++ byte_of letter ∷ []) ∙ lettered_is make front at letter number)
+      (marked (front ++ byte_of letter ∷ []) ∙ lettered_is make front at letter place)
 
   -- a deletion
   pub first_deletion : 44 < mark
@@ -108,4 +112,4 @@ module _ (mark : ℕ) (bytes : List ℕ) (at len : ℕ) (left : Option (List ℕ
       let front = leading_digits bytes in
       ap first_in (sym (ap (λ (l : List ℕ). mark ∷ l) (parted (comma_then left) is)))
       ∙ first_piece (mark ∷ front) left (Delete at) (plain, digits_plain bytes)
-      (marked front ∙ ap (option_map Delete) (sym number))
+      (marked front ∙ ap (option_map Delete) (sym place))

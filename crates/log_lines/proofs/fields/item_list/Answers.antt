@@ -1,4 +1,4 @@
-use Rattle.std.proofs.Common.{◌++◌, ◌<◌, ◌∙◌, ℕ, List, Option, Some, Bor, length, ap, sym, subst}
+use Rattle.std.proofs.Common.{◌≡◌, ◌++◌, ◌<◌, ◌∙◌, ℕ, List, Option, Some, Bor, length, ap, sym, subst}
 use Rattle.std.specs.Prelude.{option_copied, option_map}
 use Rattle.mutations.specs.declared.change.Change.{Change}
 use Rattle.log_lines.specs.Fields.{each}
@@ -33,15 +33,15 @@ loop-left-preserved c =
     ∙ each_first read_change front pieces behind one
     (each read_change (pieces_of 44 (Some c.args.word.now))) c.in-Some-first_change.ensures so
 
-pub returns-in-None : goal.returns-in-None
-returns-in-None c =
+pub returns-in_default-first_change : goal.returns-in_default-first_change
+returns-in_default-first_change c =
     let front = c.loop-left.found.items in
     let pieces = pieces_of 44 (Some c.in-Some.rest.now) in
     let so = ap (λ (ws : List (List ℕ)). option_map (λ others. front ++ others)
     (each read_change ws)) (sym (same_pieces c.loop-left.left c.in-Some.rest c.in-Some.is))
     ∙ c.loop-left.invariant in
     each_stops read_change front pieces (each read_change (pieces_of 44 (Some c.args.word.now)))
-    (split_some 44 c.in-Some.rest.now) c.in-None.ensures so
+    (split_some 44 c.in-Some.rest.now) c.in_default-first_change.ensures so
 
 pub loop-left-smaller : goal.loop-left-smaller
 loop-left-smaller c =

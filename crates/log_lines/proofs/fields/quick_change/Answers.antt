@@ -14,8 +14,8 @@ returns-in_ok-letter-in-112 c =
     let rest = c.args.rest.now in
     ap (λ (mark : ℕ). read_first read_change (slice_split (λ b. b == 44) (mark ∷ rest)))
     c.in-112.is
-    ∙ first_lettered 112 rest value.value value.len (option_copied found.left)
-    value.ensures.number value.ensures.len value.ensures.within Point found.letter (omega arith)
+    ∙ first_lettered 112 rest value.value value.len c.from.result (option_copied found.left)
+    c.from.ensures value.ensures.number value.ensures.len value.ensures.within Point found.letter (omega arith)
     (λ word. refl) found.ensures
 
 pub returns-in_ok-letter-in-105 : goal.returns-in_ok-letter-in-105
@@ -25,8 +25,8 @@ returns-in_ok-letter-in-105 c =
     let rest = c.args.rest.now in
     ap (λ (mark : ℕ). read_first read_change (slice_split (λ b. b == 44) (mark ∷ rest)))
     c.in-105.is
-    ∙ first_lettered 105 rest value.value value.len (option_copied found.left)
-    value.ensures.number value.ensures.len value.ensures.within Insert found.letter (omega arith)
+    ∙ first_lettered 105 rest value.value value.len c.from.result (option_copied found.left)
+    c.from.ensures value.ensures.number value.ensures.len value.ensures.within Insert found.letter (omega arith)
     (λ word. refl) found.ensures
 
 pub returns-in_ok-left-in-100 : goal.returns-in_ok-left-in-100
@@ -36,6 +36,6 @@ returns-in_ok-left-in-100 c =
     let rest = c.args.rest.now in
     ap (λ (mark : ℕ). read_first read_change (slice_split (λ b. b == 44) (mark ∷ rest)))
     c.in-100.is
-    ∙ first_deletion 100 rest value.value value.len (option_copied found.left)
-    value.ensures.number value.ensures.len value.ensures.within (omega arith)
+    ∙ first_deletion 100 rest value.value value.len c.from.result (option_copied found.left)
+    c.from.ensures value.ensures.number value.ensures.len value.ensures.within (omega arith)
     (λ word. refl) found.ensures
