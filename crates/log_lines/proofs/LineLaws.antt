@@ -36,8 +36,9 @@ by_form (Death id update cell) =
     record { text = refl; fits = λ (a, b, c). (a, (b, c)); form = λ (a, (b, c)). (a, b, c) }
 by_form (Birth id parent update cell over birth) = record {
   text = refl;
-  fits = λ (a, b, c, d, e, f, g, h). (a, (b, (c, (d, (e, (f, (g, h)))))));
-  form = λ (a, (b, (c, (d, (e, (f, (g, h))))))). (a, b, c, d, e, f, g, h);
+  fits = λ (a, b, c, d, e, f). (a, (b, (c, (d, (e, (f.base, (f.changes, f.order)))))));
+  form = λ (a, (b, (c, (d, (e, (f, (g, h))))))).
+      (a, b, c, d, e, record { base = f; changes = g; order = h });
 }
 by_form (Injected id update cell over genome) = record {
   text = refl;

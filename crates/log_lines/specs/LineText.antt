@@ -3,12 +3,11 @@
 -- text `R 12 copy_error 500` and a newline, and `Rate 12 Copy 2000000` has no form, since a rate is at
 -- most a million parts per million.
 use Prim.Native.Char.{code}
-use Rattle.std.specs.Prelude.{◌≡◌, ℕ, ◌≤◌, true, List, [], ◌∷◌, ◌++◌, length, IfSome}
+use Rattle.std.specs.Prelude.{◌≡◌, ℕ, List, [], ◌∷◌, ◌++◌, length, IfSome}
 use Rattle.std.specs.List.{AllByRecursion}
 use Rattle.instruction_set.specs.declared.letter.Letter.{Letter}
 use Rattle.random_streams.specs.RandomStream.{greatest_side, million}
-use Rattle.mutations.specs.Change.{is_genome_length}
-use Rattle.mutations.specs.RecordForm.{FitsChange, in_order}
+use Rattle.mutations.specs.RecordForm.{HasGenomeLength, HasRecordForm, IsSmall, IsWithin}
 use Rattle.log_lines.specs.Rows.{Row}
 use Rattle.log_lines.specs.Line.{Line, Start, Death, Birth, Injected, Cleared, Rate, Count, End}
 use Rattle.log_lines.specs.LineWords.{decimals, words_of_line}
@@ -43,39 +42,26 @@ row_text line = text_of_words (words_of_line line)
 abbrev pub line_text : Line → List ℕ
 line_text line = row_text line ++ code "\n" ∷ []
 
--- a number from least to greatest
-abbrev pub IsBetween : ℕ → ℕ → ℕ → Type 0
-IsBetween least greatest n = (least ≤ n) × (n ≤ greatest)
-
--- an update, a cell or a place: a number below 2 ^ 32
-abbrev pub IsSmall : ℕ → Type 0
-IsSmall n = IsBetween 0 4294967295 n
-
 -- an id, a count or a merit: a number below 2 ^ 64
 abbrev pub IsLarge : ℕ → Type 0
-IsLarge n = IsBetween 0 18446744073709551615 n
+IsLarge n = IsWithin 0 18446744073709551615 n
 
 -- the width or the height of a world, from 1 to 256
 abbrev pub IsSide : ℕ → Type 0
-IsSide n = IsBetween 1 greatest_side n
-
--- as many letters as a genome can have, from 8 to 8,192
-abbrev pub HasGenomeLength : List Letter → Type 0
-HasGenomeLength letters = is_genome_length (length letters) ≡ true
+IsSide n = IsWithin 1 greatest_side n
 
 -- the values of a line are ones that a log can have, so that its text is read as the line again
 abbrev pub HasForm : Line → Type 0
 HasForm (Start version width height cell genome) =
-    IsBetween 1 2 version × IsSide width × IsSide height × IsSmall cell × HasGenomeLength genome
+    IsWithin 1 2 version × IsSide width × IsSide height × IsSmall cell × HasGenomeLength genome
 HasForm (Death id update cell) = IsLarge id × IsSmall update × IsSmall cell
 HasForm (Birth id parent update cell over birth) =
     IsLarge id × IsLarge parent × IsSmall update × IsSmall cell × IfSome over IsLarge
-    × IfSome birth.written HasGenomeLength × AllByRecursion FitsChange birth.changes
-    × (in_order birth.changes ≡ true)
+    × HasRecordForm birth
 HasForm (Injected id update cell over genome) =
     IsLarge id × IsSmall update × IsSmall cell × IfSome over IsLarge × HasGenomeLength genome
 HasForm (Cleared id update cell) = IsLarge id × IsSmall update × IsSmall cell
-HasForm (Rate update name ppm) = IsSmall update × IsBetween 0 million ppm
+HasForm (Rate update name ppm) = IsSmall update × IsWithin 0 million ppm
 HasForm (Count s) =
     IsSmall s.update × AllByRecursion IsLarge
     (s.living ∷ s.births ∷ s.deaths ∷ s.genotypes ∷ s.merit ∷ s.tasks) × (length s.tasks ≡ 9)

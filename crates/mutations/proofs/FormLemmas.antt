@@ -1,5 +1,5 @@
 -- Records that words draw have the form of a record in a log.
-use Rattle.std.proofs.Common.{◌≡◌, refl, ◌∙◌, ap, ℕ, ◌+◌, ◌<◌, ◌≤◌, ◌^◌, Bool, true, false, cond, ◌&&◌, List, [], ◌∷◌, ◌++◌, length, append_assoc, Ok, None, Some, arith}
+use Rattle.std.proofs.Common.{◌≡◌, refl, ◌∙◌, ap, ℕ, ◌+◌, ◌<◌, ◌≤◌, ◌^◌, Bool, true, false, cond, ◌&&◌, List, [], ◌∷◌, ◌++◌, length, append_assoc, Ok, None, Some, arith, IfSome}
 use Rattle.std.specs.List.{AllByRecursion}
 use Rattle.std.proofs.lemmas.Bool.Decides.{nat_tests}
 use Rattle.instruction_set.specs.declared.letter.Letter.{Letter}
@@ -14,7 +14,7 @@ use Rattle.mutations.specs.declared.indels.Indel.TheVariants.{Insertion, Deletio
 use Rattle.mutations.specs.DivideErrors.{Drawn, pointed_text, after_points, points_from}
 use Rattle.mutations.specs.Indels.{Draft, indels, draft_after}
 use Rattle.mutations.specs.BirthRecord.{drawn_by_divide, origin_of}
-use Rattle.mutations.specs.RecordForm.{FitsBase, FitsPlace, FitsChange, change_may_follow, in_order, HasRecordForm}
+use Rattle.mutations.specs.RecordForm.{HasGenomeLength, IsSmall, FitsChange, change_may_follow, in_order, HasRecordForm}
 use Rattle.mutations.proofs.ChangeLemmas.{step-made}
 use Rattle.mutations.proofs.IndelLemmas.{IsIndel}
 use Rattle.mutations.proofs.IndelKinds.{indels-kind}
@@ -30,7 +30,7 @@ genome-length : (len : ℕ) → 8 ≤ len → len ≤ 8192 → is_genome_length 
 genome-length len least most = grind (arith, nat_tests)
 
 -- a place of a text that is not too long
-fits-place : (at len : ℕ) → at ≤ len → len ≤ 8192 → FitsPlace at
+fits-place : (at len : ℕ) → at ≤ len → len ≤ 8192 → IsSmall at
 fits-place at len place longest = (omega arith, omega arith)
 
 -- a change that has its place
@@ -167,7 +167,7 @@ drawn-order words k rates limits clean written =
 
 -- the base of a record
 fits-base : (same : Bool) (clean : List Letter) → is_genome_length (length clean) ≡ true
-    → FitsBase (cond same None (Some clean))
+    → IfSome (cond same None (Some clean)) HasGenomeLength
 fits-base true clean genome = tt
 fits-base false clean genome = genome
 

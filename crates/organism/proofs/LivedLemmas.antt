@@ -19,7 +19,7 @@ use Rattle.organism.specs.UpdateLife.{LifeState, copy_of, after_copy_of, clean_t
 use Rattle.organism.specs.Lived.{IsSoundOrganism, IsBornOf, beginning, HasLived}
 use Rattle.organism.proofs.BirthLemmas.{child_part-length}
 use Rattle.organism.proofs.UpdateLifeLemmas.{state_after-zero, state_after-next}
-use Rattle.organism.proofs.SoundLemmas.{LowerLaws, IsAsked, Told, stepped, IsWithin, within, divide_merit, born_anew}
+use Rattle.organism.proofs.SoundLemmas.{LowerLaws, IsAsked, Told, stepped, AsksWithin, within, divide_merit, born_anew}
 
 -- the letters of a record that applies
 made-letters : (P : List Letter → Type 0) (made : Result (List Letter) ApplyStop) → IsOkAnd made P
@@ -36,7 +36,7 @@ unfolding birth_record child_letters
 newborn laws settings words fits s ask h asked =
     let o : OrganismState = s.organism in
     let rules : RuleNumbers = settings.rules in
-    let w : IsWithin rules o ask = within rules o ask h asked in
+    let w : AsksWithin rules o ask = within rules o ask h asked in
     let clean : length (clean_text o ask) ≡ ask.end - ask.read =
     child_part-length o.machine.clean ask.read ask.end
     (omega (arith, w.end_within, h.machine.clean)) in

@@ -172,7 +172,7 @@ stepped laws rules are o copy h =
     (omega (arith, h.organism.read)) (laws.asks o.machine (next_input o) copy) sound
 
 -- the numbers of a viable divide
-pub record IsWithin (rules : RuleNumbers) (o : OrganismState) (ask : DivideAsk) : Type 0 where
+pub record AsksWithin (rules : RuleNumbers) (o : OrganismState) (ask : DivideAsk) : Type 0 where
   pub read_least : 8 ≤ ask.read
   pub read_most : ask.read ≤ 2 * length o.genome
   pub read_within : ask.read ≤ length o.machine.memory
@@ -182,7 +182,7 @@ pub record IsWithin (rules : RuleNumbers) (o : OrganismState) (ask : DivideAsk) 
 
 -- a viable divide of a sound organism lies in memory, with lengths that are allowed
 pub within : (rules : RuleNumbers) (o : OrganismState) (ask : DivideAsk) → IsSoundOrganism o
-    → IsAsked rules o ask → IsWithin rules o ask
+    → IsAsked rules o ask → AsksWithin rules o ask
 within rules o ask h asked =
     let end : end_of o.machine ≤ length o.machine.memory = end-within o.machine h.machine in
     record {
@@ -205,7 +205,7 @@ pub divide_merit : LowerLaws → (rules : RuleNumbers) (o : OrganismState) (ask 
     → IsSoundOrganism o → IsAsked rules o ask
     → 1 ≤ merit_of (length o.genome) ask.executed ask.copied o.gestation
 divide_merit laws rules o ask h asked =
-    let w : IsWithin rules o ask = within rules o ask h asked in
+    let w : AsksWithin rules o ask = within rules o ask h asked in
     let executed : 1 ≤ ask.executed =
     some-share rules.executed_percent ask.read ask.executed asked.lawful.executed_is_asked
     (omega (arith, w.read_least)) asked.viable.executed in
@@ -220,7 +220,7 @@ pub born_anew : LowerLaws → (rules : RuleNumbers) (o : OrganismState) (ask : D
     → IsSoundOrganism o → IsAsked rules o ask → IsSoundOrganism (renewed o ask)
 unfolding renewed
 born_anew laws rules o ask h asked =
-    let w : IsWithin rules o ask = within rules o ask h asked in
+    let w : AsksWithin rules o ask = within rules o ask h asked in
     let size : length (parent_part o.machine.memory ask.read) ≡ ask.read =
     length-take-le ask.read o.machine.memory w.read_within in
     record {

@@ -5,7 +5,8 @@ use Rattle.instruction_set.specs.Letter.{byte_of}
 use Rattle.virtual_cpu.specs.declared.cpu_image.CpuImage.{CpuImage}
 use Rattle.std.specs.Prelude.{Result, Ok, Err, OnOk}
 use Rattle.log_lines.specs.LineText.{words_text}
-use Rattle.saved_lines.specs.SavedText.{digit_of, machine_numbers, machine_words, nops_text, number_words, signed_words}
+use Rattle.log_lines.specs.LineWords.{decimals}
+use Rattle.saved_lines.specs.SavedText.{digit_of, machine_numbers, machine_words, nops_text, signed_words}
 use Rattle.log_lines.proofs.KeptLemmas.{keeps_front}
 use Rattle.log_lines.proofs.TextLemmas.{words_text-append, words_text_more}
 
@@ -31,13 +32,13 @@ image_texts image =
 pub machine_line : (image : CpuImage)
     → words_text (machine_words image)
     ≡ words_text (signed_words image.registers)
-    ++ (words_text (number_words (machine_numbers image))
+    ++ (words_text (decimals (machine_numbers image))
     ++ (words_text (nops_text image.nops
     ∷ (signed_words image.first ++ signed_words image.second))
     ++ words_text (image_texts image)))
 machine_line image =
     let registers = signed_words image.registers in
-    let numbers = number_words (machine_numbers image) in
+    let numbers = decimals (machine_numbers image) in
     let nops = nops_text image.nops in
     let first = signed_words image.first in
     let second = signed_words image.second in

@@ -6,13 +6,10 @@ use Rattle.genome.specs.Genome.{IsGenome}
 use Rattle.label_search.specs.Template.{IsTemplate}
 use Rattle.logic_tasks.specs.Inputs.{HasTopBytes}
 use Rattle.mutations.specs.Rates.{RateNumbers}
+use Rattle.mutations.specs.RecordForm.{IsWithin}
 use Rattle.virtual_cpu.specs.declared.cpu_image.CpuImage.{CpuImage}
 use Rattle.saved_lines.specs.SavedText.{SavedLine, Head, Organism, Machine, Count}
 use Rattle.saved_lines.specs.SavedValues.{HeadValues, OrganismValues}
-
--- the third of these numbers lies between the first and the second, or is one of them
-abbrev pub IsWithin : ℕ → ℕ → ℕ → Type 0
-IsWithin least greatest n = (least ≤ n) × (n ≤ greatest)
 
 -- six rates in parts per million
 pub record AreRates (rates : RateNumbers) : Type 0 where

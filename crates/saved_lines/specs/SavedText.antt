@@ -8,6 +8,7 @@ use Rattle.instruction_set.specs.Letter.{byte_of}
 use Rattle.logic_tasks.specs.Inputs.{low_of}
 use Rattle.logic_tasks.specs.TaskBits.{bits_of_tasks}
 use Rattle.log_lines.specs.LineText.{words_text}
+use Rattle.log_lines.specs.LineWords.{decimals}
 use Rattle.virtual_cpu.specs.declared.cpu_image.CpuImage.{CpuImage}
 use Rattle.saved_lines.specs.SavedValues.{HeadValues, OrganismValues}
 
@@ -61,10 +62,6 @@ abbrev pub nops_text : List Letter → List ℕ
 nops_text [] = code "-" ∷ []
 nops_text (nop ∷ nops) = map byte_of (nop ∷ nops)
 
--- a word for each number
-abbrev pub number_words : List ℕ → List (List ℕ)
-number_words numbers = map (λ n. decimal n) numbers
-
 -- a word for each number of 32 bits; one below 0 has a minus
 abbrev pub signed_words : List ℤ → List (List ℕ)
 signed_words numbers = map signed_decimal numbers
@@ -73,17 +70,17 @@ signed_words numbers = map signed_decimal numbers
 -- the places that are marked executed and copied
 abbrev pub machine_words : CpuImage → List (List ℕ)
 machine_words m =
-    signed_words m.registers ++ (number_words (machine_numbers m) ++ (nops_text m.nops
+    signed_words m.registers ++ (decimals (machine_numbers m) ++ (nops_text m.nops
     ∷ signed_words m.first ++ (signed_words m.second ++ (map byte_of m.memory ∷ map byte_of m.clean
     ∷ map digit_of m.executed ∷ map digit_of m.copied ∷ []))))
 
 -- a line without its newline
 abbrev pub saved_row_text : SavedLine → List ℕ
-saved_row_text (Head head) = code "S" ∷ words_text (number_words (head_numbers head))
+saved_row_text (Head head) = code "S" ∷ words_text (decimals (head_numbers head))
 saved_row_text (Organism o) =
-    code "O" ∷ words_text (number_words (organism_numbers o) ++ map byte_of o.genome ∷ [])
+    code "O" ∷ words_text (decimals (organism_numbers o) ++ map byte_of o.genome ∷ [])
 saved_row_text (Machine m) = code "M" ∷ words_text (machine_words m)
-saved_row_text (Count organisms) = code "Z" ∷ words_text (number_words (organisms ∷ []))
+saved_row_text (Count organisms) = code "Z" ∷ words_text (decimals (organisms ∷ []))
 
 -- a line with its newline
 abbrev pub saved_line_text : SavedLine → List ℕ

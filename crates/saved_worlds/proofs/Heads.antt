@@ -8,7 +8,8 @@ use Rattle.mutations.specs.Rates.{RateNumbers}
 use Rattle.mutations.specs.declared.rate_name.RateName.{RateName}
 use Rattle.mutations.specs.declared.rate_name.RateName.TheVariants.{Copy, Insert, Delete, SitePoint, SiteInsert, SiteDelete}
 use Rattle.world_config.specs.declared.config.Config.{Config}
-use Rattle.world_config.specs.Bounds.{IsWithin, frame_of}
+use Rattle.mutations.specs.RecordForm.{IsWithin}
+use Rattle.world_config.specs.Bounds.{frame_of}
 use Rattle.world_config.specs.Events.{EventValue, WhatValue, clear, event_fits, event_values, inject, rate, what_fits}
 use Rattle.world_config.specs.KeyTable.{Frame}
 use Rattle.world_config.specs.Shown.{values_of}

@@ -3,7 +3,7 @@ use Rattle.std.specs.Prelude.{◌≡◌, ◌≢◌, ℕ, ◌+◌, ◌*◌, ◌<�
 use Rattle.logic_tasks.specs.Inputs.{HasTopBytes}
 use Rattle.organism.specs.Lived.{IsSoundOrganism}
 use Rattle.organism.specs.OrganismState.{OrganismState}
-use Rattle.world_config.specs.Bounds.{IsWithin}
+use Rattle.mutations.specs.RecordForm.{IsWithin}
 use Rattle.world_rules.specs.World.{Occupant}
 use Rattle.world_laws.specs.Ranges.{StandInRange}
 pub use Rattle.saved_lines.specs.SavedForms.{AreRates, IsHead, IsHeadUpTo}

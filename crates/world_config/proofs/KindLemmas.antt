@@ -6,7 +6,7 @@ use Rattle.instruction_set.specs.declared.letter.Letter.{Letter}
 use Rattle.genome.specs.GenomeText.{spelled_by_letters}
 use Rattle.world_config.specs.declared.key.Key.{Key}
 use Rattle.world_config.specs.KeyTable.{Kind, number, flag, genome, events}
-use Rattle.world_config.specs.Bounds.{IsWithin}
+use Rattle.mutations.specs.RecordForm.{IsWithin}
 use Rattle.world_config.specs.Lookup.{item_count}
 use Rattle.world_config.specs.Refusal.{refusal_of, unless_genome, unless_within}
 

@@ -1,12 +1,8 @@
 -- The bounds that the numbers of a configuration keep, such as `IsWithin 1 256 width`. The code's
 -- struct of a configuration cites this file for the facts that it keeps, so this file can't name
 -- that struct.
-use Rattle.std.specs.Prelude.{ℕ, ◌≤◌, ◌-◌, ◌*◌}
+use Rattle.std.specs.Prelude.{ℕ, ◌-◌, ◌*◌}
 use Rattle.world_config.specs.KeyTable.{Frame}
-
--- the third of these numbers lies between the first and the second, or is one of them
-abbrev pub IsWithin : ℕ → ℕ → ℕ → Type 0
-IsWithin least greatest n = (least ≤ n) × (n ≤ greatest)
 
 -- the last cell of a world of this width and height: cells are numbered from 0
 abbrev pub last_cell_of : ℕ → ℕ → ℕ

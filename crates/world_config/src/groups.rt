@@ -3,7 +3,8 @@
 
 ghost use Rattle.std.specs.Prelude.{◌≡◌, None, Some, IfOk, IfErr, OnOk};
 ghost use Rattle.toml.specs.View.{table_view};
-ghost use Rattle.world_config.specs.Bounds.{IsWithin, last_cell_of};
+ghost use Rattle.mutations.specs.RecordForm.{IsWithin};
+ghost use Rattle.world_config.specs.Bounds.{last_cell_of};
 
 use crate::key::Key;
 use crate::limits::{GREATEST_AGE, GREATEST_AVERAGE, GREATEST_PERCENT, GREATEST_UPDATES};

@@ -9,7 +9,7 @@ ghost use Rattle.saved_worlds.specs.Resuming.{forgotten, world_of_state};
 ghost use Rattle.saved_worlds.specs.SavedGrammar.{state_of_lines, with_placed};
 ghost use Rattle.saved_worlds.specs.SavedState.{head_at};
 ghost use Rattle.saved_worlds.specs.ValidState.{IsHead, MayStandThere, placed_in};
-ghost use Rattle.world_config.specs.Bounds.{IsWithin};
+ghost use Rattle.mutations.specs.RecordForm.{IsWithin};
 ghost use Rattle.world_config.specs.Shown.{values_of};
 ghost use Rattle.world_rules.specs.Update.{world_of};
 ghost use Rattle.world_core.specs.Resumed.{KeepsPast};

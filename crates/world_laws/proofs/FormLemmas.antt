@@ -13,9 +13,8 @@ use Rattle.logic_tasks.specs.declared.task.Task.{Task}
 use Rattle.logic_tasks.specs.LogicTasks.{all_tasks}
 use Rattle.logic_tasks.specs.TaskSet.{has_task}
 use Rattle.mutations.specs.Change.{is_genome_length}
-use Rattle.mutations.specs.RecordForm.{FitsBase}
 use Rattle.log_lines.specs.Line.{Count}
-use Rattle.log_lines.specs.LineText.{HasForm, HasGenomeLength, IsLarge}
+use Rattle.log_lines.specs.LineText.{HasForm, IsLarge}
 use Rattle.lineage_log.specs.Slots.{taken}
 use Rattle.organism.specs.OrganismState.{OrganismState}
 use Rattle.organism.specs.Lived.{IsSoundOrganism}
@@ -24,12 +23,6 @@ use Rattle.world_rules.specs.Scene.{Scene}
 use Rattle.world_rules.specs.Statistics.{organism_in, organisms_in, genomes_of_cells, distinct_genomes, credited_with, stats_in, scene_stats}
 use Rattle.world_laws.proofs.Scenes.{Each}
 use Rattle.world_laws.proofs.Configs.{filter_few}
-
--- the base of a record that a log can write has a genome's length
-pub base_form : (written : Option (List Letter)) → FitsBase written
-    → IfSome written HasGenomeLength
-base_form None h = tt
-base_form (Some letters) h = h
 
 -- a genome has letters enough and not too many
 pub letters_form : (letters : List Letter) → IsGenome letters

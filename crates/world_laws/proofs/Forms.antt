@@ -20,7 +20,7 @@ use Rattle.world_laws.proofs.Placements.{all_append}
 use Rattle.world_laws.proofs.AfterLives.{IsDelivery}
 use Rattle.world_laws.specs.Bounds.{IsConfig, size_of, FitsWhat}
 use Rattle.world_laws.proofs.Configs.{FitsPlaced, genome_fits, few_cells}
-use Rattle.world_laws.proofs.FormLemmas.{base_form, letters_form, over_form}
+use Rattle.world_laws.proofs.FormLemmas.{letters_form, over_form}
 
 -- each line has its form
 abbrev pub Forms : List Line → Type 0
@@ -108,16 +108,13 @@ module _ (size : ℕ) (start : People) (small : size ≤ 65536) where
   births_fit config scene (b ∷ births) (p ∷ placings) is room are within =
       let parent = slice_get_within start b.parent (Some are.0.letters) are.0.lived in
       let over = over_fits scene (length (b ∷ births)) is room p.cell in
-      let form = are.0.born.form in
       let first : HasForm (birth_line scene (b, p)) = (
         (omega arith, omega (arith, room.ids)),
         (omega arith, omega (arith, parent, is.grown, room.ids)),
         (omega arith, room.early),
         (omega arith, omega (arith, within.0, small)),
         over,
-        base_form b.newborn.origin.written form.base,
-        form.changes,
-        form.order,
+        are.0.born.form,
       ) in (
         first,
         births_fit config (with_newborn config scene (b, p)) births placings
