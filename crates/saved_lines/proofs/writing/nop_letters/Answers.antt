@@ -31,7 +31,7 @@ loop-at-preserved c =
           rw (
             w.out-is,
             w.in_ok-write_byte.ensures.ok,
-            w.write_byte.ensures,
+            w.byte.ensures,
             c.loop-at.invariant,
             more,
             append_assoc,
