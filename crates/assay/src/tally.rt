@@ -1,5 +1,5 @@
 // In how many of the seeds a task is done.
-ghost use Rattle.std.specs.Prelude.{◌≡◌, ◌<◌, count_by};
+ghost use Rattle.std.specs.Prelude.{◌≡◌, ◌<◌};
 ghost use Rattle.assay.specs.Assay.{has_doers, seeds_with, seeds_with_each};
 
 use crate::assayed::Assay;

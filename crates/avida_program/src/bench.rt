@@ -1,5 +1,5 @@
 // The command `bench`.
-ghost use Rattle.std.specs.Prelude.{◌≡◌, ◌≤◌, ◌<◌, ◌+◌, ◌^◌, ◌++◌, IfOk, OnOk, Some, codes, decimal, length};
+ghost use Rattle.std.specs.Prelude.{◌≡◌, ◌≤◌, ◌<◌, ◌+◌, ◌^◌, ◌++◌, IfOk, OnOk, codes, decimal, length};
 ghost use Rattle.avida_port.specs.Ports.{SinkState, SourceState};
 ghost use Rattle.log_lines.specs.Line.{Count};
 ghost use Rattle.log_lines.specs.LineText.{line_text};

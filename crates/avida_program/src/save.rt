@@ -1,5 +1,5 @@
 // The command `save`.
-ghost use Rattle.std.specs.Prelude.{◌≡◌, ◌≤◌};
+ghost use Rattle.std.specs.Prelude.{◌≤◌};
 ghost use Rattle.world_config.specs.Shown.{values_of};
 ghost use Rattle.written_texts.specs.SinkChanges.{change};
 ghost use Rattle.written_texts.specs.WrittenText.{WritesAll};

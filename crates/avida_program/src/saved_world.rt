@@ -1,5 +1,5 @@
 // Writes a saved world.
-ghost use Rattle.std.specs.Prelude.{◌≡◌, ◌<◌, ◌*◌, None, length, slice_index_or};
+ghost use Rattle.std.specs.Prelude.{◌<◌, ◌*◌, None, length, slice_index_or};
 ghost use Rattle.lineage_log.specs.Slots.{taken};
 ghost use Rattle.world_rules.specs.World.{ids_of};
 ghost use Rattle.saved_lines.specs.SavedText as text;

@@ -2,7 +2,6 @@
 ghost use Rattle.std.specs.Prelude.{◌≡◌, ◌+◌, ◌≤◌, ◌++◌, codes};
 ghost use Rattle.std.specs.List.{flat_map};
 ghost use Rattle.arrayvec.specs.ArrayVec.{array_vec_len};
-ghost use Rattle.instruction_set.specs.Letter.{name_of};
 ghost use Rattle.logic_tasks.specs.LogicTasks as tasks;
 ghost use Rattle.divide_rules.specs.RuleName.{rule_name_of};
 ghost use Rattle.organism.specs.TracedStep.{remark_value, traced_value};

@@ -1,5 +1,5 @@
 // The placing of newborns, one after another.
-ghost use Rattle.std.specs.Prelude.{◌≡◌, ◌+◌, ◌*◌, ◌<◌, ◌≤◌, ◌^◌, ◌∷◌, [], ◌==◌, if◌then◌else◌, All, IfOk, OnOk, OnErr, Some, None, filter, is_none, length, slice_index_or, slice_set, vec_capacity};
+ghost use Rattle.std.specs.Prelude.{◌≡◌, ◌+◌, ◌*◌, ◌<◌, ◌≤◌, ◌^◌, ◌∷◌, [], ◌==◌, if◌then◌else◌, All, IfOk, OnOk, OnErr, Some, filter, is_none, length, slice_set, vec_capacity};
 ghost use Rattle.random_streams.specs.RandomStream.{word_of, after};
 ghost use Rattle.birth_board.specs.Torus.{torus_numbers, cells_of};
 ghost use Rattle.birth_board.specs.Placement.{is_free, chosen_from, chosen_cell, placing_of, place_stream, CanPlace, ArePlaced, AreSettled};

@@ -1,5 +1,5 @@
 // What the lines of a saved world have told so far.
-ghost use Rattle.std.specs.Prelude.{◌≡◌, ◌∷◌, ◌++◌, ◌*◌, ◌&&◌, ◌==◌, ◌≤◌, [], IfOk, IsTrue, length, nat_le, nat_lt, not};
+ghost use Rattle.std.specs.Prelude.{◌≡◌, ◌∷◌, ◌++◌, ◌*◌, ◌&&◌, ◌≤◌, [], IfOk, IsTrue, length, nat_lt};
 ghost use Rattle.saved_lines.specs.SavedForms.{IsMachineLine, IsOrganismLine};
 ghost use Rattle.saved_lines.specs.SavedLines.{values_of_organism};
 ghost use Rattle.saved_lines.specs.SavedValues.{head_values, organism_values};

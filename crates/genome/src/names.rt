@@ -1,7 +1,7 @@
 // Genomes spelled by names.
 ghost use Rattle.std.specs.Prelude.{◌≡◌, ◌≤◌, IfSome, length, ◌≢◌, ◌==◌, ◌++◌, ◌∷◌, [], IfOk, IfErr, OnOk, OnErr, filter_map, position, reverse};
 ghost use Rattle.std.specs.List.{position_from, before_first};
-ghost use Rattle.instruction_set.specs.Letter.{letter_named, name_of};
+ghost use Rattle.instruction_set.specs.Letter.{letter_named};
 ghost use Rattle.genome.specs.Genome.{letters};
 ghost use Rattle.genome.specs.GenomeText.{after_blanks, between_blanks, is_bad_line, is_blank, name_lines};
 ghost use Rattle.genome.specs.GenomeText.{names_of, names_text_of, spelled_by_names, word_of_line};

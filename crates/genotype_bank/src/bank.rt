@@ -1,5 +1,5 @@
 // The bank.
-ghost use Rattle.std.specs.Prelude.{◌≡◌, ◌+◌, ◌-◌, ◌<◌, ◌^◌, ◌≤◌, ◌++◌, ◌∷◌, [], IfOk, Some, is_ok, map, slice_get};
+ghost use Rattle.std.specs.Prelude.{◌≡◌, ◌+◌, ◌-◌, ◌<◌, ◌^◌, ◌≤◌, ◌++◌, [], IfOk, Some, is_ok, map, slice_get};
 ghost use mathlib.Core.List.{IsPrefix};
 ghost use Rattle.std.specs.List.Sorted.{IsPermutation};
 ghost use Rattle.genome.specs.Genome.{letters};

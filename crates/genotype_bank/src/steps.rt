@@ -1,5 +1,5 @@
 // The steps of a call on a bank's table, one by one.
-ghost use Rattle.std.specs.Prelude.{◌≡◌, ℕ, ◌+◌, ◌-◌, ◌%◌, ◌^◌, ◌<◌, ◌≤◌, [], ◌∷◌, ◌++◌, ◌⊎◌, None, Some, false, true, List};
+ghost use Rattle.std.specs.Prelude.{◌≡◌, ℕ, ◌+◌, ◌-◌, ◌%◌, ◌^◌, ◌<◌, [], ◌∷◌, ◌++◌, ◌⊎◌, None, Some, false, true, List};
 ghost use mathlib.Core.List.{IsPrefix};
 ghost use Rattle.genotype_bank.specs.BankHistory.{entry, genotypes_of, calls_under};
 ghost use Rattle.genotype_bank.specs.Views.{idle_view, Carries};

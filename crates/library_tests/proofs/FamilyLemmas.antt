@@ -1,6 +1,6 @@
 -- A family of three: a founder, its child and its grandchild.
 use Rattle.std.proofs.Common.{◌≡◌, ◌∙◌, refl, sym, ap, subst, unwrap_or, ℕ, ◌<◌, List, [], ◌∷◌, Option, Some, None, Ok, arith}
-use Rattle.std.specs.Prelude.{All, Contains, IsOk, IsSome, is_ok}
+use Rattle.std.specs.Prelude.{Contains, IsOk, IsSome, is_ok}
 use Rattle.std.proofs.lemmas.List.Elements.{All-cons, All-nil}
 use Rattle.instruction_set.specs.declared.letter.Letter.{Letter}
 use Rattle.mutations.specs.BirthRecord.{BirthRecord, child_of}

@@ -1,5 +1,5 @@
 -- The bytes of a log are read as what `log_of` gives, and as nothing else.
-use Rattle.std.proofs.Common.{◌≡◌, ℕ, ◌+◌, Bool, true, false, List, [], ◌∷◌, ◌++◌, length, Option, Some, None, Result, Ok, Err, refl, sym, ap, subst, ◌∙◌, arith, nat_eq, append_assoc, ◌⊎◌, inl, inr}
+use Rattle.std.proofs.Common.{◌≡◌, ℕ, ◌+◌, List, [], ◌∷◌, ◌++◌, length, Option, Some, None, Result, Ok, Err, refl, sym, ap, subst, ◌∙◌, arith, append_assoc, ◌⊎◌, inl, inr}
 use Rattle.std.specs.Prelude.{◌==◌, ◌≢◌}
 use Rattle.std.specs.List.{AllByRecursion}
 use Rattle.std.proofs.lemmas.Bool.{cases_Bool}
@@ -16,8 +16,8 @@ use Rattle.lineage_log.specs.declared.reason.Reason.TheVariants as reason
 use Rattle.lineage_log.specs.Order.{LogPlace, Before, Within, After, IsWhole, and_on, told, told_all}
 use Rattle.lineage_log.specs.LogGrammar.{log_of, pieces_log, with_line}
 use Rattle.lineage_log.specs.LogValues.{with_front}
-use Rattle.lineage_log.specs.ReadsLog.{BeginsWith, GoodFront, IsFaulty, ReadsLog, lines_text, stop_at}
-use Rattle.lineage_log.proofs.LogLaws.{cut, cut_some, log_takes, place_is, read_back, went_on}
+use Rattle.lineage_log.specs.ReadsLog.{BeginsWith, IsFaulty, ReadsLog, lines_text, stop_at}
+use Rattle.lineage_log.proofs.LogLaws.{cut, cut_some, place_is, read_back, went_on}
 use Rattle.lineage_log.proofs.ReadLemmas.{bad_line, bad_order, front_none, good_line}
 
 -- the bytes have a newline, with the first piece before it

@@ -1,5 +1,5 @@
 // Reads the lines of a log one after another.
-ghost use Rattle.std.specs.Prelude.{◌≡◌, ◌<◌, length};
+ghost use Rattle.std.specs.Prelude.{◌≡◌, ◌<◌};
 ghost use Rattle.lineage_log.specs.LogGrammar.{last_piece};
 ghost use Rattle.lineage_log.specs.Places.{TellsPlace, place_of};
 ghost use Rattle.lineage_log.specs.LogValues.{stop_of};

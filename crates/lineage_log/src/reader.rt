@@ -1,5 +1,5 @@
 // What is known of a log between two of its lines.
-ghost use Rattle.std.specs.Prelude.{◌≡◌, ◌≢◌, ℕ, ◌+◌, ◌<◌, ◌≤◌, ◌&&◌, ◌==◌, OnOk, IsTrue, ◌*◌, ◌^◌, ◌-◌, [], option_map, Ok, Err, if◌then◌else◌, length, slice_get, Some};
+ghost use Rattle.std.specs.Prelude.{◌≡◌, ◌≢◌, ℕ, ◌+◌, ◌<◌, ◌≤◌, ◌&&◌, ◌==◌, OnOk, IsTrue, ◌*◌, ◌^◌, ◌-◌, option_map, Ok, Err, if◌then◌else◌, length, slice_get, Some};
 ghost use Rattle.genome.specs.Genome.{letters};
 ghost use Rattle.mutations.specs.BirthRecord.{record_of};
 ghost use Rattle.log_lines.specs.Line.{End, line_values};

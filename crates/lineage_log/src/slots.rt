@@ -1,5 +1,5 @@
 // Who stands in each cell.
-ghost use Rattle.std.specs.Prelude.{◌≡◌, ◌<◌, ◌≤◌, ◌^◌, ◌∷◌, [], None, Some, IfOk, length, replicate, slice_get, slice_set, true};
+ghost use Rattle.std.specs.Prelude.{◌≡◌, ◌<◌, None, Some, IfOk, length, replicate, slice_get, slice_set, true};
 ghost use Rattle.lineage_log.specs.Slots.{holds, taken};
 
 use avida_port::Memory;

@@ -1,5 +1,5 @@
 // A tree of the living and their ancestors.
-ghost use Rattle.std.specs.Prelude.{◌≡◌, ℕ, [], Contains, IfOk, IsOk, IsSome, None, Ok, OnErr, OnOk, Some, List, length};
+ghost use Rattle.std.specs.Prelude.{◌≡◌, ℕ, Contains, IfOk, IsOk, IsSome, None, Ok, OnErr, OnOk, Some, List, length};
 ghost use Rattle.instruction_set.specs.declared.letter.Letter.{Letter};
 ghost use Rattle.genome.specs.Genome.{letters};
 ghost use Rattle.mutations.specs.BirthRecord.{child_of, record_of};

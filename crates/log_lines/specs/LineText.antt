@@ -5,7 +5,6 @@
 use Prim.Native.Char.{code}
 use Rattle.std.specs.Prelude.{◌≡◌, ℕ, List, [], ◌∷◌, ◌++◌, length, IfSome}
 use Rattle.std.specs.List.{AllByRecursion}
-use Rattle.instruction_set.specs.declared.letter.Letter.{Letter}
 use Rattle.random_streams.specs.RandomStream.{greatest_side, million}
 use Rattle.mutations.specs.RecordForm.{HasGenomeLength, HasRecordForm, IsSmall, IsWithin}
 use Rattle.log_lines.specs.Rows.{Row}

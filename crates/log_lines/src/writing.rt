@@ -1,5 +1,5 @@
 // Writes the lines of a log, each into the bytes that it is given.
-ghost use Rattle.std.specs.Prelude.{ℕ, ◌≡◌, ◌++◌, ◌∷◌, [], List, Option, decimal, codes, take, Ok, OnOk, OnErr};
+ghost use Rattle.std.specs.Prelude.{◌≡◌, ◌++◌, ◌∷◌, [], Option, decimal, codes, take, Ok, OnOk, OnErr};
 ghost use Rattle.instruction_set.specs.Letter.{byte_of};
 ghost use Rattle.genome.specs.Genome as genome_spec;
 ghost use Rattle.mutations.specs.BirthRecord.{record_of, written_in};

@@ -1,6 +1,6 @@
 // Which task an output does.
 ghost use Rattle.std.specs.Prelude.{◌≡◌, ◌<◌, length};
-ghost use Rattle.std.specs.Int.{cast_unsigned, w32};
+ghost use Rattle.std.specs.Int.{cast_unsigned};
 ghost use Rattle.logic_tasks.specs.LogicTasks.{computes, does_pair, does_with, does, task_done};
 
 use crate::{Inputs, TASKS, Task};

@@ -1,5 +1,5 @@
 // The inputs of an organism.
-ghost use Rattle.std.specs.Prelude.{◌≡◌, ◌≤◌, ◌%◌, min, take, slice_index_or, length};
+ghost use Rattle.std.specs.Prelude.{◌≡◌, ◌%◌, min, slice_index_or};
 ghost use Rattle.std.specs.Int.{cast_signed, w32};
 ghost use Rattle.logic_tasks.specs.Inputs.{inputs_of, known_inputs, low_of};
 

@@ -6,7 +6,7 @@ ghost use Rattle.random_streams.specs.RandomStream.{word_of, word_count};
 ghost use Rattle.mutations.specs.ChildTexts.{AreTextsOfChild, IsLengthWithin, TakesWordsOfBirth};
 ghost use Rattle.mutations.specs.DivideErrors.{birth_words};
 ghost use Rattle.mutations.specs.Rates.{numbers_of, range_of};
-ghost use Rattle.mutations.specs.BirthRecord.{record_of, child_of, origin_of, after_birth, written_in, written_of, drawn_by_divide};
+ghost use Rattle.mutations.specs.BirthRecord.{record_of, child_of, origin_of, written_in, written_of, drawn_by_divide};
 ghost use Rattle.mutations.specs.Pass.{Fits, Passed};
 
 use crate::indels::{Indel, draw_indels};

@@ -1,5 +1,5 @@
 // The second and the third part of a divide's errors: insertions, and then deletions.
-ghost use Rattle.std.specs.Prelude.{◌≡◌, ℕ, ◌+◌, ◌-◌, ◌*◌, ◌≤◌, ◌<◌, ◌&&◌, ◌∷◌, [], ◌++◌, List, insert, length, IfOk, OnOk};
+ghost use Rattle.std.specs.Prelude.{◌≡◌, ◌+◌, ◌-◌, ◌*◌, ◌≤◌, ◌<◌, ◌&&◌, ◌∷◌, [], ◌++◌, List, insert, length, IfOk, OnOk};
 ghost use Rattle.instruction_set.specs.declared.letter.Letter.{Letter};
 ghost use Rattle.random_streams.specs.RandomStream.{word_of, next_word, after, hits, word_count, million};
 ghost use Rattle.mutations.specs.Indels.{has_room, site_indel, indels_from, site_indels, single_indel, site_rate, single_rate, test_at, test_range, indels};

@@ -1,5 +1,5 @@
 // Who publishes.
-ghost use Rattle.std.specs.Prelude.{◌≡◌, ◌≤◌, [], ◌∷◌, ◌++◌, IfOk, OnErr, OnOk, length, replicate};
+ghost use Rattle.std.specs.Prelude.{◌≡◌, ◌≤◌, [], ◌∷◌, ◌++◌, IfOk, OnErr, OnOk, replicate};
 ghost use Rattle.published_world.specs.PublicationHistory.{IsPublication, MayFollow};
 
 use crate::history::History;

@@ -1,7 +1,7 @@
 -- The lines of a saved world, and the text of each (docs/FORMATS.md, "Saved worlds"): a mark, and
 -- words, each behind a space.
 use Prim.Native.Char.{code}
-use Rattle.std.specs.Prelude.{ℕ, ℤ, Bool, true, false, List, [], ◌∷◌, ◌++◌, map, decimal, if◌then◌else◌, slice_index_or}
+use Rattle.std.specs.Prelude.{ℕ, ℤ, Bool, true, false, List, [], ◌∷◌, ◌++◌, map, if◌then◌else◌, slice_index_or}
 use Rattle.std.specs.Fmt.{signed_decimal}
 use Rattle.instruction_set.specs.declared.letter.Letter.{Letter}
 use Rattle.instruction_set.specs.Letter.{byte_of}

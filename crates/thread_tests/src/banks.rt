@@ -1,5 +1,5 @@
 // Numbers of genomes, by one thread and by two.
-ghost use Rattle.std.specs.Prelude.{◌≡◌, IfOk};
+ghost use Rattle.std.specs.Prelude.{◌≡◌};
 
 use avida_port::Memory;
 use genome::{Genome, read_letters};

@@ -1,5 +1,5 @@
 // Pictures, and observers that look at them.
-ghost use Rattle.std.specs.Prelude.{◌≡◌, ◌+◌, ◌<◌, ◌^◌, [], ◌∷◌, IfOk, OnErr, OnOk, Some};
+ghost use Rattle.std.specs.Prelude.{◌≡◌, ◌+◌, ◌<◌, IfOk, OnErr, OnOk, Some};
 ghost use Rattle.published_world.specs.PublicationHistory.{last_of};
 
 use avida_port::Memory;

@@ -1,5 +1,5 @@
 // The machine: its parts, and the few ways in which an instruction changes them.
-ghost use Rattle.std.specs.Prelude.{◌≡◌, ℕ, ℤ, pos, ◌-◌, ◌*◌, ◌<◌, ◌≤◌, IfOk, OnErr, OnOk, List, [], ◌∷◌, length, ◌+◌, ◌++◌, replicate, true, false, vec_capacity, IsTrue};
+ghost use Rattle.std.specs.Prelude.{◌≡◌, ◌-◌, ◌*◌, ◌<◌, ◌≤◌, IfOk, OnErr, OnOk, [], ◌∷◌, length, true, false};
 ghost use Rattle.instruction_set.specs.declared.letter.Letter.{Letter};
 ghost use Rattle.genome.specs.Genome.{letters};
 ghost use Rattle.virtual_cpu.specs.Registers.{value_of};

@@ -1,6 +1,6 @@
 // The instructions: one method a letter, and the step that picks it.
-ghost use Rattle.std.specs.Prelude.{◌≡◌, ◌<◌, ◌≤◌, ℤ, length};
-ghost use Rattle.virtual_cpu.specs.Allocation.{can_allocate, with_allocation};
+ghost use Rattle.std.specs.Prelude.{◌≡◌, ◌<◌, ◌≤◌, length};
+ghost use Rattle.virtual_cpu.specs.Allocation.{can_allocate};
 ghost use Rattle.virtual_cpu.specs.Copying.{after_h_copy};
 ghost use Rattle.virtual_cpu.specs.Divide.{divide_question};
 ghost use Rattle.virtual_cpu.specs.Effects.{telling, going_on, moving, allocating_if, effect_of};

@@ -1,5 +1,5 @@
 // The places of memory, in one list.
-ghost use Rattle.std.specs.Prelude.{◌≡◌, ◌+◌, ◌-◌, ◌<◌, ◌≤◌, ◌++◌, true, length, map, take, drop, replicate, slice_set, slice_index_or, IfOk, vec_capacity};
+ghost use Rattle.std.specs.Prelude.{◌≡◌, ◌+◌, ◌-◌, ◌<◌, ◌≤◌, ◌++◌, true, length, map, slice_set, slice_index_or, IfOk, vec_capacity};
 ghost use Rattle.instruction_set.specs.declared.letter.Letter.TheVariants.{NopA};
 ghost use Rattle.label_search.specs.Site.{letters_of};
 ghost use Rattle.virtual_cpu.specs.Divide.{count_of, parent_part, child_part};

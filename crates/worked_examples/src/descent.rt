@@ -1,5 +1,5 @@
 // Who is kept of a line of descent (docs/WORLD.md, "Lines of descent").
-ghost use Rattle.std.specs.Prelude.{◌≡◌, [], ◌∷◌, None, Some, length, map};
+ghost use Rattle.std.specs.Prelude.{◌≡◌, [], ◌∷◌, None, Some, map};
 ghost use Rattle.lineage_log.specs.Ancestry.{kept_of};
 ghost use Rattle.lineage_log.specs.Links.{Link};
 

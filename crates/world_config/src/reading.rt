@@ -1,6 +1,6 @@
 // Reading a document.
 ghost use Rattle.std.specs.Prelude.{◌≡◌, ◌≢◌, ◌≤◌, ℕ, None, Some, Ok, Err, IfOk, IfErr, OnOk};
-ghost use Rattle.std.specs.Prelude.{length, pos};
+ghost use Rattle.std.specs.Prelude.{length};
 ghost use Rattle.toml.specs.Data.{array, no_items, string};
 ghost use Rattle.toml.specs.View.{items_view, table_view};
 ghost use Rattle.genome.specs.Genome.{letters};

@@ -1,5 +1,5 @@
 // The lives of an update, all from one start.
-ghost use Rattle.std.specs.Prelude.{◌≡◌, ◌+◌, ◌<◌, ◌≤◌, ◌^◌, ℕ, All, IfOk, length, map, sum, slice_index_or};
+ghost use Rattle.std.specs.Prelude.{◌≡◌, ◌<◌, ◌≤◌, ◌^◌, ℕ, All, IfOk, length, map, sum, slice_index_or};
 ghost use Rattle.cell_shards.specs.CellLives.{round_numbers};
 ghost use Rattle.census.specs.Changes.{CanRenew};
 ghost use Rattle.merit_slices.specs.Slices.{slices_of};

@@ -1,5 +1,5 @@
 // Who stands in each cell, and what is counted of them.
-ghost use Rattle.std.specs.Prelude.{◌≡◌, ◌+◌, ◌++◌, [], ◌<◌, ◌≤◌, ◌^◌, All, None, Some, IfOk, OnErr, OnOk, length, map, option_map, replicate, slice_get, slice_index_or, slice_set};
+ghost use Rattle.std.specs.Prelude.{◌≡◌, ◌+◌, [], ◌<◌, ◌≤◌, ◌^◌, None, Some, IfOk, OnErr, OnOk, length, map, option_map, replicate, slice_get, slice_index_or, slice_set};
 ghost use Rattle.census.specs.Dominance.{dominant_value};
 ghost use Rattle.genome.specs.Genome.{letters};
 ghost use Rattle.genotype_bank.specs.BankHistory.{with_genome};
