@@ -47,7 +47,7 @@ fn bodies_in(cells: &[Option<BoxedOrganism>]) -> u64 {
     seen
 }
 
-/// Something from each line of memory of a body.
+/// Some fields of a body that lie far apart in memory.
 #[inline(always)]
 fn body_of(body: &Body) -> u64 {
     let organism = &body.organism;
