@@ -1,9 +1,12 @@
 -- What sites hold, as they are made, marked, written and read.
-use Rattle.std.proofs.Common.{arith, refl, sym, ap, ◌≡◌, ◌∙◌, ℕ, zero, suc, ◌+◌, ◌<◌, ◌≤◌, List, [], ◌∷◌, ◌++◌, Bool, true, false, length, map, replicate, take, drop, get_or, set}
+use Rattle.std.proofs.Common.{arith, refl, sym, ap, ◌≡◌, ◌∙◌, ℕ, zero, suc, ◌+◌, ◌<◌, ◌≤◌, List, [], ◌∷◌, ◌++◌, Bool, true, false, cond, length, map, replicate, take, drop, get_or, set}
+use Rattle.std.specs.Prelude.{count_by}
 use Rattle.std.proofs.lemmas.List.{length-map, map-append, map-set, map_push, take_more, take_all, take-map, drop-map, get_or-map, set-get_or}
+use Rattle.std.proofs.lemmas.List.Sums.{sum_by-cons}
 use Rattle.instruction_set.specs.declared.letter.Letter.{Letter}
 use Rattle.instruction_set.specs.declared.letter.Letter.TheVariants.{NopA}
 use Rattle.label_search.specs.Site.{Site, letters_of}
+use Rattle.virtual_cpu.specs.Divide.{count_of}
 use Rattle.virtual_cpu.specs.SiteLists.{SiteLists, clean_of, executed_of, copied_of, fresh_site, fresh_lists, with_places, with_copy, lists_in}
 
 -- lists that are equal, one by one
@@ -165,3 +168,10 @@ part f shown sites seen from count is view =
     ap (λ (s : List Site). map f (take count (drop from s))) is
     ∙ sym (take-map f count (drop from sites)) ∙ ap (take count) (sym (drop-map f from sites))
     ∙ ap (λ l. take count (drop from l)) view
+
+-- sites that pass a test are counted by what the test gives of each
+pub counted : (f : Site → Bool) (sites : List Site) → count_by f sites ≡ count_of (map f sites)
+counted f [] = refl
+counted f (site ∷ sites) = sum_by-cons (λ s. cond (f s) 1 0) site sites
+    ∙ ap (λ n. cond (f site) 1 0 + n) (counted f sites)
+    ∙ sym (sum_by-cons (λ b. cond b 1 0) (f site) (map f sites))

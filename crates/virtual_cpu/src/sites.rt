@@ -255,18 +255,31 @@ fn refresh(items: &mut Vec<Site>)
     }
 }
 
+// Loops, since the compiler makes them count several sites at once, and a filter's count it doesn't.
 fn count_executed(sites: &[Site]) -> usize
     ensures count { result ≡ count_of (executed_of sites.now) }
     ensures bound { result ≤ length sites.now }
 {
-    sites.iter().filter(|site| site.executed()).count()
+    let mut count = 0;
+    for site in sites {
+        if site.executed() {
+            count += 1;
+        }
+    }
+    count
 }
 
 fn count_copied(sites: &[Site]) -> usize
     ensures count { result ≡ count_of (copied_of sites.now) }
     ensures bound { result ≤ length sites.now }
 {
-    sites.iter().filter(|site| site.copied()).count()
+    let mut count = 0;
+    for site in sites {
+        if site.copied() {
+            count += 1;
+        }
+    }
+    count
 }
 
 fn letters_in(alloc: Global, sites: &[Site]) -> Result<Vec<Letter>, AllocError>
