@@ -69,7 +69,7 @@ lettered_is make front at letter is =
     let number : number_of 0 4294967295 front ≡ Some at = sym is in
     rw (n, before, end, number, letter_of_byte-byte_of letter) refl
 
-module _ (mark : ℕ) (bytes : List ℕ) (at len most : ℕ) (left : Option (List ℕ))
+module _ (bytes : List ℕ) (at len most : ℕ) (left : Option (List ℕ))
     (greatest : most ≡ 4294967295) (number : Some at ≡ number_of 0 most (leading_digits bytes))
     (far : len ≡ digits_len bytes) (within : len ≤ length bytes) where
   -- the place
@@ -83,33 +83,35 @@ module _ (mark : ℕ) (bytes : List ℕ) (at len most : ℕ) (left : Option (Lis
       ap (λ (l : List ℕ). leading_digits bytes ++ l) (sym is ∙ tail_is len bytes within
       ∙ ap (λ (k : ℕ). drop k bytes) far) ∙ digits_split bytes
 
-  -- a point or an insertion
-  pub first_lettered : (make : ToChange) (letter : Letter) → 44 < mark
-      → ((rest : List ℕ) → read_change (mark ∷ rest) ≡ read_lettered make rest)
-      → take (length bytes - len) (drop len bytes) ≡ byte_of letter ∷ comma_then left
-      → first_in (mark ∷ bytes) ≡ then_left (make at letter) left
-  first_lettered make letter plain marked is =
-      let front = leading_digits bytes in
-      let piece : List ℕ = mark ∷ (front ++ byte_of letter ∷ []) in
-      let whole : piece ++ comma_then left ≡ mark ∷ bytes =
-      ap (λ (l : List ℕ). mark ∷ l)
-      (append_assoc front (byte_of letter ∷ []) (comma_then left)
-      ∙ parted (byte_of letter ∷ comma_then left) is) in
-      ap first_in (sym whole)
-      ∙ first_piece piece left (make at letter) (
-        plain,
-        above_append 44 front (byte_of letter ∷ []) (digits_plain bytes)
-            (letter_above letter, tt),
-      )
-      (marked (front ++ byte_of letter ∷ []) ∙ lettered_is make front at letter place)
+  module _ (mark known : ℕ) (same : mark ≡ known) (plain : 44 < known) where
+    -- a point or an insertion
+    pub first_lettered : (make : ToChange) (letter : Letter)
+        → ((rest : List ℕ) → read_change (known ∷ rest) ≡ read_lettered make rest)
+        → take (length bytes - len) (drop len bytes) ≡ byte_of letter ∷ comma_then left
+        → first_in (mark ∷ bytes) ≡ then_left (make at letter) left
+    first_lettered make letter marked is =
+        let front = leading_digits bytes in
+        let piece : List ℕ = known ∷ (front ++ byte_of letter ∷ []) in
+        let whole : piece ++ comma_then left ≡ known ∷ bytes =
+        ap (λ (l : List ℕ). known ∷ l)
+        (append_assoc front (byte_of letter ∷ []) (comma_then left)
+        ∙ parted (byte_of letter ∷ comma_then left) is) in
+        ap (λ (m : ℕ). first_in (m ∷ bytes)) same ∙ ap first_in (sym whole)
+        ∙ first_piece piece left (make at letter) (
+          plain,
+          above_append 44 front (byte_of letter ∷ []) (digits_plain bytes)
+              (letter_above letter, tt),
+        )
+        (marked (front ++ byte_of letter ∷ []) ∙ lettered_is make front at letter place)
 
-  -- a deletion
-  pub first_deletion : 44 < mark
-      → ((rest : List ℕ) → read_change (mark ∷ rest) ≡ option_map Delete (small.read rest))
-      → take (length bytes - len) (drop len bytes) ≡ comma_then left
-      → first_in (mark ∷ bytes) ≡ then_left (Delete at) left
-  first_deletion plain marked is =
-      let front = leading_digits bytes in
-      ap first_in (sym (ap (λ (l : List ℕ). mark ∷ l) (parted (comma_then left) is)))
-      ∙ first_piece (mark ∷ front) left (Delete at) (plain, digits_plain bytes)
-      (marked front ∙ ap (option_map Delete) (sym place))
+    -- a deletion
+    pub first_deletion :
+        ((rest : List ℕ) → read_change (known ∷ rest) ≡ option_map Delete (small.read rest))
+        → take (length bytes - len) (drop len bytes) ≡ comma_then left
+        → first_in (mark ∷ bytes) ≡ then_left (Delete at) left
+    first_deletion marked is =
+        let front = leading_digits bytes in
+        ap (λ (m : ℕ). first_in (m ∷ bytes)) same
+        ∙ ap first_in (sym (ap (λ (l : List ℕ). known ∷ l) (parted (comma_then left) is)))
+        ∙ first_piece (known ∷ front) left (Delete at) (plain, digits_plain bytes)
+        (marked front ∙ ap (option_map Delete) (sym place))
