@@ -3,7 +3,7 @@ use Rattle.std.proofs.Common.{◌≡◌, ℕ, zero, suc, mul-le-mul, ◌+◌, �
 use Rattle.std.specs.Prelude.{◌==◌, ◌&&◌, ◌*◌, if◌then◌else◌, nat_lt, slice_get, slice_set, unwrap_or, option_map, option_and_then, IsSome}
 use Rattle.std.specs.Result.{result_ok}
 use Rattle.std.proofs.lemmas.Bool.{and_parts, eqb-true}
-use Rattle.std.proofs.lemmas.List.{length-set}
+use Rattle.std.proofs.lemmas.List.{length-append, length-replicate, length-set}
 use Rattle.std.proofs.lemmas.Option.{slice_get-map}
 use Rattle.instruction_set.specs.declared.letter.Letter.{Letter}
 use Rattle.mutations.specs.BirthRecord.{BirthRecord, child_of}
@@ -20,7 +20,7 @@ use Rattle.lineage_log.specs.LogGrammar.{IsGoodLog}
 use Rattle.lineage_log.specs.Replay.{Seen, born_in, seen_on, seen_all, Resident, residents_from, replay_of}
 use Rattle.lineage_log.specs.Residents.{EachIsKept, kept_genomes}
 use Rattle.lineage_log.proofs.LogLaws.{went_on, place_is}
-use Rattle.lineage_log.proofs.StandingLemmas.{get_written, get_pushed, get_before, get_last, length_pushed, empty, none_there, length_replicate, People, length_without, kept_before, IsTidy, tidy_death, tidy_newcomer, tidy_renewed}
+use Rattle.lineage_log.proofs.StandingLemmas.{get_written, get_pushed, get_before, get_last, empty, none_there, People, length_without, kept_before, IsTidy, tidy_death, tidy_newcomer, tidy_renewed}
 
 -- ---- a reader beside what the definition of replay sees
 
@@ -99,8 +99,8 @@ newcomer_agrees r s stage id cell over genome births agrees next stood = record 
   same = ap (λ (n : ℕ). slice_set r.standing cell (Some n))
       (sym (eqb-true id (length r.people) next))
       ∙ ap (λ (slots : List (Option ℕ)). slice_set slots cell (Some id)) agrees.same;
-  as_many = length_pushed r.people (Some genome) ∙ ap suc agrees.as_many
-      ∙ sym (length_pushed s.genomes genome);
+  as_many = length-append r.people (Some genome ∷ []) ∙ ap (λ n. n + 1) agrees.as_many
+      ∙ sym (length-append s.genomes (genome ∷ []));
   kept = newcomer_kept r s genome agrees;
   tidy = tidy_newcomer r.standing r.people r.leaving agrees.tidy cell over genome
       (holds_is (slice_get r.standing cell) over stood);
@@ -312,7 +312,7 @@ first_agrees version cells cell genome few = record {
   as_many = refl;
   kept = first_kept genome;
   tidy = first_tidy cells cell genome;
-  few = few_still (empty cells) cell (Some 0) (omega (arith, length_replicate cells));
+  few = few_still (empty cells) cell (Some 0) (omega (arith, length-replicate {A = Option ℕ} cells None));
 }
 
 -- before the first line

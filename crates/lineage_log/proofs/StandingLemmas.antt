@@ -3,7 +3,7 @@ use Rattle.std.proofs.Common.{◌≡◌, ℕ, zero, suc, ◌<◌, List, [], ◌�
 use Rattle.std.specs.Prelude.{◌≢◌, ◌⊎◌, replicate, slice_get, slice_set}
 use Rattle.std.specs.List.{AllByRecursion}
 use Rattle.std.specs.Option.{option_to_list}
-use Rattle.std.proofs.lemmas.List.{length-set}
+use Rattle.std.proofs.lemmas.List.{length-append, length-set}
 use Rattle.std.proofs.lemmas.Option.{slice_get_within}
 use Rattle.instruction_set.specs.declared.letter.Letter.{Letter}
 use Rattle.lineage_log.specs.People.{without}
@@ -55,11 +55,6 @@ pub get_last : {A : Type 0} (xs : List A) (y : A) → slice_get (xs ++ y ∷ [])
 get_last [] y = refl
 get_last (x ∷ xs) y = get_last xs y
 
--- a list with one item more at its end is longer by 1
-pub length_pushed : {A : Type 0} (xs : List A) (y : A) → length (xs ++ y ∷ []) ≡ suc (length xs)
-length_pushed [] y = refl
-length_pushed (x ∷ xs) y = ap suc (length_pushed xs y)
-
 -- cells in which nobody stands
 abbrev pub empty : ℕ → List (Option ℕ)
 empty cells = replicate cells None
@@ -69,11 +64,6 @@ pub none_there : (cells cell id : ℕ) → slice_get (empty cells) cell ≡ Some
 none_there zero cell id is = absurd cc
 none_there (suc cells) zero id is = absurd cc
 none_there (suc cells) (suc cell) id is = none_there cells cell id is
-
--- there are so many of them
-pub length_replicate : (cells : ℕ) → length (empty cells) ≡ cells
-length_replicate zero = refl
-length_replicate (suc cells) = ap suc (length_replicate cells)
 
 -- what holds of each id and of one more holds of all with that one at the end
 all_pushed : (P : ℕ → Type 0) (xs : List ℕ) (y : ℕ) → AllByRecursion P xs → P y
@@ -239,7 +229,7 @@ module _ (standing : List (Option ℕ)) (people : People) (leaving : List ℕ)
     staying = new_staying cell over stood;
     once = new_once cell;
     gone =
-        let more = length_pushed people (Some genome) in
+        let more = length-append people (Some genome ∷ []) in
         all_with (λ d. d < length (new_people genome)) leaving over
         (all_else (λ d. d < length people) (λ d. d < length (new_people genome))
         (λ d below. omega (arith, more)) leaving tidy.gone)

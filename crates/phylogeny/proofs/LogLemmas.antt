@@ -3,7 +3,7 @@ use Rattle.std.proofs.Common.{◌≡◌, ◌≢◌, ℕ, zero, suc, ◌+◌, ◌
 use Rattle.std.specs.Prelude.{◌==◌, ◌&&◌, flat_map, nat_lt, slice_get}
 use Rattle.std.specs.List.{range_with_len}
 use Rattle.std.specs.Option.{option_or}
-use Rattle.std.proofs.Math.ListN.{length-set}
+use Rattle.std.proofs.Math.ListN.{length-replicate, length-set}
 use Rattle.std.proofs.lemmas.Bool.Decides.{nat_tests}
 use Rattle.instruction_set.specs.declared.letter.Letter.{Letter}
 use Rattle.log_lines.specs.Line.{Line, Start, Death, Birth, Injected, Cleared, Rate, Count, End}
@@ -17,7 +17,8 @@ use Rattle.lineage_log.specs.Slots.{holds, taken}
 use Rattle.phylogeny.specs.LogPedigree.{dweller, newcomer, parent_by_lines, parent_told, pedigree_of}
 use Rattle.phylogeny.specs.Pedigree.{Dweller}
 use Rattle.phylogeny.specs.Slots.{AreBelow, HaveLowerIds, IsPedigree, living_from, newcomer_parent, parent_at, parents_in, pedigree_with, standing_after, standing_on}
-use Rattle.phylogeny.proofs.ReaderLemmas.{below_with, nobody, nobody_there, nobody_length, length_without, IsAt, IsPlaceAt, went_on, within_gives, tested, death_at, newcomer_at, next_id, birth_at, end_at}
+use Rattle.phylogeny.proofs.ListLemmas.{get_replicated}
+use Rattle.phylogeny.proofs.ReaderLemmas.{below_with, nobody, length_without, IsAt, IsPlaceAt, went_on, within_gives, tested, death_at, newcomer_at, next_id, birth_at, end_at}
 
 -- ---- what the lines that are left tell
 
@@ -284,7 +285,9 @@ founded version width height cell genome = record {
   as_many = refl;
   same = refl;
   below = below_with 0 (nobody (width * height)) cell 0 refl
-      (λ c id is. absurd (nobody_there (width * height) c id is));
+      (λ c id is.
+      let none : get_or (nobody (width * height)) c None ≡ None =
+      get_replicated (width * height) c None in absurd cc);
 }
 
 -- a whole log that begins with a world of at most 256 by 256 cells tells a pedigree
@@ -313,7 +316,7 @@ start_told version width height cell genome lines q w h is =
           arith,
           rest.cells,
           set_cells (nobody (width * height)) cell (Some 0),
-          nobody_length (width * height),
+          length-replicate {A = Option ℕ} (width * height) None,
           few,
         );
       };

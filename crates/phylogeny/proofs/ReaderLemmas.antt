@@ -1,7 +1,7 @@
 -- What a reader of a log knows of its organisms, beside the pedigree so far.
-use Rattle.std.proofs.Common.{◌≡◌, ℕ, zero, suc, ◌+◌, ◌<◌, ◌≤◌, Bool, true, false, List, [], ◌∷◌, ◌++◌, Option, Some, None, Result, Ok, Err, length, get_or, set, refl, sym, ap, subst, ◌∙◌, arith}
+use Rattle.std.proofs.Common.{◌≡◌, ℕ, zero, suc, ◌+◌, ◌<◌, ◌≤◌, Bool, true, false, List, [], ◌∷◌, Option, Some, None, Result, Ok, Err, length, set, refl, sym, ap, subst, ◌∙◌, arith}
 use Rattle.std.specs.Prelude.{◌==◌, ◌&&◌, if◌then◌else◌, nat_lt, replicate, slice_get, option_and_then}
-use Rattle.std.proofs.Math.ListN.{length-set}
+use Rattle.std.proofs.Math.ListN.{length-append, length-set}
 use Rattle.std.proofs.lemmas.Bool.{and_parts, eqb-true}
 use Rattle.std.proofs.lemmas.Option.{slice_get_within}
 use Rattle.instruction_set.specs.declared.letter.Letter.{Letter}
@@ -48,28 +48,12 @@ below_with n slots cell id next below =
 abbrev pub nobody : ℕ → List (Option ℕ)
 nobody cells = replicate cells None
 
--- nobody stands in any of them
-pub nobody_there : (cells c id : ℕ) → get_or (nobody cells) c None ≡ Some id → ⊥
-nobody_there zero c id is = absurd cc
-nobody_there (suc cells) zero id is = absurd cc
-nobody_there (suc cells) (suc c) id is = nobody_there cells c id is
-
--- there are so many of them
-pub nobody_length : (cells : ℕ) → length (nobody cells) ≡ cells
-nobody_length zero = refl
-nobody_length (suc cells) = ap suc (nobody_length cells)
-
 -- the people without some ids have as many places
 pub length_without : (ids : List ℕ) (people : List (Option (List Letter)))
     → length (without ids people) ≡ length people
 length_without [] people = refl
 length_without (id ∷ ids) people =
     length_without ids (set people id None) ∙ length-set people id None
-
--- a list with one item more at its end is longer by 1
-length_pushed : {A : Type 0} (xs : List A) (y : A) → length (xs ++ y ∷ []) ≡ length xs + 1
-length_pushed [] y = omega arith
-length_pushed (x ∷ xs) y = let e = length_pushed xs y in omega arith
 
 -- ---- what is known beside a reader
 
@@ -125,7 +109,7 @@ pub newcomer_at : (r : Reader) (stage : Stage) (cell id : ℕ) (over : Option �
     → IsAt (reader_with_newcomer r stage cell over genome births) (count + 1)
     (set standing cell (Some id))
 newcomer_at r stage cell id over genome births count standing next now = record {
-  as_many = length_pushed r.people (Some genome) ∙ ap (λ n. n + 1) now.as_many;
+  as_many = length-append r.people (Some genome ∷ []) ∙ ap (λ n. n + 1) now.as_many;
   same = λ i. set (now.same i) cell (Some ((now.as_many ∙ sym next) i));
   below = below_with count standing cell id next now.below;
 }

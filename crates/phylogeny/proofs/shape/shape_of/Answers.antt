@@ -1,10 +1,11 @@
-use Rattle.std.proofs.Common.{◌≡◌, ℕ, zero, suc, ◌+◌, ◌-◌, ◌<◌, ◌≤◌, cond, eqb, List, Option, Some, length, get_or, set, subst, sym, ap, refl, ◌∙◌, arith}
-use Rattle.std.specs.Prelude.{is_some, nat_le, replicate}
+use Rattle.std.proofs.Common.{◌≡◌, ℕ, ◌+◌, ◌-◌, ◌<◌, ◌≤◌, cond, eqb, List, Option, Some, length, get_or, set, subst, sym, ap, refl, ◌∙◌, arith}
+use Rattle.std.specs.Prelude.{is_some, nat_le}
 use Rattle.std.specs.Option.{option_or}
 use Rattle.std.proofs.lemmas.List.{get_or_default}
 use Rattle.std.proofs.lemmas.List.Sums.{count_by-le-length}
 use Rattle.phylogeny.specs.declared.shape.Shape.{Shape}
 use Rattle.phylogeny.proofs.CountLemmas.{bit}
+use Rattle.phylogeny.proofs.ListLemmas.{get_replicated}
 use Rattle.phylogeny.proofs.SlotLemmas.{living_count}
 use Rattle.phylogeny.proofs.WalkLemmas.{IsWalked, Keeps, children_few, descendants_few, everybody, shape_few, walked_branches, walked_child, walked_common, walked_founder, walked_kept, walked_over, walked_start}
 use Rattle.phylogeny.proofs.shape.shape_of.Goals.{After-index-below, After-keep, In-Some}
@@ -12,15 +13,6 @@ use Rattle.phylogeny.proofs.shape.shape_of.Goals as goal
 
 read_is : (xs : List ℕ) (i r n : ℕ) → length xs ≡ n → i < n → r ≡ get_or xs i r → r ≡ get_or xs i 0
 read_is xs i r n len within is = is ∙ get_or_default xs i r 0 (omega (arith, len))
-
-zeros : ℕ → List ℕ
-zeros n = replicate n 0
-
-zero_at : (n i : ℕ) → get_or (zeros n) i 0 ≡ 0
-unfolding zeros
-zero_at zero i = refl
-zero_at (suc n) zero = refl
-zero_at (suc n) (suc i) = zero_at n i
 
 before : (parents standing : List (Option ℕ)) (bound : ℕ) (descendants children : List ℕ)
     (shape : Shape) → 0 < bound → IsWalked parents standing bound descendants children shape
@@ -37,7 +29,6 @@ at_end parents standing bound descendants children shape ended walked =
     subst (λ (n : ℕ). IsWalked parents standing n descendants children shape) e walked
 
 pub loop-id-init : goal.loop-id-init
-unfolding zeros
 loop-id-init c =
     let none = c.in_ok-children.ensures.items_if_clones_equal (λ y e. e) in
     let as_many : length c.in_ok-children.children.items ≡ length c.args.parents.now =
@@ -47,7 +38,7 @@ loop-id-init c =
     c.requires.among c.in_ok-descendants.ensures.len as_many
     c.in_ok-descendants.ensures.counts
     (λ id within. ap (λ (xs : List ℕ). get_or xs id 0) none
-    ∙ zero_at (length c.args.parents.now) id)
+    ∙ get_replicated (length c.args.parents.now) id 0)
     refl refl refl
 
 -- what the walk has counted when it comes to an id
