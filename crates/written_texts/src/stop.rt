@@ -1,4 +1,7 @@
 // Why a text isn't written whole.
+ghost use Rattle.std.specs.Prelude.{◌≡◌};
+ghost use Rattle.written_texts.specs.WrittenText.{write_stop_of};
+ghost use Rattle.written_texts.specs.declared.stop.WriteStop.TheVariants as stop;
 
 use avida_port::{Memory, SinkStop};
 use std::alloc::AllocError;
@@ -13,9 +16,6 @@ pub enum WriteStop {
 }
 
 impl From<Memory> for WriteStop {
-    ghost use Rattle.std.specs.Prelude.{◌≡◌};
-    ghost use Rattle.written_texts.specs.declared.stop.WriteStop.TheVariants as stop;
-
     ghost from_gives = { λ _ given. given ≡ stop.Memory };
 
     fn from(_e: Memory) -> WriteStop {
@@ -24,9 +24,6 @@ impl From<Memory> for WriteStop {
 }
 
 impl From<AllocError> for WriteStop {
-    ghost use Rattle.std.specs.Prelude.{◌≡◌};
-    ghost use Rattle.written_texts.specs.declared.stop.WriteStop.TheVariants as stop;
-
     ghost from_gives = { λ _ given. given ≡ stop.Memory };
 
     fn from(_e: AllocError) -> WriteStop {
@@ -35,9 +32,6 @@ impl From<AllocError> for WriteStop {
 }
 
 impl From<SinkStop> for WriteStop {
-    ghost use Rattle.std.specs.Prelude.{◌≡◌};
-    ghost use Rattle.written_texts.specs.WrittenText.{write_stop_of};
-
     ghost from_gives = { λ stop given. given ≡ write_stop_of stop };
 
     fn from(stop: SinkStop) -> WriteStop {
