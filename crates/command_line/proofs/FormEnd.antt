@@ -319,10 +319,11 @@ module _ (command : Text) (form : Form) (ids : List Text) (simple : IsSimple for
       ≡ told_with_defaults form (given texts values flags None over)
   end_agrees uses texts values flags over f = go (length texts == length ids) refl
     where
-      all_there : length texts ≡ length ids
+      go : (b : Bool) → (length texts == length ids) ≡ b
           → option_and_then (told_in form ids) (rows_at_end command rules uses)
           ≡ told_with_defaults form (given texts values flags None over)
-      all_there full =
+      go true is =
+          let full : length texts ≡ length ids = grind (arith, nat_tests) in
           let there = filled_full ids texts full in
           let counted : (length texts == form.positionals) ≡ true =
           rw (← simple.count) (grind (arith, nat_tests)) in
@@ -338,20 +339,11 @@ module _ (command : Text) (form : Form) (ids : List Text) (simple : IsSimple for
             flag_values uses flags f.flags_are,
             counted,
           ) refl)
-
-      some_lack : length texts < length ids
-          → option_and_then (told_in form ids) (rows_at_end command rules uses)
-          ≡ told_with_defaults form (given texts values flags None over)
-      some_lack less =
+      go false is =
+          let room = f.room in
+          let less : length texts < length ids = grind (arith, nat_tests) in
           let there = filled_short ids texts less in
           let counted : (length texts == form.positionals) ≡ false =
           rw (← simple.count) (grind (arith, nat_tests)) in
           ap (option_and_then (told_in form ids)) (faults_at uses texts values flags true f there.1)
           ∙ (rw counted refl)
-
-      go : (b : Bool) → (length texts == length ids) ≡ b
-          → option_and_then (told_in form ids) (rows_at_end command rules uses)
-          ≡ told_with_defaults form (given texts values flags None over)
-      go true is = let full : length texts ≡ length ids = grind (arith, nat_tests) in all_there full
-      go false is = let room = f.room in let less : length texts < length ids =
-          grind (arith, nat_tests) in some_lack less

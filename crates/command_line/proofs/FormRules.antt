@@ -12,7 +12,7 @@ use Rattle.command_line.specs.Form.{Form, IsSimple, Valued, are_distinct, has_na
 use Rattle.command_line.proofs.Names.{Parted, apart_back, bytes_same, head_apart, or_split, parted, place_of, placed_has, same_text}
 use Rattle.command_line.proofs.Uses.{flag_filled, value_rule}
 use Rattle.command_line.proofs.Defaults.{AllPlain, Plain, plain_append}
-use Rattle.command_line.proofs.RuleLooks.{Known, Looks, Placed, flag, nowhere, placed, unknown, valued}
+use Rattle.command_line.proofs.RuleLooks.{Known, Looks, OneValue, flag, no_flag, unknown, valued}
 
 -- the rule of an option, as the parser builds it
 abbrev pub option_filled : Valued → Rule
@@ -289,27 +289,28 @@ module _ (form : Form) (ids : List Text) (simple : IsSimple form ids) where
   -- by such a name the parser finds an argument with one value, a flag or nothing
   known_by : (name : Text) → Named name
       → Known (rules_by form ids) (arg_by_long (rules_by form ids) name)
-  known_by name (is_option i d p l n) = valued name (Some name) None (option_to_list d) false l n
+  known_by name (is_option i d p l n) =
+      no_flag (valued name (Some name) None (option_to_list d) false l n)
   known_by name (is_flag j n p l) = flag name l
-  known_by name (is_none n p l) = unknown l
+  known_by name (is_none n p l) = no_flag (unknown l)
 
   -- at place k + 1 the parser finds the positional of the id at k, or nothing past the last id
   placed_by : (k : ℕ) (at : Option Text) → slice_get ids k ≡ at
-      → Placed (rules_by form ids) (arg_by_index (rules_by form ids) (k + 1))
+      → OneValue (rules_by form ids) (arg_by_index (rules_by form ids) (k + 1))
   placed_by k None is =
-      nowhere (at_index form ids k ∙ ap (λ o. option_map (λ id. positional_filled (k + 1) id) o) is)
-  placed_by k (Some id) is = placed id None (Some (k + 1)) [] true
+      unknown (at_index form ids k ∙ ap (λ o. option_map (λ id. positional_filled (k + 1) id) o) is)
+  placed_by k (Some id) is = valued id None (Some (k + 1)) [] true
       (at_index form ids k ∙ ap (λ o. option_map (λ id. positional_filled (k + 1) id) o) is)
       (positional_id k id is)
 
   -- at each place the parser finds a positional, which its id finds too, or nothing
-  placed_at : (place : ℕ) → Placed (rules_by form ids) (arg_by_index (rules_by form ids) place)
+  placed_at : (place : ℕ) → OneValue (rules_by form ids) (arg_by_index (rules_by form ids) place)
   placed_at zero =
-      nowhere (skip_options 0 form.options (flags_before form.flags (positionals_from 1 ids))
+      unknown (skip_options 0 form.options (flags_before form.flags (positionals_from 1 ids))
       ∙ skip_flags 0 form.flags (positionals_from 1 ids) ∙ before_first ids 1 (omega arith))
   placed_at (suc k) =
       let next : k + 1 ≡ suc k = omega arith in
-      subst (λ n. Placed (rules_by form ids) (arg_by_index (rules_by form ids) n)) next
+      subst (λ n. OneValue (rules_by form ids) (arg_by_index (rules_by form ids) n)) next
       (placed_by k (slice_get ids k) refl)
 
   -- no argument is found by a short name

@@ -8,7 +8,7 @@ use Rattle.clap.specs.Walk.{Row, Rule, Text, idle, walked, walk_from, nothing_he
 use Rattle.clap.specs.declared.error.kind.ErrorKind.TheVariants as kind
 use Rattle.clap.specs.Faults.{flags_fault, walk_fault, word_fault}
 use Rattle.command_line.proofs.Uses.{Use, flag_filled, row_is, rows_by, set_use, used_flag, used_value, value_in, value_rule}
-use Rattle.command_line.proofs.RuleLooks.{Known, Looks, Placed, flag, nowhere, placed, unknown, valued}
+use Rattle.command_line.proofs.RuleLooks.{Known, Looks, OneValue, flag, no_flag, unknown, valued}
 use Rattle.command_line.proofs.RuleReading.{Stand, as_named, as_positional, as_seen, read_seen, stand}
 use Rattle.command_line.proofs.WordViews.{View, view, ending, long, short, torn, dash, clean}
 use Rattle.command_line.proofs.WalkSteps.{Continues, idle_at, more, parsed_from, pending_at, stops, top, waiting_at}
@@ -42,17 +42,17 @@ module _ (command : Text) (rules : List Rule) (looks : Looks rules) where
       → word_met rules [] ended idle place word (idle_at uses place ended).held
       ≡ ((idle_at uses place ended).held, value)
       → word_fault (top command rules) [] ended idle word (idle_at uses place ended).held ≡ []
-      → Placed rules (arg_by_index rules place)
+      → OneValue rules (arg_by_index rules place)
       → parsed_from command rules (idle_at uses place ended) (word ∷ words)
       ≡ rest_of words (as_positional (stand_at uses place ended) word
       (arg_by_index rules place))
   unfolding walked
-  takes_positional uses place ended word words ih met passed (nowhere n) =
+  takes_positional uses place ended word words ih met passed (unknown n) =
       stops command rules (idle_at uses place ended) word words kind.UnknownArgument []
       (rw (passed, met, n) refl)
       ∙ sym (ap (λ found. rest_of words
       (as_positional (stand_at uses place ended) word found)) n)
-  takes_positional uses place ended word words ih met passed (placed i l x d r p k) =
+  takes_positional uses place ended word words ih met passed (valued i l x d r p k) =
       more command rules (idle_at uses place ended)
       (pending_at i uses word (min (place + 1) usize_max) ended) word words
       (rw (passed, met, p) refl) (rw (met, p, or_false ended) refl)
@@ -120,16 +120,16 @@ module _ (command : Text) (rules : List Rule) (looks : Looks rules) where
       ≡ rest_of words (as_named (stand_at uses place false) y
       (arg_by_long rules n))
   unfolding walked
-  takes_named uses place word words n y ih ahead e l (unknown u) =
+  takes_named uses place word words n y ih ahead e l (no_flag (unknown u)) =
       stops command rules (idle_at uses place false) word words kind.UnknownArgument []
       (rw (e, l, u) refl)
       ∙ sym (ap (λ found. rest_of words
       (as_named (stand_at uses place false) y found)) u)
-  takes_named uses place word words n (Some v) ih ahead e l (valued i g p d r u k) =
+  takes_named uses place word words n (Some v) ih ahead e l (no_flag (valued i g p d r u k)) =
       takes_value uses place word words ih e l u
       ∙ sym (ap (λ found. rest_of words
       (as_named (stand_at uses place false) (Some v) found)) u)
-  takes_named uses place word words n None ih ahead e l (valued i g p d r u k) =
+  takes_named uses place word words n None ih ahead e l (no_flag (valued i g p d r u k)) =
       more command rules (idle_at uses place false) (waiting_at i uses place false) word words
       (rw (e, l, u) refl) (rw (e, l, u) refl)
       ∙ ahead i g p d r k uses place
