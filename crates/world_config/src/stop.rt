@@ -1,3 +1,7 @@
+// Why a document is rejected.
+ghost use Rattle.std.specs.Prelude.{◌≡◌};
+ghost use Rattle.world_config.specs.declared.stop.ConfigStop.TheVariants as stop;
+
 use crate::key::Key;
 use crate::key_text::KeyText;
 use avida_port::Memory;
@@ -25,10 +29,7 @@ pub enum ConfigStop {
 }
 
 impl From<AllocError> for ConfigStop {
-    ghost use Rattle.std.specs.Prelude.{◌≡◌};
-    ghost use Rattle.world_config.specs.declared.stop.ConfigStop.TheVariants.{Memory};
-
-    ghost from_gives = { λ _ stop. stop ≡ Memory };
+    ghost from_gives = { λ _ given. given ≡ stop.Memory };
 
     fn from(_e: AllocError) -> ConfigStop {
         ConfigStop::Memory
@@ -36,9 +37,6 @@ impl From<AllocError> for ConfigStop {
 }
 
 impl From<Memory> for ConfigStop {
-    ghost use Rattle.std.specs.Prelude.{◌≡◌};
-    ghost use Rattle.world_config.specs.declared.stop.ConfigStop.TheVariants as stop;
-
     ghost from_gives = { λ _ given. given ≡ stop.Memory };
 
     fn from(_e: Memory) -> ConfigStop {
