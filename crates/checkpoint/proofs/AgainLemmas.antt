@@ -81,9 +81,9 @@ module _ (head : HeadValues) (cell : ℕ) (o : Occupant)
       let merit = both (nat_le 1 o.organism.merit) (nat_le o.organism.merit (2 ^ 38))
       (le-leb 1 o.organism.merit lives.sound.some_merit)
       (le-leb o.organism.merit (2 ^ 38) lives.sound.merit) in
-      let long = both (nat_le head.least_length size) (nat_le size head.greatest_length)
-      (le-leb head.least_length size lives.genome.0)
-      (le-leb size head.greatest_length lives.genome.1) in
+      let long = both (nat_le head.rules.least size) (nat_le size head.rules.greatest)
+      (le-leb head.rules.least size lives.genome.0)
+      (le-leb size head.rules.greatest lives.genome.1) in
       let age = both (nat_lt o.organism.age (2 ^ 48)) (nat_le o.organism.read o.organism.age)
       (lt-ltb o.organism.age (2 ^ 48) lives.age)
       (le-leb o.organism.read o.organism.age lives.sound.organism.read) in
@@ -93,7 +93,7 @@ module _ (head : HeadValues) (cell : ℕ) (o : Occupant)
       let is_id = nat_lt o.id head.next_id in
       let is_fresh = is_new o.id placed in
       let is_merit = nat_le 1 o.organism.merit && nat_le o.organism.merit (2 ^ 38) in
-      let is_long = nat_le head.least_length size && nat_le size head.greatest_length in
+      let is_long = nat_le head.rules.least size && nat_le size head.rules.greatest in
       let is_age = nat_lt o.organism.age (2 ^ 48) && nat_le o.organism.read o.organism.age in
       let two = both is_in is_over in_world above in
       let three = both (is_in && is_over) is_id two id in

@@ -22,8 +22,8 @@ pub record Stands (head : HeadValues) (placed : List Placed) (o : OrganismValues
   pub fresh : is_new o.id placed ≡ true
   pub some_merit : 1 ≤ o.merit
   pub merit : o.merit ≤ 2 ^ 38
-  pub least : head.least_length ≤ length o.genome
-  pub greatest : length o.genome ≤ head.greatest_length
+  pub least : head.rules.least ≤ length o.genome
+  pub greatest : length o.genome ≤ head.rules.greatest
   pub age : o.age < 2 ^ 48
   pub read : o.read ≤ o.age
   pub young : is_young head o ≡ true
@@ -38,7 +38,7 @@ stands_by_rules head placed o is =
     let fresh = is_new o.id placed in
     let merit = nat_le 1 o.merit && nat_le o.merit (2 ^ 38) in
     let size =
-    nat_le head.least_length (length o.genome) && nat_le (length o.genome) head.greatest_length in
+    nat_le head.rules.least (length o.genome) && nat_le (length o.genome) head.rules.greatest in
     let age = nat_lt o.age (2 ^ 48) && nat_le o.read o.age in
     let young = is_young head o in
     let by_young =
@@ -51,8 +51,8 @@ stands_by_rules head placed o is =
     let by_id = and_parts (cell && above) id by_fresh.0 in
     let by_cell = and_parts cell above by_id.0 in
     let merits = and_parts (nat_le 1 o.merit) (nat_le o.merit (2 ^ 38)) by_merit.1 in
-    let sizes = and_parts (nat_le head.least_length (length o.genome))
-    (nat_le (length o.genome) head.greatest_length) by_size.1 in
+    let sizes = and_parts (nat_le head.rules.least (length o.genome))
+    (nat_le (length o.genome) head.rules.greatest) by_size.1 in
     let ages = and_parts (nat_lt o.age (2 ^ 48)) (nat_le o.read o.age) by_age.1 in
     record {
       cell = ltb-true o.cell (head.width * head.height) by_cell.0;
@@ -61,8 +61,8 @@ stands_by_rules head placed o is =
       fresh = by_fresh.1;
       some_merit = leb-true 1 o.merit merits.0;
       merit = leb-true o.merit (2 ^ 38) merits.1;
-      least = leb-true head.least_length (length o.genome) sizes.0;
-      greatest = leb-true (length o.genome) head.greatest_length sizes.1;
+      least = leb-true head.rules.least (length o.genome) sizes.0;
+      greatest = leb-true (length o.genome) head.rules.greatest sizes.1;
       age = ltb-true o.age (2 ^ 48) ages.0;
       read = leb-true o.read o.age ages.1;
       young = by_young.1;
@@ -115,7 +115,7 @@ head_within (head ∷ heads) end (suc place) all there =
 
 module _ (head : HeadValues) (o : OrganismValues) (image : CpuImage) where
   -- the machine of two lines is one
-  pub is_machine : IsHead head → length o.genome ≤ head.greatest_length → IsMachineLine image
+  pub is_machine : IsHead head → length o.genome ≤ head.rules.greatest → IsMachineLine image
       → Follows head o image
       → IsMachine (machine_of_image image (length o.genome) head.memory_limit)
   is_machine in_range short read follows =

@@ -128,10 +128,7 @@ module _ (state : SavedState) (is : IsWritable state) where
         average_slices = head.average_slices;
         age_limit = head.age_limit;
         rates = head.rates;
-        executed_percent = head.executed_percent;
-        copied_percent = head.copied_percent;
-        least_length = head.least_length;
-        greatest_length = head.greatest_length;
+        rules = head.rules;
         memory_limit = head.memory_limit;
       }
 

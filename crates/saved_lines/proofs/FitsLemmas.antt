@@ -62,81 +62,77 @@ head_at (head ∷ heads) (suc k) all = head_at heads k all.1
 
 -- the numbers of a head are within their ranges
 pub head_fits : (head : HeadValues) → IsHead head → AreWithin head_ranges (head_numbers head)
-head_fits head in_range = (
+head_fits head is = (
   omega arith,
   omega arith,
   (
-    in_range.width.0,
-    in_range.width.1,
+    is.width.0,
+    is.width.1,
     (
-      in_range.height.0,
-      in_range.height.1,
+      is.height.0,
+      is.height.1,
       (
         omega arith,
-        in_range.update,
+        is.update,
         (
-          in_range.next_id.0,
-          omega (arith, in_range.next_id.1),
+          is.next_id.0,
+          omega (arith, is.next_id.1),
           (
             omega arith,
-            omega (arith, in_range.seed),
+            omega (arith, is.seed),
             (
-              in_range.average_slices.0,
-              in_range.average_slices.1,
+              is.average_slices.0,
+              is.average_slices.1,
               (
                 omega arith,
                 flag_fits head.death,
                 (
-                  in_range.age_limit.0,
-                  in_range.age_limit.1,
+                  is.age_limit.0,
+                  is.age_limit.1,
                   (
                     omega arith,
-                    in_range.rates.copy,
+                    is.rates.copy,
                     (
                       omega arith,
-                      in_range.rates.insert,
+                      is.rates.insert,
                       (
                         omega arith,
-                        in_range.rates.delete,
+                        is.rates.delete,
                         (
                           omega arith,
-                          in_range.rates.site_point,
+                          is.rates.site_point,
                           (
                             omega arith,
-                            in_range.rates.site_insert,
+                            is.rates.site_insert,
                             (
                               omega arith,
-                              in_range.rates.site_delete,
+                              is.rates.site_delete,
                               (
                                 omega arith,
                                 flag_fits head.prefer_empty,
                                 (
                                   omega arith,
-                                  flag_fits head.need_alloc,
+                                  flag_fits head.rules.need_alloc,
                                   (
-                                    in_range.executed_percent.0,
-                                    in_range.executed_percent.1,
+                                    is.rules.executed_is_asked,
+                                    is.rules.executed_is_percent,
                                     (
-                                      in_range.copied_percent.0,
-                                      in_range.copied_percent.1,
+                                      is.rules.copied_is_asked,
+                                      is.rules.copied_is_percent,
                                       (
-                                        in_range.least_length.0,
-                                        in_range.least_length.1,
+                                        is.rules.long_enough,
+                                        omega (arith, is.rules.ordered, is.rules.short_enough),
                                         (
-                                          omega (
-                                            arith,
-                                            in_range.greatest_length.0,
-                                            in_range.least_length.0,
-                                          ),
-                                          in_range.greatest_length.1,
+                                          omega (arith, is.rules.ordered, is.rules.long_enough),
+                                          is.rules.short_enough,
                                           (
                                             omega (
                                               arith,
-                                              in_range.memory_limit.0,
-                                              in_range.greatest_length.0,
-                                              in_range.least_length.0,
+                                              is.memory_limit.0,
+                                              is.rules.ordered,
+                                              is.rules.long_enough,
                                             ),
-                                            in_range.memory_limit.1,
+                                            is.memory_limit.1,
                                             tt,
                                           ),
                                         ),
@@ -163,10 +159,10 @@ head_fits head in_range = (
 
 -- its lengths are in order
 pub head_ordered : (head : HeadValues) → IsHead head → are_ordered head ≡ true
-head_ordered head in_range = and_from (nat_le head.least_length head.greatest_length)
-    (nat_le head.greatest_length head.memory_limit)
-    (le-leb head.least_length head.greatest_length in_range.greatest_length.0)
-    (le-leb head.greatest_length head.memory_limit in_range.memory_limit.0)
+head_ordered head in_range = and_from (nat_le head.rules.least head.rules.greatest)
+    (nat_le head.rules.greatest head.memory_limit)
+    (le-leb head.rules.least head.rules.greatest in_range.rules.ordered)
+    (le-leb head.rules.greatest head.memory_limit in_range.memory_limit.0)
 
 -- a head whose numbers are within their ranges, and its lengths in order
 pub head_is : (head : HeadValues) → AreWithin head_ranges (head_numbers head)
@@ -193,8 +189,8 @@ head_is head numbers ordered =
     let least = copied_percent.2 in
     let greatest = least.2 in
     let limit = greatest.2 in
-    let order = and_parts (nat_le head.least_length head.greatest_length)
-    (nat_le head.greatest_length head.memory_limit) ordered in
+    let order = and_parts (nat_le head.rules.least head.rules.greatest)
+    (nat_le head.rules.greatest head.memory_limit) ordered in
     record {
       width = (width.0, width.1);
       height = (height.0, height.1);
@@ -211,11 +207,16 @@ head_is head numbers ordered =
         site_insert = site_insert.1;
         site_delete = site_delete.1;
       };
-      executed_percent = (executed_percent.0, executed_percent.1);
-      copied_percent = (copied_percent.0, copied_percent.1);
-      least_length = (least.0, least.1);
-      greatest_length = (leb-true head.least_length head.greatest_length order.0, greatest.1);
-      memory_limit = (leb-true head.greatest_length head.memory_limit order.1, limit.1);
+      rules = record {
+        long_enough = least.0;
+        ordered = leb-true head.rules.least head.rules.greatest order.0;
+        short_enough = greatest.1;
+        executed_is_asked = executed_percent.0;
+        executed_is_percent = executed_percent.1;
+        copied_is_asked = copied_percent.0;
+        copied_is_percent = copied_percent.1;
+      };
+      memory_limit = (leb-true head.rules.greatest head.memory_limit order.1, limit.1);
     }
 
 -- ---- an organism

@@ -56,7 +56,7 @@ flag_taken (suc (suc n)) low = absurd (omega (arith, low))
 -- a head of its numbers
 pub head_again : (head : HeadValues) → head_of (head_numbers head) ≡ head
 head_again head =
-    rw (flag_again head.death, flag_again head.prefer_empty, flag_again head.need_alloc) refl
+    rw (flag_again head.death, flag_again head.prefer_empty, flag_again head.rules.need_alloc) refl
 
 -- the version
 version : (ns : List ℕ) → AreWithin head_ranges ns → 1 ≡ saved_number_at ns 0

@@ -5,6 +5,7 @@ use Rattle.std.specs.List.{AllByRecursion}
 use Rattle.genome.specs.Genome.{IsGenome}
 use Rattle.label_search.specs.Template.{IsTemplate}
 use Rattle.logic_tasks.specs.Inputs.{HasTopBytes}
+use Rattle.divide_rules.specs.Rules.{AreRules}
 use Rattle.mutations.specs.Rates.{RateNumbers}
 use Rattle.mutations.specs.RecordForm.{IsWithin}
 use Rattle.virtual_cpu.specs.declared.cpu_image.CpuImage.{CpuImage}
@@ -30,11 +31,8 @@ pub record IsHeadUpTo (greatest_id : ℕ) (head : HeadValues) : Type 0 where
   pub average_slices : IsWithin 1 1000 head.average_slices
   pub age_limit : IsWithin 1 1000 head.age_limit
   pub rates : AreRates head.rates
-  pub executed_percent : IsWithin 1 100 head.executed_percent
-  pub copied_percent : IsWithin 1 100 head.copied_percent
-  pub least_length : IsWithin 8 8192 head.least_length
-  pub greatest_length : IsWithin head.least_length 8192 head.greatest_length
-  pub memory_limit : IsWithin head.greatest_length 8192 head.memory_limit
+  pub rules : AreRules head.rules
+  pub memory_limit : IsWithin head.rules.greatest 8192 head.memory_limit
 
 -- the values of a first line
 abbrev pub IsHead : HeadValues → Type 0

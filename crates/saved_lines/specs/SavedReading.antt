@@ -41,18 +41,20 @@ head_of numbers = record {
     site_delete = saved_number_at numbers 14;
   };
   prefer_empty = saved_flag_at numbers 15;
-  need_alloc = saved_flag_at numbers 16;
-  executed_percent = saved_number_at numbers 17;
-  copied_percent = saved_number_at numbers 18;
-  least_length = saved_number_at numbers 19;
-  greatest_length = saved_number_at numbers 20;
+  rules = record {
+    least = saved_number_at numbers 19;
+    greatest = saved_number_at numbers 20;
+    executed_percent = saved_number_at numbers 17;
+    copied_percent = saved_number_at numbers 18;
+    need_alloc = saved_flag_at numbers 16;
+  };
   memory_limit = saved_number_at numbers 21;
 }
 
 -- the least length is not above the greatest, nor that above the limit of memory
 abbrev pub are_ordered : HeadValues → Bool
 are_ordered head =
-    nat_le head.least_length head.greatest_length && nat_le head.greatest_length head.memory_limit
+    nat_le head.rules.least head.rules.greatest && nat_le head.rules.greatest head.memory_limit
 
 -- the line of a head, where its lengths are in order
 abbrev pub saved_head_line : List ℕ → Option SavedLine

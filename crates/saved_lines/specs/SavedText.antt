@@ -31,9 +31,9 @@ head_numbers head =
     ∷ head.average_slices ∷ flag_number head.death ∷ head.age_limit
     ∷ head.rates.copy ∷ head.rates.insert ∷ head.rates.delete
     ∷ head.rates.site_point ∷ head.rates.site_insert ∷ head.rates.site_delete
-    ∷ flag_number head.prefer_empty ∷ flag_number head.need_alloc
-    ∷ head.executed_percent ∷ head.copied_percent
-    ∷ head.least_length ∷ head.greatest_length ∷ head.memory_limit ∷ []
+    ∷ flag_number head.prefer_empty ∷ flag_number head.rules.need_alloc
+    ∷ head.rules.executed_percent ∷ head.rules.copied_percent
+    ∷ head.rules.least ∷ head.rules.greatest ∷ head.memory_limit ∷ []
 
 -- the numbers of an organism's line
 abbrev pub organism_numbers : OrganismValues → List ℕ

@@ -2,6 +2,7 @@
 use Rattle.std.specs.Prelude.{ℕ, Bool, List}
 use Rattle.instruction_set.specs.declared.letter.Letter.{Letter}
 use Rattle.genome.specs.Genome.{letters}
+use Rattle.divide_rules.specs.Rules.{RuleNumbers}
 use Rattle.mutations.specs.Rates.{RateNumbers, numbers_of}
 use Rattle.saved_lines.specs.declared.state_head.StateHead.{StateHead}
 use Rattle.saved_lines.specs.declared.resident.Resident.{Resident}
@@ -19,11 +20,7 @@ pub record HeadValues : Type 0 where
   pub age_limit : ℕ
   pub rates : RateNumbers
   pub prefer_empty : Bool
-  pub need_alloc : Bool
-  pub executed_percent : ℕ
-  pub copied_percent : ℕ
-  pub least_length : ℕ
-  pub greatest_length : ℕ
+  pub rules : RuleNumbers
   pub memory_limit : ℕ
 
 -- the values of a head
@@ -39,11 +36,13 @@ head_values head = record {
   age_limit = head.age_limit;
   rates = numbers_of head.rates;
   prefer_empty = head.prefer_empty;
-  need_alloc = head.need_alloc;
-  executed_percent = head.executed_percent;
-  copied_percent = head.copied_percent;
-  least_length = head.least_length;
-  greatest_length = head.greatest_length;
+  rules = record {
+    least = head.least_length;
+    greatest = head.greatest_length;
+    executed_percent = head.executed_percent;
+    copied_percent = head.copied_percent;
+    need_alloc = head.need_alloc;
+  };
   memory_limit = head.memory_limit;
 }
 

@@ -13,7 +13,7 @@ use Rattle.world_config.specs.Bounds.{frame_of}
 use Rattle.world_config.specs.Events.{EventValue, WhatValue, clear, event_fits, event_values, inject, rate, what_fits}
 use Rattle.world_config.specs.KeyTable.{Frame}
 use Rattle.world_config.specs.Shown.{values_of}
-use Rattle.world_rules.specs.Settings.{first_rates, rates_after, rates_after_what, rates_at, with_rate}
+use Rattle.world_rules.specs.Settings.{rates_after, rates_after_what, rates_at, with_rate}
 use Rattle.saved_worlds.specs.SavedState.{head_at}
 use Rattle.saved_worlds.specs.ValidState.{AreRates, IsHead}
 
@@ -70,7 +70,7 @@ head_of_run config updates next_id few ids =
     let frame = frame_of config.width config.height config.updates config.least_length
     config.greatest_length in
     let before : EventValue → Bool = λ event. nat_lt event.update (updates + 1) in
-    let first : AreRates (first_rates (values_of config)) = record {
+    let first : AreRates (values_of config).rates = record {
       copy = config.copy_error_bounds.1;
       insert = config.divide_insert_bounds.1;
       delete = config.divide_delete_bounds.1;
@@ -86,13 +86,18 @@ head_of_run config updates next_id few ids =
       seed = omega (arith, config.seed_bounds.1);
       average_slices = config.average_slices_bounds;
       age_limit = config.age_limit_bounds;
-      rates = all_fit frame (first_rates (values_of config)) _ first
+      rates = all_fit frame (values_of config).rates _ first
           (recursion_from_All _ _
           (All-filter before (λ (event : EventValue). event_fits frame event ≡ true)
           (event_values config.event) config.event_bounds.fit));
-      executed_percent = config.executed_percent_bounds;
-      copied_percent = config.copied_percent_bounds;
-      least_length = config.least_length_bounds;
-      greatest_length = config.greatest_length_bounds;
+      rules = record {
+        long_enough = config.least_length_bounds.0;
+        ordered = config.greatest_length_bounds.0;
+        short_enough = config.greatest_length_bounds.1;
+        executed_is_asked = config.executed_percent_bounds.0;
+        executed_is_percent = config.executed_percent_bounds.1;
+        copied_is_asked = config.copied_percent_bounds.0;
+        copied_is_percent = config.copied_percent_bounds.1;
+      };
       memory_limit = config.memory_limit_bounds;
     }

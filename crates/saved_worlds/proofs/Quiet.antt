@@ -13,7 +13,7 @@ use Rattle.world_config.specs.KeyTable.{Frame}
 use Rattle.world_config.specs.Shown.{values_of}
 use Rattle.world_config.specs.Values.{ConfigValues}
 use Rattle.world_rules.specs.World.{Occupant}
-use Rattle.world_rules.specs.Settings.{first_rates, rates_after, rates_at, rules_of, settings_at}
+use Rattle.world_rules.specs.Settings.{rates_after, rates_at, settings_at}
 use Rattle.organism.specs.SettingNumbers.{SettingNumbers}
 use Rattle.organism.specs.OrganismLife.{life_by}
 use Rattle.random_streams.specs.declared.purpose.Purpose.TheVariants.{Run}
@@ -70,18 +70,6 @@ none_at n u from (event ∷ events) over later =
     let test : (event.update == u) ≡ false = grind (arith, nat_tests, over.0, later) in
     rw (test, none_at n u (from + 1) events over.1 later) refl
 
--- rates are those of their six values
-rates_whole : (r : RateNumbers)
-    → ◌≡◌ {A = RateNumbers} (record {
-      copy = r.copy;
-      insert = r.insert;
-      delete = r.delete;
-      site_point = r.site_point;
-      site_insert = r.site_insert;
-      site_delete = r.site_delete;
-    }) r
-rates_whole r = refl
-
 module _ (config : ConfigValues) (over : HappensInTime config) where
   -- no event is left
   pub no_events : (u : ℕ) → config.updates < u → events_at config u ≡ []
@@ -93,7 +81,7 @@ module _ (config : ConfigValues) (over : HappensInTime config) where
       → rates_at config u ≡ rates_at config v
   unfolding rates_at
   rates_stay u v later after =
-      ap (fold rates_after (first_rates config))
+      ap (fold rates_after config.rates)
       (all_before config.updates u config.event over later
       ∙ sym (all_before config.updates v config.event over after))
 
@@ -102,7 +90,7 @@ module _ (config : ConfigValues) (over : HappensInTime config) where
     own_rates : (u : ℕ) → rates_at (config_of_head (head_at config update id)) u
         ≡ rates_at config (update + 1)
     unfolding rates_at
-    own_rates u = rates_whole (rates_at config (update + 1))
+    own_rates u = refl
 
     -- a life's settings are the same
     pub settings_same : (u : ℕ) → config.updates < u
@@ -113,7 +101,7 @@ module _ (config : ConfigValues) (over : HappensInTime config) where
         let settings : RateNumbers → SettingNumbers =
         λ r. record {
           rates = r;
-          rules = rules_of config;
+          rules = config.rules;
           death = config.death;
           age_limit = config.age_limit;
           memory_limit = config.memory_limit;

@@ -34,10 +34,7 @@ head_up ids more state few is = record {
   average_slices = is.average_slices;
   age_limit = is.age_limit;
   rates = is.rates;
-  executed_percent = is.executed_percent;
-  copied_percent = is.copied_percent;
-  least_length = is.least_length;
-  greatest_length = is.greatest_length;
+  rules = is.rules;
   memory_limit = is.memory_limit;
 }
 
@@ -105,7 +102,7 @@ module _ (kept : RangesAreKept) (ids ages : ℕ) (state : SavedState) (is : Stan
   where
     -- what the head goes on with, and an ancestor of any letters
     abbrev config : ConfigValues
-    config = record (config_of_head state.head) { ancestor = replicate state.head.least_length NopA }
+    config = record (config_of_head state.head) { ancestor = replicate state.head.rules.least NopA }
 
     -- the world that the state goes on from
     abbrev w : World
@@ -115,8 +112,7 @@ module _ (kept : RangesAreKept) (ids ages : ℕ) (state : SavedState) (is : Stan
     config_fits : IsConfig config
     config_fits =
         let head = is.head in
-        let long : length (replicate state.head.least_length NopA) ≡ state.head.least_length =
-        length-replicate state.head.least_length NopA in
+        let long = length-replicate state.head.rules.least NopA in
         let some : 1 ≤ state.head.width * state.head.height =
         mul-le-mul head.width.0 head.height.0 in
         record {
@@ -125,18 +121,13 @@ module _ (kept : RangesAreKept) (ids ages : ℕ) (state : SavedState) (is : Stan
           rows = head.height.0;
           few_rows = head.height.1;
           founder = omega (arith, some);
-          executed_asked = head.executed_percent.0;
-          executed_percent = head.executed_percent.1;
-          copied_asked = head.copied_percent.0;
-          copied_percent = head.copied_percent.1;
           average = head.average_slices.1;
           some_age = head.age_limit.0;
-          least = head.least_length.0;
-          ordered = head.greatest_length.0;
+          rules = head.rules;
           room = head.memory_limit.0;
           greatest = head.memory_limit.1;
           long_enough = omega (arith, long);
-          short_enough = omega (arith, long, head.greatest_length.0);
+          short_enough = omega (arith, long, head.rules.ordered);
           few_events = omega arith;
           events = tt;
         }
@@ -190,10 +181,7 @@ module _ (kept : RangesAreKept) (ids ages : ℕ) (state : SavedState) (is : Stan
             average_slices = head.average_slices;
             age_limit = head.age_limit;
             rates = head.rates;
-            executed_percent = head.executed_percent;
-            copied_percent = head.copied_percent;
-            least_length = head.least_length;
-            greatest_length = head.greatest_length;
+            rules = head.rules;
             memory_limit = head.memory_limit;
           };
           stand = state_stands config (next_world config w) (ages + 65536000) stay.stand;

@@ -44,7 +44,7 @@ may_stand head placed o =
     && nat_lt o.id head.next_id
     && is_new o.id placed
     && (nat_le 1 o.merit && nat_le o.merit (2 ^ 38))
-    && (nat_le head.least_length (length o.genome) && nat_le (length o.genome) head.greatest_length)
+    && (nat_le head.rules.least (length o.genome) && nat_le (length o.genome) head.rules.greatest)
     && (nat_lt o.age (2 ^ 48) && nat_le o.read o.age)
     && is_young head o
 

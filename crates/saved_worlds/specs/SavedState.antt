@@ -25,11 +25,7 @@ head_at config update next_id = record {
   age_limit = config.age_limit;
   rates = rates_at config (update + 1);
   prefer_empty = config.prefer_empty;
-  need_alloc = config.need_alloc;
-  executed_percent = config.executed_percent;
-  copied_percent = config.copied_percent;
-  least_length = config.least_length;
-  greatest_length = config.greatest_length;
+  rules = config.rules;
   memory_limit = config.memory_limit;
 }
 

@@ -23,7 +23,7 @@ pub record HasKinds (o : OrganismState) : Type 0 where
 pub record MayLive (head : HeadValues) (o : Occupant) : Type 0 where
   pub sound : IsSoundOrganism o.organism
   pub id : o.id < head.next_id
-  pub genome : IsWithin head.least_length head.greatest_length (length o.organism.genome)
+  pub genome : IsWithin head.rules.least head.rules.greatest (length o.organism.genome)
   pub age : o.organism.age < 2 ^ 48
   pub young : head.death ≡ true → o.organism.age < head.age_limit * length o.organism.genome
   pub limit : o.organism.machine.limit ≡ head.memory_limit

@@ -33,7 +33,7 @@ use Rattle.world_config.proofs.PrintLemmas.{items_depth-events, spelled_by_lette
 
 -- the frame of the values
 abbrev pub values_frame : ConfigValues → Frame
-values_frame v = frame_of v.width v.height v.updates v.least_length v.greatest_length
+values_frame v = frame_of v.width v.height v.updates v.rules.least v.rules.greatest
 
 -- each key of the table has a row
 no_unknown : (v : ConfigValues) → least_unknown (members_for v) ≡ None

@@ -4,7 +4,7 @@
 use Rattle.std.specs.Prelude.{◌≡◌, pos, List, [], ◌∷◌, ◌++◌}
 use Rattle.toml.specs.Data.{Data, string, integer, boolean, array, Members}
 use Rattle.genome.specs.GenomeText.{letters_text_of}
-use Rattle.mutations.specs.declared.rates.Rates.{Rates}
+use Rattle.mutations.specs.Rates.{numbers_of}
 use Rattle.world_config.specs.declared.key.Key.{Key}
 use Rattle.world_config.specs.declared.key.Key.TheVariants as code
 use Rattle.world_config.specs.declared.groups.PlaceKeys.{PlaceKeys}
@@ -15,7 +15,7 @@ use Rattle.world_config.specs.declared.numbers.Numbers.{Numbers}
 use Rattle.world_config.specs.KeyTable.{Frame}
 use Rattle.world_config.specs.Bounds.{frame_of}
 use Rattle.world_config.specs.Lookup.{number_at, flag_at, frame_in}
-use Rattle.world_config.specs.Values.{ConfigValues}
+use Rattle.world_config.specs.Values.{ConfigValues, rates_in_table}
 use Rattle.world_config.specs.EventTables.{items_for}
 
 -- the keys of the world and of its run
@@ -64,15 +64,6 @@ pub record AreLife (ms : Members) (life : LifeKeys) : Type 0 where
   pub death : flag_at code.Death ms ≡ life.death
   pub age_limit : number_at (frame_in ms) code.AgeLimit ms ≡ life.age_limit
 
--- these are the table's six rates of errors
-pub record AreRates (ms : Members) (rates : Rates) : Type 0 where
-  pub copy : number_at (frame_in ms) code.CopyError ms ≡ rates.copy
-  pub insert : number_at (frame_in ms) code.DivideInsert ms ≡ rates.insert
-  pub delete : number_at (frame_in ms) code.DivideDelete ms ≡ rates.delete
-  pub site_point : number_at (frame_in ms) code.SitePoint ms ≡ rates.site_point
-  pub site_insert : number_at (frame_in ms) code.SiteInsert ms ≡ rates.site_insert
-  pub site_delete : number_at (frame_in ms) code.SiteDelete ms ≡ rates.site_delete
-
 -- the group has the table's values at the keys of placing a child and of what a divide must meet
 pub record AreDivide (ms : Members) (divide : DivideKeys) : Type 0 where
   pub prefer_empty : flag_at code.PreferEmpty ms ≡ divide.prefer_empty
@@ -90,7 +81,7 @@ pub record AreLengths (ms : Members) (lengths : LengthKeys) : Type 0 where
 pub record AreNumbers (ms : Members) (numbers : Numbers) : Type 0 where
   pub place : ArePlace ms numbers.place
   pub life : AreLife ms numbers.life
-  pub rates : AreRates ms numbers.rates
+  pub rates : rates_in_table ms ≡ numbers_of numbers.rates
   pub divide : AreDivide ms numbers.divide
   pub lengths : AreLengths ms numbers.lengths
 
@@ -110,18 +101,18 @@ printed_at v code.FounderCell = integer (pos v.founder_cell)
 printed_at v code.AverageSlices = integer (pos v.average_slices)
 printed_at v code.Death = boolean v.death
 printed_at v code.AgeLimit = integer (pos v.age_limit)
-printed_at v code.CopyError = integer (pos v.copy_error)
-printed_at v code.DivideInsert = integer (pos v.divide_insert)
-printed_at v code.DivideDelete = integer (pos v.divide_delete)
-printed_at v code.SitePoint = integer (pos v.site_point)
-printed_at v code.SiteInsert = integer (pos v.site_insert)
-printed_at v code.SiteDelete = integer (pos v.site_delete)
+printed_at v code.CopyError = integer (pos v.rates.copy)
+printed_at v code.DivideInsert = integer (pos v.rates.insert)
+printed_at v code.DivideDelete = integer (pos v.rates.delete)
+printed_at v code.SitePoint = integer (pos v.rates.site_point)
+printed_at v code.SiteInsert = integer (pos v.rates.site_insert)
+printed_at v code.SiteDelete = integer (pos v.rates.site_delete)
 printed_at v code.PreferEmpty = boolean v.prefer_empty
-printed_at v code.NeedAlloc = boolean v.need_alloc
-printed_at v code.ExecutedPercent = integer (pos v.executed_percent)
-printed_at v code.CopiedPercent = integer (pos v.copied_percent)
-printed_at v code.LeastLength = integer (pos v.least_length)
-printed_at v code.GreatestLength = integer (pos v.greatest_length)
+printed_at v code.NeedAlloc = boolean v.rules.need_alloc
+printed_at v code.ExecutedPercent = integer (pos v.rules.executed_percent)
+printed_at v code.CopiedPercent = integer (pos v.rules.copied_percent)
+printed_at v code.LeastLength = integer (pos v.rules.least)
+printed_at v code.GreatestLength = integer (pos v.rules.greatest)
 printed_at v code.MemoryLimit = integer (pos v.memory_limit)
 printed_at v code.Ancestor = string (letters_text_of v.ancestor)
 printed_at v code.Event = array (items_for v.event)

@@ -1,16 +1,18 @@
--- What a configuration says, a field for each key (docs/FORMATS.md, "The configuration"): as a
--- document's table has it, and as the code's configuration holds it. For example, `width = 20`
--- alone gives the values with `width` 20, `height` 60 and each other default, and without an event.
+-- What a configuration says at each key (docs/FORMATS.md, "The configuration"): as a document's
+-- table has it, and as the code's configuration holds it. For example, `width = 20` alone gives the
+-- values with `width` 20, `height` 60 and each other default, and without an event.
 use Rattle.std.specs.Prelude.{ℕ, Bool, List}
 use Rattle.toml.specs.Data.{Members}
 use Rattle.instruction_set.specs.declared.letter.Letter.{Letter}
 use Rattle.genome.specs.Genome.{letters}
+use Rattle.divide_rules.specs.Rules.{RuleNumbers}
+use Rattle.mutations.specs.Rates.{RateNumbers}
 use Rattle.world_config.specs.declared.config.Config.{Config}
 use Rattle.world_config.specs.declared.key.Key.TheVariants as code
 use Rattle.world_config.specs.Lookup.{number_at, flag_at, genome_at, frame_in}
 use Rattle.world_config.specs.Events.{EventValue, event_values}
 
--- the values of all keys, in the order of the table of keys
+-- the values of all keys, of which the rates of errors and the rules of a divide are two groups
 pub record ConfigValues : Type 0 where
   pub width : ℕ
   pub height : ℕ
@@ -20,21 +22,23 @@ pub record ConfigValues : Type 0 where
   pub average_slices : ℕ
   pub death : Bool
   pub age_limit : ℕ
-  pub copy_error : ℕ
-  pub divide_insert : ℕ
-  pub divide_delete : ℕ
-  pub site_point : ℕ
-  pub site_insert : ℕ
-  pub site_delete : ℕ
+  pub rates : RateNumbers
   pub prefer_empty : Bool
-  pub need_alloc : Bool
-  pub executed_percent : ℕ
-  pub copied_percent : ℕ
-  pub least_length : ℕ
-  pub greatest_length : ℕ
+  pub rules : RuleNumbers
   pub memory_limit : ℕ
   pub ancestor : List Letter
   pub event : List EventValue
+
+-- what a table says at the keys of the six rates
+abbrev pub rates_in_table : Members → RateNumbers
+rates_in_table ms = record {
+  copy = number_at (frame_in ms) code.CopyError ms;
+  insert = number_at (frame_in ms) code.DivideInsert ms;
+  delete = number_at (frame_in ms) code.DivideDelete ms;
+  site_point = number_at (frame_in ms) code.SitePoint ms;
+  site_insert = number_at (frame_in ms) code.SiteInsert ms;
+  site_delete = number_at (frame_in ms) code.SiteDelete ms;
+}
 
 -- what a table says at each key, or the default, with these events, which EventForms reads from it
 abbrev pub values_in_table : Members → List EventValue → ConfigValues
@@ -47,18 +51,15 @@ values_in_table ms happening = record {
   average_slices = number_at (frame_in ms) code.AverageSlices ms;
   death = flag_at code.Death ms;
   age_limit = number_at (frame_in ms) code.AgeLimit ms;
-  copy_error = number_at (frame_in ms) code.CopyError ms;
-  divide_insert = number_at (frame_in ms) code.DivideInsert ms;
-  divide_delete = number_at (frame_in ms) code.DivideDelete ms;
-  site_point = number_at (frame_in ms) code.SitePoint ms;
-  site_insert = number_at (frame_in ms) code.SiteInsert ms;
-  site_delete = number_at (frame_in ms) code.SiteDelete ms;
+  rates = rates_in_table ms;
   prefer_empty = flag_at code.PreferEmpty ms;
-  need_alloc = flag_at code.NeedAlloc ms;
-  executed_percent = number_at (frame_in ms) code.ExecutedPercent ms;
-  copied_percent = number_at (frame_in ms) code.CopiedPercent ms;
-  least_length = number_at (frame_in ms) code.LeastLength ms;
-  greatest_length = number_at (frame_in ms) code.GreatestLength ms;
+  rules = record {
+    least = number_at (frame_in ms) code.LeastLength ms;
+    greatest = number_at (frame_in ms) code.GreatestLength ms;
+    executed_percent = number_at (frame_in ms) code.ExecutedPercent ms;
+    copied_percent = number_at (frame_in ms) code.CopiedPercent ms;
+    need_alloc = flag_at code.NeedAlloc ms;
+  };
   memory_limit = number_at (frame_in ms) code.MemoryLimit ms;
   ancestor = genome_at code.Ancestor ms;
   event = happening;
@@ -75,18 +76,22 @@ values_of config = record {
   average_slices = config.average_slices;
   death = config.death;
   age_limit = config.age_limit;
-  copy_error = config.copy_error;
-  divide_insert = config.divide_insert;
-  divide_delete = config.divide_delete;
-  site_point = config.site_point;
-  site_insert = config.site_insert;
-  site_delete = config.site_delete;
+  rates = record {
+    copy = config.copy_error;
+    insert = config.divide_insert;
+    delete = config.divide_delete;
+    site_point = config.site_point;
+    site_insert = config.site_insert;
+    site_delete = config.site_delete;
+  };
   prefer_empty = config.prefer_empty;
-  need_alloc = config.need_alloc;
-  executed_percent = config.executed_percent;
-  copied_percent = config.copied_percent;
-  least_length = config.least_length;
-  greatest_length = config.greatest_length;
+  rules = record {
+    least = config.least_length;
+    greatest = config.greatest_length;
+    executed_percent = config.executed_percent;
+    copied_percent = config.copied_percent;
+    need_alloc = config.need_alloc;
+  };
   memory_limit = config.memory_limit;
   ancestor = letters config.ancestor;
   event = event_values config.event;

@@ -3,8 +3,10 @@
 
 ghost use Rattle.std.specs.Prelude.{◌≡◌, None, Some, IfOk, IfErr, OnOk};
 ghost use Rattle.toml.specs.View.{table_view};
-ghost use Rattle.world_config.specs.Groups.{AreRates, rate_keys};
+ghost use Rattle.mutations.specs.Rates.{numbers_of};
+ghost use Rattle.world_config.specs.Groups.{rate_keys};
 ghost use Rattle.world_config.specs.Refusal.{first_refusal};
+ghost use Rattle.world_config.specs.Values.{rates_in_table};
 
 use crate::key::Key;
 use crate::lookup::number;
@@ -15,7 +17,8 @@ use toml::Table;
 
 /// The six rates of errors.
 pub(crate) fn rates_in(table: &Table) -> Result<Rates, ConfigStop>
-    ensures value { IfOk result (AreRates (table_view table.now)) }
+    ensures value { IfOk result (λ rates.
+        rates_in_table (table_view table.now) ≡ numbers_of rates) }
     ensures accepted { OnOk result (first_refusal rate_keys (table_view table.now) ≡ None) }
     ensures refused { IfErr result (λ stop. first_refusal rate_keys (table_view table.now)
         ≡ Some stop) }

@@ -122,7 +122,7 @@ births_of-rise lives = births_from-rise 0 lives
 
 -- a newborn that fits its machine
 pub record FitsMachine (config : ConfigValues) (newborn : NewbornValue) : Type 0 where
-  pub genome : length newborn.genome ≤ config.greatest_length
+  pub genome : length newborn.genome ≤ config.rules.greatest
   pub merit : newborn.merit ≤ 2 ^ 38
 
 -- a newborn that fits is a delivery of its cell

@@ -8,7 +8,7 @@ use Rattle.world_rules.specs.Settings.{settings_at}
 
 -- the greatest length of a genome in an update is the configuration's own
 pub greatest_of : (config : ConfigValues) (update : ℕ) (settings : SettingNumbers)
-    → settings ≡ settings_at config update → settings.rules.greatest ≡ config.greatest_length
+    → settings ≡ settings_at config update → settings.rules.greatest ≡ config.rules.greatest
 unfolding settings_at
 greatest_of config update settings same = ap (λ (s : SettingNumbers). s.rules.greatest) same
 

@@ -33,7 +33,7 @@ pub record CanStand (bank : List (List Letter)) (number : ℕ) (o : OrganismStat
 -- a newborn of a cell of the world, which fits its machine
 pub record IsDelivery (config : ConfigValues) (cells : ℕ) (d : Delivery) : Type 0 where
   pub cell : d.cell < cells
-  pub genome : length d.newborn.genome ≤ config.greatest_length
+  pub genome : length d.newborn.genome ≤ config.rules.greatest
   pub merit : d.newborn.merit ≤ 2 ^ 38
 
 -- the newborns of an update, in the order of their cells

@@ -5,7 +5,7 @@ ghost use Rattle.divide_rules.specs.Rules.{rule_numbers};
 ghost use Rattle.mutations.specs.Rates.{numbers_of};
 ghost use Rattle.organism.specs.SettingNumbers.{setting_numbers};
 ghost use Rattle.world_config.specs.Shown.{values_of};
-ghost use Rattle.world_rules.specs.Settings.{first_rates, with_rate, rates_at, rules_of, settings_at, placing_round_at, torus_of};
+ghost use Rattle.world_rules.specs.Settings.{with_rate, rates_at, settings_at, placing_round_at, torus_of};
 
 use birth_board::{PlacingRound, Torus};
 use divide_rules::DivideRules;
@@ -44,7 +44,7 @@ pub(crate) fn rates_at(config: &Config, update: u32) -> Rates
 }
 
 fn first_rates(config: &Config) -> Rates
-    ensures { numbers_of result ≡ first_rates (values_of config.now) }
+    ensures { numbers_of result ≡ (values_of config.now).rates }
 {
     Rates {
         copy: config.copy_error,
@@ -72,7 +72,7 @@ fn with_rate(mut rates: Rates, name: RateName, ppm: u32) -> Rates
 }
 
 fn rules_of(config: &Config) -> DivideRules
-    ensures { rule_numbers result ≡ rules_of (values_of config.now) }
+    ensures { rule_numbers result ≡ (values_of config.now).rules }
 {
     DivideRules {
         least: config.least_length,

@@ -16,17 +16,17 @@ use Rattle.world_laws.specs.Bounds.{IsConfig, size_of, FitsWhat, FitsEvent}
 -- the frame of a configuration's events
 abbrev frame : ConfigValues → Frame
 frame config =
-    frame_of config.width config.height config.updates config.least_length config.greatest_length
+    frame_of config.width config.height config.updates config.rules.least config.rules.greatest
 
 -- what the frame allows an event to do fits the configuration
 what_within : (config : ConfigValues) → 1 ≤ size_of config → (what : WhatValue)
     → what_fits (frame config) what ≡ true → FitsWhat config what
 what_within config some (inject cell letters) h =
     let first = and_parts (nat_le cell (size_of config - 1))
-    (nat_le config.least_length (length letters)
-    && nat_le (length letters) config.greatest_length) h in
-    let lengths = and_parts (nat_le config.least_length (length letters))
-    (nat_le (length letters) config.greatest_length) first.1 in
+    (nat_le config.rules.least (length letters)
+    && nat_le (length letters) config.rules.greatest) h in
+    let lengths = and_parts (nat_le config.rules.least (length letters))
+    (nat_le (length letters) config.rules.greatest) first.1 in
     let low : cell ≤ size_of config - 1 = leb-true cell (size_of config - 1) first.0 in
     (omega arith, leb-true _ _ lengths.0, leb-true _ _ lengths.1)
 what_within config some (clear first last) h =
@@ -55,14 +55,17 @@ config_is config =
       rows = config.height_bounds.0;
       few_rows = config.height_bounds.1;
       founder = omega (arith, config.founder_cell_bounds.1, some);
-      executed_asked = config.executed_percent_bounds.0;
-      executed_percent = config.executed_percent_bounds.1;
-      copied_asked = config.copied_percent_bounds.0;
-      copied_percent = config.copied_percent_bounds.1;
       average = config.average_slices_bounds.1;
       some_age = config.age_limit_bounds.0;
-      least = config.least_length_bounds.0;
-      ordered = config.greatest_length_bounds.0;
+      rules = record {
+        long_enough = config.least_length_bounds.0;
+        ordered = config.greatest_length_bounds.0;
+        short_enough = config.greatest_length_bounds.1;
+        executed_is_asked = config.executed_percent_bounds.0;
+        executed_is_percent = config.executed_percent_bounds.1;
+        copied_is_asked = config.copied_percent_bounds.0;
+        copied_is_percent = config.copied_percent_bounds.1;
+      };
       room = config.memory_limit_bounds.0;
       greatest = config.memory_limit_bounds.1;
       long_enough = config.ancestor_bounds.0;

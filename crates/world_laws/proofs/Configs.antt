@@ -7,10 +7,8 @@ use Rattle.std.proofs.lemmas.List.Sums.{length-filter, count_by-le-length}
 use Rattle.std.proofs.Math.Nat.{mul-le-mul}
 use Rattle.instruction_set.specs.declared.letter.Letter.{Letter}
 use Rattle.genome.specs.Genome.{IsGenome}
-use Rattle.divide_rules.specs.Rules.{AreRules}
 use Rattle.world_config.specs.Events.{EventValue}
 use Rattle.world_config.specs.Values.{ConfigValues}
-use Rattle.world_rules.specs.Settings.{rules_of}
 use Rattle.world_rules.specs.Update.{events_at}
 use Rattle.world_laws.specs.Bounds.{FitsEvent, FitsWhat, IsConfig, size_of}
 use Rattle.world_laws.proofs.Placements.{all_filtered}
@@ -53,23 +51,10 @@ module _ (config : ConfigValues) (fit : IsConfig config) where
   pub few_cells : size_of config ≤ 65536
   few_cells = mul-le-mul fit.few_columns fit.few_rows
 
-  -- the rules are those of a divide
-  pub rules_are : AreRules (rules_of config)
-  rules_are = record {
-    long_enough = fit.least;
-    ordered = fit.ordered;
-    short_enough = omega (arith, fit.room, fit.greatest);
-    executed_is_asked = fit.executed_asked;
-    executed_is_percent = fit.executed_percent;
-    copied_is_asked = fit.copied_asked;
-    copied_is_percent = fit.copied_percent;
-  }
-
   -- letters of a length that the configuration allows are a genome
-  pub genome_fits : (letters : List Letter) → config.least_length ≤ length letters
-      → length letters ≤ config.greatest_length → IsGenome letters
+  pub genome_fits : (letters : List Letter) → config.rules.least ≤ length letters
+      → length letters ≤ config.rules.greatest → IsGenome letters
   genome_fits letters h k =
-      let a = fit.least in
-      let c = fit.room in
-      let d = fit.greatest in
+      let a = fit.rules.long_enough in
+      let b = fit.rules.short_enough in
       record { least = omega arith; greatest = omega arith }

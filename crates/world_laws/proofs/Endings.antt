@@ -19,21 +19,21 @@ use Rattle.world_laws.proofs.Scenes.{Each}
 use Rattle.world_laws.proofs.LivesLemmas.{AreLives, lives_are}
 use Rattle.world_laws.proofs.AfterLives.{births_born, births_few, entries_few, sound_kept, was_there}
 use Rattle.world_laws.specs.Bounds.{IsConfig, size_of}
-use Rattle.world_laws.proofs.Configs.{events_fit, events_few, few_cells, rules_are}
+use Rattle.world_laws.proofs.Configs.{events_fit, events_few, few_cells}
 use Rattle.world_laws.proofs.Sounds.{Goes, goes_on, goes_more, goes_deaths, goes_births, goes_events}
 
 module _ (laws : LifeLaws) (config : ConfigValues) (fit : IsConfig config) (w : World)
     (sound : Each IsSoundOrganism w.cells) where
   -- the lives of sound organisms
   pub sound_lives : AreLives config (slice_at config w.cells) 0 w.cells (lives_after config w)
-  sound_lives = lives_are laws config (rules_are config fit) (w.update + 1) w.cells sound
+  sound_lives = lives_are laws config fit.rules (w.update + 1) w.cells sound
 
   -- sound organisms live on
   pub live_on : LiveOn config w
   unfolding settings_at
   live_on cell steps o here =
       laws.lives (settings_at config (w.update + 1)) (draw config.seed (w.update + 1) cell Run)
-      o.organism steps (rules_are config fit) (laws.words config.seed (w.update + 1) cell Run)
+      o.organism steps fit.rules (laws.words config.seed (w.update + 1) cell Run)
       (sound cell o here)
 
   -- the scene as the lives have ended

@@ -13,7 +13,7 @@ use Rattle.organism.specs.Lived.{IsSoundOrganism, IsBornOf, beginning}
 use Rattle.organism.specs.OrganismLife.{life_by}
 use Rattle.world_config.specs.Values.{ConfigValues}
 use Rattle.world_rules.specs.World.{Occupant}
-use Rattle.world_rules.specs.Settings.{rules_of, settings_at}
+use Rattle.world_rules.specs.Settings.{settings_at}
 use Rattle.world_rules.specs.Lives.{CellLife, life_of, life_at, lives_of, slice_at}
 use Rattle.world_laws.specs.LowerLaws.{LifeLaws}
 use Rattle.world_laws.proofs.ListLemmas.{got_some}
@@ -21,7 +21,7 @@ use Rattle.world_laws.proofs.Scenes.{Each}
 
 -- a newborn as its parent's genome and the configuration's rules want it
 abbrev pub IsNewborn : ConfigValues → List Letter → NewbornValue → Type 0
-IsNewborn config parent newborn = IsBornOf parent (rules_of config) newborn
+IsNewborn config parent newborn = IsBornOf parent config.rules newborn
 
 -- a cell's life keeps who stands there, and bears few lawful newborns
 pub record IsLifeOf (config : ConfigValues) (steps : ℕ) (o : Occupant) (l : CellLife) : Type 0 where
@@ -39,7 +39,7 @@ IsLife config steps None l = (l.occupant ≡ None) × (length l.newborns ≤ ste
 IsLife config steps (Some o) l = IsLifeOf config steps o l
 
 -- one life, by the laws
-life_is : (laws : LifeLaws) (config : ConfigValues) → AreRules (rules_of config)
+life_is : (laws : LifeLaws) (config : ConfigValues) → AreRules config.rules
     → (update cell steps : ℕ) (slot : Option Occupant)
     → ((o : Occupant) → slot ≡ Some o → IsSoundOrganism o.organism)
     → IsLife config steps slot (life_of config update cell steps slot)
@@ -86,7 +86,7 @@ lives_beside config steps run from (slot ∷ cells) each =
     )
 
 -- the lives of an update
-pub lives_are : (laws : LifeLaws) (config : ConfigValues) → AreRules (rules_of config)
+pub lives_are : (laws : LifeLaws) (config : ConfigValues) → AreRules config.rules
     → (update : ℕ) (cells : List (Option Occupant)) → Each IsSoundOrganism cells
     → AreLives config (slice_at config cells) 0 cells (lives_of config update cells)
 unfolding lives_of

@@ -29,7 +29,7 @@ use Rattle.world_rules.specs.WorldRun.{world_after}
 use Rattle.world_laws.specs.Ranges.{HasFewIds, HaveOwnIds, IsInRange, StandInRange, StayInRange}
 use Rattle.world_laws.specs.LowerLaws.{LifeLaws}
 use Rattle.world_laws.specs.Bounds.{FitsWhat, IsConfig}
-use Rattle.world_laws.proofs.Configs.{FitsPlaced, events_fit, rules_are}
+use Rattle.world_laws.proofs.Configs.{FitsPlaced, events_fit}
 use Rattle.world_laws.proofs.Each.{all_births, all_lives, each_left, each_with, fails_test, life_there, stood_before}
 use Rattle.world_laws.proofs.AfterLives.{IsBorn, births_born}
 use Rattle.world_laws.proofs.Endings.{all_come, all_grown, all_steps, next_own, next_sized, next_sound, next_update, sound_lives}
@@ -51,13 +51,13 @@ entry_few xs i = elim (cases_lt i (length xs)) [
 module _ (config : ConfigValues) (fit : IsConfig config) (ages : ℕ) (some : 1 ≤ ages) where
   -- an organism that comes
   range_new : (letters : List Letter) (inputs : List ℕ) (merit : ℕ) (credited : List Bool)
-      → config.least_length ≤ length letters → length letters ≤ config.greatest_length
+      → config.rules.least ≤ length letters → length letters ≤ config.rules.greatest
       → length credited ≡ 9 → HasTopBytes inputs
       → IsInRange config ages
       (new_organism letters inputs merit credited config.memory_limit)
   unfolding new_organism
   range_new letters inputs merit credited least greatest nine top =
-      let long : 1 ≤ length letters = omega (arith, least, fit.least) in
+      let long : 1 ≤ length letters = omega (arith, least, fit.rules.long_enough) in
       let limit : 1 * 1 ≤ config.age_limit * length letters = mul-le-mul fit.some_age long in
       record {
         least = least;
@@ -71,8 +71,8 @@ module _ (config : ConfigValues) (fit : IsConfig config) (ages : ℕ) (some : 1 
       }
 
   -- a founder of an allowed length is in range
-  range_founder : (cell nth : ℕ) (letters : List Letter) → config.least_length ≤ length letters
-      → length letters ≤ config.greatest_length
+  range_founder : (cell nth : ℕ) (letters : List Letter) → config.rules.least ≤ length letters
+      → length letters ≤ config.rules.greatest
       → IsInRange config ages (founder_of config cell nth letters)
   unfolding founder_of
   range_founder cell nth letters least greatest =
@@ -181,13 +181,13 @@ module _ (laws : LifeLaws) (keep : KeepLimits) (config : ConfigValues) (fit : Is
     range_ended ages update cell steps x few sound range alive =
         let words = draw config.seed update cell Run in
         let settings = settings_at config update in
-        let lived = laws.lives settings words x.organism steps (rules_are config fit)
+        let lived = laws.lives settings words x.organism steps fit.rules
         (laws.words config.seed update cell Run) sound in
         let left = life_leaves ages update cell steps x range in
         let genome = sym (ap length lived.genome) in
         record {
-          least = subst (λ k. config.least_length ≤ k) genome range.least;
-          greatest = subst (λ k. k ≤ config.greatest_length) genome range.greatest;
+          least = subst (λ k. config.rules.least ≤ k) genome range.least;
+          greatest = subst (λ k. k ≤ config.rules.greatest) genome range.greatest;
           age = omega (arith, lived.age, range.age, few);
           young = λ death. subst (λ k. (life settings words (beginning x.organism)
               steps).0.organism.age < config.age_limit * k) genome

@@ -27,7 +27,7 @@ use Rattle.world_laws.proofs.Placements.{placements_in}
 use Rattle.world_laws.proofs.LivesLemmas.{AreLives, lives_are}
 use Rattle.world_laws.proofs.AfterLives.{IsDelivery, left_by, folk_kept, births_lawful, turns_lawful}
 use Rattle.world_laws.specs.Bounds.{IsConfig, size_of, FitsWhat}
-use Rattle.world_laws.proofs.Configs.{filter_few, FitsPlaced, events_fit, few_cells, rules_are}
+use Rattle.world_laws.proofs.Configs.{filter_few, FitsPlaced, events_fit, few_cells}
 use Rattle.world_laws.proofs.Sounds.{Goes, goes_more}
 use Rattle.world_laws.proofs.Endings.{all_born, all_come, end_goes, next_sound}
 
@@ -63,7 +63,7 @@ module _ (laws : LifeLaws) (config : ConfigValues) (fit : IsConfig config) (n : 
     (w : World) (is : IsRun config n start w) where
   -- each life of the update keeps who stands in its cell, and bears few lawful newborns
   pub lives_lawful : AreLives config (slice_at config w.cells) 0 w.cells (lives_after config w)
-  lives_lawful = lives_are laws config (rules_are config fit) (w.update + 1) w.cells is.sound
+  lives_lawful = lives_are laws config fit.rules (w.update + 1) w.cells is.sound
 
   -- the scene as the lives have ended
   abbrev pub ended : Scene

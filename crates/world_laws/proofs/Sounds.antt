@@ -6,7 +6,6 @@ use Rattle.std.specs.Option.{option_to_list}
 use Rattle.std.proofs.lemmas.List.{length-set}
 use Rattle.std.proofs.lemmas.List.FromFn.{length-range_with_len}
 use Rattle.instruction_set.specs.declared.letter.Letter.{Letter}
-use Rattle.genome.specs.Genome.{IsGenome}
 use Rattle.birth_board.specs.declared.placing.Placing.{Placing}
 use Rattle.organism.specs.OrganismState.{OrganismState}
 use Rattle.organism.specs.Lived.{IsSoundOrganism}
@@ -15,7 +14,6 @@ use Rattle.lineage_log.specs.Links.{Link}
 use Rattle.world_config.specs.Events.{EventValue, WhatValue, inject, clear, rate}
 use Rattle.world_config.specs.Values.{ConfigValues}
 use Rattle.world_rules.specs.World.{Occupant, founder_of, founder_link}
-use Rattle.world_rules.specs.Settings.{rules_of}
 use Rattle.world_rules.specs.Scene.{Scene, next_id, standing_at, with_death, with_deaths, cells_from, with_newcomer}
 use Rattle.world_rules.specs.Update.{Delivery, child_of_birth, birth_link, with_newborn, after_what, after_event}
 use Rattle.world_laws.specs.LowerLaws.{LifeLaws}
@@ -162,18 +160,10 @@ module _ (laws : LifeLaws) (config : ConfigValues) (fit : IsConfig config) where
   sound_newborn : (b : Delivery) (placing : Placing) → IsBorn config b
       → IsSoundOrganism (child_of_birth config b placing)
   sound_newborn b placing is =
-      let least : (rules_of config).least ≤ length b.newborn.genome = is.born.least in
-      let greatest : length b.newborn.genome ≤ (rules_of config).greatest = is.born.greatest in
-      let low = fit.least in
-      let high = fit.room in
-      let top = fit.greatest in
-      let genome : IsGenome b.newborn.genome =
-      record {
-        least = omega (arith, least, low);
-        greatest = omega (arith, greatest, high, top);
-      } in
       laws.new b.newborn.genome placing.inputs b.newborn.merit b.newborn.credited
-      config.memory_limit genome (omega (arith, greatest, high)) (omega (arith, top))
+      config.memory_limit
+      (genome_fits config fit b.newborn.genome is.born.least is.born.greatest)
+      (omega (arith, is.born.greatest, fit.room)) (omega (arith, fit.greatest))
       is.born.some_merit is.born.merit
 
   -- with a birth of a newborn as the rules want it one came and at most one died
@@ -200,12 +190,12 @@ module _ (laws : LifeLaws) (config : ConfigValues) (fit : IsConfig config) where
       (omega arith) (omega arith)
 
   -- a founder of an allowed length is a sound organism
-  pub sound_founder : (cell nth : ℕ) (letters : List Letter) → config.least_length ≤ length letters
-      → length letters ≤ config.greatest_length
+  pub sound_founder : (cell nth : ℕ) (letters : List Letter) → config.rules.least ≤ length letters
+      → length letters ≤ config.rules.greatest
       → IsSoundOrganism (founder_of config cell nth letters)
   unfolding founder_of
   sound_founder cell nth letters least greatest =
-      let low = fit.least in
+      let low = fit.rules.long_enough in
       let room = fit.room in
       let top = fit.greatest in
       laws.new letters _ (length letters) no_tasks config.memory_limit

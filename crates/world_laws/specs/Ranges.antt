@@ -11,8 +11,8 @@ use Rattle.world_laws.specs.Keeping.{AreSound}
 -- an organism younger than this has a genome of an allowed length, an age below that of death, the
 -- memory limit of its world, sets of nine tasks, and inputs with the top bytes
 pub record IsInRange (config : ConfigValues) (ages : ℕ) (o : OrganismState) : Type 0 where
-  pub least : config.least_length ≤ length o.genome
-  pub greatest : length o.genome ≤ config.greatest_length
+  pub least : config.rules.least ≤ length o.genome
+  pub greatest : length o.genome ≤ config.rules.greatest
   pub age : o.age < ages
   pub young : config.death ≡ true → o.age < config.age_limit * length o.genome
   pub limit : o.machine.limit ≡ config.memory_limit

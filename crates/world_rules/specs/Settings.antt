@@ -4,24 +4,12 @@
 use Rattle.std.specs.Prelude.{ℕ, List, filter, fold, nat_lt}
 use Rattle.birth_board.specs.declared.placing_round.PlacingRound.{PlacingRound}
 use Rattle.birth_board.specs.Torus.{TorusNumbers}
-use Rattle.divide_rules.specs.Rules.{RuleNumbers}
 use Rattle.mutations.specs.declared.rate_name.RateName.{RateName}
 use Rattle.mutations.specs.declared.rate_name.RateName.TheVariants.{Copy, Insert, Delete, SitePoint, SiteInsert, SiteDelete}
 use Rattle.mutations.specs.Rates.{RateNumbers}
 use Rattle.organism.specs.SettingNumbers.{SettingNumbers}
 use Rattle.world_config.specs.Events.{EventValue, WhatValue, rate}
 use Rattle.world_config.specs.Values.{ConfigValues}
-
--- the rates at the keys
-abbrev pub first_rates : ConfigValues → RateNumbers
-first_rates config = record {
-  copy = config.copy_error;
-  insert = config.divide_insert;
-  delete = config.divide_delete;
-  site_point = config.site_point;
-  site_insert = config.site_insert;
-  site_delete = config.site_delete;
-}
 
 -- the rates, one of them with another value
 abbrev pub with_rate : RateNumbers → RateName → ℕ → RateNumbers
@@ -47,23 +35,13 @@ events_before config update = filter (λ event. nat_lt event.update update) conf
 
 -- the rates that hold in an update: those at the keys, changed by the events before it in order
 unfoldable pub rates_at : ConfigValues → ℕ → RateNumbers
-rates_at config update = fold rates_after (first_rates config) (events_before config update)
-
--- the rules of a divide
-abbrev pub rules_of : ConfigValues → RuleNumbers
-rules_of config = record {
-  least = config.least_length;
-  greatest = config.greatest_length;
-  executed_percent = config.executed_percent;
-  copied_percent = config.copied_percent;
-  need_alloc = config.need_alloc;
-}
+rates_at config update = fold rates_after config.rates (events_before config update)
 
 -- what a life in an update needs to know of its world
 unfoldable pub settings_at : ConfigValues → ℕ → SettingNumbers
 settings_at config update = record {
   rates = rates_at config update;
-  rules = rules_of config;
+  rules = config.rules;
   death = config.death;
   age_limit = config.age_limit;
   memory_limit = config.memory_limit;

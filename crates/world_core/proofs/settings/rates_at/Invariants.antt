@@ -1,11 +1,10 @@
 use Rattle.std.proofs.Common.{◌≡◌, take}
 use Rattle.mutations.specs.Rates.{numbers_of}
 use Rattle.world_config.specs.Shown.{values_of}
-use Rattle.world_rules.specs.Settings.{first_rates}
 use Rattle.world_core.proofs.SettingsLemmas.{rates_by}
 use Rattle.world_core.proofs.settings.rates_at.Given as goal
 
 abbrev pub invariant-loop-event : goal.invariant-loop-event
 invariant-loop-event l =
-    numbers_of l.rates ≡ rates_by (first_rates (values_of l.config)) l.update
+    numbers_of l.rates ≡ rates_by (values_of l.config).rates l.update
     (take l.event-index l.event-items)
