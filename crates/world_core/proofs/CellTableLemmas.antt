@@ -94,34 +94,33 @@ organism-with id None = refl
 organism-with id (Some o) = refl
 
 -- a cell of a table, whose organisms and ids lie apart
-module _ (r : Inside) {cells : List (Option Occupant)}
-    (long : length r.ids.items ≡ length r.organisms.items)
-    (are : occupants_of r.organisms.items r.ids.items ≡ cells) (cell : ℕ)
-    (within : cell < length cells) where
+module _ (r : Inside) (cell : ℕ) {cells : List (Option Occupant)} (within : cell < length cells)
+    (beside : AreKeptBeside r.organisms.items r.ids.items r.standings.items)
+    (are : occupants_of r.organisms.items r.ids.items ≡ cells) where
   -- has an organism or a gap
-  pub has-slot : cell < r.organisms.len
-  has-slot =
+  pub has_slot : cell < r.organisms.len
+  has_slot =
       omega (
         arith,
         within,
         r.organisms.ok.0,
-        occupants_of-length r.organisms.items r.ids.items long,
+        occupants_of-length r.organisms.items r.ids.items beside.long,
         ap length are,
       )
 
   -- and an id
-  pub has-id : cell < r.ids.len
-  has-id = omega (arith, has-slot, r.organisms.ok.0, r.ids.ok.0, long)
+  pub has_id : cell < r.ids.len
+  has_id = omega (arith, has_slot, r.organisms.ok.0, r.ids.ok.0, beside.long)
 
   -- and something that is counted of it
-  pub has-standing : r.standings.items ≡ map standing_in r.organisms.items → cell < r.standings.len
-  has-standing counted =
+  pub has_standing : cell < r.standings.len
+  has_standing =
       omega (
         arith,
-        has-slot,
+        has_slot,
         r.organisms.ok.0,
         r.standings.ok.0,
-        ap length counted,
+        ap length beside.counted,
         length-map r.organisms.items standing_in,
       )
 
@@ -130,33 +129,32 @@ module _ (r : Inside) {cells : List (Option Occupant)}
       → read ≡ slot → get_or cells cell None ≡ with_id (get_or r.ids.items cell 0) slot
   read-slot read slot found is =
       sym (ap (λ (cells : List (Option Occupant)). get_or cells cell None) are)
-      ∙ occupants_of-at r.organisms.items r.ids.items cell long
+      ∙ occupants_of-at r.organisms.items r.ids.items cell beside.long
       ∙ ap (with_id (get_or r.ids.items cell 0))
-      (sym (get_or_read r.organisms.items cell read (omega (arith, has-slot, r.organisms.ok.0))
+      (sym (get_or_read r.organisms.items cell read (omega (arith, has_slot, r.organisms.ok.0))
       found None) ∙ is)
 
   -- what is counted of who stands there
-  pub read-standing : r.standings.items ≡ map standing_in r.organisms.items
-      → (read : Option Standing) → read ≡ get_or r.standings.items cell read
+  pub read-standing : (read : Option Standing) → read ≡ get_or r.standings.items cell read
       → read ≡ standing_in (organism_in (get_or cells cell None))
-  read-standing counted read found =
+  read-standing read found =
       let slot = get_or r.organisms.items cell None in
       let id = get_or r.ids.items cell 0 in
       get_or_read r.standings.items cell read
-      (omega (arith, has-standing counted, r.standings.ok.0)) found None
-      ∙ ap (λ (all : List (Option Standing)). get_or all cell None) counted
+      (omega (arith, has_standing, r.standings.ok.0)) found None
+      ∙ ap (λ (all : List (Option Standing)). get_or all cell None) beside.counted
       ∙ get_or-map standing_in r.organisms.items cell None None
-      (omega (arith, has-slot, r.organisms.ok.0, length-map r.organisms.items standing_in))
+      (omega (arith, has_slot, r.organisms.ok.0, length-map r.organisms.items standing_in))
       ∙ ap standing_in (sym (organism-with id slot))
       ∙ ap (λ who. standing_in (organism_in who))
-      (sym (occupants_of-at r.organisms.items r.ids.items cell long))
+      (sym (occupants_of-at r.organisms.items r.ids.items cell beside.long))
       ∙ ap (λ (cells : List (Option Occupant)). standing_in (organism_in (get_or cells cell None)))
       are
 
   -- the id
   pub read-id : (id : ℕ) → id ≡ get_or r.ids.items cell id → id ≡ get_or r.ids.items cell 0
   read-id id found =
-      get_or_read r.ids.items cell id (omega (arith, has-id, r.ids.ok.0)) found 0
+      get_or_read r.ids.items cell id (omega (arith, has_id, r.ids.ok.0)) found 0
 
 -- its merit counts in the cell
 merit-of : (id : ℕ) (o : Option OrganismState)

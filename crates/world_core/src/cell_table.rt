@@ -58,6 +58,7 @@ impl CellTable {
     }
 
     /// The genome of who stands in the cell.
+    #[tactic(auto, using(crate::proofs::CellTableLemmas::has_slot))]
     pub(crate) fn genome_at(&self, cell: usize) -> Option<&Genome>
         requires { cell < length self.now }
         ensures { option_map (λ genome. letters genome.now) result
@@ -70,6 +71,7 @@ impl CellTable {
     }
 
     /// What is counted of who stands in the cell.
+    #[tactic(auto, using(crate::proofs::CellTableLemmas::has_standing))]
     pub(crate) fn standing_at(&self, cell: usize) -> Option<Standing>
         requires { cell < length self.now }
         ensures { result ≡ standing_in (organism_in (slice_index_or self.now cell None)) }
@@ -78,6 +80,7 @@ impl CellTable {
     }
 
     /// The id of who stands in the cell.
+    #[tactic(auto, using(crate::proofs::CellTableLemmas::has_slot, crate::proofs::CellTableLemmas::has_id))]
     pub(crate) fn id_at(&self, cell: usize) -> Option<u64>
         requires { cell < length self.now }
         ensures { result ≡ id_of (slice_index_or self.now cell None) }
@@ -89,6 +92,7 @@ impl CellTable {
     }
 
     /// Who stands in the cell, with all values.
+    #[tactic(auto, using(crate::proofs::CellTableLemmas::has_slot, crate::proofs::CellTableLemmas::has_id))]
     pub(crate) fn resident_at(&self, alloc: Global, cell: u32) -> Result<Option<Resident>, Memory>
         requires { cell < length self.now }
         ensures { IfOk result (IsResidentIn cell (slice_index_or self.now cell None)) }
@@ -116,6 +120,7 @@ impl CellTable {
     }
 
     /// Nobody stands in the cell any longer; the result is who did.
+    #[tactic(auto, using(crate::proofs::CellTableLemmas::has_slot, crate::proofs::CellTableLemmas::has_standing))]
     pub(crate) fn take(&mut self, cell: usize) -> Option<BoxedOrganism>
         requires { cell < length self.old }
         ensures after { self.new ≡ slice_set self.old cell None }
@@ -126,6 +131,7 @@ impl CellTable {
     }
 
     /// Somebody with this id stands in the cell.
+    #[tactic(auto, using(crate::proofs::CellTableLemmas::has_slot, crate::proofs::CellTableLemmas::has_id, crate::proofs::CellTableLemmas::has_standing))]
     pub(crate) fn put(&mut self, cell: usize, id: u64, organism: BoxedOrganism)
         requires { cell < length self.old }
         ensures { self.new

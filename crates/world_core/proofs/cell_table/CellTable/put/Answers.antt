@@ -1,21 +1,8 @@
 use Rattle.std.proofs.Common.{◌∙◌, List, Option, Some, ap, set}
 use Rattle.std.proofs.lemmas.List.{length-set}
 use Rattle.world_rules.specs.World.{Occupant}
-use Rattle.world_core.proofs.CellTableLemmas.{AreKeptBeside-set, has-id, has-slot, has-standing, occupants_of-put}
+use Rattle.world_core.proofs.CellTableLemmas.{AreKeptBeside-set, occupants_of-put}
 use Rattle.world_core.proofs.cell_table.CellTable.put.Goals as goal
-
-pub index_mut-requires : goal.index_mut-requires
-index_mut-requires c =
-    has-standing c.self.inside c.self.invariant.long c.self.view_is c.args.cell c.requires
-    c.self.invariant.counted
-
-pub index_mut-requires-2 : goal.index_mut-requires-2
-index_mut-requires-2 c =
-    has-slot c.self.inside c.self.invariant.long c.self.view_is c.args.cell c.requires
-
-pub index_mut-requires-3 : goal.index_mut-requires-3
-index_mut-requires-3 c =
-    has-id c.self.inside c.self.invariant.long c.self.view_is c.args.cell c.requires
 
 pub invariant_of-self : goal.invariant_of-self
 invariant_of-self c =

@@ -2,20 +2,16 @@ use Rattle.std.proofs.Common.{refl, Option, Some, None, get_or, subst, sym}
 use Rattle.saved_lines.specs.declared.resident.Resident.{Resident}
 use Rattle.world_rules.specs.World.{Occupant}
 use Rattle.world_core.specs.Resumed.{IsResidentIn}
-use Rattle.world_core.proofs.CellTableLemmas.{has-id, has-slot, read-id, read-slot, resident_is}
+use Rattle.world_core.proofs.CellTableLemmas.{read-id, read-slot, resident_is}
 use Rattle.world_core.proofs.cell_table.CellTable.resident_at.Goals as goal
-
-pub index-requires : goal.index-requires
-index-requires c =
-    has-slot c.self.inside c.self.invariant.long c.self.view_is c.args.cell c.requires
 
 pub returns-in_ok-image-in-Some : goal.returns-in_ok-image-in-Some
 returns-in_ok-image-in-Some c =
     let cell = c.args.cell in
     let id = get_or c.self.inside.ids.items cell 0 in
-    let slot = read-slot c.self.inside c.self.invariant.long c.self.view_is cell c.requires
+    let slot = read-slot c.self.inside cell c.requires c.self.invariant c.self.view_is
     c.index.result.now _ c.index.ensures c.in-Some.is in
-    let named = read-id c.self.inside c.self.invariant.long c.self.view_is cell c.requires
+    let named = read-id c.self.inside cell c.requires c.self.invariant c.self.view_is
     c.index-in-Some.result.now c.index-in-Some.ensures in
     let resident : Resident = record {
       cell = cell;
@@ -29,9 +25,5 @@ returns-in_ok-image-in-Some c =
 pub returns-in-None : goal.returns-in-None
 returns-in-None c =
     subst (λ (slot : Option Occupant). IsResidentIn c.args.cell slot None)
-    (sym (read-slot c.self.inside c.self.invariant.long c.self.view_is c.args.cell c.requires
+    (sym (read-slot c.self.inside c.args.cell c.requires c.self.invariant c.self.view_is
     c.index.result.now _ c.index.ensures c.in-None.is)) tt
-
-pub index-requires-in-Some : goal.index-requires-in-Some
-index-requires-in-Some c =
-    has-id c.self.inside c.self.invariant.long c.self.view_is c.args.cell c.requires

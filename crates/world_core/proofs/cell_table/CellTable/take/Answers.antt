@@ -1,17 +1,8 @@
 use Rattle.std.proofs.Common.{◌∙◌, List, None, Option, ap, refl, set, sym}
 use Rattle.world_rules.specs.Statistics.{organism_in}
 use Rattle.world_rules.specs.World.{Occupant}
-use Rattle.world_core.proofs.CellTableLemmas.{AreKeptBeside-set, has-slot, has-standing, occupants_of-remove, organism-with, read-slot}
+use Rattle.world_core.proofs.CellTableLemmas.{AreKeptBeside-set, occupants_of-remove, organism-with, read-slot}
 use Rattle.world_core.proofs.cell_table.CellTable.take.Goals as goal
-
-pub index_mut-requires : goal.index_mut-requires
-index_mut-requires c =
-    has-standing c.self.inside c.self.invariant.long c.self.view_is c.args.cell c.requires
-    c.self.invariant.counted
-
-pub index_mut-requires-2 : goal.index_mut-requires-2
-index_mut-requires-2 c =
-    has-slot c.self.inside c.self.invariant.long c.self.view_is c.args.cell c.requires
 
 pub invariant_of-self : goal.invariant_of-self
 invariant_of-self c =
@@ -28,6 +19,6 @@ returns-clause-after c =
 pub returns-clause-who : goal.returns-clause-who
 returns-clause-who c =
     c.take.ensures.value
-    ∙ sym (ap organism_in (read-slot c.self.inside c.self.invariant.long c.self.view_is c.args.cell
-    c.requires c.index_mut-2.result.now _ c.index_mut-2.ensures.value refl)
+    ∙ sym (ap organism_in (read-slot c.self.inside c.args.cell c.requires c.self.invariant
+    c.self.view_is c.index_mut-2.result.now _ c.index_mut-2.ensures.value refl)
     ∙ organism-with _ _)
