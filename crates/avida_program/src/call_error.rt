@@ -1,6 +1,7 @@
 // Why a call isn't done.
 ghost use Rattle.std.specs.Prelude.{◌≡◌};
-ghost use Rattle.avida_program.specs.Endings.{ended_by};
+ghost use Rattle.avida_program.specs.Endings.{ended_by, error_at};
+ghost use Rattle.avida_program.specs.declared.call_error.CallError.TheVariants as error;
 
 use crate::refusal::Refusal;
 use avida_port::Memory;
@@ -19,9 +20,6 @@ pub enum CallError {
 }
 
 impl From<Memory> for CallError {
-    ghost use Rattle.std.specs.Prelude.{◌≡◌};
-    ghost use Rattle.avida_program.specs.declared.call_error.CallError.TheVariants as error;
-
     ghost from_gives = { λ _ given. given ≡ error.Memory };
 
     fn from(_e: Memory) -> CallError {
@@ -30,9 +28,6 @@ impl From<Memory> for CallError {
 }
 
 impl From<WriteStop> for CallError {
-    ghost use Rattle.std.specs.Prelude.{◌≡◌};
-    ghost use Rattle.avida_program.specs.Endings.{error_at};
-
     ghost from_gives = { λ stop given. given ≡ error_at stop };
 
     fn from(stop: WriteStop) -> CallError {
