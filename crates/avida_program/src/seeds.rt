@@ -109,25 +109,6 @@ fn text_of(alloc: Global, assays: &[Assay]) -> Result<Vec<u8>, Memory>
     Ok(text)
 }
 
-/// Runs a configuration with so many seeds, from the first one on, and gives the lines.
-fn run_and_tell<R: Threads + Wait + Sync, G: Gate + Sync>(
-    rt: &R,
-    alloc: Global,
-    config: &Config,
-    count: u32,
-    first: u64,
-    workers: u32,
-    gate: &G,
-) -> Result<Vec<u8>, Memory>
-    requires count { (1 ≤ count) × (count ≤ 64) }
-    requires first { first ≤ 9223372036854775744 }
-    requires workers { (1 ≤ workers) × (workers ≤ 64) }
-    ensures { IfOk result (λ text. text.items ≡ assay_text (values_of config.now) first count) }
-{
-    let assays = assay::assay(rt, alloc, config, first, count, workers, gate)?;
-    text_of(alloc, assays.as_slice())
-}
-
 /// Runs a configuration with so many seeds, from the first one on, and writes what becomes of them.
 fn write_assay<R: Threads + Wait + Sync, O: Sink, G: Gate + Sync>(
     rt: &R,
@@ -145,7 +126,8 @@ fn write_assay<R: Threads + Wait + Sync, O: Sink, G: Gate + Sync>(
     ensures { WritesAll (O.seen out.old) (O.seen out.new)
         (assay_text (values_of config.now) first count) result }
 {
-    let text = run_and_tell(rt, alloc, config, count, first, workers, gate)?;
+    let assays = assay::assay(rt, alloc, config, first, count, workers, gate)?;
+    let text = text_of(alloc, assays.as_slice())?;
     put_text(&text, out)
 }
 
