@@ -15,12 +15,13 @@ ghost use Rattle.avida_program.specs.Commands.{CarriesOut};
 use crate::call_error::CallError;
 use crate::input::read_config_with;
 use crate::puts::{put_rest, put_text};
-use crate::run::{leave, run_to_end};
+use crate::run::leave;
 use avida_port::{Gate, Memory, Sink, Source};
 use command_line::Lineage;
 use genome::letters_text;
 use lineage_log::{Link, Path};
 use log_lines::{write_number, write_record};
+use logged_run::run_counted;
 use mutations::Origin;
 use std::alloc::Global;
 use std::sync::Wait;
@@ -132,7 +133,7 @@ fn run_and_write<R: Threads + Wait + Sync, O: Sink, G: Gate + Sync>(
     ensures text { WritesAll (O.seen out.old) (O.seen out.new)
         (path_text (values_of config) cell) result }
 {
-    let world = run_to_end(rt, alloc, config, workers, gate)?;
+    let (world, _) = run_counted(rt, alloc, config, workers, gate)?;
     write_descent(alloc, &world, cell, out)?;
     Ok(world)
 }

@@ -1,39 +1,21 @@
 // The command `run`.
-ghost use Rattle.std.specs.Prelude.{◌≡◌, ◌≤◌, Some, IfOk};
-ghost use Rattle.world_config.specs.Shown.{values_of};
+ghost use Rattle.std.specs.Prelude.{◌≡◌, ◌≤◌, Some};
 ghost use Rattle.written_texts.specs.SinkChanges.{change};
-ghost use Rattle.logged_run.specs.RunText.{IsFinalWorld};
 ghost use Rattle.avida_program.specs.declared.command.Command.TheVariants as command;
 ghost use Rattle.avida_program.specs.Commands.{CarriesOut};
 
 use crate::call_error::CallError;
 use crate::input::read_config;
-use avida_port::{Gate, Memory, Sink, Source};
+use avida_port::{Gate, Sink, Source};
 use command_line::Run;
 use lineage_log::laws::read_exactly;
-use logged_run::{run_counted, write_run};
+use logged_run::write_run;
 use std::alloc::Global;
 use std::sync::Wait;
 use std::thread::Threads;
 use std::time::Clock;
-use world_config::Config;
 use world_core::World;
 use world_core::laws::replay_gives_living;
-
-/// Runs a configuration to its last update, and gives the world then.
-pub fn run_to_end<R: Threads + Wait + Sync, G: Gate + Sync>(
-    rt: &R,
-    alloc: Global,
-    config: Config,
-    workers: u32,
-    gate: &G,
-) -> Result<World, Memory>
-    requires workers { (1 ≤ workers) × (workers ≤ 64) }
-    ensures { IfOk result (IsFinalWorld (values_of config)) }
-{
-    let (world, _) = run_counted(rt, alloc, config, workers, gate)?;
-    Ok(world)
-}
 
 /// Leaves a world, in place of one that was there before.
 pub fn leave(last: &mut Option<World>, world: World)

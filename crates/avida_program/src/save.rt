@@ -9,9 +9,9 @@ ghost use Rattle.avida_program.specs.Input.{configuration_of};
 
 use crate::call_error::{CallError, ended_by};
 use crate::input::read_config;
-use crate::run::run_to_end;
 use crate::saved_world::write_state;
 use avida_port::{Gate, Sink, Source};
+use logged_run::run_counted;
 use std::alloc::Global;
 use std::sync::Wait;
 use std::thread::Threads;
@@ -30,7 +30,7 @@ fn run_and_write<R: Threads + Wait + Sync, O: Sink, G: Gate + Sync>(
     requires { (1 ≤ workers) × (workers ≤ 64) }
     ensures { WritesAll (O.seen out.old) (O.seen out.new) (save_text (values_of config)) result }
 {
-    let world = run_to_end(rt, alloc, config, workers, gate)?;
+    let (world, _) = run_counted(rt, alloc, config, workers, gate)?;
     let state = world.into_state();
     write_state(alloc, &state, out)
 }

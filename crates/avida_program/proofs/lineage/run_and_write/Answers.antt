@@ -28,11 +28,14 @@ returns-in_err-write_descent-clause-text g c =
     let p = err_from_is_err_and c.from_residual-in_err-write_descent.result
     c.from_residual-in_err-write_descent.ensures.1 in
     let same = text_is (values_of c.args.config) c.args.cell c.in_ok-world.world
-    c.in_ok-world.ensures in
+    c.in_ok-world.ensures.final in
     rw (p.1, p.2, sym same) (stopped_same c.in_err-write_descent.ensures)
+
+pub returns-clause-world : goal.returns-clause-world
+returns-clause-world g c = c.in_ok-world.ensures.final
 
 pub returns-clause-text : goal.returns-clause-text
 returns-clause-text g c =
     let same = text_is (values_of c.args.config) c.args.cell c.in_ok-world.world
-    c.in_ok-world.ensures in
+    c.in_ok-world.ensures.final in
     rw (sym same) (writes_same c.in_ok-write_descent.ensures)

@@ -17,7 +17,7 @@ returns-in_err-world g c =
 pub returns : goal.returns
 returns g c =
     let is : c.into_state-state.result ≡ state_of (values_of c.args.config) =
-    c.into_state-state.ensures ∙ ap state_of c.in_ok-world.ensures.config in
+    c.into_state-state.ensures ∙ ap state_of c.in_ok-world.ensures.final.config in
     subst (λ (s : SavedState). WritesAll {T = Unit {0}} (g.O.Sink.seen c.args.out.now)
     (g.O.Sink.seen c.write_state.new.out) (saved_text s) c.write_state.result) is
     c.write_state.ensures
