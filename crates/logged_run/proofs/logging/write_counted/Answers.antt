@@ -19,25 +19,21 @@ returns-in_err-write_first-clause-text g c =
     let p = err_from_is_err_and c.from_residual-in_err-write_first.result
     c.from_residual-in_err-write_first.ensures.1 in
     rw (p.1, p.2)
-    (first_stopped (values_of c.args.config) c.in_ok-world.world.config c.args.config.updates
-    c.in_err-write_first.ensures c.in_ok-world.ensures.0)
+    (first_stopped c.in_ok-world.ensures.0 c.args.config.updates c.in_err-write_first.ensures)
 
 pub returns-in_err-world-2-clause-text : goal.returns-in_err-world-2-clause-text
 returns-in_err-world-2-clause-text g c =
     let p = err_from_is_err_and c.from_residual-in_err-world-2.result
     c.from_residual-in_err-world-2.ensures.1 in
-    let founded = c.in_ok-world.ensures.0 in
     rw (p.1, p.2)
-    (updates_stopped (values_of c.args.config) c.in_ok-world.world.config c.in_ok-world.world.config
-    c.args.config.updates
-    c.in_ok-write_first.ensures founded c.in_err-world-2.ensures.text founded)
+    (updates_stopped c.in_ok-world.ensures.0 c.args.config.updates c.in_ok-write_first.ensures
+    c.in_err-world-2.ensures.text)
 
 pub returns-in-Err-clause-text : goal.returns-in-Err-clause-text
 returns-in-Err-clause-text g c =
-    let founded = c.in_ok-world.ensures.0 in
-    stopped_same (last_written founded founded c.args.config.updates
-    c.in_ok-world-2.world.update c.in_ok-write_first.ensures c.in_ok-world-2.ensures.text
-    c.in-Err.ensures c.in_ok-world-2.ensures.world.update)
+    stopped_same (last_written c.in_ok-world.ensures.0 c.args.config.updates
+    c.in_ok-write_first.ensures c.in_ok-world-2.ensures.text c.in-Err.ensures
+    c.in_ok-world-2.ensures.world.update)
 
 pub returns-in-Ok-clause-ended : goal.returns-in-Ok-clause-ended
 returns-in-Ok-clause-ended g c =
@@ -51,7 +47,6 @@ returns-in-Ok-clause-ended g c =
 
 pub returns-in-Ok-clause-text : goal.returns-in-Ok-clause-text
 returns-in-Ok-clause-text g c =
-    let founded = c.in_ok-world.ensures.0 in
-    writes_same (last_written founded founded c.args.config.updates
-    c.in_ok-world-2.world.update c.in_ok-write_first.ensures c.in_ok-world-2.ensures.text
-    c.in-Ok.ensures c.in_ok-world-2.ensures.world.update)
+    writes_same (last_written c.in_ok-world.ensures.0 c.args.config.updates
+    c.in_ok-write_first.ensures c.in_ok-world-2.ensures.text c.in-Ok.ensures
+    c.in_ok-world-2.ensures.world.update)

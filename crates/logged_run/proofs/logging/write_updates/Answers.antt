@@ -28,9 +28,8 @@ returns-in_err-running-clause-text g c =
     let p = err_from_is_err_and c.from_residual.result c.from_residual.ensures.1 in
     let so = c.loop.invariant in
     let within : c.loop.counter < c.args.updates = omega arith in
-    rw (p.1, p.2) (update_stopped c.args.world.config c.loop.running.config c.loop.counter
-    c.loop.running.update c.args.updates within so.written c.in_err-running.ensures.text
-    so.at.config so.at.update)
+    rw (p.1, p.2)
+    (update_stopped within so.written c.in_err-running.ensures.text so.at.config so.at.update)
 
 pub returns-in_err-into_world-clause-text : goal.returns-in_err-into_world-clause-text
 returns-in_err-into_world-clause-text g c =
@@ -74,6 +73,5 @@ loop-preserved g c =
         update = next.world.update ∙ ap (λ n. n + 1) so.at.update;
       };
       summed = sums_then so.at next.sums;
-      written = writes_same (update_written c.args.world.config c.loop.running.config
-          c.loop.counter c.loop.running.update so.written next.text so.at.config so.at.update);
+      written = writes_same (update_written so.written next.text so.at.config so.at.update);
     }

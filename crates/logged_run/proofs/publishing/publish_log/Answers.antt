@@ -1,6 +1,5 @@
 use Rattle.std.proofs.Common.{subst, sym}
 use Rattle.std.proofs.lemmas.Result.{err_from_is_err_and}
-use Rattle.world_config.specs.Shown.{values_of}
 use Rattle.world_config.specs.Values.{ConfigValues}
 use Rattle.logged_run.specs.Publishing.{HasCome}
 use Rattle.logged_run.proofs.RunLemmas.{first_stopped, last_written, updates_stopped}
@@ -16,25 +15,21 @@ pub returns-in_err-write_first-clause-text : goal.returns-in_err-write_first-cla
 returns-in_err-write_first-clause-text g c =
     let p = err_from_is_err_and c.from_residual.result c.from_residual.ensures.1 in
     rw (p.1, p.2)
-    (first_stopped (values_of c.args.config.now) c.args.progress.world.config
-    c.args.config.now.updates c.in_err-write_first.ensures c.requires.world.config)
+    (first_stopped c.requires.world.config c.args.config.now.updates c.in_err-write_first.ensures)
 
 pub returns-in_err-progress-clause-text : goal.returns-in_err-progress-clause-text
 returns-in_err-progress-clause-text g c =
     let p = err_from_is_err_and c.from_residual-in_err-progress.result
     c.from_residual-in_err-progress.ensures.1 in
-    let here = c.args.progress.world.config in
     rw (p.1, p.2)
-    (updates_stopped (values_of c.args.config.now) here here c.args.config.now.updates
-    c.in_ok-write_first.ensures c.requires.world.config c.in_err-progress.ensures.text
-    c.requires.world.config)
+    (updates_stopped c.requires.world.config c.args.config.now.updates c.in_ok-write_first.ensures
+    c.in_err-progress.ensures.text)
 
 pub returns-in-Err-clause-text : goal.returns-in-Err-clause-text
 returns-in-Err-clause-text g c =
-    stopped_same (last_written c.requires.world.config c.requires.world.config
-    c.args.config.now.updates c.in_ok-progress.progress.world.update
-    c.in_ok-write_first.ensures c.in_ok-progress.ensures.text
-    c.in-Err.ensures c.in_ok-progress.ensures.come.world.update)
+    stopped_same (last_written c.requires.world.config c.args.config.now.updates
+    c.in_ok-write_first.ensures c.in_ok-progress.ensures.text c.in-Err.ensures
+    c.in_ok-progress.ensures.come.world.update)
 
 pub returns-in-Ok-clause-come : goal.returns-in-Ok-clause-come
 returns-in-Ok-clause-come g c =
@@ -44,7 +39,6 @@ returns-in-Ok-clause-come g c =
 
 pub returns-in-Ok-clause-text : goal.returns-in-Ok-clause-text
 returns-in-Ok-clause-text g c =
-    writes_same (last_written c.requires.world.config c.requires.world.config
-    c.args.config.now.updates c.in_ok-progress.progress.world.update
-    c.in_ok-write_first.ensures c.in_ok-progress.ensures.text
-    c.in-Ok.ensures c.in_ok-progress.ensures.come.world.update)
+    writes_same (last_written c.requires.world.config c.args.config.now.updates
+    c.in_ok-write_first.ensures c.in_ok-progress.ensures.text c.in-Ok.ensures
+    c.in_ok-progress.ensures.come.world.update)

@@ -17,9 +17,9 @@ returns-in_err-progress-clause-text g c =
     let p = err_from_is_err_and c.from_residual.result c.from_residual.ensures.1 in
     let so = c.loop.invariant in
     let within : c.loop.counter < c.args.updates = omega arith in
-    rw (p.1, p.2) (update_stopped c.args.progress.world.config c.loop.progress.world.config
-    c.loop.counter c.loop.progress.world.update c.args.updates within so.written
-    c.in_err-progress.ensures.text so.come.world.config so.come.world.update)
+    rw (p.1, p.2)
+    (update_stopped within so.written c.in_err-progress.ensures.text so.come.world.config
+    so.come.world.update)
 
 pub returns-clause-come : goal.returns-clause-come
 returns-clause-come g c =
@@ -40,7 +40,6 @@ loop-preserved g c =
     let next = c.in_ok-progress.ensures in
     record {
       come = come_more so.come next.come;
-      written = writes_same (update_written c.args.progress.world.config
-          c.loop.progress.world.config c.loop.counter c.loop.progress.world.update so.written
-          next.text so.come.world.config so.come.world.update);
+      written = writes_same (update_written so.written next.text so.come.world.config
+          so.come.world.update);
     }
