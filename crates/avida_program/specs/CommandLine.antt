@@ -24,8 +24,10 @@ command_named name words =
     else if bytes_eq name (codes "bench") then option_map Bench (told.bench_told words)
     else if bytes_eq name (codes "assay") then option_map Assay (told.assay_told words)
     else if bytes_eq name (codes "save") then option_map Save (told.save_told words)
-    else if bytes_eq name (codes "resume") then option_map Resume (told.resume_told words)
-    else if bytes_eq name (codes "advance") then option_map Advance (told.advance_told words)
+    else if bytes_eq name (codes "resume")
+    then option_map Resume (told.further_updates_told words)
+    else if bytes_eq name (codes "advance")
+    then option_map Advance (told.further_updates_told words)
     else if bytes_eq name (codes "replay") then bare_command Replay words
     else if bytes_eq name (codes "upgrade") then bare_command Upgrade words
     else if bytes_eq name (codes "tree") then bare_command Tree words

@@ -12,7 +12,7 @@ use crate::input::read_state_for;
 use crate::resume::write_updates;
 use crate::saved_world::write_state;
 use avida_port::{Gate, Memory, Sink, Source};
-use command_line::Advance;
+use command_line::FurtherUpdates;
 use std::alloc::Global;
 use std::sync::Wait;
 use std::thread::Threads;
@@ -58,7 +58,7 @@ fn advance_and_write<R: Threads + Wait + Sync, O: Sink, G: Gate + Sync>(
 pub fn advance<R: Threads + Wait + Sync, S: Source, O: Sink, G: Gate + Sync>(
     rt: &R,
     alloc: Global,
-    asked: Advance,
+    asked: FurtherUpdates,
     source: &mut S,
     out: &mut O,
     gate: &G,

@@ -4,8 +4,8 @@ ghost use Rattle.command_line.specs.Refusals.{Refuses};
 ghost use Rattle.avida_program.specs.CommandLine.{HasNumbersInRange, bare_command, command_named, command_of, spelling_of};
 
 use command_line::{
-    Advance, Assay, Bench, Lineage, Refused, Resume, Run, Trace, read_advance, read_assay,
-    read_bench, read_landscape, read_lineage, read_nothing, read_resume, read_run, read_save,
+    Assay, Bench, FurtherUpdates, Lineage, Refused, Run, Trace, read_assay, read_bench,
+    read_further_updates, read_landscape, read_lineage, read_nothing, read_run, read_save,
     read_trace,
 };
 use std::alloc::Global;
@@ -26,8 +26,8 @@ pub enum Command {
     Bench(Bench),
     Assay(Assay),
     Save { workers: u32 },
-    Resume(Resume),
-    Advance(Advance),
+    Resume(FurtherUpdates),
+    Advance(FurtherUpdates),
     Replay,
     Upgrade,
     Tree,
@@ -75,8 +75,8 @@ fn read_named(alloc: Global, name: &str, words: &[String]) -> Result<Command, Re
         "save" => Ok(Command::Save {
             workers: read_save(alloc, words)?,
         }),
-        "resume" => Ok(Command::Resume(read_resume(alloc, words)?)),
-        "advance" => Ok(Command::Advance(read_advance(alloc, words)?)),
+        "resume" => Ok(Command::Resume(read_further_updates(alloc, words)?)),
+        "advance" => Ok(Command::Advance(read_further_updates(alloc, words)?)),
         "replay" => read_bare(alloc, words, Command::Replay),
         "upgrade" => read_bare(alloc, words, Command::Upgrade),
         "tree" => read_bare(alloc, words, Command::Tree),

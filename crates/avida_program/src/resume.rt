@@ -10,7 +10,7 @@ ghost use Rattle.avida_program.specs.InputAnswers.{resume_input_of};
 use crate::call_error::{CallError, ended_by};
 use crate::input::read_state_for;
 use avida_port::{Gate, Sink, Source};
-use command_line::Resume;
+use command_line::FurtherUpdates;
 use log_lines::{LogLine, write_line};
 use std::alloc::Global;
 use std::sync::Wait;
@@ -85,7 +85,7 @@ fn write_on<R: Threads + Wait + Sync, O: Sink, G: Gate + Sync>(
 pub fn resume<R: Threads + Wait + Sync, S: Source, O: Sink, G: Gate + Sync>(
     rt: &R,
     alloc: Global,
-    asked: Resume,
+    asked: FurtherUpdates,
     source: &mut S,
     out: &mut O,
     gate: &G,

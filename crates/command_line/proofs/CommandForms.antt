@@ -262,14 +262,9 @@ pub bench_reads : IsReadableRow (positional_row (codes "bench") (codes "seed") 9
 bench_reads = reads_by refl refl (omega arith) refl refl (λ no_minus.
     positional_refuses no_minus 9223372036854775807)
 
--- the parser knows `resume`, which refuses updates or workers that begin with `-`
-pub resume_reads : IsReadableRow (positional_row (codes "resume") (codes "more") 1000000)
-resume_reads = reads_by refl refl (omega arith) refl refl (λ no_minus.
-    positional_refuses no_minus 1000000)
-
--- the parser knows `advance`, which refuses updates or workers that begin with `-`
-pub advance_reads : IsReadableRow (positional_row (codes "advance") (codes "more") 1000000)
-advance_reads = reads_by refl refl (omega arith) refl refl (λ no_minus.
+-- the parser knows `resume` and `advance`, which refuse updates or workers that begin with `-`
+pub further_reads : IsReadableRow (positional_row (codes "resume") (codes "more") 1000000)
+further_reads = reads_by refl refl (omega arith) refl refl (λ no_minus.
     positional_refuses no_minus 1000000)
 
 -- the parser knows `assay`, which refuses a count, a first seed or workers that begin with `-`

@@ -4,13 +4,12 @@ use Rattle.command_line.specs.Form.{Form, Told, Valued}
 use Rattle.command_line.specs.Words.{is_set, told_by}
 use Rattle.command_line.specs.Numbers.{three_numbers_of}
 use Rattle.numerals.specs.Numeral.{number_of}
-use Rattle.command_line.specs.declared.positional.Advance.{Advance}
 use Rattle.command_line.specs.declared.assay.Assay.{Assay}
 use Rattle.command_line.specs.declared.positional.Bench.{Bench}
+use Rattle.command_line.specs.declared.positional.FurtherUpdates.{FurtherUpdates}
 use Rattle.command_line.specs.declared.run.Run.{Run}
 use Rattle.command_line.specs.declared.positional.Lineage.{Lineage}
 use Rattle.command_line.specs.declared.positional.Positional.{Positional}
-use Rattle.command_line.specs.declared.positional.Resume.{Resume}
 use Rattle.command_line.specs.declared.trace.Trace.{Trace}
 
 -- `--inputs a,b,c`
@@ -137,14 +136,9 @@ abbrev pub bench_told : List (List ℕ) → Option Bench
 bench_told words = option_map (λ p. record { seed = p.number; workers = p.workers })
     (positional_told 9223372036854775807 words)
 
--- what the words after the name tell `resume`
-abbrev pub resume_told : List (List ℕ) → Option Resume
-resume_told words =
-    option_map (λ p. record { more = p.number; workers = p.workers }) (positional_told 1000000 words)
-
--- what the words after the name tell `advance`
-abbrev pub advance_told : List (List ℕ) → Option Advance
-advance_told words =
+-- what the words after the name tell `resume` and `advance`
+abbrev pub further_updates_told : List (List ℕ) → Option FurtherUpdates
+further_updates_told words =
     option_map (λ p. record { more = p.number; workers = p.workers }) (positional_told 1000000 words)
 
 -- the workers that the words after the name tell `save`

@@ -19,7 +19,7 @@ pub use assay::{Assay, read_assay};
 pub use landscape::read_landscape;
 pub use nothing::read_nothing;
 pub use positional::{
-    Advance, Bench, Lineage, Resume, read_advance, read_bench, read_lineage, read_resume,
+    Bench, FurtherUpdates, Lineage, read_bench, read_further_updates, read_lineage,
 };
 pub use refused::Refused;
 pub use run::{Run, read_run};

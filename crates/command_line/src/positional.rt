@@ -1,7 +1,7 @@
 // The words of the commands with one number and `--workers`.
 ghost use Rattle.std.specs.Prelude.{◌≡◌, ◌<◌, ◌≤◌, ◌∷◌, [], IfOk, IfSome, length, option_and_then};
 ghost use Rattle.clap.specs.Words.{found_of, rows_of};
-ghost use Rattle.command_line.specs.Commands.{advance_told, bench_told, lineage_told, resume_told};
+ghost use Rattle.command_line.specs.Commands.{bench_told, further_updates_told, lineage_told};
 ghost use Rattle.command_line.specs.Commands.{positional_form, positional_of};
 ghost use Rattle.command_line.specs.Parsers.{told_in};
 ghost use Rattle.command_line.specs.Reading.{IsReadableRow};
@@ -107,41 +107,23 @@ pub fn read_bench(alloc: Global, words: &[String]) -> Result<Bench, Refused>
     })
 }
 
-/// The values of `resume`: the number of further updates, and the number of workers.
+/// The values of `resume` and of `advance`: the number of further updates, and the number of
+/// workers.
 #[derive(Clone, Copy, Debug)]
-pub struct Resume {
+pub struct FurtherUpdates {
     pub more: u32,
     pub workers: u32,
 }
 
-/// Reads the words of `resume`. The first word is the name of the command.
-#[tactic(auto, using(crate::proofs::CommandForms::resume_reads))]
-pub fn read_resume(alloc: Global, words: &[String]) -> Result<Resume, Refused>
+/// Reads the words of `resume` or `advance`. The first word is the name of the command.
+#[tactic(auto, using(crate::proofs::CommandForms::further_reads))]
+pub fn read_further_updates(alloc: Global, words: &[String]) -> Result<FurtherUpdates, Refused>
     requires { 0 < length words.now }
-    ensures { IsTold resume_told words.now result }
+    ensures { IsTold further_updates_told words.now result }
 {
+    // The parser's name for both, which nothing shows.
     let told = read_positional(alloc, "resume", "more", MOST_FURTHER_UPDATES, words)?;
-    Ok(Resume {
-        more: told.number as u32,
-        workers: told.workers,
-    })
-}
-
-/// The values of `advance`: the number of further updates, and the number of workers.
-#[derive(Clone, Copy, Debug)]
-pub struct Advance {
-    pub more: u32,
-    pub workers: u32,
-}
-
-/// Reads the words of `advance`. The first word is the name of the command.
-#[tactic(auto, using(crate::proofs::CommandForms::advance_reads))]
-pub fn read_advance(alloc: Global, words: &[String]) -> Result<Advance, Refused>
-    requires { 0 < length words.now }
-    ensures { IsTold advance_told words.now result }
-{
-    let told = read_positional(alloc, "advance", "more", MOST_FURTHER_UPDATES, words)?;
-    Ok(Advance {
+    Ok(FurtherUpdates {
         more: told.number as u32,
         workers: told.workers,
     })
