@@ -4,7 +4,8 @@ use Rattle.std.specs.Prelude.{◌↔◌, slice_get, count_by}
 use Rattle.std.proofs.lemmas.List.{take_more}
 use Rattle.std.proofs.lemmas.List.Sums.{fold_push, sum_by-append}
 use Rattle.std.proofs.lemmas.Option.{slice_get_within, get_or_from_slice_get, slice_get-get_or}
-use Rattle.genotype_bank.specs.BankHistory.{genomes_of, genotypes_of, different_of, HasEachOnce}
+use Rattle.genome.specs.Genomes.{different_of}
+use Rattle.genotype_bank.specs.BankHistory.{genomes_of, genotypes_of, HasEachOnce}
 use Rattle.instruction_set.specs.declared.letter.Letter.{Letter}
 use Rattle.world_config.specs.Values.{ConfigValues}
 use Rattle.world_rules.specs.World.{World, first_world}

@@ -1,3 +1,4 @@
 pub mod Genome
 pub mod GenomeText
+pub mod Genomes
 pub mod Lengths

@@ -21,7 +21,8 @@ use Rattle.instruction_set.specs.Letter.{same_letters}
 use Rattle.genotype_bank.specs.declared.view.Entry.{Entry}
 use Rattle.genotype_bank.specs.declared.view.Call.{Call}
 use Rattle.genotype_bank.specs.declared.view.Call.TheVariants.{Interned, Refused}
-use Rattle.genotype_bank.specs.BankHistory.{HasEachOnce, different_of, genomes_of, genotypes_of, interned_genome, with_call, with_genome}
+use Rattle.genome.specs.Genomes.{different_of}
+use Rattle.genotype_bank.specs.BankHistory.{HasEachOnce, genomes_of, genotypes_of, interned_genome, with_call, with_genome}
 use Rattle.genotype_bank.specs.Seats.{NumbersAgree}
 use Rattle.genotype_bank.proofs.MemberLemmas.{Contains-filter_map_permuted}
 

@@ -3,6 +3,7 @@ use Rattle.std.specs.Prelude.{◌≢◌, ◌↔◌, ℕ, ◌==◌, Bool, true, f
 use Rattle.std.specs.List.{list_any}
 use Rattle.instruction_set.specs.declared.letter.Letter.{Letter}
 use Rattle.instruction_set.specs.Letter.{same_letters}
+use Rattle.genome.specs.Genomes.{different_of}
 use Rattle.genotype_bank.specs.declared.view.Entry.{Entry}
 use Rattle.genotype_bank.specs.declared.view.Call.{Call}
 use Rattle.genotype_bank.specs.declared.view.Call.TheVariants.{Interned, Refused}
@@ -24,12 +25,6 @@ interned_genome Refused = None
 -- the genomes that a history interned, in the order of its calls
 abbrev pub genomes_of : List Entry → List (List Letter)
 genomes_of history = filter_map (λ one. interned_genome one.call) history
-
--- the different ones of some genomes, in order of their first place
-abbrev pub different_of : List (List Letter) → List (List Letter)
-different_of [] = []
-different_of (genome ∷ genomes) =
-    genome ∷ filter (λ other. not (same_letters genome other)) (different_of genomes)
 
 -- the different genomes that a history interned, in order of their first place; a genome's number
 -- is its place among them

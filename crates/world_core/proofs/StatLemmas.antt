@@ -16,7 +16,8 @@ use Rattle.std.proofs.lemmas.Map.Views.{Contains-from_lookup, lookup-from_Contai
 use Rattle.census.specs.Changes.{count_under}
 use Rattle.census.specs.Counts.{AreGenotypes, GenotypeCount, genotype_at}
 use Rattle.census.specs.Dominance.{HaveSameMembers}
-use Rattle.genotype_bank.specs.BankHistory.{HasEachOnce, different_of}
+use Rattle.genome.specs.Genomes.{different_of}
+use Rattle.genotype_bank.specs.BankHistory.{HasEachOnce}
 use Rattle.instruction_set.specs.declared.letter.Letter.{Letter}
 use Rattle.instruction_set.specs.Letter.{same_letters}
 use Rattle.lineage_log.specs.Slots.{taken}
@@ -25,7 +26,7 @@ use Rattle.logic_tasks.specs.TaskSet.{has_task}
 use Rattle.organism.specs.OrganismState.{OrganismState}
 use Rattle.world_rules.specs.World.{Occupant, ids_of}
 use Rattle.world_rules.specs.Lives.{merit_in}
-use Rattle.world_rules.specs.Statistics.{counted_in, genome_count, credited_with, genomes_of_cells, distinct_genomes, organisms_in}
+use Rattle.world_rules.specs.Statistics.{counted_in, genome_count, credited_with, genomes_of_cells, organisms_in}
 use Rattle.world_core.specs.Population.{AreCountedIn, is_credited, is_genome, occupant_genomes}
 use Rattle.world_core.proofs.StandingLemmas.{OneList, cells_of}
 use Rattle.world_core.proofs.SumLemmas.{cells_with, one}
@@ -303,12 +304,6 @@ module _ (one_list : OneList) where
     both false true forth back = back refl
     both false false forth back = refl
 
-    -- the genotypes of some genomes are those that differ
-    genotypes_of-is : (gs : List (List Letter)) → distinct_genomes gs ≡ different_of gs
-    genotypes_of-is [] = refl
-    genotypes_of-is (g ∷ gs) =
-        ap (λ rest. g ∷ filter (λ other. not (same_letters g other)) rest) (genotypes_of-is gs)
-
     -- the different genomes of the living stand apart
     different-distinct : HasEachOnce (different_of (genomes_of_cells cells))
         (genomes_of_cells cells)
@@ -332,7 +327,7 @@ module _ (one_list : OneList) where
     -- as many keys as there are different genomes
     pub genotype-number : HasEachOnce (different_of (genomes_of_cells cells))
         (genomes_of_cells cells)
-        → length genotypes ≡ length (distinct_genomes (genomes_of_cells cells))
+        → length genotypes ≡ length (different_of (genomes_of_cells cells))
     genotype-number each =
         let decided : (x y : List Letter) → same_letters x y ≡ true → x ≡ y =
         λ x y. (one_list x y).0 in
@@ -380,4 +375,3 @@ module _ (one_list : OneList) where
         (λ found. list_any-from_Contains letters-equal q (genomes_of_cells cells)
         ((each.members q).0 (Contains-from_any decided q (different_of (genomes_of_cells cells))
         found))))
-        ∙ ap length (sym (genotypes_of-is (genomes_of_cells cells)))

@@ -8,6 +8,7 @@ use Rattle.std.proofs.lemmas.List.Sums.{sum_by-le, count_by-le-length}
 use Rattle.std.proofs.lemmas.List.Elements.{All-from_recursion}
 use Rattle.instruction_set.specs.declared.letter.Letter.{Letter}
 use Rattle.instruction_set.specs.Letter.{same_letters}
+use Rattle.genome.specs.Genomes.{different_of}
 use Rattle.genome.specs.Genome.{IsGenome}
 use Rattle.logic_tasks.specs.declared.task.Task.{Task}
 use Rattle.logic_tasks.specs.LogicTasks.{all_tasks}
@@ -20,7 +21,7 @@ use Rattle.organism.specs.OrganismState.{OrganismState}
 use Rattle.organism.specs.Lived.{IsSoundOrganism}
 use Rattle.world_rules.specs.World.{Occupant, id_of, ids_of}
 use Rattle.world_rules.specs.Scene.{Scene}
-use Rattle.world_rules.specs.Statistics.{organism_in, organisms_in, genomes_of_cells, distinct_genomes, credited_with, stats_in, scene_stats}
+use Rattle.world_rules.specs.Statistics.{organism_in, organisms_in, genomes_of_cells, credited_with, stats_in, scene_stats}
 use Rattle.world_laws.proofs.Scenes.{Each}
 use Rattle.world_laws.proofs.Configs.{filter_few}
 
@@ -52,12 +53,12 @@ organisms_few (slot ∷ cells) =
 
 -- there are no more different genomes than genomes
 genotypes_of_few : (genomes : List (List Letter))
-    → length (distinct_genomes genomes) ≤ length genomes
+    → length (different_of genomes) ≤ length genomes
 genotypes_of_few [] = omega arith
 genotypes_of_few (genome ∷ genomes) =
     omega (
       arith,
-      filter_few (λ other. not (same_letters genome other)) (distinct_genomes genomes),
+      filter_few (λ other. not (same_letters genome other)) (different_of genomes),
       genotypes_of_few genomes,
     )
 
@@ -120,7 +121,7 @@ count_form scene births sound small early few gone =
       organisms,
       small,
     ) in
-    let genotypes : length (distinct_genomes (genomes_of_cells cells)) ≤ 65536 =
+    let genotypes : length (different_of (genomes_of_cells cells)) ≤ 65536 =
     omega (arith, genotypes_of_few (genomes_of_cells cells), genomes) in
     let merit : sum_by (λ (o : OrganismState). o.merit) (organisms_in cells)
     ≤ 18446744073709551615 = omega (arith, merits_sum cells sound, organisms, small) in (

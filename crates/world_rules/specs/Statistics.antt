@@ -5,6 +5,7 @@ use Rattle.std.specs.Prelude.{ℕ, zero, suc, not, List, [], ◌∷◌, length, 
 use Rattle.std.specs.List.{filter_map, count_by, sum_by}
 use Rattle.instruction_set.specs.declared.letter.Letter.{Letter}
 use Rattle.instruction_set.specs.Letter.{same_letters}
+use Rattle.genome.specs.Genomes.{different_of}
 use Rattle.census.specs.Counts.{GenotypeCount}
 use Rattle.census.specs.Dominance.{dominant_among}
 use Rattle.logic_tasks.specs.declared.task.Task.{Task}
@@ -31,12 +32,6 @@ organisms_in cells = filter_map organism_in cells
 abbrev pub genomes_of_cells : List (Option Occupant) → List (List Letter)
 genomes_of_cells cells = map (λ o. o.genome) (organisms_in cells)
 
--- the different ones of some genomes, in order of their first place
-abbrev pub distinct_genomes : List (List Letter) → List (List Letter)
-distinct_genomes [] = []
-distinct_genomes (genome ∷ genomes) =
-    genome ∷ filter (λ other. not (same_letters genome other)) (distinct_genomes genomes)
-
 -- how many of some genomes are this one
 abbrev pub genome_count : List (List Letter) → List Letter → ℕ
 genome_count genomes genome = count_by (same_letters genome) genomes
@@ -52,7 +47,7 @@ stats_in update cells births deaths = record {
   living = taken (ids_of cells);
   births = births;
   deaths = deaths;
-  genotypes = length (distinct_genomes (genomes_of_cells cells));
+  genotypes = length (different_of (genomes_of_cells cells));
   merit = sum_by (λ o. o.merit) (organisms_in cells);
   tasks = map (credited_with cells) all_tasks;
 }
