@@ -214,11 +214,11 @@ after_points-words false k next size least most = (least, most)
 
 -- all errors of a divide
 pub drawn_by_divide-words : (words : ℕ → ℕ) (k : ℕ) (rates : RateNumbers) (range : LengthRange)
-    (clean written : List Letter)
-    → (k + 2 ≤ (drawn_by_divide words k rates range clean written).next)
-    × ((drawn_by_divide words k rates range clean written).next ≤ k + 6 * length written + 6)
+    (clean written : List Letter) (taken : ℕ)
+    → taken ≡ (drawn_by_divide words k rates range clean written).next
+    → (k + 2 ≤ taken) × (taken ≤ k + 6 * length written + 6)
 unfolding drawn_by_divide
-drawn_by_divide-words words k rates range clean written =
+drawn_by_divide-words words k rates range clean written taken is =
     let next : ℕ = after_points words rates.site_point k written in
     let sites = after_sites-words words rates.site_point k written in
     let points = after_points-words (eqb rates.site_point 0) k
@@ -233,7 +233,8 @@ drawn_by_divide-words words k rates range clean written =
     let deletes : deleted.next
     ≤ inserted.next + (length written + length inserted.changes) + 2 + 0 = b.most in
     let first : k ≤ next = points.0 in
-    let last : next ≤ k + 2 * length written = points.1 in (
-      omega (arith, first, a.least, b.least),
-      omega (arith, last, inserts, a.few, deletes),
+    let last : next ≤ k + 2 * length written = points.1 in
+    let end : taken ≡ deleted.next = is in (
+      omega (arith, first, a.least, b.least, end),
+      omega (arith, last, inserts, a.few, deletes, end),
     )

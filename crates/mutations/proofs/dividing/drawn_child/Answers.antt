@@ -1,7 +1,7 @@
 use Rattle.std.proofs.Common.{ap, arith}
 use Rattle.std.proofs.lemmas.Grind.{common_steps}
 use Rattle.mutations.specs.Rates.{numbers_of, range_of}
-use Rattle.random_streams.specs.RandomStream.{Stream, word_of}
+use Rattle.random_streams.specs.RandomStream.{Stream}
 use Rattle.mutations.proofs.BirthLemmas.{drawn_by_divide-passed}
 use Rattle.mutations.proofs.WordLemmas.{drawn_by_divide-words}
 use Rattle.mutations.proofs.dividing.drawn_child.Goals as goal
@@ -25,16 +25,10 @@ returns-clause-passed c =
 
 pub returns-clause-least : goal.returns-clause-least
 returns-clause-least c =
-    let words = drawn_by_divide-words (word_of c.args.draws.now) c.args.draws.now.taken
-    (numbers_of c.args.rates.now) (range_of c.args.limits.now) c.args.clean.now
-    c.args.written.now in
-    let taken = ap (λ (s : Stream). s.taken) (returns-clause-passed c).taken in
-    omega (arith, words.0, taken)
+    (drawn_by_divide-words _ _ _ _ _ c.args.written.now _
+    (ap (λ (s : Stream). s.taken) (returns-clause-passed c).taken)).0
 
 pub returns-clause-most : goal.returns-clause-most
 returns-clause-most c =
-    let words = drawn_by_divide-words (word_of c.args.draws.now) c.args.draws.now.taken
-    (numbers_of c.args.rates.now) (range_of c.args.limits.now) c.args.clean.now
-    c.args.written.now in
-    let taken = ap (λ (s : Stream). s.taken) (returns-clause-passed c).taken in
-    omega (arith, words.1, taken)
+    (drawn_by_divide-words _ _ _ _ _ c.args.written.now _
+    (ap (λ (s : Stream). s.taken) (returns-clause-passed c).taken)).1
