@@ -9,8 +9,6 @@ use crate::refusal::Refusal;
 use genome::Genome;
 use instruction_set::Letter;
 use mutations::{ApplyStop, Base, Origin, apply_in};
-use std::alloc::Global;
-use std::rc::Rc;
 
 /// Whether a record changes nothing.
 pub fn is_unchanged(origin: &Origin) -> bool
@@ -24,16 +22,11 @@ pub fn is_unchanged(origin: &Origin) -> bool
 
 /// The genome that a record makes of the parent's. Its letters are put into `room`, in place of
 /// what that holds.
-pub fn child_in(
-    alloc: Global,
-    room: Vec<Letter>,
-    parent: &Genome,
-    origin: &Origin,
-) -> Result<Rc<Genome>, Refusal>
-    ensures { MakesChild result (Some (letters parent.now)) (record_of origin.now) }
+pub fn child_in(room: Vec<Letter>, parent: &Genome, origin: &Origin) -> Result<Genome, Refusal>
+    ensures { MakesChild letters result (Some (letters parent.now)) (record_of origin.now) }
 {
     match apply_in(room, parent, origin) {
-        Ok(child) => Ok(Rc::new(alloc, child)?),
+        Ok(child) => Ok(child),
         Err(ApplyStop::Memory) => Err(Refusal::Memory),
         Err(_) => Err(Refusal::Faulty(Reason::BadChange)),
     }

@@ -8,14 +8,17 @@ use genome::Genome;
 use instruction_set::Letter;
 use std::alloc::Global;
 use std::marker::Model;
+use std::mem;
 use std::rc::Rc;
 
 /// By id the genome of each who is kept. Who has the parent's genome unchanged shares it.
 #[derive(Drop)]
 pub struct People {
     genomes: Vec<Option<Rc<Genome>>>,
-    /// The letters' room of those who were forgotten last, for those who come.
-    rooms: Vec<Vec<Letter>>,
+    /// The boxes of those who were forgotten last, for those who come.
+    boxes: Vec<Rc<Genome>>,
+    /// Room for the letters of the next child.
+    room: Vec<Letter>,
 }
 
 impl Model for People {
@@ -37,7 +40,8 @@ impl People {
         let founder = shared_copy(alloc, genome)?;
         let mut people = People {
             genomes: Vec::new(alloc),
-            rooms: Vec::new(alloc),
+            boxes: Vec::new(alloc),
+            room: Vec::new(alloc),
         };
         people.push(founder)?;
         Ok(people)
@@ -74,37 +78,48 @@ impl People {
         let place = id as usize;
         if place < self.genomes.len() {
             let forgotten = self.genomes[place].take();
-            keep_room(&mut self.rooms, forgotten);
+            keep_box(&mut self.boxes, forgotten);
         }
     }
 
-    /// The room of those who were forgotten before goes, so that no more is kept than the dead of
+    /// The boxes of those who were forgotten before go, so that no more are kept than the dead of
     /// one update had.
     pub fn forget_all(&mut self, ids: &[u64])
         ensures { self.new ≡ without ids.now self.old }
     {
-        self.rooms.clear();
+        self.boxes.clear();
         for id in ids {
             self.forget(*id);
         }
     }
 
-    /// Room for the letters of a genome: that of one who was forgotten, or an empty vector.
+    /// Room for the letters of a child: what `boxed` took last out of a box, or an empty vector.
     pub fn room(&mut self, alloc: Global) -> Vec<Letter>
         ensures { self.new ≡ self.old }
     {
-        match self.rooms.pop() {
-            Some(room) => room,
-            None => Vec::new(alloc),
+        mem::replace(&mut self.room, Vec::new(alloc))
+    }
+
+    /// The genome in a box that may be shared: that of one who was forgotten, or a new one.
+    pub fn boxed(&mut self, alloc: Global, genome: Genome) -> Result<Rc<Genome>, Memory>
+        ensures boxed { IfOk result (λ shared. letters shared.value ≡ letters genome) }
+        ensures stays { self.new ≡ self.old }
+    {
+        if let Some(mut found) = self.boxes.pop() {
+            if let Some(place) = Rc::get_mut(&mut found) {
+                self.room = mem::replace(place, genome).into_vec();
+                return Ok(found);
+            }
         }
+        Ok(Rc::new(alloc, genome)?)
     }
 }
 
-/// Keeps the letters' room of a genome that nobody shares. Where memory runs out, it goes.
-fn keep_room(rooms: &mut Vec<Vec<Letter>>, forgotten: Option<Rc<Genome>>) {
-    if let Some(shared) = forgotten {
-        if let Some(genome) = Rc::into_inner(shared) {
-            let _ = rooms.push(genome.into_vec());
+/// Keeps the box of a genome that nobody else shares. Where memory runs out, it goes.
+fn keep_box(boxes: &mut Vec<Rc<Genome>>, forgotten: Option<Rc<Genome>>) {
+    if let Some(last) = forgotten {
+        if Rc::strong_count(&last) == 1 {
+            let _ = boxes.push(last);
         }
     }
 }

@@ -206,8 +206,8 @@ impl Reader {
 
     /// The child's genome. Where nothing is changed it is the parent's, which they share.
     fn child(&mut self, alloc: Global, parent: u64, origin: &Origin) -> Result<Rc<Genome>, Refusal>
-        ensures child { MakesChild result (parent_in (reader_of self.old) parent)
-            (record_of origin.now) }
+        ensures child { MakesChild (λ child. letters child.value) result
+            (parent_in (reader_of self.old) parent) (record_of origin.now) }
         ensures stays { reader_of self.new ≡ reader_of self.old }
     {
         if is_unchanged(origin) {
@@ -217,10 +217,11 @@ impl Reader {
             };
         }
         let room = self.people.room(alloc);
-        match self.parent(parent) {
-            None => Err(Refusal::Faulty(Reason::UnknownParent)),
-            Some(genome) => child_in(alloc, room, genome, origin),
-        }
+        let child = match self.parent(parent) {
+            None => return Err(Refusal::Faulty(Reason::UnknownParent)),
+            Some(genome) => child_in(room, genome, origin)?,
+        };
+        Ok(self.people.boxed(alloc, child)?)
     }
 
     #[tactic(auto, unfolding(crate::specs::Order::told_birth))]

@@ -52,11 +52,11 @@ fn leading_value(text: &[u8]) -> Option<(u64, usize)>
     let mut value: u64 = 0;
     // So many digits surely fit, and a loop of a fixed length costs less.
     for len in 0..SHORT {
-        let digit = text[len];
-        if digit < b'0' || digit > b'9' {
+        let digit = u64::from(text[len].wrapping_sub(b'0'));
+        if digit > 9 {
             return Some((value, len));
         }
-        value = value * 10 + u64::from(digit - b'0');
+        value = value * 10 + digit;
     }
     long_value(text)
 }
