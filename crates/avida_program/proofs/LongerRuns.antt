@@ -34,11 +34,6 @@ module _ (config : ConfigValues) (updates : ℕ) where
   life_stays u cell steps None = refl
   life_stays u cell steps (Some o) = refl
 
-  -- the steps of the cells
-  slices_stay : (cells : List (Option Occupant)) → slices_at other cells ≡ slices_at config cells
-  unfolding slices_at
-  slices_stay cells = refl
-
   -- the lives of an update
   lives_stay : (u : ℕ) (cells : List (Option Occupant))
       → lives_of other u cells ≡ lives_of config u cells

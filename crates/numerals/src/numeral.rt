@@ -52,7 +52,7 @@ fn leading_value(text: &[u8]) -> Option<(u64, usize)>
     let mut value: u64 = 0;
     // So many digits surely fit, and a loop of a fixed length costs less.
     for len in 0..SHORT {
-        let digit = u64::from(text[len].wrapping_sub(b'0'));
+        let digit = u64::from(text[len]).wrapping_sub(u64::from(b'0'));
         if digit > 9 {
             return Some((value, len));
         }

@@ -22,22 +22,6 @@ goes_on-more settings steps start now next so_far more = record {
   lengths = λ h. more.lengths (so_far.lengths h);
 }
 
--- a step of an organism, and what follows from it
-pub goes_on-after : (settings : SettingNumbers) (old next new : LifeNow)
-    → next.organism.age ≡ old.organism.age + 1 → next.organism.merit ≡ old.organism.merit
-    → next.organism.genome ≡ old.organism.genome → next.draws.taken ≤ old.draws.taken + 2
-    → next.births ≡ old.births → GoesOn settings 0 1 65534 next new
-    → GoesOn settings 1 1 65536 old new
-goes_on-after settings old next new age merit genome words births goes = record {
-  age = omega (arith, goes.age, age);
-  births = omega (arith, goes.births, ap length births);
-  taken = omega (arith, goes.taken, words);
-  genome = goes.genome ∙ genome;
-  merit = λ h. goes.merit (omega (arith, merit, h));
-  merits = λ h. goes.merits (subst MeritsFit (sym births) h);
-  lengths = λ h. goes.lengths (subst (LengthsFit settings.rules.greatest) (sym births) h);
-}
-
 -- a step of an organism after which nothing follows
 pub goes_on-quiet : (settings : SettingNumbers) (old new : LifeNow)
     → new.organism.age ≡ old.organism.age + 1 → new.organism.merit ≡ old.organism.merit

@@ -1,5 +1,5 @@
 -- One step within an update, by whether something follows from its letter.
-use Rattle.std.proofs.Common.{◌≡◌, ◌∙◌, ap, refl, sym, ℕ, false, Option, None}
+use Rattle.std.proofs.Common.{◌≡◌, ◌∙◌, ap, refl, sym, ℕ, Option}
 use Rattle.divide_rules.specs.Rules.{RuleNumbers}
 use Rattle.instruction_set.specs.declared.letter.Letter.{Letter}
 use Rattle.virtual_cpu.specs.Machine.{letter_under_ip, with_ip_marked}
@@ -7,7 +7,7 @@ use Rattle.virtual_cpu.specs.Step.{step}
 use Rattle.organism.specs.Life.{after_letter, life_step}
 use Rattle.organism.specs.OrganismState.{OrganismState}
 use Rattle.organism.specs.SettingNumbers.{SettingNumbers}
-use Rattle.organism.specs.UpdateLife.{LifeState, after_effect, after_outcome, after_step, after_copy_of, copy_of, is_copy}
+use Rattle.organism.specs.UpdateLife.{LifeState, after_effect, after_outcome, after_step, after_copy_of, copy_of}
 use Rattle.organism.specs.declared.outcome.Outcome.{Outcome}
 use Rattle.organism.specs.declared.outcome.Outcome.TheVariants.{Nothing}
 
@@ -29,12 +29,6 @@ module _ (settings : SettingNumbers) (words : ℕ → ℕ) (s : LifeState) (lett
   }) letter (copy_of letter words settings.rates.copy s.next)
   unfolding after_step life_step after_letter step
   step-effect = rw (taken, mark) refl
-
-  -- where the letter draws nothing
-  pub step-tells : is_copy letter ≡ false
-      → after_effect settings words (record s { organism = marked }) letter None
-      ≡ after_step settings words s
-  step-tells no_copy = sym (rw no_copy at step-effect)
 
   -- where nothing follows
   pub step-quiet : (next : OrganismState)

@@ -34,11 +34,6 @@ take_next zero (y ∷ xs) x is =
     let same : y ≡ x = ap (λ (o : Option _). unwrap_or o y) is in ap (λ y. y ∷ []) same
 take_next (suc k) (y ∷ xs) x is = ap (λ rest. y ∷ rest) (take_next k xs x is)
 
--- the front of a joined list
-pub take_first : {X : Type 0} (xs ys : List X) → take (length xs) (xs ++ ys) ≡ xs
-take_first [] ys = refl
-take_first (x ∷ xs) ys = ap (λ rest. x ∷ rest) (take_first xs ys)
-
 -- what stands behind a front
 pub get_behind : {X : Type 0} (n : ℕ) (xs : List X) (k : ℕ) (x : X)
     → slice_get (drop n xs) k ≡ Some x → slice_get xs (n + k) ≡ Some x

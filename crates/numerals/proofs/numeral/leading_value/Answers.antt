@@ -9,7 +9,7 @@ returns-then-digit-gt9 c =
     let text = c.args.text.now in
     let i = c.loop-len.len in
     let bad : is_ascii_digit (get_or text i 0) ≡ false =
-    grind (arith, nat_tests, (c.type_inv.text i).fits, c.from-digit.ensures, c.if-digit-gt9.true) in
+    grind (arith, nat_tests, (c.type_inv.text i).fits, c.from-in-loop-len.ensures, c.from.ensures, c.if-digit-gt9.true) in
     let stop = digits_stop text i c.loop-len.invariant.digits bad in
     (front_value text i c.loop-len.value stop c.loop-len.invariant.value, omega (arith, stop))
 
