@@ -13,9 +13,7 @@ use crate::place::{LogPlace, tell};
 use crate::reason::Reason;
 use crate::refusal::{OUT_OF_ORDER, Refusal};
 use log_lines::{Birth, LogLine, read_birth, read_line, split_at};
-use mutations::Change;
 use std::alloc::Global;
-use std::mem;
 
 /// A log that is read line by line. It keeps none of the lines.
 #[derive(Drop)]
@@ -26,8 +24,8 @@ pub struct LogReader<'a> {
     pub number: u64,
     /// Where the log stands.
     pub place: LogPlace,
-    /// Room for the changes of a birth.
-    pub spare: Vec<Change>,
+    /// The last birth that was read, whose room the next one takes.
+    pub birth: Birth,
 }
 
 /// A log at its start.
@@ -38,7 +36,7 @@ pub fn reader_of_bytes(alloc: Global, bytes: &[u8]) -> LogReader<'_>
         rest: bytes,
         number: 1,
         place: LogPlace::Before,
-        spare: Vec::new(alloc),
+        birth: Birth::blank(alloc),
     }
 }
 
@@ -123,24 +121,21 @@ fn tell_line(alloc: Global, place: &mut LogPlace, piece: &[u8]) -> Result<bool, 
     }
 }
 
-/// As `tell_line`. Most lines are births, so these are tried first, and their changes are put where
-/// those of the birth before stood.
+/// As `tell_line`. Most lines are births, so these are tried first, and each is read into `birth`, in
+/// place of the one before.
 fn tell_piece(
     alloc: Global,
     place: &mut LogPlace,
-    spare: &mut Vec<Change>,
+    birth: &mut Birth,
     piece: &[u8],
 ) -> Result<bool, Refusal>
     ensures { TellsPiece result (line_of piece.now) (place_of place.old) (place_of place.new) }
 {
-    let room = mem::replace(spare, Vec::new(alloc));
-    match read_birth(alloc, room, piece)? {
-        Some(birth) => {
-            tell_birth(alloc, place, &birth)?;
-            *spare = birth.origin.changes.into_vec();
-            Ok(true)
-        }
-        None => tell_line(alloc, place, piece),
+    if read_birth(alloc, birth, piece)? {
+        tell_birth(alloc, place, birth)?;
+        Ok(true)
+    } else {
+        tell_line(alloc, place, piece)
     }
 }
 
@@ -155,7 +150,7 @@ pub fn tell_next(alloc: Global, reader: &mut LogReader<'_>) -> Result<bool, LogS
         end_at(number, &reader.place, piece)?;
         return Ok(false);
     };
-    match tell_piece(alloc, &mut reader.place, &mut reader.spare, piece) {
+    match tell_piece(alloc, &mut reader.place, &mut reader.birth, piece) {
         Ok(true) => {}
         Ok(false) => return Err(LogStop::BadLine { line: number }),
         Err(refusal) => return Err(stop_for(refusal, number)),

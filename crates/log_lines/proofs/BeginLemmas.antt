@@ -1,5 +1,6 @@
 -- Reading a row in two steps: its first fields, and then the row behind them.
-use Rattle.std.proofs.Common.{◌≡◌, ℕ, List, [], ◌∷◌, Option, Some, None, refl, ap, ◌∙◌}
+use Rattle.std.proofs.Common.{◌≡◌, ℕ, Bool, true, false, List, [], ◌∷◌, Option, Some, None, refl, ap, ◌∙◌}
+use Rattle.std.specs.Bool.{then_some}
 use Rattle.std.specs.Prelude.{option_and_then, option_map}
 use Rattle.instruction_set.specs.declared.letter.Letter.{Letter}
 use Rattle.mutations.specs.declared.change.Change.{Change}
@@ -155,12 +156,15 @@ birth_none words none = none_first birth_form.row.read read_newborn record_row.r
     birth_form.line birth_begins words none
 
 -- a birth with the record that is read, or none
-pub birth_some : (words left : Left) (n : Newborn) (found : Option Record)
-    → Some (n, left) ≡ read_newborn words → found ≡ record_row.read left
-    → option_map birth_form.line (option_map (birth_fields n) found) ≡ read_as birth_form words
-birth_some words left n found some is =
+pub birth_some : (words left : Left) (n : Newborn) (birth : Record) (read : Bool)
+    → Some (n, left) ≡ read_newborn words → then_some read birth ≡ record_row.read left
+    → then_some read (birth_form.line (birth_fields n birth)) ≡ read_as birth_form words
+birth_some words left n birth true some is =
     some_first birth_form.row.read read_newborn record_row.read birth_fields birth_form.line
-    birth_begins words left n found some is
+    birth_begins words left n (Some birth) some is
+birth_some words left n birth false some is =
+    some_first birth_form.row.read read_newborn record_row.read birth_fields birth_form.line
+    birth_begins words left n None some is
 
 -- ---- a first line
 

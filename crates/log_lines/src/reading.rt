@@ -1,5 +1,6 @@
 // Reads the line that a text has.
-ghost use Rattle.std.specs.Prelude.{◌≡◌, ◌∷◌, [], Some, IfNone, IfOk, IfSome, option_copied, option_map};
+ghost use Rattle.std.specs.Prelude.{◌≡◌, ◌∷◌, [], Some, IfOk, IsFalse, IsTrue, option_copied, option_map};
+ghost use Rattle.std.specs.Bool.{then_some};
 ghost use Rattle.genome.specs.Genome as genome_spec;
 ghost use Rattle.mutations.specs.BirthRecord.{written_in};
 ghost use Rattle.log_lines.specs.Fields as fields_spec;
@@ -20,6 +21,7 @@ use genome::Genome;
 use mutations::{Base, Change, Changes, Origin};
 use random_streams::GREATEST_SIDE;
 use std::alloc::Global;
+use std::mem;
 
 /// The genome that ends the line. None where other words follow it, or the last word spells none.
 pub fn genome_last(alloc: Global, rest: Option<&[u8]>) -> Result<Option<Genome>, Memory>
@@ -200,22 +202,20 @@ fn base_in(alloc: Global, bytes: &[u8]) -> Result<Option<(Base, Option<&[u8]>)>,
     }
 }
 
-/// The record that ends a birth's line.
-fn origin_last(
-    alloc: Global,
-    spare: Vec<Change>,
-    rest: Option<&[u8]>,
-) -> Result<Option<Origin>, Memory>
-    ensures { IfOk result (λ found. option_map (λ o. (written_in o.base, o.changes)) found
+/// Reads the record that ends a birth's line into `origin`, in place of what it holds.
+fn origin_last(alloc: Global, origin: &mut Origin, rest: Option<&[u8]>) -> Result<bool, Memory>
+    ensures { IfOk result (λ read. then_some read (written_in origin.new.base, origin.new.changes)
         ≡ record_row.read (words_of (option_copied rest.entry))) }
 {
-    match base_first(alloc, rest)? {
-        Some((base, rest)) => match changes_last(alloc, spare, rest)? {
-            Some(changes) => Ok(Some(Origin { base, changes })),
-            None => Ok(None),
-        },
-        None => Ok(None),
-    }
+    let Some((base, rest)) = base_first(alloc, rest)? else {
+        return Ok(false);
+    };
+    let spare = mem::replace(&mut origin.changes, Changes::none(alloc));
+    let Some(changes) = changes_last(alloc, spare.into_vec(), rest)? else {
+        return Ok(false);
+    };
+    *origin = Origin { base, changes };
+    Ok(true)
 }
 
 /// The fields of a birth before its record.
@@ -241,49 +241,40 @@ fn newborn_first<'a>(rest: Option<&'a [u8]>) -> Option<(Newborn, Option<&'a [u8]
     Some((newborn, rest))
 }
 
-/// A birth, from what stands behind its mark.
+/// Reads a birth into `birth`, from what stands behind its mark.
 #[inline(never)]
-fn birth_behind(
-    alloc: Global,
-    spare: Vec<Change>,
-    rest: Option<&[u8]>,
-) -> Result<Option<Birth>, Memory>
-    ensures { IfOk result (λ found. option_map birth_values found
+fn birth_behind(alloc: Global, birth: &mut Birth, rest: Option<&[u8]>) -> Result<bool, Memory>
+    ensures { IfOk result (λ read. then_some read (birth_values birth.new)
         ≡ read_as birth_form (words_of (option_copied rest.entry))) }
 {
     let Some((newborn, rest)) = newborn_first(rest) else {
-        return Ok(None);
+        return Ok(false);
     };
-    match origin_last(alloc, spare, rest) {
-        Ok(Some(origin)) => Ok(Some(Birth {
-            id: newborn.id,
-            parent: newborn.parent,
-            update: newborn.arrival.update,
-            cell: newborn.arrival.cell,
-            over: newborn.arrival.over,
-            origin,
-        })),
-        Ok(None) => Ok(None),
-        Err(Memory) => Err(Memory),
-    }
+    birth.id = newborn.id;
+    birth.parent = newborn.parent;
+    birth.update = newborn.arrival.update;
+    birth.cell = newborn.arrival.cell;
+    birth.over = newborn.arrival.over;
+    origin_last(alloc, &mut birth.origin, rest)
 }
 
-/// Reads the text of a birth's line, which stands before its newline. None exactly where the text is
-/// not that of a birth. The changes are put into `spare`, in place of what it holds.
-pub fn read_birth(alloc: Global, spare: Vec<Change>, text: &[u8]) -> Result<Option<Birth>, Memory>
-    ensures birth { IfOk result (λ found. IfSome found (λ birth.
-        line_of text.now ≡ Some (birth_values birth))) }
-    ensures none { IfOk result (λ found. IfNone found (IsNoBirth (line_of text.now))) }
+/// Reads the text of a birth's line, which stands before its newline, into `birth`, in place of what
+/// it holds. True exactly where the text is that of a birth. Else, and after an error, `birth` may
+/// hold anything.
+pub fn read_birth(alloc: Global, birth: &mut Birth, text: &[u8]) -> Result<bool, Memory>
+    ensures birth { IfOk result (λ read. IsTrue read
+        → line_of text.now ≡ Some (birth_values birth.new)) }
+    ensures none { IfOk result (λ read. IsFalse read → IsNoBirth (line_of text.now)) }
 {
     match text {
         [mark, part, rest @ ..] => {
             if *mark == b'B' && *part == b' ' {
-                birth_behind(alloc, spare, Some(rest))
+                birth_behind(alloc, birth, Some(rest))
             } else {
-                Ok(None)
+                Ok(false)
             }
         }
-        _ => Ok(None),
+        _ => Ok(false),
     }
 }
 
@@ -291,18 +282,18 @@ fn birth_line_behind(alloc: Global, rest: Option<&[u8]>) -> Result<Option<LogLin
     ensures { IfOk result (λ found. option_map line_values found
         ≡ read_as birth_form (words_of (option_copied rest.entry))) }
 {
-    match birth_behind(alloc, Vec::new(alloc), rest) {
-        Ok(Some(birth)) => Ok(Some(LogLine::Birth {
-            id: birth.id,
-            parent: birth.parent,
-            update: birth.update,
-            cell: birth.cell,
-            over: birth.over,
-            origin: birth.origin,
-        })),
-        Ok(None) => Ok(None),
-        Err(Memory) => Err(Memory),
+    let mut birth = Birth::blank(alloc);
+    if !birth_behind(alloc, &mut birth, rest)? {
+        return Ok(None);
     }
+    Ok(Some(LogLine::Birth {
+        id: birth.id,
+        parent: birth.parent,
+        update: birth.update,
+        cell: birth.cell,
+        over: birth.over,
+        origin: birth.origin,
+    }))
 }
 
 #[inline(never)]
