@@ -13,6 +13,7 @@ use Rattle.world_config.specs.Bounds.{frame_of}
 use Rattle.world_config.specs.Events.{EventValue, WhatValue, clear, event_fits, event_values, inject, rate, what_fits}
 use Rattle.world_config.specs.KeyTable.{Frame}
 use Rattle.world_config.specs.Shown.{values_of}
+use Rattle.world_laws.proofs.ConfigBounds.{config_is}
 use Rattle.world_rules.specs.Settings.{rates_after, rates_after_what, rates_at, with_rate}
 use Rattle.saved_worlds.specs.SavedState.{head_at}
 use Rattle.saved_worlds.specs.ValidState.{AreRates, IsHead}
@@ -90,14 +91,6 @@ head_of_run config updates next_id few ids =
           (recursion_from_All _ _
           (All-filter before (λ (event : EventValue). event_fits frame event ≡ true)
           (event_values config.event) config.event_bounds.fit));
-      rules = record {
-        long_enough = config.least_length_bounds.0;
-        ordered = config.greatest_length_bounds.0;
-        short_enough = config.greatest_length_bounds.1;
-        executed_is_asked = config.executed_percent_bounds.0;
-        executed_is_percent = config.executed_percent_bounds.1;
-        copied_is_asked = config.copied_percent_bounds.0;
-        copied_is_percent = config.copied_percent_bounds.1;
-      };
+      rules = (config_is config).rules;
       memory_limit = config.memory_limit_bounds;
     }

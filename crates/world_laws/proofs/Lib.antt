@@ -17,7 +17,7 @@ mod LeavingLines
 mod Forms
 mod RunForms
 mod Replays
-mod ConfigBounds
+pub mod ConfigBounds
 mod Descents
 mod LineDescents
 mod Merits
