@@ -3,8 +3,11 @@ use Rattle.std.proofs.Common.{◌≡◌, ◌∙◌, sym, ap, subst, ℕ, zero, s
 use Rattle.std.specs.Prelude.{slice_get}
 use Rattle.std.proofs.Math.Nat.{mul-le-mul}
 use Rattle.std.proofs.lemmas.List.{length-replicate}
+use Rattle.instruction_set.specs.declared.letter.Letter.{Letter}
 use Rattle.instruction_set.specs.declared.letter.Letter.TheVariants.{NopA}
+use Rattle.mutations.specs.Rates.{RateNumbers}
 use Rattle.organism.specs.OrganismState.{OrganismState}
+use Rattle.world_config.specs.Events.{EventValue}
 use Rattle.world_config.specs.Values.{ConfigValues}
 use Rattle.world_rules.specs.Settings.{rates_at}
 use Rattle.world_rules.specs.Update.{next_world}
@@ -38,10 +41,20 @@ head_up ids more state few is = record {
   memory_limit = is.memory_limit;
 }
 
--- an organism of another greatest age
-pub range_to : (config : ConfigValues) (ages more : ℕ) (o : OrganismState) → o.age < more
-    → IsInRange config ages o → IsInRange config more o
-range_to config ages more o young is = record {
+-- an organism of another greatest age, in a world with other rates, another ancestor and other
+-- events
+range_to : (config : ConfigValues) (updates founder : ℕ) (rates : RateNumbers)
+    (ancestor : List Letter) (event : List EventValue) (ages more : ℕ) (o : OrganismState)
+    → o.age < more
+    → IsInRange config ages o
+    → IsInRange (record config {
+      updates = updates;
+      founder_cell = founder;
+      rates = rates;
+      ancestor = ancestor;
+      event = event;
+    }) more o
+range_to config updates founder rates ancestor event ages more o young is = record {
   least = is.least;
   greatest = is.greatest;
   age = young;
@@ -59,7 +72,7 @@ pub stand_to : (config : ConfigValues) (ages more : ℕ) (w : World)
 stand_to config ages more w young is = record {
   cells = is.cells;
   sound = is.sound;
-  each = λ cell o h. range_to config ages more o.organism (young cell o h) (is.each cell o h);
+  each = λ cell o h. range_to config _ _ _ _ _ ages more o.organism (young cell o h) (is.each cell o h);
   own = is.own;
 }
 
@@ -78,18 +91,8 @@ pub state_stands : (config : ConfigValues) (w : World) (ages : ℕ) → StandInR
 state_stands config w ages is = record {
   cells = is.cells;
   sound = is.sound;
-  each = λ cell o h.
-      let range = is.each cell o h in
-      record {
-        least = range.least;
-        greatest = range.greatest;
-        age = range.age;
-        young = range.young;
-        limit = range.limit;
-        credited = range.credited;
-        gestation = range.gestation;
-        inputs = range.inputs;
-      };
+  each = λ cell o h. let range = is.each cell o h in
+      range_to config _ _ _ _ _ ages ages o.organism range.age range;
   own = own_forgotten w.cells (length w.everyone) is.own;
 }
 
@@ -145,18 +148,8 @@ module _ (kept : RangesAreKept) (ids ages : ℕ) (state : SavedState) (is : Stan
     range_here = record {
       cells = is.stand.cells;
       sound = is.stand.sound;
-      each = λ cell o h.
-          let range = is.stand.each cell o h in
-          record {
-            least = range.least;
-            greatest = range.greatest;
-            age = range.age;
-            young = range.young;
-            limit = range.limit;
-            credited = range.credited;
-            gestation = range.gestation;
-            inputs = range.inputs;
-          };
+      each = λ cell o h. let range = is.stand.each cell o h in
+          range_to (config_of_head state.head) _ _ _ _ _ ages ages o.organism range.age range;
       own = is.stand.own;
     }
 
