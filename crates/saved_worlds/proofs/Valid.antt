@@ -6,6 +6,7 @@ use Rattle.std.proofs.lemmas.List.{length-replicate}
 use Rattle.instruction_set.specs.declared.letter.Letter.{Letter}
 use Rattle.instruction_set.specs.declared.letter.Letter.TheVariants.{NopA}
 use Rattle.mutations.specs.Rates.{RateNumbers}
+use Rattle.mutations.specs.RecordForm.{IsWithin}
 use Rattle.organism.specs.OrganismState.{OrganismState}
 use Rattle.world_config.specs.Events.{EventValue}
 use Rattle.world_config.specs.Values.{ConfigValues}
@@ -14,6 +15,7 @@ use Rattle.world_rules.specs.Update.{next_world}
 use Rattle.world_rules.specs.World.{Occupant, World}
 use Rattle.world_laws.specs.Bounds.{IsConfig}
 use Rattle.world_laws.specs.Ranges.{HaveOwnIds, IsInRange, StandInRange, StayInRange}
+use Rattle.saved_lines.specs.SavedValues.{HeadValues}
 use Rattle.saved_worlds.specs.Resuming.{config_of_head, forgotten, next_state, saved_state_after, world_of_state}
 use Rattle.saved_worlds.specs.SavedState.{SavedState, head_at, state_of_world}
 use Rattle.saved_worlds.specs.ValidState.{CanGoOn, FitsText, HasRoomFor, IsHeadUpTo}
@@ -25,14 +27,15 @@ pub record Stands (ids ages : ℕ) (state : SavedState) : Type 0 where
   pub head : IsHeadUpTo ids state.head
   pub stand : StandInRange (config_of_head state.head) ages (world_of_state state)
 
--- a greater next id is allowed too
-pub head_up : (ids more : ℕ) (state : SavedState) → state.head.next_id ≤ more
-    → IsHeadUpTo ids state.head → IsHeadUpTo more state.head
-head_up ids more state few is = record {
+-- another update and next id, where this one is allowed
+head_to : (head : HeadValues) (ids more update next_id : ℕ) → update ≤ 1000000
+    → IsWithin 1 more next_id → IsHeadUpTo ids head
+    → IsHeadUpTo more (record head { update = update; next_id = next_id })
+head_to head ids more update next_id early few is = record {
   width = is.width;
   height = is.height;
-  update = is.update;
-  next_id = (is.next_id.0, few);
+  update = early;
+  next_id = few;
   seed = is.seed;
   average_slices = is.average_slices;
   age_limit = is.age_limit;
@@ -40,6 +43,12 @@ head_up ids more state few is = record {
   rules = is.rules;
   memory_limit = is.memory_limit;
 }
+
+-- a greater next id is allowed too
+pub head_up : (ids more : ℕ) (state : SavedState) → state.head.next_id ≤ more
+    → IsHeadUpTo ids state.head → IsHeadUpTo more state.head
+head_up ids more state few is =
+    head_to state.head ids more _ _ is.update (is.next_id.0, few) is
 
 -- an organism of another greatest age, in a world with other rates, another ancestor and other
 -- events
@@ -159,24 +168,12 @@ module _ (kept : RangesAreKept) (ids ages : ℕ) (state : SavedState) (is : Stan
     unfolding rates_at
     stands_made early =
         let stay = kept config ages w config_fits range_here in
-        let head = is.head in
         let given = length-replicate state.head.next_id forgotten in
         record {
-          head = record {
-            width = head.width;
-            height = head.height;
-            update = omega (arith, stay.update, early);
-            next_id = (
-              omega (arith, stay.grown, given, head.next_id.0),
-              omega (arith, stay.few, given, head.next_id.1),
-            );
-            seed = head.seed;
-            average_slices = head.average_slices;
-            age_limit = head.age_limit;
-            rates = head.rates;
-            rules = head.rules;
-            memory_limit = head.memory_limit;
-          };
+          head = head_to state.head ids (ids + 65537000) _ _ (omega (arith, stay.update, early)) (
+            omega (arith, stay.grown, given, is.head.next_id.0),
+            omega (arith, stay.few, given, is.head.next_id.1),
+          ) is.head;
           stand = state_stands config (next_world config w) (ages + 65536000) stay.stand;
         }
 
