@@ -1,5 +1,5 @@
 -- What stands in a state that can be written may stand in a saved world.
-use Rattle.std.proofs.Common.{◌≡◌, ◌∙◌, refl, sym, ap, subst, ℕ, zero, suc, ◌+◌, ◌<◌, List, [], ◌∷◌, Option, Some, None, arith}
+use Rattle.std.proofs.Common.{◌≡◌, ◌∙◌, refl, sym, ap, subst, ℕ, zero, suc, ◌+◌, ◌*◌, ◌<◌, ◌^◌, List, [], ◌∷◌, Option, Some, None, arith}
 use Rattle.std.specs.Prelude.{slice_get}
 use Rattle.std.specs.List.{AllByRecursion}
 use Rattle.std.proofs.lemmas.List.{length-replicate}
@@ -9,7 +9,8 @@ use Rattle.world_rules.specs.World.{Occupant}
 use Rattle.saved_worlds.specs.Resuming.{forgotten}
 use Rattle.saved_worlds.specs.SavedGrammar.{Placed}
 use Rattle.saved_worlds.specs.SavedState.{SavedState}
-use Rattle.saved_worlds.specs.ValidState.{AreSaved, IsBefore, IsHead, MayStandThere}
+use Rattle.saved_worlds.specs.ValidState.{AreSaved, IsBefore, MayStandThere}
+use Rattle.saved_worlds.proofs.Valid.{head_up}
 use Rattle.checkpoint.specs.Writable.{IsWritable}
 
 -- who stands in some cells, of which the first has this number
@@ -115,27 +116,11 @@ module _ (state : SavedState) (is : IsWritable state) where
             omega (arith, low, a.1, b.1, cells);
       }
 
-  -- the head is that of a saved world
-  head_writable : IsHead state.head
-  head_writable =
-      let head = is.valid.head in
-      record {
-        width = head.width;
-        height = head.height;
-        update = head.update;
-        next_id = (head.next_id.0, is.fits.next_id);
-        seed = head.seed;
-        average_slices = head.average_slices;
-        age_limit = head.age_limit;
-        rates = head.rates;
-        rules = head.rules;
-        memory_limit = head.memory_limit;
-      }
-
   -- so a saved world can be made of it
   pub state_saved : AreSaved state.head (standing_from 0 state.cells)
   state_saved = record {
-    values = head_writable;
+    values = head_up (2 ^ 62 + 2 ^ 32 * state.head.update) (2 ^ 62) state is.fits.next_id
+        is.valid.head;
     each = All-from_recursion (MayStandThere state.head) (standing_from 0 state.cells)
         (all_standing (MayStandThere state.head) 0 state.cells stands_well);
     rising = come_before;

@@ -3,7 +3,7 @@ pub mod Alike
 pub mod Quiet
 pub mod Resumes
 mod Heads
-mod Valid
+pub mod Valid
 mod Lines
 mod Runs
 pub mod SavedPieces
