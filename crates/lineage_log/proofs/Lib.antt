@@ -2,7 +2,7 @@ pub mod LogLaws
 pub mod ReadLemmas
 pub mod ReadsLogLemmas
 pub mod UpgradeLemmas
-mod StandingLemmas
+pub mod StandingLemmas
 pub mod ReplayLemmas
 pub mod ResidentWalks
 pub mod LeftLemmas

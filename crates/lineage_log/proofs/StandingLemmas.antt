@@ -24,7 +24,7 @@ get_written (y ∷ ys) (suc i) (suc j) slot x is = elim (get_written ys i j slot
 ]
 
 -- a write leaves all other places as they are
-get_other : {A : Type 0} (xs : List A) (i j : ℕ) (x : A) → (i ≢ j)
+pub get_other : {A : Type 0} (xs : List A) (i j : ℕ) (x : A) → j ≢ i
     → slice_get (slice_set xs i x) j ≡ slice_get xs j
 get_other [] i j x other = refl
 get_other (y ∷ ys) zero zero x other = absurd (other refl)
@@ -113,7 +113,8 @@ kept_still : (ids : List ℕ) (people : People) (id : ℕ) → AllByRecursion (�
     → slice_get (without ids people) id ≡ slice_get people id
 kept_still [] people id apart = refl
 kept_still (d ∷ ids) people id apart =
-    kept_still ids (slice_set people d None) id apart.1 ∙ get_other people d id None apart.0
+    kept_still ids (slice_set people d None) id apart.1
+    ∙ get_other people d id None (λ e. apart.0 (sym e))
 
 -- ---- who stands in the cells
 

@@ -4,6 +4,7 @@ use Rattle.std.proofs.lemmas.Bool.{cases_eq}
 use Rattle.std.proofs.lemmas.List.{length-set, set-get_or}
 use Rattle.std.proofs.lemmas.Option.{slice_get_within}
 use Rattle.std.specs.Prelude.{slice_get, slice_set, slice_index_or, ◌==◌, fold, replicate}
+use Rattle.lineage_log.proofs.StandingLemmas.{get_other}
 
 -- what was written at a place stands there
 pub get_written : {X : Type 0} (xs : List X) (i : ℕ) (x : X) → i < length xs
@@ -11,15 +12,6 @@ pub get_written : {X : Type 0} (xs : List X) (i : ℕ) (x : X) → i < length xs
 get_written [] i x h = absurd (omega (arith, h))
 get_written (y ∷ ys) zero x h = refl
 get_written (y ∷ ys) (suc i) x h = get_written ys i x (omega (arith, h))
-
--- at another place stands what stood there before
-pub get_elsewhere : {X : Type 0} (xs : List X) (i j : ℕ) (x : X) → j ≢ i
-    → slice_get (slice_set xs i x) j ≡ slice_get xs j
-get_elsewhere [] i j x h = refl
-get_elsewhere (y ∷ ys) zero zero x h = absurd (h refl)
-get_elsewhere (y ∷ ys) zero (suc j) x h = refl
-get_elsewhere (y ∷ ys) (suc i) zero x h = refl
-get_elsewhere (y ∷ ys) (suc i) (suc j) x h = get_elsewhere ys i j x (λ e. h (ap suc e))
 
 -- who stands once a place is empty stood there before, and in another place
 pub get_emptied : {X : Type 0} (xs : List (Option X)) (i at : ℕ) (x : X)
@@ -36,7 +28,7 @@ get_emptied xs i at x h = elim (cases_eq i at) [
         length-set xs at None,
       ) in
       let e = get_written xs at None within in absurd cc
-  | inr other ↦ (sym (get_elsewhere xs at i None other) ∙ h, other)
+  | inr other ↦ (sym (get_other xs at i None other) ∙ h, other)
 ]
 
 -- what stands in a list still stands there with others behind

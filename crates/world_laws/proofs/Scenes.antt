@@ -8,9 +8,10 @@ use Rattle.std.proofs.lemmas.Bool.{cases_eq}
 use Rattle.instruction_set.specs.declared.letter.Letter.{Letter}
 use Rattle.organism.specs.OrganismState.{OrganismState}
 use Rattle.lineage_log.specs.Links.{Link}
+use Rattle.lineage_log.proofs.StandingLemmas.{get_other}
 use Rattle.world_rules.specs.World.{Occupant, id_of, id_at}
 use Rattle.world_rules.specs.Scene.{Scene, standing_at, with_death, with_newcomer}
-use Rattle.world_laws.proofs.ListLemmas.{get_written, get_elsewhere, get_emptied, get_more, get_seam, get_last, set_nothing, got_some}
+use Rattle.world_laws.proofs.ListLemmas.{get_written, get_emptied, get_more, get_seam, get_last, set_nothing, got_some}
 use Rattle.world_laws.proofs.Mirror.{People, written, people_in, genomes_of}
 
 -- somebody stands in a cell
@@ -79,7 +80,7 @@ stands_with cells cell at new o h = elim (cases_eq cell at) [
       get_written cells at (Some new) within in
       let is : new ≡ o = cc in
       inl (same, is)
-  | inr other ↦ inr (sym (get_elsewhere cells at cell (Some new) other) ∙ h, other)
+  | inr other ↦ inr (sym (get_other cells at cell (Some new) other) ∙ h, other)
 ]
 
 -- where genomes are at the ids of who stands, so they are once a cell is empty

@@ -12,6 +12,7 @@ use Rattle.std.proofs.lemmas.Option.{get_or_from_slice_get, slice_get-get_or, sl
 use Rattle.birth_board.specs.declared.placing.Placing.{Placing}
 use Rattle.organism.specs.OrganismState.{OrganismState, new_organism}
 use Rattle.lineage_log.specs.Links.{Link}
+use Rattle.lineage_log.proofs.StandingLemmas.{get_other}
 use Rattle.world_config.specs.Events.{EventValue, WhatValue, inject, clear, rate}
 use Rattle.world_config.specs.Values.{ConfigValues}
 use Rattle.world_rules.specs.World.{Occupant, World, founder_link, founder_of, id_of, ids_of}
@@ -21,7 +22,7 @@ use Rattle.world_rules.specs.Update.{Delivery, after_births, after_burials, afte
 use Rattle.world_rules.specs.WorldRun.{world_after}
 use Rattle.world_laws.specs.Turnover.{HasBeen, HasGone, IsStanding, IsTurnover}
 use Rattle.world_laws.specs.LowerLaws.{LifeLaws}
-use Rattle.world_laws.proofs.ListLemmas.{get_written, get_elsewhere, get_last, get_more, get_seam}
+use Rattle.world_laws.proofs.ListLemmas.{get_written, get_last, get_more, get_seam}
 use Rattle.world_laws.proofs.Mirror.{People}
 use Rattle.world_laws.proofs.Scenes.{IsScene, Stands, gone_more, scene_death, scene_newcomer, stands_before, stands_with, who_stands}
 use Rattle.world_laws.proofs.UpdateLines.{IsEvent, IsTurn, IsWhat, scene_birth, scene_births, scene_deaths, scene_what}
@@ -108,7 +109,7 @@ module _ (cells : List (Option Occupant)) (before : List Link) (size : ℕ) (sta
       inl (
         stands.0,
         stands.1,
-        get_elsewhere scene.cells at stands.0 new other ∙ stands.2,
+        get_other scene.cells at stands.0 new other ∙ stands.2,
         stands.3,
       ))
       (cases_eq stands.0 at)

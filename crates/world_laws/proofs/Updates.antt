@@ -14,6 +14,7 @@ use Rattle.lineage_log.specs.Order.{Within, told_count, at_next_update}
 use Rattle.lineage_log.specs.People.{without}
 use Rattle.lineage_log.specs.Reader.{may_be_born}
 use Rattle.lineage_log.specs.Links.{Link}
+use Rattle.lineage_log.proofs.StandingLemmas.{get_other}
 use Rattle.world_config.specs.Values.{ConfigValues}
 use Rattle.world_rules.specs.World.{Occupant, World, id_of, ids_of}
 use Rattle.world_rules.specs.Lives.{CellLife}
@@ -21,7 +22,7 @@ use Rattle.world_rules.specs.Scene.{Scene}
 use Rattle.world_rules.specs.Statistics.{scene_stats, stats_in}
 use Rattle.world_rules.specs.Update.{after_lives, deaths_of, after_burials, births_of, turns_of, with_newborn, after_births, events_at, after_events, last_scene}
 use Rattle.world_rules.specs.LogText.{death_lines, birth_lines, event_lines, lines_of_lives}
-use Rattle.world_laws.proofs.ListLemmas.{get_elsewhere, get_emptied, get_left, get_right, get_dropped, eqb_same}
+use Rattle.world_laws.proofs.ListLemmas.{get_emptied, get_left, get_right, get_dropped, eqb_same}
 use Rattle.world_laws.proofs.Mirror.{People, written, people_in, genomes_of, mirror, between, seen_in, Tells, one_line, more_lines}
 use Rattle.world_laws.proofs.Scenes.{Stands, Known, Apart, Agree, IsScene, people_number}
 use Rattle.world_laws.proofs.UpdateLines.{rising_part, ToBirths, ToEvents, scene_deaths, all_deaths, IsTurn, scene_births, all_births, IsEvent, scene_events, all_events}
@@ -34,7 +35,7 @@ without_others [] people id h = refl
 without_others (x ∷ ids) people id h =
     without_others ids (slice_set people x None) id
     (λ place e. h (place + 1) (at_next ids place id x e))
-    ∙ get_elsewhere people x id None (λ e. h 0 (ap Some (sym e)))
+    ∙ get_other people x id None (λ e. h 0 (ap Some (sym e)))
   where
     at_next : (ids : List ℕ) (place id x : ℕ) → slice_get ids place ≡ Some id
         → slice_get (x ∷ ids) (place + 1) ≡ Some id
