@@ -1,5 +1,5 @@
 -- The lines of a good log tell a pedigree: ids are counted, and parents came before.
-use Rattle.std.proofs.Common.{◌≡◌, ◌≢◌, ℕ, zero, suc, ◌+◌, ◌*◌, ◌<◌, ◌≤◌, Bool, true, false, cond, eqb, List, [], ◌∷◌, ◌++◌, Option, Some, None, Result, Ok, Err, length, map, get_or, set, mul-le-mul, refl, sym, ap, subst, ◌∙◌, arith}
+use Rattle.std.proofs.Common.{◌≡◌, ◌≢◌, ℕ, zero, suc, ◌+◌, ◌*◌, ◌<◌, ◌≤◌, Bool, true, false, cond, eqb, List, [], ◌∷◌, ◌++◌, Option, Some, None, Ok, length, map, get_or, set, mul-le-mul, refl, sym, ap, subst, ◌∙◌, arith}
 use Rattle.std.specs.Prelude.{◌==◌, ◌&&◌, flat_map, nat_lt, slice_get}
 use Rattle.std.specs.List.{range_with_len}
 use Rattle.std.specs.Option.{option_or}
@@ -7,18 +7,19 @@ use Rattle.std.proofs.Math.ListN.{length-replicate, length-set}
 use Rattle.std.proofs.lemmas.Bool.Decides.{nat_tests}
 use Rattle.instruction_set.specs.declared.letter.Letter.{Letter}
 use Rattle.log_lines.specs.Line.{Line, Start, Death, Birth, Injected, Cleared, Rate, Count, End}
-use Rattle.lineage_log.specs.declared.reason.Reason.{Reason}
 use Rattle.lineage_log.specs.declared.stage.Stage.TheVariants.{Dying, Happening}
 use Rattle.lineage_log.specs.LogGrammar.{IsGoodLog}
-use Rattle.lineage_log.specs.Order.{LogPlace, Before, Within, After, IsWhole, may_happen, opened, at_next_update, told_all, told_birth, told_cleared, told_count, told_death, told_end, told_injected, told_rate, told_start, told}
+use Rattle.lineage_log.specs.Order.{LogPlace, Before, Within, After, may_happen, opened, at_next_update, told_all, told_birth, told_cleared, told_count, told_death, told_end, told_injected, told_rate, told_start, told}
 use Rattle.lineage_log.specs.Reader.{Reader, is_quiet, may_be_born, may_die, reader_with_death, reader_with_newcomer}
 use Rattle.lineage_log.specs.Replay.{Seen, replay_of, residents_from, seen_all, seen_on}
 use Rattle.lineage_log.specs.Slots.{holds, taken}
+use Rattle.lineage_log.proofs.LogLaws.{went_on, whole_is}
+use Rattle.lineage_log.proofs.StandingLemmas.{length_without}
 use Rattle.phylogeny.specs.LogPedigree.{dweller, newcomer, parent_by_lines, parent_told, pedigree_of}
 use Rattle.phylogeny.specs.Pedigree.{Dweller}
 use Rattle.phylogeny.specs.Slots.{AreBelow, HaveLowerIds, IsPedigree, living_from, newcomer_parent, parent_at, parents_in, pedigree_with, standing_after, standing_on}
 use Rattle.phylogeny.proofs.ListLemmas.{get_replicated}
-use Rattle.phylogeny.proofs.ReaderLemmas.{below_with, nobody, length_without, IsAt, IsPlaceAt, went_on, within_gives, tested, death_at, newcomer_at, next_id, birth_at, end_at}
+use Rattle.phylogeny.proofs.ReaderLemmas.{below_with, nobody, IsAt, IsPlaceAt, within_gives, tested, death_at, newcomer_at, next_id, birth_at, end_at}
 
 -- ---- what the lines that are left tell
 
@@ -321,13 +322,6 @@ start_told version width height cell genome lines q w h is =
         );
       };
     }
-
--- where the last line has come, there is a reader after it
-whole_is : (t : Result LogPlace Reason) → IsWhole t → (r : Reader) × (t ≡ Ok (After r))
-whole_is (Ok Before) whole = absurd whole
-whole_is (Ok (Within r)) whole = absurd whole
-whole_is (Ok (After r)) whole = (r, refl)
-whole_is (Err reason) whole = absurd whole
 
 -- a good log that leads to a reader after its last line tells a pedigree
 told_by : (lines : List Line) (q : Reader) → IsGoodLog lines → told_all Before lines ≡ Ok (After q)

@@ -1,7 +1,7 @@
 -- What a reader of a log knows of its organisms, beside the pedigree so far.
 use Rattle.std.proofs.Common.{◌≡◌, ℕ, zero, suc, ◌+◌, ◌<◌, ◌≤◌, Bool, true, false, List, [], ◌∷◌, Option, Some, None, Result, Ok, Err, length, set, refl, sym, ap, subst, ◌∙◌, arith}
 use Rattle.std.specs.Prelude.{◌==◌, ◌&&◌, if◌then◌else◌, nat_lt, replicate, slice_get, option_and_then}
-use Rattle.std.proofs.Math.ListN.{length-append, length-set}
+use Rattle.std.proofs.Math.ListN.{length-append}
 use Rattle.std.proofs.lemmas.Bool.{and_parts, eqb-true}
 use Rattle.std.proofs.lemmas.Option.{slice_get_within}
 use Rattle.instruction_set.specs.declared.letter.Letter.{Letter}
@@ -11,10 +11,10 @@ use Rattle.lineage_log.specs.declared.reason.Reason.{Reason}
 use Rattle.lineage_log.specs.declared.reason.Reason.TheVariants.{BadOrder}
 use Rattle.lineage_log.specs.declared.stage.Stage.{Stage}
 use Rattle.lineage_log.specs.declared.stage.Stage.TheVariants.{Placing}
-use Rattle.lineage_log.specs.Order.{LogPlace, Before, Within, After, and_on, with_child, with_parent, within_if}
-use Rattle.lineage_log.specs.People.{without}
+use Rattle.lineage_log.specs.Order.{LogPlace, Before, Within, After, with_child, with_parent, within_if}
 use Rattle.lineage_log.specs.Reader.{Reader, reader_with_death, reader_with_newcomer}
 use Rattle.lineage_log.specs.Reader.{parent_in as kept_parent}
+use Rattle.lineage_log.proofs.LogLaws.{place_is}
 use Rattle.phylogeny.specs.Slots.{AreBelow}
 
 -- ---- who stands in the cells
@@ -48,13 +48,6 @@ below_with n slots cell id next below =
 abbrev pub nobody : ℕ → List (Option ℕ)
 nobody cells = replicate cells None
 
--- the people without some ids have as many places
-pub length_without : (ids : List ℕ) (people : List (Option (List Letter)))
-    → length (without ids people) ≡ length people
-length_without [] people = refl
-length_without (id ∷ ids) people =
-    length_without ids (set people id None) ∙ length-set people id None
-
 -- ---- what is known beside a reader
 
 -- so many ids, and who stands in the cells
@@ -68,16 +61,6 @@ abbrev pub IsPlaceAt : LogPlace → ℕ → List (Option ℕ) → Type 0
 IsPlaceAt Before count standing = ⊥
 IsPlaceAt (Within r) count standing = IsAt r count standing
 IsPlaceAt (After r) count standing = IsAt r count standing
-
--- where a line and what follows it are told, the line leads to a place from which that is told
-pub went_on : (t : Result LogPlace Reason) (next : LogPlace → Result LogPlace Reason) (q : LogPlace)
-    → and_on t next ≡ Ok q → (p : LogPlace) × (t ≡ Ok p) × (next p ≡ Ok q)
-went_on (Ok p) next q is = (p, refl, is)
-went_on (Err reason) next q is = absurd cc
-
--- two equal answers have one place
-place_is : (p q : LogPlace) → ◌≡◌ {A = Result LogPlace Reason} (Ok p) (Ok q) → p ≡ q
-place_is p q is = cc
 
 -- a place that a line's test gives is so, if its reader is so where the test holds
 pub within_gives : (test : Bool) (r : Reader) (p : LogPlace) (count : ℕ)
