@@ -7,11 +7,12 @@ use Rattle.std.proofs.lemmas.List.Splits.{join_with_byte-slice_split}
 use Rattle.std.proofs.lemmas.Option.{cond_some}
 use Rattle.numerals.specs.Spelling.{OneNumber}
 pub use Rattle.numerals.proofs.SpellingLemmas.{numbers_spell}
+use Rattle.instruction_set.specs.declared.letter.Letter.{Letter}
 use Rattle.logic_tasks.specs.InputsLaws.{inputs_of-top}
 use Rattle.logic_tasks.specs.TaskBitsLaws.{length-tasks_of}
 use Rattle.log_lines.specs.Fields.{genome_field}
 use Rattle.log_lines.specs.Kinds.{large}
-use Rattle.log_lines.specs.Rows.{last, ◌◂◌}
+use Rattle.log_lines.specs.Rows.{Row, last, ◌◂◌}
 use Rattle.log_lines.specs.LineText.{words_text, form_text}
 use Rattle.log_lines.proofs.FieldLaws.{Above, IsField, IsRow, chosen, last_law, letters_law, row_law, some_map, some_then}
 use Rattle.log_lines.proofs.KindLaws.{low, large_law}
@@ -19,7 +20,7 @@ use Rattle.log_lines.proofs.RowLaws.{words_in, joined_words, row_words, row_plai
 use Rattle.saved_lines.specs.SavedFields.{signed, nops, marks}
 use Rattle.saved_lines.specs.SavedForms.{HasSavedForm}
 use Rattle.saved_lines.specs.SavedReading.{are_ordered, head_of, saved_head_line, organism_at, organism_of, machine_at, machine_of, saved_number_at, read_form, read_saved_words, saved_line_of}
-use Rattle.saved_lines.specs.SavedTables.{head_ranges, head_row, organism_ranges, organism_row, machine_ranges, machine_row, machine_fields, texts_row}
+use Rattle.saved_lines.specs.SavedTables.{MachineFields, head_ranges, head_row, organism_ranges, organism_row, machine_ranges, machine_row, machine_fields, texts_row}
 use Rattle.saved_lines.specs.SavedText.{saved_row_text, SavedLine, Head, Organism, Machine, Count, head_numbers, organism_numbers}
 use Rattle.saved_lines.specs.SavedRows.{AreWithin, Front, several, within, ◌◁◌}
 use Rattle.saved_lines.proofs.FrontLaws.{IsFront, front_law, front_lower, several_law, whole_law, within_law}
@@ -137,53 +138,42 @@ module _ (numbers : OneNumber) where
             passed.0,
       )
 
-  -- an organism that is read was written so
-  organism_takes : (word : List ℕ) (words : List (List ℕ)) (line : SavedLine)
-      → bytes_eq word (79 ∷ []) ≡ true
-      → option_map organism_of (organism_row.read words) ≡ Some line
+  -- a line whose fields are read was written so, where the line of fields is written with these
+  taken : {A : Type 0} {row : Row A} → IsRow 32 row → (mark : ℕ) (made : A → SavedLine)
+      → ((fields : A) → row.Fits fields → LineIs (form_text mark row fields) (made fields))
+      → (word : List ℕ) (words : List (List ℕ)) (line : SavedLine)
+      → bytes_eq word (mark ∷ []) ≡ true → option_map made (row.read words) ≡ Some line
       → LineIs (word ++ words_text words) line
-  organism_takes word words line same is =
-      let some = some_map organism_of (organism_row.read words) line is in
-      let p = some.0 in
-      let t = row_takes organism_law 79 word words p same some.1 in
-      let back = organism_taken p.0 p.1 t.1.0 in
-      subst (λ (l : SavedLine). LineIs (word ++ words_text words) l) some.2 (
-        ap (λ (l : List ℕ). form_text 79 organism_row (l, p.1)) back ∙ t.0,
+  taken {A} {row} law mark made written word words line same is =
+      let some = some_map made (row.read words) line is in
+      let t = row_takes law mark word words some.0 same some.1 in
+      let has = written some.0 t.1 in
+      subst (λ (l : SavedLine). LineIs (word ++ words_text words) l) some.2 (has.0 ∙ t.0, has.1)
+
+  -- the line of an organism's fields
+  organism_written : (p : List ℕ × List Letter) → organism_row.Fits p
+      → LineIs (form_text 79 organism_row p) (organism_of p)
+  organism_written p fits =
+      let back = organism_taken p.0 p.1 fits.0 in (
+        ap (λ (l : List ℕ). form_text 79 organism_row (l, p.1)) back,
         organism_is (organism_at p.0 p.1)
-            (subst (λ (l : List ℕ). AreWithin organism_ranges l) (sym back) t.1.0, t.1.1)
+            (subst (λ (l : List ℕ). AreWithin organism_ranges l) (sym back) fits.0, fits.1)
             (length-tasks_of (saved_number_at p.0 3)) (length-tasks_of (saved_number_at p.0 6))
             (inputs_of-top (drop 7 p.0)),
       )
 
-  -- a machine that is read was written so
-  machine_takes : (word : List ℕ) (words : List (List ℕ)) (line : SavedLine)
-      → bytes_eq word (77 ∷ []) ≡ true
-      → option_map machine_of (machine_row.read words) ≡ Some line
-      → LineIs (word ++ words_text words) line
-  machine_takes word words line same is =
-      let some = some_map machine_of (machine_row.read words) line is in
-      let p = some.0 in
-      let t = row_takes machine_law 77 word words p same some.1 in
-      let back = machine_taken p.1.0 t.1.1.0 in
-      subst (λ (l : SavedLine). LineIs (word ++ words_text words) l) some.2 (
-        ap (λ (l : List ℕ). form_text 77 machine_row (p.0, (l, p.1.1))) back ∙ t.0,
+  -- the line of a machine's fields
+  machine_written : (p : MachineFields) → machine_row.Fits p
+      → LineIs (form_text 77 machine_row p) (machine_of p)
+  machine_written p fits =
+      let back = machine_taken p.1.0 fits.1.0 in (
+        ap (λ (l : List ℕ). form_text 77 machine_row (p.0, (l, p.1.1))) back,
         machine_is (machine_at p) (saved_number_at p.1.0 1) (saved_number_at p.1.0 2)
             (saved_number_at p.1.0 3) (saved_number_at p.1.0 4) refl (
-              t.1.0,
-              (subst (λ (l : List ℕ). AreWithin machine_ranges l) (sym back) t.1.1.0, t.1.1.1),
+              fits.0,
+              (subst (λ (l : List ℕ). AreWithin machine_ranges l) (sym back) fits.1.0, fits.1.1),
             ),
       )
-
-  -- a count that is read was written so
-  count_takes : (word : List ℕ) (words : List (List ℕ)) (line : SavedLine)
-      → bytes_eq word (90 ∷ []) ≡ true
-      → option_map Count ((last large).read words) ≡ Some line
-      → LineIs (word ++ words_text words) line
-  count_takes word words line same is =
-      let some = some_map Count ((last large).read words) line is in
-      let t = row_takes count_law 90 word words some.0 same some.1 in
-      subst (λ (l : SavedLine). LineIs (word ++ words_text words) l) some.2
-      (t.0, omega (arith, t.1.1))
 
   -- what is read of words was written so
   word_takes : (word : List ℕ) (words : List (List ℕ)) (line : SavedLine)
@@ -192,11 +182,12 @@ module _ (numbers : OneNumber) where
       elim (chosen (bytes_eq word (83 ∷ [])) _ _ line is) [
         | inl l ↦ head_takes word words line l.0 l.1
         | inr r ↦ elim (chosen (bytes_eq word (79 ∷ [])) _ _ line r.1) [
-          | inl l ↦ organism_takes word words line l.0 l.1
+          | inl l ↦ taken organism_law 79 organism_of organism_written word words line l.0 l.1
           | inr r ↦ elim (chosen (bytes_eq word (77 ∷ [])) _ _ line r.1) [
-            | inl l ↦ machine_takes word words line l.0 l.1
+            | inl l ↦ taken machine_law 77 machine_of machine_written word words line l.0 l.1
             | inr r ↦ elim (chosen (bytes_eq word (90 ∷ [])) _ _ line r.1) [
-              | inl l ↦ count_takes word words line l.0 l.1
+              | inl l ↦ taken count_law 90 Count (λ n fits. (refl, omega (arith, fits.1))) word words
+                  line l.0 l.1
               | inr r ↦ let e : None ≡ Some line = r.1 in absurd cc
             ]
           ]
