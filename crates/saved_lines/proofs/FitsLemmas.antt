@@ -58,104 +58,49 @@ head_at [] k all = omega arith
 head_at (head ∷ heads) zero all = omega (arith, all.0)
 head_at (head ∷ heads) (suc k) all = head_at heads k all.1
 
+-- ---- the numbers of a line
+
+infixr 20 ◌▸◌
+-- the bounds of a number, before those of the numbers behind it
+◌▸◌ : {A B C : Type 0} → A × B → C → A × B × C
+bounds ▸ others = (bounds.0, bounds.1, others)
+
+-- the bounds of a number from 0 on
+up_to : {n greatest : ℕ} → n ≤ greatest → (0 ≤ n) × (n ≤ greatest)
+up_to few = (omega arith, few)
+
 -- ---- a head
 
 -- the numbers of a head are within their ranges
 pub head_fits : (head : HeadValues) → IsHead head → AreWithin head_ranges (head_numbers head)
-head_fits head is = (
-  omega arith,
-  omega arith,
-  (
-    is.width.0,
-    is.width.1,
-    (
-      is.height.0,
-      is.height.1,
-      (
-        omega arith,
-        is.update,
-        (
-          is.next_id.0,
-          omega (arith, is.next_id.1),
-          (
-            omega arith,
-            omega (arith, is.seed),
-            (
-              is.average_slices.0,
-              is.average_slices.1,
-              (
-                omega arith,
-                flag_fits head.death,
-                (
-                  is.age_limit.0,
-                  is.age_limit.1,
-                  (
-                    omega arith,
-                    is.rates.copy,
-                    (
-                      omega arith,
-                      is.rates.insert,
-                      (
-                        omega arith,
-                        is.rates.delete,
-                        (
-                          omega arith,
-                          is.rates.site_point,
-                          (
-                            omega arith,
-                            is.rates.site_insert,
-                            (
-                              omega arith,
-                              is.rates.site_delete,
-                              (
-                                omega arith,
-                                flag_fits head.prefer_empty,
-                                (
-                                  omega arith,
-                                  flag_fits head.rules.need_alloc,
-                                  (
-                                    is.rules.executed_is_asked,
-                                    is.rules.executed_is_percent,
-                                    (
-                                      is.rules.copied_is_asked,
-                                      is.rules.copied_is_percent,
-                                      (
-                                        is.rules.long_enough,
-                                        omega (arith, is.rules.ordered, is.rules.short_enough),
-                                        (
-                                          omega (arith, is.rules.ordered, is.rules.long_enough),
-                                          is.rules.short_enough,
-                                          (
-                                            omega (
-                                              arith,
-                                              is.memory_limit.0,
-                                              is.rules.ordered,
-                                              is.rules.long_enough,
-                                            ),
-                                            is.memory_limit.1,
-                                            tt,
-                                          ),
-                                        ),
-                                      ),
-                                    ),
-                                  ),
-                                ),
-                              ),
-                            ),
-                          ),
-                        ),
-                      ),
-                    ),
-                  ),
-                ),
-              ),
-            ),
-          ),
-        ),
-      ),
-    ),
-  ),
-)
+head_fits head is =
+    let rules = is.rules in
+    (omega arith, omega arith)
+    ▸ is.width
+    ▸ is.height
+    ▸ up_to is.update
+    ▸ (is.next_id.0, omega (arith, is.next_id.1))
+    ▸ up_to (omega (arith, is.seed))
+    ▸ is.average_slices
+    ▸ up_to (flag_fits head.death)
+    ▸ is.age_limit
+    ▸ up_to is.rates.copy
+    ▸ up_to is.rates.insert
+    ▸ up_to is.rates.delete
+    ▸ up_to is.rates.site_point
+    ▸ up_to is.rates.site_insert
+    ▸ up_to is.rates.site_delete
+    ▸ up_to (flag_fits head.prefer_empty)
+    ▸ up_to (flag_fits head.rules.need_alloc)
+    ▸ (rules.executed_is_asked, rules.executed_is_percent)
+    ▸ (rules.copied_is_asked, rules.copied_is_percent)
+    ▸ (rules.long_enough, omega (arith, rules.ordered, rules.short_enough))
+    ▸ (omega (arith, rules.ordered, rules.long_enough), rules.short_enough)
+    ▸ (
+      omega (arith, is.memory_limit.0, rules.ordered, rules.long_enough),
+      is.memory_limit.1,
+    )
+    ▸ tt
 
 -- its lengths are in order
 pub head_ordered : (head : HeadValues) → IsHead head → are_ordered head ≡ true
@@ -226,35 +171,17 @@ pub organism_fits : (o : OrganismValues) → IsOrganismLine o
     → organism_row.Fits (organism_numbers o, o.genome)
 organism_fits o is =
     let low = low_fits o.inputs in (
-      (
-        omega arith,
-        omega (arith, is.cell),
-        (
-          omega arith,
-          omega (arith, is.id),
-          (
-            omega arith,
-            omega (arith, is.merit),
-            (
-              omega arith,
-              tasks_fit o.credited is.credited,
-              (
-                omega arith,
-                omega (arith, is.age),
-                (
-                  omega arith,
-                  omega (arith, is.read),
-                  (
-                    omega arith,
-                    tasks_fit o.gestation is.gestation,
-                    (omega arith, low 0, (omega arith, low 1, (omega arith, low 2, tt))),
-                  ),
-                ),
-              ),
-            ),
-          ),
-        ),
-      ),
+      up_to (omega (arith, is.cell))
+          ▸ up_to (omega (arith, is.id))
+          ▸ up_to (omega (arith, is.merit))
+          ▸ up_to (tasks_fit o.credited is.credited)
+          ▸ up_to (omega (arith, is.age))
+          ▸ up_to (omega (arith, is.read))
+          ▸ up_to (tasks_fit o.gestation is.gestation)
+          ▸ up_to (low 0)
+          ▸ up_to (low 1)
+          ▸ up_to (low 2)
+          ▸ tt,
       length_fits o.genome is.genome,
     )
 
@@ -286,23 +213,13 @@ machine_fits m is =
     let head = λ (k : ℕ). head_at m.heads k is.heads.1 in (
       is.registers,
       (
-        (
-          omega arith,
-          omega (arith, is.active),
-          (
-            omega arith,
-            head 0,
-            (
-              omega arith,
-              head 1,
-              (
-                omega arith,
-                head 2,
-                (omega arith, head 3, (omega arith, flag_fits m.pending, tt)),
-              ),
-            ),
-          ),
-        ),
+        up_to (omega (arith, is.active))
+            ▸ up_to (head 0)
+            ▸ up_to (head 1)
+            ▸ up_to (head 2)
+            ▸ up_to (head 3)
+            ▸ up_to (flag_fits m.pending)
+            ▸ tt,
         (
           is.nops,
           (
