@@ -2,89 +2,57 @@
 use crate::range::Range;
 use genome::{GREATEST_LENGTH, LEAST_LENGTH};
 
+/// The numbers from the least to the greatest.
+macro_rules! from_to {
+    ($least:expr, $greatest:expr) => {
+        Range {
+            least: $least,
+            greatest: $greatest,
+        }
+    };
+}
+
 /// A number below 2^32.
-const ANY_SMALL: Range = Range {
-    least: 0,
-    greatest: 0xFFFF_FFFF,
-};
+const ANY_SMALL: Range = from_to!(0, 0xFFFF_FFFF);
 
 /// A number below 2^64.
-const ANY_LARGE: Range = Range {
-    least: 0,
-    greatest: u64::MAX,
-};
+const ANY_LARGE: Range = from_to!(0, u64::MAX);
 
 /// 0 or 1.
-const ANY_FLAG: Range = Range {
-    least: 0,
-    greatest: 1,
-};
+const ANY_FLAG: Range = from_to!(0, 1);
 
 /// Parts per million.
-const ANY_RATE: Range = Range {
-    least: 0,
-    greatest: 1_000_000,
-};
+const ANY_RATE: Range = from_to!(0, 1_000_000);
 
 /// The number of a set of tasks.
-const ANY_TASKS: Range = Range {
-    least: 0,
-    greatest: 511,
-};
+const ANY_TASKS: Range = from_to!(0, 511);
 
 /// The low 24 bits of an input.
-const ANY_INPUT: Range = Range {
-    least: 0,
-    greatest: 0xFF_FFFF,
-};
+const ANY_INPUT: Range = from_to!(0, 0xFF_FFFF);
 
 /// The version of a saved world.
-const VERSION: Range = Range {
-    least: 1,
-    greatest: 1,
-};
+const VERSION: Range = from_to!(1, 1);
 
 /// A side of the world.
-const ANY_SIDE: Range = Range {
-    least: 1,
-    greatest: 256,
-};
+const ANY_SIDE: Range = from_to!(1, 256);
 
 /// An update.
-const ANY_UPDATE: Range = Range {
-    least: 0,
-    greatest: 1_000_000,
-};
+const ANY_UPDATE: Range = from_to!(0, 1_000_000);
 
 /// The id that the next organism gets.
-const ANY_NEXT_ID: Range = Range {
-    least: 1,
-    greatest: 1 << 62,
-};
+const ANY_NEXT_ID: Range = from_to!(1, 1 << 62);
 
 /// A seed.
-const ANY_SEED: Range = Range {
-    least: 0,
-    greatest: (1 << 63) - 1,
-};
+const ANY_SEED: Range = from_to!(0, (1 << 63) - 1);
 
 /// The average number of slices, or the age of death as a multiple of a length.
-const ANY_THOUSAND: Range = Range {
-    least: 1,
-    greatest: 1000,
-};
+const ANY_THOUSAND: Range = from_to!(1, 1000);
 
 /// A percentage above 0.
-const ANY_PERCENT: Range = Range {
-    least: 1,
-    greatest: 100,
-};
+const ANY_PERCENT: Range = from_to!(1, 100);
 
 /// The length of a genome.
-const ANY_LENGTH: Range = Range {
-    least: LEAST_LENGTH as u64,
-    greatest: GREATEST_LENGTH as u64,
-};
+const ANY_LENGTH: Range = from_to!(LEAST_LENGTH as u64, GREATEST_LENGTH as u64);
 
 /// The version, and the values of a head in their order.
 pub const HEAD_RANGES: [Range; 22] = [
