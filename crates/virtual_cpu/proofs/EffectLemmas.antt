@@ -17,41 +17,11 @@ use Rattle.virtual_cpu.specs.Allocation.{extra_places, can_allocate, with_alloca
 use Rattle.virtual_cpu.specs.Effects.{moving, allocating_if, effect_of}
 use Rattle.virtual_cpu.proofs.MachineLemmas.{with_numbers, head_at, flow_at, rem-within, number-within, advanced, with_registers, with_stack, active-ten, pushed-ten, popped-ten, on_modifier-machine, on_template-machine, skipping, picked-machine}
 
--- a machine is left by if-n-equ; the rows of registers follow
-if_n_equ : (m : Machine) → IsMachine m → IsMachine (after_if_n_equ m)
-unfolding after_if_n_equ
-if_n_equ m h = skipping _ (on_modifier m) (on_modifier-machine m h)
-
--- if-less leaves a machine, whether it passes over the next place or not
-if_less : (m : Machine) → IsMachine m → IsMachine (after_if_less m)
-unfolding after_if_less
-if_less m h = skipping _ (on_modifier m) (on_modifier-machine m h)
-
 -- set-flow leaves a machine: FLOW is at a place of memory whatever the register holds
 set_flow : (m : Machine) → IsMachine m → IsMachine (after_set_flow m)
 unfolding after_set_flow
 set_flow m h = flow_at (on_modifier m) _ (on_modifier-machine m h)
     (number-within (on_modifier m) _ (on_modifier-machine m h))
-
--- shift-r leaves a machine, the picked register shifted to the right
-shift_r : (m : Machine) → IsMachine m → IsMachine (after_shift_r m)
-unfolding after_shift_r
-shift_r m h = picked-machine m _ h
-
--- shift-l leaves a machine, the picked register shifted to the left
-shift_l : (m : Machine) → IsMachine m → IsMachine (after_shift_l m)
-unfolding after_shift_l
-shift_l m h = picked-machine m _ h
-
--- inc leaves a machine, 1 added to the picked register
-inc : (m : Machine) → IsMachine m → IsMachine (after_inc m)
-unfolding after_inc
-inc m h = picked-machine m _ h
-
--- dec leaves a machine, 1 taken from the picked register
-dec : (m : Machine) → IsMachine m → IsMachine (after_dec m)
-unfolding after_dec
-dec m h = picked-machine m _ h
 
 -- push leaves a machine: the active stack still has ten numbers
 push : (m : Machine) → IsMachine m → IsMachine (after_push m)
@@ -78,26 +48,6 @@ unfolding after_swap
 swap m h =
     with_registers (with_picked m (value m (next m))) _ (picked-machine m (value m (next m)) h)
 
--- add leaves a machine, the sum of BX and CX in the picked register
-sum : (m : Machine) → IsMachine m → IsMachine (after_add m)
-unfolding after_add
-sum m h = picked-machine m _ h
-
--- sub leaves a machine, the difference of BX and CX in the picked register
-difference : (m : Machine) → IsMachine m → IsMachine (after_sub m)
-unfolding after_sub
-difference m h = picked-machine m _ h
-
--- nand leaves a machine, the nand of BX and CX in the picked register
-nand : (m : Machine) → IsMachine m → IsMachine (after_nand m)
-unfolding after_nand
-nand m h = picked-machine m _ h
-
--- IO leaves a machine, the input in the picked register
-io : (m : Machine) (input : ℤ) → IsMachine m → IsMachine (after_io m input)
-unfolding after_io
-io m input h = picked-machine m input h
-
 -- a machine is left by mov-head; the rows of heads follow
 mov_head : (m : Machine) → IsMachine m → IsMachine (after_mov_head m)
 unfolding after_mov_head
@@ -108,16 +58,6 @@ jmp_head : (m : Machine) → IsMachine m → IsMachine (after_jmp_head m)
 unfolding after_jmp_head
 jmp_head m h = let n = on_modifier-machine m h in
     head_at (on_modifier m) (head m) _ n (number-within (on_modifier m) _ n)
-
--- get-head leaves a machine, the place of the picked head in CX
-get_head : (m : Machine) → IsMachine m → IsMachine (after_get_head m)
-unfolding after_get_head
-get_head m h = with_registers (on_modifier m) _ (on_modifier-machine m h)
-
--- a machine is left by if-label; the rows of templates follow
-if_label : (m : Machine) → IsMachine m → IsMachine (after_if_label m)
-unfolding after_if_label
-if_label m h = skipping _ (on_template m) (on_template-machine m h)
 
 -- FLOW at a place of memory, and any numbers in BX and CX, leave a machine
 searched : (m : Machine) (flow : ℕ) (bx : ℤ) (cx : ℕ) → IsMachine m → flow < length m.memory
@@ -134,11 +74,6 @@ matched m count None h = searched m _ _ count h (rem-within m (m.heads.ip + 1) h
 searched_for : (m : Machine) (nops : List Letter) → IsMachine m → IsMachine (with_search_for m nops)
 searched_for m [] h = searched m _ _ 0 h (rem-within m (m.heads.ip + 1) h)
 searched_for m (nop ∷ nops) h = matched m _ _ h
-
--- h-search leaves a machine, whatever template stands after IP
-h_search : (m : Machine) → IsMachine m → IsMachine (after_h_search m)
-unfolding after_h_search
-h_search m h = searched_for (on_template m) (template_of m) (on_template-machine m h)
 
 -- the nops read last are at most ten
 few-nops : (nop : Bool) (nops : List Letter) → length (cond nop (last_ten nops) []) ≤ 10
@@ -246,29 +181,35 @@ allocating false m can h = advanced m h
 -- each row leaves a machine
 pub effect : (letter : Letter) (m : Machine) (input : ℤ) (copy : Option Letter) → IsMachine m
     → IsMachine (effect_of letter m input copy).0
+unfolding after_if_n_equ after_if_less after_if_label after_get_head after_shift_r after_shift_l after_inc after_dec after_add after_sub after_nand after_io after_h_search
 effect NopA m input copy h = advanced m h
 effect NopB m input copy h = advanced m h
 effect NopC m input copy h = advanced m h
 effect HDivide m input copy h = advanced m h
-effect IfNEqu m input copy h = advanced (after_if_n_equ m) (if_n_equ m h)
-effect IfLess m input copy h = advanced (after_if_less m) (if_less m h)
-effect IfLabel m input copy h = advanced (after_if_label m) (if_label m h)
+effect IfNEqu m input copy h =
+    advanced (after_if_n_equ m) (skipping _ (on_modifier m) (on_modifier-machine m h))
+effect IfLess m input copy h =
+    advanced (after_if_less m) (skipping _ (on_modifier m) (on_modifier-machine m h))
+effect IfLabel m input copy h =
+    advanced (after_if_label m) (skipping _ (on_template m) (on_template-machine m h))
 effect MovHead m input copy h = moved (head m) (after_mov_head m) (mov_head m h)
 effect JmpHead m input copy h = advanced (after_jmp_head m) (jmp_head m h)
-effect GetHead m input copy h = advanced (after_get_head m) (get_head m h)
+effect GetHead m input copy h =
+    advanced (after_get_head m) (with_registers (on_modifier m) _ (on_modifier-machine m h))
 effect SetFlow m input copy h = advanced (after_set_flow m) (set_flow m h)
-effect ShiftR m input copy h = advanced (after_shift_r m) (shift_r m h)
-effect ShiftL m input copy h = advanced (after_shift_l m) (shift_l m h)
-effect Inc m input copy h = advanced (after_inc m) (inc m h)
-effect Dec m input copy h = advanced (after_dec m) (dec m h)
+effect ShiftR m input copy h = advanced (after_shift_r m) (picked-machine m _ h)
+effect ShiftL m input copy h = advanced (after_shift_l m) (picked-machine m _ h)
+effect Inc m input copy h = advanced (after_inc m) (picked-machine m _ h)
+effect Dec m input copy h = advanced (after_dec m) (picked-machine m _ h)
 effect Push m input copy h = advanced (after_push m) (push m h)
 effect Pop m input copy h = advanced (after_pop m) (pop m h)
 effect SwapStk m input copy h = advanced (after_swap_stk m) (swap_stk m h)
 effect Swap m input copy h = advanced (after_swap m) (swap m h)
-effect Add m input copy h = advanced (after_add m) (sum m h)
-effect Sub m input copy h = advanced (after_sub m) (difference m h)
-effect Nand m input copy h = advanced (after_nand m) (nand m h)
+effect Add m input copy h = advanced (after_add m) (picked-machine m _ h)
+effect Sub m input copy h = advanced (after_sub m) (picked-machine m _ h)
+effect Nand m input copy h = advanced (after_nand m) (picked-machine m _ h)
 effect HCopy m input copy h = advanced (after_h_copy m copy) (h_copy m copy h)
 effect HAlloc m input copy h = allocating (can_allocate m) m refl h
-effect Io m input copy h = advanced (after_io m input) (io m input h)
-effect HSearch m input copy h = advanced (after_h_search m) (h_search m h)
+effect Io m input copy h = advanced (after_io m input) (picked-machine m _ h)
+effect HSearch m input copy h =
+    advanced (after_h_search m) (searched_for (on_template m) (template_of m) (on_template-machine m h))
