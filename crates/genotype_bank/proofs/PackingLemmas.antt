@@ -43,17 +43,13 @@ letters-of_none word = refl
 pub letters-no_more : (most word : ℕ) (before : List Letter) → most ≡ 0
     → before ≡ before ++ letters_within most word
 letters-no_more most word before none =
-    sym (ap (λ m. before ++ letters_within m word) none
-    ∙ ap (λ ls. before ++ ls) (letters-of_none word)
-    ∙ append-nil before)
+    rw (none, letters-of_none word) (sym (append-nil before))
 
 -- the word 0 has none
 pub letters-empty : (most word : ℕ) (before : List Letter) → word ≡ 0
     → before ≡ before ++ letters_within most word
 letters-empty most word before empty =
-    sym (ap (λ w. before ++ letters_within most w) empty
-    ∙ ap (λ ls. before ++ ls) (letters-none most)
-    ∙ append-nil before)
+    rw (empty, letters-none most) (sym (append-nil before))
 
 -- another word has its lowest digit as the last letter
 letters-last : (most word : ℕ) → (most ≡ 0 → ⊥) → (word ≡ 0 → ⊥)
