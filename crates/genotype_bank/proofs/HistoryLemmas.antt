@@ -1,5 +1,5 @@
 -- Histories, their prefixes, and the calls under some numbers.
-use Rattle.std.proofs.Common.{◌≡◌, ◌⊎◌, ℕ, suc, ◌<◌, ◌≤◌, List, [], ◌∷◌, ◌++◌, length, Bool, true, false, true≢false, refl, sym, ap, ◌||◌, ◌∙◌, subst, inl, inr, arith, eqb, eq-eqb, ne_eqb, length-append, append-nil, append_assoc, if◌then◌else◌, cond, Option, Some, None}
+use Rattle.std.proofs.Common.{◌≡◌, ◌⊎◌, ℕ, suc, ◌<◌, ◌≤◌, List, [], ◌∷◌, ◌++◌, length, Bool, true, false, true≢false, refl, sym, ap, ◌||◌, ◌∙◌, subst, inl, inr, ⊎_elim, arith, eqb, eq-eqb, ne_eqb, length-append, append-nil, append_assoc, if◌then◌else◌, cond, Option, Some, None}
 use Rattle.std.proofs.lemmas.Bool.{lt-ltb, le-ltb}
 use Rattle.std.specs.Prelude.{nat_lt}
 use mathlib.Core.Option.{some, some-ne-none}
@@ -38,6 +38,10 @@ not_so false nay = refl
 -- false isn't true
 pub off : false ≡ true → ⊥
 off e = true≢false (sym e)
+
+-- what the second part of a second case gives stands in its place
+pub second_case : {A B C D : Type 0} → (C → D) → A ⊎ (B × C) → A ⊎ (B × D)
+second_case gives = ⊎_elim inl (λ second. inr (second.0, gives second.1))
 
 -- an empty list has nothing at any place
 pub nothing_there : {A : Type 0} (k : ℕ) (a : A) → get_elem? [] k ≡ some a → ⊥

@@ -18,7 +18,7 @@ use Rattle.genotype_bank.specs.Catalog.{genomes_in}
 use Rattle.genotype_bank.specs.BankTable.{IsBankTable, Seated}
 use Rattle.genotype_bank.specs.BankSteps.{kept_half, new_half, joined_view, longer, memo_of, HasRecalled}
 use Rattle.genotype_bank.proofs.ViewLemmas.{within, one_there, total_set, total_snoc, each_set, each_snoc, only_set, only_keep, only_snoc, seats_kept, some_set, some_snoc, placed_set, placed_keep, placed_snoc, total_ge, set_swap}
-use Rattle.genotype_bank.proofs.HistoryLemmas.{none_some, off, nothing_there, in_front, own_seen, own_all, pre_two, pre_whole, pick, longer_least, either_has, has_left, has_right}
+use Rattle.genotype_bank.proofs.HistoryLemmas.{none_some, off, nothing_there, in_front, own_seen, own_all, second_case, pre_two, pre_whole, pick, longer_least, either_has, has_left, has_right}
 use Rattle.genotype_bank.proofs.TableLemmas.{fits_idle, fits_new, others_spent, carried_all, whole_seen}
 
 -- a bank begins with an empty catalog and one whole seat, by the rule
@@ -104,13 +104,10 @@ splits id v two free idle' s k at =
           (each_set (λ j u. FitsHistory k.history k.drawn u) s.views id left
           (λ j u _ e. k.each j u e) (fits_idle k.history k.drawn v (v.share - 1) f pos))
           (fits_new k.history k.drawn v f);
-      state = ⊎_elim inl (λ o.
-          inr (
-            o.0,
-            some_snoc (λ (u : View). u.holding ≡ true) a right
-                (some_set (λ (u : View). u.holding ≡ true) s.views id v left at
-                (λ h. absurd (off (sym idle' ∙ h))) o.1),
-          )) k.state;
+      state = second_case
+          (λ o. some_snoc (λ (u : View). u.holding ≡ true) a right
+          (some_set (λ (u : View). u.holding ≡ true) s.views id v left at
+          (λ h. absurd (off (sym idle' ∙ h))) o)) k.state;
     }
 
 -- a memo of a seat that was joined from two: what it has seen begins what the longer of the two has,
@@ -224,12 +221,9 @@ joins id v other w pos free free' idle' idle'' s k at apart there =
             recalls = recall k.history v w pre f.begins g.begins f.saw g.saw;
             once = two v w (λ n a c. apart (sym (k.seats.apart n id other v w at there' a c)));
           };
-      state = ⊎_elim inl (λ o.
-          inr (
-            o.0,
-            move (λ (u : View). u.holding ≡ true) (λ h. absurd (off (sym idle' ∙ h)))
-                (λ h. absurd (off (sym idle'' ∙ h))) o.1,
-          )) k.state;
+      state = second_case
+          (move (λ (u : View). u.holding ≡ true) (λ h. absurd (off (sym idle' ∙ h)))
+          (λ h. absurd (off (sym idle'' ∙ h)))) k.state;
     }
   where
     spent_fits : (history : List Entry) (drawn : ℕ) → FitsHistory history drawn spent_view
@@ -309,12 +303,8 @@ recalls slots id m pos free idle' s k wide at small =
             (some_set (λ (u : View). u.seen ≡ k.history) s.views id v w at (λ c. c) k.seats.known);
         each = each_set (λ j u. FitsHistory k.history k.drawn u) s.views id w
             (λ j u _ e. k.each j u e) (fits_idle k.history k.drawn v v.share f pos);
-        state = ⊎_elim inl (λ o.
-            inr (
-              o.0,
-              some_set (λ (u : View). u.holding ≡ true) s.views id v w at
-                  (λ h. absurd (off (sym idle' ∙ h))) o.1,
-            )) k.state;
+        state = second_case (some_set (λ (u : View). u.holding ≡ true) s.views id v w at
+            (λ h. absurd (off (sym idle' ∙ h)))) k.state;
       },
       (
         refl,

@@ -17,7 +17,7 @@ use Rattle.genotype_bank.specs.Catalog.{genomes_in, call_in}
 use Rattle.genotype_bank.specs.BankTable.{IsBankTable, Seated}
 use Rattle.genotype_bank.specs.BankSteps.{with_ticket, HasDrawn, at_turn, HasLooked, last_drawn_number, after_turn, HasReleased}
 use Rattle.genotype_bank.proofs.ViewLemmas.{within, one_there, total_set, each_set, at_end, only_set, only_keep, seats_kept, some_set, placed_set}
-use Rattle.genotype_bank.proofs.HistoryLemmas.{none_some, value, off, nothing_there, own_more, in_front, has_back, has_front, own_seen, pre_trans, own_all}
+use Rattle.genotype_bank.proofs.HistoryLemmas.{none_some, value, off, nothing_there, own_more, in_front, has_back, has_front, own_seen, pre_trans, own_all, second_case}
 use Rattle.genotype_bank.proofs.TableLemmas.{own_number, draws_below, drawn_lives, carried_all}
 
 -- an idle seat draws a ticket and a number of its own, and keeps the rule
@@ -98,12 +98,8 @@ draws slots id m pos free idle' s k wide at small =
                   (r.0, r.1, λ n c. has_front id n v.carried (r.2 n c));
               once = f.once;
             };
-        state = ⊎_elim inl (λ o.
-            inr (
-              o.0,
-              some_set (λ (u : View). u.holding ≡ true) s.views id v w at
-                  (λ h. absurd (off (sym idle' ∙ h))) o.1,
-            )) k.state;
+        state = second_case (some_set (λ (u : View). u.holding ≡ true) s.views id v w at
+            (λ h. absurd (off (sym idle' ∙ h)))) k.state;
       },
       (id, t, ap (λ ws. get_or ws 0 0) k.words, refl, front),
     )
