@@ -187,23 +187,15 @@ loop-id-preserved c =
     l.descendants.items l.children.items l.shape c.keep.new.self (within at.After-index-below) some
     (walked at.After-index-below) (keeps at.After-keep) c.in_default.is
 
-pub returns-clause-common : goal.returns-clause-common
-returns-clause-common c =
+pub returns : goal.returns
+returns c =
     let l = c.loop-id in
-    walked_common c.args.parents.now c.args.standing.now l.descendants.items l.children.items
-    l.shape (at_end c.args.parents.now c.args.standing.now l.id l.descendants.items
-    l.children.items l.shape c.loop-id-test.false l.invariant)
-
-pub returns-clause-kept : goal.returns-clause-kept
-returns-clause-kept c =
-    let l = c.loop-id in
-    walked_kept c.args.parents.now c.args.standing.now l.descendants.items l.children.items l.shape
-    (at_end c.args.parents.now c.args.standing.now l.id l.descendants.items l.children.items
-    l.shape c.loop-id-test.false l.invariant)
-
-pub returns-clause-branches : goal.returns-clause-branches
-returns-clause-branches c =
-    let l = c.loop-id in
-    walked_branches c.args.parents.now c.args.standing.now l.descendants.items l.children.items
-    l.shape (at_end c.args.parents.now c.args.standing.now l.id l.descendants.items
-    l.children.items l.shape c.loop-id-test.false l.invariant)
+    let p = c.args.parents.now in
+    let s = c.args.standing.now in
+    let end = at_end p s l.id l.descendants.items l.children.items l.shape c.loop-id-test.false
+    l.invariant in
+    record {
+      common = walked_common p s l.descendants.items l.children.items l.shape end;
+      kept = walked_kept p s l.descendants.items l.children.items l.shape end;
+      branches = walked_branches p s l.descendants.items l.children.items l.shape end;
+    }
