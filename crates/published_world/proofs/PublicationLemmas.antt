@@ -59,37 +59,28 @@ module _ {P O : Type 0} (number : P → ℕ) (of : P → O) where
     same = λ place first picture a b. (more_at pictures next h may place first picture a b).1;
   }
 
-  -- no picture of a history's prefix is newer than the history's last one
-  pub never_older : (pictures whole : List P) (last : P) → IsPrefix pictures whole
-      → IsPublication number of whole → last_of whole ≡ Some last
-      → All (λ seen. number seen ≤ number last) pictures
-  never_older pictures whole last p h e place d below =
+  -- no picture of a history's prefix is newer than the history's last one, and all are of the same
+  as_seen : (pictures whole : List P) (last : P) → IsPrefix pictures whole
+      → IsPublication number of whole → last_of whole ≡ Some last → (place : ℕ) (d : P)
+      → place < length pictures → (number (get_or pictures place d) ≤ number last)
+      × (of (get_or pictures place d) ≡ of last)
+  as_seen pictures whole last p h e place d below =
       let seen = get_or pictures place d in
       let at : slice_get whole place ≡ Some seen =
       get_in_longer pictures whole place seen p (get_at pictures place d below) in
       let first = get_or whole 0 d in
       let le = prefix_length pictures whole p in
       let is_first : first_of whole ≡ Some first = get_at whole 0 d (omega (arith, le, below)) in
-      omega (
-        arith,
-        h.rises place first seen is_first at,
-        h.rises (length whole - 1) first last is_first e,
-        le,
-        below,
+      let end = length whole - 1 in (
+        omega (
+          arith,
+          h.rises place first seen is_first at,
+          h.rises end first last is_first e,
+          le,
+          below,
+        ),
+        h.same place first seen is_first at ∙ sym (h.same end first last is_first e),
       )
-
-  -- all are pictures of the same
-  pub all_of_one : (pictures whole : List P) (last : P) → IsPrefix pictures whole
-      → IsPublication number of whole → last_of whole ≡ Some last
-      → All (λ seen. of seen ≡ of last) pictures
-  all_of_one pictures whole last p h e place d below =
-      let seen = get_or pictures place d in
-      let at : slice_get whole place ≡ Some seen =
-      get_in_longer pictures whole place seen p (get_at pictures place d below) in
-      let first = get_or whole 0 d in
-      let is_first : first_of whole ≡ Some first =
-      get_at whole 0 d (omega (arith, prefix_length pictures whole p, below)) in
-      h.same place first seen is_first at ∙ sym (h.same (length whole - 1) first last is_first e)
 
   -- where a look answers, its picture is the last one of a history that begins with what was seen
   pub look_never_older : {A E : Type 0} (r : Result A E) (picture_of : A → P)
@@ -97,7 +88,7 @@ module _ {P O : Type 0} (number : P → ℕ) (of : P → O) where
       → IfOk r (λ a. last_of whole ≡ Some (picture_of a)) → IsPublication number of whole
       → IfOk r (λ a. All (λ seen. number seen ≤ number (picture_of a)) pictures)
   look_never_older (Ok a) picture_of pictures whole p e h =
-      never_older pictures whole (picture_of a) p h e
+      λ place d below. (as_seen pictures whole (picture_of a) p h e place d below).0
   look_never_older (Err stop) picture_of pictures whole p e h = tt
 
   -- where a look answers, all that was seen are pictures of the same as its picture
@@ -105,5 +96,6 @@ module _ {P O : Type 0} (number : P → ℕ) (of : P → O) where
       → IfOk r (λ _. IsPrefix pictures whole) → IfOk r (λ a. last_of whole ≡ Some (picture_of a))
       → IsPublication number of whole
       → IfOk r (λ a. All (λ seen. of seen ≡ of (picture_of a)) pictures)
-  look_of (Ok a) picture_of pictures whole p e h = all_of_one pictures whole (picture_of a) p h e
+  look_of (Ok a) picture_of pictures whole p e h =
+      λ place d below. (as_seen pictures whole (picture_of a) p h e place d below).1
   look_of (Err stop) picture_of pictures whole p e h = tt
