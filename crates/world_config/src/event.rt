@@ -44,19 +44,13 @@ impl What {
     fn copy(&self, alloc: Global) -> Result<What, Memory>
         ensures { IfOk result (λ what. what_value what ≡ what_value self.now) }
     {
-        match self {
-            What::Inject { cell, genome } => Ok(What::Inject {
-                cell: *cell,
+        match *self {
+            What::Inject { cell, ref genome } => Ok(What::Inject {
+                cell,
                 genome: genome.copy(alloc)?,
             }),
-            What::Clear { first, last } => Ok(What::Clear {
-                first: *first,
-                last: *last,
-            }),
-            What::Rate { name, ppm } => Ok(What::Rate {
-                name: *name,
-                ppm: *ppm,
-            }),
+            What::Clear { first, last } => Ok(What::Clear { first, last }),
+            What::Rate { name, ppm } => Ok(What::Rate { name, ppm }),
         }
     }
 }

@@ -37,18 +37,11 @@ pub(crate) struct Frame {
 fn number_from(table: &Table, name: &str, least: u32, greatest: u32) -> Option<u32>
     ensures { result ≡ number_from least greatest (get_member name.now (table_view table.now)) }
 {
-    match found(table, name) {
-        None => None,
-        Some(value) => match value.as_integer() {
-            None => None,
-            Some(number) => {
-                if i64::from(least) <= number && number <= i64::from(greatest) {
-                    Some(number as u32)
-                } else {
-                    None
-                }
-            }
-        },
+    let number = found(table, name)?.as_integer()?;
+    if i64::from(least) <= number && number <= i64::from(greatest) {
+        Some(number as u32)
+    } else {
+        None
     }
 }
 
@@ -56,10 +49,7 @@ fn text_at<'a>(table: &'a Table, name: &str) -> Option<&'a str>
     ensures { option_map (λ text. text.now) result ≡ option_and_then as_str (get_member name.now
         (table_view table.now)) }
 {
-    match found(table, name) {
-        None => None,
-        Some(value) => value.as_str(),
-    }
+    found(table, name)?.as_str()
 }
 
 /// The genome that a text spells by letters, where its length is within the frame.
@@ -126,10 +116,8 @@ fn inject(alloc: Global, table: &Table, frame: &Frame) -> Result<Option<What>, M
     let Some(cell) = number_from(table, "cell", 0, frame.last_cell) else {
         return Ok(None);
     };
-    match genome_from(alloc, table, "letters", frame)? {
-        Some(genome) => Ok(Some(What::Inject { cell, genome })),
-        None => Ok(None),
-    }
+    let genome = genome_from(alloc, table, "letters", frame)?;
+    Ok(genome.map(|genome| What::Inject { cell, genome }))
 }
 
 fn clear(table: &Table, frame: &Frame) -> Option<What>
@@ -182,10 +170,8 @@ fn event_in(
     let Some(kind) = text_at(table, "kind") else {
         return Ok(None);
     };
-    match what_in(alloc, table, kind, frame)? {
-        Some(what) => Ok(Some(Event { update, what })),
-        None => Ok(None),
-    }
+    let what = what_in(alloc, table, kind, frame)?;
+    Ok(what.map(|what| Event { update, what }))
 }
 
 fn event(alloc: Global, value: &Value, frame: &Frame, least: u32) -> Result<Option<Event>, Memory>

@@ -51,13 +51,10 @@ fn integer_or(table: &Table, key: Key, default: u32) -> Result<i64, ConfigStop>
         → refusal_of (number least greatest) key (value_or key (integer (pos default))
         (table_view table.now)) ≡ Some stop) }
 {
-    match at(table, key) {
-        None => Ok(i64::from(default)),
-        Some(value) => match value.as_integer() {
-            Some(number) => Ok(number),
-            None => Err(ConfigStop::WrongKind { key }),
-        },
-    }
+    let Some(value) = at(table, key) else {
+        return Ok(i64::from(default));
+    };
+    value.as_integer().ok_or(ConfigStop::WrongKind { key })
 }
 
 /// The number at a key, or the default, within the bounds.
@@ -98,13 +95,10 @@ pub(crate) fn flag(table: &Table, key: Key, default: bool) -> Result<bool, Confi
     ensures refused { IfErr result (λ stop.
         refusal_of flag key (value_or key (boolean default) (table_view table.now)) ≡ Some stop) }
 {
-    match at(table, key) {
-        None => Ok(default),
-        Some(value) => match value.as_bool() {
-            Some(flag) => Ok(flag),
-            None => Err(ConfigStop::WrongKind { key }),
-        },
-    }
+    let Some(value) = at(table, key) else {
+        return Ok(default);
+    };
+    value.as_bool().ok_or(ConfigStop::WrongKind { key })
 }
 
 /// The text at a key, or the default.
@@ -115,13 +109,10 @@ pub(crate) fn text<'a>(table: &'a Table, key: Key, default: &'a str) -> Result<&
         → refusal_of (genome least greatest) key (value_or key (string default.entry.now)
         (table_view table.now)) ≡ Some stop) }
 {
-    match at(table, key) {
-        None => Ok(default),
-        Some(value) => match value.as_str() {
-            Some(text) => Ok(text),
-            None => Err(ConfigStop::WrongKind { key }),
-        },
-    }
+    let Some(value) = at(table, key) else {
+        return Ok(default);
+    };
+    value.as_str().ok_or(ConfigStop::WrongKind { key })
 }
 
 /// The members of the array at a key, or none.

@@ -134,12 +134,7 @@ pub fn read(alloc: Global, bytes: &[u8]) -> Result<Config, ConfigStop>
 {
     match toml::table_from_slice(alloc, bytes) {
         Ok(table) => config_in(alloc, &table),
-        Err(error) => {
-            if error.is_memory() {
-                Err(ConfigStop::Memory)
-            } else {
-                Err(ConfigStop::BadToml)
-            }
-        }
+        Err(error) if error.is_memory() => Err(ConfigStop::Memory),
+        Err(_) => Err(ConfigStop::BadToml),
     }
 }

@@ -14,8 +14,8 @@ returns-in-Ok-clause-refused c =
     rw (is_utf8-from_IsUtf8 c.args.bytes.now c.in-Ok.ensures.ok.0, c.in-Ok.ensures.ok.1)
     c.config_in.ensures.refused
 
-pub returns-else-is_memory-clause-refused : goal.returns-else-is_memory-clause-refused
-returns-else-is_memory-clause-refused c = λ _.
+pub returns-in-Err-2-clause-refused : goal.returns-in-Err-2-clause-refused
+returns-in-Err-2-clause-refused c = λ _.
     elim (cases_Bool (is_utf8 c.args.bytes.now)) [
       | inl text ↦ rw (
         text,
