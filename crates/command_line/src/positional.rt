@@ -59,9 +59,8 @@ pub(crate) fn read_positional<'a>(
     ensures bound { IfOk result (λ p. p.number ≤ greatest) }
 {
     one_spelling();
-    let command = match positional_command(alloc, name, positional) {
-        Ok(command) => command,
-        Err(_) => return Err(Refused::Memory),
+    let Ok(command) = positional_command(alloc, name, positional) else {
+        return Err(Refused::Memory);
     };
     let matches = matches(command, words)?;
     taken(&matches, positional, greatest).ok_or(Refused::BadWords)

@@ -39,9 +39,8 @@ pub(crate) fn read<A: Arguments>(alloc: Global, words: &[String]) -> Result<A::T
     ensures { IsTold (told_by_row A.table_row) words.now result }
 {
     one_spelling();
-    let command = match A::command(alloc) {
-        Ok(command) => command,
-        Err(_) => return Err(Refused::Memory),
+    let Ok(command) = A::command(alloc) else {
+        return Err(Refused::Memory);
     };
     let matches = matches(command, words)?;
     A::taken(&matches).ok_or(Refused::BadWords)

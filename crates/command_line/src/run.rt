@@ -24,19 +24,11 @@ pub struct Run {
 fn with_watch(workers: u32, watch: Option<&str>) -> Option<Run>
     ensures { result ≡ run_with (option_map (λ t. t.now) watch.entry) workers }
 {
-    match watch {
-        Some(text) => {
-            let looks = spelled(0, MOST_LOOKS, text)?;
-            Some(Run {
-                workers,
-                watch: Some(looks),
-            })
-        }
-        None => Some(Run {
-            workers,
-            watch: None,
-        }),
-    }
+    let watch = match watch {
+        Some(text) => Some(spelled(0, MOST_LOOKS, text)?),
+        None => None,
+    };
+    Some(Run { workers, watch })
 }
 
 impl Arguments for Run {

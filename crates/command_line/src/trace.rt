@@ -1,8 +1,8 @@
 // The words of `trace`.
-ghost use Rattle.std.specs.Prelude.{◌≡◌, ◌<◌, [], IfOk, codes, length, option_map};
-ghost use Rattle.clap.specs.Words.{app_of, first_of, found_of, rows_of};
-ghost use Rattle.command_line.specs.Commands.{inputs_form, inputs_of_value, trace_told};
-ghost use Rattle.command_line.specs.Parsers.{app_by, is_given_true};
+ghost use Rattle.std.specs.Prelude.{◌≡◌, ◌<◌, [], IfOk, codes, length};
+ghost use Rattle.clap.specs.Words.{app_of};
+ghost use Rattle.command_line.specs.Commands.{inputs_form, trace_told};
+ghost use Rattle.command_line.specs.Parsers.{app_by};
 ghost use Rattle.command_line.specs.Refusals.{IsTold};
 ghost use Rattle.command_line.specs.Rows.{trace_row};
 
@@ -25,22 +25,6 @@ pub struct Trace {
     pub steps: u32,
     pub org: bool,
     pub inputs: [u32; 3],
-}
-
-fn is_true(text: Option<&str>) -> bool
-    ensures { result ≡ is_given_true (option_map (λ t. t.now) text.entry) }
-{
-    match text {
-        Some(text) => text == "true",
-        None => false,
-    }
-}
-
-fn inputs_in(matches: &ArgMatches<'_>) -> Option<[u32; 3]>
-    ensures { result
-        ≡ inputs_of_value (first_of (codes "inputs") (rows_of (found_of matches.now))) }
-{
-    three_numbers(GREATEST_INPUT, text_in(matches, "inputs")?)
 }
 
 /// The command with `--inputs`.
@@ -72,8 +56,8 @@ impl Arguments for Trace {
 
     fn taken(matches: &ArgMatches<'_>) -> Option<Trace> {
         let steps = number_in(matches, "steps", 0, MOST_STEPS)?;
-        let inputs = inputs_in(matches)?;
-        let org = is_true(text_in(matches, "org"));
+        let inputs = three_numbers(GREATEST_INPUT, text_in(matches, "inputs")?)?;
+        let org = matches!(text_in(matches, "org"), Some("true"));
         Some(Trace { steps, org, inputs })
     }
 }
