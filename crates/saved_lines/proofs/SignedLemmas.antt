@@ -1,44 +1,13 @@
 -- The number of 32 bits that a word spells, by its first byte.
-use Rattle.std.proofs.Common.{◌≡◌, ℕ, zero, suc, ℤ, pos, ◌-◌, ◌<◌, ◌≤◌, false, true, cond, Bool, List, [], ◌∷◌, length, get_or, take, drop, Some, None, inl, inr, subst, refl, sym, ap, ◌∙◌, arith, zero-add}
+use Rattle.std.proofs.Common.{◌≡◌, ℕ, zero, suc, ℤ, pos, ◌-◌, ◌<◌, ◌≤◌, cond, List, [], ◌∷◌, Some, inl, inr, subst, refl, ap, ◌∙◌, arith, zero-add}
 use Rattle.std.specs.Prelude.{negsuc, FitsSigned, ◌-ℤ◌, ◌==◌, option_map}
 use Rattle.std.specs.Int.{w32, cast_signed, cast_unsigned}
 use Rattle.std.proofs.lemmas.Int.{to_z-of_z, to_z_pos}
-use Rattle.std.proofs.lemmas.Bool.Decides.{nat_tests}
 use Rattle.std.proofs.lemmas.Bool.{cases_Bool}
-use Rattle.std.proofs.lemmas.List.{take_all}
 use Rattle.numerals.specs.Numeral.{number_of}
 use Rattle.log_lines.proofs.FieldLaws.{some_map}
 use Rattle.saved_lines.specs.SavedFields.{below_zero, read_signed}
 use Rattle.saved_lines.proofs.RangeLemmas.{number_within}
-
--- the bytes behind the first
-rest_is : (b : ℕ) (bs : List ℕ) → take (length (b ∷ bs) - 1) (drop 1 (b ∷ bs)) ≡ bs
-rest_is b bs = take_all (length (b ∷ bs) - 1) bs (omega arith)
-
--- no bytes spell no number
-pub signed_empty : (word : List ℕ) → length word < 1 → None ≡ read_signed word
-signed_empty [] short = refl
-signed_empty (b ∷ bs) short = absurd (omega (arith, short))
-
--- a minus in front
-pub signed_minus : (word : List ℕ) → 1 ≤ length word → get_or word 0 0 ≡ 45
-    → option_map below_zero (number_of 1 2147483648 (take (length word - 1) (drop 1 word)))
-    ≡ read_signed word
-signed_minus [] some is = absurd (omega (arith, some))
-signed_minus (b ∷ bs) some is =
-    let minus : (b == 45) ≡ true = grind (arith, nat_tests, is) in
-    ap (λ (l : List ℕ). option_map below_zero (number_of 1 2147483648 l)) (rest_is b bs)
-    ∙ sym (ap (λ (v : Bool). cond v (option_map below_zero (number_of 1 2147483648 bs))
-    (option_map pos (number_of 0 2147483647 (b ∷ bs)))) minus)
-
--- no minus in front
-pub signed_plain : (word : List ℕ) → 1 ≤ length word → (get_or word 0 0 ≡ 45 → ⊥)
-    → option_map pos (number_of 0 2147483647 word) ≡ read_signed word
-signed_plain [] some apart = absurd (omega (arith, some))
-signed_plain (b ∷ bs) some apart =
-    let other : (b == 45) ≡ false = grind (arith, nat_tests, apart) in
-    sym (ap (λ (v : Bool). cond v (option_map below_zero (number_of 1 2147483648 bs))
-    (option_map pos (number_of 0 2147483647 (b ∷ bs)))) other)
 
 -- one more below 0
 minus_one : (m : ℕ) → negsuc 0 -ℤ pos m ≡ negsuc m

@@ -34,13 +34,8 @@ pub fn signed(word: &[u8]) -> Option<i32>
     ensures { result ≡ saved_fields.read_signed word.now }
 {
     match word {
-        [first, digits @ ..] => {
-            if *first == b'-' {
-                below_zero(digits)
-            } else {
-                not_below_zero(word)
-            }
-        }
+        [b'-', digits @ ..] => below_zero(digits),
+        [_, ..] => not_below_zero(word),
         [] => None,
     }
 }
@@ -49,10 +44,7 @@ pub fn signed(word: &[u8]) -> Option<i32>
 pub fn letters(alloc: Global, word: &[u8]) -> Result<Option<Letters>, Memory>
     ensures { IfOk result (λ found. found ≡ fields_spec.genome_of_word word.now) }
 {
-    match genome_letters(alloc, word)? {
-        Some(letters) => Ok(Some(Letters::from_vec(letters))),
-        None => Ok(None),
-    }
+    Ok(genome_letters(alloc, word)?.map(|letters| Letters::from_vec(letters)))
 }
 
 /// The place that a digit is of.
