@@ -1,17 +1,15 @@
 // Where the reader of a saved world stands between two lines.
 ghost use Rattle.std.specs.Prelude.{◌≡◌, IfOk, option_map};
-ghost use Rattle.saved_lines.specs.SavedForms.{HasSavedForm, IsMachineLine, IsOrganismLine};
+ghost use Rattle.saved_lines.specs.SavedForms.{HasSavedForm};
 ghost use Rattle.saved_lines.specs.SavedLines.{values_of_line, values_of_organism};
-ghost use Rattle.saved_lines.specs.SavedText.{Machine};
 ghost use Rattle.saved_worlds.specs.SavedGrammar.{Among, Before, Halfway, told_saved_line};
 ghost use Rattle.checkpoint.specs.Places.{saved_place_of};
 
 use crate::half::Half;
 use crate::so_far::SoFar;
 use avida_port::Memory;
-use saved_lines::{OrganismLine, SavedLine};
+use saved_lines::SavedLine;
 use std::alloc::Global;
-use virtual_cpu::CpuImage;
 
 #[derive(Drop)]
 pub(crate) enum ReadPlace {
@@ -60,34 +58,17 @@ fn told_among(so_far: SoFar, line: SavedLine) -> Option<ReadPlace>
         ≡ told_saved_line (Among so_far.head so_far.placed) (values_of_line line) }
 {
     match line {
-        SavedLine::Organism(organism) => told_organism(so_far, organism),
-        SavedLine::Count(organisms) => told_count(so_far, organisms),
+        SavedLine::Organism(organism) => {
+            if so_far.may_stand(&organism) {
+                Some(ReadPlace::Halfway(Half { so_far, organism }))
+            } else {
+                None
+            }
+        }
+        SavedLine::Count(organisms) if organisms == so_far.len() as u64 => {
+            Some(ReadPlace::After(so_far))
+        }
         _ => None,
-    }
-}
-
-fn told_organism(so_far: SoFar, organism: OrganismLine) -> Option<ReadPlace>
-    requires { IsOrganismLine (values_of_organism organism) }
-    ensures { option_map saved_place_of result
-        ≡ told_saved_line (Among so_far.head so_far.placed)
-        (values_of_line (SavedLine.Organism organism)) }
-{
-    if so_far.may_stand(&organism) {
-        Some(ReadPlace::Halfway(Half { so_far, organism }))
-    } else {
-        None
-    }
-}
-
-fn told_count(so_far: SoFar, organisms: u64) -> Option<ReadPlace>
-    ensures { option_map saved_place_of result
-        ≡ told_saved_line (Among so_far.head so_far.placed)
-        (values_of_line (SavedLine.Count organisms)) }
-{
-    if organisms == so_far.len() as u64 {
-        Some(ReadPlace::After(so_far))
-    } else {
-        None
     }
 }
 
@@ -98,19 +79,9 @@ fn told_halfway(alloc: Global, half: Half, line: SavedLine) -> Result<Option<Rea
         (Halfway half.so_far.head half.so_far.placed (values_of_organism half.organism))
         (values_of_line line)) }
 {
-    match line {
-        SavedLine::Machine(image) => told_machine(alloc, half, image),
-        _ => Ok(None),
-    }
-}
-
-fn told_machine(alloc: Global, half: Half, image: CpuImage) -> Result<Option<ReadPlace>, Memory>
-    requires { IsMachineLine image }
-    ensures { IfOk result (λ next. option_map saved_place_of next
-        ≡ told_saved_line
-        (Halfway half.so_far.head half.so_far.placed (values_of_organism half.organism))
-        (Machine image)) }
-{
+    let SavedLine::Machine(image) = line else {
+        return Ok(None);
+    };
     let Half { so_far, organism } = half;
     if !so_far.may_follow(&organism, &image) {
         return Ok(None);

@@ -68,13 +68,6 @@ fn have_one_length(image: &CpuImage) -> bool
     image.clean.len() == length && image.executed.len() == length && image.copied.len() == length
 }
 
-/// The greatest length of a memory, as a multiple of the genome's length.
-fn growth(image: &CpuImage) -> usize
-    ensures { result ≡ (if image.now.pending then 6 else 2) }
-{
-    if image.pending { 6 } else { 2 }
-}
-
 /// Memory is not too long.
 fn has_room(head: &StateHead, line: &OrganismLine, image: &CpuImage) -> bool
     ensures { result ≡ (nat_le (length image.now.memory) head.now.memory_limit
@@ -82,8 +75,9 @@ fn has_room(head: &StateHead, line: &OrganismLine, image: &CpuImage) -> bool
         * length (values_of_organism line.now).genome)) }
 {
     let length = image.memory.len();
-    let greatest = growth(image) * line.genome.len() as usize;
-    length <= head.memory_limit as usize && length <= greatest
+    // The greatest length, as a multiple of the genome's.
+    let growth = if image.pending { 6 } else { 2 };
+    length <= head.memory_limit as usize && length <= growth * line.genome.len() as usize
 }
 
 /// The line of a machine may follow that of its organism.
