@@ -1,7 +1,8 @@
 // The numbers and truths of a configuration, in groups of keys that stand together.
 #![tactic(auto, unfolding(crate::specs::Refusal::refusal_at, crate::specs::Lookup::number_at, crate::specs::Lookup::flag_at))]
 
-ghost use Rattle.std.specs.Prelude.{◌≡◌, None, Some, IfOk, IfErr, OnOk};
+ghost use Rattle.std.specs.Prelude.{◌≡◌, IfOk};
+ghost use Rattle.std.specs.Result.{result_err};
 ghost use Rattle.toml.specs.View.{table_view};
 ghost use Rattle.mutations.specs.RecordForm.{IsWithin};
 ghost use Rattle.world_config.specs.Bounds.{last_cell_of};
@@ -67,9 +68,7 @@ impl PlaceKeys {
 
     pub(crate) fn read(table: &Table) -> Result<PlaceKeys, ConfigStop>
         ensures value { IfOk result (ArePlace (table_view table.now)) }
-        ensures accepted { OnOk result (first_refusal place_keys (table_view table.now) ≡ None) }
-        ensures refused { IfErr result (λ stop. first_refusal place_keys (table_view table.now)
-            ≡ Some stop) }
+        ensures refusal { first_refusal place_keys (table_view table.now) ≡ result_err result }
     {
         let width = number(table, Key::Width, 60, 1, GREATEST_SIDE)?;
         let height = number(table, Key::Height, 60, 1, GREATEST_SIDE)?;
@@ -92,9 +91,7 @@ impl LifeKeys {
 
     pub(crate) fn read(table: &Table) -> Result<LifeKeys, ConfigStop>
         ensures value { IfOk result (AreLife (table_view table.now)) }
-        ensures accepted { OnOk result (first_refusal life_keys (table_view table.now) ≡ None) }
-        ensures refused { IfErr result (λ stop. first_refusal life_keys (table_view table.now)
-            ≡ Some stop) }
+        ensures refusal { first_refusal life_keys (table_view table.now) ≡ result_err result }
     {
         let average_slices = number(table, Key::AverageSlices, 30, 1, GREATEST_AVERAGE)?;
         let death = flag(table, Key::Death, true)?;
@@ -113,9 +110,7 @@ impl DivideKeys {
 
     pub(crate) fn read(table: &Table) -> Result<DivideKeys, ConfigStop>
         ensures value { IfOk result (AreDivide (table_view table.now)) }
-        ensures accepted { OnOk result (first_refusal divide_keys (table_view table.now) ≡ None) }
-        ensures refused { IfErr result (λ stop. first_refusal divide_keys (table_view table.now)
-            ≡ Some stop) }
+        ensures refusal { first_refusal divide_keys (table_view table.now) ≡ result_err result }
     {
         let prefer_empty = flag(table, Key::PreferEmpty, true)?;
         let need_alloc = flag(table, Key::NeedAlloc, true)?;
@@ -136,9 +131,7 @@ impl LengthKeys {
 
     pub(crate) fn read(table: &Table) -> Result<LengthKeys, ConfigStop>
         ensures value { IfOk result (AreLengths (table_view table.now)) }
-        ensures accepted { OnOk result (first_refusal length_keys (table_view table.now) ≡ None) }
-        ensures refused { IfErr result (λ stop. first_refusal length_keys (table_view table.now)
-            ≡ Some stop) }
+        ensures refusal { first_refusal length_keys (table_view table.now) ≡ result_err result }
     {
         let least_length = number(table, Key::LeastLength, 8, LEAST_LENGTH, GREATEST_LENGTH)?;
         let greatest_length = number(

@@ -1,7 +1,8 @@
 // The rates of errors of a configuration.
 #![tactic(auto, unfolding(crate::specs::Refusal::refusal_at, crate::specs::Lookup::number_at))]
 
-ghost use Rattle.std.specs.Prelude.{◌≡◌, None, Some, IfOk, IfErr, OnOk};
+ghost use Rattle.std.specs.Prelude.{◌≡◌, IfOk};
+ghost use Rattle.std.specs.Result.{result_err};
 ghost use Rattle.toml.specs.View.{table_view};
 ghost use Rattle.mutations.specs.Rates.{numbers_of};
 ghost use Rattle.world_config.specs.Groups.{rate_keys};
@@ -19,9 +20,7 @@ use toml::Table;
 pub(crate) fn rates_in(table: &Table) -> Result<Rates, ConfigStop>
     ensures value { IfOk result (λ rates.
         rates_in_table (table_view table.now) ≡ numbers_of rates) }
-    ensures accepted { OnOk result (first_refusal rate_keys (table_view table.now) ≡ None) }
-    ensures refused { IfErr result (λ stop. first_refusal rate_keys (table_view table.now)
-        ≡ Some stop) }
+    ensures refusal { first_refusal rate_keys (table_view table.now) ≡ result_err result }
 {
     Ok(Rates {
         copy: number(table, Key::CopyError, 7500, 0, MILLION)?,
