@@ -64,6 +64,14 @@ record IsForm (form : LineForm) : Type 1 where
   fills : (fields : form.Fields) → filled_form (form.line fields) ≡ filled form fields
   found : (ws : List (List ℕ)) → read_by forms (form.mark ∷ []) ws ≡ read_as form ws
 
+-- a form has the laws once its row has, where the rest computes
+is_form : (form : LineForm) → 32 < form.mark
+    → ((fields : form.Fields) → filled_form (form.line fields) ≡ filled form fields)
+    → ((ws : List (List ℕ)) → read_by forms (form.mark ∷ []) ws ≡ read_as form ws)
+    → IsRow 32 form.row → IsForm form
+is_form form high fills found words =
+    record { high = high; words = words; fills = fills; found = found }
+
 -- each of the forms has the laws
 AreForms : List LineForm → Type 1
 AreForms [] = Unit {1}
@@ -139,71 +147,43 @@ module _ (numbers : OneNumber) where
 
   -- the first line
   start_law : IsForm start_form
-  start_law =
-      record {
-        high = omega arith;
-        words = low (number_law numbers 1 2 (omega arith)) ▸ side32 ▸ side32 ▸ small32
-            ▸ last_law (low letters_law);
-        fills = λ fields. refl;
-        found = λ ws. refl;
-      }
+  start_law = is_form start_form (omega arith) (λ fields. refl) (λ ws. refl)
+      (low (number_law numbers 1 2 (omega arith)) ▸ side32 ▸ side32 ▸ small32
+      ▸ last_law (low letters_law))
 
   -- a death of age
   death_law : IsForm death_form
-  death_law =
-      record { high = omega arith; words = death_words; fills = λ p. refl; found = λ ws. refl }
+  death_law = is_form death_form (omega arith) (λ p. refl) (λ ws. refl) death_words
 
   -- a birth
   birth_law : IsForm birth_form
-  birth_law =
-      record {
-        high = omega arith;
-        words = large32 ▸ large32 ▸ arrival_words record_words;
-        fills = λ fields. refl;
-        found = λ ws. refl;
-      }
+  birth_law = is_form birth_form (omega arith) (λ fields. refl) (λ ws. refl)
+      (large32 ▸ large32 ▸ arrival_words record_words)
 
   -- an injected organism
   injected_law : IsForm injected_form
-  injected_law =
-      record {
-        high = omega arith;
-        words = large32 ▸ arrival_words (last_law (low letters_law));
-        fills = λ fields. refl;
-        found = λ ws. refl;
-      }
+  injected_law = is_form injected_form (omega arith) (λ fields. refl) (λ ws. refl)
+      (large32 ▸ arrival_words (last_law (low letters_law)))
 
   -- an organism cleared by an event
   cleared_law : IsForm cleared_form
-  cleared_law =
-      record { high = omega arith; words = death_words; fills = λ p. refl; found = λ ws. refl }
+  cleared_law = is_form cleared_form (omega arith) (λ p. refl) (λ ws. refl) death_words
 
   -- a rate
   rate_form_law : IsForm rate_form
-  rate_form_law =
-      record {
-        high = omega arith;
-        words = small32 ▸ low (rate_law numbers)
-            ▸ last_law (low (number_law numbers 0 million (omega arith)));
-        fills = λ fields. refl;
-        found = λ ws. refl;
-      }
+  rate_form_law = is_form rate_form (omega arith) (λ fields. refl) (λ ws. refl)
+      (small32 ▸ low (rate_law numbers)
+      ▸ last_law (low (number_law numbers 0 million (omega arith))))
 
   -- the end of an update
   count_law : IsForm count_form
-  count_law =
-      record {
-        high = omega arith;
-        words = small32 ▸ large32 ▸ large32 ▸ large32 ▸ large32 ▸ large32
-            ▸ times_law large32 9;
-        fills = λ fields. refl;
-        found = λ ws. refl;
-      }
+  count_law = is_form count_form (omega arith) (λ fields. refl) (λ ws. refl)
+      (small32 ▸ large32 ▸ large32 ▸ large32 ▸ large32 ▸ large32
+      ▸ times_law large32 9)
 
   -- the last line
   end_law : IsForm end_form
-  end_law =
-      record { high = omega arith; words = last_law small32; fills = λ p. refl; found = λ ws. refl }
+  end_law = is_form end_form (omega arith) (λ p. refl) (λ ws. refl) (last_law small32)
 
   -- each form of the table has the laws
   forms_law : AreForms forms
