@@ -1,14 +1,14 @@
 -- All indels that a pass draws are of its kind.
 use Rattle.std.proofs.Common.{ℕ, zero, suc, ◌+◌, eqb, ◌&&◌, List, [], ◌∷◌, ◌++◌}
 use Rattle.std.specs.List.{AllByRecursion}
-use Rattle.random_streams.specs.RandomStream.{hits, scaled}
+use Rattle.random_streams.specs.RandomStream.{hits}
 use Rattle.mutations.specs.declared.change.Change.{Change}
 use Rattle.mutations.specs.declared.indels.Indel.{Indel}
 use Rattle.mutations.specs.declared.indels.Indel.TheVariants.{Insertion, Deletion}
 use Rattle.mutations.specs.declared.indels.IndelTest.{IndelTest}
 use Rattle.mutations.specs.Rates.{RateNumbers, LengthRange}
 use Rattle.mutations.specs.DivideErrors.{Drawn, none_by}
-use Rattle.mutations.specs.Indels.{Draft, Spot, has_room, place_count, indel_at, length_after, draft_after, test_range, test_at, site_rate, single_rate, site_indel, indels_from, site_indels, single_indel, indels}
+use Rattle.mutations.specs.Indels.{Draft, Spot, has_room, indel_at, length_after, draft_after, test_range, test_at, site_rate, single_rate, site_indel, indels_from, site_indels, single_indel, single_spot, indels}
 use Rattle.mutations.proofs.IndelLemmas.{IsIndel, picked}
 
 -- two lists of one kind
@@ -62,11 +62,7 @@ site_indels-kind test words draft =
 pub single_indel-kind : (test : IndelTest) (words : ℕ → ℕ) (draft : Draft)
     → AreOfKind test.kind (single_indel test words draft)
 single_indel-kind test words draft =
-    let drawn : Spot =
-    record {
-      place = scaled (words (draft.word + 1)) (place_count test.kind draft.size);
-      word = draft.word + 2;
-    } in
+    let drawn = single_spot test.kind words draft in
     picked (AreOfKind test.kind)
     (hits (words draft.word) test.rate && has_room test.kind (test_range test) draft.size)
     (indel_at test.kind words drawn) (none_by (draft.word + 1))

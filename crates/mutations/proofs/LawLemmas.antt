@@ -14,7 +14,7 @@ use Rattle.mutations.specs.CopyError.{letter_of_word, after_error}
 use Rattle.mutations.specs.ChildTexts.{AreTextsOfChild, IsLengthWithin}
 use Rattle.mutations.specs.Rates.{RateNumbers, LengthRange}
 use Rattle.mutations.specs.DivideErrors.{Drawn, none_by, in_turn, site_text, pointed_text, after_points, points_from}
-use Rattle.mutations.specs.Indels.{Draft, Spot, has_room, place_count, indel_at, length_after, test_range, test_at, site_rate, single_rate, site_indel, indels_from, site_indels, single_indel, indels}
+use Rattle.mutations.specs.Indels.{Draft, Spot, has_room, place_count, indel_at, length_after, test_range, test_at, site_rate, single_rate, site_indel, indels_from, site_indels, single_indel, single_spot, indels}
 use Rattle.mutations.specs.BirthRecord.{drawn_by_divide, origin_of, child_of}
 use Rattle.mutations.specs.Pass.{Makes, Fits}
 use Rattle.mutations.proofs.ChangeLemmas.{Makes-append, Makes-none}
@@ -169,8 +169,7 @@ single_indel-make : (test : IndelTest) (words : ℕ → ℕ) → ((n : ℕ) → 
 single_indel-make test words fits text k allowed =
     let range : LengthRange = test_range test in
     let len : ℕ = length text in
-    let spot : Spot =
-    record { place = scaled (words (k + 1)) (place_count test.kind len); word = k + 2 } in
+    let spot = single_spot test.kind words (record { size = len; word = k }) in
     let drawn : Letter = letter_of_word (words (k + 2)) in
     let place : spot.place < place_count test.kind len =
     scaled-place (words (k + 1)) (place_count test.kind len) (fits (k + 1))

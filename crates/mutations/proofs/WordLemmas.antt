@@ -1,7 +1,7 @@
 -- How many words the errors of a divide take.
 use Rattle.std.proofs.Common.{◌≡◌, refl, ℕ, zero, suc, ◌+◌, ◌*◌, ◌≤◌, Bool, true, false, cond, eqb, ◌&&◌, List, [], ◌∷◌, ◌++◌, length, arith, length-append}
 use Rattle.instruction_set.specs.declared.letter.Letter.{Letter}
-use Rattle.random_streams.specs.RandomStream.{hits, scaled}
+use Rattle.random_streams.specs.RandomStream.{hits}
 use Rattle.mutations.specs.declared.change.Change.{Change}
 use Rattle.mutations.specs.declared.indels.Indel.{Indel}
 use Rattle.mutations.specs.declared.indels.Indel.TheVariants.{Insertion, Deletion}
@@ -9,7 +9,7 @@ use Rattle.mutations.specs.declared.indels.IndelTest.{IndelTest}
 use Rattle.mutations.specs.CopyError.{after_error}
 use Rattle.mutations.specs.Rates.{RateNumbers, LengthRange}
 use Rattle.mutations.specs.DivideErrors.{Drawn, none_by, in_turn, after_sites, after_points}
-use Rattle.mutations.specs.Indels.{Draft, Spot, has_room, place_count, indel_at, length_after, draft_after, test_range, test_at, site_rate, single_rate, site_indel, indels_from, site_indels, single_indel, indels}
+use Rattle.mutations.specs.Indels.{Draft, Spot, has_room, indel_at, length_after, draft_after, test_range, test_at, site_rate, single_rate, site_indel, indels_from, site_indels, single_indel, single_spot, indels}
 use Rattle.mutations.specs.BirthRecord.{drawn_by_divide}
 use Rattle.mutations.proofs.IndelLemmas.{picked}
 
@@ -149,11 +149,7 @@ site_indels-words test words draft =
 single_indel-words : (test : IndelTest) (words : ℕ → ℕ) (draft : Draft)
     → Single test.kind draft.word (single_indel test words draft)
 single_indel-words test words draft =
-    let drawn : Spot =
-    record {
-      place = scaled (words (draft.word + 1)) (place_count test.kind draft.size);
-      word = draft.word + 2;
-    } in
+    let drawn = single_spot test.kind words draft in
     let one : Tests test.kind (draft.word + 1) 1 (indel_at test.kind words drawn) =
     indel_at-words test.kind words drawn (draft.word + 1) (omega arith) in
     picked (Single test.kind draft.word)

@@ -70,14 +70,18 @@ site_indels test words draft =
     then none_by draft.word
     else indels_from test words draft.size (record { place = 0; word = draft.word })
 
+-- the spot of the indel that the test of a whole text draws
+abbrev pub single_spot : Indel → (ℕ → ℕ) → Draft → Spot
+single_spot kind words draft = record {
+  place = scaled (words (draft.word + 1)) (place_count kind draft.size);
+  word = draft.word + 2;
+}
+
 -- what the test of a whole text draws: an indel at a place that a word draws
 abbrev pub single_indel : IndelTest → (ℕ → ℕ) → Draft → Drawn
 single_indel test words draft =
     if hits (words draft.word) test.rate && has_room test.kind (test_range test) draft.size
-    then indel_at test.kind words (record {
-      place = scaled (words (draft.word + 1)) (place_count test.kind draft.size);
-      word = draft.word + 2;
-    })
+    then indel_at test.kind words (single_spot test.kind words draft)
     else none_by (draft.word + 1)
 
 -- the draft after drawn indels
