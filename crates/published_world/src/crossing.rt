@@ -6,14 +6,12 @@ use crate::publisher::Publisher;
 
 fn sent<T: Send>(_value: &T) {}
 
-pub fn publisher_crosses<P: Picture + Send + Sync>(publisher: &Publisher<P>) {
+pub fn all_cross<P: Picture + Send + Sync>(
+    publisher: &Publisher<P>,
+    observer: &Observer<P>,
+    note: &Note<P>,
+) {
     sent(publisher);
-}
-
-pub fn observer_crosses<P: Picture + Send + Sync>(observer: &Observer<P>) {
     sent(observer);
-}
-
-pub fn note_crosses<P: Picture + Send + Sync>(note: &Note<P>) {
     sent(note);
 }

@@ -43,15 +43,6 @@ where
         (known h.writer.desk.place) };
 }
 
-/// A reader that has seen nothing. There is none while each place is in use.
-fn new_reader<P: Picture>(writer: &PictureWriter<P>) -> Result<PictureReader<P>, Memory>
-    ensures view { IfOk result (λ reader. view reader.place ≡ newcomer) }
-    ensures table { IfOk result
-        (λ reader. reader.place.table_id ≡ writer.now.desk.place.table_id) }
-{
-    Ok(writer.factory().reader()?)
-}
-
 /// Shows a picture and a count that is one more. After an error the same is shown as before.
 fn show<P: Picture, R: Wait>(
     rt: &R,
@@ -99,7 +90,7 @@ impl<P: Picture> History<P> {
     pub fn room(&self) -> Result<PictureReader<P>, Memory>
         ensures { IfOk result (λ reader. view reader.place ≡ newcomer) }
     {
-        new_reader(&self.writer)
+        Ok(self.writer.factory().reader()?)
     }
 
     /// A new reader that has seen the whole history. There is none while each place is in use.
@@ -108,7 +99,7 @@ impl<P: Picture> History<P> {
         ensures reader { IfOk result (λ reader. seen_at reader.place ≡ self.old) }
         ensures publication { IsPublication P.number P.of self.new }
     {
-        let mut reader = new_reader(&self.writer)?;
+        let mut reader = self.writer.factory().reader()?;
         reader.learn::<Learn>(self.writer.tell::<Tell>());
         Ok(reader)
     }

@@ -1,5 +1,5 @@
 use Rattle.published_world.proofs.RuleLemmas.{admits}
-use Rattle.published_world.proofs.history.new_reader.Goals as goal
+use Rattle.published_world.proofs.history.History.room.Goals as goal
 
 pub reader-requires : goal.reader-requires
 reader-requires g c = admits g.P.Picture.number g.P.Picture.of
