@@ -1,5 +1,6 @@
 // The world that a command leaves.
 use crate::served::serve_on;
+use avida_port::{NoGate, SureSink};
 use genome::letters_text;
 use std::alloc::Global;
 use std::test::Fail;
@@ -14,10 +15,11 @@ divide_insert = 0
 divide_delete = 0
 ";
 
-/// Words and an input, which may be the name of one, with the world that is left: how many live in
-/// it or are an ancestor, its cells, its counts, the length of its bank, and who lives where, with
-/// the genome's number. Of the last world it is the begin: an independent program wrote its log, in
-/// which these organisms live at the end or are an ancestor, and so many genomes are different.
+/// Lines of words, and an input, which may be the name of one, with the world that each leaves: how
+/// many live in it or are an ancestor, its cells, its counts, the length of its bank, and who lives
+/// where, with the genome's number. Of the last world it is the begin: an independent program wrote
+/// its log, in which these organisms live at the end or are an ancestor, and so many genomes are
+/// different.
 const WORLDS: &str = "run
 =>
 updates = 0
@@ -30,16 +32,6 @@ bank of 1
 end
 ---
 run --watch 0 --workers 64
-=>
-one cell
-=>
-2 nodes
-1 cells
-U 13 1 1 1 1 97 0 0 0 0 0 0 0 0 0
-bank of 1
-0 0 wzcagcccccccccccccccccccccccccccccccccccccccccccccccccccccccccccccccccccccccccccccccccccccczvfcaxgab
-end
----
 lineage 0
 =>
 one cell
@@ -96,37 +88,6 @@ U 2 0 0 0 0 0 0 0 0 0 0 0 0 0 0
 bank of 1
 end
 ---
-run
-=>
-width = 0
-=>
-no world
----
-run --workers 65
-=>
-one cell
-=>
-no world
----
-lineage 1
-=>
-one cell
-=>
-no world
----
-replay
-=>
-L 2 1 1 0 aaaaaaaa
-E 0
-=>
-no world
----
-trace 1
-=>
-mmmmmmmm
-=>
-no world
----
 run --workers 4
 =>
 width = 5
@@ -142,6 +103,15 @@ prefer_empty = false
 U 12 25 71 71 6 300 0 0 0 0 0 0 0 0 0
 bank of 132
 ";
+
+/// Words and an input that leave no world.
+const NO_WORLDS: [(&str, &str); 5] = [
+    ("run", "width = 0\n"),
+    ("run --workers 65", ONE_CELL),
+    ("lineage 1", ONE_CELL),
+    ("replay", "L 2 1 1 0 aaaaaaaa\nE 0\n"),
+    ("trace 1", "mmmmmmmm\n"),
+];
 
 /// The world as a text, with its counts in the order of the log.
 fn text_of(alloc: Global, world: &World) -> Result<Vec<u8>, Fail> {
@@ -179,23 +149,26 @@ fn text_of(alloc: Global, world: &World) -> Result<Vec<u8>, Fail> {
 #[test]
 fn the_world_after_the_last_update_is_left(rt: HostRuntime) -> Result<(), Fail> {
     let alloc = rt.alloc();
+    let mut watch = SureSink::new(alloc);
     for case in WORLDS.split("---\n") {
-        let (words, rest) = case.split_once("\n=>\n").ok_or("no input")?;
+        let (lines, rest) = case.split_once("\n=>\n").ok_or("no input")?;
         let (input, wanted) = rest.split_once("=>\n").ok_or("no world")?;
         let input = if input == "one cell\n" {
             ONE_CELL
         } else {
             input
         };
-        let served = serve_on(&rt, alloc, words, input.as_bytes())?;
-        match &served.last {
-            Some(world) => {
-                let text = text_of(alloc, world)?;
-                assert!(rt; text.starts_with(wanted.as_bytes()), "{case}");
-                assert_eq!(rt; world.update(), world.stats().update, "{case}");
-            }
-            None => assert_eq!(rt; wanted, "no world\n", "{case}"),
+        for words in lines.split('\n') {
+            let (_, last) = serve_on(&rt, alloc, words, input, &mut watch, &NoGate)?;
+            let world = last.ok_or("nothing left")?;
+            let text = text_of(alloc, &world)?;
+            assert!(rt; text.starts_with(wanted.as_bytes()), "{case}");
+            assert_eq!(rt; world.update(), world.stats().update, "{case}");
         }
+    }
+    for (words, input) in NO_WORLDS {
+        let (_, last) = serve_on(&rt, alloc, words, input, &mut watch, &NoGate)?;
+        assert!(rt; last.is_none(), "{words}");
     }
     Ok(())
 }

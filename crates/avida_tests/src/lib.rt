@@ -5,8 +5,6 @@
 #[cfg(test)]
 mod left_worlds;
 #[cfg(test)]
-mod meetings;
-#[cfg(test)]
 mod served;
 #[cfg(test)]
 mod watched;

@@ -1,5 +1,5 @@
 // A call of `serve` over a source and sinks in memory.
-use avida_port::{Gate, MemSink, MemSource, NoGate, Sink};
+use avida_port::{Gate, MemSource, Sink, SureSink};
 use avida_program::{Status, serve};
 use std::alloc::{AllocError, Global};
 use std::sync::Wait;
@@ -7,31 +7,23 @@ use std::thread::Threads;
 use std::time::Clock;
 use world_core::World;
 
-/// What a call answered and left.
-#[derive(Drop)]
-pub struct Served {
-    pub status: Status,
-    pub last: Option<World>,
-}
-
-/// Serves the words, which spaces part, on these bytes, with this watch and this gate.
-pub fn serve_beside<R: Threads + Wait + Clock + Sync, W: Sink + Send, G: Gate + Sync>(
+/// Serves the words, which spaces part, on this input, with this watch and this gate. It gives the
+/// status, and the world that is left.
+pub fn serve_on<R: Threads + Wait + Clock + Sync, W: Sink + Send, G: Gate + Sync>(
     rt: &R,
     alloc: Global,
     words: &str,
-    bytes: &[u8],
+    input: &str,
     watch: &mut W,
     gate: &G,
-) -> Result<Served, AllocError> {
+) -> Result<(Status, Option<World>), AllocError> {
     let mut texts = Vec::new(alloc);
     for word in words.split(' ') {
-        if !word.is_empty() {
-            texts.push(String::from_str(alloc, word)?)?;
-        }
+        texts.push(String::from_str(alloc, word)?)?;
     }
-    let mut source = MemSource::new(bytes.to_vec(alloc)?, 2, Vec::new(alloc));
-    let mut out = MemSink::new(alloc, Vec::new(alloc));
-    let mut err = MemSink::new(alloc, Vec::new(alloc));
+    let mut source = MemSource::new(input.as_bytes().to_vec(alloc)?, 2, Vec::new(alloc));
+    let mut out = SureSink::new(alloc);
+    let mut err = SureSink::new(alloc);
     let mut last = None;
     let status = serve(
         rt,
@@ -44,16 +36,5 @@ pub fn serve_beside<R: Threads + Wait + Clock + Sync, W: Sink + Send, G: Gate + 
         &mut last,
         gate,
     );
-    Ok(Served { status, last })
-}
-
-/// Serves the words, which spaces part, on these bytes.
-pub fn serve_on<R: Threads + Wait + Clock + Sync>(
-    rt: &R,
-    alloc: Global,
-    words: &str,
-    bytes: &[u8],
-) -> Result<Served, AllocError> {
-    let mut watch = MemSink::new(alloc, Vec::new(alloc));
-    serve_beside(rt, alloc, words, bytes, &mut watch, &NoGate)
+    Ok((status, last))
 }

@@ -1,24 +1,24 @@
-// A watcher that looks while the run goes: each update waits until the picture before it was told.
+// Shards and a watcher that are at work at the same time: each shard of an update waits until the
+// other one has come, and until the picture of the update before was told.
 ghost use Rattle.std.specs.Prelude.{◌≡◌, [], IsOk};
 ghost use Rattle.avida_port.specs.Memory.{sure_sink_seen};
 ghost use Rattle.avida_port.specs.Ports.{Puts};
 
-use crate::meetings::TURNS;
-use crate::served::serve_beside;
+use crate::served::serve_on;
 use avida_port::{Gate, Sink, SinkStop, SureSink};
 use avida_program::Status;
 use std::hint::spin_loop;
 use std::sync::atomic::{AtomicBool, AtomicU64, Ordering};
 use std::test::Fail;
 
-/// One cell for two updates without errors.
-const CONFIG: &str = "width = 1
-height = 1
+/// Two updates of a world that two workers share.
+const CONFIG: &str = "width = 60
+height = 60
 updates = 2
-copy_error = 0
-divide_insert = 0
-divide_delete = 0
 ";
+
+/// For how many turns a shard waits.
+const TURNS: u32 = 100_000_000;
 
 /// A watch that counts its puts where the gate sees it.
 #[derive(Drop)]
@@ -44,7 +44,8 @@ impl Sink for CountedSink<'_> {
     }
 }
 
-/// A gate that holds each update until the watch was put the line of every update before it.
+/// A gate that holds each shard until both shards of its update have come, and until the watch was
+/// put the line of every update before it.
 #[derive(Drop)]
 struct Holding<'a> {
     puts: &'a AtomicU64,
@@ -56,7 +57,8 @@ impl Gate for Holding<'_> {
     fn pass(&self, update: u64, _shard: usize) {
         self.passes.fetch_add(1, Ordering::SeqCst);
         for _ in 0..TURNS {
-            if self.puts.load(Ordering::SeqCst) >= update {
+            let met = self.passes.load(Ordering::SeqCst) / 2 >= update;
+            if met && self.puts.load(Ordering::SeqCst) >= update {
                 return;
             }
             spin_loop();
@@ -66,7 +68,7 @@ impl Gate for Holding<'_> {
 }
 
 #[test]
-fn a_watcher_looks_while_the_run_goes(rt: HostRuntime) -> Result<(), Fail> {
+fn shards_and_a_watcher_are_at_work_at_the_same_time(rt: HostRuntime) -> Result<(), Fail> {
     let alloc = rt.alloc();
     let puts = AtomicU64::new(0);
     let mut watch = CountedSink {
@@ -78,23 +80,23 @@ fn a_watcher_looks_while_the_run_goes(rt: HostRuntime) -> Result<(), Fail> {
         passes: AtomicU64::new(0),
         in_vain: AtomicBool::new(false),
     };
-    let served = serve_beside(
+    let (status, _) = serve_on(
         &rt,
         alloc,
-        "run --watch 1000000",
-        CONFIG.as_bytes(),
+        "run --watch 1000000 --workers 2",
+        CONFIG,
         &mut watch,
         &holding,
     )?;
-    assert_eq!(rt; served.status, Status::Done);
+    assert_eq!(rt; status, Status::Done);
     assert_eq!(rt;
         holding.passes.load(Ordering::SeqCst),
-        2,
-        "an update never came"
+        4,
+        "a shard never came"
     );
     assert!(rt;
         !holding.in_vain.load(Ordering::SeqCst),
-        "an update waited in vain"
+        "a shard waited in vain"
     );
     Ok(())
 }
