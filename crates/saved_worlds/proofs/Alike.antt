@@ -1,20 +1,16 @@
 -- Scenes that differ in nothing but what is told of those that ever were.
-use Rattle.std.proofs.Common.{◌≡◌, ℕ, ◌+◌, Option, Some, None, List, [], ◌∷◌, ◌++◌, map, length, refl, sym, ap, subst, ◌∙◌, length-append}
-use Rattle.std.specs.Prelude.{fold, option_map, slice_set}
-use Rattle.std.specs.List.{filter_map, scan, zip}
+use Rattle.std.proofs.Common.{◌≡◌, ℕ, ◌+◌, List, [], ◌∷◌, ◌++◌, length, refl, sym, subst, ◌∙◌, length-append}
+use Rattle.std.specs.Prelude.{fold}
+use Rattle.std.specs.List.{scan}
 use Rattle.std.specs.Option.{option_to_list}
-use Rattle.birth_board.specs.Placement.{placements_of}
 use Rattle.birth_board.specs.declared.placing.Placing.{Placing}
 use Rattle.organism.specs.OrganismState.{OrganismState}
 use Rattle.lineage_log.specs.Links.{Link}
-use Rattle.log_lines.specs.declared.stats.Stats.{Stats}
-use Rattle.log_lines.specs.Line.{Line, Death, Birth}
 use Rattle.world_config.specs.Values.{ConfigValues}
-use Rattle.world_rules.specs.World.{Occupant, id_at, ids_of}
-use Rattle.world_rules.specs.Settings.{torus_of, placing_round_at}
+use Rattle.world_rules.specs.World.{id_at}
 use Rattle.world_rules.specs.Lives.{CellLife}
 use Rattle.world_rules.specs.Scene.{Scene, next_id, with_death, with_deaths, with_newcomer}
-use Rattle.world_rules.specs.Statistics.{stats_in, scene_stats}
+use Rattle.world_rules.specs.Statistics.{scene_stats}
 use Rattle.world_rules.specs.Update.{Delivery, deaths_of, after_burials, birth_link, child_of_birth, placings_of, with_newborn, turns_of, after_births}
 use Rattle.world_rules.specs.LogText.{death_line, death_lines, birth_line, birth_lines}
 use Rattle.saved_worlds.specs.SavedState.{head_at}
@@ -37,10 +33,7 @@ module _ (u : ℕ) where
   gone_same : {a b : Scene} (cell : ℕ) → Alike u a b
       → a.gone ++ option_to_list (id_at a.cells cell) ≡ b.gone
       ++ option_to_list (id_at b.cells cell)
-  gone_same {a = a} {b = b} cell h =
-      let gone : List ℕ → List (Option Occupant) → List ℕ =
-      λ dead cells. dead ++ option_to_list (id_at cells cell) in
-      ap (λ (dead : List ℕ). gone dead a.cells) h.gone ∙ ap (gone b.gone) h.cells
+  gone_same cell h = rw (h.gone, h.cells) refl
 
   -- the same death
   death_alike : (a b : Scene) (cell : ℕ) → Alike u a b
@@ -49,7 +42,7 @@ module _ (u : ℕ) where
   death_alike a b cell h = record {
     here = h.here;
     there = h.there;
-    cells = ap (λ (cells : List (Option Occupant)). slice_set cells cell None) h.cells;
+    cells = rw h.cells refl;
     gone = gone_same cell h;
     count = h.count;
   }
@@ -63,27 +56,20 @@ module _ (u : ℕ) where
 
   -- and their lines
   death_line_same : (a b : Scene) (cell : ℕ) → Alike u a b → death_line a cell ≡ death_line b cell
-  death_line_same a b cell h =
-      let line : ℕ → List (Option Occupant) → Option Line =
-      λ update cells. option_map (λ id. Death id update cell) (id_at cells cell) in
-      ap (λ k. line k a.cells) (same_update a b h) ∙ ap (line b.update) h.cells
+  death_line_same a b cell h = rw (same_update a b h, h.cells) refl
 
   -- at each of these cells the same line, or none
   death_lines_scan : (cells : List ℕ) (a b : Scene) → Alike u a b
       → scan with_death death_line a cells ≡ scan with_death death_line b cells
   death_lines_scan [] a b h = refl
   death_lines_scan (cell ∷ cells) a b h =
-      ap (λ (line : Option Line). line ∷ scan with_death death_line (with_death a cell) cells)
-      (death_line_same a b cell h)
-      ∙ ap (λ (lines : List (Option Line)). death_line b cell ∷ lines)
-      (death_lines_scan cells (with_death a cell) (with_death b cell) (death_alike a b cell h))
+      let first = death_line_same a b cell h in
+      let rest = death_lines_scan cells _ _ (death_alike a b cell h) in cc
 
   -- the same lines of deaths
   pub death_lines_same : (cells : List ℕ) (a b : Scene) → Alike u a b
       → death_lines a cells ≡ death_lines b cells
-  death_lines_same cells a b h =
-      ap (λ (lines : List (Option Line)). filter_map (λ line. line) lines)
-      (death_lines_scan cells a b h)
+  death_lines_same cells a b h = rw (death_lines_scan cells a b h) refl
 
   -- the same burials
   pub burials_alike : (lives : List CellLife) (a b : Scene) → Alike u a b
@@ -98,11 +84,9 @@ module _ (u : ℕ) where
   newcomer_alike a b link o h = record {
     here = h.here;
     there = h.there;
-    cells = ap (λ (cells : List (Option Occupant)). slice_set cells link.cell
-        (Some (record { id = link.id; organism = o }))) h.cells;
+    cells = rw h.cells refl;
     gone = gone_same link.cell h;
-    count = length-append a.everyone (link ∷ []) ∙ ap (λ k. k + 1) h.count
-        ∙ sym (length-append b.everyone (link ∷ []));
+    count = simp length-append (rw h.count refl);
   }
 
   module _ (config : ConfigValues) (update id : ℕ) where
@@ -113,9 +97,7 @@ module _ (u : ℕ) where
     -- the same newborn
     link_same : (a b : Scene) (d : Delivery) (cell : ℕ) → Alike u a b
         → birth_link (next_id a) a.update d cell ≡ birth_link (next_id b) b.update d cell
-    link_same a b d cell h =
-        ap (λ k. birth_link k a.update d cell) h.count
-        ∙ ap (λ k. birth_link (next_id b) k d cell) (same_update a b h)
+    link_same a b d cell h = rw (h.count, same_update a b h) refl
 
     -- the same birth
     newborn_alike : (a b : Scene) (turn : Delivery × Placing) → Alike u a b
@@ -139,19 +121,12 @@ module _ (u : ℕ) where
     placings_same : (births : List Delivery) (a b : Scene) → Alike u a b
         → placings_of headed a births ≡ placings_of config b births
     unfolding placings_of
-    placings_same births a b h =
-        let placed : ℕ → ℕ → List (Option Occupant) → List Placing =
-        λ now first cells. (placements_of (torus_of config)
-        (map (λ (d : Delivery). d.cell) births) (ids_of cells)
-        (placing_round_at config now first)).placings in
-        ap (λ k. placed k (next_id a) a.cells) (same_update a b h)
-        ∙ ap (λ k. placed b.update k a.cells) h.count ∙ ap (placed b.update (next_id b)) h.cells
+    placings_same births a b h = cc (same_update a b h, h.count, h.cells)
 
     -- the same newborns with their placings
     turns_same : (births : List Delivery) (a b : Scene) → Alike u a b
         → turns_of headed a births ≡ turns_of config b births
-    turns_same births a b h =
-        ap (λ (placings : List Placing). zip births placings) (placings_same births a b h)
+    turns_same births a b h = rw (placings_same births a b h) refl
 
     -- the same births
     pub births_alike : (births : List Delivery) (a b : Scene) → Alike u a b
@@ -165,13 +140,7 @@ module _ (u : ℕ) where
     -- and their lines
     birth_line_same : (a b : Scene) (turn : Delivery × Placing) → Alike u a b
         → birth_line a turn ≡ birth_line b turn
-    birth_line_same a b turn h =
-        let line : ℕ → ℕ → List (Option Occupant)
-        → Line = λ newest now cells. Birth newest turn.0.parent now turn.1.cell
-        (id_at cells turn.1.cell) turn.0.newborn.origin in
-        ap (λ k. line k a.update a.cells) h.count
-        ∙ ap (λ k. line (next_id b) k a.cells) (same_update a b h)
-        ∙ ap (line (next_id b) b.update) h.cells
+    birth_line_same a b turn h = rw (h.count, same_update a b h, h.cells) refl
 
     -- the same line of each newborn with its placing
     birth_lines_scan : (turns : List (Delivery × Placing)) (a b : Scene) → Alike u a b
@@ -179,11 +148,8 @@ module _ (u : ℕ) where
         ≡ scan (with_newborn config) birth_line b turns
     birth_lines_scan [] a b h = refl
     birth_lines_scan (turn ∷ turns) a b h =
-        ap (λ (line : Line). line ∷ scan (with_newborn headed) birth_line
-        (with_newborn headed a turn) turns) (birth_line_same a b turn h)
-        ∙ ap (λ (lines : List Line). birth_line b turn ∷ lines)
-        (birth_lines_scan turns (with_newborn headed a turn) (with_newborn config b turn)
-        (newborn_alike a b turn h))
+        let first = birth_line_same a b turn h in
+        let rest = birth_lines_scan turns _ _ (newborn_alike a b turn h) in cc
 
     -- the same lines of births
     pub birth_lines_same : (births : List Delivery) (a b : Scene) → Alike u a b
@@ -196,9 +162,4 @@ module _ (u : ℕ) where
   -- the same counts
   pub stats_same : (a b : Scene) (births : ℕ) → Alike u a b
       → scene_stats a births ≡ scene_stats b births
-  stats_same a b births h =
-      let stats : ℕ → List (Option Occupant) → List ℕ → Stats =
-      λ now cells dead. stats_in now cells births (length dead) in
-      ap (λ k. stats k a.cells a.gone) (same_update a b h)
-      ∙ ap (λ (cells : List (Option Occupant)). stats b.update cells a.gone) h.cells
-      ∙ ap (stats b.update b.cells) h.gone
+  stats_same a b births h = rw (same_update a b h, h.cells, h.gone) refl

@@ -5,7 +5,6 @@ use Rattle.std.specs.List.{AllByRecursion, enumerate_from, range_with_len}
 use Rattle.std.proofs.lemmas.Bool.{and_parts, leb-true}
 use Rattle.std.proofs.lemmas.Bool.Decides.{nat_tests}
 use Rattle.std.proofs.lemmas.List.Elements.{recursion_from_All}
-use Rattle.mutations.specs.Rates.{RateNumbers}
 use Rattle.world_config.specs.declared.config.Config.{Config}
 use Rattle.world_config.specs.Bounds.{frame_of}
 use Rattle.world_config.specs.Events.{EventValue, what_fits, event_fits, event_values}
@@ -98,15 +97,7 @@ module _ (config : ConfigValues) (over : HappensInTime config) where
     unfolding settings_at
     settings_same u later =
         let rates = own_rates u ∙ rates_stay (update + 1) u (omega (arith, ended)) later in
-        let settings : RateNumbers → SettingNumbers =
-        λ r. record {
-          rates = r;
-          rules = config.rules;
-          death = config.death;
-          age_limit = config.age_limit;
-          memory_limit = config.memory_limit;
-        } in
-        ap settings rates
+        rw rates refl
 
     -- the life of a cell is the same
     life_same : (u cell steps : ℕ) (slot : Option Occupant) → config.updates < u

@@ -1,23 +1,16 @@
 -- The worlds of a state and of its run agree, update by update, and so do their lines.
-use Rattle.std.proofs.Common.{◌≡◌, ℕ, Option, zero, suc, ◌+◌, ◌<◌, ◌≤◌, List, [], ◌∷◌, ◌++◌, length, refl, sym, ap, subst, ◌∙◌, arith, append_assoc, append-nil}
-use Rattle.std.specs.Prelude.{fold}
-use Rattle.std.specs.List.{flat_map, scan}
+use Rattle.std.proofs.Common.{◌≡◌, ℕ, zero, suc, ◌+◌, ◌<◌, ◌≤◌, List, [], ◌++◌, length, refl, sym, ap, ◌∙◌, arith, append_assoc, add-zero, append-nil}
 use Rattle.std.proofs.lemmas.List.{length-replicate}
-use Rattle.mutations.specs.Rates.{RateNumbers}
 use Rattle.lineage_log.specs.LogGrammar.{lines_text}
-use Rattle.log_lines.specs.Line.{Line, Count}
-use Rattle.log_lines.specs.declared.stats.Stats.{Stats}
-use Rattle.world_config.specs.Events.{EventValue}
 use Rattle.world_config.specs.Values.{ConfigValues}
-use Rattle.world_rules.specs.World.{World, Occupant}
+use Rattle.world_rules.specs.World.{World}
 use Rattle.world_rules.specs.Settings.{rates_at}
 use Rattle.world_rules.specs.Lives.{CellLife}
 use Rattle.world_rules.specs.Scene.{Scene}
-use Rattle.world_rules.specs.Statistics.{scene_stats}
-use Rattle.world_rules.specs.Update.{after_lives, deaths_of, after_burials, births_of, after_births, after_event, after_events, events_at, last_scene, scene_of_lives, world_of, lives_after, next_scene, next_world}
+use Rattle.world_rules.specs.Update.{after_lives, deaths_of, after_burials, births_of, after_births, after_events, events_at, last_scene, scene_of_lives, world_of, lives_after, next_scene, next_world}
 use Rattle.world_rules.specs.WorldRun.{world_after}
-use Rattle.world_rules.specs.LogText.{death_lines, birth_lines, event_lines, lines_of_event, lines_of_lives, update_lines, head_text, update_text, updates_text, end_text, log_text}
-use Rattle.saved_worlds.specs.SavedState.{SavedState, head_at, state_of_world, state_of}
+use Rattle.world_rules.specs.LogText.{event_lines, lines_of_lives, update_lines, head_text, update_text, updates_text, end_text, log_text}
+use Rattle.saved_worlds.specs.SavedState.{head_at, state_of_world, state_of}
 use Rattle.saved_worlds.specs.Resuming.{config_of_head, forgotten, world_of_state, with_world, next_state, saved_state_after, next_text, later_texts, continued_text}
 use Rattle.saved_worlds.proofs.Updates.{update_of}
 use Rattle.saved_worlds.proofs.Quiet.{HappensInTime, no_events, rates_stay, lives_same}
@@ -60,13 +53,11 @@ module _ (config : ConfigValues) (over : HappensInTime config) (w : World)
   -- once the events are over they change nothing
   quiet : (c : ConfigValues) (s : Scene) → events_at c s.update ≡ [] → after_events c s ≡ s
   unfolding after_events
-  quiet c s none = ap (fold (after_event c) s) none
+  quiet c s none = rw none refl
 
   -- nor do they write lines
   quiet_lines : (c : ConfigValues) (s : Scene) → events_at c s.update ≡ [] → event_lines c s ≡ []
-  quiet_lines c s none = ap
-      (λ (events : List (ℕ × EventValue)). flat_map (λ lines. lines)
-      (scan (after_event c) lines_of_event s events)) none
+  quiet_lines c s none = rw none refl
 
   -- the scenes after burials and births
   born_alike : (lives : List CellLife)
@@ -91,8 +82,7 @@ module _ (config : ConfigValues) (over : HappensInTime config) (w : World)
       let first : after_events headed a ≡ a = quiet headed a (none_headed a.update) in
       let second : after_events config b ≡ b =
       quiet config b (ap (events_at config) h.there ∙ no_events config over next later) in
-      subst (λ (s : Scene). Alike next s (after_events config b)) (sym first)
-      (subst (λ (s : Scene). Alike next a s) (sym second) h)
+      rw (first, second) h
 
   -- the lives of the saved world are those of the run's
   lives_alike : lives_after headed saved ≡ lives_after config w
@@ -101,32 +91,12 @@ module _ (config : ConfigValues) (over : HappensInTime config) (w : World)
   -- the scene after the saved world is like that after the run's
   scene_alike : Alike next (next_scene headed saved) (next_scene config w)
   unfolding next_scene scene_of_lives
-  scene_alike =
-      subst (λ (lives : List CellLife).
-      Alike next (last_scene headed (after_lives next saved.everyone lives) lives)
-      (last_scene config (after_lives next w.everyone (lives_after config w))
-      (lives_after config w))) (sym lives_alike) (last_alike (lives_after config w))
-
-  -- the state of an update, an id, rates and cells
-  abbrev made : ℕ → ℕ → RateNumbers → List (Option Occupant) → SavedState
-  made update id rates cells =
-      record {
-        head = record (head_at config 0 0) { update = update; next_id = id; rates = rates };
-        cells = cells;
-      }
+  scene_alike = rw lives_alike (last_alike (lives_after config w))
 
   -- the next state
   state_from : (a b : Scene) → Alike next a b → rates_at config next ≡ rates_at config (next + 1)
       → with_world (state_of_world config w) (world_of a) ≡ state_of_world config (world_of b)
-  state_from a b h stay =
-      let old = rates_at config next in
-      let rates : old ≡ rates_at config (b.update + 1) =
-      stay ∙ ap (λ k. rates_at config (k + 1)) (sym h.there) in
-      ap (λ k. made k (length a.everyone) old a.cells) (h.here ∙ sym h.there)
-      ∙ ap (λ k. made b.update k old a.cells) h.count
-      ∙ ap (λ (r : RateNumbers). made b.update (length b.everyone) r a.cells) rates
-      ∙ ap (λ (cells : List (Option Occupant)). made b.update (length b.everyone)
-      (rates_at config (b.update + 1)) cells) h.cells
+  state_from a b h stay = rw (h.here, h.there, h.count, h.cells, stay) refl
 
   -- the state after the state of a world is that of the next world
   pub next_state_is : next_state (state_of_world config w)
@@ -134,10 +104,6 @@ module _ (config : ConfigValues) (over : HappensInTime config) (w : World)
   unfolding next_state next_world
   next_state_is = state_from (next_scene headed saved) (next_scene config w) scene_alike
       (rates_stay config over next (next + 1) later (omega (arith, later)))
-
-  -- the lines of an update, part by part
-  abbrev glued : List Line → List Line → List Line → Stats → List Line
-  glued deaths births events stats = deaths ++ births ++ events ++ Count stats ∷ []
 
   -- of the same lives the update writes the same lines after both worlds
   lines_alike : (lives : List CellLife)
@@ -159,27 +125,13 @@ module _ (config : ConfigValues) (over : HappensInTime config) (w : World)
       (ap (events_at config) h.there ∙ no_events config over next later) in
       let stats = stats_same next (last_scene headed a lives) (last_scene config b lives)
       (length (births_of lives)) (last_alike lives) in
-      let dead = death_lines b (deaths_of lives) in
-      let born = birth_lines headed (after_burials a lives) (births_of lives) in
-      let born' = birth_lines config (after_burials b lives) (births_of lives) in
-      let happened =
-      event_lines headed (after_births headed (after_burials a lives) (births_of lives)) in
-      let happened' =
-      event_lines config (after_births config (after_burials b lives) (births_of lives)) in
-      let counted = scene_stats (last_scene headed a lives) (length (births_of lives)) in
-      ap (λ (l : List Line). glued l born happened counted) deaths
-      ∙ ap (λ (l : List Line). glued dead l happened counted) births
-      ∙ ap (λ (l : List Line). glued dead born' l counted) (none ∙ sym nothing)
-      ∙ ap (λ (s : Stats). glued dead born' happened' s) stats
+      rw (deaths, births, none, nothing, stats) refl
 
   -- the update writes the same lines after both worlds
   update_lines_same : update_lines headed saved ≡ update_lines config w
   unfolding update_lines
   update_lines_same =
-      subst (λ (lives : List CellLife). lines_of_lives headed
-      (after_lives next saved.everyone lives) lives
-      ≡ lines_of_lives config (after_lives next w.everyone (lives_after config w))
-      (lives_after config w)) (sym lives_alike) (lines_alike (lives_after config w))
+      rw lives_alike (lines_alike (lives_after config w))
 
   -- the text of the update
   pub next_text_is : next_text (state_of_world config w) ≡ lines_text (update_lines config w)
@@ -201,8 +153,7 @@ module _ (config : ConfigValues) (over : HappensInTime config) where
       ≡ state_of_world config (world_after config (config.updates + more))
   unfolding saved_state_after state_of world_after
   state_goes_on zero =
-      let same : config.updates + zero ≡ config.updates = omega arith in
-      ap (λ k. state_of_world config (world_after config k)) (sym same)
+      rw add-zero refl
   state_goes_on (suc more) =
       ap next_state (state_goes_on more)
       ∙ next_state_is config over (world_after config (config.updates + more)) (past more)
@@ -222,16 +173,12 @@ module _ (config : ConfigValues) (over : HappensInTime config) where
       → updates_text config config.updates ++ later_texts (state_of config) more
       ≡ updates_text config (config.updates + more)
   texts_go_on zero =
-      let same : config.updates + zero ≡ config.updates = omega arith in
-      append-nil (updates_text config config.updates) ∙ ap (updates_text config) (sym same)
+      rw (add-zero, append-nil (updates_text config config.updates)) refl
   texts_go_on (suc more) =
       let front = updates_text config config.updates in
       let others = later_texts (state_of config) more in
       let text = next_text (saved_state_after (state_of config) more) in
-      sym (append_assoc front others text)
-      ∙ ap (λ (l : List ℕ). l ++ text) (texts_go_on more)
-      ∙ ap (λ (l : List ℕ). updates_text config (config.updates + more) ++ l) (text_goes_on more)
-      ∙ ap (updates_text config) (sym (one_more more))
+      rw (← append_assoc front others text, texts_go_on more, text_goes_on more, one_more more) refl
 
   -- the head of the run's state has the run's update
   head_update : (state_of config).head.update ≡ config.updates
@@ -250,7 +197,9 @@ module _ (config : ConfigValues) (over : HappensInTime config) where
       let end = end_text ((state_of config).head.update + more) in
       let last : end ≡ end_text (config.updates + more) =
       ap (λ k. end_text (k + more)) head_update in
-      sym (append_assoc (head ++ front) others end)
-      ∙ ap (λ (l : List ℕ). l ++ end)
-      (append_assoc head front others ∙ ap (λ (l : List ℕ). head ++ l) (texts_go_on more))
-      ∙ ap (λ (l : List ℕ). (head ++ updates_text config (config.updates + more)) ++ l) last
+      rw (
+        ← append_assoc (head ++ front) others end,
+        append_assoc head front others,
+        texts_go_on more,
+        last,
+      ) refl

@@ -1,13 +1,12 @@
 -- Each world of a run has the number of its update.
 use Rattle.std.proofs.Common.{◌≡◌, ℕ, zero, suc, ◌+◌, List, [], ◌∷◌, refl, ap, ◌∙◌, arith}
 use Rattle.std.specs.Prelude.{fold}
-use Rattle.birth_board.specs.declared.placing.Placing.{Placing}
-use Rattle.world_config.specs.Events.{EventValue, WhatValue, inject, clear, rate}
+use Rattle.world_config.specs.Events.{WhatValue, inject, clear, rate}
 use Rattle.world_config.specs.Values.{ConfigValues}
 use Rattle.world_rules.specs.World.{World, first_world}
 use Rattle.world_rules.specs.Lives.{CellLife}
 use Rattle.world_rules.specs.Scene.{Scene, with_death, cells_from, with_newcomer}
-use Rattle.world_rules.specs.Update.{Delivery, with_newborn, deaths_of, after_burials, births_of, turns_of, events_at, after_births, after_what, after_event, after_events, last_scene, scene_of_lives, next_scene, next_world, lives_after, after_lives}
+use Rattle.world_rules.specs.Update.{with_newborn, deaths_of, after_burials, births_of, turns_of, events_at, after_births, after_what, after_event, after_events, last_scene, scene_of_lives, next_scene, next_world, lives_after, after_lives}
 use Rattle.world_rules.specs.WorldRun.{world_after}
 
 -- what changes scenes one after another keeps the update
@@ -17,43 +16,28 @@ fold_keeps : {X : Type 0} (f : Scene → X → Scene)
 fold_keeps f each s [] = refl
 fold_keeps f each s (x ∷ xs) = fold_keeps f each (f s x) xs ∙ each s x
 
--- a death
-death_keeps : (s : Scene) (cell : ℕ) → (with_death s cell).update ≡ s.update
-unfolding with_death
-death_keeps s cell = refl
-
--- a newborn
-newborn_keeps : (config : ConfigValues) (s : Scene) (turn : Delivery × Placing)
-    → (with_newborn config s turn).update ≡ s.update
-unfolding with_newborn with_newcomer
-newborn_keeps config s turn = refl
-
 -- an event
 what_keeps : (config : ConfigValues) (s : Scene) (nth : ℕ) (what : WhatValue)
     → (after_what config s nth what).update ≡ s.update
-unfolding with_newcomer
+unfolding with_newcomer with_death
 what_keeps config s nth (inject cell letters) = refl
 what_keeps config s nth (clear first last) =
-    fold_keeps with_death death_keeps s (cells_from first last)
+    fold_keeps with_death (λ s cell. refl) s (cells_from first last)
 what_keeps config s nth (rate name ppm) = refl
-
--- an event, given with its place
-event_keeps : (config : ConfigValues) (s : Scene) (event : ℕ × EventValue)
-    → (after_event config s event).update ≡ s.update
-unfolding after_event
-event_keeps config s event = what_keeps config s event.0 event.1.what
 
 -- the end of an update
 last_keeps : (config : ConfigValues) (s : Scene) (lives : List CellLife)
     → (last_scene config s lives).update ≡ s.update
-unfolding last_scene after_burials after_births after_events
+unfolding last_scene after_burials after_births after_events after_event with_newborn with_newcomer
+    with_death
 last_keeps config s lives =
     let buried = after_burials s lives in
     let born = after_births config buried (births_of lives) in
-    fold_keeps (after_event config) (event_keeps config) born (events_at config born.update)
-    ∙ fold_keeps (with_newborn config) (newborn_keeps config) buried
+    fold_keeps (after_event config) (λ s event. what_keeps config s event.0 event.1.what) born
+    (events_at config born.update)
+    ∙ fold_keeps (with_newborn config) (λ s turn. refl) buried
     (turns_of config buried (births_of lives))
-    ∙ fold_keeps with_death death_keeps s (deaths_of lives)
+    ∙ fold_keeps with_death (λ s cell. refl) s (deaths_of lives)
 
 -- the next world
 pub next_update : (config : ConfigValues) (w : World) → (next_world config w).update ≡ w.update + 1
