@@ -1,14 +1,13 @@
 -- All cells live as an update starts, and nothing else happens.
 use Rattle.std.proofs.Common.{◌≡◌, ℕ, zero, suc, ◌+◌, ◌<◌, ◌≤◌, false, length, Some, refl, sym, subst, ap, ◌∙◌, arith, add-zero}
 use Rattle.std.specs.Prelude.{IsSome, IsNone}
-use borrow.Author.Count.{below_more}
 use Rattle.world_config.specs.Values.{ConfigValues}
 use Rattle.world_rules.specs.World.{World}
 use Rattle.event_orders.specs.declared.schedule.ScheduleEvent.TheVariants.{Run}
 use Rattle.event_orders.specs.State.{State, life_in}
-use Rattle.event_orders.specs.Schedule.{with_value_at, state_after_event}
+use Rattle.event_orders.specs.Schedule.{state_after_event}
 use Rattle.event_orders.proofs.Results.{AreLives, result_kept}
-use Rattle.event_orders.proofs.Going.{at_same, at_other, Any, Goes, goes_one, goes_on, goes_none}
+use Rattle.event_orders.proofs.Going.{at_either, Any, Goes, goes_one, goes_on, goes_none}
 
 module _ (config : ConfigValues) where
   -- the cells below a have lived, and nothing else has happened since s
@@ -24,13 +23,10 @@ module _ (config : ConfigValues) where
   lived_next : (a : ℕ) (s t : State) → a < length t.world.cells → Lived a s t
       → Lived (a + 1) s (state_after_event config t (Run a))
   lived_next a s t within h = record {
-    ran = below_more (λ c. IsSome (with_value_at t.results a (Some (life_in config t.world a)) c)) a
-        (λ c l. rw (at_other t.results a c (Some (life_in config t.world a)) (λ e. omega arith))
-        (h.ran c l))
-        (rw (at_same t.results a a (Some (life_in config t.world a)) refl) refl);
-    idle =
-        λ c l. rw (at_other t.results a c (Some (life_in config t.world a)) (λ e. omega arith))
-        (h.idle c (omega arith));
+    ran = λ c l. at_either IsSome t.results a c (Some (life_in config t.world a)) (λ e. refl)
+        (λ n. h.ran c (omega (arith, n)));
+    idle = λ c l. at_either IsNone t.results a c (Some (life_in config t.world a))
+        (λ e. absurd (omega arith)) (λ n. h.idle c (omega arith));
     lives = result_kept config t.world t.results a within h.lives;
     world = h.world;
     history = h.history;

@@ -1,7 +1,6 @@
 -- The bank between two ends of updates.
-use Rattle.std.proofs.Common.{◌≡◌, ◌⊎◌, ℕ, ◌+◌, ◌<◌, Bool, true, false, List, [], ◌∷◌, ◌++◌, length, map, Contains, refl, sym, subst, ap, ◌∙◌, inr, ⊎_elim}
-use Rattle.std.specs.Prelude.{if◌then◌else◌, ◌↔◌, slice_index_or, ◌==◌}
-use Rattle.std.proofs.lemmas.Bool.{eqb-true}
+use Rattle.std.proofs.Common.{◌≡◌, ◌⊎◌, ℕ, ◌+◌, ◌<◌, Bool, true, List, [], ◌∷◌, ◌++◌, length, map, Contains, refl, sym, subst, ap, ◌∙◌, inr, ⊎_elim}
+use Rattle.std.specs.Prelude.{◌↔◌, slice_index_or}
 use Rattle.std.proofs.lemmas.List.Elements.{Contains-append_left, Contains-append_right, Contains-append_cases, Contains-push_cases, Contains-push, filter_map-append}
 use Rattle.genotype_bank.specs.declared.view.Entry.{Entry}
 use Rattle.genotype_bank.specs.BankHistory.{genomes_of, interned_genome}
@@ -14,6 +13,7 @@ use Rattle.event_orders.specs.declared.schedule.ScheduleEvent.TheVariants.{Inter
 use Rattle.event_orders.specs.State.{State, genome_entry, life_in, newborn_genomes, result_of, results_of, injections_at}
 use Rattle.event_orders.specs.Schedule.{MayIntern, MayGather, with_value_at, with_update, state_after_event}
 use Rattle.event_orders.proofs.Everyone.{genomes_ever, genomes_next, births_are}
+use Rattle.event_orders.proofs.Going.{at_either}
 use Rattle.event_orders.proofs.Results.{lives_in, born_in, AreLives, results_are_lives, newborn_is_birth, birth_is_newborn}
 
 -- what holds of the bank between two ends of updates
@@ -50,23 +50,14 @@ module _ (config : ConfigValues) where
       → (c k : ℕ) → with_value_at done cell (with_value_at (done cell) nth true) c k ≡ true
       → Contains (known ++ slice_index_or (newborns cell) nth [] ∷ [])
       (slice_index_or (newborns c) k [])
-  young_kept known newborns done cell nth had c k = by (c == cell) (eqb-true c cell)
-    where
-      here : (d : Bool) → (d ≡ true → k ≡ nth) → c ≡ cell → (if d then true else done cell k) ≡ true
-          → Contains (known ++ slice_index_or (newborns cell) nth [] ∷ [])
-          (slice_index_or (newborns c) k [])
-      here true f e h = subst (Contains (known ++ slice_index_or (newborns cell) nth [] ∷ []))
-          (ap (λ k. slice_index_or (newborns cell) k []) (sym (f refl))
-          ∙ ap (λ c. slice_index_or (newborns c) k []) (sym e))
-          (Contains-push known (slice_index_or (newborns cell) nth []))
-      here false f e h = Contains-append_left known _ _ (had c k (ap (λ c. done c k) e ∙ h))
-
-      by : (b : Bool) → (b ≡ true → c ≡ cell) →
-          (if b then (λ j. if j == nth then true else done cell j) else done c) k ≡ true
-          → Contains (known ++ slice_index_or (newborns cell) nth [] ∷ [])
-          (slice_index_or (newborns c) k [])
-      by true e h = here (k == nth) (eqb-true k nth) (e refl) h
-      by false e h = Contains-append_left known _ _ (had c k h)
+  young_kept known newborns done cell nth had c k =
+      let Kept = λ (b : Bool). b ≡ true → Contains
+      (known ++ slice_index_or (newborns cell) nth [] ∷ []) (slice_index_or (newborns c) k []) in
+      at_either (λ (f : ℕ → Bool). Kept (f k)) done cell c (with_value_at (done cell) nth true)
+      (λ e. at_either Kept (done cell) nth k true
+      (λ f h. rw (e, f) (Contains-push known (slice_index_or (newborns cell) nth [])))
+      (λ n h. Contains-append_left known _ _ (had c k (ap (λ c. done c k) e ∙ h))))
+      (λ n h. Contains-append_left known _ _ (had c k h))
 
   -- a newborn was interned, and the bank is as it was to be
   pub intern_banked : (s : State) (seat cell nth : ℕ) → MayIntern s cell nth

@@ -1,5 +1,5 @@
 -- The genomes of all organisms that were ever in a world, through an update.
-use Rattle.std.proofs.Common.{◌≡◌, ◌∙◌, refl, sym, ap, ℕ, zero, suc, ◌+◌, List, [], ◌∷◌, ◌++◌, length, map, fold, Option, None, Some, arith, append_assoc, append-nil, add-one}
+use Rattle.std.proofs.Common.{◌≡◌, ◌∙◌, refl, sym, subst, ap, ℕ, zero, suc, ◌+◌, List, [], ◌∷◌, ◌++◌, length, map, fold, Option, None, Some, arith, append_assoc, append-nil, add-one}
 use Rattle.std.specs.List.{AllByRecursion, zip, flat_map, filter_map, cons_option, enumerate_from, range_with_len}
 use Rattle.std.specs.Option.{option_to_list}
 use Rattle.std.proofs.lemmas.List.{map-append, length-map}
@@ -28,107 +28,61 @@ genomes_ever everyone = map (λ link. link.genome) everyone
 abbrev pub birth_genome : Delivery → List Letter
 birth_genome b = b.newborn.genome
 
+-- from one scene to the next the organisms with these genomes have come, within one update
+record Comes (scene next : Scene) (come : List (List Letter)) : Type 0 where
+  genomes : genomes_ever next.everyone ≡ genomes_ever scene.everyone ++ come
+  update : next.update ≡ scene.update
+
+-- in a scene that stays nobody comes
+comes_none : (scene : Scene) → Comes scene scene []
+comes_none scene = record { genomes = sym (append-nil (genomes_ever scene.everyone)); update = refl }
+
+-- some come, and then others
+comes_on : {a b c : Scene} (first second : List (List Letter)) → Comes a b first → Comes b c second
+    → Comes a c (first ++ second)
+comes_on {a} first second before after = record {
+  genomes = after.genomes ∙ ap (λ l. l ++ second) before.genomes
+      ∙ append_assoc (genomes_ever a.everyone) first second;
+  update = after.update ∙ before.update;
+}
+
 -- a newcomer is one more
 newcomer_comes : (scene : Scene) (link : Link) (organism : OrganismState)
-    → genomes_ever (with_newcomer scene link organism).everyone ≡ genomes_ever scene.everyone
-    ++ link.genome ∷ []
+    → Comes scene (with_newcomer scene link organism) (link.genome ∷ [])
 unfolding with_newcomer
-newcomer_comes scene link organism = map-append (λ (l : Link). l.genome) scene.everyone (link ∷ [])
+newcomer_comes scene link organism = record {
+  genomes = map-append (λ (l : Link). l.genome) scene.everyone (link ∷ []);
+  update = refl;
+}
 
--- a newcomer leaves the update
-newcomer_update : (scene : Scene) (link : Link) (organism : OrganismState)
-    → (with_newcomer scene link organism).update ≡ scene.update
-unfolding with_newcomer
-newcomer_update scene link organism = refl
-
--- a death changes neither the list of all nor the update
-death_keeps : (scene : Scene) (cell : ℕ) → ((with_death scene cell).everyone ≡ scene.everyone)
-    × ((with_death scene cell).update ≡ scene.update)
+-- with deaths nobody comes
+deaths_keep : (scene : Scene) (cells : List ℕ) → Comes scene (fold with_death scene cells) []
 unfolding with_death
-death_keeps scene cell = (refl, refl)
-
--- nor do several deaths
-deaths_keep : (scene : Scene) (cells : List ℕ)
-    → ((fold with_death scene cells).everyone ≡ scene.everyone)
-    × ((fold with_death scene cells).update ≡ scene.update)
-deaths_keep scene [] = (refl, refl)
-deaths_keep scene (cell ∷ cells) =
-    let rest = deaths_keep (with_death scene cell) cells in
-    let one = death_keeps scene cell in
-    (rest.0 ∙ one.0, rest.1 ∙ one.1)
-
--- a newborn is one more
-birth_comes : (config : ConfigValues) (scene : Scene) (turn : Delivery × Placing)
-    → genomes_ever (with_newborn config scene turn).everyone ≡ genomes_ever scene.everyone
-    ++ birth_genome turn.0 ∷ []
-unfolding with_newborn
-birth_comes config scene turn =
-    newcomer_comes scene (birth_link (next_id scene) scene.update turn.0 turn.1.cell)
-    (child_of_birth config turn.0 turn.1)
-
--- a newborn leaves the update
-birth_update : (config : ConfigValues) (scene : Scene) (turn : Delivery × Placing)
-    → (with_newborn config scene turn).update ≡ scene.update
-unfolding with_newborn
-birth_update config scene turn =
-    newcomer_update scene (birth_link (next_id scene) scene.update turn.0 turn.1.cell)
-    (child_of_birth config turn.0 turn.1)
+deaths_keep scene [] = comes_none scene
+deaths_keep scene (cell ∷ cells) = let rest = deaths_keep (with_death scene cell) cells in
+    record { genomes = rest.genomes; update = rest.update }
 
 -- the newborns come, each with its placing
 births_come : (config : ConfigValues) (scene : Scene) (births : List Delivery)
     (placings : List Placing) → length placings ≡ length births
-    → genomes_ever (fold (with_newborn config) scene (zip births placings)).everyone
-    ≡ genomes_ever scene.everyone ++ map birth_genome births
-births_come config scene [] placings as_many = sym (append-nil (genomes_ever scene.everyone))
+    → Comes scene (fold (with_newborn config) scene (zip births placings)) (map birth_genome births)
+unfolding with_newborn
+births_come config scene [] placings as_many = comes_none scene
 births_come config scene (b ∷ births) [] as_many = absurd (omega (arith, as_many))
 births_come config scene (b ∷ births) (p ∷ placings) as_many =
-    births_come config (with_newborn config scene (b, p)) births placings (omega (arith, as_many))
-    ∙ ap (λ l. l ++ map birth_genome births) (birth_comes config scene (b, p))
-    ∙ append_assoc (genomes_ever scene.everyone) (birth_genome b ∷ []) (map birth_genome births)
-
--- so do several newborns
-births_update : (config : ConfigValues) (scene : Scene) (births : List Delivery)
-    (placings : List Placing) → (fold (with_newborn config) scene (zip births placings)).update
-    ≡ scene.update
-births_update config scene [] placings = refl
-births_update config scene (b ∷ births) [] = refl
-births_update config scene (b ∷ births) (p ∷ placings) =
-    births_update config (with_newborn config scene (b, p)) births placings
-    ∙ birth_update config scene (b, p)
+    comes_on (birth_genome b ∷ []) (map birth_genome births)
+    (newcomer_comes scene (birth_link (next_id scene) scene.update b p.cell)
+    (child_of_birth config b p))
+    (births_come config (with_newborn config scene (b, p)) births placings (omega (arith, as_many)))
 
 -- what an event brings
 what_comes : (config : ConfigValues) (scene : Scene) (nth : ℕ) (what : WhatValue)
-    → genomes_ever (after_what config scene nth what).everyone ≡ genomes_ever scene.everyone
-    ++ option_to_list (injected_by what)
+    → Comes scene (after_what config scene nth what) (option_to_list (injected_by what))
 what_comes config scene nth (inject cell letters) =
     newcomer_comes scene (founder_link (next_id scene) scene.update cell letters)
     (founder_of config cell nth letters)
-what_comes config scene nth (clear first last) =
-    ap genomes_ever (deaths_keep scene (cells_from first last)).0
-    ∙ sym (append-nil (genomes_ever scene.everyone))
-what_comes config scene nth (rate name ppm) = sym (append-nil (genomes_ever scene.everyone))
-
--- what an event does leaves the update
-what_update : (config : ConfigValues) (scene : Scene) (nth : ℕ) (what : WhatValue)
-    → (after_what config scene nth what).update ≡ scene.update
-what_update config scene nth (inject cell letters) =
-    newcomer_update scene (founder_link (next_id scene) scene.update cell letters)
-    (founder_of config cell nth letters)
-what_update config scene nth (clear first last) = (deaths_keep scene (cells_from first last)).1
-what_update config scene nth (rate name ppm) = refl
-
--- the same of an event
-event_comes : (config : ConfigValues) (scene : Scene) (event : ℕ × EventValue)
-    → genomes_ever (after_event config scene event).everyone ≡ genomes_ever scene.everyone
-    ++ option_to_list (injected_by event.1.what)
-unfolding after_event
-event_comes config scene event = what_comes config scene event.0 event.1.what
-
--- an event leaves the update
-event_update : (config : ConfigValues) (scene : Scene) (event : ℕ × EventValue)
-    → (after_event config scene event).update ≡ scene.update
-unfolding after_event
-event_update config scene event = what_update config scene event.0 event.1.what
+what_comes config scene nth (clear first last) = deaths_keep scene (cells_from first last)
+what_comes config scene nth (rate name ppm) = comes_none scene
 
 -- what may be there, before a list
 in_front : {X : Type 0} (o : Option X) (xs : List X) → option_to_list o ++ xs ≡ cons_option o xs
@@ -141,23 +95,15 @@ injected event = injected_by event.1.what
 
 -- what these events bring
 events_come : (config : ConfigValues) (scene : Scene) (events : List (ℕ × EventValue))
-    → genomes_ever (fold (after_event config) scene events).everyone ≡ genomes_ever scene.everyone
-    ++ filter_map injected events
-events_come config scene [] = sym (append-nil (genomes_ever scene.everyone))
+    → Comes scene (fold (after_event config) scene events) (filter_map injected events)
+unfolding after_event
+events_come config scene [] = comes_none scene
 events_come config scene (event ∷ events) =
-    events_come config (after_event config scene event) events
-    ∙ ap (λ l. l ++ filter_map injected events) (event_comes config scene event)
-    ∙ append_assoc (genomes_ever scene.everyone) (option_to_list (injected event))
-    (filter_map injected events)
-    ∙ ap (λ l. genomes_ever scene.everyone ++ l)
+    subst (Comes scene (fold (after_event config) scene (event ∷ events)))
     (in_front (injected event) (filter_map injected events))
-
--- these events leave the update
-events_update : (config : ConfigValues) (scene : Scene) (events : List (ℕ × EventValue))
-    → (fold (after_event config) scene events).update ≡ scene.update
-events_update config scene [] = refl
-events_update config scene (event ∷ events) =
-    events_update config (after_event config scene event) events ∙ event_update config scene event
+    (comes_on (option_to_list (injected event)) (filter_map injected events)
+    (what_comes config scene event.0 event.1.what)
+    (events_come config (after_event config scene event) events))
 
 -- there is a placing for each newborn
 placings_number : (config : ConfigValues) (scene : Scene) (births : List Delivery)
@@ -178,20 +124,22 @@ module _ (config : ConfigValues) (w : World) (lives : List CellLife) where
       fold (with_newborn config) buried (zip (births_of lives)
       (placings_of config buried (births_of lives)))
 
-  -- that scene is of the update after the world
-  borne_update : borne.update ≡ w.update + 1
-  borne_update =
-      births_update config buried (births_of lives) (placings_of config buried (births_of lives))
-      ∙ (deaths_keep (after_lives (w.update + 1) w.everyone lives) (deaths_of lives)).1
+  -- the births have come in that scene, in the update after the world
+  borne_comes : Comes (after_lives (w.update + 1) w.everyone lives) borne
+      (map birth_genome (births_of lives))
+  borne_comes =
+      comes_on [] (map birth_genome (births_of lives))
+      (deaths_keep (after_lives (w.update + 1) w.everyone lives) (deaths_of lives))
+      (births_come config buried (births_of lives) (placings_of config buried (births_of lives))
+      (placings_number config buried (births_of lives)))
 
-  -- its genomes are those of the world and those of the births
-  borne_genomes : genomes_ever borne.everyone ≡ genomes_ever w.everyone ++ map birth_genome
-      (births_of lives)
-  borne_genomes =
-      births_come config buried (births_of lives) (placings_of config buried (births_of lives))
-      (placings_number config buried (births_of lives))
-      ∙ ap (λ l. genomes_ever l ++ map birth_genome (births_of lives))
-      (deaths_keep (after_lives (w.update + 1) w.everyone lives) (deaths_of lives)).0
+  -- then the founders come that the events inject
+  all_come : Comes (after_lives (w.update + 1) w.everyone lives)
+      (fold (after_event config) borne (events_at config borne.update))
+      (map birth_genome (births_of lives) ++ injections_at config borne.update)
+  all_come =
+      comes_on (map birth_genome (births_of lives)) (injections_at config borne.update) borne_comes
+      (events_come config borne (events_at config borne.update))
 
   -- an update adds its births and its injected founders
   pub genomes_next : genomes_ever (world_of (scene_of_lives config w lives)).everyone
@@ -199,17 +147,13 @@ module _ (config : ConfigValues) (w : World) (lives : List CellLife) where
       (w.update + 1))
   unfolding scene_of_lives last_scene after_burials after_births after_events
   genomes_next =
-      events_come config borne (events_at config borne.update)
-      ∙ ap (λ l. l ++ filter_map injected (events_at config borne.update)) borne_genomes
-      ∙ ap (λ u. genomes_ever w.everyone ++ map birth_genome (births_of lives)
-      ++ filter_map injected (events_at config u)) borne_update
-      ∙ append_assoc (genomes_ever w.everyone) (map birth_genome (births_of lives))
-      (injections_at config (w.update + 1))
+      all_come.genomes ∙ ap (λ u. genomes_ever w.everyone
+      ++ (map birth_genome (births_of lives) ++ injections_at config u)) borne_comes.update
 
   -- an update raises the number by one
   pub update_next : (world_of (scene_of_lives config w lives)).update ≡ w.update + 1
   unfolding scene_of_lives last_scene after_burials after_births after_events
-  update_next = events_update config borne (events_at config borne.update) ∙ borne_update
+  update_next = all_come.update
 
 -- the update of a world is its number
 pub update_after : (config : ConfigValues) (n : ℕ) → (world_after config n).update ≡ n

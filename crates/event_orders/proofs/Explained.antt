@@ -1,7 +1,7 @@
 -- Lawful events have the calls that the seats have still to make, in any order of the seats.
 use Rattle.std.proofs.Common.{◌≡◌, ◌≢◌, ℕ, Bool, true, false, cond, List, [], ◌∷◌, ◌++◌, map, eqb, Contains, refl, sym, subst, ap, ◌∙◌, ⊎_elim, append_assoc, append-nil}
 use Rattle.std.specs.Prelude.{◌==◌, filter}
-use Rattle.std.proofs.lemmas.Bool.{cases_eq, eq-eqb}
+use Rattle.std.proofs.lemmas.Bool.{eq-eqb}
 use Rattle.std.proofs.lemmas.Bool.Decides.{eqb_tells}
 use Rattle.genotype_bank.specs.declared.view.Entry.{Entry}
 use Rattle.world_config.specs.Values.{ConfigValues}
@@ -9,7 +9,7 @@ use Rattle.event_orders.specs.declared.schedule.ScheduleEvent.TheVariants.{Inter
 use Rattle.event_orders.specs.State.{State, genome_entry}
 use Rattle.event_orders.specs.Schedule.{with_value_at, MayGather, state_after_event}
 use Rattle.event_orders.proofs.Members.{Contains-nil}
-use Rattle.event_orders.proofs.Going.{at_same, at_other, Any, Goes, goes_one, goes_on, goes_none}
+use Rattle.event_orders.proofs.Going.{at_either, Any, Goes, goes_one, goes_on, goes_none}
 use Rattle.event_orders.proofs.Pairs.{Pair}
 use Rattle.event_orders.proofs.LeftPairs.{Left, head_in, left_next, newborn}
 
@@ -90,14 +90,10 @@ module _ (config : ConfigValues) where
           let others : own x.seat calls ≡ map (λ p. genome_entry x.seat (newborn s p)) ps = cc in
           let go = again s1 (with_value_at rest x.seat ps)
           (left_next config s rest x.seat p ps is h)
-          (λ j. ⊎_elim
-          (λ (f : j ≡ x.seat). ap (λ j. own j calls) f
-          ∙ (others ∙ (ap (λ j. map (λ p. genome_entry j (newborn s p)) ps) (sym f)
-          ∙ ap (map (λ p. genome_entry j (newborn s p))) (sym (at_same rest x.seat j ps f)))))
-          (λ (n : j ≢ x.seat). sym (elsewhere j n)
-          ∙ (own_is j ∙ ap (map (λ p. genome_entry j (newborn s p)))
-          (sym (at_other rest x.seat j ps n))))
-          (cases_eq j x.seat)) in (
+          (λ j. at_either (λ l. own j calls ≡ map (λ p. genome_entry j (newborn s p)) l) rest x.seat j
+          ps (λ f. subst (λ j. own j calls ≡ map (λ p. genome_entry j (newborn s p)) ps) (sym f)
+          others)
+          (λ n. sym (elsewhere j n) ∙ own_is j)) in (
             go.0,
             goes_on config Any s s1 go.0 0 0 (goes_one config Any s (Intern x.seat p.0 p.1)
                 (record { has_result = v.0; is_newborn = v.1; is_new = v.2 }) tt) go.1,

@@ -1,7 +1,7 @@
 -- Lawful events, one after another.
 use Rattle.std.proofs.Common.{◌≡◌, ℕ, zero, suc, ◌+◌, Bool, true, false, cond, List, [], ◌∷◌, ◌++◌, take, Some, refl, sym, subst, ap, ◌∙◌, zero-add}
 use Rattle.std.specs.Prelude.{if◌then◌else◌, slice_get, count_by, fold, ◌==◌}
-use Rattle.std.proofs.lemmas.Bool.{eqb-true, eq-eqb}
+use Rattle.std.proofs.lemmas.Bool.{eqb-true, eqb-false}
 use Rattle.std.proofs.lemmas.List.Sums.{sum_by-append}
 use Rattle.std.proofs.lemmas.Option.{none-some, same_Some}
 use Rattle.std.proofs.lemmas.Grind.{fold-append}
@@ -11,18 +11,18 @@ use Rattle.event_orders.specs.State.{State}
 use Rattle.event_orders.specs.Schedule.{with_value_at, IsLawful, state_after_event}
 use Rattle.event_orders.specs.Orders.{is_gather}
 
+-- what holds of the value given to one place, and elsewhere of the value there, holds at each place
+pub at_either : {X : Type 0} (P : X → Type 0) (f : ℕ → X) (k j : ℕ) (x : X) → (j ≡ k → P x)
+    → ((j ≡ k → ⊥) → P (f j)) → P (with_value_at f k x j)
+at_either P f k j x here there = by (j == k) (eqb-true j k) (eqb-false j k)
+  where
+    by : (b : Bool) → (b ≡ true → j ≡ k) → (b ≡ false → j ≡ k → ⊥) → P (if b then x else f j)
+    by true e n = here (e refl)
+    by false e n = there (n refl)
+
 -- the value at the place that was given another
 pub at_same : {X : Type 0} (f : ℕ → X) (k j : ℕ) (x : X) → j ≡ k → with_value_at f k x j ≡ x
-at_same f k j x e = ap (λ b. if b then x else f j) (eq-eqb j k e)
-
--- and at another place
-pub at_other : {X : Type 0} (f : ℕ → X) (k j : ℕ) (x : X) → (j ≡ k → ⊥)
-    → with_value_at f k x j ≡ f j
-at_other f k j x n = by (j == k) (eqb-true j k)
-  where
-    by : (b : Bool) → (b ≡ true → j ≡ k) → (if b then x else f j) ≡ f j
-    by true e = absurd (n (e refl))
-    by false e = refl
+at_same f k j x e = at_either (λ y. y ≡ x) f k j x (λ same. refl) (λ other. absurd (other e))
 
 -- any event
 abbrev pub Any : ScheduleEvent → Type 0

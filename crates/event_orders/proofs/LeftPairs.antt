@@ -1,14 +1,13 @@
 -- What each seat has still to intern, and that it is one newborn less after its next call.
-use Rattle.std.proofs.Common.{◌≡◌, ◌≢◌, ◌⊎◌, ℕ, ◌<◌, true, false, List, [], ◌∷◌, length, Contains, refl, sym, subst, ap, ◌∙◌, inl, inr, ⊎_elim}
+use Rattle.std.proofs.Common.{◌≡◌, ◌⊎◌, ℕ, ◌<◌, true, false, List, [], ◌∷◌, length, Contains, refl, sym, subst, ap, ◌∙◌, inl, inr, ⊎_elim}
 use Rattle.std.specs.Prelude.{IsSome, slice_index_or}
-use Rattle.std.proofs.lemmas.Bool.{cases_eq}
 use Rattle.instruction_set.specs.declared.letter.Letter.{Letter}
 use Rattle.world_config.specs.Values.{ConfigValues}
 use Rattle.event_orders.specs.declared.schedule.ScheduleEvent.TheVariants.{Intern}
 use Rattle.event_orders.specs.State.{State, newborn_genomes, result_of}
 use Rattle.event_orders.specs.Schedule.{with_value_at, state_after_event}
 use Rattle.event_orders.proofs.Members.{Contains-cons, Contains-cons_cases, Contains-here}
-use Rattle.event_orders.proofs.Going.{at_same, at_other}
+use Rattle.event_orders.proofs.Going.{at_either}
 use Rattle.event_orders.proofs.Pairs.{Pair, Apart}
 use Rattle.event_orders.proofs.Marks.{marked, marked_same, marked_other, marked_kept}
 
@@ -30,12 +29,10 @@ pub record Left (s : State) (rest : ℕ → List Pair) : Type 0 where
 module _ (rest : ℕ → List Pair) (i : ℕ) (p : Pair) (ps : List Pair) (is : rest i ≡ p ∷ ps) where
   -- what is left was left before
   in_old : (j : ℕ) (q : Pair) → Contains (with_value_at rest i ps j) q → Contains (rest j) q
-  in_old j q h = ⊎_elim
-      (λ (e : j ≡ i). subst (λ (l : List Pair). Contains l q) (sym (ap rest e ∙ is))
-      (Contains-cons p ps q (subst (λ (l : List Pair). Contains l q)
-      (at_same rest i j ps e) h)))
-      (λ (n : j ≢ i). subst (λ (l : List Pair). Contains l q) (at_other rest i j ps n) h)
-      (cases_eq j i)
+  in_old j q = at_either (λ (l : List Pair). Contains l q → Contains (rest j) q) rest i j ps
+      (λ e m. subst (λ (l : List Pair). Contains l q) (sym (ap rest e ∙ is))
+      (Contains-cons p ps q m))
+      (λ n m. m)
 
   -- the first was left
   pub head_in : Contains (rest i) p
@@ -44,34 +41,24 @@ module _ (rest : ℕ → List Pair) (i : ℕ) (p : Pair) (ps : List Pair) (is : 
   -- what was left is the first or is left
   in_new : (j : ℕ) (q : Pair) → Contains (rest j) q
       → (p ≡ q) ⊎ Contains (with_value_at rest i ps j) q
-  in_new j q h = ⊎_elim
-      (λ (e : j ≡ i). ⊎_elim
-      (λ (f : p ≡ q). inl f)
-      (λ (r : Contains ps q). inr (subst (λ (l : List Pair). Contains l q)
-      (sym (at_same rest i j ps e)) r))
-      (Contains-cons_cases p ps q (subst (λ (l : List Pair). Contains l q) (ap rest e ∙ is) h)))
-      (λ (n : j ≢ i). inr (subst (λ (l : List Pair). Contains l q)
-      (sym (at_other rest i j ps n)) h))
-      (cases_eq j i)
+  in_new j q =
+      at_either (λ (l : List Pair). Contains (rest j) q → (p ≡ q) ⊎ Contains l q) rest i j ps
+      (λ e m. Contains-cons_cases p ps q (subst (λ (l : List Pair). Contains l q) (ap rest e ∙ is) m))
+      (λ n m. inr m)
 
   -- the first isn't left
   not_head : Apart (rest i) → ((j : ℕ) (q : Pair) → (i ≡ j → ⊥) → Contains (rest i) q
       → Contains (rest j) q → ⊥)
       → (j : ℕ) (q : Pair) → Contains (with_value_at rest i ps j) q → p ≡ q → ⊥
-  not_head apart disjoint j q h e = ⊎_elim
-      (λ (f : j ≡ i).
-      let r = subst (λ (l : List Pair). Contains l q) (at_same rest i j ps f) h in
-      (subst Apart is apart).0 (subst (Contains ps) (sym e) r))
-      (λ (n : j ≢ i). disjoint j q (λ f. n (sym f)) (subst (Contains (rest i)) e head_in)
-      (in_old j q h))
-      (cases_eq j i)
+  not_head apart disjoint j q =
+      at_either (λ (l : List Pair). Contains l q → p ≡ q → ⊥) rest i j ps
+      (λ f m e. (subst Apart is apart).0 (subst (Contains ps) (sym e) m))
+      (λ n m e. disjoint j q (λ f. n (sym f)) (subst (Contains (rest i)) e head_in) m)
 
   -- what is left stands once
   apart_next : ((j : ℕ) → Apart (rest j)) → (j : ℕ) → Apart (with_value_at rest i ps j)
-  apart_next apart j = ⊎_elim
-      (λ (e : j ≡ i). subst Apart (sym (at_same rest i j ps e)) (subst Apart is (apart i)).1)
-      (λ (n : j ≢ i). subst Apart (sym (at_other rest i j ps n)) (apart j))
-      (cases_eq j i)
+  apart_next apart j =
+      at_either Apart rest i j ps (λ e. (subst Apart is (apart i)).1) (λ n. apart j)
 
 module _ (config : ConfigValues) where
   -- the first of a seat's list was interned

@@ -1,7 +1,6 @@
 -- What an observer has seen never falls.
-use Rattle.std.proofs.Common.{◌≡◌, ◌-◌, ℕ, zero, suc, ◌+◌, ◌<◌, ◌≤◌, Bool, true, false, List, length, get_or, refl, ap, ◌∙◌, arith, add-zero}
-use Rattle.std.specs.Prelude.{if◌then◌else◌, max, ◌==◌}
-use Rattle.std.proofs.lemmas.Bool.{eqb-true, eq-eqb}
+use Rattle.std.proofs.Common.{◌≡◌, ◌-◌, ℕ, zero, suc, ◌+◌, ◌<◌, ◌≤◌, List, length, get_or, refl, ap, ◌∙◌, arith, add-zero}
+use Rattle.std.specs.Prelude.{max}
 use Rattle.std.proofs.lemmas.Option.{slice_get_within, slice_get-get_or}
 use Rattle.world_config.specs.Values.{ConfigValues}
 use Rattle.event_orders.specs.declared.schedule.ScheduleEvent.{ScheduleEvent}
@@ -10,6 +9,7 @@ use Rattle.event_orders.specs.State.{State}
 use Rattle.event_orders.specs.Schedule.{with_value_at, state_after_event, IsSchedule}
 use Rattle.event_orders.specs.Orders.{LooksNeverFall}
 use Rattle.event_orders.proofs.Between.{at_place, state_with}
+use Rattle.event_orders.proofs.Going.{at_same, at_either}
 
 module _ (config : ConfigValues) (events : List ScheduleEvent) where
   -- the greatest number that an observer has seen before a place
@@ -19,12 +19,9 @@ module _ (config : ConfigValues) (events : List ScheduleEvent) where
   -- a look or a note leaves each observer at least where it was
   with_seen_kept : (seen : ℕ → ℕ) (observer number o : ℕ)
       → seen o ≤ with_value_at seen observer (max (seen observer) number) o
-  with_seen_kept seen observer number o = by (o == observer) (eqb-true o observer)
-    where
-      by : (b : Bool) → (b ≡ true → o ≡ observer)
-          → seen o ≤ (if b then max (seen observer) number else seen o)
-      by true e = let is : seen o ≡ seen observer = ap seen (e refl) in omega arith
-      by false e = omega arith
+  with_seen_kept seen observer number o =
+      at_either (λ (m : ℕ). seen o ≤ m) seen observer o (max (seen observer) number)
+      (λ e. let is : seen o ≡ seen observer = ap seen e in omega arith) (λ n. omega arith)
 
   -- what an observer has seen never falls
   seen_kept : (s : State) (e : ScheduleEvent) (o : ℕ)
@@ -58,14 +55,9 @@ module _ (config : ConfigValues) (events : List ScheduleEvent) where
       let l : n < length events = slice_get_within events n (Look observer j) later in
       let may = lawful n (Look observer j) later in
       let s = at_place config events m in
-      let looked : with_value_at s.seen observer (max (s.seen observer) i) observer ≡ max
-      (s.seen observer) i
-      =
-      ap (λ b. if b then max (s.seen observer) i else s.seen observer)
-      (eq-eqb observer observer refl) in
       let same : seen_at (m + 1) observer ≡ max (s.seen observer) i =
       ap (λ (t : State). t.seen observer) (state_with config events m (Look observer i) at)
-      ∙ looked in
+      ∙ at_same s.seen observer observer (max (s.seen observer) i) refl in
       let rest = seen_later (m + 1) (n - (m + 1)) observer (omega arith) in
       let place : m + 1 + (n - (m + 1)) ≡ n = omega arith in
       let moved : seen_at (m + 1 + (n - (m + 1))) observer ≡ seen_at n observer =

@@ -1,8 +1,7 @@
 -- Which newborns are marked as interned.
-use Rattle.std.proofs.Common.{◌≡◌, ◌≢◌, ℕ, Bool, true, refl, sym, ap, ◌∙◌, ⊎_elim}
-use Rattle.std.proofs.lemmas.Bool.{cases_eq}
+use Rattle.std.proofs.Common.{◌≡◌, ℕ, Bool, true, refl, sym, ap, ◌∙◌}
 use Rattle.event_orders.specs.Schedule.{with_value_at}
-use Rattle.event_orders.proofs.Going.{at_same, at_other}
+use Rattle.event_orders.proofs.Going.{at_same, at_either}
 use Rattle.event_orders.proofs.Pairs.{Pair}
 
 -- a newborn is marked
@@ -18,23 +17,17 @@ marked_same done p =
 -- each other one is as it was
 pub marked_other : (done : ℕ → ℕ → Bool) (p : Pair) (c k : ℕ) → ((c ≡ p.0) × (k ≡ p.1) → ⊥)
     → marked done p c k ≡ done c k
-marked_other done p c k other = ⊎_elim
-    (λ (e : c ≡ p.0). ap (λ (f : ℕ → Bool). f k)
-    (at_same done p.0 c (with_value_at (done p.0) p.1 true) e)
-    ∙ (at_other (done p.0) p.1 k true (λ f. other (e, f)) ∙ ap (λ c. done c k) (sym e)))
-    (λ (n : c ≢ p.0). ap (λ (f : ℕ → Bool). f k)
-    (at_other done p.0 c (with_value_at (done p.0) p.1 true) n))
-    (cases_eq c p.0)
+marked_other done p c k other =
+    at_either (λ (f : ℕ → Bool). f k ≡ done c k) done p.0 c (with_value_at (done p.0) p.1 true)
+    (λ e. at_either (λ b. b ≡ done c k) (done p.0) p.1 k true (λ f. absurd (other (e, f)))
+    (λ n. ap (λ c. done c k) (sym e)))
+    (λ n. refl)
 
 -- one that was marked stays so
 pub marked_kept : (done : ℕ → ℕ → Bool) (p : Pair) (c k : ℕ) → done c k ≡ true
     → marked done p c k ≡ true
-marked_kept done p c k h = ⊎_elim
-    (λ (e : c ≡ p.0). ap (λ (f : ℕ → Bool). f k)
-    (at_same done p.0 c (with_value_at (done p.0) p.1 true) e) ∙ ⊎_elim
-    (λ (f : k ≡ p.1). at_same (done p.0) p.1 k true f)
-    (λ (n : k ≢ p.1). at_other (done p.0) p.1 k true n ∙ (ap (λ c. done c k) (sym e) ∙ h))
-    (cases_eq k p.1))
-    (λ (n : c ≢ p.0). ap (λ (f : ℕ → Bool). f k)
-    (at_other done p.0 c (with_value_at (done p.0) p.1 true) n) ∙ h)
-    (cases_eq c p.0)
+marked_kept done p c k h =
+    at_either (λ (f : ℕ → Bool). f k ≡ true) done p.0 c (with_value_at (done p.0) p.1 true)
+    (λ e. at_either (λ b. b ≡ true) (done p.0) p.1 k true (λ f. refl)
+    (λ n. ap (λ c. done c k) (sym e) ∙ h))
+    (λ n. h)

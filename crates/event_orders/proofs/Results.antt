@@ -1,8 +1,7 @@
 -- The lives of an update so far, and the newborns among them.
-use Rattle.std.proofs.Common.{◌≡◌, ℕ, ◌<◌, Bool, true, false, List, [], length, map, Option, Some, Contains, refl, sym, subst, ap, ◌∙◌, arith}
-use Rattle.std.specs.Prelude.{if◌then◌else◌, IsSome, slice_index_or, unwrap_or, ◌==◌}
+use Rattle.std.proofs.Common.{◌≡◌, ℕ, ◌<◌, List, [], length, map, Option, Some, Contains, sym, subst, ap, ◌∙◌, arith}
+use Rattle.std.specs.Prelude.{IsSome, slice_index_or, unwrap_or}
 use Rattle.std.specs.List.{flat_map, range_with_len}
-use Rattle.std.proofs.lemmas.Bool.{eqb-true}
 use Rattle.std.proofs.lemmas.List.{get_or_default}
 use Rattle.std.proofs.lemmas.List.Elements.{Contains-get_or}
 use Rattle.std.proofs.lemmas.List.FromFn.{length-map-range_with_len, get_or-map-range_with_len, fill_by_all}
@@ -12,6 +11,7 @@ use Rattle.world_rules.specs.World.{World}
 use Rattle.world_rules.specs.Lives.{CellLife, no_life}
 use Rattle.event_orders.specs.State.{State, life_in, newborn_genomes, results_of}
 use Rattle.event_orders.specs.Schedule.{with_value_at}
+use Rattle.event_orders.proofs.Going.{at_either}
 use Rattle.event_orders.proofs.Members.{Contains-flat_map, Contains-flat_map_cases, Contains-from_fn, Contains-from_fn_cases}
 
 -- the lives of all cells of a world
@@ -37,15 +37,11 @@ module _ (config : ConfigValues) where
   pub result_kept : (world : World) (results : ℕ → Option CellLife) (cell : ℕ)
       → cell < length world.cells → AreLives config world results
       → AreLives config world (with_value_at results cell (Some (life_in config world cell)))
-  result_kept world results cell within had c = by (c == cell) (eqb-true c cell)
-    where
-      by : (b : Bool) → (b ≡ true → c ≡ cell) → IsSome
-          (if b then Some (life_in config world cell) else results c)
-          → (c < length world.cells) × (unwrap_or (if b then Some
-          (life_in config world cell) else results c) no_life ≡ life_in config world c)
-      by true e h =
-          let is : c ≡ cell = e refl in ((omega arith), ap (life_in config world) (sym is))
-      by false e h = had c h
+  result_kept world results cell within had c =
+      at_either (λ (r : Option CellLife). IsSome r → (c < length world.cells)
+      × (unwrap_or r no_life ≡ life_in config world c)) results cell c
+      (Some (life_in config world cell))
+      (λ is h. ((omega arith), ap (life_in config world) (sym is))) (λ n h. had c h)
 
   -- the results of all cells are the lives that the definition lists
   pub results_are_lives : (s : State) → AreLives config s.world s.results

@@ -18,7 +18,7 @@ use Rattle.event_orders.specs.Orders.{IsScheduleFor}
 use Rattle.event_orders.proofs.Members.{last_pushed}
 use Rattle.event_orders.proofs.Everyone.{update_after, update_next}
 use Rattle.event_orders.proofs.Pictures.{picture_update}
-use Rattle.event_orders.proofs.Going.{at_same, at_other, Goes, goes_one, goes_on, goes_none, lawful_at}
+use Rattle.event_orders.proofs.Going.{at_same, at_either, Goes, goes_one, goes_on, goes_none, lawful_at}
 
 -- a newborn is interned by the seat of its cell
 abbrev IsOfSeat : (ℕ → ℕ) → ScheduleEvent → Type 0
@@ -57,19 +57,15 @@ module _ (config : ConfigValues) (seat_of : ℕ → ℕ) where
   -- a cell lives
   ran_next : (a : ℕ) (s : State) → Done a s → Doing a 0 (state_after_event config s (Run a))
   ran_next a s h = record {
-    ran = below_more (λ c. IsSome (with_value_at s.results a (Some (life_in config s.world a)) c)) a
-        (λ c l. rw (at_other s.results a c (Some (life_in config s.world a)) (λ e. omega arith))
-        (h.ran c l))
-        (rw (at_same s.results a a (Some (life_in config s.world a)) refl) refl);
-    interned =
-        λ c k l n. h.interned c k l (subst (λ (o : Option CellLife). k < length
-        (newborn_genomes (unwrap_or o no_life)))
-        (at_other s.results a c (Some (life_in config s.world a)) (λ e. omega arith)) n);
+    ran = λ c l. at_either IsSome s.results a c (Some (life_in config s.world a)) (λ e. refl)
+        (λ n. h.ran c (omega (arith, n)));
+    interned = λ c k l. at_either (λ (o : Option CellLife). k < length
+        (newborn_genomes (unwrap_or o no_life)) → s.interned c k ≡ true) s.results a c
+        (Some (life_in config s.world a)) (λ e n. absurd (omega arith)) (λ n. h.interned c k l);
     first = λ k l. absurd (omega arith);
     rest = λ k l. h.none a k (omega arith);
-    idle =
-        λ c l. rw (at_other s.results a c (Some (life_in config s.world a)) (λ e. omega arith))
-        (h.idle c (omega arith));
+    idle = λ c l. at_either IsNone s.results a c (Some (life_in config s.world a))
+        (λ e. absurd (omega arith)) (λ n. h.idle c (omega arith));
     none = λ c k l. h.none c k (omega arith);
   }
 
@@ -78,24 +74,22 @@ module _ (config : ConfigValues) (seat_of : ℕ → ℕ) where
       → Doing a (m + 1) (state_after_event config s (Intern seat a m))
   interned_next seat a m s h = record {
     ran = h.ran;
-    interned =
-        λ c k l n. ap (λ (f : ℕ → Bool). f k) (at_other s.interned a c
-        (with_value_at (s.interned a) m true) (λ e. omega arith)) ∙ h.interned c k l n;
-    first =
-        λ k l. ap (λ (f : ℕ → Bool). f k) (at_same s.interned a a
-        (with_value_at (s.interned a) m true) refl)
-        ∙ below_more (λ k. with_value_at (s.interned a) m true k ≡ true) m
-        (λ k l. at_other (s.interned a) m k true (λ e. omega arith) ∙ h.first k l)
-        (at_same (s.interned a) m m true refl) k l;
-    rest =
-        λ k l. ap (λ (f : ℕ → Bool). f k) (at_same s.interned a a
-        (with_value_at (s.interned a) m true) refl)
-        ∙ (at_other (s.interned a) m k true (λ e. omega arith) ∙ h.rest k (omega arith));
+    interned = λ c k l n. at_either (λ (f : ℕ → Bool). f k ≡ true) s.interned a c
+        (with_value_at (s.interned a) m true) (λ e. absurd (omega arith))
+        (λ o. h.interned c k l n);
+    first = λ k l. here (λ b. b ≡ true) k (λ e. refl) (λ n. h.first k (omega (arith, n)));
+    rest = λ k l. here (λ b. b ≡ false) k (λ e. absurd (omega arith))
+        (λ n. h.rest k (omega arith));
     idle = h.idle;
-    none =
-        λ c k l. ap (λ (f : ℕ → Bool). f k) (at_other s.interned a c
-        (with_value_at (s.interned a) m true) (λ e. omega arith)) ∙ h.none c k l;
+    none = λ c k l. at_either (λ (f : ℕ → Bool). f k ≡ false) s.interned a c
+        (with_value_at (s.interned a) m true) (λ e. absurd (omega arith)) (λ o. h.none c k l);
   }
+    where
+      here : (P : Bool → Type 0) (k : ℕ) → (k ≡ m → P true) → ((k ≡ m → ⊥) → P (s.interned a k))
+          → P (with_value_at s.interned a (with_value_at (s.interned a) m true) a k)
+      here P k is other = at_either (λ (f : ℕ → Bool). P (f k)) s.interned a a
+          (with_value_at (s.interned a) m true)
+          (λ e. at_either P (s.interned a) m k true is other) (λ n. absurd (n refl))
 
   -- nothing is published or seen between two states of an update
   record Keeps (s t : State) : Type 0 where
