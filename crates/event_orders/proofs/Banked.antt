@@ -1,5 +1,5 @@
 -- The bank between two ends of updates.
-use Rattle.std.proofs.Common.{◌≡◌, ◌⊎◌, ℕ, ◌+◌, ◌<◌, Bool, true, List, [], ◌∷◌, ◌++◌, length, map, Contains, refl, sym, subst, ap, ◌∙◌, inr, ⊎_elim}
+use Rattle.std.proofs.Common.{◌≡◌, ◌⊎◌, ℕ, ◌+◌, ◌<◌, Bool, true, List, [], ◌∷◌, ◌++◌, length, map, Contains, refl, subst, ap, ◌∙◌, inl, inr, ⊎_elim}
 use Rattle.std.specs.Prelude.{◌↔◌, slice_index_or}
 use Rattle.std.proofs.lemmas.List.Elements.{Contains-append_left, Contains-append_right, Contains-append_cases, Contains-push_cases, Contains-push, filter_map-append}
 use Rattle.genotype_bank.specs.declared.view.Entry.{Entry}
@@ -67,30 +67,19 @@ module _ (config : ConfigValues) where
   intern_banked s seat cell nth may are h =
       let w = s.world in
       let is = are cell may.has_result in
-      let newborns : newborn_genomes (result_of s cell) ≡ newborn_genomes (life_in config w cell) =
-      ap newborn_genomes is.1 in
       let g0 = slice_index_or (newborn_genomes (life_in config w cell)) nth [] in
       let more : genomes_of (s.history ++ genome_entry seat
       (slice_index_or (newborn_genomes (result_of s cell)) nth []) ∷ []) ≡ genomes_of s.history
-      ++ g0 ∷ []
-      =
-      genomes-push s.history seat _ ∙ ap (λ (l : List (List Letter)). genomes_of s.history
-      ++ slice_index_or l nth [] ∷ []) newborns in
+      ++ g0 ∷ [] = rw is.1 (genomes-push s.history seat g0) in
       record {
-        old =
-            λ g k. subst (λ l. Contains l g) (sym more)
-            (Contains-append_left (genomes_of s.history) (g0 ∷ []) g (h.old g k));
-        young =
-            λ c k e. subst (λ l. Contains l (slice_index_or
-            (newborn_genomes (life_in config w c)) k [])) (sym more)
-            (young_kept (genomes_of s.history) (λ c. newborn_genomes (life_in config w c))
-            s.interned cell nth h.young c k e);
+        old = λ g k. rw more (Contains-append_left (genomes_of s.history) (g0 ∷ []) g (h.old g k));
+        young = λ c k e. rw more (young_kept (genomes_of s.history)
+            (λ c. newborn_genomes (life_in config w c)) s.interned cell nth h.young c k e);
         only = λ g k. ⊎_elim
             (λ (l : Contains (genomes_of s.history) g). h.only g l)
             (λ (e : g0 ≡ g). inr (subst (Contains (born_in config w)) e
-            (newborn_is_birth config w cell nth is.0 (subst
-            (λ (l : List (List Letter)). nth < length l) newborns may.is_newborn))))
-            (Contains-push_cases (genomes_of s.history) g0 g (subst (λ l. Contains l g) more k));
+            (newborn_is_birth config w cell nth is.0 (rw is.1 at may.is_newborn))))
+            (Contains-push_cases (genomes_of s.history) g0 g (rw more at k));
       }
 
   -- the list of all, at the end of an update over these results
@@ -124,33 +113,28 @@ module _ (config : ConfigValues) where
       filter_map-append (λ (one : Entry). interned_genome one.call) s.history
       (map (genome_entry seat) added) ∙ ap (λ l. known ++ l)
       (genomes-interned seat added) in (
-        (λ (k : Contains (genomes_of (s.history ++ map (genome_entry seat) added)) g). subst
-            (λ l. Contains l g) (sym ever) (⊎_elim
-            (λ (l : Contains known g). ⊎_elim
-            (λ (o : Contains (genomes_ever w.everyone) g). Contains-append_left
-            (genomes_ever w.everyone) (born ++ added) g o)
-            (λ (b : Contains born g). Contains-append_right (genomes_ever w.everyone)
-            (born ++ added) g (Contains-append_left born added g b))
-            (h.only g l))
-            (λ (i : Contains added g). Contains-append_right (genomes_ever w.everyone)
-            (born ++ added) g (Contains-append_right born added g i))
-            (Contains-append_cases known added g (subst (λ l. Contains l g) more k)))),
-        (λ (k : Contains (genomes_ever (with_update config s seat).world.everyone) g). subst
-            (λ l. Contains l g) (sym more) (⊎_elim
-            (λ (o : Contains (genomes_ever w.everyone) g). Contains-append_left known added g
-            (h.old g o))
-            (λ (r : Contains (born ++ added) g). ⊎_elim
-            (λ (b : Contains born g).
-            let at = birth_is_newborn config w g b in
-            let newborns : newborn_genomes (result_of s at.0) ≡ newborn_genomes
-            (life_in config w at.0) = ap newborn_genomes
-            (are at.0 (may.every_cell at.0 at.2)).1 in
-            let done = may.every_newborn at.0 at.1 at.2
-            (subst (λ (l : List (List Letter)). at.1 < length l) (sym newborns) at.3) in
-            Contains-append_left known added g (subst (Contains known) at.4
-            (h.young at.0 at.1 done)))
-            (λ (i : Contains added g). Contains-append_right known added g i)
-            (Contains-append_cases born added g r))
-            (Contains-append_cases (genomes_ever w.everyone) (born ++ added) g
-            (subst (λ l. Contains l g) ever k)))),
+        (λ (k : Contains (genomes_of (s.history ++ map (genome_entry seat) added)) g). rw ever
+            (elim (Contains-append_cases known added g (rw more at k)) [
+              | inl l ↦ elim (h.only g l) [
+                | inl o ↦ Contains-append_left _ (born ++ added) g o
+                | inr b ↦ Contains-append_right (genomes_ever w.everyone) _ g
+                    (Contains-append_left born added g b)
+              ]
+              | inr i ↦ Contains-append_right (genomes_ever w.everyone) _ g
+                  (Contains-append_right born added g i)
+            ])),
+        (λ (k : Contains (genomes_ever (with_update config s seat).world.everyone) g). rw more
+            (elim (Contains-append_cases (genomes_ever w.everyone) (born ++ added) g
+            (rw ever at k)) [
+              | inl o ↦ Contains-append_left known added g (h.old g o)
+              | inr r ↦ elim (Contains-append_cases born added g r) [
+                | inl b ↦
+                    let at = birth_is_newborn config w g b in
+                    let is = (are at.0 (may.every_cell at.0 at.2)).1 in
+                    let low : at.1 < length (newborn_genomes (result_of s at.0)) = rw is at.3 in
+                    Contains-append_left known added g (rw at.4 at
+                    (h.young at.0 at.1 (may.every_newborn at.0 at.1 at.2 low)))
+                | inr i ↦ Contains-append_right known added g i
+              ]
+            ])),
       )

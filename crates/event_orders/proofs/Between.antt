@@ -44,7 +44,7 @@ module _ (config : ConfigValues) where
   holds_at_first : HoldsAt config 0 (opening config)
   holds_at_first =
       let founder : genomes_ever (world_after config 0).everyone ≡ config.ancestor ∷ [] =
-      ap (λ (w : World). genomes_ever w.everyone) first_world_is ∙ founder_genome in
+      rw first_world_is founder_genome in
       record {
         world = refl;
         results = λ cell h. absurd (true≢false (sym h));
@@ -176,10 +176,7 @@ module _ (config : ConfigValues) (events : List ScheduleEvent) where
       =
       kept config (gathers n) (at_place n) e (lawful n e at)
       (holds_after lawful n (omega arith)) in
-      subst (λ (k : ℕ). HoldsAt config (gathers k) (at_place k)) (add-one n)
-      (subst (λ (m : ℕ). HoldsAt config m (at_place (n + 1))) (sym (gathers_with n e at))
-      (subst (λ (t : State). HoldsAt config (counted config (gathers n) e) t)
-      (sym (state_with n e at)) h))
+      rw (← add-one n, gathers_with n e at, state_with n e at) h
 
   -- at every moment of a schedule the world is the definition's
   pub world_at : IsSchedule config events → (n : ℕ) → n ≤ length events
@@ -203,12 +200,8 @@ module _ (config : ConfigValues) (events : List ScheduleEvent) where
       (genomes_of (at_place (n + 1)).history) g ↔ Contains
       (genomes_ever (world_after config (gathers (n + 1))).everyone) g
       =
-      λ g. subst (λ (w : World). Contains (genomes_of (at_place (n + 1)).history) g ↔ Contains
-      (genomes_ever w.everyone) g) world
-      (subst (λ (t : State). Contains (genomes_of t.history) g ↔ Contains
-      (genomes_ever t.world.everyone) g) (sym same)
-      (gather_members config (at_place n) seat
-      (lawful n (Gather seat) at) before.results before.bank g)) in
+      λ g. rw (← world, same) (gather_members config (at_place n) seat
+      (lawful n (Gather seat) at) before.results before.bank g) in
       record {
         members =
             λ g. (
@@ -222,6 +215,4 @@ module _ (config : ConfigValues) (events : List ScheduleEvent) where
   pub pictures_at : IsSchedule config events → take (length events) events ≡ events
       → ShowsEachUpdate config (state_after config events).pictures
   pictures_at lawful whole =
-      subst (λ (front : List ScheduleEvent). ShowsEachUpdate config
-      (state_after config front).pictures) whole
-      (holds_after lawful (length events) (omega arith)).pictures.each
+      rw whole at (holds_after lawful (length events) (omega arith)).pictures.each

@@ -3,11 +3,11 @@ use Rattle.std.proofs.Common.{◌≡◌, ◌∙◌, refl, sym, subst, ap, ℕ, z
 use Rattle.std.specs.List.{AllByRecursion, zip, flat_map, filter_map, cons_option, enumerate_from, range_with_len}
 use Rattle.std.specs.Option.{option_to_list}
 use Rattle.std.proofs.lemmas.List.{map-append, length-map}
+use mathlib.Core.List.{map-map}
 use Rattle.birth_board.specs.declared.placing.Placing.{Placing}
 use Rattle.birth_board.proofs.PlacementLemmas.{placements_number}
 use Rattle.instruction_set.specs.declared.letter.Letter.{Letter}
 use Rattle.lineage_log.specs.Links.{Link}
-use Rattle.organism.specs.Newborns.{NewbornValue}
 use Rattle.organism.specs.OrganismState.{OrganismState}
 use Rattle.organism.specs.OrganismLife.{life_by}
 use Rattle.world_config.specs.Events.{EventValue, WhatValue, inject, clear, rate}
@@ -167,19 +167,13 @@ update_after config (suc n) =
 abbrev Bears : CellLife → Type 0
 Bears l = (cell : ℕ) → map birth_genome (births_by cell l.newborns l.occupant) ≡ newborn_genomes l
 
--- the genomes of newborns that are delivered are theirs
-delivered : (cell parent : ℕ) (newborns : List NewbornValue)
-    → map birth_genome (map (delivery_of cell parent) newborns) ≡ map
-    (λ (n : NewbornValue). n.genome) newborns
-delivered cell parent [] = refl
-delivered cell parent (n ∷ newborns) = ap (λ l. n.genome ∷ l) (delivered cell parent newborns)
-
 -- this holds of the life of a cell
 life_bears : (config : ConfigValues) (update cell steps : ℕ) (slot : Option Occupant)
     → Bears (life_of config update cell steps slot)
 unfolding life_of life_by
 life_bears config update cell steps None at = refl
-life_bears config update cell steps (Some o) at = delivered at o.id _
+life_bears config update cell steps (Some o) at =
+    map-map birth_genome (delivery_of at o.id) _
 
 -- and of those of several cells
 all_bear : (f : ℕ → CellLife) (cells : List ℕ) → ((cell : ℕ) → Bears (f cell))
@@ -193,11 +187,11 @@ births_borne : (first : ℕ) (lives : List CellLife) → AllByRecursion Bears li
     ≡ flat_map newborn_genomes lives
 births_borne first [] bear = refl
 births_borne first (l ∷ lives) bear =
-    map-append birth_genome (births_by first l.newborns l.occupant)
-    (flat_map births_in (enumerate_from (first + 1) lives))
-    ∙ (ap (λ gs. gs ++ map birth_genome (flat_map births_in (enumerate_from (first + 1) lives)))
-    (bear.0 first)
-    ∙ ap (λ gs. newborn_genomes l ++ gs) (births_borne (first + 1) lives bear.1))
+    rw (
+      map-append birth_genome (births_by first l.newborns l.occupant),
+      bear.0 first,
+      births_borne (first + 1) lives bear.1,
+    ) refl
 
 -- the births of an update are the newborns of its lives
 pub births_are : (config : ConfigValues) (update : ℕ) (cells : List (Option Occupant))

@@ -1,8 +1,7 @@
 -- Lawful events have the calls that the seats have still to make, in any order of the seats.
-use Rattle.std.proofs.Common.{◌≡◌, ◌≢◌, ℕ, Bool, true, false, cond, List, [], ◌∷◌, ◌++◌, map, eqb, Contains, refl, sym, subst, ap, ◌∙◌, ⊎_elim, append_assoc, append-nil}
+use Rattle.std.proofs.Common.{◌≡◌, ◌≢◌, ℕ, true, List, [], ◌∷◌, ◌++◌, map, Contains, refl, sym, subst, ap, ◌∙◌, ⊎_elim, append_assoc, append-nil}
 use Rattle.std.specs.Prelude.{◌==◌, filter}
-use Rattle.std.proofs.lemmas.Bool.{eq-eqb}
-use Rattle.std.proofs.lemmas.Bool.Decides.{eqb_tells}
+use Rattle.std.proofs.lemmas.Bool.{eq-eqb, ne_eqb}
 use Rattle.genotype_bank.specs.declared.view.Entry.{Entry}
 use Rattle.world_config.specs.Values.{ConfigValues}
 use Rattle.event_orders.specs.declared.schedule.ScheduleEvent.TheVariants.{Intern}
@@ -37,7 +36,7 @@ module _ (config : ConfigValues) where
       → t.history ≡ (s.history ++ made ∷ []) ++ calls → x ≡ made
       → t.history ≡ s.history ++ x ∷ calls
   history_next s t made x calls is same =
-      is ∙ (append_assoc s.history (made ∷ []) calls ∙ ap (λ e. s.history ++ e ∷ calls) (sym same))
+      rw (is, append_assoc s.history (made ∷ []) calls, same) refl
 
   -- if each seat makes the calls that it has still to make, in its order
   pub explained : (calls : List Entry) (s : State) (rest : ℕ → List Pair) → Left s rest
@@ -60,16 +59,10 @@ module _ (config : ConfigValues) where
       by (rest x.seat) refl (sym here ∙ own_is x.seat) (λ u left l o. explained calls u left l o)
     where
       here : own x.seat (x ∷ calls) ≡ x ∷ own x.seat calls
-      here =
-          ap (λ (b : Bool). cond b (x ∷ own x.seat calls) (own x.seat calls))
-          (eq-eqb x.seat x.seat refl)
+      here = rw (eq-eqb x.seat x.seat refl) refl
 
       elsewhere : (j : ℕ) → j ≢ x.seat → own j (x ∷ calls) ≡ own j calls
-      elsewhere j n = ⊎_elim
-          (λ (t : (eqb x.seat j ≡ true) × (x.seat ≡ j)). absurd (n (sym t.1)))
-          (λ (t : (eqb x.seat j ≡ false) × (x.seat ≢ j)). ap
-          (λ (b : Bool). cond b (x ∷ own j calls) (own j calls)) t.0)
-          (eqb_tells x.seat j)
+      elsewhere j n = rw (ne_eqb x.seat j (λ e. n (sym e))) refl
 
       by : (l : List Pair) → rest x.seat ≡ l → x ∷ own x.seat calls ≡ due s rest x.seat
           → ((u : State) (left : ℕ → List Pair) → Left u left

@@ -1,10 +1,11 @@
 -- Whatever the order in which seats intern the newborns of their own cells, a schedule has it.
-use Rattle.std.proofs.Common.{◌≡◌, ℕ, zero, suc, ◌+◌, ◌<◌, ◌≤◌, Bool, true, false, List, [], ◌∷◌, ◌++◌, length, map, take, refl, sym, subst, ap, ◌∙◌, inr, arith, zero-add}
+use Rattle.std.proofs.Common.{◌≡◌, ℕ, zero, suc, ◌+◌, ◌<◌, ◌≤◌, Bool, true, false, List, [], ◌++◌, length, map, take, refl, sym, subst, ap, ◌∙◌, inr, arith, zero-add}
 use Rattle.std.specs.Prelude.{if◌then◌else◌, ◌==◌}
 use Rattle.std.specs.List.{flat_map, range_with_len}
 use Rattle.std.proofs.lemmas.Grind.{fold-append}
 use Rattle.std.proofs.lemmas.List.{map-append}
 use Rattle.std.proofs.lemmas.List.FromFn.{fill_by_all}
+use mathlib.Core.List.{map-map}
 use Rattle.genotype_bank.specs.declared.view.Entry.{Entry}
 use Rattle.world_config.specs.Values.{ConfigValues}
 use Rattle.world_rules.specs.World.{World}
@@ -19,12 +20,6 @@ use Rattle.event_orders.proofs.Pairs.{Pair, pairs_at, pairs_from, in_pairs, pair
 use Rattle.event_orders.proofs.LeftPairs.{Left, newborn}
 use Rattle.event_orders.proofs.Explained.{Explained, due, explained, own}
 use Rattle.event_orders.proofs.AllLive.{Lived, all_live}
-
--- one function after another
-map-map : {A B C : Type 0} (f : A → B) (g : B → C) (xs : List A)
-    → map g (map f xs) ≡ map (λ x. g (f x)) xs
-map-map f g [] = refl
-map-map f g (x ∷ xs) = ap (λ l. g (f x) ∷ l) (map-map f g xs)
 
 module _ (config : ConfigValues) where
   -- at the start of an update, the seats of some cells intern their newborns
@@ -80,7 +75,7 @@ module _ (config : ConfigValues) where
             (range_with_len 0 (many c)) else []) ≡ (if b then newborn_genomes
             (life_in config s.world c) else [])
         by true =
-            map-map (λ k. (c, k)) (newborn u) (range_with_len 0 (many c))
+            map-map (newborn u) (λ k. (c, k)) (range_with_len 0 (many c))
             ∙ (genomes_at c ∙ result_is c l)
         by false = refl
 
@@ -89,19 +84,18 @@ module _ (config : ConfigValues) where
         (newborns_for config s.world seat_of j) (range_with_len first n)
     due_from j first zero l = refl
     due_from j first (suc n) l =
-        map-append (newborn u) (pairs_at seat_of many j first)
-        (pairs_from seat_of many j (first + 1) n)
-        ∙ (ap (λ gs. gs ++ map (newborn u) (pairs_from seat_of many j (first + 1) n))
-        (due_at j first (omega (arith, l)))
-        ∙ ap (λ gs. newborns_for config s.world seat_of j first ++ gs)
-        (due_from j (first + 1) n (omega (arith, l))))
+        rw (
+          map-append (newborn u) (pairs_at seat_of many j first),
+          due_at j first (omega (arith, l)),
+          due_from j (first + 1) n (omega (arith, l)),
+        ) refl
 
     due_is : (calls : List Entry) → IsInterleaving config s.world seat_of calls → (j : ℕ)
         → own j calls ≡ due u all_due j
     due_is calls is j =
         is j
         ∙ (ap (map (genome_entry j)) (sym (due_from j 0 (length s.world.cells) (omega arith)))
-        ∙ map-map (newborn u) (genome_entry j) (all_due j))
+        ∙ map-map (genome_entry j) (newborn u) (all_due j))
 
   -- at the start of an update lawful events have these calls
   calls_explained : (s : State) (seat_of : ℕ → ℕ) (calls : List Entry)
@@ -137,9 +131,7 @@ module _ (config : ConfigValues) where
   goes_on_with events whole lawful seat_of calls starts is =
       let s = state_after config events in
       let are : AreLives config s.world s.results =
-      subst (λ (front : List ScheduleEvent). AreLives config (state_after config front).world
-      (state_after config front).results) whole
-      (holds_after config events lawful (length events) (omega arith)).results in
+      rw whole at (holds_after config events lawful (length events) (omega arith)).results in
       let found = calls_explained s seat_of calls are starts is in
       let more = found.1.0 in
       let before = all_lawful config Any (opening config) events (λ n e at. (lawful n e at, tt)) in
