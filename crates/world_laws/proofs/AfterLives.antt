@@ -107,45 +107,43 @@ pub record IsDelivery (config : ConfigValues) (size : ℕ) (start : People) (d :
     pub born : IsNewborn config letters d.newborn
     pub within : d.cell < size
 
--- newborns that the rules allow, of a parent that lived as the update began, are lawful
-deliveries : (config : ConfigValues) (size : ℕ) (start : People) (cell parent : ℕ)
-    (letters : List Letter) (newborns : List NewbornValue) → cell < size
-    → slice_get start parent ≡ Some (Some letters)
-    → AllByRecursion (IsNewborn config letters) newborns
-    → AllByRecursion (IsDelivery config size start) (map (delivery_of cell parent) newborns)
-deliveries config size start cell parent letters [] within lived born = tt
-deliveries config size start cell parent letters (n ∷ newborns) within lived born = (
-  record { letters = letters; lived = lived; born = born.0; within = within },
-  deliveries config size start cell parent letters newborns within lived born.1,
-)
+module _ (config : ConfigValues) (P : Delivery → Type 0) where
+  -- what holds of each newborn of a parent holds of their births
+  newborns_hold : (cell parent : ℕ) (letters : List Letter) (newborns : List NewbornValue)
+      → AllByRecursion (IsNewborn config letters) newborns
+      → ((n : NewbornValue) → IsNewborn config letters n → P (delivery_of cell parent n))
+      → AllByRecursion P (map (delivery_of cell parent) newborns)
+  newborns_hold cell parent letters [] born each = tt
+  newborns_hold cell parent letters (n ∷ newborns) born each =
+      (each n born.0, newborns_hold cell parent letters newborns born.1 each)
 
--- the newborns of a cell are lawful, where the genome of who stands there is known
-slot_births : (config : ConfigValues) (size : ℕ) (start : People) (steps cell : ℕ)
-    (slot : Option Occupant) (l : CellLife) → IsLife config steps slot l → cell < size
-    → ((o : Occupant) → slot ≡ Some o → slice_get start o.id ≡ Some (Some o.organism.genome))
-    → AllByRecursion (IsDelivery config size start) (births_by cell l.newborns l.occupant)
-slot_births config size start steps cell None l is within known = rw is.0 tt
-slot_births config size start steps cell (Some o) l is within known =
-    let parent : slice_get start is.who.id ≡ Some (Some o.organism.genome) =
-    ap (slice_get start) is.id ∙ known o refl in
-    rw is.stays (deliveries config size start cell is.who.id o.organism.genome l.newborns within
-    parent is.newborns)
+  -- so it does of the births of a cell, by who stood there
+  slot_holds : (steps cell : ℕ) (slot : Option Occupant) (l : CellLife)
+      → IsLife config steps slot l → ((o : Occupant) (n : NewbornValue) → slot ≡ Some o
+      → IsNewborn config o.organism.genome n → P (delivery_of cell o.id n))
+      → AllByRecursion P (births_by cell l.newborns l.occupant)
+  slot_holds steps cell None l is each = rw is.0 tt
+  slot_holds steps cell (Some o) l is each =
+      rw (is.stays, is.id) (newborns_hold cell o.id o.organism.genome l.newborns is.newborns
+      (λ n born. each o n refl born))
 
--- so are those of the cells from one on
-births_from : (config : ConfigValues) (size : ℕ) (start : People) (steps : ℕ → ℕ) (from : ℕ)
-    (cells : List (Option Occupant)) (lives : List CellLife)
-    → AreLives config steps from cells lives → from + length cells ≤ size → Known start cells
-    → AllByRecursion (IsDelivery config size start) (flat_map births_in (enumerate_from from lives))
-births_from config size start steps from [] [] are fits known = tt
-births_from config size start steps from [] (l ∷ lives) are fits known = absurd are
-births_from config size start steps from (slot ∷ cells) [] are fits known = absurd are
-births_from config size start steps from (slot ∷ cells) (l ∷ lives) are fits known =
-    all_append (IsDelivery config size start) (births_by from l.newborns l.occupant)
-    (flat_map births_in (enumerate_from (from + 1) lives))
-    (slot_births config size start (steps from) from slot l are.0 (omega (arith, fits))
-    (λ o e. known 0 o (ap Some e)))
-    (births_from config size start steps (from + 1) cells lives are.1 (omega (arith, fits))
-    (λ cell o h. known (suc cell) o h))
+  -- and of those of the cells from one on
+  pub births_hold : (steps : ℕ → ℕ) (size from : ℕ) (cells : List (Option Occupant))
+      (lives : List CellLife) → AreLives config steps from cells lives
+      → from + length cells ≤ size
+      → ((cell at : ℕ) (o : Occupant) (n : NewbornValue) → Stands cells cell o → at < size
+      → IsNewborn config o.organism.genome n → P (delivery_of at o.id n))
+      → AllByRecursion P (flat_map births_in (enumerate_from from lives))
+  births_hold steps size from [] [] are fits each = tt
+  births_hold steps size from [] (l ∷ lives) are fits each = absurd are
+  births_hold steps size from (slot ∷ cells) [] are fits each = absurd are
+  births_hold steps size from (slot ∷ cells) (l ∷ lives) are fits each =
+      all_append P (births_by from l.newborns l.occupant)
+      (flat_map births_in (enumerate_from (from + 1) lives))
+      (slot_holds (steps from) from slot l are.0
+      (λ o n e born. each 0 from o n (ap Some e) (omega (arith, fits)) born))
+      (births_hold steps size (from + 1) cells lives are.1 (omega (arith, fits))
+      (λ cell at o n h low born. each (suc cell) at o n h low born))
 
 -- the newborns of an update are lawful
 pub births_lawful : (config : ConfigValues) (size : ℕ) (start : People) (steps : ℕ → ℕ)
@@ -154,50 +152,23 @@ pub births_lawful : (config : ConfigValues) (size : ℕ) (start : People) (steps
     → AllByRecursion (IsDelivery config size start) (births_of lives)
 unfolding births_of
 births_lawful config size start steps cells lives are sized known =
-    births_from config size start steps 0 cells lives are (omega (arith, sized)) known
+    births_hold config (IsDelivery config size start) steps size 0 cells lives are
+    (omega (arith, sized)) (λ cell at o n there low born. record
+    { letters = o.organism.genome; lived = known cell o there; born = born; within = low })
 
 -- a newborn of some parent is as the rules want it
 pub record IsBorn (config : ConfigValues) (d : Delivery) : Type 0 where
   pub letters : List Letter
   pub born : IsNewborn config letters d.newborn
 
--- each of the newborns of one parent is
-newborns_born : (config : ConfigValues) (cell parent : ℕ) (letters : List Letter)
-    (newborns : List NewbornValue) → AllByRecursion (IsNewborn config letters) newborns
-    → AllByRecursion (IsBorn config) (map (delivery_of cell parent) newborns)
-newborns_born config cell parent letters [] born = tt
-newborns_born config cell parent letters (n ∷ newborns) born = (
-  record { letters = letters; born = born.0 },
-  newborns_born config cell parent letters newborns born.1,
-)
-
--- the newborns of a cell are as the rules want them
-slot_born : (config : ConfigValues) (steps cell : ℕ) (slot : Option Occupant) (l : CellLife)
-    → IsLife config steps slot l
-    → AllByRecursion (IsBorn config) (births_by cell l.newborns l.occupant)
-slot_born config steps cell None l is = rw is.0 tt
-slot_born config steps cell (Some o) l is =
-    rw is.stays (newborns_born config cell is.who.id o.organism.genome l.newborns is.newborns)
-
--- so are those of the cells from one on
-born_from : (config : ConfigValues) (steps : ℕ → ℕ) (from : ℕ) (cells : List (Option Occupant))
-    (lives : List CellLife) → AreLives config steps from cells lives
-    → AllByRecursion (IsBorn config) (flat_map births_in (enumerate_from from lives))
-born_from config steps from [] [] are = tt
-born_from config steps from [] (l ∷ lives) are = absurd are
-born_from config steps from (slot ∷ cells) [] are = absurd are
-born_from config steps from (slot ∷ cells) (l ∷ lives) are =
-    all_append (IsBorn config) (births_by from l.newborns l.occupant)
-    (flat_map births_in (enumerate_from (from + 1) lives))
-    (slot_born config (steps from) from slot l are.0)
-    (born_from config steps (from + 1) cells lives are.1)
-
 -- so is each newborn of an update
 pub births_born : (config : ConfigValues) (steps : ℕ → ℕ) (cells : List (Option Occupant))
     (lives : List CellLife) → AreLives config steps 0 cells lives
     → AllByRecursion (IsBorn config) (births_of lives)
 unfolding births_of
-births_born config steps cells lives are = born_from config steps 0 cells lives are
+births_born config steps cells lives are =
+    births_hold config (IsBorn config) steps (length cells) 0 cells lives are (omega arith)
+    (λ cell at o n there low born. record { letters = o.organism.genome; born = born })
 
 -- so many numbers of a sequence, together
 abbrev pub steps_in_all : (ℕ → ℕ) → ℕ → ℕ → ℕ

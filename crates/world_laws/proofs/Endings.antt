@@ -20,7 +20,7 @@ use Rattle.world_laws.proofs.LivesLemmas.{AreLives, lives_are}
 use Rattle.world_laws.proofs.AfterLives.{births_born, births_few, entries_few, sound_kept, was_there}
 use Rattle.world_laws.specs.Bounds.{IsConfig, size_of}
 use Rattle.world_laws.proofs.Configs.{events_fit, events_few, few_cells}
-use Rattle.world_laws.proofs.Sounds.{Goes, goes_on, goes_more, goes_deaths, goes_births, goes_events}
+use Rattle.world_laws.proofs.Sounds.{Goes, goes_on, goes_deaths, goes_births, goes_events}
 
 module _ (laws : LifeLaws) (config : ConfigValues) (fit : IsConfig config) (w : World)
     (sound : Each IsSoundOrganism w.cells) where
@@ -53,13 +53,12 @@ module _ (laws : LifeLaws) (config : ConfigValues) (fit : IsConfig config) (w : 
       let born = after_births config buried births in
       let events = events_at config born.update in
       let few = events_few config fit born.update in
-      goes_more (0 + length births + length events) (length births + 1000)
-      (length (deaths_of lives) + length births + 65536 * length events)
-      (length (deaths_of lives) + length births + 65536000)
-      (goes_on (goes_on (goes_deaths begun (deaths_of lives))
+      let first : Goes begun born (length births) (length (deaths_of lives) + length births) =
+      goes_on (goes_deaths begun (deaths_of lives))
       (goes_births laws config fit buried births (placings_of config buried births)
-      (births_born config (slice_at config w.cells) w.cells lives sound_lives)))
-      (goes_events laws config fit born events (events_fit config fit born.update)))
+      (births_born config (slice_at config w.cells) w.cells lives sound_lives))
+      (omega arith) (omega arith) in
+      goes_on first (goes_events laws config fit born events (events_fit config fit born.update))
       (omega (arith, few)) (omega (arith, few))
 
   -- and each organism of the next world is sound

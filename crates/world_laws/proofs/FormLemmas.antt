@@ -1,11 +1,10 @@
 -- The parts of a line have the forms that a log asks for.
-use Rattle.std.proofs.Common.{◌≡◌, ℕ, suc, ◌*◌, ◌^◌, ◌<◌, ◌≤◌, true, List, [], ◌∷◌, map, length, Option, Some, None, refl, ap, arith, sum_by}
+use Rattle.std.proofs.Common.{◌+◌, ◌≡◌, ℕ, suc, ◌*◌, ◌^◌, ◌<◌, ◌≤◌, true, List, [], ◌∷◌, map, length, Option, Some, None, refl, arith, sum_by}
 use Rattle.std.specs.Prelude.{not, is_some, IfSome}
-use Rattle.std.specs.List.{AllByRecursion, cons_option}
+use Rattle.std.specs.List.{AllByRecursion}
 use Rattle.std.proofs.lemmas.Bool.Decides.{nat_tests}
 use Rattle.std.proofs.lemmas.List.{length-map}
-use Rattle.std.proofs.lemmas.List.Sums.{sum_by-le, count_by-le-length}
-use Rattle.std.proofs.lemmas.List.Elements.{All-from_recursion}
+use Rattle.std.proofs.lemmas.List.Sums.{sum_by-cons, count_by-le-length}
 use Rattle.instruction_set.specs.declared.letter.Letter.{Letter}
 use Rattle.instruction_set.specs.Letter.{same_letters}
 use Rattle.genome.specs.Genomes.{different_of}
@@ -21,7 +20,7 @@ use Rattle.organism.specs.OrganismState.{OrganismState}
 use Rattle.organism.specs.Lived.{IsSoundOrganism}
 use Rattle.world_rules.specs.World.{Occupant, id_of, ids_of}
 use Rattle.world_rules.specs.Scene.{Scene}
-use Rattle.world_rules.specs.Statistics.{organism_in, organisms_in, genomes_of_cells, credited_with, stats_in, scene_stats}
+use Rattle.world_rules.specs.Statistics.{organisms_in, genomes_of_cells, credited_with, stats_in, scene_stats}
 use Rattle.world_laws.proofs.Scenes.{Each}
 use Rattle.world_laws.proofs.Configs.{filter_few}
 
@@ -39,17 +38,11 @@ pub over_form : (slot : Option ℕ) (end : ℕ) → ((id : ℕ) → slot ≡ Som
 over_form None end low few = tt
 over_form (Some id) end low few = (omega arith, omega (arith, low id refl, few))
 
--- one more item, or none, makes a list at most one longer
-found_few : {Y : Type 0} (o : Option Y) (ys : List Y) (n : ℕ) → length ys ≤ n
-    → length (cons_option o ys) ≤ suc n
-found_few None ys n h = omega (arith, h)
-found_few (Some y) ys n h = omega (arith, h)
-
 -- there are no more organisms than cells
 organisms_few : (cells : List (Option Occupant)) → length (organisms_in cells) ≤ length cells
 organisms_few [] = omega arith
-organisms_few (slot ∷ cells) =
-    found_few (organism_in slot) (organisms_in cells) (length cells) (organisms_few cells)
+organisms_few (None ∷ cells) = omega (arith, organisms_few cells)
+organisms_few (Some o ∷ cells) = omega (arith, organisms_few cells)
 
 -- there are no more different genomes than genomes
 genotypes_of_few : (genomes : List (List Letter))
@@ -62,30 +55,21 @@ genotypes_of_few (genome ∷ genomes) =
       genotypes_of_few genomes,
     )
 
--- with one more organism of at most the greatest merit, or none, no merit is above that
-merits_first : (slot : Option Occupant) (os : List OrganismState)
-    → ((o : Occupant) → slot ≡ Some o → o.organism.merit ≤ 2 ^ 38)
-    → AllByRecursion (λ (o : OrganismState). o.merit ≤ 2 ^ 38) os
-    → AllByRecursion (λ (o : OrganismState). o.merit ≤ 2 ^ 38) (cons_option (organism_in slot) os)
-merits_first None os first rest = rest
-merits_first (Some o) os first rest = (first o refl, rest)
-
--- no sound organism in the cells has more than the greatest merit
-merits_fit : (cells : List (Option Occupant)) → Each IsSoundOrganism cells
-    → AllByRecursion (λ (o : OrganismState). o.merit ≤ 2 ^ 38) (organisms_in cells)
-merits_fit [] sound = tt
-merits_fit (slot ∷ cells) sound =
-    merits_first slot (organisms_in cells) (λ o e. (sound 0 o (ap Some e)).merit)
-    (merits_fit cells (λ cell o h. sound (suc cell) o h))
-
--- the merits together
+-- the merits together, none of which is above the greatest
 merits_sum : (cells : List (Option Occupant)) → Each IsSoundOrganism cells
     → sum_by (λ (o : OrganismState). o.merit) (organisms_in cells) ≤ length (organisms_in cells)
     * 2 ^ 38
-merits_sum cells sound =
-    sum_by-le (λ (o : OrganismState). o.merit) (2 ^ 38) (organisms_in cells)
-    (All-from_recursion (λ (o : OrganismState). o.merit ≤ 2 ^ 38) (organisms_in cells)
-    (merits_fit cells sound))
+merits_sum [] sound = omega arith
+merits_sum (None ∷ cells) sound = merits_sum cells (λ cell o h. sound (suc cell) o h)
+merits_sum (Some o ∷ cells) sound =
+    let all : sum_by (λ (o : OrganismState). o.merit) (organisms_in (Some o ∷ cells))
+    ≡ o.organism.merit + sum_by (λ (o : OrganismState). o.merit) (organisms_in cells) =
+    sum_by-cons (λ (o : OrganismState). o.merit) o.organism (organisms_in cells) in
+    omega (
+      arith,
+      (sound 0 o refl).merit,
+      merits_sum cells (λ cell o h. sound (suc cell) o h),
+    )
 
 -- how many of at most 65536 organisms have a task credited fits its field, task by task
 tasks_form : (cells : List (Option Occupant)) (tasks : List Task)

@@ -1,10 +1,12 @@
 -- A life keeps the genome, and changes the merit and the credited set by births alone.
-use Rattle.std.proofs.Common.{◌≡◌, ◌∙◌, refl, ℕ, ℤ, zero, suc, ◌+◌, List, [], ◌∷◌, ◌++◌, Option, Some, None}
+use Rattle.std.proofs.Common.{◌≡◌, ◌∙◌, refl, ap, length, Bool, true, ℕ, zero, suc, ◌+◌, List, [], ◌∷◌, ◌++◌, Option, Some, None}
+use Rattle.std.proofs.lemmas.List.{length-set}
 use Rattle.instruction_set.specs.declared.letter.Letter.{Letter}
 use Rattle.divide_rules.specs.Rules.{RuleNumbers}
+use Rattle.logic_tasks.specs.LogicTasks.{task_place}
 use Rattle.logic_tasks.specs.declared.task.Task.{Task}
 use Rattle.virtual_cpu.specs.declared.step_answer.StepAnswer.{StepAnswer}
-use Rattle.virtual_cpu.specs.declared.step_answer.StepAnswer.TheVariants.{Output, Asks}
+use Rattle.virtual_cpu.specs.declared.step_answer.StepAnswer.TheVariants.{Output}
 use Rattle.virtual_cpu.specs.Machine.{letter_under_ip}
 use Rattle.organism.specs.declared.outcome.Outcome.{Outcome}
 use Rattle.organism.specs.declared.outcome.Outcome.TheVariants as outcome
@@ -14,40 +16,46 @@ use Rattle.organism.specs.SettingNumbers.{SettingNumbers}
 use Rattle.organism.specs.UpdateLife.{LifeState, after_copy_of, after_outcome, after_step, copy_of, death_in, ended, life, life_state_after}
 use Rattle.world_laws.specs.Keeping.{HasKept}
 
--- an organism with the genome, the merit and the credited set of another
-record IsAlike (o other : OrganismState) : Type 0 where
-  genome : other.genome ≡ o.genome
-  merit : other.merit ≡ o.merit
-  credited : other.credited ≡ o.credited
+-- what the answer of a machine leaves of an organism: with its limit, its age and how many tasks its
+-- gestation has
+pub record Lasting : Type 0 where
+  pub genome : List Letter
+  pub merit : ℕ
+  pub credited : List Bool
+  pub gestation : ℕ
+  pub limit : ℕ
+  pub age : ℕ
 
--- a task that is newly done, or none, leaves the genome, the merit and the credited set
-done-alike : (o : OrganismState) (task : Option Task) → IsAlike o (with_done o task).0
-done-alike o None = record { genome = refl; merit = refl; credited = refl }
-done-alike o (Some task) = record { genome = refl; merit = refl; credited = refl }
+-- that of an organism
+abbrev pub lasting : OrganismState → Lasting
+lasting o = record {
+  genome = o.genome;
+  merit = o.merit;
+  credited = o.credited;
+  gestation = length o.gestation;
+  limit = o.machine.limit;
+  age = o.age;
+}
 
--- so does an output
-output-alike : (o : OrganismState) (output : ℤ) → IsAlike o (after_output o output).0
-unfolding after_output
-output-alike o output =
-    let read : OrganismState = record o { read = o.read + 1 } in
-    let done = done-alike read (newly_done o output) in
-    record { genome = done.genome; merit = done.merit; credited = done.credited }
+-- a task that is newly done, or none, leaves it
+done-leaves : (o : OrganismState) (task : Option Task) → lasting (with_done o task).0 ≡ lasting o
+done-leaves o None = refl
+done-leaves o (Some task) = rw (length-set o.gestation (task_place task) true) refl
 
 -- so does what follows from what the machine tells
-did-alike : (o : OrganismState) (rules : RuleNumbers) (did : StepAnswer)
-    → IsAlike o (after_did o rules did).0
-did-alike o rules (Output value) = output-alike o value
-did-alike o rules (Asks ask) = record { genome = refl; merit = refl; credited = refl }
-did-alike o rules _ = record { genome = refl; merit = refl; credited = refl }
+did-leaves : (o : OrganismState) (rules : RuleNumbers) (did : StepAnswer)
+    → lasting (after_did o rules did).0 ≡ lasting o
+unfolding after_output
+did-leaves o rules (Output value) =
+    done-leaves (record o { read = o.read + 1 }) (newly_done o value)
+did-leaves o rules _ = refl
 
--- so does a step, before a viable divide renews the organism
-step-alike : (o : OrganismState) (copy : Option Letter) (rules : RuleNumbers)
-    → IsAlike o (life_step o copy rules).0
+-- so does a step of one that is a step older, before a viable divide renews it
+pub step-leaves : (o : OrganismState) (copy : Option Letter) (rules : RuleNumbers)
+    → lasting (life_step o copy rules).0 ≡ lasting (older o (machine_step o copy).0)
 unfolding life_step
-step-alike o copy rules =
-    let aged = older o (machine_step o copy).0 in
-    let did = did-alike aged rules (machine_step o copy).1 in
-    record { genome = did.genome; merit = did.merit; credited = did.credited }
+step-leaves o copy rules =
+    did-leaves (older o (machine_step o copy).0) rules (machine_step o copy).1
 
 -- a list with one more is not empty
 one-more : {X : Type 0} (xs : List X) (x : X) → xs ++ x ∷ [] ≡ [] → ⊥
@@ -72,15 +80,15 @@ unfolding after_step
 more-kept settings words start now kept =
     let copy = copy_of (letter_under_ip now.organism.machine) words settings.rates.copy now.next in
     let stepped = life_step now.organism copy settings.rules in
-    let same = step-alike now.organism copy settings.rules in
+    let same = step-leaves now.organism copy settings.rules in
     outcome-kept settings words start
     (record now {
       organism = stepped.0;
       next = after_copy_of (letter_under_ip now.organism.machine) words settings.rates.copy now.next;
     }) stepped.1 (record {
-      genome = same.genome ∙ kept.genome;
-      merit = λ none. same.merit ∙ kept.merit none;
-      credited = λ none. same.credited ∙ kept.credited none;
+      genome = ap (λ (l : Lasting). l.genome) same ∙ kept.genome;
+      merit = λ none. ap (λ (l : Lasting). l.merit) same ∙ kept.merit none;
+      credited = λ none. ap (λ (l : Lasting). l.credited) same ∙ kept.credited none;
     })
 
 -- so it is after so many steps of a life

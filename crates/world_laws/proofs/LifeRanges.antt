@@ -1,26 +1,21 @@
 -- A life keeps the limit and the sets of an organism, and ends before the age of death or with it.
 use Rattle.std.proofs.Common.{◌≡◌, ◌⊎◌, inl, inr, ◌∙◌, refl, sym, ap, ℕ, ℤ, zero, suc, ◌+◌, ◌*◌, ◌<◌, ◌≤◌, Bool, true, false, cond, [], ◌∷◌, length, Option, Some, None, arith}
-use Rattle.std.specs.Prelude.{◌&&◌, ◌==◌, find}
+use Rattle.std.specs.Prelude.{find}
 use Rattle.std.specs.List.{AllByRecursion, range_with_len}
-use Rattle.std.proofs.lemmas.Bool.{cases_eq, cases_lt, eqb-false}
-use Rattle.std.proofs.lemmas.List.{length-set, length-replicate}
+use Rattle.std.proofs.lemmas.Bool.{cases_eq, cases_lt, eq-eqb}
+use Rattle.std.proofs.lemmas.List.{length-replicate}
 use Rattle.instruction_set.specs.declared.letter.Letter.{Letter}
-use Rattle.divide_rules.specs.Rules.{RuleNumbers}
-use Rattle.logic_tasks.specs.LogicTasks.{task_place}
-use Rattle.logic_tasks.specs.declared.task.Task.{Task}
-use Rattle.virtual_cpu.specs.declared.step_answer.StepAnswer.{StepAnswer}
-use Rattle.virtual_cpu.specs.declared.step_answer.StepAnswer.TheVariants.{Output, Asks}
 use Rattle.virtual_cpu.specs.Machine.{Machine, letter_under_ip}
 use Rattle.virtual_cpu.specs.Step.{KeepsLimits, step}
 use Rattle.organism.specs.declared.outcome.Outcome.{Outcome}
 use Rattle.organism.specs.declared.outcome.Outcome.TheVariants as outcome
 use Rattle.organism.specs.declared.ran.Ran.{Ran}
-use Rattle.organism.specs.Life.{after_did, after_output, life_step, machine_step, newly_done, next_input, older, renewed, with_done}
+use Rattle.organism.specs.Life.{life_step, next_input, older, renewed}
 use Rattle.organism.specs.Newborns.{NewbornValue}
 use Rattle.organism.specs.OrganismState.{OrganismState}
 use Rattle.organism.specs.SettingNumbers.{SettingNumbers}
 use Rattle.organism.specs.UpdateLife.{LifeState, after_copy_of, after_outcome, after_step, copy_of, death_in, dies_at, ended, is_death, is_old, life, life_state_after, newborn_of}
-use Rattle.world_laws.proofs.Keepings.{steps-kept}
+use Rattle.world_laws.proofs.Keepings.{Lasting, step-leaves, steps-kept}
 use Rattle.world_laws.proofs.Placements.{all_append}
 
 -- no step changes the limit of a machine
@@ -36,61 +31,6 @@ pub record HasNine (bound : ℕ) (o : OrganismState) : Type 0 where
 -- a newborn has a set of nine tasks
 abbrev pub BringsNine : NewbornValue → Type 0
 BringsNine newborn = length newborn.credited ≡ 9
-
--- another organism of this age, and of such a kind if the first is
-record IsOfAge (steps : ℕ) (o other : OrganismState) : Type 0 where
-  age : other.age ≡ steps
-  nine : (limit : ℕ) → HasNine limit o → HasNine limit other
-
--- a task that is newly done, or none, leaves the age, the limit and sets of nine tasks
-done-of-age : (o : OrganismState) (task : Option Task) → IsOfAge o.age o (with_done o task).0
-done-of-age o None = record { age = refl; nine = λ limit has. has }
-done-of-age o (Some task) = record {
-  age = refl;
-  nine = λ limit has. record {
-    limit = has.limit;
-    credited = has.credited;
-    gestation = length-set o.gestation (task_place task) true ∙ has.gestation;
-  };
-}
-
--- so does an output
-output-of-age : (o : OrganismState) (output : ℤ) → IsOfAge o.age o (after_output o output).0
-unfolding after_output
-output-of-age o output =
-    let read : OrganismState = record o { read = o.read + 1 } in
-    let done = done-of-age read (newly_done o output) in
-    record {
-      age = done.age;
-      nine = λ limit has. done.nine limit (record {
-        limit = has.limit;
-        credited = has.credited;
-        gestation = has.gestation;
-      });
-    }
-
--- so does what follows from what the machine tells
-did-of-age : (o : OrganismState) (rules : RuleNumbers) (did : StepAnswer)
-    → IsOfAge o.age o (after_did o rules did).0
-did-of-age o rules (Output value) = output-of-age o value
-did-of-age o rules (Asks ask) = record { age = refl; nine = λ limit has. has }
-did-of-age o rules _ = record { age = refl; nine = λ limit has. has }
-
--- a step makes the age one more, and leaves the limit and sets of nine tasks
-step-of-age : KeepLimits → (o : OrganismState) (copy : Option Letter) (rules : RuleNumbers)
-    → IsOfAge (o.age + 1) o (life_step o copy rules).0
-unfolding life_step
-step-of-age keep o copy rules =
-    let aged = older o (machine_step o copy).0 in
-    let did = did-of-age aged rules (machine_step o copy).1 in
-    record {
-      age = did.age;
-      nine = λ limit has. did.nine limit (record {
-        limit = (keep o.machine (next_input o) copy).limit ∙ has.limit;
-        credited = has.credited;
-        gestation = has.gestation;
-      });
-    }
 
 -- an organism in its life, and its newborns so far
 pub record LivesWithNine (bound : ℕ) (s : LifeState) : Type 0 where
@@ -130,9 +70,15 @@ module _ (keep : KeepLimits) (settings : SettingNumbers) (words : ℕ → ℕ) w
       let copy = copy_of (letter_under_ip s.organism.machine) words settings.rates.copy s.next in
       let stepped = life_step s.organism copy settings.rules in
       let next = after_copy_of (letter_under_ip s.organism.machine) words settings.rates.copy s.next in
+      let same = step-leaves s.organism copy settings.rules in
       outcome-nine settings words limit (record s { organism = stepped.0; next = next }) stepped.1
       (record {
-        organism = (step-of-age keep s.organism copy settings.rules).nine limit has.organism;
+        organism = record {
+          limit = ap (λ (l : Lasting). l.limit) same
+              ∙ (keep s.organism.machine (next_input s.organism) copy).limit ∙ has.organism.limit;
+          credited = ap (λ (l : Lasting). length l.credited) same ∙ has.organism.credited;
+          gestation = ap (λ (l : Lasting). l.gestation) same ∙ has.organism.gestation;
+        };
         newborns = has.newborns;
       })
 
@@ -146,9 +92,9 @@ module _ (keep : KeepLimits) (settings : SettingNumbers) (words : ℕ → ℕ) w
       let stepped = life_step s.organism copy settings.rules in
       let next = after_copy_of (letter_under_ip s.organism.machine) words settings.rates.copy s.next in
       let between : LifeState = record s { organism = stepped.0; next = next } in
-      let told = step-of-age keep s.organism copy settings.rules in
+      let told = step-leaves s.organism copy settings.rules in
       elim (outcome-age settings words between stepped.1) [
-        | inl same ↦ inl (same ∙ told.age)
+        | inl same ↦ inl (same ∙ ap (λ (l : Lasting). l.age) told)
         | inr anew ↦ inr anew
       ]
 
@@ -170,10 +116,8 @@ module _ (keep : KeepLimits) (settings : SettingNumbers) (words : ℕ → ℕ) w
       → settings.death ≡ true → is_old settings o ≡ false
       → o.age ≡ settings.age_limit * genome → ⊥
   other-age o genome same death alive at =
-      let here : (true && (o.age == settings.age_limit * genome)) ≡ false =
-      ap (λ (b : Bool). b && (o.age == settings.age_limit * genome)) (sym death)
-      ∙ ap (λ (n : ℕ). settings.death && (o.age == settings.age_limit * n)) (sym same) ∙ alive in
-      eqb-false o.age (settings.age_limit * genome) here at
+      let old : is_old settings o ≡ true =
+      rw (death, same) (eq-eqb o.age (settings.age_limit * genome) at) in absurd cc
 
   -- before the age of death, and with no death so far, it is still before it
   steps-young : (start : LifeState) (steps : ℕ)

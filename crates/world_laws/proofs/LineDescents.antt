@@ -2,7 +2,6 @@
 use Rattle.std.proofs.Common.{◌≡◌, ℕ, zero, suc, ◌<◌, List, [], ◌∷◌, ◌++◌, map, Option, Some, None, refl, sym, ap, subst, ◌∙◌, arith}
 use Rattle.std.specs.Prelude.{slice_get, option_map, IfSome}
 use Rattle.std.proofs.lemmas.Option.{get_or_from_slice_get, slice_get-map}
-use Rattle.instruction_set.specs.declared.letter.Letter.{Letter}
 use Rattle.lineage_log.specs.Links.{Link}
 use Rattle.world_config.specs.Values.{ConfigValues}
 use Rattle.world_rules.specs.World.{Occupant, World, id_at, id_of}
@@ -13,6 +12,7 @@ use Rattle.world_laws.specs.LowerLaws.{LifeLaws, LineLaws}
 use Rattle.world_laws.proofs.Mirror.{written}
 use Rattle.world_laws.proofs.Scenes.{Known, Stands, who_stands}
 use Rattle.world_laws.specs.Bounds.{IsConfig}
+use Rattle.world_laws.proofs.Updates.{written_there}
 use Rattle.world_laws.proofs.WholeLogs.{run_after}
 use Rattle.world_laws.proofs.Descents.{descended_after}
 
@@ -55,13 +55,6 @@ module _ (laws : LineLaws) (everyone : List Link) (are : AreNumbered everyone)
   descent_of : (id : ℕ) (link : Link) → slice_get everyone id ≡ Some link
       → IsDescent (descent_line_of everyone id)
   descent_of id link e = let low : id < suc id = omega arith in descent_below (suc id) id link low e
-
--- a link that was written, with its genome
-written_there : (slot : Option Link) (letters : List Letter)
-    → option_map written slot ≡ Some (Some letters) → (link : Link) × (slot ≡ Some link)
-    × (link.genome ≡ letters)
-written_there None letters e = absurd cc
-written_there (Some link) letters e = (link, refl, cc)
 
 -- the line of who stands in a cell, if somebody does, descends
 descent_in : (laws : LineLaws) (w : World) → AreNumbered w.everyone → AreDescended w.everyone

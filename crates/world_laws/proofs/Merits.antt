@@ -1,9 +1,7 @@
 -- All merits of a world of sound organisms together.
-use Rattle.std.proofs.Common.{◌≡◌, ℕ, suc, ◌*◌, ◌≤◌, ◌^◌, List, [], ◌∷◌, map, length, sum, Option, Some, None, refl, ap, arith}
-use Rattle.std.specs.List.{AllByRecursion}
+use Rattle.std.proofs.Common.{◌+◌, ◌≡◌, ℕ, suc, ◌*◌, ◌≤◌, ◌^◌, List, [], ◌∷◌, map, length, sum, Option, Some, None, refl, ap, arith}
 use Rattle.std.proofs.lemmas.List.{length-map}
-use Rattle.std.proofs.lemmas.List.Sums.{sum_by-le}
-use Rattle.std.proofs.lemmas.List.Elements.{All-from_recursion}
+use Rattle.std.proofs.lemmas.List.Sums.{sum_by-cons}
 use Rattle.organism.specs.Lived.{IsSoundOrganism}
 use Rattle.world_config.specs.Values.{ConfigValues}
 use Rattle.world_rules.specs.World.{Occupant}
@@ -21,21 +19,18 @@ merit_few : (slot : Option Occupant) → ((o : Occupant) → slot ≡ Some o →
 merit_few None sound = omega arith
 merit_few (Some o) sound = (sound o refl).merit
 
--- so it is with all cells of sound organisms
-merits_fit : (cells : List (Option Occupant)) → Each IsSoundOrganism cells
-    → AllByRecursion (λ merit. merit ≤ 2 ^ 38) (map merit_in cells)
-merits_fit [] sound = tt
-merits_fit (slot ∷ cells) sound = (
-  merit_few slot (λ o e. sound 0 o (ap Some e)),
-  merits_fit cells (λ cell o h. sound (suc cell) o h),
-)
-
 -- all merits together are at most the greatest one for each cell
 merits_few : (cells : List (Option Occupant)) → Each IsSoundOrganism cells
     → sum (map merit_in cells) ≤ length (map merit_in cells) * 2 ^ 38
-merits_few cells sound =
-    sum_by-le (λ merit. merit) (2 ^ 38) (map merit_in cells)
-    (All-from_recursion (λ merit. merit ≤ 2 ^ 38) (map merit_in cells) (merits_fit cells sound))
+merits_few [] sound = omega arith
+merits_few (slot ∷ cells) sound =
+    let all : sum (map merit_in (slot ∷ cells)) ≡ merit_in slot + sum (map merit_in cells) =
+    sum_by-cons (λ x. x) (merit_in slot) (map merit_in cells) in
+    omega (
+      arith,
+      merit_few slot (λ o e. sound 0 o (ap Some e)),
+      merits_few cells (λ cell o h. sound (suc cell) o h),
+    )
 
 -- the merits of a world of a run
 pub merits_after : LifeLaws → (config : ConfigValues) → IsConfig config → (n : ℕ)

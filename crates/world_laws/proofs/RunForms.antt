@@ -1,5 +1,5 @@
 -- Each line of a run has its form, and together they are the text of its log.
-use Rattle.std.proofs.Common.{◌≡◌, ℕ, zero, suc, ◌+◌, ◌*◌, ◌<◌, ◌≤◌, List, [], ◌∷◌, ◌++◌, length, refl, sym, ap, ◌∙◌, arith}
+use Rattle.std.proofs.Common.{◌≡◌, ℕ, zero, suc, ◌+◌, ◌*◌, ◌<◌, ◌≤◌, [], ◌∷◌, ◌++◌, length, refl, arith}
 use Rattle.std.proofs.lemmas.List.{append_assoc, append-nil}
 use Rattle.std.proofs.lemmas.List.Concat.{flat_map-append}
 use Rattle.log_lines.specs.Line.{End}
@@ -135,17 +135,18 @@ updates_are : (config : ConfigValues) (n : ℕ)
 unfolding update_text
 updates_are config zero = refl
 updates_are config (suc n) =
-    flat_map-append line_text (updates_lines config n) (update_lines config (world_after config n))
-    ∙ ap (λ (l : List ℕ). l ++ lines_text (update_lines config (world_after config n)))
-    (updates_are config n)
+    rw (
+      flat_map-append line_text (updates_lines config n) (update_lines config (world_after config n)),
+      updates_are config n,
+    ) refl
 
 -- the text of a run's lines is its log
 pub text_is : (config : ConfigValues) (n : ℕ) → lines_text (run_lines config n) ≡ log_text config n
 unfolding log_text head_text end_text
 text_is config n =
-    let head = line_text (head_line config) in
-    let end = line_text (End n) in
-    ap (λ (l : List ℕ). head ++ l) (flat_map-append line_text (updates_lines config n) (End n ∷ []))
-    ∙ ap (λ (l : List ℕ). head ++ (l ++ (end ++ []))) (updates_are config n)
-    ∙ ap (λ (l : List ℕ). head ++ (updates_text config n ++ l)) (append-nil end)
-    ∙ sym (append_assoc head (updates_text config n) end)
+    rw (
+      flat_map-append line_text (updates_lines config n) (End n ∷ []),
+      updates_are config n,
+      append-nil (line_text (End n)),
+      append_assoc (line_text (head_line config)),
+    ) refl

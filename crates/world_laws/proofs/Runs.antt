@@ -161,10 +161,7 @@ module _ (laws : LifeLaws) (config : ConfigValues) (fit : IsConfig config) (n : 
   pub update_goes : Goes ended last (length (births_of (lives_after config w)) + 1000)
       (65536 + length (births_of (lives_after config w)) + 65536000)
   update_goes =
-      let births = births_of (lives_after config w) in
-      goes_more (length births + 1000) (length births + 1000)
-      (length (deaths_of (lives_after config w)) + length births + 65536000)
-      (65536 + length births + 65536000) (end_goes laws config fit w is.sound) (omega arith)
+      goes_more (end_goes laws config fit w is.sound) (omega arith)
       (omega (arith, few_deaths, few_cells config fit))
 
   -- the next world

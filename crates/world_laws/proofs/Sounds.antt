@@ -39,8 +39,8 @@ pub record Goes (scene next : Scene) (count deaths : ℕ) : Type 0 where
   pub update : next.update ≡ scene.update
 
 -- in a scene that stays nobody came and nobody died
-pub goes_nowhere : (scene : Scene) → Goes scene scene 0 0
-goes_nowhere scene = record {
+goes_nowhere : (scene : Scene) (count deaths : ℕ) → Goes scene scene count deaths
+goes_nowhere scene count deaths = record {
   sound = λ s. s;
   own = λ o. o;
   sized = refl;
@@ -50,30 +50,23 @@ goes_nowhere scene = record {
   update = refl;
 }
 
--- from a scene to a second and on to a third, numbers of newcomers and of deaths add up
-pub goes_on : {a b c : Scene} {m n k l : ℕ} → Goes a b m k → Goes b c n l → Goes a c (m + n) (k + l)
-goes_on {a} {b} {c} {m} {n} {k} {l} first second = record {
+-- from a scene to a second and on to a third, numbers of newcomers and of deaths add up, at most
+pub goes_on : {a b c : Scene} {m n k l count deaths : ℕ} → Goes a b m k → Goes b c n l
+    → m + n ≤ count → k + l ≤ deaths → Goes a c count deaths
+goes_on {a} {b} {c} {m} {n} {k} {l} first second come gone = record {
   sound = λ s. second.sound (first.sound s);
   own = λ o. second.own (first.own o);
   sized = second.sized ∙ first.sized;
   grown = omega (arith, first.grown, second.grown);
-  few = omega (arith, first.few, second.few);
-  gone = omega (arith, first.gone, second.gone);
+  few = omega (arith, first.few, second.few, come);
+  gone = omega (arith, first.gone, second.gone, gone);
   update = second.update ∙ first.update;
 }
 
 -- what holds of so many newcomers and deaths at most holds of more
-pub goes_more : {a b : Scene} (m n k l : ℕ) → Goes a b m k → m ≤ n → k ≤ l → Goes a b n l
-goes_more m n k l goes h i =
-    record {
-      sound = goes.sound;
-      own = goes.own;
-      sized = goes.sized;
-      grown = goes.grown;
-      few = omega (arith, goes.few, h);
-      gone = omega (arith, goes.gone, i);
-      update = goes.update;
-    }
+pub goes_more : {a b : Scene} {m n k l : ℕ} → Goes a b m k → m ≤ n → k ≤ l → Goes a b n l
+goes_more {a} {b} goes h i =
+    goes_on goes (goes_nowhere b 0 0) (omega (arith, h)) (omega (arith, i))
 
 -- with one more dead, or none, the list is at most one longer
 gone_one : (gone : List ℕ) (slot : Option ℕ)
@@ -101,10 +94,9 @@ goes_death scene at = record {
 -- with deaths nobody came and at most one died for each cell
 pub goes_deaths : (scene : Scene) (cells : List ℕ)
     → Goes scene (with_deaths scene cells) 0 (length cells)
-goes_deaths scene [] = goes_nowhere scene
+goes_deaths scene [] = goes_nowhere scene 0 0
 goes_deaths scene (cell ∷ cells) =
-    goes_more (0 + 0) 0 (1 + length cells) (length (cell ∷ cells))
-    (goes_on (goes_death scene cell) (goes_deaths (with_death scene cell) cells)) (omega arith)
+    goes_on (goes_death scene cell) (goes_deaths (with_death scene cell) cells) (omega arith)
     (omega arith)
 
 -- a newcomer with the next id has its own, and so have the others
@@ -179,14 +171,11 @@ module _ (laws : LifeLaws) (config : ConfigValues) (fit : IsConfig config) where
       → AllByRecursion (IsBorn config) births
       → Goes scene (fold (with_newborn config) scene (zip births placings)) (length births)
       (length births)
-  goes_births scene [] placings are = goes_nowhere scene
-  goes_births scene (b ∷ births) [] are =
-      goes_more 0 (length (b ∷ births)) 0 (length (b ∷ births)) (goes_nowhere scene) (omega arith)
-      (omega arith)
+  goes_births scene [] placings are = goes_nowhere scene 0 0
+  goes_births scene (b ∷ births) [] are = goes_nowhere scene _ _
   goes_births scene (b ∷ births) (p ∷ placings) are =
-      goes_more (1 + length births) (length (b ∷ births)) (1 + length births) (length (b ∷ births))
-      (goes_on (goes_birth scene (b, p) are.0)
-      (goes_births (with_newborn config scene (b, p)) births placings are.1))
+      goes_on (goes_birth scene (b, p) are.0)
+      (goes_births (with_newborn config scene (b, p)) births placings are.1)
       (omega arith) (omega arith)
 
   -- a founder of an allowed length is a sound organism
@@ -206,16 +195,14 @@ module _ (laws : LifeLaws) (config : ConfigValues) (fit : IsConfig config) where
   goes_what : (scene : Scene) (nth : ℕ) (what : WhatValue) → FitsWhat config what
       → Goes scene (after_what config scene nth what) 1 65536
   goes_what scene nth (inject cell letters) fits =
-      goes_more 1 1 1 65536 (goes_newcomer scene
+      goes_more (goes_newcomer scene
       (founder_link (next_id scene) scene.update cell letters) (founder_of config cell nth letters)
       refl (sound_founder cell nth letters fits.1 fits.2)) (omega arith) (omega arith)
   goes_what scene nth (clear first last) fits =
       let few = few_cells config fit in
-      goes_more 0 1 (length (cells_from first last)) 65536
-      (goes_deaths scene (cells_from first last)) (omega arith)
+      goes_more (goes_deaths scene (cells_from first last)) (omega arith)
       (omega (arith, length-range_with_len first (last + 1 - first), fits, few))
-  goes_what scene nth (rate name ppm) fits =
-      goes_more 0 1 0 65536 (goes_nowhere scene) (omega arith) (omega arith)
+  goes_what scene nth (rate name ppm) fits = goes_nowhere scene 1 65536
 
   -- so it is with an event, given with its place
   pub goes_event : (scene : Scene) (event : ℕ × EventValue) → FitsPlaced config event
@@ -227,9 +214,7 @@ module _ (laws : LifeLaws) (config : ConfigValues) (fit : IsConfig config) where
   pub goes_events : (scene : Scene) (events : List (ℕ × EventValue))
       → AllByRecursion (FitsPlaced config) events
       → Goes scene (fold (after_event config) scene events) (length events) (65536 * length events)
-  goes_events scene [] fits = goes_nowhere scene
+  goes_events scene [] fits = goes_nowhere scene _ _
   goes_events scene (event ∷ events) fits =
-      goes_more (1 + length events) (length (event ∷ events)) (65536 + 65536 * length events)
-      (65536 * length (event ∷ events))
-      (goes_on (goes_event scene event fits.0)
-      (goes_events (after_event config scene event) events fits.1)) (omega arith) (omega arith)
+      goes_on (goes_event scene event fits.0)
+      (goes_events (after_event config scene event) events fits.1) (omega arith) (omega arith)

@@ -1,7 +1,6 @@
 -- One line at a time: each takes the reader from the scene before it to the scene after it.
 use Rattle.std.proofs.Common.{◌≡◌, ℕ, ◌+◌, ◌<◌, ◌≤◌, true, List, [], ◌∷◌, ◌++◌, map, length, drop, Option, Some, None, Result, Ok, refl, sym, ap, subst, ◌∙◌, arith}
-use Rattle.std.specs.Prelude.{slice_get, slice_set, option_map, ◌==◌, nat_lt}
-use Rattle.std.specs.Option.{option_to_list}
+use Rattle.std.specs.Prelude.{slice_get, slice_set, ◌==◌, nat_lt}
 use Rattle.std.proofs.lemmas.List.{map-set, map-append}
 use Rattle.std.proofs.lemmas.Option.{slice_get-get_or, slice_get-map, slice_get_within}
 use Rattle.std.proofs.lemmas.Bool.Decides.{nat_tests}
@@ -13,7 +12,7 @@ use Rattle.lineage_log.specs.declared.reason.Reason.{Reason}
 use Rattle.lineage_log.specs.declared.stage.Stage.{Stage}
 use Rattle.lineage_log.specs.declared.stage.Stage.TheVariants.{Dying, Placing, Happening}
 use Rattle.lineage_log.specs.Slots.{same_slot, holds}
-use Rattle.lineage_log.specs.Order.{LogPlace, Within, told_death, told_birth, with_parent, with_child, told_injected, told_cleared, told_rate}
+use Rattle.lineage_log.specs.Order.{LogPlace, Within, told_death, told_birth, told_injected, told_cleared, told_rate}
 use Rattle.lineage_log.specs.Reader.{Reader, may_die, may_be_born, parent_in}
 use Rattle.lineage_log.specs.Reader as reader
 use Rattle.lineage_log.specs.Links.{Link}
@@ -37,10 +36,8 @@ same_self (Some id) = eqb_same id
 holds_cell : (cells : List (Option Occupant)) (cell : ℕ) → cell < length cells
     → holds (slice_get (ids_of cells) cell) (id_at cells cell) ≡ true
 holds_cell cells cell h =
-    let slot : slice_get (ids_of cells) cell ≡ Some (id_at cells cell) =
-    slice_get-map id_of cells cell
-    ∙ ap (option_map id_of) (slice_get-get_or cells cell None h) in
-    rw slot (same_self (id_at cells cell))
+    rw (slice_get-map id_of cells cell, slice_get-get_or cells cell None h)
+    (same_self (id_at cells cell))
 
 -- where an id stands in a cell, the reader's cell holds it
 holds_who : (cells : List (Option Occupant)) (cell id : ℕ) → id_at cells cell ≡ Some id
@@ -58,14 +55,7 @@ mirror_death : (start : People) (before stage : Stage) (births : ℕ) (scene : S
     ≡ mirror start stage births (with_death scene cell)
 unfolding with_death
 mirror_death start before stage births scene cell id h =
-    let ids : slice_set (ids_of scene.cells) cell None ≡ ids_of (slice_set scene.cells cell None) =
-    sym (map-set id_of scene.cells cell None) in
-    let gone : scene.gone ++ id ∷ [] ≡ scene.gone ++ option_to_list (standing_at scene cell) =
-    ap (λ s. scene.gone ++ option_to_list s) (sym h) in
-    ap (λ (l : List (Option ℕ)). record (mirror start stage births scene)
-    { standing = l; leaving = scene.gone ++ id ∷ [] }) ids
-    ∙ ap (λ (l : List ℕ). record (mirror start stage births scene)
-    { standing = ids_of (slice_set scene.cells cell None); leaving = l }) gone
+    rw (h, map-set id_of scene.cells cell None) refl
 
 -- the mirror of a scene with somebody new
 mirror_newcomer : (start : People) (before stage : Stage) (births more : ℕ) (scene : Scene)
@@ -77,21 +67,10 @@ mirror_newcomer : (start : People) (before stage : Stage) (births more : ℕ) (s
 unfolding with_newcomer
 mirror_newcomer start before stage births more scene link organism grown is =
     let new : Option Occupant = Some (record { id = link.id; organism = organism }) in
-    let people = people_in start scene.everyone in
-    let number : length people ≡ link.id = people_number start scene.everyone grown ∙ sym is in
-    let ids : slice_set (ids_of scene.cells) link.cell (Some (length people))
-    ≡ ids_of (slice_set scene.cells link.cell new) =
-    ap (λ n. slice_set (ids_of scene.cells) link.cell (Some n)) number
-    ∙ sym (map-set id_of scene.cells link.cell new) in
-    let kept : people ++ Some link.genome ∷ [] ≡ people_in start (scene.everyone ++ link ∷ []) =
-    sym (people_grown start scene.everyone link grown) in
-    let gone = scene.gone ++ option_to_list (standing_at scene link.cell) in
-    ap (λ (l : List (Option ℕ)).
-    record (mirror start stage more scene)
-    { standing = l; people = people ++ Some link.genome ∷ []; leaving = gone }) ids
-    ∙ ap (λ (l : People). record (mirror start stage more scene)
-    { standing = ids_of (slice_set scene.cells link.cell new); people = l; leaving = gone })
-    kept
+    let number : length (people_in start scene.everyone) ≡ link.id =
+    people_number start scene.everyone grown ∙ sym is in
+    rw (people_grown start scene.everyone link grown, map-set id_of scene.cells link.cell new, number)
+    refl
 
 -- what a replay sees of a scene with a death
 seen_death : (scene : Scene) (cell : ℕ)
@@ -99,9 +78,7 @@ seen_death : (scene : Scene) (cell : ℕ)
     { standing = slice_set (ids_of scene.cells) cell None } ≡ seen_in (with_death scene cell).cells
     (with_death scene cell).everyone
 unfolding with_death
-seen_death scene cell = ap
-    (λ (l : List (Option ℕ)). record (seen_in scene.cells scene.everyone) { standing = l })
-    (sym (map-set id_of scene.cells cell None))
+seen_death scene cell = rw (map-set id_of scene.cells cell None) refl
 
 -- and with somebody new
 seen_newcomer : (scene : Scene) (link : Link) (organism : OrganismState) (cells : List (Option ℕ))
@@ -209,16 +186,11 @@ one_birth start stage births scene link organism parent origin letters may grown
     let stands = holds_cell scene.cells link.cell within in
     let found = parent_is start stage births scene parent letters lived in
     let over = standing_at scene link.cell in
-    let first : told_birth (mirror start stage births scene) link.id parent scene.update link.cell
-    over origin ≡ with_parent (mirror start stage births scene) link.cell over origin
-    (parent_in (mirror start stage births scene) parent) =
-    rw (eqb_same scene.update, may, number, stands) refl in
     let told : told_birth (mirror start stage births scene) link.id parent scene.update link.cell
     over origin ≡ on (reader.reader_with_newcomer (mirror start stage births scene)
     Placing link.cell
     over link.genome (births + 1)) =
-    first ∙ ap (with_parent (mirror start stage births scene) link.cell over origin) found
-    ∙ ap (with_child (mirror start stage births scene) link.cell over) child in
+    rw (eqb_same scene.update, may, number, stands, found, child) refl in
     one_line _ _ _ _ _ (told
     ∙ ap on (mirror_newcomer start stage Placing births (births + 1) scene link organism grown
     is)) (seen_newcomer scene link organism _ _ refl (rw (wrote, child) refl))

@@ -55,12 +55,12 @@ length-without [] people = refl
 length-without (x ∷ ids) people =
     length-without ids (slice_set people x None) ∙ length-set people x None
 
--- the genome that a link wrote is the link's
-unwritten : (slot : Option Link) (letters : List Letter)
-    → option_map written slot ≡ Some (Some letters)
-    → option_map (λ (l : Link). l.genome) slot ≡ Some letters
-unwritten None letters e = absurd cc
-unwritten (Some link) letters e = let same : link.genome ≡ letters = cc in ap Some same
+-- a link that was written, with its genome
+pub written_there : (slot : Option Link) (letters : List Letter)
+    → option_map written slot ≡ Some (Some letters) → (link : Link) × (slot ≡ Some link)
+    × (link.genome ≡ letters)
+written_there None letters e = absurd cc
+written_there (Some link) letters e = (link, refl, cc)
 
 -- genomes within an update agree with the links
 agree_in : (start : People) (everyone : List Link) (id : ℕ) (letters : List Letter)
@@ -79,8 +79,8 @@ agree_in start everyone id letters agree grown h = elim (cases_lt id (length sta
       let wrote : option_map written (slice_get everyone id) ≡ Some (Some letters) =
       ap (option_map written) there ∙ sym (slice_get-map written (drop n everyone) (id - n))
       ∙ sym (get_right start tail (id - n)) ∙ ap (slice_get (start ++ tail)) at ∙ h in
-      slice_get-map (λ (l : Link). l.genome) everyone id
-      ∙ unwritten (slice_get everyone id) letters wrote
+      let found = written_there (slice_get everyone id) letters wrote in
+      rw (slice_get-map (λ (l : Link). l.genome) everyone id, found.1, found.2) refl
 ]
 
 -- the genomes that a reader keeps after an update
@@ -121,9 +121,7 @@ renewed_is : (start : People) (stage : Stage) (births : ℕ) (scene : Scene)
     → at_next_update (mirror start stage births scene)
     ≡ between (people_after start scene) (scene.update + 1) scene.cells
 renewed_is start stage births scene =
-    let people = people_in start scene.everyone in
-    ap (λ n. record (between (people_after start scene) (scene.update + 1) scene.cells)
-    { newest = n }) (sym (length-without scene.gone people))
+    rw (length-without scene.gone (people_in start scene.everyone)) refl
 
 -- what is counted ends an update
 pub count_tells : (start : People) (stage : Stage) (births : ℕ) (scene : Scene)
@@ -190,16 +188,11 @@ module _ (size : ℕ) (start : People) (w : World) (lives : List CellLife)
 
   -- the reader as an update begins is that between two updates
   pub begun_is : mirror start Quiet 0 begun ≡ between start (w.update + 1) w.cells
-  begun_is =
-      ap (λ (l : People). record (mirror start Quiet 0 begun) { people = l })
-      (people_begun start w.everyone is.number)
-      ∙ ap (λ (l : List (Option ℕ)). record (between start (w.update + 1) w.cells) { standing = l })
-      folk.ids
+  begun_is = rw (people_begun start w.everyone is.number, folk.ids) refl
 
   -- the lives change nothing that a replay has seen
   pub seen_begun : seen_in begun.cells w.everyone ≡ seen_in w.cells w.everyone
-  seen_begun =
-      ap (λ (l : List (Option ℕ)). record (seen_in w.cells w.everyone) { standing = l }) folk.ids
+  seen_begun = rw folk.ids refl
 
 -- an update from the scene as its lives have ended
 module _ (size : ℕ) (start : People) (config : ConfigValues) (scene : Scene) (lives : List CellLife)

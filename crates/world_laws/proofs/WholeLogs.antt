@@ -1,5 +1,5 @@
 -- The whole log of a run: its lines in order, from the first to the last, and what they replay to.
-use Rattle.std.proofs.Common.{◌≡◌, ℕ, zero, suc, ◌+◌, ◌*◌, ◌<◌, ◌≤◌, true, List, [], ◌∷◌, ◌++◌, map, Option, Some, None, Ok, refl, sym, ap, subst, ◌∙◌, arith, inl, inr}
+use Rattle.std.proofs.Common.{add-one, ◌≡◌, ℕ, zero, suc, ◌+◌, ◌*◌, ◌<◌, ◌≤◌, true, List, [], ◌∷◌, ◌++◌, map, Option, Some, None, Ok, refl, sym, ap, subst, ◌∙◌, arith, inl, inr}
 use Rattle.std.specs.Prelude.{replicate, slice_get, slice_set, option_map, unwrap_or, nat_lt, ◌==◌}
 use Rattle.std.specs.List.{AllByRecursion, filter_map, enumerate_from}
 use Rattle.std.proofs.lemmas.List.{map-set, length-set, length-replicate}
@@ -8,7 +8,7 @@ use Rattle.std.proofs.lemmas.Bool.Decides.{nat_tests}
 use Rattle.instruction_set.specs.declared.letter.Letter.{Letter}
 use Rattle.log_lines.specs.Line.{Line, End}
 use Rattle.lineage_log.specs.Order.{LogPlace, Before, Within, After, IsWhole, told_start, told_end, told_all}
-use Rattle.lineage_log.specs.Replay.{Seen, seen_on, Resident, residents_from, replay_of}
+use Rattle.lineage_log.specs.Replay.{Seen, seen_on, residents_from, replay_of}
 use Rattle.lineage_log.specs.Links.{Link}
 use Rattle.organism.specs.OrganismState.{new_organism}
 use Rattle.organism.specs.Lived.{IsSoundOrganism}
@@ -22,7 +22,7 @@ use Rattle.world_laws.proofs.ListLemmas.{map-replicate, eqb_same}
 use Rattle.world_laws.proofs.Mirror.{People, written, genomes_of, between, seen_in, Tells, one_line, more_lines, no_lines}
 use Rattle.world_laws.proofs.Scenes.{Stands, Known, Agree, stands_with}
 use Rattle.world_laws.proofs.Placements.{all_append}
-use Rattle.world_laws.proofs.Updates.{people_after}
+use Rattle.world_laws.proofs.Updates.{written_there, people_after}
 use Rattle.world_laws.specs.Bounds.{IsConfig, size_of}
 use Rattle.world_laws.proofs.Sounds.{sound_founder}
 use Rattle.world_laws.proofs.Runs.{IsRun, update_tells, run_next}
@@ -83,14 +83,9 @@ found_genome : (everyone : List Link) (id : ℕ) (letters : List Letter)
     → slice_get (map written everyone) id ≡ Some (Some letters)
     → unwrap_or (slice_get (genomes_of everyone) id) [] ≡ letters
 found_genome everyone id letters h =
-    let wrote = sym (slice_get-map written everyone id) ∙ h in
-    ap (λ (slot : Option (List Letter)). unwrap_or slot [])
-    (slice_get-map (λ (l : Link). l.genome) everyone id) ∙ read (slice_get everyone id) wrote
-  where
-    read : (slot : Option Link) → option_map written slot ≡ Some (Some letters)
-        → unwrap_or (option_map (λ (l : Link). l.genome) slot) [] ≡ letters
-    read None e = absurd cc
-    read (Some link) e = cc
+    let found = written_there (slice_get everyone id) letters
+    (sym (slice_get-map written everyone id) ∙ h) in
+    rw (slice_get-map (λ (l : Link). l.genome) everyone id, found.1) found.2
 
 -- who stands by the ids and the genomes by id is who lives
 same_living : (from : ℕ) (cells : List (Option Occupant)) (everyone : List Link)
@@ -99,19 +94,10 @@ same_living : (from : ℕ) (cells : List (Option Occupant)) (everyone : List Lin
     ≡ filter_map (λ place. option_map (resident_of place.0) place.1) (enumerate_from from cells)
 same_living from [] everyone known = refl
 same_living from (None ∷ cells) everyone known =
-    let next : suc from ≡ from + 1 = omega arith in
-    same_living (suc from) cells everyone (λ c o h. known (suc c) o h)
-    ∙ ap (λ n. filter_map (λ place. option_map (resident_of place.0) place.1)
-    (enumerate_from n cells)) next
+    rw (add-one from) (same_living (suc from) cells everyone (λ c o h. known (suc c) o h))
 same_living from (Some o ∷ cells) everyone known =
-    let next : suc from ≡ from + 1 = omega arith in
-    let rest = same_living (suc from) cells everyone (λ c o h. known (suc c) o h)
-    ∙ ap (λ n. filter_map (λ place. option_map (resident_of place.0) place.1)
-    (enumerate_from n cells)) next in
-    let genome = found_genome everyone o.id o.organism.genome (known 0 o refl) in
-    ap (λ (g : List Letter). record { cell = from; id = o.id; genome = g }
-    ∷ residents_from (suc from) (ids_of cells) (genomes_of everyone)) genome
-    ∙ ap (λ (r : List Resident). resident_of from o ∷ r) rest
+    let rest = same_living (suc from) cells everyone (λ c o h. known (suc c) o h) in
+    rw (found_genome everyone o.id o.organism.genome (known 0 o refl), add-one from, rest) refl
 
 module _ (laws : LifeLaws) (config : ConfigValues) (fit : IsConfig config) where
   -- the genome of who stands in the founder's world is kept at its id
@@ -162,33 +148,29 @@ module _ (laws : LifeLaws) (config : ConfigValues) (fit : IsConfig config) where
   abbrev pub seen_after : ℕ → Seen
   seen_after n = seen_in (world_after config n).cells (world_after config n).everyone
 
+  -- the ids in the founder's world
+  ids_first : ids_of
+      (slice_set (empty_cells config) config.founder_cell (Some (first_occupant config)))
+      ≡ slice_set (replicate (size_of config) None) config.founder_cell (Some 0)
+  ids_first =
+      map-set id_of (empty_cells config) config.founder_cell (Some (first_occupant config))
+      ∙ ap (λ (l : List (Option ℕ)). slice_set l config.founder_cell (Some 0))
+      (map-replicate id_of (size_of config) None)
+
   -- the first line leads to the reader of the founder's world
   head_told : told_start 2 config.width config.height config.founder_cell config.ancestor
       ≡ Ok (reader_after 0)
   unfolding told_start world_after first_world
   head_told =
-      let f : Option Occupant = Some (first_occupant config) in
       let inside = fit.founder in
       let test : nat_lt config.founder_cell (config.width * config.height) ≡ true =
       grind (arith, nat_tests) in
-      let same : ids_of (slice_set (empty_cells config) config.founder_cell f)
-      ≡ slice_set (replicate (size_of config) None) config.founder_cell (Some 0) =
-      map-set id_of (empty_cells config) config.founder_cell f
-      ∙ ap (λ (l : List (Option ℕ)). slice_set l config.founder_cell (Some 0))
-      (map-replicate id_of (size_of config) None) in
-      rw (test, same) refl
+      rw (test, ids_first) refl
 
   -- by the first line a replay sees the founder's world, whatever it has seen
   head_seen : (s : Seen) → seen_on s (head_line config) ≡ seen_after 0
   unfolding world_after first_world
-  head_seen s =
-      let f : Option Occupant = Some (first_occupant config) in
-      let same : ids_of (slice_set (empty_cells config) config.founder_cell f)
-      ≡ slice_set (replicate (size_of config) None) config.founder_cell (Some 0) =
-      map-set id_of (empty_cells config) config.founder_cell f
-      ∙ ap (λ (l : List (Option ℕ)). slice_set l config.founder_cell (Some 0))
-      (map-replicate id_of (size_of config) None) in
-      rw same refl
+  head_seen s = rw ids_first refl
 
   -- the lines of one more update take the reader and the replay to the next world
   next_tells : (n : ℕ) → Tells (reader_after n) (seen_after n)
