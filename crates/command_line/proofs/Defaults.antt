@@ -1,11 +1,12 @@
 -- The matches with the defaults of what does not stand.
-use Rattle.std.proofs.Common.{◌≡◌, ◌∙◌, ◌&&◌, refl, sym, ap, inl, inr, Bool, true, false, is_some, List, [], ◌∷◌, ◌++◌, fold, Option, Some, None}
+use Rattle.std.proofs.Common.{◌≡◌, arith, ◌∙◌, refl, ap, inl, inr, Bool, true, false, is_some, List, [], ◌∷◌, ◌++◌, fold, Option, Some, None}
 use Rattle.std.specs.Prelude.{if◌then◌else◌, slice_get}
 use Rattle.std.specs.Option.{option_or, option_to_list}
 use Rattle.std.specs.List.{list_all}
 use Rattle.std.specs.Str.{bytes_eq}
-use Rattle.std.proofs.lemmas.Bool.{cases_Bool, false≢true}
-use Rattle.clap.specs.Walk.{Row, Rule, Text, default_rows, has_row, reading_by, with_default}
+use Rattle.std.proofs.lemmas.Bool.{cases_Bool}
+use Rattle.std.proofs.lemmas.Grind.{common_steps}
+use Rattle.clap.specs.Walk.{Row, Rule, Text, default_rows, reading_by, with_default}
 use Rattle.clap.specs.Takes.{is_given}
 use Rattle.clap.specs.Facts.{explicit_source}
 use Rattle.clap.specs.Faults.{default_fault, defaults_fault}
@@ -62,19 +63,12 @@ one_default uses a (Some v) none = appended (default_use a v) uses none
 -- so the parser's rows with an argument's default are those of the uses with it
 with_default_is : (uses : List Use) (a : Rule) → Plain a
     → with_default (rows_by uses) a ≡ rows_by (add_default uses a)
-with_default_is uses a p = go (is_some (value_in a.id uses)) refl
-  where
-    go : (b : Bool) → is_some (value_in a.id uses) ≡ b
-        → with_default (rows_by uses) a ≡ rows_by (add_default uses a)
-    go true is =
-        let row : has_row a.id (rows_by uses) ≡ true = row_is a.id uses ∙ is in rw (row, is) refl
-    go false is =
-        let row : has_row a.id (rows_by uses) ≡ false = row_is a.id uses ∙ is in
-        let here : with_default (rows_by uses) a ≡ default_rows a.id (reading_by a) a.defaults
-        (rows_by uses) = rw row refl in
-        here ∙ ap (λ ds. default_rows a.id (reading_by a) ds (rows_by uses)) p.one
-        ∙ one_default uses a (default_by a) is
-        ∙ ap (λ b. rows_by (if b then uses else or_default uses a (default_by a))) (sym is)
+with_default_is uses a p = elim (cases_Bool (is_some (value_in a.id uses))) [
+  | inl b ↦ rw (row_is a.id uses, b) refl
+  | inr b ↦ rw (row_is a.id uses, b)
+      (ap (λ ds. default_rows a.id (reading_by a) ds (rows_by uses)) p.one
+      ∙ one_default uses a (default_by a) b)
+]
 
 -- and its rows with the defaults of all arguments are those of the uses with them
 pub finished_is : (rules : List Rule) (uses : List Use) → AllPlain rules
@@ -96,72 +90,22 @@ defaulted_one : (id : Text) (uses : List Use) (a : Rule) (d : Option Text)
     → is_some (value_in a.id uses) ≡ false
     → value_in id (or_default uses a d)
     ≡ (if bytes_eq a.id id then option_or (value_in id uses) d else value_in id uses)
-defaulted_one id uses a d none = elim (cases_Bool (bytes_eq a.id id)) [
-  | inl b ↦ rw b (same d (rw (same_text a.id id b) at none) b)
-  | inr b ↦ rw b (other d b)
-]
-  where
-    none_is : is_some (value_in id uses) ≡ false → (found : Option Text) → value_in id uses ≡ found
-        → found ≡ None
-    none_is is None at = refl
-    none_is is (Some v) at = absurd (false≢true (sym (rw at at is)))
-
-    same : (d : Option Text) → is_some (value_in id uses) ≡ false → bytes_eq a.id id ≡ true
-        → value_in id (or_default uses a d) ≡ option_or (value_in id uses) d
-    same None is b =
-        let n : value_in id uses ≡ None = none_is is (value_in id uses) refl in rw n refl
-    same (Some v) is b =
-        let n : value_in id uses ≡ None = none_is is (value_in id uses) refl in
-        value_new id uses (default_use a v) b is ∙ sym (ap (λ o. option_or o (Some v)) n)
-
-    other : (d : Option Text) → bytes_eq a.id id ≡ false
-        → value_in id (or_default uses a d) ≡ value_in id uses
-    other None b = refl
-    other (Some v) b = value_other id uses (default_use a v) b
+defaulted_one id uses a None none = grind (arith, common_steps)
+defaulted_one id uses a (Some v) none =
+    grind (arith, common_steps, value_new id uses (default_use a v), value_other id uses (default_use a v), same_text a.id id)
 
 -- an argument's default becomes the value of its own id, if that has none, and of no other id
 defaulted : (id : Text) (uses : List Use) (a : Rule)
     → value_in id (add_default uses a)
     ≡ (if bytes_eq a.id id then option_or (value_in id uses) (default_by a) else value_in id uses)
-defaulted id uses a = go (value_in a.id uses) refl
-  where
-    go : (found : Option Text) → value_in a.id uses ≡ found
-        → value_in id (add_default uses a)
-        ≡ (if bytes_eq a.id id then option_or (value_in id uses) (default_by a) else value_in id
-        uses)
-    go None is =
-        let none : is_some (value_in a.id uses) ≡ false = ap is_some is in
-        ap (λ b. value_in id (if b then uses else or_default uses a (default_by a))) none
-        ∙ defaulted_one id uses a (default_by a) none
-    go (Some v) is =
-        let some : is_some (value_in a.id uses) ≡ true = ap is_some is in
-        ap (λ b. value_in id (if b then uses else or_default uses a (default_by a))) some
-        ∙ elim (cases_Bool (bytes_eq a.id id)) [
-          | inl b ↦
-              let here : value_in id uses ≡ Some v = rw (← same_text a.id id b) is in
-              rw (b, here) refl
-          | inr b ↦ rw b refl
-        ]
-
--- the first of three that is there, however they are grouped
-or_or : (x y z : Option Text) → option_or (option_or x y) z ≡ option_or x (option_or y z)
-or_or None y z = refl
-or_or (Some v) y z = refl
+defaulted id uses a =
+    grind (arith, common_steps, defaulted_one id uses a (default_by a), same_text a.id id)
 
 -- the value of each id at the end
 pub value_at_end : (id : Text) (rules : List Rule) (uses : List Use)
     → value_in id (fold add_default uses rules) ≡ option_or (value_in id uses) (default_in id rules)
-value_at_end id [] uses = sym (or_none (value_in id uses))
-  where
-    or_none : (x : Option Text) → option_or x None ≡ x
-    or_none None = refl
-    or_none (Some v) = refl
-value_at_end id (a ∷ more) uses = value_at_end id more (add_default uses a)
-    ∙ ap (λ o. option_or o (default_in id more)) (defaulted id uses a)
-    ∙ elim (cases_Bool (bytes_eq a.id id)) [
-      | inl b ↦ rw b (or_or (value_in id uses) (default_by a) (default_in id more))
-      | inr b ↦ rw b refl
-    ]
+value_at_end id [] uses = grind (arith, common_steps)
+value_at_end id (a ∷ more) uses = grind (arith, common_steps, value_at_end id more (add_default uses a), defaulted id uses a)
 
 -- whether the words gave it
 abbrev pub given_in : Text → List Use → Bool
@@ -171,24 +115,13 @@ given_in id (u ∷ us) = if bytes_eq u.id id then explicit_source (Some u.source
 -- the parser counts an id as given just where the words gave it
 given_is : (id : Text) (uses : List Use) → is_given id (rows_by uses) ≡ given_in id uses
 given_is id [] = refl
-given_is id (u ∷ us) = elim (cases_Bool (bytes_eq u.id id)) [
-  | inl b ↦ rw b refl
-  | inr b ↦ rw b (given_is id us)
-]
-
--- a choice between false and false is false
-same_if : (b : Bool) → (if b then false else false) ≡ false
-same_if true = refl
-same_if false = refl
+given_is id (u ∷ us) = grind (arith, common_steps, given_is id us)
 
 -- a default as one more use doesn't change whether the words gave an id
 given_kept : (id : Text) (uses : List Use) (a : Rule) (v : Text)
     → given_in id (uses ++ default_use a v ∷ []) ≡ given_in id uses
-given_kept id [] a v = same_if (bytes_eq a.id id)
-given_kept id (u ∷ us) a v = elim (cases_Bool (bytes_eq u.id id)) [
-  | inl b ↦ rw b refl
-  | inr b ↦ rw b (given_kept id us a v)
-]
+given_kept id [] a v = grind (arith, common_steps)
+given_kept id (u ∷ us) a v = rw (given_kept id us a v) refl
 
 -- nor does a default that may be missing
 given_or : (id : Text) (uses : List Use) (a : Rule) (d : Option Text)
@@ -200,31 +133,18 @@ given_or id uses a (Some v) = given_kept id uses a v
 given_at_end : (id : Text) (rules : List Rule) (uses : List Use)
     → given_in id (fold add_default uses rules) ≡ given_in id uses
 given_at_end id [] uses = refl
-given_at_end id (a ∷ more) uses =
-    given_at_end id more (add_default uses a) ∙ elim (cases_Bool (is_some (value_in a.id uses))) [
-      | inl b ↦ rw b refl
-      | inr b ↦ rw b (given_or id uses a (default_by a))
-    ]
+given_at_end id (a ∷ more) uses = given_at_end id more (add_default uses a)
+    ∙ grind (arith, common_steps, given_or id uses a (default_by a))
 
 -- each use is one of the words
 abbrev pub are_typed : List Use → Bool
 are_typed uses = list_all (λ u. explicit_source (Some u.source)) uses
 
--- where `a && b` holds, a and b hold
-and_split : (a b : Bool) → (a && b) ≡ true → (a ≡ true) × (b ≡ true)
-and_split true b is = (refl, is)
-and_split false b is = absurd (false≢true is)
-
 -- where each use is one of the words, the words gave an id just where it has a value
 typed_given : (id : Text) (uses : List Use) → are_typed uses ≡ true
     → given_in id uses ≡ is_some (value_in id uses)
 typed_given id [] t = refl
-typed_given id (u ∷ us) t =
-    let p = and_split (explicit_source (Some u.source)) (are_typed us) t in
-    elim (cases_Bool (bytes_eq u.id id)) [
-      | inl b ↦ rw b p.0
-      | inr b ↦ rw b (typed_given id us p.1)
-    ]
+typed_given id (u ∷ us) t = grind (arith, common_steps, typed_given id us)
 
 -- whether the parser takes it as given at the end
 pub given_end : (id : Text) (rules : List Rule) (uses : List Use) → are_typed uses ≡ true

@@ -4,7 +4,7 @@ use Rattle.std.specs.Prelude.{if◌then◌else◌}
 use Rattle.std.specs.Option.{option_or, option_to_list}
 use Rattle.std.specs.List.{list_any}
 use Rattle.std.specs.Str.{bytes_eq}
-use Rattle.std.proofs.lemmas.Bool.{cases_Bool, false≢true}
+use Rattle.std.proofs.lemmas.Bool.{cases_Bool, false≢true, or_parts}
 use Rattle.std.proofs.lemmas.Bool.Decides.{nat_tests}
 use Rattle.clap.specs.Walk.{Row, Rule, Text, first_of, with_default}
 use Rattle.clap.specs.Takes.{is_given}
@@ -13,7 +13,7 @@ use Rattle.clap.specs.declared.error.kind.ErrorKind.TheVariants as kind
 use Rattle.command_line.specs.Form.{Form, IsSimple, Told, Valued, are_distinct, has_name, option_names}
 use Rattle.command_line.specs.Words.{told_with_defaults}
 use Rattle.command_line.specs.Parsers.{all_of, is_given_true, told_in}
-use Rattle.command_line.proofs.Names.{bytes_same, bytes_turned, head_apart, or_split}
+use Rattle.command_line.proofs.Names.{bytes_same, bytes_turned, head_apart}
 use Rattle.command_line.proofs.Uses.{Use, first_is, rows_by, value_in}
 use Rattle.command_line.proofs.UseLists.{seen}
 use Rattle.command_line.proofs.Defaults.{add_default, default_in, finished_is, given_end, no_faults, value_at_end}
@@ -44,7 +44,7 @@ none_in_options : (m : Text) (options : List Valued) (rest : List Rule)
     → default_in m (options_before options rest) ≡ default_in m rest
 none_in_options m [] rest none = refl
 none_in_options m (o ∷ os) rest none =
-    let p = or_split (bytes_eq o.name m) (has_name m (map (λ o. o.name) os)) none in
+    let p = or_parts (bytes_eq o.name m) (has_name m (map (λ o. o.name) os)) none in
     rw p.0 (none_in_options m os rest p.1)
 
 -- a name that is no flag has the default that the rules behind the flags give it
@@ -52,7 +52,7 @@ none_in_flags : (m : Text) (flags : List Text) (rest : List Rule) → has_name m
     → default_in m (flags_before flags rest) ≡ default_in m rest
 none_in_flags m [] rest none = refl
 none_in_flags m (f ∷ fs) rest none =
-    let p = or_split (bytes_eq f m) (has_name m fs) none in
+    let p = or_parts (bytes_eq f m) (has_name m fs) none in
     rw p.0 (none_in_flags m fs rest p.1)
 
 -- the rules of positionals give no name a default
@@ -80,7 +80,7 @@ skipped : (o : Valued) (ps : List Valued) (rest : List Rule)
     ≡ map (λ p. default_in p.name rest) ps
 skipped o [] rest none = refl
 skipped o (p ∷ ps) rest none =
-    let q = or_split (bytes_eq p.name o.name) (has_name o.name (map (λ p. p.name) ps)) none in
+    let q = or_parts (bytes_eq p.name o.name) (has_name o.name (map (λ p. p.name) ps)) none in
     let other : bytes_eq o.name p.name ≡ false = bytes_turned o.name p.name ∙ q.0 in
     rw (other, skipped o ps rest q.1) refl
 

@@ -1,7 +1,6 @@
 -- What words tell by the parser's rules of a form is what they tell by the form, where no value
 -- begins with `-`.
 use Rattle.std.proofs.Common.{◌≡◌, ◌∙◌, ◌+◌, ◌&&◌, ◌<◌, ◌≤◌, arith, refl, sym, ap, inl, inr, ℕ, zero, suc, Bool, true, false, is_some, List, [], ◌∷◌, ◌++◌, map, length, slice_get, slice_set, length-append, Option, Some, None, codes}
-use Rattle.std.specs.Option.{option_to_list}
 use Rattle.std.specs.Str.{bytes_eq}
 use Rattle.std.proofs.lemmas.Bool.{cases_Bool, false≢true}
 use Rattle.std.proofs.lemmas.List.Folds.{list_all-append}
@@ -12,10 +11,10 @@ use Rattle.clap.specs.Walk.{Rule, Text}
 use Rattle.command_line.specs.Form.{Form, IsSimple, are_distinct, has_name, option_names}
 use Rattle.command_line.specs.Words.{Given}
 use Rattle.command_line.proofs.Names.{bytes_same, head_apart, same_text, place_of, placed_has}
-use Rattle.command_line.proofs.Uses.{Use, flag_filled, set_use, use_of, value_in, value_rule}
+use Rattle.command_line.proofs.Uses.{Use, flag_filled, set_use, use_of, value_in}
 use Rattle.command_line.proofs.UseLists.{seen, seen_kept, seen_set}
 use Rattle.command_line.proofs.Defaults.{are_typed}
-use Rattle.command_line.proofs.FormRules.{flag_is_no_option, flags_parted, option_is_no_other, options_parted, positional_is_no_flag, positional_is_no_option, get_has, positional_filled}
+use Rattle.command_line.proofs.FormRules.{flag_is_no_option, flags_parted, option_is_no_other, options_parted, positional_is_no_flag, positional_is_no_option, get_has, positional_filled, own_rule}
 
 -- the text of a flag
 abbrev pub flag_text : Bool → Option Text
@@ -96,10 +95,10 @@ module _ (form : Form) (ids : List Text) (simple : IsSimple form ids) where
       (flags : List Bool) (name v : Text) (d : Option Text) (i : ℕ)
       → Fits form ids uses texts values flags → place_of name (option_names form) ≡ Some i
       → is_some (value_in name uses) ≡ false
-      → Fits form ids (set_use uses (value_rule name (Some name) None (option_to_list d) false) v)
+      → Fits form ids (set_use uses (own_rule name d) v)
       texts (slice_set values i (Some v)) flags
   fits_value uses texts values flags name v d i f at none =
-      let own = value_rule name (Some name) None (option_to_list d) false in
+      let own = own_rule name d in
       let other =
       option_is_no_other form ids simple name (placed_has name (option_names form) i at) in
       record {

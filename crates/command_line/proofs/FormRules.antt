@@ -1,22 +1,25 @@
 -- The rules of a form as the parser builds them, and what it finds by them.
-use Rattle.std.proofs.Common.{◌≡◌, ◌∙◌, ◌+◌, ◌||◌, ◌<◌, ◌==◌, arith, refl, sym, subst, ap, inl, inr, ℕ, zero, suc, Bool, true, false, List, [], ◌∷◌, ◌++◌, map, slice_get, Option, Some, None, option_map}
-use Rattle.std.specs.Prelude.{if◌then◌else◌}
+use Rattle.std.proofs.Common.{◌≡◌, ◌∙◌, ◌+◌, ◌||◌, ◌<◌, arith, refl, sym, subst, ap, inl, inr, ℕ, zero, suc, true, false, List, [], ◌∷◌, ◌++◌, map, slice_get, Option, Some, None, option_map}
 use Rattle.std.specs.Option.{option_to_list}
 use Rattle.std.specs.Str.{bytes_eq}
-use Rattle.std.proofs.lemmas.Bool.{cases_Bool, false≢true}
-use Rattle.std.proofs.lemmas.Bool.Decides.{nat_tests}
+use Rattle.std.proofs.lemmas.Bool.{cases_Bool, false≢true, or_parts}
+use Rattle.std.proofs.lemmas.Grind.{common_steps}
+use Rattle.std.proofs.Math.Bool.{or-true}
 use Rattle.std.proofs.lemmas.List.Folds.{list_any-append}
-use Rattle.clap.specs.Walk.{Rule, Text, arg_by_id, arg_by_index, arg_by_long, arg_by_short, has_row}
-use Rattle.clap.specs.Kinds.{Kinds}
+use Rattle.clap.specs.Walk.{Rule, Text, arg_by_id, arg_by_index, arg_by_long, arg_by_short}
 use Rattle.command_line.specs.Form.{Form, IsSimple, Valued, are_distinct, has_name, option_names}
-use Rattle.command_line.proofs.Names.{Parted, apart_back, bytes_same, head_apart, or_split, parted, place_of, placed_has, same_text}
+use Rattle.command_line.proofs.Names.{Parted, apart_back, bytes_same, head_apart, parted, place_of, placed_has, same_text}
 use Rattle.command_line.proofs.Uses.{flag_filled, value_rule}
 use Rattle.command_line.proofs.Defaults.{AllPlain, Plain, plain_append}
 use Rattle.command_line.proofs.RuleLooks.{Known, Looks, OneValue, flag, no_flag, unknown, valued}
 
+-- the rule of the option of this name and default, as the parser builds it
+abbrev pub own_rule : Text → Option Text → Rule
+own_rule name default = value_rule name (Some name) None (option_to_list default) false
+
 -- the rule of an option, as the parser builds it
 abbrev pub option_filled : Valued → Rule
-option_filled o = value_rule o.name (Some o.name) None (option_to_list o.default) false
+option_filled o = own_rule o.name o.default
 
 -- the rule of a positional at this place, as the parser builds it
 abbrev pub positional_filled : ℕ → Text → Rule
@@ -45,9 +48,9 @@ rules_by form ids = options_before form.options (flags_before form.flags (positi
 pub data Sought (name : Text) (options : List Valued) (rest : List Rule) : Type 0 where
   found : (i : ℕ) (d : Option Text) → place_of name (map (λ o. o.name) options) ≡ Some i
       → arg_by_long (options_before options rest) name
-      ≡ Some (value_rule name (Some name) None (option_to_list d) false)
+      ≡ Some (own_rule name d)
       → arg_by_id (options_before options rest) name
-      ≡ Some (value_rule name (Some name) None (option_to_list d) false)
+      ≡ Some (own_rule name d)
       → Sought name options rest
   missing : place_of name (map (λ o. o.name) options) ≡ None
       → arg_by_long (options_before options rest) name ≡ arg_by_long rest name
@@ -58,11 +61,9 @@ pub data Sought (name : Text) (options : List Valued) (rest : List Rule) : Type 
 sought_here : (name : Text) (o : Valued) (os : List Valued) (rest : List Rule)
     → bytes_eq o.name name ≡ true → Sought name (o ∷ os) rest
 sought_here name o os rest a =
-    let same : option_filled o ≡ value_rule name (Some name) None (option_to_list o.default) false =
-    ap (λ n. value_rule n (Some n) None (option_to_list o.default) false) (same_text o.name name a)
-    in
-    found 0 o.default (rw a refl)
-    (rw a (ap (λ r. Some r) same)) (rw a (ap (λ r. Some r) same))
+    let same : option_filled o ≡ own_rule name o.default =
+    ap (λ n. own_rule n o.default) (same_text o.name name a) in
+    found 0 o.default (rw a refl) (rw a (ap (λ r. Some r) same)) (rw a (ap (λ r. Some r) same))
 
 -- by another name than that of the first option, what is found is found behind it
 sought_later : (name : Text) (o : Valued) (os : List Valued) (rest : List Rule)
@@ -109,30 +110,20 @@ no_positional name place (id ∷ ids) = no_positional name (place + 1) ids
 
 -- ---- by its place
 
--- the place s + 0 is s
-at_place : (place s k : ℕ) → place ≡ s + k → k ≡ 0 → (s == place) ≡ true
-at_place place s k is zero_is = grind (arith, nat_tests)
-
--- the place s + k + 1 is not s
-past_place : (place s k : ℕ) → place ≡ s + suc k → (s == place) ≡ false
-past_place place s k is = grind (arith, nat_tests)
-
 -- of positionals that are numbered from s, the one at place s + k is that of the id at k
 counted : (ids : List Text) (s place k : ℕ) → place ≡ s + k
     → arg_by_index (positionals_from s ids) place ≡ option_map (λ id. positional_filled place id)
     (slice_get ids k)
 counted [] s place k is = refl
 counted (id ∷ ids) s place zero is =
-    let e : s ≡ place = omega arith in
-    rw (at_place place s 0 is refl) (ap (λ n. Some (positional_filled n id)) e)
+    grind (arith, common_steps)
 counted (id ∷ ids) s place (suc k) is =
-    rw (past_place place s k is) (counted ids (s + 1) place k (omega arith))
+    grind (arith, common_steps, counted ids (s + 1) place k)
 
 -- positionals that are numbered from 1 or more have none at place 0
 before_first : (ids : List Text) (s : ℕ) → 0 < s → arg_by_index (positionals_from s ids) 0 ≡ None
 before_first [] s less = refl
-before_first (id ∷ ids) s less = let other : (s == 0) ≡ false = grind (arith, nat_tests) in
-    rw other (before_first ids (s + 1) (omega arith))
+before_first (id ∷ ids) s less = grind (arith, common_steps, before_first ids (s + 1))
 
 -- options have no place, so what is found by a place stands behind them
 skip_options : (place : ℕ) (options : List Valued) (rest : List Rule)
@@ -161,10 +152,7 @@ pub get_has : (ids : List Text) (k : ℕ) (id : Text) → slice_get ids k ≡ So
     → has_name id ids ≡ true
 get_has [] k id is = cc
 get_has (x ∷ xs) zero id is = let same : x ≡ id = cc in rw (same, bytes_same id) refl
-get_has (x ∷ xs) (suc k) id is = elim (cases_Bool (bytes_eq x id)) [
-  | inl a ↦ rw a refl
-  | inr a ↦ rw a (get_has xs k id is)
-]
+get_has (x ∷ xs) (suc k) id is = rw (get_has xs k id is) (or-true (bytes_eq x id))
 
 -- positionals with distinct ids are found by them, each at its own place
 own_positional : (ids : List Text) (s k : ℕ) (id : Text) → are_distinct ids ≡ true
@@ -175,13 +163,9 @@ own_positional (x ∷ xs) s zero id one is place at =
     let same : x ≡ id = cc in
     let e : s ≡ place = omega arith in
     rw (same, bytes_same id) (ap (λ n. Some (positional_filled n id)) e)
-own_positional (x ∷ xs) s (suc k) id one is place at = elim (cases_Bool (bytes_eq x id)) [
-  | inl a ↦
-      let same : x ≡ id = same_text x id a in
-      let none : has_name id xs ≡ false = rw (← same) (head_apart x xs one).0 in
-      absurd (false≢true (sym none ∙ get_has xs k id is))
-  | inr a ↦ rw a (own_positional xs (s + 1) k id (head_apart x xs one).1 is place (omega arith))
-]
+own_positional (x ∷ xs) s (suc k) id one is place at =
+    let rest = own_positional xs (s + 1) k id (head_apart x xs one).1 is place (omega arith) in
+    grind (arith, common_steps, rest, same_text x id, (head_apart x xs one).0, get_has xs k id is)
 
 -- ---- the look-ups
 
@@ -221,7 +205,7 @@ module _ (form : Form) (ids : List Text) (simple : IsSimple form ids) where
   -- the name of an option is none of the flags' names and none of the positionals'
   pub option_is_no_other : (name : Text) → has_name name (option_names form) ≡ true
       → (has_name name form.flags ≡ false) × (has_name name ids ≡ false)
-  option_is_no_other name h = or_split (has_name name form.flags) (has_name name ids)
+  option_is_no_other name h = or_parts (has_name name form.flags) (has_name name ids)
       (sym (list_any-append (λ m. bytes_eq m name) form.flags ids) ∙ options_parted.apart name h)
 
   -- by an id that is no option, what is found is found behind the options
@@ -257,9 +241,9 @@ module _ (form : Form) (ids : List Text) (simple : IsSimple form ids) where
   pub data Named (name : Text) : Type 0 where
     is_option : (i : ℕ) (d : Option Text) → place_of name (option_names form) ≡ Some i
         → arg_by_long (rules_by form ids) name
-        ≡ Some (value_rule name (Some name) None (option_to_list d) false)
+        ≡ Some (own_rule name d)
         → arg_by_id (rules_by form ids) name
-        ≡ Some (value_rule name (Some name) None (option_to_list d) false) → Named name
+        ≡ Some (own_rule name d) → Named name
     is_flag : (j : ℕ) → place_of name (option_names form) ≡ None → place_of name form.flags ≡ Some j
         → arg_by_long (rules_by form ids) name ≡ Some (flag_filled name) → Named name
     is_none : place_of name (option_names form) ≡ None → place_of name form.flags ≡ None
@@ -344,18 +328,13 @@ module _ (form : Form) (ids : List Text) (simple : IsSimple form ids) where
 
 -- ---- the defaults
 
--- a choice between no fault and no fault is no fault
-nothing_if : (b : Bool) → (let none : Kinds = [] in if b then none else none) ≡ []
-nothing_if true = refl
-nothing_if false = refl
-
 -- an option has one default at most, which the parser takes
 plain_option : (name : Text) (d : Option Text)
-    → Plain (value_rule name (Some name) None (option_to_list d) false)
+    → Plain (own_rule name d)
 plain_option name None =
-    record { one = refl; taken = λ rows. nothing_if (has_row name rows || true) }
+    record { one = refl; taken = λ rows. grind (arith, common_steps) }
 plain_option name (Some v) =
-    record { one = refl; taken = λ rows. nothing_if (has_row name rows || false) }
+    record { one = refl; taken = λ rows. grind (arith, common_steps) }
 
 -- so it is with each of the options
 plain_options : (options : List Valued) → AllPlain (map option_filled options)
@@ -366,13 +345,13 @@ plain_options (o ∷ os) = (plain_option o.name o.default, plain_options os)
 plain_flags : (flags : List Text) → AllPlain (map flag_filled flags)
 plain_flags [] = tt
 plain_flags (f ∷ fs) =
-    (record { one = refl; taken = λ rows. nothing_if (has_row f rows || false) }, plain_flags fs)
+    (record { one = refl; taken = λ rows. grind (arith, common_steps) }, plain_flags fs)
 
 -- no positional has a default, so there is none that the parser could refuse
 plain_positionals : (place : ℕ) (ids : List Text) → AllPlain (positionals_from place ids)
 plain_positionals place [] = tt
 plain_positionals place (id ∷ ids) = (
-  record { one = refl; taken = λ rows. nothing_if (has_row id rows || true) },
+  record { one = refl; taken = λ rows. grind (arith, common_steps) },
   plain_positionals (place + 1) ids,
 )
 

@@ -2,7 +2,6 @@
 -- begins with `-` is refused.
 use Rattle.std.proofs.Common.{◌≡◌, ◌∙◌, ◌+◌, ◌||◌, arith, refl, sym, ap, ℕ, Bool, true, false, is_some, List, [], ◌∷◌, ◌++◌, map, length, slice_get, slice_set, Option, Some, None, option_and_then, codes}
 use Rattle.std.specs.Prelude.{if◌then◌else◌}
-use Rattle.std.specs.Option.{option_to_list}
 use Rattle.std.specs.Str.{bytes_eq}
 use Rattle.std.proofs.lemmas.List.Folds.{list_any-append}
 use Rattle.std.proofs.lemmas.Option.{slice_get_within}
@@ -12,9 +11,9 @@ use Rattle.command_line.specs.Words.{Given, Word, as_word, begins_dashed, dashed
 use Rattle.command_line.specs.Parsers.{told_in}
 use Rattle.command_line.specs.Reading.{IsOf}
 use Rattle.command_line.proofs.Names.{place_of, placed_has}
-use Rattle.command_line.proofs.Uses.{Use, flag_filled, set_use, use_of, value_in, value_rule}
+use Rattle.command_line.proofs.Uses.{Use, flag_filled, set_use, use_of, value_in}
 use Rattle.command_line.proofs.UseLists.{seen}
-use Rattle.command_line.proofs.FormRules.{Named, get_has, is_flag, is_none, is_option, named, positional_filled, rules_by}
+use Rattle.command_line.proofs.FormRules.{Named, get_has, is_flag, is_none, is_option, named, positional_filled, rules_by, own_rule}
 use Rattle.command_line.proofs.FormReading.{Fits, filled, filled_next, fits_flag, fits_text, fits_value, flag_text, given}
 use Rattle.command_line.proofs.FormPlaces.{flag_place, given_at, has_none, has_room, no_text, option_place, past_end, set_at, used_text}
 use Rattle.command_line.proofs.FormEnd.{end_agrees}
@@ -57,7 +56,7 @@ module _ (command : Text) (form : Form) (ids : List Text) (simple : IsSimple for
       (flags : List Bool) (name : Text) (d : Option Text) (i : ℕ)
       → Fits form ids uses texts values flags → place_of name (option_names form) ≡ Some i
       → taken (read_seen command rules
-      (stand uses (Some (value_rule name (Some name) None (option_to_list d) false))
+      (stand uses (Some (own_rule name d))
       (length texts + 1) false) words)
       ≡ (if is_some (value_in name uses) then None else option_and_then take
       (read_from form (given texts values flags (Some i) false) words))
@@ -121,7 +120,7 @@ module _ (command : Text) (form : Form) (ids : List Text) (simple : IsSimple for
       (i : ℕ) (d : Option Text) → Fits form ids uses texts values flags → Agree words → Ahead words
       → place_of name (option_names form) ≡ Some i
       → rest_of words (as_option (stand uses None (length texts + 1) false)
-      (value_rule name (Some name) None (option_to_list d) false) y)
+      (own_rule name d) y)
       ≡ told_rest words (with_option (given texts values flags None false) y i)
   takes_option uses texts values flags words name y i d f ih ahead at =
       go y ∙ sym (ap (λ b. told_rest words
@@ -129,17 +128,17 @@ module _ (command : Text) (form : Form) (ids : List Text) (simple : IsSimple for
       (given_at form uses values name i f.values_are at))
     where
       own : Rule
-      own = value_rule name (Some name) None (option_to_list d) false
+      own = own_rule name d
 
       used_or_not : (v : Text) (b : Bool) → is_some (value_in name uses) ≡ b
           → rest_of words (if b then None else Some
-          (stand (set_use uses (value_rule name (Some name) None (option_to_list d) false) v)
+          (stand (set_use uses (own_rule name d) v)
           None (length texts + 1) false))
           ≡ told_rest words (if b then None else Some
           (with_option_value (given texts values flags None false) i v))
       used_or_not v true is = refl
       used_or_not v false is =
-          ih (set_use uses (value_rule name (Some name) None (option_to_list d) false) v) texts
+          ih (set_use uses (own_rule name d) v) texts
           (slice_set values i (Some v)) flags false
           (fits_value form ids simple uses texts values flags name v d i f at is)
 
@@ -151,7 +150,7 @@ module _ (command : Text) (form : Form) (ids : List Text) (simple : IsSimple for
 
       go : (y : Option Text) → rest_of words
           (as_option (stand uses None (length texts + 1) false)
-          (value_rule name (Some name) None (option_to_list d) false) y)
+          (own_rule name d) y)
           ≡ told_rest words (if is_some (value_in name uses) then None else Some
           (value_or_wait (given texts values flags None false) i y))
       go (Some v) = used_or_not v (is_some (value_in name uses)) refl
@@ -261,14 +260,14 @@ module _ (command : Text) (form : Form) (ids : List Text) (simple : IsSimple for
       → place_of name (option_names form) ≡ Some i
       → (b dashes : Bool) → is_some (value_in name uses) ≡ b → begins_dashed word ≡ dashes
       → rest_of words (if b then None else Some
-      (stand (set_use uses (value_rule name (Some name) None (option_to_list d) false) word)
+      (stand (set_use uses (own_rule name d) word)
       None (length texts + 1) false))
       ≡ (if b then None else told_rest words
       (if dashes then None else Some
       (with_option_value (given texts values flags (Some i) false) i word)))
   value_or_not uses texts values flags word words name d i f ih at true dashes used is = refl
   value_or_not uses texts values flags word words name d i f ih at false false fresh is =
-      ih (set_use uses (value_rule name (Some name) None (option_to_list d) false) word) texts
+      ih (set_use uses (own_rule name d) word) texts
       (slice_set values i (Some word)) flags false
       (fits_value form ids simple uses texts values flags name word d i f at fresh)
   value_or_not uses texts values flags word words name d i f ih at false true fresh is =
@@ -276,10 +275,10 @@ module _ (command : Text) (form : Form) (ids : List Text) (simple : IsSimple for
       list_any-append (λ m. bytes_eq m name) (option_names form) ids
       ∙ ap (λ b. b || has_name name ids) (placed_has name (option_names form) i at) in
       spoilt_reads command form ids simple T take refuses words
-      (stand (set_use uses (value_rule name (Some name) None (option_to_list d) false) word)
+      (stand (set_use uses (own_rule name d) word)
       None (length texts + 1) false)
       (spoilt_new (option_names form ++ ids) uses
-      (use_of (value_rule name (Some name) None (option_to_list d) false) word) is_one fresh is)
+      (use_of (own_rule name d) word) is_one fresh is)
 
   -- a word that begins with `-` where a value is due tells nothing by the form
   no_value : (word : Text) (words : List Text) (g : Given) (b : Bool) → begins_dashed word ≡ true
@@ -293,9 +292,9 @@ module _ (command : Text) (form : Form) (ids : List Text) (simple : IsSimple for
       → Fits form ids uses texts values flags → Agree words
       → place_of name (option_names form) ≡ Some i → (look : View word)
       → rest_of words (as_value
-      (stand uses (Some (value_rule name (Some name) None (option_to_list d) false))
+      (stand uses (Some (own_rule name d))
       (length texts + 1) false)
-      (value_rule name (Some name) None (option_to_list d) false) word look)
+      (own_rule name d) word look)
       ≡ (if is_some (value_in name uses) then None else told_rest words
       (next_where form (given texts values flags (Some i) false) word (Some i)))
   waits_word uses texts values flags word words name d i f ih at (ending e b) =

@@ -1,10 +1,9 @@
 -- Names in a list: where one stands first, and lists with no name twice.
-use Rattle.std.proofs.Common.{◌≡◌, ◌∙◌, ◌+◌, ◌||◌, arith, refl, sym, inl, inr, ℕ, suc, Bool, true, false, not, List, [], ◌∷◌, ◌++◌, map, length, position, Option, Some, None, option_map, nat_lt}
+use Rattle.std.proofs.Common.{◌≡◌, ◌∙◌, arith, refl, sym, inl, inr, ℕ, suc, Bool, true, false, List, [], ◌∷◌, ◌++◌, map, position, Option, Some, None, option_map}
 use Rattle.std.specs.Prelude.{if◌then◌else◌}
-use Rattle.std.specs.List.{position_or_len}
 use Rattle.std.specs.Str.{bytes_eq}
-use Rattle.std.proofs.lemmas.Bool.{cases_Bool, and_parts, false≢true}
-use Rattle.std.proofs.lemmas.Bool.Decides.{nat_tests}
+use Rattle.std.proofs.lemmas.Bool.{cases_Bool, false≢true, or_parts}
+use Rattle.std.proofs.lemmas.Grind.{common_steps}
 use Rattle.std.proofs.lemmas.List.Folds.{list_any-append}
 use Rattle.std.proofs.lemmas.Slice.Eq.{bytes_eq-Decides}
 use Rattle.clap.specs.Walk.{Text}
@@ -20,13 +19,7 @@ bytes_same x = grind (arith, bytes_eq-Decides x x)
 
 -- the test says the same of two texts in either order
 pub bytes_turned : (x y : Text) → bytes_eq x y ≡ bytes_eq y x
-bytes_turned x y = elim (cases_Bool (bytes_eq x y)) [
-  | inl a ↦ let e : x ≡ y = same_text x y a in rw e refl
-  | inr a ↦ elim (cases_Bool (bytes_eq y x)) [
-    | inl b ↦ let e : y ≡ x = same_text y x b in rw e refl
-    | inr b ↦ a ∙ sym b
-  ]
-]
+bytes_turned x y = grind (arith, common_steps, bytes_eq-Decides x y, bytes_eq-Decides y x)
 
 -- the first place that passes
 abbrev pub place_by : {X : Type 0} → (X → Bool) → List X → Option ℕ
@@ -37,45 +30,16 @@ place_by p (x ∷ xs) = if p x then Some 0 else option_map (λ i. suc i) (place_
 abbrev pub place_of : Text → List Text → Option ℕ
 place_of name names = place_by (λ m. bytes_eq m name) names
 
--- k is less than n just where the number after k is less than the number after n
-less_suc : (k n : ℕ) (b : Bool) → nat_lt k n ≡ b → nat_lt (suc k) (suc n) ≡ b
-less_suc k n true is = grind (arith, nat_tests)
-less_suc k n false is = grind (arith, nat_tests)
-
--- 1 + n is the number after n
-one_more : (n : ℕ) → 1 + n ≡ suc n
-one_more n = omega arith
-
--- 0 is less than the number after any n
-less_one : (n : ℕ) → nat_lt 0 (suc n) ≡ true
-less_one n = grind (arith, nat_tests)
-
 -- `position` gives the first place that passes
 pub position_is : {X : Type 0} (p : X → Bool) (xs : List X) → position p xs ≡ place_by p xs
 position_is p [] = refl
-position_is {X} p (x ∷ xs) = elim (cases_Bool (p x)) [
-  | inl a ↦ rw (a, less_one (length xs)) refl
-  | inr a ↦ rw (a, one_more (position_or_len p xs), ← position_is p xs)
-      (later (nat_lt (position_or_len p xs) (length xs)) refl)
-]
-  where
-    later : (b : Bool) → nat_lt (position_or_len p xs) (length xs) ≡ b
-        → (if nat_lt (suc (position_or_len p xs)) (suc (length xs)) then Some
-        (suc (position_or_len p xs)) else None)
-        ≡ option_map (λ i. suc i)
-        (if nat_lt (position_or_len p xs) (length xs) then Some (position_or_len p xs) else
-        None)
-    later true is = rw (is, less_suc (position_or_len p xs) (length xs) true is) refl
-    later false is = rw (is, less_suc (position_or_len p xs) (length xs) false is) refl
+position_is {X} p (x ∷ xs) = grind (arith, common_steps, position_is p xs)
 
 -- the first item that has this name stands at the name's first place among the items' names
 pub place_by_map : {X : Type 0} (f : X → Text) (name : Text) (xs : List X)
     → place_by (λ x. bytes_eq (f x) name) xs ≡ place_of name (map f xs)
 place_by_map f name [] = refl
-place_by_map f name (x ∷ xs) = elim (cases_Bool (bytes_eq (f x) name)) [
-  | inl a ↦ rw a refl
-  | inr a ↦ rw (a, place_by_map f name xs) refl
-]
+place_by_map f name (x ∷ xs) = rw (place_by_map f name xs) refl
 
 -- the name is there or not
 pub data Stands (name : Text) (names : List Text) : Type 0 where
@@ -99,10 +63,7 @@ stands name (x ∷ xs) = elim (cases_Bool (bytes_eq x name)) [
 -- a name that has a place in a list is one of its names
 pub placed_has : (name : Text) (names : List Text) (i : ℕ) → place_of name names ≡ Some i
     → has_name name names ≡ true
-placed_has name names i is = elim (stands name names) [
-  | there j p h ↦ h
-  | apart p h ↦ cc
-]
+placed_has name names i is = elim (stands name names) [ there j p h ↦ h | apart p h ↦ cc ]
 
 -- a list and what follows it
 pub record Parted (xs ys : List Text) : Type 0 where
@@ -110,21 +71,10 @@ pub record Parted (xs ys : List Text) : Type 0 where
   pub second : are_distinct ys ≡ true
   pub apart : (name : Text) → has_name name xs ≡ true → has_name name ys ≡ false
 
--- where `a || b` is false, a and b are false
-pub or_split : (a b : Bool) → (a || b) ≡ false → (a ≡ false) × (b ≡ false)
-or_split true b is = absurd (false≢true (sym is))
-or_split false b is = (refl, is)
-
--- where `not b` holds, b is false
-not_true : (b : Bool) → not b ≡ true → b ≡ false
-not_true true is = absurd (false≢true is)
-not_true false is = refl
-
 -- the first of distinct names is none of the others, which are distinct
 pub head_apart : (x : Text) (xs : List Text) → are_distinct (x ∷ xs) ≡ true
     → (has_name x xs ≡ false) × (are_distinct xs ≡ true)
-head_apart x xs is = let p = and_parts (not (has_name x xs)) (are_distinct xs) is in
-    (not_true (has_name x xs) p.0, p.1)
+head_apart x xs is = (grind (arith, common_steps), grind (arith, common_steps))
 
 -- where two lists have no name twice, each has none twice, and they have none in common
 pub parted : (xs ys : List Text) → are_distinct (xs ++ ys) ≡ true → Parted xs ys
@@ -132,7 +82,7 @@ parted [] ys is = record { first = refl; second = is; apart = λ name h. absurd 
 parted (x ∷ xs) ys is = step (parted xs ys (head_apart x (xs ++ ys) is).1)
   where
     split : (has_name x xs ≡ false) × (has_name x ys ≡ false)
-    split = or_split (has_name x xs) (has_name x ys)
+    split = or_parts (has_name x xs) (has_name x ys)
         (sym (list_any-append (λ m. bytes_eq m x) xs ys) ∙ (head_apart x (xs ++ ys) is).0)
 
     step : Parted xs ys → Parted (x ∷ xs) ys
@@ -148,7 +98,4 @@ parted (x ∷ xs) ys is = step (parted xs ys (head_apart x (xs ++ ys) is).1)
 -- a name of the second list is none of the first
 pub apart_back : (xs ys : List Text) → Parted xs ys → (name : Text) → has_name name ys ≡ true
     → has_name name xs ≡ false
-apart_back xs ys p name h = elim (cases_Bool (has_name name xs)) [
-  | inl a ↦ absurd (false≢true (sym (p.apart name a) ∙ h))
-  | inr a ↦ a
-]
+apart_back xs ys p name h = grind (arith, common_steps, p.apart name)

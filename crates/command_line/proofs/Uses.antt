@@ -1,8 +1,8 @@
 -- What stands for an argument, and the parser's rows of it.
-use Rattle.std.proofs.Common.{◌≡◌, refl, ap, inl, inr, Bool, true, false, is_some, List, [], ◌∷◌, ◌++◌, map, Option, Some, None, codes}
+use Rattle.std.proofs.Common.{◌≡◌, arith, refl, ap, Bool, true, false, is_some, List, [], ◌∷◌, ◌++◌, map, Option, Some, None, codes}
 use Rattle.std.specs.Prelude.{ℕ, if◌then◌else◌}
 use Rattle.std.specs.Str.{bytes_eq}
-use Rattle.std.proofs.lemmas.Bool.{cases_Bool}
+use Rattle.std.proofs.lemmas.Grind.{common_steps}
 use Rattle.clap.specs.Walk.{Row, Rule, Text, first_of, has_row, reading_by, used, with_values, without}
 use Rattle.clap.specs.declared.builder.action.ArgAction.TheVariants.{Set, SetTrue}
 use Rattle.clap.specs.declared.builder.value_parser.ValueParser.TheVariants as vp
@@ -78,26 +78,17 @@ value_in id (u ∷ us) = if bytes_eq u.id id then Some u.value else value_in id 
 -- an id has a row of the uses just where it has a value
 pub row_is : (id : Text) (uses : List Use) → has_row id (rows_by uses) ≡ is_some (value_in id uses)
 row_is id [] = refl
-row_is id (u ∷ us) = elim (cases_Bool (bytes_eq u.id id)) [
-  | inl b ↦ rw b refl
-  | inr b ↦ rw b (row_is id us)
-]
+row_is id (u ∷ us) = grind (arith, common_steps, row_is id us)
 
 -- the first value of an id in the rows of the uses is its value
 pub first_is : (id : Text) (uses : List Use) → first_of id (rows_by uses) ≡ value_in id uses
 first_is id [] = refl
-first_is id (u ∷ us) = elim (cases_Bool (bytes_eq u.id id)) [
-  | inl b ↦ rw b refl
-  | inr b ↦ rw b (first_is id us)
-]
+first_is id (u ∷ us) = grind (arith, common_steps, first_is id us)
 
 -- an id without a value is not that of the first use, and has no value in the other uses
 new_id : (id : Text) (u : Use) (us : List Use) → is_some (value_in id (u ∷ us)) ≡ false
     → (bytes_eq u.id id ≡ false) × (is_some (value_in id us) ≡ false)
-new_id id u us none = elim (cases_Bool (bytes_eq u.id id)) [
-  | inl b ↦ let bad : true ≡ false = rw b at none in cc
-  | inr b ↦ (b, rw b at none)
-]
+new_id id u us none = (grind (arith, common_steps), grind (arith, common_steps))
 
 -- taking away the row of an id that has no value changes nothing
 without_none : (id : Text) (uses : List Use) → is_some (value_in id uses) ≡ false
