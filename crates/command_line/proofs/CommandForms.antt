@@ -2,7 +2,8 @@
 -- none of its numbers.
 use Rattle.std.proofs.Common.{◌≡◌, ◌<◌, ◌+◌, ◌||◌, ◌++◌, arith, refl, ap, inl, inr, Bool, true, ℕ, suc, take, List, [], ◌∷◌, length, Option, Some, None, codes, option_map, option_and_then}
 use Rattle.std.specs.List.{before_first, list_any, position_or_len}
-use Rattle.std.proofs.lemmas.Bool.{cases_Bool, eqb-true, false≢true}
+use Rattle.std.proofs.lemmas.Bool.{cases_Bool, eqb-true}
+use Rattle.std.proofs.lemmas.Grind.{common_steps}
 use Rattle.numerals.specs.Numeral.{number_of}
 use Rattle.clap.specs.Lexer.{usize_max}
 use Rattle.clap.specs.Walk.{Text}
@@ -23,9 +24,8 @@ nothing_refuses no_minus told is d = go told.positionals told.values is.position
   where
     go : (ps : List Text) (vs : List (Option Text)) → length ps ≡ 0 → length vs ≡ 0
         → (list_any begins_dashed ps || list_any is_dashed vs) ≡ true → nothing_of told ≡ None
-    go [] [] n m d = absurd (false≢true d)
-    go (p ∷ ps) vs n m d = absurd (omega arith)
-    go [] (v ∷ vs) n m d = absurd (omega arith)
+    go [] [] n m d = cc
+    go _ _ n m d = absurd (omega arith)
 
 -- what gives nothing for each value gives nothing for a value that may be missing
 none_after : {X Y : Type 0} (f : X → Option Y) (o : Option X) → ((x : X) → f x ≡ None)
@@ -45,14 +45,14 @@ module _ (no_minus : NoMinus) where
   -- a text that begins with `-` spells no number
   dashed_number : (least greatest : ℕ) (text : Text) → begins_dashed text ≡ true
       → number_of least greatest text ≡ None
-  dashed_number least greatest [] d = absurd (false≢true d)
+  dashed_number least greatest [] d = cc
   dashed_number least greatest (byte ∷ bytes) d =
       rw (eqb-true byte 45 d) (no_minus least greatest bytes)
 
   -- nor does a value that may be missing, where it begins with `-`
   dashed_text : (least greatest : ℕ) (text : Option Text) → is_dashed text ≡ true
       → option_and_then (number_of least greatest) text ≡ None
-  dashed_text least greatest None d = absurd (false≢true d)
+  dashed_text least greatest None d = cc
   dashed_text least greatest (Some text) d = dashed_number least greatest text d
 
   -- one positional alone
@@ -66,18 +66,13 @@ module _ (no_minus : NoMinus) where
       go : (ps : List Text) (vs : List (Option Text)) → length ps ≡ 1 → length vs ≡ 0
           → (list_any begins_dashed ps || list_any is_dashed vs) ≡ true
           → take (record { positionals = ps; values = vs; flags = told.flags }) ≡ None
-      go (p ∷ []) [] n m d = elim (cases_Bool (begins_dashed p)) [
-        | inl a ↦ none p a
-        | inr a ↦ absurd (false≢true (rw a at d))
-      ]
-      go [] vs n m d = absurd (omega arith)
-      go (p ∷ q ∷ ps) vs n m d = absurd (omega arith)
-      go (p ∷ []) (v ∷ vs) n m d = absurd (omega arith)
+      go (p ∷ []) [] n m d = none p (grind (arith, common_steps))
+      go _ _ n m d = absurd (omega arith)
 
   -- nor are there three numbers in a text that begins with `-`
   dashed_numbers : (greatest : ℕ) (text : Text) → begins_dashed text ≡ true
       → three_numbers_of greatest text ≡ None
-  dashed_numbers greatest [] d = absurd (false≢true d)
+  dashed_numbers greatest [] d = cc
   dashed_numbers greatest (byte ∷ bytes) d =
       rw (dashed_number 0 greatest (before_first is_comma (byte ∷ bytes)) (begins_so byte bytes d))
       refl
@@ -97,15 +92,9 @@ module _ (no_minus : NoMinus) where
           → take (record { positionals = ps; values = vs; flags = told.flags }) ≡ None
       go (p ∷ []) (v ∷ []) n m d = elim (cases_Bool (begins_dashed p)) [
         | inl a ↦ no_text p v a
-        | inr a ↦ elim (cases_Bool (is_dashed v)) [
-          | inl b ↦ no_value p v b
-          | inr b ↦ absurd (false≢true (rw (a, b) at d))
-        ]
+        | inr a ↦ no_value p v (grind (arith, common_steps))
       ]
-      go [] vs n m d = absurd (omega arith)
-      go (p ∷ q ∷ ps) vs n m d = absurd (omega arith)
-      go (p ∷ []) [] n m d = absurd (omega arith)
-      go (p ∷ []) (v ∷ w ∷ vs) n m d = absurd (omega arith)
+      go _ _ n m d = absurd (omega arith)
 
   -- `trace` refuses steps or inputs that begin with `-`
   trace_refuses : (told : Told) → IsOf trace_form told → has_dashed told ≡ true
@@ -118,7 +107,7 @@ module _ (no_minus : NoMinus) where
     where
       no_inputs : (org : Bool) (value : Option Text) (steps : ℕ) → is_dashed value ≡ true
           → trace_with org (inputs_of_value value) steps ≡ None
-      no_inputs org None steps d = absurd (false≢true d)
+      no_inputs org None steps d = cc
       no_inputs org (Some text) steps d = rw (dashed_numbers 16777215 text d) refl
 
   -- `landscape` refuses steps that begin with `-`
@@ -136,13 +125,8 @@ module _ (no_minus : NoMinus) where
       go : (ps : List Text) (vs : List (Option Text)) → length ps ≡ 0 → length vs ≡ 1
           → (list_any begins_dashed ps || list_any is_dashed vs) ≡ true
           → workers_at 0 (record { positionals = ps; values = vs; flags = told.flags }) ≡ None
-      go [] (w ∷ []) n m d = elim (cases_Bool (is_dashed w)) [
-        | inl a ↦ dashed_text 1 64 w a
-        | inr a ↦ absurd (false≢true (rw a at d))
-      ]
-      go (p ∷ ps) vs n m d = absurd (omega arith)
-      go [] [] n m d = absurd (omega arith)
-      go [] (w ∷ v ∷ vs) n m d = absurd (omega arith)
+      go [] (w ∷ []) n m d = dashed_text 1 64 w (grind (arith, common_steps))
+      go _ _ n m d = absurd (omega arith)
 
   -- the workers and the looks
   run_refuses : (told : Told) → IsOf run_form told → has_dashed told ≡ true → run_of told ≡ None
@@ -151,7 +135,7 @@ module _ (no_minus : NoMinus) where
     where
       no_looks : (watch : Option Text) (workers : ℕ) → is_dashed watch ≡ true
           → run_with watch workers ≡ None
-      no_looks None workers d = absurd (false≢true d)
+      no_looks None workers d = cc
       no_looks (Some text) workers d = rw (dashed_number 0 1000000 text d) refl
 
       go : (ps : List Text) (vs : List (Option Text)) (fs : List Bool) → length ps ≡ 0
@@ -159,16 +143,10 @@ module _ (no_minus : NoMinus) where
           → run_of (record { positionals = ps; values = vs; flags = fs }) ≡ None
       go [] (w ∷ t ∷ []) fs n m d = elim (cases_Bool (is_dashed w)) [
         | inl a ↦ ap (option_and_then (run_with t)) (dashed_text 1 64 w a)
-        | inr a ↦ elim (cases_Bool (is_dashed t)) [
-          | inl b ↦ none_after (run_with t) (option_and_then (number_of 1 64) w)
-              (λ workers. no_looks t workers b)
-          | inr b ↦ absurd (false≢true (rw (a, b) at d))
-        ]
+        | inr a ↦ none_after (run_with t) (option_and_then (number_of 1 64) w)
+            (λ workers. no_looks t workers (grind (arith, common_steps)))
       ]
-      go (p ∷ ps) vs fs n m d = absurd (omega arith)
-      go [] [] fs n m d = absurd (omega arith)
-      go [] (w ∷ []) fs n m d = absurd (omega arith)
-      go [] (w ∷ t ∷ v ∷ vs) fs n m d = absurd (omega arith)
+      go _ _ fs n m d = absurd (omega arith)
 
   -- one number, and the workers
   positional_refuses : (greatest : ℕ) (told : Told) → IsOf positional_form told
@@ -196,24 +174,16 @@ module _ (no_minus : NoMinus) where
               option_and_then (λ first. assay_with count first (option_and_then (number_of 1 64) w))
               (number_of 0 9223372036854775744 q))
               (number_of 1 64 p) (λ count. rw (dashed_number 0 9223372036854775744 q b) refl)
-          | inr b ↦ elim (cases_Bool (is_dashed w)) [
-            | inl e ↦ none_after (λ count.
-                option_and_then (λ first. assay_with count first
-                (option_and_then (number_of 1 64) w)) (number_of 0 9223372036854775744 q))
-                (number_of 1 64 p) (λ count.
-                none_after (λ first. assay_with count first
-                (option_and_then (number_of 1 64) w))
-                (number_of 0 9223372036854775744 q)
-                (λ first. ap (assay_with count first) (dashed_text 1 64 w e)))
-            | inr e ↦ absurd (false≢true (rw (a, b, e) at d))
-          ]
+          | inr b ↦
+              let none = dashed_text 1 64 w (grind (arith, common_steps)) in
+              none_after (λ count.
+              option_and_then (λ first. assay_with count first (option_and_then (number_of 1 64) w))
+              (number_of 0 9223372036854775744 q)) (number_of 1 64 p) (λ count.
+              none_after (λ first. assay_with count first (option_and_then (number_of 1 64) w))
+              (number_of 0 9223372036854775744 q) (λ first. ap (assay_with count first) none))
         ]
       ]
-      go [] vs fs n m d = absurd (omega arith)
-      go (p ∷ []) vs fs n m d = absurd (omega arith)
-      go (p ∷ q ∷ r ∷ ps) vs fs n m d = absurd (omega arith)
-      go (p ∷ q ∷ []) [] fs n m d = absurd (omega arith)
-      go (p ∷ q ∷ []) (w ∷ v ∷ vs) fs n m d = absurd (omega arith)
+      go _ _ fs n m d = absurd (omega arith)
 
 -- ---- the commands
 

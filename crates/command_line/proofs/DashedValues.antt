@@ -1,10 +1,10 @@
 -- A value that begins with `-` stays to the end, where it is refused.
-use Rattle.std.proofs.Common.{◌≡◌, ◌∙◌, ◌+◌, ◌||◌, refl, sym, ap, inl, inr, suc, min, Bool, true, false, is_some, List, [], ◌∷◌, ◌++◌, map, fold, length, Option, Some, None, option_and_then, codes}
+use Rattle.std.proofs.Common.{arith, ◌≡◌, ◌∙◌, ◌+◌, ◌||◌, refl, sym, ap, inl, inr, min, Bool, true, false, is_some, List, [], ◌∷◌, ◌++◌, map, fold, length, Option, Some, None, option_and_then, codes}
 use Rattle.std.specs.Prelude.{if◌then◌else◌}
 use Rattle.std.specs.Option.{option_or}
 use Rattle.std.specs.List.{list_any}
-use Rattle.std.specs.Str.{bytes_eq}
-use Rattle.std.proofs.lemmas.Bool.{cases_Bool, false≢true}
+use Rattle.std.proofs.lemmas.Bool.{cases_Bool}
+use Rattle.std.proofs.lemmas.Grind.{common_steps}
 use Rattle.std.proofs.lemmas.List.{length-map}
 use Rattle.std.proofs.lemmas.List.Folds.{list_any-append}
 use Rattle.clap.specs.Lexer.{usize_max}
@@ -26,18 +26,10 @@ use Rattle.command_line.proofs.WordViews.{View, view, ending, long, short, torn,
 -- where all values are there, there are as many texts as values
 all_length : (values : List (Option Text)) (texts : List Text) → all_of values ≡ Some texts
     → length texts ≡ length values
-all_length [] texts is = let none : [] ≡ texts = cc in rw (← none) refl
+all_length [] texts is = grind (arith, common_steps)
 all_length (None ∷ values) texts is = cc
-all_length (Some v ∷ values) texts is = go (all_of values) refl (λ more e. all_length values more e)
-  where
-    go : (rest : Option (List Text)) → all_of values ≡ rest
-        → ((more : List Text) → all_of values ≡ Some more → length more ≡ length values)
-        → length texts ≡ length (Some v ∷ values)
-    go None r ih = let bad : None ≡ Some texts = rw r at is in cc
-    go (Some more) r ih =
-        let both : Some (v ∷ more) ≡ Some texts = rw r at is in
-        let texts_are : v ∷ more ≡ texts = cc in
-        rw (← texts_are) (ap (λ n. suc n) (ih more r))
+all_length (Some v ∷ values) [] is = grind (arith, common_steps)
+all_length (Some v ∷ values) (t ∷ ts) is = grind (arith, common_steps, all_length values ts)
 
 -- ---- a value that begins with `-` is never lost
 
@@ -45,89 +37,53 @@ all_length (Some v ∷ values) texts is = go (all_of values) refl (λ more e. al
 abbrev pub spoilt_at : List Use → List Text → Bool
 spoilt_at uses ids = list_any (λ m. is_dashed (value_in m uses)) ids
 
--- anything or true is true
-pub or_true : (b : Bool) → (b || true) ≡ true
-or_true true = refl
-or_true false = refl
-
 -- a value that begins with `-` is still the value of its id after one more use
 dashed_kept : (m : Text) (uses : List Use) (u : Use) (found : Option Text) → value_in m uses ≡ found
     → is_dashed found ≡ true → is_dashed (value_in m (uses ++ u ∷ [])) ≡ true
-dashed_kept m uses u None at is = absurd (false≢true is)
+dashed_kept m uses u None at is = cc
 dashed_kept m uses u (Some v) at is = rw (value_kept m v uses u at) is
 
 -- where the value of one of these ids begins with `-`, one still does after one more use
 pub spoilt_kept : (ids : List Text) (uses : List Use) (u : Use) → spoilt_at uses ids ≡ true
     → spoilt_at (uses ++ u ∷ []) ids ≡ true
-spoilt_kept [] uses u is = absurd (false≢true is)
-spoilt_kept (m ∷ ms) uses u is = elim (cases_Bool (is_dashed (value_in m uses))) [
-  | inl a ↦ rw (dashed_kept m uses u (value_in m uses) refl a) refl
-  | inr a ↦ ap (λ b. is_dashed (value_in m (uses ++ u ∷ [])) || b)
-      (spoilt_kept ms uses u (rw a at is)) ∙ or_true (is_dashed (value_in m (uses ++ u ∷ [])))
-]
+spoilt_kept [] uses u is = cc
+spoilt_kept (m ∷ ms) uses u is =
+    let kept = dashed_kept m uses u (value_in m uses) refl in
+    grind (arith, common_steps, kept, spoilt_kept ms uses u)
 
 -- and so does one after the first use of one of them, where its value begins with `-`
 pub spoilt_new : (ids : List Text) (uses : List Use) (u : Use) → has_name u.id ids ≡ true
     → is_some (value_in u.id uses) ≡ false → begins_dashed u.value ≡ true
     → spoilt_at (uses ++ u ∷ []) ids ≡ true
-spoilt_new [] uses u h none d = absurd (false≢true h)
-spoilt_new (m ∷ ms) uses u h none d = elim (cases_Bool (bytes_eq m u.id)) [
-  | inl a ↦
-      let same : m ≡ u.id = same_text m u.id a in
-      let here : is_dashed (value_in m (uses ++ u ∷ [])) ≡ true =
-      rw (same, value_new u.id uses u (bytes_same u.id) none) d in
-      rw here refl
-  | inr a ↦ ap (λ b. is_dashed (value_in m (uses ++ u ∷ [])) || b)
-      (spoilt_new ms uses u (rw a at h) none d) ∙ or_true (is_dashed (value_in m (uses ++ u ∷ [])))
-]
+spoilt_new [] uses u h none d = cc
+spoilt_new (m ∷ ms) uses u h none d =
+    let new = value_new u.id uses u (bytes_same u.id) none in
+    grind (arith, common_steps, new, same_text m u.id, spoilt_new ms uses u)
 
 -- a value that begins with `-` stands, whatever the default is
 dashed_first : (x y : Option Text) → is_dashed x ≡ true → is_dashed (option_or x y) ≡ true
-dashed_first None y is = absurd (false≢true is)
+dashed_first None y is = cc
 dashed_first (Some v) y is = is
 
 -- whatever the defaults are, the value of one of the options still begins with `-`
 spoilt_values : (options : List Valued) (uses : List Use) (look : Text → Option Text)
     → spoilt_at uses (map (λ o. o.name) options) ≡ true
     → list_any is_dashed (map (λ o. option_or (value_in o.name uses) (look o.name)) options) ≡ true
-spoilt_values [] uses look is = absurd (false≢true is)
-spoilt_values (o ∷ os) uses look is = elim (cases_Bool (is_dashed (value_in o.name uses))) [
-  | inl a ↦ rw (dashed_first (value_in o.name uses) (look o.name) a) refl
-  | inr a ↦ ap (λ b. is_dashed (option_or (value_in o.name uses) (look o.name)) || b)
-      (spoilt_values os uses look (rw a at is))
-      ∙ or_true (is_dashed (option_or (value_in o.name uses) (look o.name)))
-]
+spoilt_values [] uses look is = cc
+spoilt_values (o ∷ os) uses look is =
+    let first = dashed_first (value_in o.name uses) (look o.name) in
+    grind (arith, common_steps, first, spoilt_values os uses look)
 
 -- whatever the defaults are, one of the positionals still begins with `-`, if all are there
 spoilt_texts : (ids : List Text) (uses : List Use) (look : Text → Option Text) (texts : List Text)
     → spoilt_at uses ids ≡ true
     → all_of (map (λ m. option_or (value_in m uses) (look m)) ids) ≡ Some texts
     → list_any begins_dashed texts ≡ true
-spoilt_texts [] uses look texts is all = absurd (false≢true is)
-spoilt_texts (id ∷ ids) uses look texts is all =
-    go (option_or (value_in id uses) (look id)) refl
-    (all_of (map (λ m. option_or (value_in m uses) (look m)) ids)) refl
-    (λ more e s. spoilt_texts ids uses look more s e)
-  where
-    go : (head : Option Text) → option_or (value_in id uses) (look id) ≡ head
-        → (rest : Option (List Text)) → all_of (map (λ m. option_or (value_in m uses) (look m)) ids)
-        ≡ rest
-        → ((more : List Text) → all_of (map (λ m. option_or (value_in m uses) (look m)) ids)
-        ≡ Some more → spoilt_at uses ids ≡ true → list_any begins_dashed more ≡ true)
-        → list_any begins_dashed texts ≡ true
-    go None h rest r ih = let bad : None ≡ Some texts = rw h at all in cc
-    go (Some v) h None r ih = let bad : None ≡ Some texts = rw (h, r) at all in cc
-    go (Some v) h (Some more) r ih =
-        let both : Some (v ∷ more) ≡ Some texts = rw (h, r) at all in
-        let texts_are : v ∷ more ≡ texts = cc in
-        rw (← texts_are) (elim (cases_Bool (is_dashed (value_in id uses))) [
-          | inl a ↦
-              let here : begins_dashed v ≡ true =
-              ap is_dashed (sym h) ∙ dashed_first (value_in id uses) (look id) a in
-              rw here refl
-          | inr a ↦ ap (λ b. begins_dashed v || b) (ih more r (rw a at is))
-              ∙ or_true (begins_dashed v)
-        ])
+spoilt_texts [] uses look texts is all = cc
+spoilt_texts (id ∷ ids) uses look [] is all = grind (arith, common_steps)
+spoilt_texts (id ∷ ids) uses look (t ∷ ts) is all =
+    let first = dashed_first (value_in id uses) (look id) in
+    grind (arith, common_steps, first, spoilt_texts ids uses look ts)
 
 module _ (command : Text) (form : Form) (ids : List Text) (simple : IsSimple form ids) (T : Type 0)
     (take : Told → Option T)
@@ -242,15 +198,11 @@ module _ (command : Text) (form : Form) (ids : List Text) (simple : IsSimple for
           → (list_any begins_dashed texts
           || list_any is_dashed (map (λ o. ended command form ids simple uses o.name)
           form.options)) ≡ true
-      dashed_told texts all = elim (cases_Bool (spoilt_at uses (option_names form))) [
-        | inl a ↦ ap (λ b. list_any begins_dashed texts || b)
-            (spoilt_values form.options uses (λ m. default_in m rules) a)
-            ∙ or_true (list_any begins_dashed texts)
-        | inr a ↦
-            let here : list_any begins_dashed texts ≡ true =
-            spoilt_texts ids uses (λ m. default_in m rules) texts (rw a at parts) all in
-            rw here refl
-      ]
+      dashed_told texts all =
+          let values = spoilt_values form.options uses (λ m. default_in m rules) in
+          let positionals : spoilt_at uses ids ≡ true → list_any begins_dashed texts ≡ true =
+          λ is. spoilt_texts ids uses (λ m. default_in m rules) texts is all in
+          grind (arith, common_steps, parts, values, positionals)
 
       go : (found : Option (List Text))
           → all_of (map (ended command form ids simple uses) ids) ≡ found

@@ -1,10 +1,11 @@
 -- The end of the words, by the parser's rules of a form and by the form.
-use Rattle.std.proofs.Common.{◌≡◌, ◌∙◌, ◌+◌, ◌&&◌, ◌||◌, ◌<◌, ◌==◌, arith, refl, ap, inl, inr, ℕ, Bool, true, false, not, is_some, is_none, List, [], ◌∷◌, map, fold, zip, length, slice_get, Option, Some, None, option_map, option_and_then, codes}
+use Rattle.std.proofs.Common.{◌≡◌, ◌∙◌, ◌+◌, ◌&&◌, ◌<◌, ◌==◌, arith, refl, ap, ℕ, Bool, true, false, not, is_some, is_none, List, [], ◌∷◌, map, fold, zip, length, slice_get, Option, Some, None, option_map, option_and_then, codes}
 use Rattle.std.specs.Prelude.{if◌then◌else◌}
 use Rattle.std.specs.Option.{option_or, option_to_list}
 use Rattle.std.specs.List.{list_any}
 use Rattle.std.specs.Str.{bytes_eq}
-use Rattle.std.proofs.lemmas.Bool.{cases_Bool, false≢true, or_parts}
+use Rattle.std.proofs.lemmas.Bool.{or_right}
+use Rattle.std.proofs.lemmas.Grind.{common_steps}
 use Rattle.std.proofs.lemmas.Bool.Decides.{nat_tests}
 use Rattle.clap.specs.Walk.{Row, Rule, Text, first_of, with_default}
 use Rattle.clap.specs.Takes.{is_given}
@@ -21,11 +22,6 @@ use Rattle.command_line.proofs.FormRules.{all_plain, flag_is_no_option, flags_be
 use Rattle.command_line.proofs.FormReading.{Fits, filled, flag_text, given}
 use Rattle.command_line.proofs.RuleReading.{rows_at_end, unless_fault}
 
--- anything or true is true
-or_true : (b : Bool) → (b || true) ≡ true
-or_true true = refl
-or_true false = refl
-
 -- two functions that agree on the names
 map_on : (names : List Text) (g h : Text → Option Text)
     → ((m : Text) → has_name m names ≡ true → g m ≡ h m) → map g names ≡ map h names
@@ -33,7 +29,7 @@ map_on [] g h same = refl
 map_on (m ∷ ms) g h same =
     let head : g m ≡ h m = same m (rw (bytes_same m) refl) in
     let tail : map g ms ≡ map h ms =
-    map_on ms g h (λ n is. same n (ap (λ b. bytes_eq m n || b) is ∙ or_true (bytes_eq m n))) in
+    map_on ms g h (λ n is. same n (or_right (bytes_eq m n) (has_name n ms) is)) in
     cc
 
 -- ---- which default a name has
@@ -43,35 +39,26 @@ none_in_options : (m : Text) (options : List Valued) (rest : List Rule)
     → has_name m (map (λ o. o.name) options) ≡ false
     → default_in m (options_before options rest) ≡ default_in m rest
 none_in_options m [] rest none = refl
-none_in_options m (o ∷ os) rest none =
-    let p = or_parts (bytes_eq o.name m) (has_name m (map (λ o. o.name) os)) none in
-    rw p.0 (none_in_options m os rest p.1)
+none_in_options m (o ∷ os) rest none = grind (arith, common_steps, none_in_options m os rest)
 
 -- a name that is no flag has the default that the rules behind the flags give it
 none_in_flags : (m : Text) (flags : List Text) (rest : List Rule) → has_name m flags ≡ false
     → default_in m (flags_before flags rest) ≡ default_in m rest
 none_in_flags m [] rest none = refl
-none_in_flags m (f ∷ fs) rest none =
-    let p = or_parts (bytes_eq f m) (has_name m fs) none in
-    rw p.0 (none_in_flags m fs rest p.1)
+none_in_flags m (f ∷ fs) rest none = grind (arith, common_steps, none_in_flags m fs rest)
 
 -- the rules of positionals give no name a default
 none_in_positionals : (m : Text) (place : ℕ) (ids : List Text)
     → default_in m (positionals_from place ids) ≡ None
 none_in_positionals m place [] = refl
-none_in_positionals m place (id ∷ ids) = elim (cases_Bool (bytes_eq id m)) [
-  | inl b ↦ rw b (none_in_positionals m (place + 1) ids)
-  | inr b ↦ rw b (none_in_positionals m (place + 1) ids)
-]
+none_in_positionals m place (id ∷ ids) =
+    grind (arith, common_steps, none_in_positionals m (place + 1) ids)
 
 -- a flag has the default `false`, whatever rules stand behind the flags
 flag_default : (m : Text) (flags : List Text) (rest : List Rule) → has_name m flags ≡ true
     → default_in m (flags_before flags rest) ≡ Some (codes "false")
-flag_default m [] rest h = absurd (false≢true h)
-flag_default m (f ∷ fs) rest h = elim (cases_Bool (bytes_eq f m)) [
-  | inl b ↦ rw b refl
-  | inr b ↦ rw b (flag_default m fs rest (rw b at h))
-]
+flag_default m [] rest h = cc
+flag_default m (f ∷ fs) rest h = grind (arith, common_steps, flag_default m fs rest)
 
 -- an option in front doesn't change the defaults of options with other names
 skipped : (o : Valued) (ps : List Valued) (rest : List Rule)
@@ -80,9 +67,7 @@ skipped : (o : Valued) (ps : List Valued) (rest : List Rule)
     ≡ map (λ p. default_in p.name rest) ps
 skipped o [] rest none = refl
 skipped o (p ∷ ps) rest none =
-    let q = or_parts (bytes_eq p.name o.name) (has_name o.name (map (λ p. p.name) ps)) none in
-    let other : bytes_eq o.name p.name ≡ false = bytes_turned o.name p.name ∙ q.0 in
-    rw (other, skipped o ps rest q.1) refl
+    grind (arith, common_steps, skipped o ps rest, bytes_turned o.name p.name)
 
 -- the first of the list that a default makes is that default
 listed : (d : Option Text) → option_or (slice_get (option_to_list d) 0) None ≡ d
@@ -106,7 +91,7 @@ option_defaults (o ∷ os) rest one none =
     ≡ map (λ p. p.default) os =
     skipped o os (options_before os rest) apart.0
     ∙ option_defaults os rest apart.1
-    (λ m is. none m (ap (λ b. bytes_eq o.name m || b) is ∙ or_true (bytes_eq o.name m))) in
+    (λ m is. none m (or_right (bytes_eq o.name m) (has_name m (map (λ p. p.name) os)) is)) in
     cc
 
 -- ---- the parts of what is told
@@ -118,10 +103,7 @@ values_end : (options : List Valued) (uses : List Use) (look : Text → Option T
     ≡ map (λ pair. option_or pair.1 pair.0.default)
     (zip options (seen uses (map (λ o. o.name) options)))
 values_end [] uses look is = refl
-values_end (o ∷ os) uses look is =
-    let head : look o.name ≡ o.default = cc in
-    let tail : map (λ p. look p.name) os ≡ map (λ p. p.default) os = cc in
-    rw (head, values_end os uses look tail) refl
+values_end (o ∷ os) uses look is = grind (arith, common_steps, values_end os uses look)
 
 -- a flag's text, or else `false`, says whether the flag stands
 flag_told : (b : Bool) → is_given_true (option_or (flag_text b) (Some (codes "false"))) ≡ b
@@ -134,22 +116,16 @@ flags_end : (names : List Text) (bits : List Bool) (uses : List Use) (look : Tex
     → map look names ≡ map (λ m. Some (codes "false")) names
     → map (λ m. is_given_true (option_or (value_in m uses) (look m))) names ≡ bits
 flags_end [] [] uses look is offs = refl
-flags_end [] (b ∷ bs) uses look is offs = cc
-flags_end (m ∷ ms) [] uses look is offs = cc
 flags_end (m ∷ ms) (b ∷ bs) uses look is offs =
-    let here : value_in m uses ≡ flag_text b = cc in
-    let off : look m ≡ Some (codes "false") = cc in
-    let tail : seen uses ms ≡ map flag_text bs = cc in
-    let rest : map look ms ≡ map (λ n. Some (codes "false")) ms = cc in
-    rw (here, off, flag_told b, flags_end ms bs uses look tail rest) refl
+    grind (arith, common_steps, flag_told b, flags_end ms bs uses look)
+flags_end _ _ uses look is offs = cc
 
 -- with as many texts as positionals, each positional has its text
 filled_full : (ids texts : List Text) → length texts ≡ length ids
     → (all_of (filled ids texts) ≡ Some texts) × (list_any is_none (filled ids texts) ≡ false)
 filled_full [] [] is = (refl, refl)
-filled_full [] (t ∷ ts) is = absurd (omega arith)
-filled_full (id ∷ ids) [] is = absurd (omega arith)
 filled_full (id ∷ ids) (t ∷ ts) is = let p = filled_full ids ts (omega arith) in (rw p.0 refl, p.1)
+filled_full _ _ is = absurd (omega arith)
 
 -- with fewer texts than positionals, some positional has none
 filled_short : (ids texts : List Text) → length texts < length ids
@@ -210,27 +186,9 @@ module _ (command : Text) (form : Form) (ids : List Text) (simple : IsSimple for
   first_at_end uses m = ap (first_of m) (finished_is rules uses (all_plain form ids))
       ∙ first_is m (fold add_default uses rules) ∙ value_at_end m rules uses
 
-  -- look-ups that agree give the options the same values
-  value_names_same : (options : List Valued) (g h : Text → Option Text) → ((m : Text) → g m ≡ h m)
-      → map (λ o. g o.name) options ≡ map (λ o. h o.name) options
-  value_names_same [] g h same = refl
-  value_names_same (o ∷ os) g h same = rw (same o.name, value_names_same os g h same) refl
-
-  -- and let the same flags stand
-  flags_same : (names : List Text) (g h : Text → Option Text) → ((m : Text) → g m ≡ h m)
-      → map (λ m. is_given_true (g m)) names ≡ map (λ m. is_given_true (h m)) names
-  flags_same [] g h same = refl
-  flags_same (m ∷ ms) g h same = rw (same m, flags_same ms g h same) refl
-
-  -- so they tell the same
-  told_same : (g h : Text → Option Text) → ((m : Text) → g m ≡ h m) → told_with g ≡ told_with h
-  told_same g h same =
-      let texts : map g ids ≡ map h ids = map_on ids g h (λ m is. same m) in
-      rw (value_names_same form.options g h same, flags_same form.flags g h same, texts) refl
-
   -- the rows at the end tell what the values at the end tell
   pub told_at_end : (uses : List Use) → told_in form ids (rows_at uses) ≡ told_with (ended uses)
-  told_at_end uses = told_same (λ m. first_of m (rows_at uses)) (ended uses) (first_at_end uses)
+  told_at_end uses = λ i. told_with (λ m. first_at_end uses m i)
 
   -- a positional has no default in the rules of the form
   no_default : (m : Text) → has_name m ids ≡ true → default_in m rules ≡ None
@@ -241,15 +199,10 @@ module _ (command : Text) (form : Form) (ids : List Text) (simple : IsSimple for
       (positional_is_no_flag form ids simple m is)
       ∙ none_in_positionals m 1 ids
 
-  -- a value that may be missing, or else nothing, is that value
-  or_none : (x y : Option Text) → y ≡ None → option_or x y ≡ x
-  or_none None y is = is
-  or_none (Some v) y is = refl
-
   -- the positionals' values at the end are those of the uses
   texts_end : (uses : List Use) → map (ended uses) ids ≡ seen uses ids
   texts_end uses = map_on ids (ended uses) (λ m. value_in m uses)
-      (λ m is. or_none (value_in m uses) (default_in m rules) (no_default m is))
+      (λ m is. rw (no_default m is) (grind (arith, common_steps)))
 
   -- the rules behind the options give no option a default
   option_default : (m : Text) → has_name m (option_names form) ≡ true
@@ -305,12 +258,7 @@ module _ (command : Text) (form : Form) (ids : List Text) (simple : IsSimple for
       let here : rows_at_end command rules uses
       ≡ unless_fault (if b then kind.MissingRequiredArgument ∷ [] else []) (rows_at uses) =
       rw (ok, lack) refl in
-      here ∙ last b
-    where
-      last : (b : Bool) → unless_fault (if b then kind.MissingRequiredArgument ∷ [] else [])
-          (rows_at uses) ≡ (if b then None else Some (rows_at uses))
-      last true = refl
-      last false = refl
+      here ∙ grind (arith, common_steps)
 
   -- the end, where the uses are what was given
   pub end_agrees : (uses : List Use) (texts : List Text) (values : List (Option Text))

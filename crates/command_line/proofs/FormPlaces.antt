@@ -1,9 +1,8 @@
 -- Where a word stands in a form: the place of an option or a flag, and of the next positional.
 use Rattle.std.proofs.Common.{◌≡◌, ◌∙◌, ◌+◌, ◌<◌, ◌≤◌, arith, refl, sym, ap, ℕ, zero, suc, min, Bool, true, false, is_some, List, [], ◌∷◌, ◌++◌, map, length, position, slice_get, length-append, nat_lt, Option, Some, None, option_map}
-use Rattle.std.specs.Prelude.{if◌then◌else◌}
 use Rattle.std.specs.Option.{option_map_or}
 use Rattle.std.specs.Str.{bytes_eq}
-use Rattle.std.proofs.lemmas.Bool.Decides.{nat_tests}
+use Rattle.std.proofs.lemmas.Grind.{common_steps}
 use Rattle.std.proofs.lemmas.Option.{slice_get-map, slice_get_within}
 use Rattle.clap.specs.Lexer.{usize_max}
 use Rattle.clap.specs.Walk.{Text, arg_by_index}
@@ -20,7 +19,7 @@ use Rattle.command_line.proofs.RuleReading.{as_positional, stand}
 pub past_end : (ids : List Text) (k : ℕ) → slice_get ids k ≡ None → length ids ≤ k
 past_end [] k is = omega arith
 past_end (id ∷ ids) zero is = cc
-past_end (id ∷ ids) (suc k) is = let less : length ids ≤ k = past_end ids k is in omega arith
+past_end (id ∷ ids) (suc k) is = omega (arith, past_end ids k is)
 
 module _ (form : Form) where
   -- the form finds an option where its name stands among the names of the options, or nowhere
@@ -39,30 +38,21 @@ module _ (form : Form) where
       → seen uses (option_names form) ≡ values → place_of name (option_names form) ≡ Some i
       → is_given values i ≡ is_some (value_in name uses)
   given_at uses values name i same at =
-      let here : slice_get values i ≡ Some (value_in name uses) =
-      ap (λ vs. slice_get vs i) (sym same) ∙ seen_at (option_names form) uses name i at in
-      ap (λ o. option_map_or is_some o false) here
+      rw (← same, seen_at (option_names form) uses name i at) refl
 
   -- the flag at the place of a name is set just where that name has a value
   pub set_at : (uses : List Use) (flags : List Bool) (name : Text) (j : ℕ)
       → seen uses form.flags ≡ map flag_text flags → place_of name form.flags ≡ Some j
       → is_set flags j ≡ is_some (value_in name uses)
-  set_at uses flags name j same at = go (slice_get flags j) refl
+  set_at uses flags name j same at = go (slice_get flags j)
+      (sym (slice_get-map flag_text flags j) ∙ ap (λ fs. slice_get fs j) (sym same)
+      ∙ seen_at form.flags uses name j at)
     where
-      here : option_map flag_text (slice_get flags j) ≡ Some (value_in name uses)
-      here = sym (slice_get-map flag_text flags j) ∙ ap (λ fs. slice_get fs j) (sym same)
-          ∙ seen_at form.flags uses name j at
-
-      text_of : (b : Bool) (o : Option Text) → flag_text b ≡ o → b ≡ is_some o
-      text_of true o is = rw (← is) refl
-      text_of false o is = rw (← is) refl
-
-      go : (o : Option Bool) → slice_get flags j ≡ o → is_set flags j ≡ is_some (value_in name uses)
-      go None is = let bad : None ≡ Some (value_in name uses) = rw is at here in cc
-      go (Some b) is =
-          let both : Some (flag_text b) ≡ Some (value_in name uses) = rw is at here in
-          let text : flag_text b ≡ value_in name uses = cc in
-          ap (λ o. option_map_or (λ f. f) o false) is ∙ text_of b (value_in name uses) text
+      go : (o : Option Bool) → option_map flag_text o ≡ Some (value_in name uses)
+          → option_map_or (λ f. f) o false ≡ is_some (value_in name uses)
+      go None is = cc
+      go (Some true) is = grind (arith, common_steps)
+      go (Some false) is = grind (arith, common_steps)
 
 module _ (form : Form) (ids : List Text) (simple : IsSimple form ids) where
   -- the number of the positional after one more text isn't cut off at the greatest usize
@@ -74,12 +64,12 @@ module _ (form : Form) (ids : List Text) (simple : IsSimple form ids) where
   -- while there are fewer texts than positionals, the form has one more positional
   pub has_room : (texts : List Text) → length texts < length ids
       → nat_lt (length texts) form.positionals ≡ true
-  has_room texts less = rw (← simple.count) (grind (arith, nat_tests))
+  has_room texts less = rw (← simple.count) (grind (arith, common_steps))
 
   -- once there is a text for each positional, it has no more
   pub has_none : (texts : List Text) → length ids ≤ length texts
       → nat_lt (length texts) form.positionals ≡ false
-  has_none texts less = rw (← simple.count) (grind (arith, nat_tests))
+  has_none texts less = rw (← simple.count) (grind (arith, common_steps))
 
   -- a positional that was found
   pub used_text : (uses : List Use) (texts : List Text) (values : List (Option Text))
@@ -97,13 +87,7 @@ module _ (form : Form) (ids : List Text) (simple : IsSimple form ids) where
       ∙ ap (λ o. option_map (λ m. positional_filled (length texts + 1) m) o) at in
       let none : is_some (value_in id uses) ≡ false =
       ap is_some (filled_next ids texts uses id f.texts_are at) in
-      ap (λ found. as_positional (stand uses None (length texts + 1) over) word found)
-      there
-      ∙ ap (λ b. if b then None else Some
-      (stand (set_use uses (positional_filled (length texts + 1) id) word) None
-      (min (length texts + 1 + 1) usize_max) over)) none
-      ∙ ap (λ n. Some (stand (set_use uses (positional_filled (length texts + 1) id) word) None n
-      over)) (next_place texts word less)
+      rw (there, none, next_place texts word less) refl
 
   -- where no positional is left, a word can't be one
   pub no_text : (uses : List Use) (texts : List Text) (over : Bool) (word : Text)
@@ -111,6 +95,4 @@ module _ (form : Form) (ids : List Text) (simple : IsSimple form ids) where
       → as_positional (stand uses None (length texts + 1) over) word
       (arg_by_index (rules_by form ids) (length texts + 1)) ≡ None
   no_text uses texts over word at =
-      ap (λ found. as_positional (stand uses None (length texts + 1) over) word found)
-      (at_index form ids (length texts)
-      ∙ ap (λ o. option_map (λ m. positional_filled (length texts + 1) m) o) at)
+      rw (at_index form ids (length texts), at) refl

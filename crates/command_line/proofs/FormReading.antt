@@ -1,8 +1,7 @@
 -- What words tell by the parser's rules of a form is what they tell by the form, where no value
 -- begins with `-`.
-use Rattle.std.proofs.Common.{◌≡◌, ◌∙◌, ◌+◌, ◌&&◌, ◌<◌, ◌≤◌, arith, refl, sym, ap, inl, inr, ℕ, zero, suc, Bool, true, false, is_some, List, [], ◌∷◌, ◌++◌, map, length, slice_get, slice_set, length-append, Option, Some, None, codes}
-use Rattle.std.specs.Str.{bytes_eq}
-use Rattle.std.proofs.lemmas.Bool.{cases_Bool, false≢true}
+use Rattle.std.proofs.Common.{◌≡◌, ◌∙◌, ◌+◌, ◌&&◌, ◌<◌, ◌≤◌, arith, refl, sym, ap, ℕ, zero, suc, Bool, true, false, is_some, List, [], ◌∷◌, ◌++◌, map, length, slice_get, slice_set, length-append, Option, Some, None, codes}
+use Rattle.std.proofs.lemmas.Grind.{common_steps}
 use Rattle.std.proofs.lemmas.List.Folds.{list_all-append}
 use Rattle.std.proofs.lemmas.List.{map-set}
 use Rattle.std.proofs.lemmas.Option.{slice_get_within}
@@ -31,13 +30,8 @@ filled (id ∷ ids) (text ∷ texts) = Some text ∷ filled ids texts
 filled_none : (ids : List Text) (uses : List Use) (k : ℕ) (id : Text)
     → seen uses ids ≡ filled ids [] → slice_get ids k ≡ Some id → value_in id uses ≡ None
 filled_none [] uses k id is at = cc
-filled_none (x ∷ xs) uses zero id is at =
-    let same : x ≡ id = cc in
-    let head : value_in x uses ≡ None = cc in
-    rw (← same) head
-filled_none (x ∷ xs) uses (suc k) id is at =
-    let tail : seen uses xs ≡ filled xs [] = cc in
-    filled_none xs uses k id tail at
+filled_none (x ∷ xs) uses zero id is at = cc
+filled_none (x ∷ xs) uses (suc k) id is at = filled_none xs uses k id (cc) at
 
 -- the next positional has no value yet
 pub filled_next : (ids texts : List Text) (uses : List Use) (id : Text)
@@ -45,29 +39,23 @@ pub filled_next : (ids texts : List Text) (uses : List Use) (id : Text)
     → value_in id uses ≡ None
 filled_next ids [] uses id is at = filled_none ids uses 0 id is at
 filled_next [] (t ∷ ts) uses id is at = cc
-filled_next (x ∷ xs) (t ∷ ts) uses id is at =
-    let tail : seen uses xs ≡ filled xs ts = cc in
-    filled_next xs ts uses id tail at
+filled_next (x ∷ xs) (t ∷ ts) uses id is at = filled_next xs ts uses id (cc) at
 
 -- one more positional
 pub filled_set : (ids texts : List Text) (word id : Text) → slice_get ids (length texts) ≡ Some id
     → slice_set (filled ids texts) (length texts) (Some word) ≡ filled ids (texts ++ word ∷ [])
-filled_set [] [] word id at = cc
+filled_set [] texts word id at = cc
 filled_set (x ∷ xs) [] word id at = refl
-filled_set [] (t ∷ ts) word id at = cc
 filled_set (x ∷ xs) (t ∷ ts) word id at = ap (λ rest. Some t ∷ rest) (filled_set xs ts word id at)
 
 -- the place of a positional's name
 pub place_at : (ids : List Text) (k : ℕ) (id : Text) → are_distinct ids ≡ true
     → slice_get ids k ≡ Some id → place_of id ids ≡ Some k
 place_at [] k id one at = cc
-place_at (x ∷ xs) zero id one at = let same : x ≡ id = cc in rw (same, bytes_same id) refl
-place_at (x ∷ xs) (suc k) id one at = elim (cases_Bool (bytes_eq x id)) [
-  | inl a ↦
-      let none : has_name id xs ≡ false = rw (← same_text x id a) (head_apart x xs one).0 in
-      absurd (false≢true (sym none ∙ get_has xs k id at))
-  | inr a ↦ rw (a, place_at xs k id (head_apart x xs one).1 at) refl
-]
+place_at (x ∷ xs) zero id one at = grind (arith, common_steps, bytes_same id)
+place_at (x ∷ xs) (suc k) id one at =
+    let rest = place_at xs k id (head_apart x xs one).1 at in
+    grind (arith, common_steps, rest, same_text x id, (head_apart x xs one).0, get_has xs k id at)
 
 -- the uses are what was given
 pub record Fits (form : Form) (ids : List Text) (uses : List Use) (texts : List Text)

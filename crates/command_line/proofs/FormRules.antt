@@ -47,10 +47,8 @@ rules_by form ids = options_before form.options (flags_before form.flags (positi
 -- the option of this name, with its default
 pub data Sought (name : Text) (options : List Valued) (rest : List Rule) : Type 0 where
   found : (i : ℕ) (d : Option Text) → place_of name (map (λ o. o.name) options) ≡ Some i
-      → arg_by_long (options_before options rest) name
-      ≡ Some (own_rule name d)
-      → arg_by_id (options_before options rest) name
-      ≡ Some (own_rule name d)
+      → arg_by_long (options_before options rest) name ≡ Some (own_rule name d)
+      → arg_by_id (options_before options rest) name ≡ Some (own_rule name d)
       → Sought name options rest
   missing : place_of name (map (λ o. o.name) options) ≡ None
       → arg_by_long (options_before options rest) name ≡ arg_by_long rest name
@@ -115,10 +113,8 @@ counted : (ids : List Text) (s place k : ℕ) → place ≡ s + k
     → arg_by_index (positionals_from s ids) place ≡ option_map (λ id. positional_filled place id)
     (slice_get ids k)
 counted [] s place k is = refl
-counted (id ∷ ids) s place zero is =
-    grind (arith, common_steps)
-counted (id ∷ ids) s place (suc k) is =
-    grind (arith, common_steps, counted ids (s + 1) place k)
+counted (id ∷ ids) s place zero is = grind (arith, common_steps)
+counted (id ∷ ids) s place (suc k) is = grind (arith, common_steps, counted ids (s + 1) place k)
 
 -- positionals that are numbered from 1 or more have none at place 0
 before_first : (ids : List Text) (s : ℕ) → 0 < s → arg_by_index (positionals_from s ids) 0 ≡ None
@@ -151,7 +147,7 @@ at_index form ids k =
 pub get_has : (ids : List Text) (k : ℕ) (id : Text) → slice_get ids k ≡ Some id
     → has_name id ids ≡ true
 get_has [] k id is = cc
-get_has (x ∷ xs) zero id is = let same : x ≡ id = cc in rw (same, bytes_same id) refl
+get_has (x ∷ xs) zero id is = grind (arith, common_steps, bytes_same id)
 get_has (x ∷ xs) (suc k) id is = rw (get_has xs k id is) (or-true (bytes_eq x id))
 
 -- positionals with distinct ids are found by them, each at its own place
@@ -159,10 +155,7 @@ own_positional : (ids : List Text) (s k : ℕ) (id : Text) → are_distinct ids 
     → slice_get ids k ≡ Some id → (place : ℕ) → place ≡ s + k
     → arg_by_id (positionals_from s ids) id ≡ Some (positional_filled place id)
 own_positional [] s k id one is place at = cc
-own_positional (x ∷ xs) s zero id one is place at =
-    let same : x ≡ id = cc in
-    let e : s ≡ place = omega arith in
-    rw (same, bytes_same id) (ap (λ n. Some (positional_filled n id)) e)
+own_positional (x ∷ xs) s zero id one is place at = grind (arith, common_steps, bytes_same id)
 own_positional (x ∷ xs) s (suc k) id one is place at =
     let rest = own_positional xs (s + 1) k id (head_apart x xs one).1 is place (omega arith) in
     grind (arith, common_steps, rest, same_text x id, (head_apart x xs one).0, get_has xs k id is)
@@ -240,10 +233,8 @@ module _ (form : Form) (ids : List Text) (simple : IsSimple form ids) where
   -- which option or flag a name is
   pub data Named (name : Text) : Type 0 where
     is_option : (i : ℕ) (d : Option Text) → place_of name (option_names form) ≡ Some i
-        → arg_by_long (rules_by form ids) name
-        ≡ Some (own_rule name d)
-        → arg_by_id (rules_by form ids) name
-        ≡ Some (own_rule name d) → Named name
+        → arg_by_long (rules_by form ids) name ≡ Some (own_rule name d)
+        → arg_by_id (rules_by form ids) name ≡ Some (own_rule name d) → Named name
     is_flag : (j : ℕ) → place_of name (option_names form) ≡ None → place_of name form.flags ≡ Some j
         → arg_by_long (rules_by form ids) name ≡ Some (flag_filled name) → Named name
     is_none : place_of name (option_names form) ≡ None → place_of name form.flags ≡ None
@@ -329,12 +320,9 @@ module _ (form : Form) (ids : List Text) (simple : IsSimple form ids) where
 -- ---- the defaults
 
 -- an option has one default at most, which the parser takes
-plain_option : (name : Text) (d : Option Text)
-    → Plain (own_rule name d)
-plain_option name None =
-    record { one = refl; taken = λ rows. grind (arith, common_steps) }
-plain_option name (Some v) =
-    record { one = refl; taken = λ rows. grind (arith, common_steps) }
+plain_option : (name : Text) (d : Option Text) → Plain (own_rule name d)
+plain_option name None = record { one = refl; taken = λ rows. grind (arith, common_steps) }
+plain_option name (Some v) = record { one = refl; taken = λ rows. grind (arith, common_steps) }
 
 -- so it is with each of the options
 plain_options : (options : List Valued) → AllPlain (map option_filled options)

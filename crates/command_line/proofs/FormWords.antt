@@ -3,11 +3,13 @@
 use Rattle.std.proofs.Common.{◌≡◌, ◌∙◌, ◌+◌, ◌||◌, arith, refl, sym, ap, ℕ, Bool, true, false, is_some, List, [], ◌∷◌, ◌++◌, map, length, slice_get, slice_set, Option, Some, None, option_and_then, codes}
 use Rattle.std.specs.Prelude.{if◌then◌else◌}
 use Rattle.std.specs.Str.{bytes_eq}
+use Rattle.std.proofs.lemmas.Grind.{common_steps}
+use Rattle.std.proofs.Math.Bool.{or-true}
 use Rattle.std.proofs.lemmas.List.Folds.{list_any-append}
 use Rattle.std.proofs.lemmas.Option.{slice_get_within}
 use Rattle.clap.specs.Walk.{Row, Rule, Text, arg_by_index, arg_by_long}
 use Rattle.command_line.specs.Form.{Form, IsSimple, Told, Valued, has_name, option_names}
-use Rattle.command_line.specs.Words.{Given, Word, as_word, begins_dashed, dashed, ends, has_dashed, kind_of_word, names, next_where, option_or_flag, plain, read_from, told_by, value_or_wait, with_flag, with_option, with_option_value, with_positional}
+use Rattle.command_line.specs.Words.{Given, as_word, begins_dashed, has_dashed, kind_of_word, names, next_where, read_from, told_by, value_or_wait, with_flag, with_option, with_option_value, with_positional}
 use Rattle.command_line.specs.Parsers.{told_in}
 use Rattle.command_line.specs.Reading.{IsOf}
 use Rattle.command_line.proofs.Names.{place_of, placed_has}
@@ -19,7 +21,7 @@ use Rattle.command_line.proofs.FormPlaces.{flag_place, given_at, has_none, has_r
 use Rattle.command_line.proofs.FormEnd.{end_agrees}
 use Rattle.command_line.proofs.RuleReading.{Stand, as_flag, as_named, as_option, as_positional, as_seen, as_value, read_seen, stand}
 use Rattle.command_line.proofs.WordViews.{View, view, ending, long, short, torn, dash, clean}
-use Rattle.command_line.proofs.DashedValues.{or_true, spoilt_new, spoilt_reads}
+use Rattle.command_line.proofs.DashedValues.{spoilt_new, spoilt_reads}
 
 module _ (command : Text) (form : Form) (ids : List Text) (simple : IsSimple form ids) (T : Type 0)
     (take : Told → Option T)
@@ -75,16 +77,13 @@ module _ (command : Text) (form : Form) (ids : List Text) (simple : IsSimple for
           word (arg_by_index rules (length texts + 1)))
           ≡ told_rest words (with_positional form (given texts values flags None over) word)
       go None at = ap (rest_of words) (no_text form ids simple uses texts over word at)
-          ∙ sym (ap (λ b. told_rest words
-          (if b then Some (given (texts ++ word ∷ []) values flags None over) else None))
-          (has_none form ids simple texts (past_end ids (length texts) at)))
+          ∙ sym (rw (has_none form ids simple texts (past_end ids (length texts) at)) refl)
       go (Some id) at =
           ap (rest_of words) (used_text form ids simple uses texts values flags over word id f at)
           ∙ ih (set_use uses (positional_filled (length texts + 1) id) word) (texts ++ word ∷ [])
           values flags over (fits_text form ids simple uses texts values flags id word f at)
-          ∙ sym (ap (λ b. told_rest words
-          (if b then Some (given (texts ++ word ∷ []) values flags None over) else None))
-          (has_room form ids simple texts (slice_get_within ids (length texts) id at)))
+          ∙ sym (rw (has_room form ids simple texts (slice_get_within ids (length texts) id at))
+          refl)
 
   -- a positional that begins with `-`
   spoils_text : (uses : List Use) (texts : List Text) (values : List (Option Text))
@@ -104,7 +103,7 @@ module _ (command : Text) (form : Form) (ids : List Text) (simple : IsSimple for
           let is_one : has_name id (option_names form ++ ids) ≡ true =
           list_any-append (λ m. bytes_eq m id) (option_names form) ids
           ∙ ap (λ b. has_name id (option_names form) || b) (get_has ids (length texts) id at)
-          ∙ or_true (has_name id (option_names form)) in
+          ∙ or-true (has_name id (option_names form)) in
           ap (rest_of words) (used_text form ids simple uses texts values flags over word id f at)
           ∙ spoilt_reads command form ids simple T take refuses words
           (stand (set_use uses (positional_filled (length texts + 1) id) word) None
@@ -123,9 +122,7 @@ module _ (command : Text) (form : Form) (ids : List Text) (simple : IsSimple for
       (own_rule name d) y)
       ≡ told_rest words (with_option (given texts values flags None false) y i)
   takes_option uses texts values flags words name y i d f ih ahead at =
-      go y ∙ sym (ap (λ b. told_rest words
-      (if b then None else Some (value_or_wait (given texts values flags None false) i y)))
-      (given_at form uses values name i f.values_are at))
+      go y ∙ sym (rw (given_at form uses values name i f.values_are at) refl)
     where
       own : Rule
       own = own_rule name d
@@ -142,19 +139,13 @@ module _ (command : Text) (form : Form) (ids : List Text) (simple : IsSimple for
           (slice_set values i (Some v)) flags false
           (fits_value form ids simple uses texts values flags name v d i f at is)
 
-      split : (b : Bool) → (if b then None else told_rest words
-          (Some (given texts values flags (Some i) false)))
-          ≡ told_rest words (if b then None else Some (given texts values flags (Some i) false))
-      split true = refl
-      split false = refl
-
       go : (y : Option Text) → rest_of words
           (as_option (stand uses None (length texts + 1) false)
           (own_rule name d) y)
           ≡ told_rest words (if is_some (value_in name uses) then None else Some
           (value_or_wait (given texts values flags None false) i y))
       go (Some v) = used_or_not v (is_some (value_in name uses)) refl
-      go None = ahead uses texts values flags name d i f at ∙ split (is_some (value_in name uses))
+      go None = ahead uses texts values flags name d i f at ∙ grind (arith, common_steps)
 
   -- so does a flag
   takes_flag : (uses : List Use) (texts : List Text) (values : List (Option Text))
@@ -167,9 +158,7 @@ module _ (command : Text) (form : Form) (ids : List Text) (simple : IsSimple for
   takes_flag uses texts values flags words name (Some v) j f ih none at = refl
   takes_flag uses texts values flags words name None j f ih none at =
       go (is_some (value_in name uses)) refl
-      ∙ sym (ap (λ b. told_rest words
-      (if b then None else Some (given texts values (slice_set flags j true) None false)))
-      (set_at form uses flags name j f.flags_are at))
+      ∙ sym (rw (set_at form uses flags name j f.flags_are at) refl)
     where
       go : (b : Bool) → is_some (value_in name uses) ≡ b
           → rest_of words (if b then None else Some
@@ -191,67 +180,36 @@ module _ (command : Text) (form : Form) (ids : List Text) (simple : IsSimple for
       (arg_by_long rules name))
       ≡ told_rest words (as_word form (given texts values flags None false) word (names name y))
   takes_named uses texts values flags word words name y f ih ahead (is_option i d at l k) =
-      ap (λ found. rest_of words
-      (as_named (stand uses None (length texts + 1) false) y found)) l
-      ∙ takes_option uses texts values flags words name y i d f ih ahead at
-      ∙ sym (ap (λ found. told_rest words
-      (option_or_flag form (given texts values flags None false) name y found))
-      (option_place form name (Some i) at))
+      rw (l, option_place form name (Some i) at)
+      (takes_option uses texts values flags words name y i d f ih ahead at)
   takes_named uses texts values flags word words name y f ih ahead (is_flag j none at l) =
-      ap (λ found. rest_of words
-      (as_named (stand uses None (length texts + 1) false) y found)) l
-      ∙ takes_flag uses texts values flags words name y j f ih none at
-      ∙ sym (ap (λ found. told_rest words
-      (option_or_flag form (given texts values flags None false) name y found))
-      (option_place form name None none)
-      ∙ ap (λ found. told_rest words
-      (option_and_then (with_flag (given texts values flags None false) y) found))
-      (flag_place form name (Some j) at))
+      rw (l, option_place form name None none, flag_place form name (Some j) at)
+      (takes_flag uses texts values flags words name y j f ih none at)
   takes_named uses texts values flags word words name y f ih ahead (is_none none no_flag l) =
-      ap (λ found. rest_of words
-      (as_named (stand uses None (length texts + 1) false) y found)) l
-      ∙ sym (ap (λ found. told_rest words
-      (option_or_flag form (given texts values flags None false) name y found))
-      (option_place form name None none)
-      ∙ ap (λ found. told_rest words
-      (option_and_then (with_flag (given texts values flags None false) y) found))
-      (flag_place form name None no_flag))
+      rw (l, option_place form name None none, flag_place form name None no_flag) refl
 
   -- ---- one word
-
-  -- what is taken by the form, if the first word is of this kind and the options haven't ended
-  abbrev told_kind : List Text → List Text → List (Option Text) → List Bool → Text → Word → Option T
-  told_kind words texts values flags word k =
-      told_rest words (as_word form (given texts values flags None false) word k)
 
   -- any word before the options end, and what follows, tells the same by the rules and the form
   takes_word : (uses : List Use) (texts : List Text) (values : List (Option Text))
       (flags : List Bool) (word : Text) (words : List Text)
       → Fits form ids uses texts values flags → Agree words → Ahead words → (look : View word)
       → rest_of words (as_seen rules (stand uses None (length texts + 1) false) word look)
-      ≡ told_kind words texts values flags word (kind_of_word word)
+      ≡ told_rest words (as_word form (given texts values flags None false) word
+      (kind_of_word word))
   takes_word uses texts values flags word words f ih ahead (ending e d) =
-      let k : kind_of_word word ≡ ends = rw e refl in
-      ih uses texts values flags true f ∙ sym (ap (told_kind words texts values flags word) k)
+      rw e (ih uses texts values flags true f)
   takes_word uses texts values flags word words f ih ahead (long n y e l d) =
-      let k : kind_of_word word ≡ names n y = rw (e, l) refl in
-      takes_named uses texts values flags word words n y f ih ahead (named form ids simple n)
-      ∙ sym (ap (told_kind words texts values flags word) k)
+      rw (e, l)
+      (takes_named uses texts values flags word words n y f ih ahead (named form ids simple n))
   takes_word uses texts values flags word words f ih ahead (short y ys c e l h is d) =
-      let k : kind_of_word word ≡ dashed = rw (e, l, d) refl in
-      sym (ap (told_kind words texts values flags word) k)
+      rw (e, l, d) refl
   takes_word uses texts values flags word words f ih ahead (torn y ys e l h is d) =
-      let k : kind_of_word word ≡ dashed = rw (e, l, d) refl in
-      spoils_text uses texts values flags false word words f d
-      ∙ sym (ap (told_kind words texts values flags word) k)
+      rw (e, l, d) (spoils_text uses texts values flags false word words f d)
   takes_word uses texts values flags word words f ih ahead (dash e l h d) =
-      let k : kind_of_word word ≡ dashed = rw (e, l, d) refl in
-      spoils_text uses texts values flags false word words f d
-      ∙ sym (ap (told_kind words texts values flags word) k)
+      rw (e, l, d) (spoils_text uses texts values flags false word words f d)
   takes_word uses texts values flags word words f ih ahead (clean e l h d) =
-      let k : kind_of_word word ≡ plain = rw (e, l, d) refl in
-      takes_text uses texts values flags false word words f ih
-      ∙ sym (ap (told_kind words texts values flags word) k)
+      rw (e, l, d) (takes_text uses texts values flags false word words f ih)
 
   -- a word where an option waits
   value_or_not : (uses : List Use) (texts : List Text) (values : List (Option Text))
@@ -283,8 +241,7 @@ module _ (command : Text) (form : Form) (ids : List Text) (simple : IsSimple for
   -- a word that begins with `-` where a value is due tells nothing by the form
   no_value : (word : Text) (words : List Text) (g : Given) (b : Bool) → begins_dashed word ≡ true
       → None ≡ (if b then None else told_rest words (if begins_dashed word then None else Some g))
-  no_value word words g true d = refl
-  no_value word words g false d = rw d refl
+  no_value word words g b d = grind (arith, common_steps)
 
   -- any word where an option waits tells the same by both; nothing, where the option has a value
   waits_word : (uses : List Use) (texts : List Text) (values : List (Option Text))
@@ -316,16 +273,11 @@ module _ (command : Text) (form : Form) (ids : List Text) (simple : IsSimple for
       value_or_not uses texts values flags word words name d i f ih at
       (is_some (value_in name uses)) (begins_dashed word) refl refl
 
-  -- a choice between nothing and nothing is nothing
-  waits_end : (b : Bool) → (let none : Option T = None in none ≡ (if b then none else none))
-  waits_end true = refl
-  waits_end false = refl
-
   -- words tell the same by the rules and by the form, where an option waits and where none does
   agrees : (words : List Text) → Agree words × Ahead words
   agrees [] = (
     agrees_end,
-    λ uses texts values flags name d i f at. waits_end (is_some (value_in name uses)),
+    λ uses texts values flags name d i f at. grind (arith, common_steps),
   )
     where
       agrees_end : Agree []

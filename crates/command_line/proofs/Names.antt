@@ -89,10 +89,7 @@ parted (x ∷ xs) ys is = step (parted xs ys (head_apart x (xs ++ ys) is).1)
     step rest = record {
       first = rw (split.0, rest.first) refl;
       second = rest.second;
-      apart = λ name h. elim (cases_Bool (bytes_eq x name)) [
-        | inl a ↦ let e : x ≡ name = same_text x name a in rw (← e) split.1
-        | inr a ↦ rest.apart name (rw a at h)
-      ];
+      apart = λ name h. grind (arith, common_steps, rest.apart name, same_text x name, split.1);
     }
 
 -- a name of the second list is none of the first
