@@ -232,11 +232,11 @@ module _ (command : Text) (form : Form) (ids : List Text) (simple : IsSimple for
       (map_on form.flags (λ m. default_in m rules) (λ m. Some (codes "false")) flag_off)
 
   -- a required argument is lacking at the end just where a positional has no text
-  lacking : (uses : List Use) (texts : List Text) (values : List (Option Text)) (flags : List Bool)
-      → Fits form ids uses texts values flags
+  lacking : {uses : List Use} {texts : List Text} {values : List (Option Text)}
+      {flags : List Bool} → Fits form ids uses texts values flags
       → list_any (λ a. a.required && not (is_given a.id (rows_at uses))) rules
       ≡ list_any is_none (filled ids texts)
-  lacking uses texts values flags f =
+  lacking {uses = uses} f =
       lacks_after_options (rows_at uses) form.options
       (flags_before form.flags (positionals_from 1 ids))
       ∙ lacks_after_flags (rows_at uses) form.flags (positionals_from 1 ids)
@@ -246,26 +246,26 @@ module _ (command : Text) (form : Form) (ids : List Text) (simple : IsSimple for
       ∙ ap (list_any is_none) f.texts_are
 
   -- the end gives no matches where a positional has no text, and else the rows at the end
-  faults_at : (uses : List Use) (texts : List Text) (values : List (Option Text))
-      (flags : List Bool) (b : Bool) → Fits form ids uses texts values flags
+  faults_at : {uses : List Use} {texts : List Text} {values : List (Option Text)}
+      {flags : List Bool} → Fits form ids uses texts values flags → (b : Bool)
       → list_any is_none (filled ids texts) ≡ b
       → rows_at_end command rules uses ≡ (if b then None else Some (rows_at uses))
-  faults_at uses texts values flags b f is =
+  faults_at {uses = uses} f b is =
       let ok : defaults_fault (rows_by uses) rules ≡ [] =
       no_faults rules (rows_by uses) (all_plain form ids) in
       let lack : list_any (λ a. a.required && not (is_given a.id (rows_at uses))) rules ≡ b =
-      lacking uses texts values flags f ∙ is in
+      lacking f ∙ is in
       let here : rows_at_end command rules uses
       ≡ unless_fault (if b then kind.MissingRequiredArgument ∷ [] else []) (rows_at uses) =
       rw (ok, lack) refl in
       here ∙ grind (arith, common_steps)
 
   -- the end, where the uses are what was given
-  pub end_agrees : (uses : List Use) (texts : List Text) (values : List (Option Text))
-      (flags : List Bool) (over : Bool) → Fits form ids uses texts values flags
+  pub end_agrees : {uses : List Use} {texts : List Text} {values : List (Option Text)}
+      {flags : List Bool} → Fits form ids uses texts values flags → (over : Bool)
       → option_and_then (told_in form ids) (rows_at_end command rules uses)
       ≡ told_with_defaults form (given texts values flags None over)
-  end_agrees uses texts values flags over f = go (length texts == length ids) refl
+  end_agrees {uses = uses} {texts = texts} {values = values} {flags = flags} f over = go (length texts == length ids) refl
     where
       go : (b : Bool) → (length texts == length ids) ≡ b
           → option_and_then (told_in form ids) (rows_at_end command rules uses)
@@ -277,21 +277,18 @@ module _ (command : Text) (form : Form) (ids : List Text) (simple : IsSimple for
           rw (← simple.count) (grind (arith, nat_tests)) in
           let given_texts : all_of (map (ended uses) ids) ≡ Some texts =
           ap all_of (texts_end uses ∙ f.texts_are) ∙ there.0 in
-          ap (option_and_then (told_in form ids))
-          (faults_at uses texts values flags false f there.1)
-          ∙ told_at_end uses
-          ∙ (rw (
+          ap (option_and_then (told_in form ids)) (faults_at f false there.1) ∙ told_at_end uses
+          ∙ rw (
             given_texts,
             option_values uses,
             f.values_are,
             flag_values uses flags f.flags_are,
             counted,
-          ) refl)
+          ) refl
       go false is =
           let room = f.room in
           let less : length texts < length ids = grind (arith, nat_tests) in
           let there = filled_short ids texts less in
           let counted : (length texts == form.positionals) ≡ false =
           rw (← simple.count) (grind (arith, nat_tests)) in
-          ap (option_and_then (told_in form ids)) (faults_at uses texts values flags true f there.1)
-          ∙ (rw counted refl)
+          ap (option_and_then (told_in form ids)) (faults_at f true there.1) ∙ rw counted refl

@@ -72,14 +72,14 @@ module _ (form : Form) (ids : List Text) (simple : IsSimple form ids) where
   has_none texts less = rw (← simple.count) (grind (arith, common_steps))
 
   -- a positional that was found
-  pub used_text : (uses : List Use) (texts : List Text) (values : List (Option Text))
-      (flags : List Bool) (over : Bool) (word id : Text)
-      → Fits form ids uses texts values flags → slice_get ids (length texts) ≡ Some id
+  pub used_text : {uses : List Use} {texts : List Text} {values : List (Option Text)}
+      {flags : List Bool} → Fits form ids uses texts values flags → (over : Bool) (word id : Text)
+      → slice_get ids (length texts) ≡ Some id
       → as_positional (stand uses None (length texts + 1) over) word
       (arg_by_index (rules_by form ids) (length texts + 1))
       ≡ Some (stand (set_use uses (positional_filled (length texts + 1) id) word) None
       (length (texts ++ word ∷ []) + 1) over)
-  used_text uses texts values flags over word id f at =
+  used_text {uses = uses} {texts = texts} f over word id at =
       let less : length texts < length ids = slice_get_within ids (length texts) id at in
       let there : arg_by_index (rules_by form ids) (length texts + 1)
       ≡ Some (positional_filled (length texts + 1) id) =

@@ -78,72 +78,67 @@ module _ (form : Form) (ids : List Text) (simple : IsSimple form ids) where
   typed_more uses a v t = list_all-append (λ u. explicit_source (Some u.source)) uses
       (use_of a v ∷ []) ∙ ap (λ b. b && true) t
 
-  -- an option's value
-  pub fits_value : (uses : List Use) (texts : List Text) (values : List (Option Text))
-      (flags : List Bool) (name v : Text) (d : Option Text) (i : ℕ)
-      → Fits form ids uses texts values flags → place_of name (option_names form) ≡ Some i
-      → is_some (value_in name uses) ≡ false
-      → Fits form ids (set_use uses (own_rule name d) v)
-      texts (slice_set values i (Some v)) flags
-  fits_value uses texts values flags name v d i f at none =
-      let own = own_rule name d in
-      let other =
-      option_is_no_other form ids simple name (placed_has name (option_names form) i at) in
-      record {
-        values_are = seen_set (option_names form) uses (use_of own v) i at
-            (options_parted form ids simple).first none
-            ∙ ap (λ vs. slice_set vs i (Some v)) f.values_are;
-        flags_are = seen_kept form.flags uses (use_of own v) other.0 ∙ f.flags_are;
-        texts_are = seen_kept ids uses (use_of own v) other.1 ∙ f.texts_are;
-        room = f.room;
-        typed = typed_more uses own v f.typed;
-      }
+  module _ {uses : List Use} {texts : List Text} {values : List (Option Text)} {flags : List Bool}
+      (f : Fits form ids uses texts values flags) where
+    -- an option's value
+    pub fits_value : (name v : Text) (d : Option Text) (i : ℕ)
+        → place_of name (option_names form) ≡ Some i → is_some (value_in name uses) ≡ false
+        → Fits form ids (set_use uses (own_rule name d) v) texts (slice_set values i (Some v)) flags
+    fits_value name v d i at none =
+        let own = own_rule name d in
+        let other =
+        option_is_no_other form ids simple name (placed_has name (option_names form) i at) in
+        record {
+          values_are = seen_set (option_names form) uses (use_of own v) i at
+              (options_parted form ids simple).first none
+              ∙ ap (λ vs. slice_set vs i (Some v)) f.values_are;
+          flags_are = seen_kept form.flags uses (use_of own v) other.0 ∙ f.flags_are;
+          texts_are = seen_kept ids uses (use_of own v) other.1 ∙ f.texts_are;
+          room = f.room;
+          typed = typed_more uses own v f.typed;
+        }
 
-  -- a flag
-  pub fits_flag : (uses : List Use) (texts : List Text) (values : List (Option Text))
-      (flags : List Bool) (name : Text) (j : ℕ)
-      → Fits form ids uses texts values flags → place_of name (option_names form) ≡ None
-      → place_of name form.flags ≡ Some j → is_some (value_in name uses) ≡ false
-      → Fits form ids (set_use uses (flag_filled name) (codes "true")) texts values
-      (slice_set flags j true)
-  fits_flag uses texts values flags name j f apart at none =
-      let own = flag_filled name in
-      let h : has_name name form.flags ≡ true = placed_has name form.flags j at in
-      record {
-        values_are = seen_kept (option_names form) uses (use_of own (codes "true"))
-            (flag_is_no_option form ids simple name h) ∙ f.values_are;
-        flags_are = seen_set form.flags uses (use_of own (codes "true")) j at
-            (flags_parted form ids simple).first none
-            ∙ ap (λ fs. slice_set fs j (Some (codes "true"))) f.flags_are
-            ∙ sym (map-set flag_text flags j true);
-        texts_are = seen_kept ids uses (use_of own (codes "true"))
-            ((flags_parted form ids simple).apart name h) ∙ f.texts_are;
-        room = f.room;
-        typed = typed_more uses own (codes "true") f.typed;
-      }
+    -- a flag
+    pub fits_flag : (name : Text) (j : ℕ) → place_of name (option_names form) ≡ None
+        → place_of name form.flags ≡ Some j → is_some (value_in name uses) ≡ false
+        → Fits form ids (set_use uses (flag_filled name) (codes "true")) texts values
+        (slice_set flags j true)
+    fits_flag name j apart at none =
+        let own = flag_filled name in
+        let h : has_name name form.flags ≡ true = placed_has name form.flags j at in
+        record {
+          values_are = seen_kept (option_names form) uses (use_of own (codes "true"))
+              (flag_is_no_option form ids simple name h) ∙ f.values_are;
+          flags_are = seen_set form.flags uses (use_of own (codes "true")) j at
+              (flags_parted form ids simple).first none
+              ∙ ap (λ fs. slice_set fs j (Some (codes "true"))) f.flags_are
+              ∙ sym (map-set flag_text flags j true);
+          texts_are = seen_kept ids uses (use_of own (codes "true"))
+              ((flags_parted form ids simple).apart name h) ∙ f.texts_are;
+          room = f.room;
+          typed = typed_more uses own (codes "true") f.typed;
+        }
 
-  -- one more positional
-  pub fits_text : (uses : List Use) (texts : List Text) (values : List (Option Text))
-      (flags : List Bool) (id word : Text)
-      → Fits form ids uses texts values flags → slice_get ids (length texts) ≡ Some id
-      → Fits form ids (set_use uses (positional_filled (length texts + 1) id) word)
-      (texts ++ word ∷ []) values flags
-  fits_text uses texts values flags id word f at =
-      let own = positional_filled (length texts + 1) id in
-      let h : has_name id ids ≡ true = get_has ids (length texts) id at in
-      let none : is_some (value_in id uses) ≡ false =
-      ap is_some (filled_next ids texts uses id f.texts_are at) in
-      let less : length texts < length ids = slice_get_within ids (length texts) id at in
-      let one : are_distinct ids ≡ true = (flags_parted form ids simple).second in
-      record {
-        values_are = seen_kept (option_names form) uses (use_of own word)
-            (positional_is_no_option form ids simple id h) ∙ f.values_are;
-        flags_are = seen_kept form.flags uses (use_of own word)
-            (positional_is_no_flag form ids simple id h) ∙ f.flags_are;
-        texts_are = seen_set ids uses (use_of own word) (length texts)
-            (place_at ids (length texts) id one at) one none
-            ∙ ap (λ ts. slice_set ts (length texts) (Some word)) f.texts_are
-            ∙ filled_set ids texts word id at;
-        room = omega (arith, length-append texts (word ∷ []));
-        typed = typed_more uses own word f.typed;
-      }
+    -- one more positional
+    pub fits_text : (id word : Text) → slice_get ids (length texts) ≡ Some id
+        → Fits form ids (set_use uses (positional_filled (length texts + 1) id) word)
+        (texts ++ word ∷ []) values flags
+    fits_text id word at =
+        let own = positional_filled (length texts + 1) id in
+        let h : has_name id ids ≡ true = get_has ids (length texts) id at in
+        let none : is_some (value_in id uses) ≡ false =
+        ap is_some (filled_next ids texts uses id f.texts_are at) in
+        let less : length texts < length ids = slice_get_within ids (length texts) id at in
+        let one : are_distinct ids ≡ true = (flags_parted form ids simple).second in
+        record {
+          values_are = seen_kept (option_names form) uses (use_of own word)
+              (positional_is_no_option form ids simple id h) ∙ f.values_are;
+          flags_are = seen_kept form.flags uses (use_of own word)
+              (positional_is_no_flag form ids simple id h) ∙ f.flags_are;
+          texts_are = seen_set ids uses (use_of own word) (length texts)
+              (place_at ids (length texts) id one at) one none
+              ∙ ap (λ ts. slice_set ts (length texts) (Some word)) f.texts_are
+              ∙ filled_set ids texts word id at;
+          room = omega (arith, length-append texts (word ∷ []));
+          typed = typed_more uses own word f.typed;
+        }

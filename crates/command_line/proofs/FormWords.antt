@@ -1,6 +1,6 @@
 -- What words tell by the parser's rules of a form is what they tell by the form, where a text that
 -- begins with `-` is refused.
-use Rattle.std.proofs.Common.{◌≡◌, ◌∙◌, ◌+◌, ◌||◌, arith, refl, sym, ap, ℕ, Bool, true, false, is_some, List, [], ◌∷◌, ◌++◌, map, length, slice_get, slice_set, Option, Some, None, option_and_then, codes}
+use Rattle.std.proofs.Common.{◌≡◌, ◌∙◌, ◌+◌, arith, refl, sym, ap, ℕ, Bool, true, false, is_some, List, [], ◌∷◌, ◌++◌, map, length, slice_get, slice_set, Option, Some, None, option_and_then, codes}
 use Rattle.std.specs.Prelude.{if◌then◌else◌}
 use Rattle.std.specs.Str.{bytes_eq}
 use Rattle.std.proofs.lemmas.Grind.{common_steps}
@@ -47,8 +47,7 @@ module _ (command : Text) (form : Form) (ids : List Text) (simple : IsSimple for
   -- these words, where no option waits
   abbrev pub Agree : List Text → Type 0
   Agree words = (uses : List Use) (texts : List Text) (values : List (Option Text))
-      (flags : List Bool) (over : Bool)
-      → Fits form ids uses texts values flags
+      (flags : List Bool) (over : Bool) → Fits form ids uses texts values flags
       → taken (read_seen command rules (stand uses None (length texts + 1) over) words)
       ≡ option_and_then take (read_from form (given texts values flags None over) words)
 
@@ -58,243 +57,177 @@ module _ (command : Text) (form : Form) (ids : List Text) (simple : IsSimple for
       (flags : List Bool) (name : Text) (d : Option Text) (i : ℕ)
       → Fits form ids uses texts values flags → place_of name (option_names form) ≡ Some i
       → taken (read_seen command rules
-      (stand uses (Some (own_rule name d))
-      (length texts + 1) false) words)
+      (stand uses (Some (own_rule name d)) (length texts + 1) false) words)
       ≡ (if is_some (value_in name uses) then None else option_and_then take
       (read_from form (given texts values flags (Some i) false) words))
 
-  -- a word as the next positional, and what follows, tells the same by the rules and by the form
-  takes_text : (uses : List Use) (texts : List Text) (values : List (Option Text))
-      (flags : List Bool) (over : Bool) (word : Text) (words : List Text)
-      → Fits form ids uses texts values flags → Agree words
-      → rest_of words (as_positional (stand uses None (length texts + 1) over) word
-      (arg_by_index rules (length texts + 1)))
-      ≡ told_rest words (with_positional form (given texts values flags None over) word)
-  takes_text uses texts values flags over word words f ih = go (slice_get ids (length texts)) refl
-    where
+  module _ {uses : List Use} {texts : List Text} {values : List (Option Text)} {flags : List Bool}
+      (f : Fits form ids uses texts values flags) (words : List Text) (ih : Agree words) where
+    -- where the reading stands, if no option waits
+    abbrev idle : Bool → Stand
+    idle over = stand uses None (length texts + 1) over
+
+    -- what was given, if no option waits
+    abbrev so_far : Bool → Given
+    so_far over = given texts values flags None over
+
+    -- a word as the next positional, and what follows, tells the same by the rules and by the form
+    takes_text : (over : Bool) (word : Text)
+        → rest_of words (as_positional (idle over) word (arg_by_index rules (length texts + 1)))
+        ≡ told_rest words (with_positional form (so_far over) word)
+    takes_text over word = go (slice_get ids (length texts)) refl where
       go : (at : Option Text) → slice_get ids (length texts) ≡ at
-          → rest_of words (as_positional (stand uses None (length texts + 1) over)
-          word (arg_by_index rules (length texts + 1)))
-          ≡ told_rest words (with_positional form (given texts values flags None over) word)
+          → rest_of words (as_positional (idle over) word (arg_by_index rules (length texts + 1)))
+          ≡ told_rest words (with_positional form (so_far over) word)
       go None at = ap (rest_of words) (no_text form ids simple uses texts over word at)
           ∙ sym (rw (has_none form ids simple texts (past_end ids (length texts) at)) refl)
       go (Some id) at =
-          ap (rest_of words) (used_text form ids simple uses texts values flags over word id f at)
-          ∙ ih (set_use uses (positional_filled (length texts + 1) id) word) (texts ++ word ∷ [])
-          values flags over (fits_text form ids simple uses texts values flags id word f at)
+          ap (rest_of words) (used_text form ids simple f over word id at)
+          ∙ ih _ _ _ _ over (fits_text form ids simple f id word at)
           ∙ sym (rw (has_room form ids simple texts (slice_get_within ids (length texts) id at))
           refl)
 
-  -- a positional that begins with `-`
-  spoils_text : (uses : List Use) (texts : List Text) (values : List (Option Text))
-      (flags : List Bool) (over : Bool) (word : Text) (words : List Text)
-      → Fits form ids uses texts values flags → begins_dashed word ≡ true
-      → rest_of words (as_positional (stand uses None (length texts + 1) over) word
-      (arg_by_index rules (length texts + 1))) ≡ None
-  spoils_text uses texts values flags over word words f d = go (slice_get ids (length texts)) refl
-    where
+    -- a positional that begins with `-`
+    spoils_text : (over : Bool) (word : Text) → begins_dashed word ≡ true
+        → rest_of words (as_positional (idle over) word (arg_by_index rules (length texts + 1)))
+        ≡ None
+    spoils_text over word d = go (slice_get ids (length texts)) refl where
       go : (at : Option Text) → slice_get ids (length texts) ≡ at
-          → rest_of words (as_positional (stand uses None (length texts + 1) over)
-          word (arg_by_index rules (length texts + 1))) ≡ None
+          → rest_of words (as_positional (idle over) word (arg_by_index rules (length texts + 1)))
+          ≡ None
       go None at = ap (rest_of words) (no_text form ids simple uses texts over word at)
       go (Some id) at =
           let none : is_some (value_in id uses) ≡ false =
           ap is_some (filled_next ids texts uses id f.texts_are at) in
           let is_one : has_name id (option_names form ++ ids) ≡ true =
-          list_any-append (λ m. bytes_eq m id) (option_names form) ids
-          ∙ ap (λ b. has_name id (option_names form) || b) (get_has ids (length texts) id at)
-          ∙ or-true (has_name id (option_names form)) in
-          ap (rest_of words) (used_text form ids simple uses texts values flags over word id f at)
-          ∙ spoilt_reads command form ids simple T take refuses words
-          (stand (set_use uses (positional_filled (length texts + 1) id) word) None
-          (length (texts ++ word ∷ []) + 1) over)
+          rw (
+            list_any-append (λ m. bytes_eq m id) (option_names form) ids,
+            get_has ids (length texts) id at,
+          ) (or-true (has_name id (option_names form))) in
+          ap (rest_of words) (used_text form ids simple f over word id at)
+          ∙ spoilt_reads command form ids simple T take refuses words _
           (spoilt_new (option_names form ++ ids) uses
           (use_of (positional_filled (length texts + 1) id) word) is_one none d)
 
-  -- ---- options and flags
+    -- ---- options and flags
 
-  -- an option, and what follows, tells the same by both, with the value of its own word or without
-  takes_option : (uses : List Use) (texts : List Text) (values : List (Option Text))
-      (flags : List Bool) (words : List Text) (name : Text) (y : Option Text)
-      (i : ℕ) (d : Option Text) → Fits form ids uses texts values flags → Agree words → Ahead words
-      → place_of name (option_names form) ≡ Some i
-      → rest_of words (as_option (stand uses None (length texts + 1) false)
-      (own_rule name d) y)
-      ≡ told_rest words (with_option (given texts values flags None false) y i)
-  takes_option uses texts values flags words name y i d f ih ahead at =
-      go y ∙ sym (rw (given_at form uses values name i f.values_are at) refl)
-    where
-      own : Rule
-      own = own_rule name d
+    -- an option, and what follows, tells the same by both, with the value of its own word or without
+    takes_option : (name : Text) (y : Option Text) (i : ℕ) (d : Option Text) → Ahead words
+        → place_of name (option_names form) ≡ Some i
+        → rest_of words (as_option (idle false) (own_rule name d) y)
+        ≡ told_rest words (with_option (so_far false) y i)
+    takes_option name y i d ahead at =
+        go y ∙ sym (rw (given_at form uses values name i f.values_are at) refl)
+      where
+        used_or_not : (v : Text) (b : Bool) → is_some (value_in name uses) ≡ b
+            → rest_of words (if b then None else Some
+            (stand (set_use uses (own_rule name d) v) None (length texts + 1) false))
+            ≡ told_rest words (if b then None else Some (with_option_value (so_far false) i v))
+        used_or_not v true is = refl
+        used_or_not v false is =
+            ih _ _ _ _ false (fits_value form ids simple f name v d i at is)
 
-      used_or_not : (v : Text) (b : Bool) → is_some (value_in name uses) ≡ b
-          → rest_of words (if b then None else Some
-          (stand (set_use uses (own_rule name d) v)
-          None (length texts + 1) false))
-          ≡ told_rest words (if b then None else Some
-          (with_option_value (given texts values flags None false) i v))
-      used_or_not v true is = refl
-      used_or_not v false is =
-          ih (set_use uses (own_rule name d) v) texts
-          (slice_set values i (Some v)) flags false
-          (fits_value form ids simple uses texts values flags name v d i f at is)
+        go : (y : Option Text) → rest_of words (as_option (idle false) (own_rule name d) y)
+            ≡ told_rest words (if is_some (value_in name uses) then None else Some
+            (value_or_wait (so_far false) i y))
+        go (Some v) = used_or_not v (is_some (value_in name uses)) refl
+        go None = ahead uses texts values flags name d i f at ∙ grind (arith, common_steps)
 
-      go : (y : Option Text) → rest_of words
-          (as_option (stand uses None (length texts + 1) false)
-          (own_rule name d) y)
-          ≡ told_rest words (if is_some (value_in name uses) then None else Some
-          (value_or_wait (given texts values flags None false) i y))
-      go (Some v) = used_or_not v (is_some (value_in name uses)) refl
-      go None = ahead uses texts values flags name d i f at ∙ grind (arith, common_steps)
+    -- so does a flag
+    takes_flag : (name : Text) (y : Option Text) (j : ℕ) → place_of name (option_names form) ≡ None
+        → place_of name form.flags ≡ Some j
+        → rest_of words (as_flag (idle false) (flag_filled name) y)
+        ≡ told_rest words (with_flag (so_far false) y j)
+    takes_flag name (Some v) j none at = refl
+    takes_flag name None j none at =
+        go (is_some (value_in name uses)) refl
+        ∙ sym (rw (set_at form uses flags name j f.flags_are at) refl)
+      where
+        go : (b : Bool) → is_some (value_in name uses) ≡ b
+            → rest_of words (if b then None else Some
+            (stand (set_use uses (flag_filled name) (codes "true")) None (length texts + 1) false))
+            ≡ told_rest words (if b then None else Some
+            (given texts values (slice_set flags j true) None false))
+        go true is = refl
+        go false is = ih _ _ _ _ false (fits_flag form ids simple f name j none at is)
 
-  -- so does a flag
-  takes_flag : (uses : List Use) (texts : List Text) (values : List (Option Text))
-      (flags : List Bool) (words : List Text) (name : Text) (y : Option Text) (j : ℕ)
-      → Fits form ids uses texts values flags → Agree words
-      → place_of name (option_names form) ≡ None → place_of name form.flags ≡ Some j
-      → rest_of words (as_flag (stand uses None (length texts + 1) false)
-      (flag_filled name) y)
-      ≡ told_rest words (with_flag (given texts values flags None false) y j)
-  takes_flag uses texts values flags words name (Some v) j f ih none at = refl
-  takes_flag uses texts values flags words name None j f ih none at =
-      go (is_some (value_in name uses)) refl
-      ∙ sym (rw (set_at form uses flags name j f.flags_are at) refl)
-    where
-      go : (b : Bool) → is_some (value_in name uses) ≡ b
-          → rest_of words (if b then None else Some
-          (stand (set_use uses (flag_filled name) (codes "true")) None
-          (length texts + 1) false))
-          ≡ told_rest words (if b then None else Some
-          (given texts values (slice_set flags j true) None false))
-      go true is = refl
-      go false is = ih (set_use uses (flag_filled name) (codes "true")) texts values
-          (slice_set flags j true) false
-          (fits_flag form ids simple uses texts values flags name j f none at is)
+    -- so does a word that names an option, a flag or neither
+    takes_named : (word name : Text) (y : Option Text) → Ahead words → Named form ids simple name
+        → rest_of words (as_named (idle false) y (arg_by_long rules name))
+        ≡ told_rest words (as_word form (so_far false) word (names name y))
+    takes_named word name y ahead (is_option i d at l k) =
+        rw (l, option_place form name (Some i) at) (takes_option name y i d ahead at)
+    takes_named word name y ahead (is_flag j none at l) =
+        rw (l, option_place form name None none, flag_place form name (Some j) at)
+        (takes_flag name y j none at)
+    takes_named word name y ahead (is_none none no_flag l) =
+        rw (l, option_place form name None none, flag_place form name None no_flag) refl
 
-  -- so does a word that names an option, a flag or neither
-  takes_named : (uses : List Use) (texts : List Text) (values : List (Option Text))
-      (flags : List Bool) (word : Text) (words : List Text) (name : Text) (y : Option Text)
-      → Fits form ids uses texts values flags → Agree words → Ahead words
-      → Named form ids simple name
-      → rest_of words (as_named (stand uses None (length texts + 1) false) y
-      (arg_by_long rules name))
-      ≡ told_rest words (as_word form (given texts values flags None false) word (names name y))
-  takes_named uses texts values flags word words name y f ih ahead (is_option i d at l k) =
-      rw (l, option_place form name (Some i) at)
-      (takes_option uses texts values flags words name y i d f ih ahead at)
-  takes_named uses texts values flags word words name y f ih ahead (is_flag j none at l) =
-      rw (l, option_place form name None none, flag_place form name (Some j) at)
-      (takes_flag uses texts values flags words name y j f ih none at)
-  takes_named uses texts values flags word words name y f ih ahead (is_none none no_flag l) =
-      rw (l, option_place form name None none, flag_place form name None no_flag) refl
+    -- ---- one word
 
-  -- ---- one word
+    -- any word before the options end, and what follows, tells the same by the rules and the form
+    takes_word : (word : Text) → Ahead words → (look : View word)
+        → rest_of words (as_seen rules (idle false) word look)
+        ≡ told_rest words (as_word form (so_far false) word (kind_of_word word))
+    takes_word word ahead (ending e d) = rw e (ih uses texts values flags true f)
+    takes_word word ahead (long n y e l d) =
+        rw (e, l) (takes_named word n y ahead (named form ids simple n))
+    takes_word word ahead (short y ys c e l h is d) = rw (e, l, d) refl
+    takes_word word ahead (torn y ys e l h is d) = rw (e, l, d) (spoils_text false word d)
+    takes_word word ahead (dash e l h d) = rw (e, l, d) (spoils_text false word d)
+    takes_word word ahead (clean e l h d) = rw (e, l, d) (takes_text false word)
 
-  -- any word before the options end, and what follows, tells the same by the rules and the form
-  takes_word : (uses : List Use) (texts : List Text) (values : List (Option Text))
-      (flags : List Bool) (word : Text) (words : List Text)
-      → Fits form ids uses texts values flags → Agree words → Ahead words → (look : View word)
-      → rest_of words (as_seen rules (stand uses None (length texts + 1) false) word look)
-      ≡ told_rest words (as_word form (given texts values flags None false) word
-      (kind_of_word word))
-  takes_word uses texts values flags word words f ih ahead (ending e d) =
-      rw e (ih uses texts values flags true f)
-  takes_word uses texts values flags word words f ih ahead (long n y e l d) =
-      rw (e, l)
-      (takes_named uses texts values flags word words n y f ih ahead (named form ids simple n))
-  takes_word uses texts values flags word words f ih ahead (short y ys c e l h is d) =
-      rw (e, l, d) refl
-  takes_word uses texts values flags word words f ih ahead (torn y ys e l h is d) =
-      rw (e, l, d) (spoils_text uses texts values flags false word words f d)
-  takes_word uses texts values flags word words f ih ahead (dash e l h d) =
-      rw (e, l, d) (spoils_text uses texts values flags false word words f d)
-  takes_word uses texts values flags word words f ih ahead (clean e l h d) =
-      rw (e, l, d) (takes_text uses texts values flags false word words f ih)
+    -- a word where an option waits
+    value_or_not : (word name : Text) (d : Option Text) (i : ℕ)
+        → place_of name (option_names form) ≡ Some i
+        → (b dashes : Bool) → is_some (value_in name uses) ≡ b → begins_dashed word ≡ dashes
+        → rest_of words (if b then None else Some
+        (stand (set_use uses (own_rule name d) word) None (length texts + 1) false))
+        ≡ (if b then None else told_rest words (if dashes then None else Some
+        (with_option_value (given texts values flags (Some i) false) i word)))
+    value_or_not word name d i at true dashes used is = refl
+    value_or_not word name d i at false false fresh is =
+        ih _ _ _ _ false (fits_value form ids simple f name word d i at fresh)
+    value_or_not word name d i at false true fresh is =
+        let is_one : has_name name (option_names form ++ ids) ≡ true =
+        rw (
+          list_any-append (λ m. bytes_eq m name) (option_names form) ids,
+          placed_has name (option_names form) i at,
+        ) refl in
+        spoilt_reads command form ids simple T take refuses words _
+        (spoilt_new (option_names form ++ ids) uses (use_of (own_rule name d) word) is_one fresh is)
 
-  -- a word where an option waits
-  value_or_not : (uses : List Use) (texts : List Text) (values : List (Option Text))
-      (flags : List Bool) (word : Text) (words : List Text) (name : Text) (d : Option Text) (i : ℕ)
-      → Fits form ids uses texts values flags → Agree words
-      → place_of name (option_names form) ≡ Some i
-      → (b dashes : Bool) → is_some (value_in name uses) ≡ b → begins_dashed word ≡ dashes
-      → rest_of words (if b then None else Some
-      (stand (set_use uses (own_rule name d) word)
-      None (length texts + 1) false))
-      ≡ (if b then None else told_rest words
-      (if dashes then None else Some
-      (with_option_value (given texts values flags (Some i) false) i word)))
-  value_or_not uses texts values flags word words name d i f ih at true dashes used is = refl
-  value_or_not uses texts values flags word words name d i f ih at false false fresh is =
-      ih (set_use uses (own_rule name d) word) texts
-      (slice_set values i (Some word)) flags false
-      (fits_value form ids simple uses texts values flags name word d i f at fresh)
-  value_or_not uses texts values flags word words name d i f ih at false true fresh is =
-      let is_one : has_name name (option_names form ++ ids) ≡ true =
-      list_any-append (λ m. bytes_eq m name) (option_names form) ids
-      ∙ ap (λ b. b || has_name name ids) (placed_has name (option_names form) i at) in
-      spoilt_reads command form ids simple T take refuses words
-      (stand (set_use uses (own_rule name d) word)
-      None (length texts + 1) false)
-      (spoilt_new (option_names form ++ ids) uses
-      (use_of (own_rule name d) word) is_one fresh is)
-
-  -- a word that begins with `-` where a value is due tells nothing by the form
-  no_value : (word : Text) (words : List Text) (g : Given) (b : Bool) → begins_dashed word ≡ true
-      → None ≡ (if b then None else told_rest words (if begins_dashed word then None else Some g))
-  no_value word words g b d = grind (arith, common_steps)
-
-  -- any word where an option waits tells the same by both; nothing, where the option has a value
-  waits_word : (uses : List Use) (texts : List Text) (values : List (Option Text))
-      (flags : List Bool) (word : Text) (words : List Text) (name : Text) (d : Option Text) (i : ℕ)
-      → Fits form ids uses texts values flags → Agree words
-      → place_of name (option_names form) ≡ Some i → (look : View word)
-      → rest_of words (as_value
-      (stand uses (Some (own_rule name d))
-      (length texts + 1) false)
-      (own_rule name d) word look)
-      ≡ (if is_some (value_in name uses) then None else told_rest words
-      (next_where form (given texts values flags (Some i) false) word (Some i)))
-  waits_word uses texts values flags word words name d i f ih at (ending e b) =
-      no_value word words (with_option_value (given texts values flags (Some i) false) i word)
-      (is_some (value_in name uses)) b
-  waits_word uses texts values flags word words name d i f ih at (long n y e l b) =
-      no_value word words (with_option_value (given texts values flags (Some i) false) i word)
-      (is_some (value_in name uses)) b
-  waits_word uses texts values flags word words name d i f ih at (short y ys c e l h is b) =
-      no_value word words (with_option_value (given texts values flags (Some i) false) i word)
-      (is_some (value_in name uses)) b
-  waits_word uses texts values flags word words name d i f ih at (torn y ys e l h is b) =
-      value_or_not uses texts values flags word words name d i f ih at
-      (is_some (value_in name uses)) (begins_dashed word) refl refl
-  waits_word uses texts values flags word words name d i f ih at (dash e l h b) =
-      value_or_not uses texts values flags word words name d i f ih at
-      (is_some (value_in name uses)) (begins_dashed word) refl refl
-  waits_word uses texts values flags word words name d i f ih at (clean e l h b) =
-      value_or_not uses texts values flags word words name d i f ih at
-      (is_some (value_in name uses)) (begins_dashed word) refl refl
+    -- any word where an option waits tells the same by both; nothing, where the option has a value
+    waits_word : (word name : Text) (d : Option Text) (i : ℕ)
+        → place_of name (option_names form) ≡ Some i → (look : View word)
+        → rest_of words (as_value
+        (stand uses (Some (own_rule name d)) (length texts + 1) false) (own_rule name d) word look)
+        ≡ (if is_some (value_in name uses) then None else told_rest words
+        (next_where form (given texts values flags (Some i) false) word (Some i)))
+    waits_word word name d i at (ending e b) = grind (arith, common_steps)
+    waits_word word name d i at (long n y e l b) = grind (arith, common_steps)
+    waits_word word name d i at (short y ys c e l h is b) = grind (arith, common_steps)
+    waits_word word name d i at (torn y ys e l h is b) = value_or_not word name d i at _ _ refl refl
+    waits_word word name d i at (dash e l h b) = value_or_not word name d i at _ _ refl refl
+    waits_word word name d i at (clean e l h b) = value_or_not word name d i at _ _ refl refl
 
   -- words tell the same by the rules and by the form, where an option waits and where none does
   agrees : (words : List Text) → Agree words × Ahead words
   agrees [] = (
-    agrees_end,
+    λ uses texts values flags over f. ap (option_and_then take)
+        (end_agrees command form ids simple f over),
     λ uses texts values flags name d i f at. grind (arith, common_steps),
   )
-    where
-      agrees_end : Agree []
-      agrees_end uses texts values flags over f =
-          ap (option_and_then take)
-          (end_agrees command form ids simple uses texts values flags over f)
   agrees (word ∷ words) = (agrees_idle (agrees words), agrees_ahead (agrees words).0)
     where
       agrees_idle : Agree words × Ahead words → Agree (word ∷ words)
-      agrees_idle ih uses texts values flags true f =
-          takes_text uses texts values flags true word words f ih.0
+      agrees_idle ih uses texts values flags true f = takes_text f words ih.0 true word
       agrees_idle ih uses texts values flags false f =
-          takes_word uses texts values flags word words f ih.0 ih.1 (view word)
+          takes_word f words ih.0 word ih.1 (view word)
 
       agrees_ahead : Agree words → Ahead (word ∷ words)
       agrees_ahead ih uses texts values flags name d i f at =
-          waits_word uses texts values flags word words name d i f ih at (view word)
+          waits_word f words ih word name d i at (view word)
 
   -- before any use, no option has a value
   nothing_seen : (options : List Valued)
