@@ -1,8 +1,9 @@
 -- What the parser makes of words is what they tell by its rules.
-use Rattle.std.proofs.Common.{◌≡◌, ◌∙◌, refl, sym, ap, inl, inr, ℕ, ◌+◌, ◌||◌, Bool, true, false, is_some, List, [], ◌∷◌, Option, Some, None, codes, min}
+use Rattle.std.proofs.Common.{◌≡◌, ◌∙◌, refl, sym, inl, inr, ℕ, ◌+◌, Bool, true, false, is_some, List, [], ◌∷◌, Option, Some, None, codes, min}
 use Rattle.std.specs.Prelude.{option_and_then, if◌then◌else◌}
 use Rattle.std.specs.Str.{bytes_eq}
 use Rattle.std.proofs.lemmas.Bool.{cases_Bool}
+use Rattle.std.proofs.Math.Bool.{or-false}
 use Rattle.clap.specs.Lexer.{long_of, usize_max}
 use Rattle.clap.specs.Walk.{Row, Rule, Text, idle, walked, walk_from, nothing_held, value, word_met, has_row, bundle_met, arg_by_id, arg_by_long, arg_by_index}
 use Rattle.clap.specs.declared.error.kind.ErrorKind.TheVariants as kind
@@ -13,11 +14,6 @@ use Rattle.command_line.proofs.RuleReading.{Stand, as_named, as_positional, as_s
 use Rattle.command_line.proofs.WordViews.{View, view, ending, long, short, torn, dash, clean}
 use Rattle.command_line.proofs.WalkSteps.{Continues, idle_at, more, parsed_from, pending_at, stops, top, waiting_at}
 use Rattle.command_line.proofs.ValueWords.{after_value, lost_end, waits_word}
-
--- anything or false stays as it is
-or_false : (b : Bool) → (b || false) ≡ b
-or_false true = refl
-or_false false = refl
 
 module _ (command : Text) (rules : List Rule) (looks : Looks rules) where
   -- where the reading stands, if no option waits
@@ -48,24 +44,17 @@ module _ (command : Text) (rules : List Rule) (looks : Looks rules) where
       (arg_by_index rules place))
   unfolding walked
   takes_positional uses place ended word words ih met passed (unknown n) =
-      stops command rules (idle_at uses place ended) word words kind.UnknownArgument []
-      (rw (passed, met, n) refl)
-      ∙ sym (ap (λ found. rest_of words
-      (as_positional (stand_at uses place ended) word found)) n)
+      stops command rules _ _ _ kind.UnknownArgument [] (rw (passed, met, n) refl) ∙ sym (rw n refl)
   takes_positional uses place ended word words ih met passed (valued i l x d r p k) =
-      more command rules (idle_at uses place ended)
-      (pending_at i uses word (min (place + 1) usize_max) ended) word words
-      (rw (passed, met, p) refl) (rw (met, p, or_false ended) refl)
+      more command rules _ (pending_at i uses word (min (place + 1) usize_max) ended) _ _
+      (rw (passed, met, p) refl) (rw (met, p, or-false ended) refl)
       ∙ after_value command rules looks i l x d r k words uses word
       (min (place + 1) usize_max) ended
       (is_some (value_in i uses)) refl
-      ∙ elim (cases_Bool (is_some (value_in i uses))) [
+      ∙ rw p (elim (cases_Bool (is_some (value_in i uses))) [
         | inl b ↦ rw b refl
-        | inr b ↦ rw b (ih (set_use uses (value_rule i l x d r) word) (min (place + 1) usize_max)
-            ended)
-      ]
-      ∙ sym (ap (λ found. rest_of words
-      (as_positional (stand_at uses place ended) word found)) p)
+        | inr b ↦ rw b (ih _ _ _)
+      ])
 
   -- the walk takes an option with the value of its own word, and stops if it was used before
   takes_value : {n v i : Text} {g : Option Text} {p : Option ℕ} {d : List Text} {r : Bool}
@@ -80,11 +69,9 @@ module _ (command : Text) (rules : List Rule) (looks : Looks rules) where
   takes_value {v = v} {i = i} {g = g} {p = p} {d = d} {r = r} uses place word words ih e l u =
       elim (cases_Bool (is_some (value_in i uses))) [
         | inl b ↦ let row : has_row i (rows_by uses) ≡ true = row_is i uses ∙ b in
-            rw b (stops command rules (idle_at uses place false) word words kind.ArgumentConflict []
-            (rw (e, l, u, row) refl))
+            rw b (stops command rules _ _ _ kind.ArgumentConflict [] (rw (e, l, u, row) refl))
         | inr b ↦ let row : has_row i (rows_by uses) ≡ false = row_is i uses ∙ b in
-            rw b (more command rules (idle_at uses place false)
-            (idle_at (set_use uses (value_rule i g p d r) v) place false) word words
+            rw b (more command rules _ (idle_at (set_use uses (value_rule i g p d r) v) place false) _ _
             (rw (e, l, u, row) refl) (rw (e, l, u, used_value i g p d r v uses b) refl)
             ∙ ih (set_use uses (value_rule i g p d r) v) place false)
       ]
@@ -101,12 +88,10 @@ module _ (command : Text) (rules : List Rule) (looks : Looks rules) where
   unfolding walked
   takes_flag uses place word words n ih e l i u true used =
       let row : has_row i (rows_by uses) ≡ true = row_is i uses ∙ used in
-      stops command rules (idle_at uses place false) word words kind.ArgumentConflict []
-      (rw (e, l, u, row) refl)
+      stops command rules _ _ _ kind.ArgumentConflict [] (rw (e, l, u, row) refl)
   takes_flag uses place word words n ih e l i u false fresh =
       let row : has_row i (rows_by uses) ≡ false = row_is i uses ∙ fresh in
-      more command rules (idle_at uses place false)
-      (idle_at (set_use uses (flag_filled i) (codes "true")) place false) word words
+      more command rules _ (idle_at (set_use uses (flag_filled i) (codes "true")) place false) _ _
       (rw (e, l, u, row) refl) (rw (e, l, u, used_flag i uses fresh) refl)
       ∙ ih (set_use uses (flag_filled i) (codes "true")) place false
 
@@ -121,29 +106,17 @@ module _ (command : Text) (rules : List Rule) (looks : Looks rules) where
       (arg_by_long rules n))
   unfolding walked
   takes_named uses place word words n y ih ahead e l (no_flag (unknown u)) =
-      stops command rules (idle_at uses place false) word words kind.UnknownArgument []
-      (rw (e, l, u) refl)
-      ∙ sym (ap (λ found. rest_of words
-      (as_named (stand_at uses place false) y found)) u)
+      stops command rules _ _ _ kind.UnknownArgument [] (rw (e, l, u) refl) ∙ sym (rw u refl)
   takes_named uses place word words n (Some v) ih ahead e l (no_flag (valued i g p d r u k)) =
-      takes_value uses place word words ih e l u
-      ∙ sym (ap (λ found. rest_of words
-      (as_named (stand_at uses place false) (Some v) found)) u)
+      takes_value uses place word words ih e l u ∙ sym (rw u refl)
   takes_named uses place word words n None ih ahead e l (no_flag (valued i g p d r u k)) =
-      more command rules (idle_at uses place false) (waiting_at i uses place false) word words
-      (rw (e, l, u) refl) (rw (e, l, u) refl)
-      ∙ ahead i g p d r k uses place
-      ∙ sym (ap (λ found. rest_of words
-      (as_named (stand_at uses place false) None found)) u)
+      more command rules _ (waiting_at i uses place false) _ _
+      (rw (e, l, u) refl) (rw (e, l, u) refl) ∙ ahead i g p d r k uses place ∙ sym (rw u refl)
   takes_named uses place word words n (Some v) ih ahead e l (flag i u) =
-      stops command rules (idle_at uses place false) word words kind.TooManyValues []
-      (rw (e, l, u) refl)
-      ∙ sym (ap (λ found. rest_of words
-      (as_named (stand_at uses place false) (Some v) found)) u)
+      stops command rules _ _ _ kind.TooManyValues [] (rw (e, l, u) refl) ∙ sym (rw u refl)
   takes_named uses place word words n None ih ahead e l (flag i u) =
       takes_flag uses place word words n ih e l i u (is_some (value_in i uses)) refl
-      ∙ sym (ap (λ found. rest_of words
-      (as_named (stand_at uses place false) None found)) u)
+      ∙ sym (rw u refl)
 
   -- the walk takes any word before the options end as the reading does
   takes_word : (uses : List Use) (place : ℕ) (word : Text) (words : List Text)
@@ -154,14 +127,12 @@ module _ (command : Text) (rules : List Rule) (looks : Looks rules) where
       ≡ rest_of words (as_seen rules (stand_at uses place false) word seen)
   unfolding walked flags_fault bundle_met
   takes_word uses place word words ih ahead (ending e d) =
-      more command rules (idle_at uses place false) (idle_at uses place true) word words (rw e refl)
-      (rw e refl)
+      more command rules _ (idle_at uses place true) _ _ (rw e refl) (rw e refl)
       ∙ ih uses place true
   takes_word uses place word words ih ahead (long n y e l d) =
       takes_named uses place word words n y ih ahead e l (looks.by_long n)
   takes_word uses place word words ih ahead (short y ys c e l h is d) =
-      stops command rules (idle_at uses place false) word words kind.UnknownArgument []
-      (rw (e, l, h, is, looks.by_short c) refl)
+      stops command rules _ _ _ kind.UnknownArgument [] (rw (e, l, h, is, looks.by_short c) refl)
   takes_word uses place word words ih ahead (torn y ys e l h is d) =
       takes_positional uses place false word words ih (rw (e, l, h, is) refl)
       (rw (e, l, h, is) refl) (looks.by_index place)

@@ -1,8 +1,9 @@
 -- What words make of an argument with one value that waits for it, or whose value isn't used yet.
-use Rattle.std.proofs.Common.{◌≡◌, ◌∙◌, refl, sym, inl, inr, ℕ, ◌&&◌, Bool, true, false, is_some, List, [], ◌∷◌, Option, Some, None}
+use Rattle.std.proofs.Common.{◌≡◌, ◌∙◌, refl, sym, inl, inr, ℕ, Bool, true, false, is_some, List, [], ◌∷◌, Option, Some, None}
 use Rattle.std.specs.Prelude.{option_and_then, if◌then◌else◌}
 use Rattle.std.specs.Str.{bytes_eq}
 use Rattle.std.proofs.lemmas.Bool.{cases_Bool}
+use Rattle.std.proofs.Math.Bool.{and-false}
 use Rattle.clap.specs.Lexer.{long_of}
 use Rattle.clap.specs.Walk.{Row, Rule, Text, Walk, idle, walked, settled_rows, Held, value, word_met, has_row, bundle_met, arg_by_id, arg_by_long, arg_by_index}
 use Rattle.clap.specs.declared.error.kind.ErrorKind.TheVariants as kind
@@ -13,11 +14,6 @@ use Rattle.command_line.proofs.RuleReading.{Stand, as_value, read_seen, stand, w
 use Rattle.command_line.proofs.WordViews.{View, view, ending, long, short, torn, dash, clean}
 use Rattle.command_line.proofs.Names.{bytes_same}
 use Rattle.command_line.proofs.WalkSteps.{Continues, idle_at, meets, more, parsed_from, pending_at, stops, top, waiting_at}
-
--- anything and false is false
-pub and_false : (b : Bool) → (b && false) ≡ false
-and_false true = refl
-and_false false = refl
 
 -- nothing in either case is nothing
 none_either : {X : Type 0} (b : Bool) {x : Option X} → x ≡ None → (if b then None else x) ≡ None
@@ -97,20 +93,17 @@ module _ (command : Text) (rules : List Rule) (looks : Looks rules) (id : Text) 
       ≡ once_used b uses v place ended (word ∷ words)
   unfolding walked
   used_positional uses v place ended b word words is met passed met' passed' (unknown n) =
-      stops command rules (pending_at id uses v place ended) word words kind.UnknownArgument []
-      (rw (passed, met, n) refl)
-      ∙ sym (none_either b (stops command rules (settled_at uses v place ended) word words
+      stops command rules _ _ _ kind.UnknownArgument [] (rw (passed, met, n) refl)
+      ∙ sym (none_either b (stops command rules _ _ _
       kind.UnknownArgument [] (rw (passed', met', n) refl)))
   used_positional uses v place ended true word words used met passed met' passed'
-      (valued i l x d r p k) =
-      stops command rules (pending_at id uses v place ended) word words kind.ArgumentConflict []
-      (rw (passed, met, p, and_false (bytes_eq id i), clashes uses v used) refl)
+      (valued i l x d r p k) = stops command rules _ _ _ kind.ArgumentConflict []
+      (rw (passed, met, p, and-false (bytes_eq id i), clashes uses v used) refl)
   used_positional uses v place ended false word words fresh met passed met' passed'
       (valued i l x d r p k) =
-      meets command rules (pending_at id uses v place ended)
-      (settled_at uses v place ended) word words
-      (rw (passed, met, passed', met', p, and_false (bytes_eq id i), fits uses v fresh) refl)
-      (rw (met, met', p, and_false (bytes_eq id i), settles_to uses v fresh) refl)
+      meets command rules _ _ _ _
+      (rw (passed, met, passed', met', p, and-false (bytes_eq id i), fits uses v fresh) refl)
+      (rw (met, met', p, and-false (bytes_eq id i), settles_to uses v fresh) refl)
 
   -- nor before a word that names an option, a flag or neither
   used_named : (uses : List Use) (v : Text) (place : ℕ) (b : Bool) (word : Text)
@@ -121,37 +114,25 @@ module _ (command : Text) (rules : List Rule) (looks : Looks rules) (id : Text) 
       ≡ once_used b uses v place false (word ∷ words)
   unfolding walked
   used_named uses v place b word words n y is e l (no_flag (unknown u)) =
-      stops command rules (pending_at id uses v place false) word words kind.UnknownArgument []
-      (rw (e, l, u) refl)
-      ∙ sym (none_either b (stops command rules (settled_at uses v place false) word words
-      kind.UnknownArgument [] (rw (e, l, u) refl)))
+      stops command rules _ _ _ kind.UnknownArgument [] (rw (e, l, u) refl)
+      ∙ sym (none_either b (stops command rules _ _ _ kind.UnknownArgument [] (rw (e, l, u) refl)))
   used_named uses v place true word words n (Some x) used e l (no_flag (valued i g p d r u k)) =
-      stops command rules (pending_at id uses v place false) word words kind.ArgumentConflict []
-      (rw (e, l, u, clashes uses v used) refl)
+      stops command rules _ _ _ kind.ArgumentConflict [] (rw (e, l, u, clashes uses v used) refl)
   used_named uses v place true word words n None used e l (no_flag (valued i g p d r u k)) =
-      stops command rules (pending_at id uses v place false) word words kind.ArgumentConflict []
-      (rw (e, l, u, clashes uses v used) refl)
+      stops command rules _ _ _ kind.ArgumentConflict [] (rw (e, l, u, clashes uses v used) refl)
   used_named uses v place false word words n (Some x) fresh e l (no_flag (valued i g p d r u k)) =
-      meets command rules (pending_at id uses v place false) (settled_at uses v place false) word
-      words
-      (rw (e, l, u, fits uses v fresh, settles_to uses v fresh) refl)
+      meets command rules _ _ _ _ (rw (e, l, u, fits uses v fresh, settles_to uses v fresh) refl)
       (rw (e, l, u, settles_to uses v fresh) refl)
   used_named uses v place false word words n None fresh e l (no_flag (valued i g p d r u k)) =
-      meets command rules (pending_at id uses v place false) (settled_at uses v place false) word
-      words
+      meets command rules _ _ _ _
       (rw (e, l, u, fits uses v fresh) refl) (rw (e, l, u, settles_to uses v fresh) refl)
   used_named uses v place b word words n (Some x) is e l (flag i u) =
-      stops command rules (pending_at id uses v place false) word words kind.TooManyValues []
-      (rw (e, l, u) refl)
-      ∙ sym (none_either b (stops command rules (settled_at uses v place false) word words
-      kind.TooManyValues [] (rw (e, l, u) refl)))
+      stops command rules _ _ _ kind.TooManyValues [] (rw (e, l, u) refl)
+      ∙ sym (none_either b (stops command rules _ _ _ kind.TooManyValues [] (rw (e, l, u) refl)))
   used_named uses v place true word words n None used e l (flag i u) =
-      stops command rules (pending_at id uses v place false) word words kind.ArgumentConflict []
-      (rw (e, l, u, clashes uses v used) refl)
+      stops command rules _ _ _ kind.ArgumentConflict [] (rw (e, l, u, clashes uses v used) refl)
   used_named uses v place false word words n None fresh e l (flag i u) =
-      meets command rules (pending_at id uses v place false) (settled_at uses v place false) word
-      words
-      (rw (e, l, u, fits uses v fresh, settles_to uses v fresh) refl)
+      meets command rules _ _ _ _ (rw (e, l, u, fits uses v fresh, settles_to uses v fresh) refl)
       (rw (e, l, u, settles_to uses v fresh) refl)
 
   -- nor before any word, where the options haven't ended
@@ -163,22 +144,15 @@ module _ (command : Text) (rules : List Rule) (looks : Looks rules) (id : Text) 
       ≡ once_used b uses v place false (word ∷ words)
   unfolding walked flags_fault bundle_met
   used_word uses v place true word words used ih (ending e d) =
-      more command rules (pending_at id uses v place false) (pending_at id uses v place true) word
-      words (rw e refl)
-      (rw e refl) ∙ ih
+      more command rules _ (pending_at id uses v place true) _ _ (rw e refl) (rw e refl) ∙ ih
   used_word uses v place false word words fresh ih (ending e d) =
-      more command rules (pending_at id uses v place false) (pending_at id uses v place true) word
-      words (rw e refl)
-      (rw e refl) ∙ ih
-      ∙ sym (more command rules (settled_at uses v place false)
-      (settled_at uses v place true) word words
-      (rw e refl) (rw e refl))
+      more command rules _ (pending_at id uses v place true) _ _ (rw e refl) (rw e refl) ∙ ih
+      ∙ sym (more command rules _ (settled_at uses v place true) _ _ (rw e refl) (rw e refl))
   used_word uses v place b word words is ih (long n y e l d) =
       used_named uses v place b word words n y is e l (looks.by_long n)
   used_word uses v place b word words is ih (short y ys c e l h none d) =
-      stops command rules (pending_at id uses v place false) word words kind.UnknownArgument []
-      (rw (e, l, h, none, looks.by_short c) refl)
-      ∙ sym (none_either b (stops command rules (settled_at uses v place false) word words
+      stops command rules _ _ _ kind.UnknownArgument [] (rw (e, l, h, none, looks.by_short c) refl)
+      ∙ sym (none_either b (stops command rules _ _ _
       kind.UnknownArgument [] (rw (e, l, h, none, looks.by_short c) refl)))
   used_word uses v place b word words is ih (torn y ys e l h none d) =
       used_positional uses v place false b word words is (rw (e, l, h, none) refl)
@@ -214,12 +188,11 @@ module _ (command : Text) (rules : List Rule) (looks : Looks rules) (id : Text) 
   lost_word : (uses : List Use) (place : ℕ) (word : Text) (words : List Text)
       → OneValue rules (arg_by_index rules place)
       → parsed_from command rules (waiting_at id uses place true) (word ∷ words) ≡ None
-  lost_word uses place word words (unknown n) =
-      stops command rules (waiting_at id uses place true) word words kind.UnknownArgument []
+  lost_word uses place word words (unknown n) = stops command rules _ _ _ kind.UnknownArgument []
       (rw n refl)
   lost_word uses place word words (valued i l x d r p k) =
-      stops command rules (waiting_at id uses place true) word words kind.InvalidValue []
-      (rw (p, and_false (bytes_eq id i), lacks uses) refl)
+      stops command rules _ _ _ kind.InvalidValue []
+      (rw (p, and-false (bytes_eq id i), lacks uses) refl)
 
   -- nor where it waits after `--`, whatever words follow
   lost : (words : List Text) (uses : List Use) (place : ℕ)
@@ -234,20 +207,15 @@ module _ (command : Text) (rules : List Rule) (looks : Looks rules) (id : Text) 
       → Known rules (arg_by_long rules n)
       → parsed_from command rules (waiting_at id uses place false) (word ∷ words) ≡ None
   waits_named uses place word words n y e l (no_flag (unknown u)) =
-      stops command rules (waiting_at id uses place false) word words kind.UnknownArgument []
-      (rw (e, l, u) refl)
+      stops command rules _ _ _ kind.UnknownArgument [] (rw (e, l, u) refl)
   waits_named uses place word words n (Some x) e l (no_flag (valued i g p d r u k)) =
-      stops command rules (waiting_at id uses place false) word words kind.InvalidValue []
-      (rw (e, l, u, lacks uses) refl)
+      stops command rules _ _ _ kind.InvalidValue [] (rw (e, l, u, lacks uses) refl)
   waits_named uses place word words n None e l (no_flag (valued i g p d r u k)) =
-      stops command rules (waiting_at id uses place false) word words kind.InvalidValue []
-      (rw (e, l, u, lacks uses) refl)
+      stops command rules _ _ _ kind.InvalidValue [] (rw (e, l, u, lacks uses) refl)
   waits_named uses place word words n (Some x) e l (flag i u) =
-      stops command rules (waiting_at id uses place false) word words kind.TooManyValues []
-      (rw (e, l, u) refl)
+      stops command rules _ _ _ kind.TooManyValues [] (rw (e, l, u) refl)
   waits_named uses place word words n None e l (flag i u) =
-      stops command rules (waiting_at id uses place false) word words kind.InvalidValue []
-      (rw (e, l, u, lacks uses) refl)
+      stops command rules _ _ _ kind.InvalidValue [] (rw (e, l, u, lacks uses) refl)
 
   -- a word that the walk takes as the value is used by the argument that waits, at most once
   waits_value : (uses : List Use) (place : ℕ) (word : Text) (words : List Text)
@@ -258,8 +226,7 @@ module _ (command : Text) (rules : List Rule) (looks : Looks rules) (id : Text) 
       ≡ option_and_then (λ t. read_seen command rules t words)
       (with_use (waiting_stand uses place) own word)
   waits_value uses place word words ih fits goes =
-      more command rules (waiting_at id uses place false) (pending_at id uses word place false) word
-      words fits goes
+      more command rules _ (pending_at id uses word place false) _ _ fits goes
       ∙ after_value words uses word place false (is_some (value_in id uses)) refl
       ∙ elim (cases_Bool (is_some (value_in id uses))) [
         | inl b ↦ rw b refl
@@ -275,14 +242,12 @@ module _ (command : Text) (rules : List Rule) (looks : Looks rules) (id : Text) 
       (as_value (waiting_stand uses place) own word seen)
   unfolding walked flags_fault bundle_met
   waits_word uses place word words ih (ending e d) =
-      more command rules (waiting_at id uses place false) (waiting_at id uses place true) word words
-      (rw e refl)
+      more command rules _ (waiting_at id uses place true) _ _ (rw e refl)
       (rw e refl) ∙ lost words uses place
   waits_word uses place word words ih (long n y e l d) =
       waits_named uses place word words n y e l (looks.by_long n)
   waits_word uses place word words ih (short y ys c e l h is d) =
-      stops command rules (waiting_at id uses place false) word words kind.UnknownArgument []
-      (rw (e, l, h, is, looks.by_short c) refl)
+      stops command rules _ _ _ kind.UnknownArgument [] (rw (e, l, h, is, looks.by_short c) refl)
   waits_word uses place word words ih (torn y ys e l h is d) =
       waits_value uses place word words ih (rw (e, l, h, is) refl)
       (rw (e, l, h, is, known, bytes_same id) refl)
