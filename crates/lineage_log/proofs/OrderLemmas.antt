@@ -1,20 +1,29 @@
 -- Nodes in order of their ids: what is found there, whatever order they are kept in.
-use Rattle.std.proofs.Common.{◌≡◌, ◌≢◌, ⊎_elim, ◌∙◌, refl, sym, ap, subst, ℕ, ◌+◌, ◌<◌, ◌≤◌, Bool, true, false, cond, List, [], ◌∷◌, length, Option, Some, None, nat_cmp, Ordering, Less, Equal, Greater, arith}
+use Rattle.std.proofs.Common.{◌≡◌, ◌≢◌, ◌⊎◌, inl, inr, ⊎_elim, ◌∙◌, refl, sym, ap, subst, ℕ, ◌+◌, ◌<◌, ◌≤◌, true, false, cond, List, [], ◌∷◌, length, Option, Some, None, nat_cmp, Ordering, Less, Equal, Greater, arith}
 use Rattle.std.specs.Prelude.{IsSome, nat_eq}
 use Rattle.std.specs.BTreeMap.{insert_entry, is_at}
 use Rattle.std.specs.Cmp.{nat_cmp_is, nat_cmp_total, ranked, unsigned_tied}
 use Rattle.std.specs.List.{AllByRecursion, IsDistinct}
 use Rattle.std.specs.Map.{keys_of, lookup, remove_entry, set_value}
 use Rattle.std.specs.Option.{unwrap_or}
-use Rattle.std.specs.Ordering.{eq_by_cmp, is_eq, match_ordering}
+use Rattle.std.specs.Ordering.{eq_by_cmp, is_eq}
 use Rattle.std.specs.List.Sorted.{IsStrictlySortedBy}
 use Rattle.std.proofs.lemmas.Cmp.{eq_by_cmp_equiv, nat_eq_equiv}
-use Rattle.std.proofs.lemmas.Bool.{cond-true, cond-false}
 use Rattle.std.proofs.lemmas.Map.{lookup-none, lookup-remove_entry, lookup-set_value}
 use Rattle.std.proofs.lemmas.Map.Entries.{none_below_head}
 use Rattle.std.proofs.lemmas.Map.Keys.{IsDistinct-from_sorted, IsDistinct-head, IsDistinct-tail, sorted_head, sorted_tail}
 use Rattle.lineage_log.specs.Nodes.{NodeValue, AreNodes, id_order, node_at}
 use Rattle.lineage_log.proofs.NodeLemmas.{Rises, by_key, first_node, none_behind, other_node}
+
+-- how two ids compare, and what the order answers
+compared : (id other : ℕ) → ((id < other) × (nat_cmp id other ≡ Less))
+    ⊎ ((id ≡ other) × (nat_cmp id other ≡ Equal)) ⊎ ((other < id) × (nat_cmp id other ≡ Greater))
+compared id other = by (nat_cmp id other) refl where
+  by : (r : Ordering) → nat_cmp id other ≡ r → ((id < other) × (nat_cmp id other ≡ Less))
+      ⊎ ((id ≡ other) × (nat_cmp id other ≡ Equal)) ⊎ ((other < id) × (nat_cmp id other ≡ Greater))
+  by Less e = inl (ranked id other Less (sym e), e)
+  by Equal e = inr (inl (ranked id other Equal (sym e), e))
+  by Greater e = inr (inr (ranked id other Greater (sym e), e))
 
 -- all of these ids are above one
 abbrev Above : ℕ → List (ℕ × NodeValue) → Type 0
@@ -40,63 +49,49 @@ above_lower id higher (e ∷ es) low above = (
 above_put : (low : ℕ) (es : List (ℕ × NodeValue)) (id : ℕ) (node : NodeValue)
     → nat_cmp low id ≡ Less → Above low es → Above low (insert_entry nat_cmp es id node)
 above_put low [] id node is above = (is, tt)
-above_put low (e ∷ es) id node is above =
-    by (above_put low es id node is above.1) (nat_cmp id e.0) where
-      -- however the id compares to the first one
-      by : Above low (insert_entry nat_cmp es id node) → (r : Ordering)
-          → Above low (match_ordering r ((id, node) ∷ e ∷ es) ((e.0, node) ∷ es)
-          (e ∷ insert_entry nat_cmp es id node))
-      by behind Less = (is, above)
-      by behind Equal = above
-      by behind Greater = (above.0, behind)
+above_put low (e ∷ es) id node is above = elim (compared id e.0) [
+  | inl below ↦ rw below.1 (is, above)
+  | inr (inl same) ↦ rw same.1 above
+  | inr (inr over) ↦ rw over.1 (above.0, above_put low es id node is above.1)
+]
 
 -- ids still rise where one is put
 rises_put : (es : List (ℕ × NodeValue)) (id : ℕ) (node : NodeValue) → Rises es
     → Rises (insert_entry nat_cmp es id node)
 rises_put [] id node rising = rises_cons (id, node) [] tt rising
 rises_put (e ∷ es) id node rising =
-    by (rises_put es id node (sorted_tail nat_cmp e.0 (keys_of es) rising)) (nat_cmp id e.0) refl
-  where
-    head : Above e.0 es
-    head = sorted_head nat_cmp e.0 (keys_of es) rising
-
-    -- however the id compares to the first one
-    by : Rises (insert_entry nat_cmp es id node) → (r : Ordering) → nat_cmp id e.0 ≡ r
-        → Rises (match_ordering r ((id, node) ∷ e ∷ es) ((e.0, node) ∷ es)
-        (e ∷ insert_entry nat_cmp es id node))
-    by behind Less below = rises_cons (id, node) (e ∷ es)
-        (below, above_lower id e.0 es (ranked id e.0 Less (sym below)) head) rising
-    by behind Equal same = rises_cons (e.0, node) es head
-        (sorted_tail nat_cmp e.0 (keys_of es) rising)
-    by behind Greater above = rises_cons e (insert_entry nat_cmp es id node)
-        (above_put e.0 es id node
-        (sym (nat_cmp_is e.0 id Less (ranked id e.0 Greater (sym above)))) head) behind
+    let head = sorted_head nat_cmp e.0 (keys_of es) rising in
+    let tail = sorted_tail nat_cmp e.0 (keys_of es) rising in
+    elim (compared id e.0) [
+      | inl below ↦ rw below.1 (rises_cons (id, node) (e ∷ es)
+          (below.1, above_lower id e.0 es below.0 head) rising)
+      | inr (inl same) ↦ rw same.1 (rises_cons (e.0, node) es head tail)
+      | inr (inr above) ↦ rw above.1 (rises_cons e (insert_entry nat_cmp es id node)
+          (above_put e.0 es id node (sym (nat_cmp_is e.0 id Less above.0)) head)
+          (rises_put es id node tail))
+    ]
 
 -- fewer ids are above too
 above_remove : (low id : ℕ) (es : List (ℕ × NodeValue)) → Above low es
     → Above low (remove_entry (is_at (nat_cmp id)) es)
 above_remove low id [] above = tt
-above_remove low id (e ∷ es) above =
-    by (is_at (nat_cmp id) e.0) (above_remove low id es above.1) where
-      -- whether it is the first or not
-      by : (b : Bool) → Above low (remove_entry (is_at (nat_cmp id)) es)
-          → Above low (cond b es (e ∷ remove_entry (is_at (nat_cmp id)) es))
-      by true behind = above.1
-      by false behind = (above.0, behind)
+above_remove low id (e ∷ es) above = elim (by_key id e.0) [
+  | inl here ↦ rw here.1 above.1
+  | inr apart ↦ rw apart.1 (above.0, above_remove low id es above.1)
+]
 
 -- ids still rise where one is removed
 rises_remove : (es : List (ℕ × NodeValue)) (id : ℕ) → Rises es
     → Rises (remove_entry (is_at (nat_cmp id)) es)
 rises_remove [] id rising = rising
 rises_remove (e ∷ es) id rising =
-    by (is_at (nat_cmp id) e.0)
-    (rises_remove es id (sorted_tail nat_cmp e.0 (keys_of es) rising)) where
-      -- whether it is the first or not
-      by : (b : Bool) → Rises (remove_entry (is_at (nat_cmp id)) es)
-          → Rises (cond b es (e ∷ remove_entry (is_at (nat_cmp id)) es))
-      by true behind = sorted_tail nat_cmp e.0 (keys_of es) rising
-      by false behind = rises_cons e (remove_entry (is_at (nat_cmp id)) es)
-          (above_remove e.0 id es (sorted_head nat_cmp e.0 (keys_of es) rising)) behind
+    let tail = sorted_tail nat_cmp e.0 (keys_of es) rising in
+    elim (by_key id e.0) [
+      | inl here ↦ rw here.1 tail
+      | inr apart ↦ rw apart.1 (rises_cons e (remove_entry (is_at (nat_cmp id)) es)
+          (above_remove e.0 id es (sorted_head nat_cmp e.0 (keys_of es) rising))
+          (rises_remove es id tail))
+    ]
 
 -- an id is itself
 itself : (id : ℕ) → is_at (nat_cmp id) id ≡ true
@@ -111,40 +106,27 @@ other_id id other differs =
 put_here : (es : List (ℕ × NodeValue)) (id : ℕ) (node : NodeValue)
     → node_at (insert_entry nat_cmp es id node) id ≡ Some node
 put_here [] id node = first_node (id, node) [] id (itself id)
-put_here (e ∷ es) id node = by (put_here es id node) (nat_cmp id e.0) refl where
-  -- however the id compares to the first one
-  by : node_at (insert_entry nat_cmp es id node) id ≡ Some node → (r : Ordering)
-      → nat_cmp id e.0 ≡ r → node_at (match_ordering r ((id, node) ∷ e ∷ es) ((e.0, node) ∷ es)
-      (e ∷ insert_entry nat_cmp es id node)) id ≡ Some node
-  by behind Less below = first_node (id, node) (e ∷ es) id (itself id)
-  by behind Equal same = first_node (e.0, node) es id (ap is_eq same)
-  by behind Greater above =
-      other_node e (insert_entry nat_cmp es id node) id (ap is_eq above) ∙ behind
+put_here (e ∷ es) id node = elim (compared id e.0) [
+  | inl below ↦ rw below.1 (first_node (id, node) (e ∷ es) id (itself id))
+  | inr (inl same) ↦ rw same.1 (first_node (e.0, node) es id (ap is_eq same.1))
+  | inr (inr above) ↦ rw above.1 (other_node e (insert_entry nat_cmp es id node) id
+      (ap is_eq above.1) ∙ put_here es id node)
+]
 
 -- what else is there stays
 put_apart : (es : List (ℕ × NodeValue)) (id : ℕ) (node : NodeValue) (other : ℕ) → id ≢ other
     → node_at (insert_entry nat_cmp es id node) other ≡ node_at es other
 put_apart [] id node other differs =
     other_node (id, node) [] other (other_id other id (λ same. differs (sym same)))
-put_apart (e ∷ es) id node other differs =
-    by (put_apart es id node other differs) (nat_cmp id e.0) refl where
-      -- however the id compares to the first one
-      by : node_at (insert_entry nat_cmp es id node) other ≡ node_at es other → (r : Ordering)
-          → nat_cmp id e.0 ≡ r
-          → node_at (match_ordering r ((id, node) ∷ e ∷ es) ((e.0, node) ∷ es)
-          (e ∷ insert_entry nat_cmp es id node)) other ≡ node_at (e ∷ es) other
-      by behind Less below =
-          other_node (id, node) (e ∷ es) other (other_id other id (λ same. differs (sym same)))
-      by behind Equal same =
-          let it : id ≡ e.0 = ranked id e.0 Equal (sym same) in
-          let out = other_id other e.0 (λ is. differs (it ∙ sym is)) in
-          other_node (e.0, node) es other out ∙ sym (other_node e es other out)
-      by behind Greater above = ⊎_elim
-          (λ here. first_node e (insert_entry nat_cmp es id node) other here.1
-          ∙ sym (first_node e es other here.1))
-          (λ apart. other_node e (insert_entry nat_cmp es id node) other apart.1 ∙ behind
-          ∙ sym (other_node e es other apart.1))
-          (by_key other e.0)
+put_apart (e ∷ es) id node other differs = elim (compared id e.0) [
+  | inl below ↦ rw below.1
+      (other_node (id, node) (e ∷ es) other (other_id other id (λ same. differs (sym same))))
+  | inr (inl same) ↦
+      let out = other_id other e.0 (λ is. differs (same.0 ∙ sym is)) in
+      rw same.1 (other_node (e.0, node) es other out ∙ sym (other_node e es other out))
+  | inr (inr above) ↦ rw above.1
+      (ap (cond (is_at (nat_cmp other) e.0) (Some e.1)) (put_apart es id node other differs))
+]
 
 -- ---- two lists in order in which all ids have the same nodes are one
 
@@ -165,28 +147,23 @@ one_order [] (e ∷ es) low high same = absurd
 one_order (d ∷ ds) [] low high same = absurd
     (let some : Some d.1 ≡ None = sym (first_node d ds d.0 (itself d.0)) ∙ same d.0 in cc)
 one_order (d ∷ ds) (e ∷ es) low high same =
-    by (λ rest. one_order ds es (sorted_tail nat_cmp d.0 (keys_of ds) low)
-    (sorted_tail nat_cmp e.0 (keys_of es) high) rest) (nat_cmp d.0 e.0) refl
-  where
-    -- however the first ids compare
-    by : (((id : ℕ) → node_at ds id ≡ node_at es id) → ds ≡ es) → (r : Ordering)
-        → nat_cmp d.0 e.0 ≡ r → d ∷ ds ≡ e ∷ es
-    by rest Less below = absurd
-        (not_above d e ds es high (same d.0) (ranked d.0 e.0 Less (sym below)))
-    by rest Greater above = absurd
-        (not_above e d es ds low (sym (same e.0)) (ranked d.0 e.0 Greater (sym above)))
-    by rest Equal equal =
-        let key : d.0 ≡ e.0 = ranked d.0 e.0 Equal (sym equal) in
-        let value : d.1 ≡ e.1 = ap (λ (o : Option NodeValue). unwrap_or o d.1)
-        (sym (first_node d ds d.0 (itself d.0)) ∙ same d.0
-        ∙ first_node e es d.0 (ap is_eq equal)) in
-        let tails = rest (λ id. ⊎_elim
-        (λ here. none_behind d ds id low here.1 ∙ sym (none_behind e es id high
-        (subst (λ k. is_at (nat_cmp id) k ≡ true) key here.1)))
-        (λ apart. sym (other_node d ds id apart.1) ∙ same id ∙ other_node e es id
-        (subst (λ k. is_at (nat_cmp id) k ≡ false) key apart.1))
-        (by_key id d.0)) in
-        λ i. (key i, value i) ∷ tails i
+    elim (compared d.0 e.0) [
+      | inl below ↦ absurd (not_above d e ds es high (same d.0) below.0)
+      | inr (inr above) ↦ absurd (not_above e d es ds low (sym (same e.0)) above.0)
+      | inr (inl equal) ↦
+          let key = equal.0 in
+          let value : d.1 ≡ e.1 = ap (λ (o : Option NodeValue). unwrap_or o d.1)
+          (sym (first_node d ds d.0 (itself d.0)) ∙ same d.0
+          ∙ first_node e es d.0 (ap is_eq equal.1)) in
+          let tails = one_order ds es (sorted_tail nat_cmp d.0 (keys_of ds) low)
+          (sorted_tail nat_cmp e.0 (keys_of es) high) (λ id. elim (by_key id d.0) [
+            | inl here ↦ none_behind d ds id low here.1 ∙ sym (none_behind e es id high
+                (subst (λ k. is_at (nat_cmp id) k ≡ true) key here.1))
+            | inr apart ↦ sym (other_node d ds id apart.1) ∙ same id ∙ other_node e es id
+                (subst (λ k. is_at (nat_cmp id) k ≡ false) key apart.1)
+          ]) in
+          λ i. (key i, value i) ∷ tails i
+    ]
 
 -- ---- in order
 
@@ -200,16 +177,12 @@ order_rises (e ∷ es) = rises_put (id_order es) e.0 e.1 (order_rises es)
 pub order_finds : (nodes : List (ℕ × NodeValue)) (id : ℕ)
     → node_at (id_order nodes) id ≡ lookup (nat_eq id) nodes
 order_finds [] id = refl
-order_finds (e ∷ es) id = ⊎_elim
-    (λ here. subst (λ k. node_at (insert_entry nat_cmp (id_order es) k e.1) id ≡ Some e.1) here.0
-    (put_here (id_order es) id e.1)
-    ∙ sym (cond-true (nat_eq id e.0) (Some e.1) (lookup (nat_eq id) es)
-    (sym (unsigned_tied id e.0) ∙ here.1)))
-    (λ apart. put_apart (id_order es) e.0 e.1 id (λ same. apart.0 (sym same))
-    ∙ order_finds es id
-    ∙ sym (cond-false (nat_eq id e.0) (Some e.1) (lookup (nat_eq id) es)
-    (sym (unsigned_tied id e.0) ∙ apart.1)))
-    (by_key id e.0)
+order_finds (e ∷ es) id = elim (by_key id e.0) [
+  | inl here ↦ subst (λ k. node_at (insert_entry nat_cmp (id_order es) k e.1) id ≡ Some e.1)
+      here.0 (put_here (id_order es) id e.1) ∙ rw (sym (unsigned_tied id e.0) ∙ here.1)
+  | inr apart ↦ put_apart (id_order es) e.0 e.1 id (λ same. apart.0 (sym same))
+      ∙ order_finds es id ∙ rw (sym (unsigned_tied id e.0) ∙ apart.1)
+]
 
 -- what is put anywhere is put in order
 pub order_put : (before after : List (ℕ × NodeValue)) (id : ℕ) (node : NodeValue)
@@ -219,18 +192,13 @@ pub order_put : (before after : List (ℕ × NodeValue)) (id : ℕ) (node : Node
 order_put before after id node at =
     one_order (id_order after) (insert_entry nat_cmp (id_order before) id node)
     (order_rises after) (rises_put (id_order before) id node (order_rises before))
-    (λ other. ⊎_elim
-    (λ here. order_finds after other ∙ at other
-    ∙ cond-true (nat_eq id other) (Some node) (lookup (nat_eq other) before)
-    (sym (unsigned_tied id other) ∙ here.1)
-    ∙ sym (subst (λ k. node_at (insert_entry nat_cmp (id_order before) id node) k ≡ Some node)
-    here.0 (put_here (id_order before) id node)))
-    (λ apart. order_finds after other ∙ at other
-    ∙ cond-false (nat_eq id other) (Some node) (lookup (nat_eq other) before)
-    (sym (unsigned_tied id other) ∙ apart.1)
-    ∙ sym (order_finds before other)
-    ∙ sym (put_apart (id_order before) id node other apart.0))
-    (by_key id other))
+    (λ other. order_finds after other ∙ at other ∙ elim (by_key id other) [
+      | inl here ↦ rw (sym (unsigned_tied id other) ∙ here.1)
+          (sym (subst (λ k. node_at (insert_entry nat_cmp (id_order before) id node) k ≡ Some node)
+          here.0 (put_here (id_order before) id node)))
+      | inr apart ↦ rw (sym (unsigned_tied id other) ∙ apart.1) (sym (order_finds before other)
+          ∙ sym (put_apart (id_order before) id node other apart.0))
+    ])
 
 -- what one look-up says of each id
 pub order_at : (before after : List (ℕ × NodeValue)) (id : ℕ) (what : Option NodeValue)
@@ -262,21 +230,14 @@ pub insert_is_set : (nodes : List (ℕ × NodeValue)) (id : ℕ) (node : NodeVal
     → IsSome (node_at nodes id)
     → insert_entry nat_cmp nodes id node ≡ set_value (is_at (nat_cmp id)) nodes node
 insert_is_set [] id node rising is = absurd cc
-insert_is_set (e ∷ es) id node rising is =
-    by (λ rest. insert_is_set es id node (sorted_tail nat_cmp e.0 (keys_of es) rising) rest)
-    (nat_cmp id e.0) refl
-  where
-    -- however the id compares to the first one
-    by : (IsSome (node_at es id) → insert_entry nat_cmp es id node
-        ≡ set_value (is_at (nat_cmp id)) es node) → (r : Ordering) → nat_cmp id e.0 ≡ r
-        → match_ordering r ((id, node) ∷ e ∷ es) ((e.0, node) ∷ es)
-        (e ∷ insert_entry nat_cmp es id node)
-        ≡ cond (is_eq r) ((e.0, node) ∷ es) (e ∷ set_value (is_at (nat_cmp id)) es node)
-    by behind Less below = absurd (let none = lookup-none (is_at (nat_cmp id)) (e ∷ es)
-        (none_below_head nat_cmp_total id e es rising below) in cc)
-    by behind Equal same = refl
-    by behind Greater above = ap (λ (rest : List (ℕ × NodeValue)). e ∷ rest)
-        (behind (subst IsSome (other_node e es id (ap is_eq above)) is))
+insert_is_set (e ∷ es) id node rising is = elim (compared id e.0) [
+  | inl below ↦ absurd (let none = lookup-none (is_at (nat_cmp id)) (e ∷ es)
+      (none_below_head nat_cmp_total id e es rising below.1) in cc)
+  | inr (inl same) ↦ rw same.1
+  | inr (inr above) ↦ rw above.1 (ap (λ (rest : List (ℕ × NodeValue)). e ∷ rest)
+      (insert_is_set es id node (sorted_tail nat_cmp e.0 (keys_of es) rising)
+      (subst IsSome (other_node e es id (ap is_eq above.1)) is)))
+]
 
 -- what is set anywhere is set in order
 pub order_set : (nodes : List (ℕ × NodeValue)) (id : ℕ) (old new : NodeValue)
@@ -297,40 +258,30 @@ order_few (e ∷ es) = omega (arith, one_more (id_order es) e.0 e.1, order_few e
   one_more : (nodes : List (ℕ × NodeValue)) (id : ℕ) (node : NodeValue)
       → length (insert_entry nat_cmp nodes id node) ≤ length nodes + 1
   one_more [] id node = omega arith
-  one_more (d ∷ ds) id node = by (one_more ds id node) (nat_cmp id d.0) where
-    -- however the id compares to the first one
-    by : length (insert_entry nat_cmp ds id node) ≤ length ds + 1 → (r : Ordering)
-        → length (match_ordering r ((id, node) ∷ d ∷ ds) ((d.0, node) ∷ ds)
-        (d ∷ insert_entry nat_cmp ds id node)) ≤ length (d ∷ ds) + 1
-    by behind Less = omega arith
-    by behind Equal = omega arith
-    by behind Greater = omega (arith, behind)
+  one_more (d ∷ ds) id node = elim (compared id d.0) [
+    | inl below ↦ rw below.1 (omega arith)
+    | inr (inl same) ↦ rw same.1 (omega arith)
+    | inr (inr above) ↦ rw above.1 (omega (arith, one_more ds id node))
+  ]
 
 -- one more where the id isn't there
 put_length : (nodes : List (ℕ × NodeValue)) (id : ℕ) (node : NodeValue) → node_at nodes id ≡ None
     → length (insert_entry nat_cmp nodes id node) ≡ length nodes + 1
 put_length [] id node none = refl
-put_length (e ∷ es) id node none =
-    by (λ behind. put_length es id node behind) (nat_cmp id e.0) refl where
-      -- however the id compares to the first one
-      by : (node_at es id ≡ None → length (insert_entry nat_cmp es id node) ≡ length es + 1)
-          → (r : Ordering) → nat_cmp id e.0 ≡ r
-          → length (match_ordering r ((id, node) ∷ e ∷ es) ((e.0, node) ∷ es)
-          (e ∷ insert_entry nat_cmp es id node)) ≡ length (e ∷ es) + 1
-      by behind Less below = omega arith
-      by behind Equal same = absurd (let some : Some e.1 ≡ None =
-          sym (first_node e es id (ap is_eq same)) ∙ none in cc)
-      by behind Greater above =
-          omega (arith, behind (sym (other_node e es id (ap is_eq above)) ∙ none))
+put_length (e ∷ es) id node none = elim (compared id e.0) [
+  | inl below ↦ rw below.1 (omega arith)
+  | inr (inl same) ↦ absurd (let some : Some e.1 ≡ None =
+      sym (first_node e es id (ap is_eq same.1)) ∙ none in cc)
+  | inr (inr above) ↦ rw above.1
+      (omega (arith, put_length es id node (sym (other_node e es id (ap is_eq above.1)) ∙ none)))
+]
 
 -- an id that differs from all is not found
 not_found : (nodes : List (ℕ × NodeValue)) (id : ℕ)
     → AllByRecursion (λ other. nat_eq id other ≡ false) (keys_of nodes)
     → lookup (nat_eq id) nodes ≡ None
 not_found [] id apart = refl
-not_found (e ∷ es) id apart =
-    cond-false (nat_eq id e.0) (Some e.1) (lookup (nat_eq id) es) apart.0
-    ∙ not_found es id apart.1
+not_found (e ∷ es) id apart = rw apart.0 (not_found es id apart.1)
 
 -- there are as many nodes in order where the ids are distinct
 pub order_length : (nodes : List (ℕ × NodeValue)) → IsDistinct nat_eq (keys_of nodes)
