@@ -1,11 +1,11 @@
 -- Who lives among the nodes of a tree, and what is left when a node comes, changes or goes.
-use Rattle.std.proofs.Common.{◌≡◌, ◌≢◌, ⊎_elim, ◌∙◌, refl, sym, ap, subst, ℕ, zero, suc, ◌<◌, Bool, true, false, cond, not, eqb, List, [], ◌∷◌, ◌++◌, length, get_or, Option, Some, None, nat_cmp, Greater, eq-eqb, ne_eqb, arith}
+use Rattle.std.proofs.Common.{◌≡◌, inl, inr, ⊎_elim, ◌∙◌, refl, sym, ap, ℕ, zero, suc, ◌<◌, Bool, true, false, cond, not, eqb, List, [], ◌∷◌, ◌++◌, Option, Some, None, nat_cmp, Greater, eq-eqb, ne_eqb, arith}
 use Rattle.std.specs.Prelude.{All, Contains, filter}
 use Rattle.std.specs.BTreeMap.{insert_entry, is_at}
 use Rattle.std.specs.Cmp.{nat_cmp_is}
 use Rattle.std.specs.Map.{keys_of, remove_entry, set_value}
 use Rattle.std.specs.Ordering.{match_ordering}
-use Rattle.std.proofs.lemmas.Bool.{cond-true, cond-false}
+use Rattle.std.proofs.lemmas.Bool.{cases_Bool, cond-true}
 use Rattle.std.proofs.lemmas.List.{map_push}
 use Rattle.std.proofs.lemmas.List.Elements.{filter-append}
 use Rattle.std.proofs.lemmas.Map.Keys.{sorted_tail}
@@ -24,55 +24,47 @@ contains_more x y xs is = (suc is.0, omega (arith, is.1), is.2)
 pub there_lives : (nodes : List (ℕ × NodeValue)) (id : ℕ) (node : NodeValue)
     → node_at nodes id ≡ Some node → node.lives ≡ true → Contains (living_ids_of nodes) id
 there_lives [] id node is lives = absurd cc
-there_lives (e ∷ es) id node is lives = ⊎_elim
-    (λ (here : (id ≡ e.0) × (is_at (nat_cmp id) e.0 ≡ true)).
-    let same : Some e.1 ≡ Some node = sym (first_node e es id here.1) ∙ is in
-    let first : e.1.lives ≡ true = cc in
-    subst (λ ids. Contains ids id)
-    (sym (ap keys_of (cond-true e.1.lives (e ∷ filter (λ (e : ℕ × NodeValue). e.1.lives) es)
-    (filter (λ (e : ℕ × NodeValue). e.1.lives) es) first))) (0, omega arith, sym here.0))
-    (λ (apart : (id ≢ e.0) × (is_at (nat_cmp id) e.0 ≡ false)).
-    let rest = there_lives es id node (sym (other_node e es id apart.1) ∙ is) lives in
-    (elim e.1.lives as (λ b.
-    Contains (keys_of (cond b (e ∷ filter (λ (e : ℕ × NodeValue). e.1.lives) es)
-    (filter (λ (e : ℕ × NodeValue). e.1.lives) es))) id) [
-      | true ↦ contains_more id e.0 (living_ids_of es) rest
-      | false ↦ rest
-    ]))
-    (by_key id e.0)
+there_lives (e ∷ es) id node is lives = elim (by_key id e.0) [
+  | inl here ↦
+      let same : Some e.1 ≡ Some node = sym (first_node e es id here.1) ∙ is in
+      let first : e.1.lives ≡ true = cc in
+      rw first (0, omega arith, sym here.0)
+  | inr apart ↦
+      let rest = there_lives es id node (sym (other_node e es id apart.1) ∙ is) lives in
+      elim (cases_Bool e.1.lives) [
+        | inl living ↦ rw living (contains_more id e.0 (living_ids_of es) rest)
+        | inr dying ↦ rw dying rest
+      ]
+]
+
+-- the node of an id lives
+abbrev pub HasLiving : List (ℕ × NodeValue) → ℕ → Type 0
+HasLiving nodes id = (node : NodeValue) × (node_at nodes id ≡ Some node) × (node.lives ≡ true)
 
 -- who is among the living has a node that lives
 pub lives_there : (nodes : List (ℕ × NodeValue)) (id : ℕ) → Rises nodes
-    → Contains (living_ids_of nodes) id → (node : NodeValue) × (node_at nodes id ≡ Some node)
-    × (node.lives ≡ true)
+    → Contains (living_ids_of nodes) id → HasLiving nodes id
 lives_there [] id rising is = absurd (omega (arith, is.1))
-lives_there (e ∷ es) id rising is =
-    by (λ among. deeper (lives_there es id (sorted_tail nat_cmp e.0 (keys_of es) rising) among))
-    e.1.lives refl is where
-      deeper : (node : NodeValue) × (node_at es id ≡ Some node) × (node.lives ≡ true)
-          → (node : NodeValue) × (node_at (e ∷ es) id ≡ Some node) × (node.lives ≡ true)
-      deeper rest = (rest.0, behind_first e es id rest.0 rising rest.1, rest.2)
+lives_there (e ∷ es) id rising is = elim (cases_Bool e.1.lives) [
+  | inl living ↦ first (λ among. deeper (lives_there es id tail among)) living (rw living at is)
+  | inr dying ↦ deeper (lives_there es id tail (rw dying at is))
+]
+  where
+    tail : Rises es
+    tail = sorted_tail nat_cmp e.0 (keys_of es) rising
 
-      first : (Contains (living_ids_of es) id
-          → (node : NodeValue) × (node_at (e ∷ es) id ≡ Some node)
-          × (node.lives ≡ true)) → e.1.lives ≡ true → (k : ℕ) → k < length (e.0 ∷ living_ids_of es)
-          → get_or (e.0 ∷ living_ids_of es) k id ≡ id → (node : NodeValue)
-          × (node_at (e ∷ es) id ≡ Some node) × (node.lives ≡ true)
-      first rest lives zero low at = (
-        e.1,
-        ⊎_elim (λ here. first_node e es id here.1) (λ apart. absurd (apart.0 (sym at)))
-            (by_key id e.0),
-        lives,
-      )
-      first rest lives (suc k) low at = rest (k, omega (arith, low), at)
+    deeper : HasLiving es id → HasLiving (e ∷ es) id
+    deeper rest = (rest.0, behind_first e es id rest.0 rising rest.1, rest.2)
 
-      by : (Contains (living_ids_of es) id → (node : NodeValue) × (node_at (e ∷ es) id ≡ Some node)
-          × (node.lives ≡ true)) → (b : Bool) → e.1.lives ≡ b
-          → Contains (keys_of (cond b (e ∷ filter (λ (e : ℕ × NodeValue). e.1.lives) es)
-          (filter (λ (e : ℕ × NodeValue). e.1.lives) es))) id → (node : NodeValue)
-          × (node_at (e ∷ es) id ≡ Some node) × (node.lives ≡ true)
-      by rest true lives is = first rest lives is.0 is.1 is.2
-      by rest false lives is = rest is
+    first : (Contains (living_ids_of es) id → HasLiving (e ∷ es) id) → e.1.lives ≡ true
+        → Contains (e.0 ∷ living_ids_of es) id → HasLiving (e ∷ es) id
+    first rest lives (zero, low, at) = (
+      e.1,
+      ⊎_elim (λ here. first_node e es id here.1) (λ apart. absurd (apart.0 (sym at)))
+          (by_key id e.0),
+      lives,
+    )
+    first rest lives (suc k, low, at) = rest (k, omega (arith, low), at)
 
 -- ---- a newcomer, whose id is above all
 
@@ -93,11 +85,11 @@ pub newest_above : (nodes : List (ℕ × NodeValue)) (id other : ℕ) (node : No
     → All (λ (link : Link). link.id < id) (links_of nodes) → node_at nodes other ≡ Some node
     → other < id
 newest_above [] id other node newest is = absurd cc
-newest_above (e ∷ es) id other node newest is = ⊎_elim
-    (λ here. omega (arith, here.0, newest 0 (node_link e.0 e.1) (omega arith)))
-    (λ apart. newest_above es id other node (λ k d low. newest (suc k) d (omega (arith, low)))
-    (sym (other_node e es other apart.1) ∙ is))
-    (by_key other e.0)
+newest_above (e ∷ es) id other node newest is = elim (by_key other e.0) [
+  | inl here ↦ omega (arith, here.0, newest 0 (node_link e.0 e.1) (omega arith))
+  | inr apart ↦ newest_above es id other node (λ k d low. newest (suc k) d (omega (arith, low)))
+      (sym (other_node e es other apart.1) ∙ is)
+]
 
 -- no node has it
 pub none_newest : (nodes : List (ℕ × NodeValue)) (id : ℕ)
@@ -130,19 +122,15 @@ pub links_set : (nodes : List (ℕ × NodeValue)) (id : ℕ) (old new : NodeValu
     → node_at nodes id ≡ Some old → ((key : ℕ) → node_link key new ≡ node_link key old)
     → links_of (set_value (is_at (nat_cmp id)) nodes new) ≡ links_of nodes
 links_set [] id old new is same = refl
-links_set (e ∷ es) id old new is same = ⊎_elim
-    (λ here.
-    let was : Some e.1 ≡ Some old = sym (first_node e es id here.1) ∙ is in
-    let first : e.1 ≡ old = cc in
-    ap links_of (cond-true (is_at (nat_cmp id) e.0) ((e.0, new) ∷ es)
-    (e ∷ set_value (is_at (nat_cmp id)) es new) here.1)
-    ∙ ap (λ (link : Link). link ∷ links_of es) (same e.0 ∙ ap (node_link e.0) (sym first)))
-    (λ apart.
-    ap links_of (cond-false (is_at (nat_cmp id) e.0) ((e.0, new) ∷ es)
-    (e ∷ set_value (is_at (nat_cmp id)) es new) apart.1)
-    ∙ ap (λ (links : List Link). node_link e.0 e.1 ∷ links)
-    (links_set es id old new (sym (other_node e es id apart.1) ∙ is) same))
-    (by_key id e.0)
+links_set (e ∷ es) id old new is same = elim (by_key id e.0) [
+  | inl here ↦
+      let was : Some e.1 ≡ Some old = sym (first_node e es id here.1) ∙ is in
+      let first : e.1 ≡ old = cc in
+      rw here.1 (ap (λ (link : Link). link ∷ links_of es)
+      (same e.0 ∙ ap (node_link e.0) (sym first)))
+  | inr apart ↦ rw apart.1 (ap (λ (links : List Link). node_link e.0 e.1 ∷ links)
+      (links_set es id old new (sym (other_node e es id apart.1) ∙ is) same))
+]
 
 -- one more that lives or not
 abbrev live_more : ℕ → Bool → List ℕ → List ℕ
@@ -161,78 +149,52 @@ pub living_set : (nodes : List (ℕ × NodeValue)) (id : ℕ) (old new : NodeVal
     → node_at nodes id ≡ Some old → new.lives ≡ old.lives
     → living_ids_of (set_value (is_at (nat_cmp id)) nodes new) ≡ living_ids_of nodes
 living_set [] id old new is same = refl
-living_set (e ∷ es) id old new is same = ⊎_elim
-    (λ here.
-    let was : Some e.1 ≡ Some old = sym (first_node e es id here.1) ∙ is in
-    let first : e.1.lives ≡ old.lives = cc in
-    ap living_ids_of (cond-true (is_at (nat_cmp id) e.0) ((e.0, new) ∷ es)
-    (e ∷ set_value (is_at (nat_cmp id)) es new) here.1)
-    ∙ living_first (e.0, new) es
-    ∙ ap (λ b. live_more e.0 b (living_ids_of es)) (same ∙ sym first)
-    ∙ sym (living_first e es))
-    (λ apart.
-    ap living_ids_of (cond-false (is_at (nat_cmp id) e.0) ((e.0, new) ∷ es)
-    (e ∷ set_value (is_at (nat_cmp id)) es new) apart.1)
-    ∙ living_first e (set_value (is_at (nat_cmp id)) es new)
-    ∙ ap (live_more e.0 e.1.lives)
-    (living_set es id old new (sym (other_node e es id apart.1) ∙ is) same)
-    ∙ sym (living_first e es))
-    (by_key id e.0)
+living_set (e ∷ es) id old new is same = elim (by_key id e.0) [
+  | inl here ↦
+      let was : Some e.1 ≡ Some old = sym (first_node e es id here.1) ∙ is in
+      let lives : new.lives ≡ e.1.lives = cc in
+      rw here.1 (living_first (e.0, new) es ∙ ap (λ b. live_more e.0 b (living_ids_of es)) lives
+      ∙ sym (living_first e es))
+  | inr apart ↦ rw apart.1 (living_first e (set_value (is_at (nat_cmp id)) es new)
+      ∙ ap (live_more e.0 e.1.lives)
+      (living_set es id old new (sym (other_node e es id apart.1) ∙ is) same)
+      ∙ sym (living_first e es))
+]
 
 -- an id that is no node's isn't left out
 without_none : (nodes : List (ℕ × NodeValue)) (id : ℕ) → node_at nodes id ≡ None
     → without_id id (living_ids_of nodes) ≡ living_ids_of nodes
 without_none [] id none = refl
-without_none (e ∷ es) id none = ⊎_elim
-    (λ (here : (id ≡ e.0) × (is_at (nat_cmp id) e.0 ≡ true)).
-    absurd (let some = first_node e es id here.1 in cc))
-    (λ (apart : (id ≢ e.0) × (is_at (nat_cmp id) e.0 ≡ false)).
-    let rest = without_none es id (sym (other_node e es id apart.1) ∙ none) in
-    ap (without_id id) (living_first e es)
-    ∙ (elim e.1.lives as (λ b. without_id id (live_more e.0 b (living_ids_of es))
-    ≡ live_more e.0 b (living_ids_of es)) [
-      | true ↦ ap (λ b. cond (not b) (e.0 ∷ without_id id (living_ids_of es))
-          (without_id id (living_ids_of es)))
-          (ne_eqb e.0 id (λ same. apart.0 (sym same))) ∙ ap (λ others. e.0 ∷ others) rest
-      | false ↦ rest
-    ])
-    ∙ sym (living_first e es))
-    (by_key id e.0)
+without_none (e ∷ es) id none = elim (by_key id e.0) [
+  | inl here ↦ absurd (let some = first_node e es id here.1 in cc)
+  | inr apart ↦
+      let rest = without_none es id (sym (other_node e es id apart.1) ∙ none) in
+      elim (cases_Bool e.1.lives) [
+        | inl living ↦ rw (living, ne_eqb e.0 id (λ same. apart.0 (sym same)), rest)
+        | inr dying ↦ rw dying rest
+      ]
+]
 
 -- one that dies is left out of the living
 pub living_dead : (nodes : List (ℕ × NodeValue)) (id : ℕ) (old new : NodeValue) → Rises nodes
     → node_at nodes id ≡ Some old → new.lives ≡ false
     → living_ids_of (set_value (is_at (nat_cmp id)) nodes new) ≡ without_id id (living_ids_of nodes)
 living_dead [] id old new rising is dead = refl
-living_dead (e ∷ es) id old new rising is dead = ⊎_elim
-    (λ (here : (id ≡ e.0) × (is_at (nat_cmp id) e.0 ≡ true)).
-    ap living_ids_of (cond-true (is_at (nat_cmp id) e.0) ((e.0, new) ∷ es)
-    (e ∷ set_value (is_at (nat_cmp id)) es new) here.1)
-    ∙ living_first (e.0, new) es
-    ∙ ap (λ b. live_more e.0 b (living_ids_of es)) dead
-    ∙ sym (without_none es id (none_behind e es id rising here.1))
-    ∙ (elim e.1.lives as (λ b. without_id id (living_ids_of es)
-    ≡ without_id id (live_more e.0 b (living_ids_of es))) [
-      | true ↦ sym (ap (λ b. cond (not b) (e.0 ∷ without_id id (living_ids_of es))
-          (without_id id (living_ids_of es))) (eq-eqb e.0 id (sym here.0)))
-      | false ↦ refl
-    ])
-    ∙ ap (without_id id) (sym (living_first e es)))
-    (λ (apart : (id ≢ e.0) × (is_at (nat_cmp id) e.0 ≡ false)).
-    ap living_ids_of (cond-false (is_at (nat_cmp id) e.0) ((e.0, new) ∷ es)
-    (e ∷ set_value (is_at (nat_cmp id)) es new) apart.1)
-    ∙ living_first e (set_value (is_at (nat_cmp id)) es new)
-    ∙ ap (live_more e.0 e.1.lives)
-    (living_dead es id old new (sorted_tail nat_cmp e.0 (keys_of es) rising)
-    (sym (other_node e es id apart.1) ∙ is) dead)
-    ∙ (elim e.1.lives as (λ b. live_more e.0 b (without_id id (living_ids_of es))
-    ≡ without_id id (live_more e.0 b (living_ids_of es))) [
-      | true ↦ sym (ap (λ b. cond (not b) (e.0 ∷ without_id id (living_ids_of es))
-          (without_id id (living_ids_of es))) (ne_eqb e.0 id (λ same. apart.0 (sym same))))
-      | false ↦ refl
-    ])
-    ∙ ap (without_id id) (sym (living_first e es)))
-    (by_key id e.0)
+living_dead (e ∷ es) id old new rising is dead = elim (by_key id e.0) [
+  | inl here ↦
+      let none = without_none es id (none_behind e es id rising here.1) in
+      rw (here.1, dead) (elim (cases_Bool e.1.lives) [
+        | inl living ↦ rw (living, eq-eqb e.0 id (sym here.0), none)
+        | inr dying ↦ rw (dying, none)
+      ])
+  | inr apart ↦
+      let rest = living_dead es id old new (sorted_tail nat_cmp e.0 (keys_of es) rising)
+      (sym (other_node e es id apart.1) ∙ is) dead in
+      rw apart.1 (elim (cases_Bool e.1.lives) [
+        | inl living ↦ rw (living, ne_eqb e.0 id (λ same. apart.0 (sym same)), rest)
+        | inr dying ↦ rw (dying, rest)
+      ])
+]
 
 -- ---- a node that goes
 
@@ -241,60 +203,38 @@ pub living_gone : (nodes : List (ℕ × NodeValue)) (id : ℕ) (old : NodeValue)
     → node_at nodes id ≡ Some old → old.lives ≡ false
     → living_ids_of (remove_entry (is_at (nat_cmp id)) nodes) ≡ living_ids_of nodes
 living_gone [] id old is dead = refl
-living_gone (e ∷ es) id old is dead = ⊎_elim
-    (λ here.
-    let was : Some e.1 ≡ Some old = sym (first_node e es id here.1) ∙ is in
-    let first : e.1.lives ≡ false = cc in
-    ap living_ids_of (cond-true (is_at (nat_cmp id) e.0) es
-    (e ∷ remove_entry (is_at (nat_cmp id)) es)
-    here.1)
-    ∙ ap (λ b. live_more e.0 b (living_ids_of es)) (sym first)
-    ∙ sym (living_first e es))
-    (λ apart.
-    ap living_ids_of (cond-false (is_at (nat_cmp id) e.0) es
-    (e ∷ remove_entry (is_at (nat_cmp id)) es)
-    apart.1)
-    ∙ living_first e (remove_entry (is_at (nat_cmp id)) es)
-    ∙ ap (live_more e.0 e.1.lives)
-    (living_gone es id old (sym (other_node e es id apart.1) ∙ is) dead)
-    ∙ sym (living_first e es))
-    (by_key id e.0)
+living_gone (e ∷ es) id old is dead = elim (by_key id e.0) [
+  | inl here ↦
+      let was : Some e.1 ≡ Some old = sym (first_node e es id here.1) ∙ is in
+      let first : e.1.lives ≡ false = cc in
+      rw (here.1, first)
+  | inr apart ↦ rw apart.1 (living_first e (remove_entry (is_at (nat_cmp id)) es)
+      ∙ ap (live_more e.0 e.1.lives)
+      (living_gone es id old (sym (other_node e es id apart.1) ∙ is) dead)
+      ∙ sym (living_first e es))
+]
 
 -- an id that is no node's leaves out no link
 links_none : (nodes : List (ℕ × NodeValue)) (id : ℕ) → node_at nodes id ≡ None
     → filter (λ (link : Link). not (eqb link.id id)) (links_of nodes) ≡ links_of nodes
 links_none [] id none = refl
-links_none (e ∷ es) id none = ⊎_elim
-    (λ here. absurd (let some = first_node e es id here.1 in cc))
-    (λ apart.
-    ap (λ b. cond (not b) (node_link e.0 e.1 ∷ filter (λ (link : Link). not (eqb link.id id))
-    (links_of es)) (filter (λ (link : Link). not (eqb link.id id)) (links_of es)))
-    (ne_eqb e.0 id (λ same. apart.0 (sym same)))
-    ∙ ap (λ (links : List Link). node_link e.0 e.1 ∷ links)
-    (links_none es id (sym (other_node e es id apart.1) ∙ none)))
-    (by_key id e.0)
+links_none (e ∷ es) id none = elim (by_key id e.0) [
+  | inl here ↦ absurd (let some = first_node e es id here.1 in cc)
+  | inr apart ↦ rw (
+    ne_eqb e.0 id (λ same. apart.0 (sym same)),
+    links_none es id (sym (other_node e es id apart.1) ∙ none),
+  )
+]
 
 -- its link is left out
 pub links_gone : (nodes : List (ℕ × NodeValue)) (id : ℕ) → Rises nodes
     → links_of (remove_entry (is_at (nat_cmp id)) nodes)
     ≡ filter (λ (link : Link). not (eqb link.id id)) (links_of nodes)
 links_gone [] id rising = refl
-links_gone (e ∷ es) id rising = ⊎_elim
-    (λ (here : (id ≡ e.0) × (is_at (nat_cmp id) e.0 ≡ true)).
-    ap links_of (cond-true (is_at (nat_cmp id) e.0) es (e ∷ remove_entry (is_at (nat_cmp id)) es)
-    here.1)
-    ∙ sym (links_none es id (none_behind e es id rising here.1))
-    ∙ sym (ap (λ b. cond (not b)
-    (node_link e.0 e.1 ∷ filter (λ (link : Link). not (eqb link.id id)) (links_of es))
-    (filter (λ (link : Link). not (eqb link.id id)) (links_of es)))
-    (eq-eqb e.0 id (sym here.0))))
-    (λ (apart : (id ≢ e.0) × (is_at (nat_cmp id) e.0 ≡ false)).
-    ap links_of (cond-false (is_at (nat_cmp id) e.0) es (e ∷ remove_entry (is_at (nat_cmp id)) es)
-    apart.1)
-    ∙ ap (λ (links : List Link). node_link e.0 e.1 ∷ links)
-    (links_gone es id (sorted_tail nat_cmp e.0 (keys_of es) rising))
-    ∙ sym (ap (λ b. cond (not b)
-    (node_link e.0 e.1 ∷ filter (λ (link : Link). not (eqb link.id id)) (links_of es))
-    (filter (λ (link : Link). not (eqb link.id id)) (links_of es)))
-    (ne_eqb e.0 id (λ same. apart.0 (sym same)))))
-    (by_key id e.0)
+links_gone (e ∷ es) id rising = elim (by_key id e.0) [
+  | inl here ↦ rw (here.1, eq-eqb e.0 id (sym here.0))
+      (sym (links_none es id (none_behind e es id rising here.1)))
+  | inr apart ↦ rw (apart.1, ne_eqb e.0 id (λ same. apart.0 (sym same)))
+      (ap (λ (links : List Link). node_link e.0 e.1 ∷ links)
+      (links_gone es id (sorted_tail nat_cmp e.0 (keys_of es) rising)))
+]

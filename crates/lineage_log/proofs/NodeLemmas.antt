@@ -9,7 +9,7 @@ use Rattle.std.specs.List.Sorted.{IsStrictlySortedBy}
 use Rattle.std.specs.Map.{keys_of, values_of}
 use Rattle.std.specs.Option.{option_map, option_map_or, unwrap_or}
 use Rattle.std.specs.Ordering.{eq_by_cmp}
-use Rattle.std.proofs.lemmas.Bool.{cases_eq, cases_lt, cond-true, cond-false}
+use Rattle.std.proofs.lemmas.Bool.{cases_eq, cases_lt}
 use Rattle.std.proofs.lemmas.Cmp.{eq_by_cmp_equiv}
 use Rattle.std.proofs.lemmas.List.Sums.{sum_by-cons}
 use Rattle.std.proofs.lemmas.Map.{lookup-none}
@@ -26,20 +26,20 @@ Rises nodes = IsStrictlySortedBy nat_cmp (keys_of nodes)
 -- two ids are one, or the order tells them apart
 pub by_key : (key other : ℕ) → ((key ≡ other) × (is_at (nat_cmp key) other ≡ true))
     ⊎ ((key ≢ other) × (is_at (nat_cmp key) other ≡ false))
-by_key key other = ⊎_elim
-    (λ same. inl (same, unsigned_tied key other ∙ eq-eqb key other same))
-    (λ apart. inr (apart, unsigned_tied key other ∙ ne_eqb key other apart))
-    (cases_eq key other)
+by_key key other = elim (cases_eq key other) [
+  | inl same ↦ inl (same, unsigned_tied key other ∙ eq-eqb key other same)
+  | inr apart ↦ inr (apart, unsigned_tied key other ∙ ne_eqb key other apart)
+]
 
 -- the first node
 pub first_node : (e : ℕ × NodeValue) (es : List (ℕ × NodeValue)) (id : ℕ)
     → is_at (nat_cmp id) e.0 ≡ true → node_at (e ∷ es) id ≡ Some e.1
-first_node e es id here = cond-true (is_at (nat_cmp id) e.0) (Some e.1) (node_at es id) here
+first_node e es id here = rw here
 
 -- another node
 pub other_node : (e : ℕ × NodeValue) (es : List (ℕ × NodeValue)) (id : ℕ)
     → is_at (nat_cmp id) e.0 ≡ false → node_at (e ∷ es) id ≡ node_at es id
-other_node e es id apart = cond-false (is_at (nat_cmp id) e.0) (Some e.1) (node_at es id) apart
+other_node e es id apart = rw apart
 
 -- an id stands once
 pub none_behind : (e : ℕ × NodeValue) (es : List (ℕ × NodeValue)) (id : ℕ) → Rises (e ∷ es)
@@ -61,18 +61,10 @@ behind_first e es id node rising is = ⊎_elim
 pub link_there : (nodes : List (ℕ × NodeValue)) (id : ℕ)
     → link_of (links_of nodes) id ≡ option_map (node_link id) (node_at nodes id)
 link_there [] id = refl
-link_there (e ∷ es) id = ⊎_elim
-    (λ here.
-    cond-true (eqb e.0 id) (Some (node_link e.0 e.1)) (link_of (links_of es) id)
-    (eq-eqb e.0 id (sym here.0))
-    ∙ ap (λ (key : ℕ). Some (node_link key e.1)) (sym here.0)
-    ∙ sym (ap (option_map (node_link id)) (first_node e es id here.1)))
-    (λ apart.
-    cond-false (eqb e.0 id) (Some (node_link e.0 e.1)) (link_of (links_of es) id)
-    (ne_eqb e.0 id (λ same. apart.0 (sym same)))
-    ∙ link_there es id
-    ∙ sym (ap (option_map (node_link id)) (other_node e es id apart.1)))
-    (by_key id e.0)
+link_there (e ∷ es) id = elim (by_key id e.0) [
+  | inl here ↦ rw (eq-eqb e.0 id (sym here.0), here.1) (rw here.0)
+  | inr apart ↦ rw (ne_eqb e.0 id (λ same. apart.0 (sym same)), apart.1) (link_there es id)
+]
 
 -- the parent of an id is that of its node
 pub parent_there : (nodes : List (ℕ × NodeValue)) (id : ℕ) (node : NodeValue)
@@ -115,10 +107,10 @@ top_of (e ∷ es) = e.0 + 1 + top_of es
 pub below_top : (nodes : List (ℕ × NodeValue)) (id : ℕ) → is_some (node_at nodes id) ≡ true
     → id < top_of nodes
 below_top [] id is = absurd cc
-below_top (e ∷ es) id is = ⊎_elim
-    (λ here. omega (arith, here.0))
-    (λ apart. omega (arith, below_top es id (sym (ap is_some (other_node e es id apart.1)) ∙ is)))
-    (by_key id e.0)
+below_top (e ∷ es) id is = elim (by_key id e.0) [
+  | inl here ↦ omega (arith, here.0)
+  | inr apart ↦ omega (arith, below_top es id (rw apart.1 at is))
+]
 
 -- ---- children
 
