@@ -7,13 +7,13 @@ use Rattle.std.specs.List.Sorted.{IsStrictlySortedBy}
 use Rattle.std.specs.Map.{keys_of, set_value}
 use Rattle.std.specs.Option.{option_map, unwrap_or}
 use Rattle.std.proofs.lemmas.Map.Entries.{sum_by-insert_entry}
-use Rattle.std.proofs.lemmas.Bool.{cases_lt, cond-true, cond-false}
+use Rattle.std.proofs.lemmas.Bool.{cases_lt, cond-false}
 use Rattle.lineage_log.specs.Links.{Link}
 use Rattle.lineage_log.specs.Trees.{CanCome, tree_with_newcomer}
 use Rattle.lineage_log.specs.Nodes.{NodeValue, AreFamilies, AreNodes, IsInFamily, as_child, children_of, links_of, living_ids_of, node_at, node_link, tree_of}
 use Rattle.lineage_log.proofs.NodeLemmas.{by_key, child_apart, child_exists, child_is, children_few, founder_is, is_some_link, some_of}
 use Rattle.lineage_log.proofs.LivingLemmas.{insert_last, links_newcomer, links_set, living_newcomer, living_set, newest_above, none_newest}
-use Rattle.lineage_log.proofs.TreeLemmas.{IsSet, is_there, one_node, set_from, set_is, set_still}
+use Rattle.lineage_log.proofs.TreeLemmas.{IsSet, found_new, is_there, set_is, still_there}
 
 -- there is one node more
 pub record HasCome (before after : List (ℕ × NodeValue)) (id : ℕ) (new : NodeValue) : Type 0 where
@@ -44,81 +44,60 @@ has_come before after id new rising rises none e at = record {
 -- nobody is a child of who is not there
 no_children : (nodes : List (ℕ × NodeValue)) (id : ℕ) → AreFamilies nodes → node_at nodes id ≡ None
     → children_of nodes id ≤ 0
-no_children nodes id are none = ⊎_elim
-    (λ (some : 0 < children_of nodes id).
-    let child = child_exists nodes id are.rising some in
-    absurd (true≢false (sym ((are.each child.0 child.1 child.2).there id child.3)
-    ∙ ap is_some none)))
-    (λ (few : children_of nodes id ≤ 0). few)
-    (cases_lt 0 (children_of nodes id))
+no_children nodes id are none = elim (cases_lt 0 (children_of nodes id)) [
+  | inl some ↦
+      let child = child_exists nodes id are.rising some in
+      absurd (true≢false (sym ((are.each child.0 child.1 child.2).there id child.3)
+      ∙ ap is_some none))
+  | inr few ↦ few
+]
 
 module _ (before mid : List (ℕ × NodeValue)) (id : ℕ) (new : NodeValue) (are : AreNodes before)
     (none : node_at before id ≡ None) (childless : new.children ≡ 0) (lives : new.lives ≡ true)
     (come : HasCome before mid id new) where
   -- who was there is there
   stays : (other : ℕ) → IsSome (node_at before other) → IsSome (node_at mid other)
-  stays other is = ⊎_elim
-      (λ (here : (id ≡ other) × (is_at (nat_cmp id) other ≡ true)). is_there (node_at mid other) new
-      (come.at other ∙ cond-true (is_at (nat_cmp id) other) (Some new) (node_at before other)
-      here.1))
-      (λ (apart : (id ≢ other) × (is_at (nat_cmp id) other ≡ false)).
-      subst IsSome (sym (come.at other
-      ∙ cond-false (is_at (nat_cmp id) other) (Some new) (node_at before other) apart.1)) is)
-      (by_key id other)
+  stays other = still_there before mid id new other (come.at other)
 
   -- the newcomer, or one that was there
   pub come_from : (other : ℕ) (node : NodeValue) → node_at mid other ≡ Some node
       → ((id ≡ other) × (new ≡ node)) ⊎ ((id ≢ other) × (node_at before other ≡ Some node))
-  come_from other node is = ⊎_elim
-      (λ (here : (id ≡ other) × (is_at (nat_cmp id) other ≡ true)).
-      inl (
-        here.0,
-        one_node (node_at mid other) new node
-            (come.at other ∙ cond-true (is_at (nat_cmp id) other) (Some new) (node_at before other)
-            here.1) is,
-      ))
-      (λ (apart : (id ≢ other) × (is_at (nat_cmp id) other ≡ false)).
-      inr (
-        apart.0,
-        sym (come.at other
-            ∙ cond-false (is_at (nat_cmp id) other) (Some new) (node_at before other) apart.1) ∙ is,
-      ))
-      (by_key id other)
+  come_from other node is = found_new before mid id new other node (come.at other) is
 
   -- a founder comes
   pub founder_comes : new.parent ≡ None → AreNodes mid
   founder_comes founder = record {
     families = record {
       rising = come.rising;
-      each = λ other node has. ⊎_elim
-          (λ (here : (id ≡ other) × (new ≡ node)). subst (λ (n : NodeValue). IsInFamily mid other n)
-          here.1 (subst (λ n. IsInFamily mid n new) here.0 (record {
-            older = λ above parent. absurd (true≢false (sym (ap is_some (sym founder ∙ parent))));
-            there = λ above parent. absurd (true≢false (sym (ap is_some (sym founder ∙ parent))));
-            counted = omega (
-              arith,
-              childless,
-              come.kids id,
-              founder_is id new founder,
-              no_children before id are.families none,
-            );
-          })))
-          (λ (apart : (id ≢ other) × (node_at before other ≡ Some node)).
-          let fits = are.families.each other node apart.1 in
-          record {
-            older = fits.older;
-            there = λ above parent. stays above (fits.there above parent);
-            counted = omega (arith, fits.counted, come.kids other, founder_is other new founder);
-          })
-          (come_from other node has);
+      each = λ other node has. elim (come_from other node has) [
+        | inl here ↦ rw (← here.0, ← here.1) fit_founder
+        | inr apart ↦
+            let fits = are.families.each other node apart.1 in
+            record {
+              older = fits.older;
+              there = λ above parent. stays above (fits.there above parent);
+              counted = omega (arith, fits.counted, come.kids other, founder_is other new founder);
+            }
+      ];
     };
-    needed = λ other node has dies hole. ⊎_elim
-        (λ (here : (id ≡ other) × (new ≡ node)).
-        absurd (true≢false (sym lives ∙ ap (λ (n : NodeValue). n.lives) here.1 ∙ dies)))
-        (λ (apart : (id ≢ other) × (node_at before other ≡ Some node)).
-        are.needed other node apart.1 dies hole)
-        (come_from other node has);
+    needed = λ other node has dies hole. elim (come_from other node has) [
+      | inl here ↦ absurd (let same = here.1 in cc)
+      | inr apart ↦ are.needed other node apart.1 dies hole
+    ];
   }
+    where
+      fit_founder : IsInFamily mid id new
+      fit_founder = record {
+        older = λ above parent. absurd cc;
+        there = λ above parent. absurd cc;
+        counted = omega (
+          arith,
+          childless,
+          come.kids id,
+          founder_is id new founder,
+          no_children before id are.families none,
+        );
+      }
 
   module _ (after : List (ℕ × NodeValue)) (above : ℕ) (parent more : NodeValue)
       (child : new.parent ≡ Some above) (older : above < id)
@@ -136,7 +115,7 @@ module _ (before mid : List (ℕ × NodeValue)) (id : ℕ) (new : NodeValue) (ar
         let same : more.parent ≡ parent.parent = ap (λ (n : NodeValue). n.parent) raised in
         record {
           older = λ higher h. fits.older higher (sym same ∙ h);
-          there = λ higher h. set_still mid after above more higher set
+          there = λ higher h. still_there mid after above more higher (set.at higher)
               (stays higher (fits.there higher (sym same ∙ h)));
           counted = ap (λ (n : NodeValue). n.children) raised
               ∙ omega (
@@ -153,7 +132,7 @@ module _ (before mid : List (ℕ × NodeValue)) (id : ℕ) (new : NodeValue) (ar
     fit_child = record {
       older = λ higher h. subst (λ n. n < id) (ap (λ (o : Option ℕ). unwrap_or o 0) (sym child ∙ h))
           older;
-      there = λ higher h. set_still mid after above more higher set
+      there = λ higher h. still_there mid after above more higher (set.at higher)
           (stays higher (is_there (node_at before higher) parent
           (ap (node_at before) (ap (λ (o : Option ℕ). unwrap_or o 0) (sym h ∙ child)) ∙ above_is)));
       counted = omega (
@@ -171,42 +150,36 @@ module _ (before mid : List (ℕ × NodeValue)) (id : ℕ) (new : NodeValue) (ar
     child_comes = record {
       families = record {
         rising = set.rising;
-        each = λ other node has. ⊎_elim
-            (λ (one : (above ≡ other) × (more ≡ node)).
-            subst (λ (n : NodeValue). IsInFamily after other n) one.1
-            (subst (λ n. IsInFamily after n more) one.0 fit_parent))
-            (λ (far : (above ≢ other) × (node_at mid other ≡ Some node)). ⊎_elim
-            (λ (here : (id ≡ other) × (new ≡ node)).
-            subst (λ (n : NodeValue). IsInFamily after other n) here.1
-            (subst (λ n. IsInFamily after n new) here.0 fit_child))
-            (λ (apart : (id ≢ other) × (node_at before other ≡ Some node)).
-            let fits = are.families.each other node apart.1 in
-            record {
-              older = fits.older;
-              there = λ higher h. set_still mid after above more higher set
-                  (stays higher (fits.there higher h));
-              counted = omega (
-                arith,
-                fits.counted,
-                set.kids other,
-                come.kids other,
-                child_apart other above new child far.0,
-              );
-            })
-            (come_from other node far.1))
-            (set_from mid after above more other node set has);
+        each = λ other node has.
+            elim (found_new mid after above more other node (set.at other) has) [
+              | inl one ↦ rw (← one.0, ← one.1) fit_parent
+              | inr far ↦ elim (come_from other node far.1) [
+                | inl here ↦ rw (← here.0, ← here.1) fit_child
+                | inr apart ↦
+                    let fits = are.families.each other node apart.1 in
+                    record {
+                      older = fits.older;
+                      there = λ higher h. still_there mid after above more higher (set.at higher)
+                          (stays higher (fits.there higher h));
+                      counted = omega (
+                        arith,
+                        fits.counted,
+                        set.kids other,
+                        come.kids other,
+                        child_apart other above new child far.0,
+                      );
+                    }
+              ]
+            ];
       };
-      needed = λ other node has dies hole. ⊎_elim
-          (λ (one : (above ≡ other) × (more ≡ node)).
-          let many : 0 < more.children = omega (arith, ap (λ (n : NodeValue). n.children) raised) in
-          subst (λ (n : NodeValue). 0 < n.children) one.1 many)
-          (λ (far : (above ≢ other) × (node_at mid other ≡ Some node)). ⊎_elim
-          (λ (here : (id ≡ other) × (new ≡ node)).
-          absurd (true≢false (sym lives ∙ ap (λ (n : NodeValue). n.lives) here.1 ∙ dies)))
-          (λ (apart : (id ≢ other) × (node_at before other ≡ Some node)).
-          are.needed other node apart.1 dies hole)
-          (come_from other node far.1))
-          (set_from mid after above more other node set has);
+      needed = λ other node has dies hole.
+          elim (found_new mid after above more other node (set.at other) has) [
+            | inl one ↦ rw (← one.1) (omega (arith, ap (λ (n : NodeValue). n.children) raised))
+            | inr far ↦ elim (come_from other node far.1) [
+              | inl here ↦ absurd (let same = here.1 in cc)
+              | inr apart ↦ are.needed other node apart.1 dies hole
+            ]
+          ];
     }
 
 -- the tree with a newcomer
@@ -276,12 +249,12 @@ comes before mid link new are can is rising e at =
 pub has_room : (before mid : List (ℕ × NodeValue)) (link : Link) (new : NodeValue) (bound id : ℕ)
     (node : NodeValue) → AreNodes before → Comes before mid link new → length before < bound
     → node_at mid id ≡ Some node → node.children < bound
-has_room before mid link new bound id node are is few there = ⊎_elim
-    (λ (here : (link.id ≡ id) × (new ≡ node)).
-    omega (arith, few, is.childless, ap (λ (n : NodeValue). n.children) here.1))
-    (λ (apart : (link.id ≢ id) × (node_at before id ≡ Some node)).
-    omega (arith, few, (are.families.each id node apart.1).counted, children_few before id))
-    (come_from before mid link.id new are is.none is.childless is.lives is.come id node there)
+has_room before mid link new bound id node are is few there =
+    elim (found_new before mid link.id new id node (is.come.at id) there) [
+      | inl here ↦ omega (arith, few, is.childless, ap (λ (n : NodeValue). n.children) here.1)
+      | inr apart ↦
+          omega (arith, few, (are.families.each id node apart.1).counted, children_few before id)
+    ]
 
 -- a child enters
 pub child_enters : (before mid after : List (ℕ × NodeValue)) (link : Link) (new : NodeValue)

@@ -1,12 +1,12 @@
 -- Where each node is needed, the links that are left are those of the living and of their
 -- ancestors.
-use Rattle.std.proofs.Common.{◌≡◌, zero, eq-eqb, inl, inr, ⊎_elim, ◌∙◌, refl, sym, ap, subst, true≢false, ℕ, suc, ◌<◌, Bool, true, false, cond, eqb, List, [], ◌∷◌, ◌++◌, append_assoc, length, get_or, Option, Some, None, nat_cmp, eqb-true, arith}
+use Rattle.std.proofs.Common.{◌≡◌, zero, eq-eqb, ne_eqb, inl, inr, ◌∙◌, refl, sym, ap, true≢false, ℕ, suc, ◌<◌, Bool, true, false, cond, eqb, List, [], ◌∷◌, ◌++◌, append_assoc, length, get_or, Option, Some, None, nat_cmp, arith}
 use Rattle.std.specs.Prelude.{All, Contains, IfSome, IsSome, filter, filter_map, is_some, option_and_then}
 use Rattle.std.specs.List.{cons_option}
 use Rattle.std.specs.BTreeMap.{is_at}
 use Rattle.std.specs.Map.{set_value}
 use Rattle.std.specs.Option.{option_map, option_map_or}
-use Rattle.std.proofs.lemmas.Bool.{cases_Bool, cond-true, cond-false, false_from_ne_true}
+use Rattle.std.proofs.lemmas.Bool.{cases_Bool, cases_eq, false_from_ne_true}
 use Rattle.lineage_log.specs.Links.{Link}
 use Rattle.lineage_log.specs.Ancestry.{ancestor_ids_of, is_kept, kept_of, link_of, parent_of}
 use Rattle.lineage_log.specs.Trees.{IsPruned, genome_in_tree, tree_with_death, without_id}
@@ -14,37 +14,29 @@ use Rattle.lineage_log.specs.Nodes.{NodeValue, AreFamilies, AreFewer, AreNeededB
 use Rattle.lineage_log.proofs.AncestorLemmas.{AreLeft, AreWanted, Older, kept_left, line_is, wanted_kept}
 use Rattle.lineage_log.proofs.NodeLemmas.{below_top, child_exists, is_some_link, link_there, node_told, parent_there, some_of, top_of}
 use Rattle.lineage_log.proofs.LivingLemmas.{links_set, lives_there, living_dead, there_lives}
-use Rattle.lineage_log.proofs.TreeLemmas.{fewer_same, is_there, set_from, set_is, set_still}
+use Rattle.lineage_log.proofs.TreeLemmas.{fewer_same, found_new, is_there, set_is, still_there}
 
 -- the link of an id among those whose id passes a test
 pub find_left : (left : ℕ → Bool) (id : ℕ) (links : List Link)
     → link_of (filter (λ (link : Link). left link.id) links) id
     ≡ cond (left id) (link_of links id) None
-find_left left id [] = none (left id) where
-  -- where there is no link, none is left, whatever the test says
-  none : (b : Bool) → ◌≡◌ {A = Option Link} None (cond b None None)
-  none true = refl
-  none false = refl
-find_left left id (link ∷ links) =
-    by (left link.id) refl (eqb link.id id) refl (find_left left id links) where
-      by : (b : Bool) → left link.id ≡ b → (t : Bool) → eqb link.id id ≡ t
-          → link_of (filter (λ (link : Link). left link.id) links) id
-          ≡ cond (left id) (link_of links id) None
-          → link_of (cond b (link ∷ filter (λ (link : Link). left link.id) links)
-          (filter (λ (link : Link). left link.id) links)) id
-          ≡ cond (left id) (cond t (Some link) (link_of links id)) None
-      by true l true e rest =
-          cond-true (eqb link.id id) (Some link)
-          (link_of (filter (λ (link : Link). left link.id) links) id) e
-          ∙ sym (cond-true (left id) (Some link) None (ap left (sym (eqb-true link.id id e)) ∙ l))
-      by true l false e rest =
-          cond-false (eqb link.id id) (Some link)
-          (link_of (filter (λ (link : Link). left link.id) links) id) e ∙ rest
-      by false l true e rest =
-          let out = ap left (sym (eqb-true link.id id e)) ∙ l in
-          rest ∙ cond-false (left id) (link_of links id) None out
-          ∙ sym (cond-false (left id) (Some link) None out)
-      by false l false e rest = rest
+find_left left id [] = elim (cases_Bool (left id)) [ inl inside ↦ rw inside | inr gone ↦ rw gone ]
+find_left left id (link ∷ links) = elim (cases_eq link.id id) [
+  | inl same ↦
+      let here = eq-eqb link.id id same in
+      elim (cases_Bool (left link.id)) [
+        | inl inside ↦ rw (inside, here, sym (ap left same) ∙ inside)
+        | inr gone ↦
+            let out = sym (ap left same) ∙ gone in
+            rw (gone, out) (find_left left id links ∙ rw out)
+      ]
+  | inr apart ↦
+      let other = ne_eqb link.id id apart in
+      elim (cases_Bool (left link.id)) [
+        | inl inside ↦ rw (inside, other) (find_left left id links)
+        | inr gone ↦ rw (gone, other) (find_left left id links)
+      ]
+]
 
 -- two tests that agree on each element filter alike
 pub filter_alike : (p q : Link → Bool) (links : List Link) → All (λ link. p link ≡ q link) links
@@ -59,15 +51,11 @@ filter_alike p q (link ∷ links) same =
 pub found_at : (links : List Link) (k : ℕ) (d : Link) → k < length links
     → is_some (link_of links (get_or links k d).id) ≡ true
 found_at [] k d low = absurd (omega (arith, low))
-found_at (link ∷ links) zero d low =
-    ap is_some (cond-true (eqb link.id link.id) (Some link) (link_of links link.id)
-    (eq-eqb link.id link.id refl))
-found_at (link ∷ links) (suc k) d low =
-    by (eqb link.id (get_or links k d).id) (found_at links k d (omega (arith, low))) where
-      by : (b : Bool) → is_some (link_of links (get_or links k d).id) ≡ true
-          → is_some (cond b (Some link) (link_of links (get_or links k d).id)) ≡ true
-      by true rest = refl
-      by false rest = rest
+found_at (link ∷ links) zero d low = rw (eq-eqb link.id link.id refl)
+found_at (link ∷ links) (suc k) d low = elim (cases_Bool (eqb link.id (get_or links k d).id)) [
+  | inl inside ↦ rw inside
+  | inr gone ↦ rw gone (found_at links k d (omega (arith, low)))
+]
 
 -- nothing isn't something
 none_some : (id : ℕ) → None ≡ Some id → ⊥
@@ -93,13 +81,10 @@ module _ (before after : List (ℕ × NodeValue)) (old : AreFamilies before) (ne
   -- who has a node then has the link of before
   same_link : (id : ℕ) → is_some (node_at after id) ≡ true
       → link_of (links_of after) id ≡ link_of (links_of before) id
-  same_link id h = ⊎_elim
-      (λ (inside : fewer.left id ≡ true). at id
-      ∙ cond-true (fewer.left id) (link_of (links_of before) id) None inside)
-      (λ (out : fewer.left id ≡ false).
-      absurd (true≢false (sym h ∙ has_is id
-      ∙ ap is_some (cond-false (fewer.left id) (link_of (links_of before) id) None out))))
-      (cases_Bool (fewer.left id))
+  same_link id h = elim (cases_Bool (fewer.left id)) [
+    | inl inside ↦ at id ∙ rw inside
+    | inr out ↦ absurd (true≢false (sym h ∙ has_is id ∙ rw out))
+  ]
 
   -- and the parent of before
   same_parent : (id : ℕ) → is_some (node_at after id) ≡ true
@@ -125,39 +110,36 @@ module _ (before after : List (ℕ × NodeValue)) (old : AreFamilies before) (ne
   wanted : AreWanted (parent_of (links_of before)) has (living_ids_of after)
   wanted id h =
       let found = some_of (node_at after id) h in
-      ⊎_elim
-      (λ (lives : found.0.lives ≡ true). inl (there_lives after id found.0 found.1 lives))
-      (λ (dies : found.0.lives ≡ false).
-      let some : 0 < children_of after id =
-      omega (
-        arith,
-        new.needed id found.0 found.1 dies (none_some id),
-        (new.families.each id found.0 found.1).counted,
-      ) in
-      let child = child_exists after id new.families.rising some in
-      let is : is_some (node_at after child.0) ≡ true =
-      is_there (node_at after child.0) child.1 child.2 in
-      inr (
-        child.0,
-        is,
-        sym (same_parent child.0 is) ∙ parent_there after child.0 child.1 child.2
-            ∙ child.3,
-      ))
-      (cases_Bool found.0.lives)
+      elim (cases_Bool found.0.lives) [
+        | inl lives ↦ inl (there_lives after id found.0 found.1 lives)
+        | inr dies ↦
+            let some : 0 < children_of after id =
+            omega (
+              arith,
+              new.needed id found.0 found.1 dies (none_some id),
+              (new.families.each id found.0 found.1).counted,
+            ) in
+            let child = child_exists after id new.families.rising some in
+            let is : is_some (node_at after child.0) ≡ true =
+            is_there (node_at after child.0) child.1 child.2 in
+            inr (
+              child.0,
+              is,
+              sym (same_parent child.0 is) ∙ parent_there after child.0 child.1 child.2
+                  ∙ child.3,
+            )
+      ]
 
   -- who is kept is who is left
   pub kept_is : (id : ℕ) → is_kept (links_of before) (living_ids_of after) id
       ≡ is_some (node_at after id)
-  kept_is id = ⊎_elim
-      (λ (inside : is_some (node_at after id) ≡ true). wanted_kept (parent_of (links_of before)) has
-      (living_ids_of after) older_before wanted (top_of after) (top_of after) id (below_top after)
-      (omega arith) inside ∙ sym inside)
-      (λ (out : is_some (node_at after id) ≡ false).
-      false_from_ne_true (is_kept (links_of before) (living_ids_of after) id)
-      (λ h. true≢false (sym (kept_left (parent_of (links_of before))
-      (parent_of (links_of after)) has older_before are_left (living_ids_of after) id lives_left h)
-      ∙ out)) ∙ sym out)
-      (cases_Bool (is_some (node_at after id)))
+  kept_is id = elim (cases_Bool (is_some (node_at after id))) [
+    | inl inside ↦ wanted_kept (parent_of (links_of before)) has (living_ids_of after) older_before
+        wanted (top_of after) (top_of after) id (below_top after) (omega arith) inside ∙ sym inside
+    | inr out ↦ false_from_ne_true (is_kept (links_of before) (living_ids_of after) id)
+        (λ h. true≢false (sym (kept_left (parent_of (links_of before)) (parent_of (links_of after))
+        has older_before are_left (living_ids_of after) id lives_left h) ∙ out)) ∙ sym out
+  ]
     where
       lives_left : (one : ℕ) → Contains (living_ids_of after) one
           → is_some (node_at after one) ≡ true
@@ -211,7 +193,8 @@ laid before after id are lives change =
     → IsInFamily after other node =
     λ other node fits. record {
       older = fits.older;
-      there = λ above parent. set_still before after id new above set (fits.there above parent);
+      there = λ above parent. still_there before after id new above (set.at above)
+          (fits.there above parent);
       counted = fits.counted ∙ sym (set.kids other);
     } in
     let fit_new : IsInFamily before id new = let fits = are.families.each id old is in
@@ -219,16 +202,17 @@ laid before after id are lives change =
     record {
       families = record {
         rising = set.rising;
-        each = λ other node has. ⊎_elim
-            (λ here. subst (λ (n : NodeValue). IsInFamily after other n) here.1
-            (subst (λ n. IsInFamily after n new) here.0 (fit id new fit_new)))
-            (λ apart. fit other node (are.families.each other node apart.1))
-            (set_from before after id new other node set has);
+        each = λ other node has.
+            elim (found_new before after id new other node (set.at other) has) [
+              | inl here ↦ rw (← here.0, ← here.1) (fit id new fit_new)
+              | inr apart ↦ fit other node (are.families.each other node apart.1)
+            ];
       };
-      needed = λ other node has dies hole. ⊎_elim
-          (λ here. absurd (hole (ap (λ (n : ℕ). Some n) here.0)))
-          (λ apart. are.needed other node apart.1 dies (none_some other))
-          (set_from before after id new other node set has);
+      needed = λ other node has dies hole.
+          elim (found_new before after id new other node (set.at other) has) [
+            | inl here ↦ absurd (hole (ap (λ (n : ℕ). Some n) here.0))
+            | inr apart ↦ are.needed other node apart.1 dies (none_some other)
+          ];
       links = ap links_of e ∙ links_set before id old new is (λ key. refl);
       living = ap living_ids_of e ∙ living_dead before id old new are.families.rising is refl;
     }

@@ -1,5 +1,5 @@
 -- What the steps of a tree do to its nodes.
-use Rattle.std.proofs.Common.{◌≡◌, ◌≢◌, ◌⊎◌, inl, inr, ⊎_elim, ◌∙◌, refl, sym, ap, subst, ℕ, ◌+◌, ◌-◌, ◌<◌, ◌≤◌, true, false, cond, not, ◌&&◌, eqb, List, [], ◌∷◌, Option, Some, None, nat_cmp, arith}
+use Rattle.std.proofs.Common.{◌≡◌, ◌≢◌, ◌⊎◌, inl, inr, ◌∙◌, refl, sym, ap, subst, ℕ, ◌+◌, ◌-◌, ◌<◌, ◌≤◌, true, false, cond, not, ◌&&◌, eqb, List, [], ◌∷◌, Option, Some, None, nat_cmp, arith}
 use Rattle.std.specs.Prelude.{IsSome, filter}
 use Rattle.std.specs.BTreeMap.{is_at}
 use Rattle.std.specs.Cmp.{nat_cmp_total}
@@ -7,7 +7,7 @@ use Rattle.std.specs.List.Sorted.{IsStrictlySortedBy}
 use Rattle.std.specs.Map.{keys_of, remove_entry, set_value}
 use Rattle.std.specs.Option.{option_map, unwrap_or}
 use Rattle.std.specs.Ordering.{eq_by_cmp}
-use Rattle.std.proofs.lemmas.Bool.{cond-true, cond-false}
+use Rattle.std.proofs.lemmas.Bool.{cases_Bool}
 use Rattle.std.proofs.lemmas.Cmp.{eq_by_cmp_equiv}
 use Rattle.std.proofs.lemmas.Map.{lookup-remove_entry, lookup-set_value, keys-set_value}
 use Rattle.std.proofs.lemmas.Map.Entries.{sum_by-remove_entry, sum_by-set_value}
@@ -25,6 +25,26 @@ is_there found x is = subst IsSome (sym is) refl
 pub one_node : (found : Option NodeValue) (one other : NodeValue) → found ≡ Some one
     → found ≡ Some other → one ≡ other
 one_node found one other is has = ap (λ (o : Option NodeValue). unwrap_or o one) (sym is ∙ has)
+
+-- what stands there where one node is new
+pub found_new : (before after : List (ℕ × NodeValue)) (id : ℕ) (new : NodeValue) (other : ℕ)
+    (node : NodeValue)
+    → node_at after other ≡ cond (is_at (nat_cmp id) other) (Some new) (node_at before other)
+    → node_at after other ≡ Some node
+    → ((id ≡ other) × (new ≡ node)) ⊎ ((id ≢ other) × (node_at before other ≡ Some node))
+found_new before after id new other node look is = elim (by_key id other) [
+  | inl here ↦ inl (here.0, one_node (node_at after other) new node (rw here.1 at look) is)
+  | inr apart ↦ inr (apart.0, sym (rw apart.1 at look) ∙ is)
+]
+
+-- what was there is there
+pub still_there : (before after : List (ℕ × NodeValue)) (id : ℕ) (new : NodeValue) (other : ℕ)
+    → node_at after other ≡ cond (is_at (nat_cmp id) other) (Some new) (node_at before other)
+    → IsSome (node_at before other) → IsSome (node_at after other)
+still_there before after id new other look is = elim (by_key id other) [
+  | inl here ↦ is_there (node_at after other) new (rw here.1 at look)
+  | inr apart ↦ subst IsSome (sym (rw apart.1 at look)) is
+]
 
 -- ---- a node that changes, but not its parent
 
@@ -57,37 +77,6 @@ set_is before after id old new rising is same e =
             one,
           );
     }
-
--- what stands there then
-pub set_from : (before after : List (ℕ × NodeValue)) (id : ℕ) (new : NodeValue) (other : ℕ)
-    (node : NodeValue) → IsSet before after id new → node_at after other ≡ Some node
-    → ((id ≡ other) × (new ≡ node)) ⊎ ((id ≢ other) × (node_at before other ≡ Some node))
-set_from before after id new other node set is = ⊎_elim
-    (λ here. inl (
-      here.0,
-      one_node (node_at after other) new node
-          (set.at other ∙ cond-true (is_at (nat_cmp id) other) (Some new) (node_at before other)
-          here.1) is,
-    ))
-    (λ apart. inr (
-      apart.0,
-      sym
-          (set.at other ∙ cond-false (is_at (nat_cmp id) other) (Some new) (node_at before other)
-          apart.1) ∙ is,
-    ))
-    (by_key id other)
-
--- what was there is there
-pub set_still : (before after : List (ℕ × NodeValue)) (id : ℕ) (new : NodeValue) (other : ℕ)
-    → IsSet before after id new → IsSome (node_at before other) → IsSome (node_at after other)
-set_still before after id new other set is = ⊎_elim
-    (λ here. is_there (node_at after other) new
-    (set.at other ∙ cond-true (is_at (nat_cmp id) other) (Some new) (node_at before other)
-    here.1))
-    (λ apart. subst IsSome (sym
-    (set.at other ∙ cond-false (is_at (nat_cmp id) other) (Some new) (node_at before other)
-    apart.1)) is)
-    (by_key id other)
 
 -- ---- a node that goes
 
@@ -124,24 +113,18 @@ gone_is before after id old rising rises is e =
 pub gone_from : (before after : List (ℕ × NodeValue)) (id : ℕ) (old : NodeValue) (other : ℕ)
     (node : NodeValue) → IsGone before after id old → node_at after other ≡ Some node
     → (id ≢ other) × (node_at before other ≡ Some node)
-gone_from before after id old other node gone is = ⊎_elim
-    (λ here. absurd (let none = gone.at other
-    ∙ cond-true (is_at (nat_cmp id) other) None (node_at before other) here.1 in cc))
-    (λ apart. (
-      apart.0,
-      sym (gone.at other
-          ∙ cond-false (is_at (nat_cmp id) other) None (node_at before other) apart.1) ∙ is,
-    ))
-    (by_key id other)
+gone_from before after id old other node gone is = elim (by_key id other) [
+  | inl here ↦ absurd (let none = rw here.1 at (gone.at other) in cc)
+  | inr apart ↦ (apart.0, sym (rw apart.1 at (gone.at other)) ∙ is)
+]
 
 -- what stood there stands there then, but for one
 pub gone_still : (before after : List (ℕ × NodeValue)) (id : ℕ) (old : NodeValue) (other : ℕ)
     → IsGone before after id old → id ≢ other → node_at after other ≡ node_at before other
-gone_still before after id old other gone differs = ⊎_elim
-    (λ here. absurd (differs here.0))
-    (λ apart. gone.at other ∙ cond-false (is_at (nat_cmp id) other) None (node_at before other)
-    apart.1)
-    (by_key id other)
+gone_still before after id old other gone differs = elim (by_key id other) [
+  | inl here ↦ absurd (differs here.0)
+  | inr apart ↦ rw apart.1 at (gone.at other)
+]
 
 -- ---- a node that is there in vain goes
 
@@ -213,7 +196,7 @@ module _ (before mid : List (ℕ × NodeValue)) (id : ℕ) (old : NodeValue)
           let same : new.parent ≡ parent.parent = ap (λ (n : NodeValue). n.parent) fewer in
           record {
             older = λ higher h. fit.older higher (sym same ∙ h);
-            there = λ higher h. set_still mid after above new higher set
+            there = λ higher h. still_there mid after above new higher (set.at higher)
                 (parent_stays above higher parent was.1 (sym same ∙ h));
             counted = ap (λ (n : NodeValue). n.children) fewer
                 ∙ omega (
@@ -234,7 +217,7 @@ module _ (before mid : List (ℕ × NodeValue)) (id : ℕ) (old : NodeValue)
           let fit = families.each other node was.1 in
           record {
             older = fit.older;
-            there = λ higher h. set_still mid after above new higher set
+            there = λ higher h. still_there mid after above new higher (set.at higher)
                 (parent_stays other higher node was.1 h);
             counted = omega (
               arith,
@@ -250,19 +233,20 @@ module _ (before mid : List (ℕ × NodeValue)) (id : ℕ) (old : NodeValue)
       child_goes = (
         record {
           rising = set.rising;
-          each = λ other node has. ⊎_elim
-              (λ here. subst (λ (n : NodeValue). IsInFamily after other n) here.1
-              (subst (λ n. IsInFamily after n new) here.0 fit_parent))
-              (λ apart. fit_other other node apart.0 apart.1)
-              (set_from mid after above new other node set has);
+          each = λ other node has.
+              elim (found_new mid after above new other node (set.at other) has) [
+                | inl here ↦ rw (← here.0, ← here.1) fit_parent
+                | inr apart ↦ fit_other other node apart.0 apart.1
+              ];
         },
-        λ other node has dies hole. ⊎_elim
-            (λ here. absurd (hole (ap (λ (n : ℕ). Some n) here.0)))
-            (λ apart.
-            let was = gone_from before mid id old other node gone apart.1 in
-            needed other node was.1 dies
-            (λ same. was.0 (ap (λ (o : Option ℕ). unwrap_or o 0) same)))
-            (set_from mid after above new other node set has),
+        λ other node has dies hole.
+            elim (found_new mid after above new other node (set.at other) has) [
+              | inl here ↦ absurd (hole (ap (λ (n : ℕ). Some n) here.0))
+              | inr apart ↦
+                  let was = gone_from before mid id old other node gone apart.1 in
+                  needed other node was.1 dies
+                  (λ same. was.0 (ap (λ (o : Option ℕ). unwrap_or o 0) same))
+            ],
       )
 
 -- ---- fewer nodes
@@ -290,17 +274,10 @@ fewer_again before mid after one two = record {
         (filter (λ (link : Link). one.left link.id) links)
         ≡ filter (λ (link : Link). one.left link.id && two.left link.id) links
     both [] = refl
-    both (link ∷ links) = (elim (one.left link.id) as
-        (λ b. filter (λ (link : Link). two.left link.id)
-        (cond b (link ∷ filter (λ (link : Link). one.left link.id) links)
-        (filter (λ (link : Link). one.left link.id) links))
-        ≡ cond (b && two.left link.id)
-        (link ∷ filter (λ (link : Link). one.left link.id && two.left link.id) links)
-        (filter (λ (link : Link). one.left link.id && two.left link.id) links)) [
-          | true ↦ ap (λ (others : List Link). cond (two.left link.id) (link ∷ others) others)
-              (both links)
-          | false ↦ both links
-        ])
+    both (link ∷ links) = elim (cases_Bool (one.left link.id)) [
+      | inl stays ↦ rw (stays, both links)
+      | inr goes ↦ rw goes (both links)
+    ]
 
 -- one fewer
 pub fewer_gone : (before after : List (ℕ × NodeValue)) (id : ℕ) (old : NodeValue) → Rises before
