@@ -1,37 +1,26 @@
 -- After a death: nodes go one after another, up the line, as far as they are there in vain.
-use Rattle.std.proofs.Common.{◌≡◌, ⊎_elim, ◌∙◌, refl, sym, ap, subst, ℕ, ◌-◌, ◌<◌, ◌≤◌, ◌||◌, suc, Bool, true, false, cond, ltb, ltb-true, ltb-false, List, [], ◌∷◌, Option, Some, None, nat_cmp, arith}
+use Rattle.std.proofs.Common.{◌≡◌, inl, inr, ⊎_elim, ◌∙◌, refl, sym, ap, subst, ℕ, ◌-◌, ◌<◌, ◌≤◌, suc, true, false, cond, ltb, ltb-true, ltb-false, List, [], ◌∷◌, Option, Some, None, nat_cmp, arith}
 use Rattle.std.specs.Prelude.{Contains, IfSome, IsSome, nat_eq}
 use Rattle.std.specs.BTreeMap.{insert_entry, is_at}
 use Rattle.std.specs.Map.{lookup, remove_entry, set_value}
 use Rattle.std.specs.Option.{option_map_or, unwrap_or}
-use Rattle.std.proofs.lemmas.Bool.{cases_Bool, cond-true, cond-false, or_parts}
+use Rattle.std.proofs.lemmas.Bool.{cases_Bool, or_parts}
 use Rattle.lineage_log.specs.Nodes.{NodeValue, AreFamilies, AreFewer, AreNeededBut, AreNodes, IsSettled, id_order, is_needed, living_ids_of, node_at}
 use Rattle.lineage_log.proofs.NodeLemmas.{Rises, by_key, some_of}
 use Rattle.lineage_log.proofs.OrderLemmas.{insert_is_set, order_finds, order_gone, order_put, order_rises}
 use Rattle.lineage_log.proofs.LivingLemmas.{lives_there}
 use Rattle.lineage_log.proofs.TreeLemmas.{IsGone, fewer_again, fewer_gone, fewer_same, founder_goes, gone_is, is_there, lets_go, one_node, parent_counts, parent_stays, set_is}
-use Rattle.lineage_log.proofs.KeptLemmas.{IsLaid, laid}
+use Rattle.lineage_log.proofs.KeptLemmas.{IsLaid, laid, parent_lower}
 
 -- where a node goes it doesn't matter what it was
 remove_once_set : (nodes : List (ℕ × NodeValue)) (id : ℕ) (node : NodeValue)
     → remove_entry (is_at (nat_cmp id)) (set_value (is_at (nat_cmp id)) nodes node)
     ≡ remove_entry (is_at (nat_cmp id)) nodes
 remove_once_set [] id node = refl
-remove_once_set (e ∷ es) id node =
-    by (remove_once_set es id node) (is_at (nat_cmp id) e.0) refl where
-      -- whether it is the first or not
-      by : remove_entry (is_at (nat_cmp id)) (set_value (is_at (nat_cmp id)) es node)
-          ≡ remove_entry (is_at (nat_cmp id)) es → (b : Bool) → is_at (nat_cmp id) e.0 ≡ b
-          → remove_entry (is_at (nat_cmp id))
-          (cond b ((e.0, node) ∷ es) (e ∷ set_value (is_at (nat_cmp id)) es node))
-          ≡ cond b es (e ∷ remove_entry (is_at (nat_cmp id)) es)
-      by behind true here =
-          cond-true (is_at (nat_cmp id) e.0) es
-          ((e.0, node) ∷ remove_entry (is_at (nat_cmp id)) es) here
-      by behind false apart =
-          cond-false (is_at (nat_cmp id) e.0) (set_value (is_at (nat_cmp id)) es node)
-          (e ∷ remove_entry (is_at (nat_cmp id)) (set_value (is_at (nat_cmp id)) es node)) apart
-          ∙ ap (λ (rest : List (ℕ × NodeValue)). e ∷ rest) behind
+remove_once_set (e ∷ es) id node = elim (by_key id e.0) [
+  | inl here ↦ rw here.1 (rw here.1)
+  | inr apart ↦ rw apart.1 (rw (apart.1, remove_once_set es id node))
+]
 
 -- ---- one node more goes, or none
 
@@ -50,20 +39,12 @@ settles : (before after : List (ℕ × NodeValue)) (id : ℕ) (node : NodeValue)
     → Settles (id_order before) (id_order after) id node next
 settles before after id node next settled = record {
   rising = order_rises after;
-  entries = ⊎_elim
-      (λ (wanted : is_needed node ≡ true). order_put before after id node
-      (λ other. settled.found other
-      ∙ ap (λ (o : Option NodeValue). cond (nat_eq id other) o (lookup (nat_eq other) before))
-      (cond-true (is_needed node) (Some node) None wanted))
-      ∙ sym (cond-true (is_needed node) (insert_entry nat_cmp (id_order before) id node)
-      (remove_entry (is_at (nat_cmp id)) (id_order before)) wanted))
-      (λ (vain : is_needed node ≡ false). order_gone before after id
-      (λ other. settled.found other
-      ∙ ap (λ (o : Option NodeValue). cond (nat_eq id other) o (lookup (nat_eq other) before))
-      (cond-false (is_needed node) (Some node) None vain))
-      ∙ sym (cond-false (is_needed node) (insert_entry nat_cmp (id_order before) id node)
-      (remove_entry (is_at (nat_cmp id)) (id_order before)) vain))
-      (cases_Bool (is_needed node));
+  entries = elim (cases_Bool (is_needed node)) [
+    | inl wanted ↦ rw wanted (order_put before after id node
+        (λ other. settled.found other ∙ rw wanted))
+    | inr vain ↦ rw vain (order_gone before after id
+        (λ other. settled.found other ∙ rw vain))
+  ];
   above = settled.above;
 }
 
@@ -103,35 +84,31 @@ module _ (start before mid after : List (ℕ × NodeValue)) (id : ℕ) (old new 
     (fewer : AreFewer start mid) (settled : Settles before after id new next) where
   -- what stands there once it was changed
   new_at : node_at mid id ≡ Some new
-  new_at = ⊎_elim
-      (λ here. (set_is before mid id old new rising is same set).at id
-      ∙ cond-true (is_at (nat_cmp id) id) (Some new) (node_at before id) here.1)
-      (λ apart. absurd (apart.0 refl))
-      (by_key id id)
+  new_at = elim (by_key id id) [
+    | inl here ↦ rw here.1 at ((set_is before mid id old new rising is same set).at id)
+    | inr apart ↦ absurd (apart.0 refl)
+  ]
 
   -- it is needed and stays
   stays : is_needed new ≡ true → Go start after next
   stays wanted =
       let e : mid ≡ after = set
       ∙ sym (insert_is_set before id new rising (is_there (node_at before id) old is))
-      ∙ sym (cond-true (is_needed new) (insert_entry nat_cmp before id new)
-      (remove_entry (is_at (nat_cmp id)) before) wanted) ∙ sym settled.entries in
-      let none : None ≡ next =
-      sym (cond-true (is_needed new) None new.parent wanted) ∙ sym settled.above in
+      ∙ sym (rw wanted at settled.entries) in
+      let none : None ≡ next = sym (rw wanted at settled.above) in
       let all : Go start mid None = record {
         rising = families.rising;
         there = tt;
         counts = tt;
         families = families;
-        needed = λ other node has dies hole. ⊎_elim
-            (λ here.
-            let one : node ≡ new = one_node (node_at mid id) node new
-            (subst (λ n. node_at mid n ≡ Some node) (sym here.0) has) new_at in
-            ltb-true 0 node.children (sym (ap (λ b. b || ltb 0 node.children) dies)
-            ∙ ap is_needed one ∙ wanted))
-            (λ apart. needed other node has dies
-            (λ it. apart.0 (ap (λ (o : Option ℕ). unwrap_or o 0) it)))
-            (by_key id other);
+        needed = λ other node has dies hole. elim (by_key id other) [
+          | inl here ↦
+              let one : node ≡ new = one_node (node_at mid id) node new
+              (subst (λ n. node_at mid n ≡ Some node) (sym here.0) has) new_at in
+              ltb-true 0 node.children (rw dies at (ap is_needed one ∙ wanted))
+          | inr apart ↦ needed other node has dies
+              (λ it. apart.0 (ap (λ (o : Option ℕ). unwrap_or o 0) it))
+        ];
         fewer = fewer;
       } in
       subst (λ o. Go start after o) none (subst (λ nodes. Go start nodes None) e all)
@@ -140,11 +117,10 @@ module _ (start before mid after : List (ℕ × NodeValue)) (id : ℕ) (old new 
   goes : is_needed new ≡ false → Go start after next
   goes vain = subst (λ o. Go start after o) (sym above) (by new.parent refl) where
     above : next ≡ new.parent
-    above = settled.above ∙ cond-false (is_needed new) None new.parent vain
+    above = rw vain at settled.above
 
     removed : after ≡ remove_entry (is_at (nat_cmp id)) mid
-    removed = settled.entries ∙ cond-false (is_needed new) (insert_entry nat_cmp before id new)
-        (remove_entry (is_at (nat_cmp id)) before) vain
+    removed = (rw vain at settled.entries)
         ∙ sym (ap (remove_entry (is_at (nat_cmp id))) set ∙ remove_once_set before id new)
 
     dead : new.lives ≡ false
@@ -188,18 +164,11 @@ module _ (start before mid after : List (ℕ × NodeValue)) (id : ℕ) (old new 
 
   -- who is next has a lower id
   go_up : option_map_or suc next 0 < suc id
-  go_up = by next refl where
-    -- whoever is next
-    by : (o : Option ℕ) → next ≡ o → option_map_or suc o 0 < suc id
-    by None e = omega arith
-    by (Some above) e =
-        let child : new.parent ≡ Some above = ⊎_elim
-        (λ (wanted : is_needed new ≡ true). absurd (let none : None ≡ Some above =
-        sym (settled.above ∙ cond-true (is_needed new) None new.parent wanted) ∙ e in cc))
-        (λ (vain : is_needed new ≡ false).
-        sym (settled.above ∙ cond-false (is_needed new) None new.parent vain) ∙ e)
-        (cases_Bool (is_needed new)) in
-        omega (arith, (families.each id new new_at).older above child)
+  go_up = elim (cases_Bool (is_needed new)) [
+    | inl wanted ↦ rw (rw wanted at settled.above) (omega arith)
+    | inr vain ↦ rw (rw vain at settled.above)
+        (parent_lower mid id new new.parent families new_at refl)
+  ]
 
 -- ---- from the first to the last
 
