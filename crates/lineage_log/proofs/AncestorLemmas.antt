@@ -23,6 +23,11 @@ stands parent_of id other = list_any (λ ancestor. eqb ancestor id) (line parent
 abbrev pub kept : (ℕ → Option ℕ) → List ℕ → ℕ → Bool
 kept parent_of living id = list_any (stands parent_of id) living
 
+-- nothing is there, or something
+pub cases_Option : {A : Type 0} (o : Option A) → (o ≡ None) ⊎ ((a : A) × (o ≡ Some a))
+cases_Option None = inl refl
+cases_Option (Some a) = inr (a, refl)
+
 -- what a test finds in a list
 pub found_any : (p : ℕ → Bool) (ids : List ℕ) → list_any p ids ≡ true → (id : ℕ) × Contains ids id
     × (p id ≡ true)
@@ -38,42 +43,34 @@ any_found p ids id is passes = list_any_at p ids is.0 id is.1 (ap p is.2 ∙ pas
 module _ (parent_of : ℕ → Option ℕ) (older : Older parent_of) where
   -- the least id has no parent
   no_parent : (id : ℕ) → id ≤ 0 → parent_of id ≡ None
-  no_parent id least = (elim (parent_of id) as (λ o. parent_of id ≡ o → parent_of id ≡ None) [
-    | None ↦ λ is. is
-    | Some above ↦ λ is. absurd (omega (arith, older id above is))
-  ]) refl
+  no_parent id least = elim (cases_Option (parent_of id)) [
+    | inl none ↦ none
+    | inr some ↦ absurd (omega (arith, older id some.0 some.1))
+  ]
 
   -- more generations than the id has change nothing
   pub enough : (n m id : ℕ) → id ≤ n → id ≤ m
       → ancestors_within n parent_of id ≡ ancestors_within m parent_of id
   enough zero zero id a b = refl
-  enough zero (suc m) id a b =
-      ap (λ (o : Option ℕ). id ∷ option_map_or (ancestors_within m parent_of) o [])
-      (sym (no_parent id a))
-  enough (suc n) zero id a b =
-      ap (λ (o : Option ℕ). id ∷ option_map_or (ancestors_within n parent_of) o []) (no_parent id b)
-  enough (suc n) (suc m) id a b =
-      ap (λ (xs : List ℕ). id ∷ xs)
-      ((elim (parent_of id) as
-      (λ o. parent_of id ≡ o → option_map_or (ancestors_within n parent_of) o []
-      ≡ option_map_or (ancestors_within m parent_of) o []) [
-        | None ↦ λ is. refl
-        | Some above ↦ λ is. enough n m above (omega (arith, older id above is))
-            (omega (arith, older id above is))
-      ]) refl)
+  enough zero (suc m) id a b = rw (no_parent id a)
+  enough (suc n) zero id a b = rw (no_parent id b)
+  enough (suc n) (suc m) id a b = elim (cases_Option (parent_of id)) [
+    | inl none ↦ rw none
+    | inr some ↦
+        let low = older id some.0 some.1 in
+        rw (some.1, enough n m some.0 (omega (arith, low)) (omega (arith, low)))
+  ]
 
   -- the line of an id is itself, and the line of its parent
   pub line_is : (id : ℕ) → line parent_of id ≡ id ∷ option_map_or (line parent_of) (parent_of id) []
-  line_is zero = ap (λ (o : Option ℕ). zero ∷ option_map_or (line parent_of) o [])
-      (sym (no_parent zero (omega arith)))
-  line_is (suc n) = ap (λ (xs : List ℕ). suc n ∷ xs)
-      ((elim (parent_of (suc n)) as
-      (λ o. parent_of (suc n) ≡ o
-      → option_map_or (ancestors_within n parent_of) o [] ≡ option_map_or (line parent_of) o []) [
-        | None ↦ λ is. refl
-        | Some above ↦ λ is. enough n above above (omega (arith, older (suc n) above is))
-            (omega arith)
-      ]) refl)
+  line_is zero = rw (no_parent zero (omega arith))
+  line_is (suc n) = elim (cases_Option (parent_of (suc n))) [
+    | inl none ↦ rw none
+    | inr some ↦ rw (
+      some.1,
+      enough n some.0 some.0 (omega (arith, older (suc n) some.0 some.1)) (omega arith),
+    )
+  ]
 
   -- an id stands in the line of another where it is that one, or stands in the line of its parent
   stands_is : (id other : ℕ)
@@ -99,16 +96,14 @@ module _ (parent_of : ℕ → Option ℕ) (older : Older parent_of) where
   stands_cases : (id other : ℕ) → stands parent_of id other ≡ true
       → (other ≡ id) ⊎ ((above : ℕ) × (parent_of other ≡ Some above)
       × (stands parent_of id above ≡ true))
-  stands_cases id other h = ⊎_elim
-      (λ here. inl (eqb-true other id here))
-      (λ behind. inr (by (parent_of other) refl behind))
-      (or_cases (eqb other id) _ (sym (stands_is id other) ∙ h))
-    where
-      by : (o : Option ℕ) → parent_of other ≡ o
-          → list_any (λ ancestor. eqb ancestor id) (option_map_or (line parent_of) o []) ≡ true
-          → (above : ℕ) × (parent_of other ≡ Some above) × (stands parent_of id above ≡ true)
-      by None is behind = absurd cc
-      by (Some above) is behind = (above, is, behind)
+  stands_cases id other h =
+      elim (or_cases (eqb other id) _ (sym (stands_is id other) ∙ h)) [
+        | inl here ↦ inl (eqb-true other id here)
+        | inr behind ↦ elim (cases_Option (parent_of other)) [
+          | inl none ↦ absurd (let nobody = rw none at behind in cc)
+          | inr some ↦ inr (some.0, some.1, rw some.1 at behind)
+        ]
+      ]
 
   -- with an id its parent stands in a line
   stands_parent_within : (n id above other : ℕ) → other < n → parent_of id ≡ Some above
@@ -156,15 +151,10 @@ module _ (before after : ℕ → Option ℕ) (has : ℕ → Bool) (older : Older
   pub same_ancestors : (n id : ℕ) → has id ≡ true
       → ancestors_within n after id ≡ ancestors_within n before id
   same_ancestors zero id is = refl
-  same_ancestors (suc n) id is =
-      ap (λ (o : Option ℕ). id ∷ option_map_or (ancestors_within n after) o []) (left.same id is)
-      ∙ ap (λ (xs : List ℕ). id ∷ xs)
-      ((elim (before id) as (λ o. before id ≡ o
-      → option_map_or (ancestors_within n after) o []
-      ≡ option_map_or (ancestors_within n before) o []) [
-        | None ↦ λ e. refl
-        | Some above ↦ λ e. same_ancestors n above (left.closed id above is e)
-      ]) refl)
+  same_ancestors (suc n) id is = rw (left.same id is) (elim (cases_Option (before id)) [
+    | inl none ↦ rw none
+    | inr some ↦ rw (some.1, same_ancestors n some.0 (left.closed id some.0 is some.1))
+  ])
 
   -- who is kept by some of them is one of them
   pub kept_left : (living : List ℕ) (id : ℕ) → ((one : ℕ) → Contains living one → has one ≡ true)

@@ -1,18 +1,25 @@
 -- What is kept of all organisms ever, as some come and some die.
-use Rattle.std.proofs.Common.{◌≡◌, ◌↔◌, ⊎_elim, ◌∙◌, refl, sym, ap, subst, true≢false, ℕ, zero, suc, ◌<◌, Bool, true, false, cond, ◌||◌, eqb, List, [], ◌∷◌, ◌++◌, reverse, get_or, Option, Some, None, eq-eqb, ne_eqb, eqb-true, arith}
+use Rattle.std.proofs.Common.{◌≡◌, ◌↔◌, inl, inr, ◌∙◌, refl, sym, ap, subst, true≢false, ℕ, zero, suc, ◌<◌, Bool, true, false, cond, List, [], ◌∷◌, ◌++◌, reverse, get_or, Some, None, eq-eqb, ne_eqb, arith}
 use Rattle.std.specs.Prelude.{All, Contains, filter, filter_map, option_and_then}
-use Rattle.std.specs.List.{cons_option, list_any}
 use Rattle.std.specs.Option.{option_map_or}
-use Rattle.std.proofs.lemmas.Bool.{cases_Bool, cases_eq, cond-true, cond-false, false_from_ne_true, or_cases}
+use Rattle.std.proofs.lemmas.Bool.{cases_Bool, cases_eq, cond-true, false_from_ne_true}
 use Rattle.std.proofs.lemmas.List.{reverse-append}
 use Rattle.std.proofs.lemmas.List.Elements.{filter-append}
 use Rattle.std.proofs.lemmas.List.Folds.{list_any-append}
 use Rattle.lineage_log.specs.Links.{Link}
 use Rattle.lineage_log.specs.Ancestry.{AreOlder, ancestor_ids_of, ancestors_within, is_in_line, is_kept, kept_of, line_of_descent, link_of, parent_of}
-use Rattle.lineage_log.proofs.AncestorLemmas.{AreLeft, any_found, found_any, kept_parent, kept_living, line_is, same_ancestors}
+use Rattle.lineage_log.proofs.AncestorLemmas.{AreLeft, any_found, cases_Option, found_any, kept_parent, kept_living, line_is, same_ancestors}
 use Rattle.lineage_log.proofs.KeptLemmas.{filter_alike, find_left}
 
 -- ---- fewer live
+
+-- who is kept by some is kept by more
+still_kept : (everyone : List Link) (living others : List ℕ) (id : ℕ)
+    → ((id : ℕ) → Contains living id → Contains others id) → is_kept everyone living id ≡ true
+    → is_kept everyone others id ≡ true
+still_kept everyone living others id among h =
+    let one = found_any (is_in_line everyone id) living h in
+    any_found (is_in_line everyone id) others one.0 (among one.0 one.1) one.2
 
 module _ (everyone : List Link) (living : List ℕ) (older : AreOlder everyone) where
   -- the ids that are kept
@@ -44,79 +51,47 @@ module _ (everyone : List Link) (living : List ℕ) (older : AreOlder everyone) 
       → ((one : ℕ) → Contains left one → is_kept everyone living one ≡ true)
       → is_kept (kept_of everyone living) left id ≡ is_kept everyone left id
   any_kept id [] each = refl
-  any_kept id (one ∷ left) each =
-      (λ i. list_any (λ ancestor. eqb ancestor id)
-      (ancestors_kept one (each one (0, omega arith, refl)) i)
-      || is_kept (kept_of everyone living) left id)
-      ∙ ap (λ b. is_in_line everyone id one || b)
-      (any_kept id left (λ other is. each other (suc is.0, omega (arith, is.1), is.2)))
+  any_kept id (one ∷ left) each = rw (
+    ancestors_kept one (each one (0, omega arith, refl)),
+    any_kept id left (λ other is. each other (suc is.0, omega (arith, is.1), is.2)),
+  )
 
   -- once fewer live, what is kept is what is kept of those that were kept
   pub kept_fewer : (left : List ℕ) → ((id : ℕ) → Contains left id → Contains living id)
       → kept_of (kept_of everyone living) left ≡ kept_of everyone left
   unfolding kept_of
   kept_fewer left fewer =
-      filter_alike (λ (link : Link).
-      is_kept (filter (λ (link : Link). is_kept everyone living link.id) everyone) left link.id)
-      (λ (link : Link). is_kept everyone left link.id)
-      (filter (λ (link : Link). is_kept everyone living link.id) everyone)
-      (λ k d low. any_kept (get_or
-      (filter (λ (link : Link). is_kept everyone living link.id) everyone) k d).id left lives)
+      (λ i. filter (λ (link : Link). any_kept link.id left lives i) (kept_of everyone living))
       ∙ both everyone
     where
       lives : (one : ℕ) → Contains left one → is_kept everyone living one ≡ true
       lives one is = kept_living (parent_of everyone) older living one (fewer one is)
-
-      still : (id : ℕ) → is_kept everyone left id ≡ true → is_kept everyone living id ≡ true
-      still id h =
-          let one = found_any (is_in_line everyone id) left h in
-          any_found (is_in_line everyone id) living one.0 (fewer one.0 one.1) one.2
 
       both : (links : List Link)
           → filter (λ (link : Link). is_kept everyone left link.id)
           (filter (λ (link : Link). is_kept everyone living link.id) links)
           ≡ filter (λ (link : Link). is_kept everyone left link.id) links
       both [] = refl
-      both (link ∷ links) = by (is_kept everyone living link.id) refl (both links) where
-        by : (b : Bool) → is_kept everyone living link.id ≡ b
-            → filter (λ (link : Link). is_kept everyone left link.id)
-            (filter (λ (link : Link). is_kept everyone living link.id) links)
-            ≡ filter (λ (link : Link). is_kept everyone left link.id) links
-            → filter (λ (link : Link). is_kept everyone left link.id)
-            (cond b (link ∷ filter (λ (link : Link). is_kept everyone living link.id) links)
-            (filter (λ (link : Link). is_kept everyone living link.id) links))
-            ≡ cond (is_kept everyone left link.id)
-            (link ∷ filter (λ (link : Link). is_kept everyone left link.id) links)
-            (filter (λ (link : Link). is_kept everyone left link.id) links)
-        by true e rest = ap (λ (others : List Link). cond (is_kept everyone left link.id)
-            (link ∷ others) others) rest
-        by false e rest = rest ∙ sym
-            (cond-false (is_kept everyone left link.id)
-            (link ∷ filter (λ (link : Link). is_kept everyone left link.id) links)
-            (filter (λ (link : Link). is_kept everyone left link.id) links)
-            (false_from_ne_true (is_kept everyone left link.id)
-            (λ h. true≢false (sym (still link.id h) ∙ e))))
+      both (link ∷ links) = elim (cases_Bool (is_kept everyone living link.id)) [
+        | inl stays ↦ rw (stays, both links)
+        | inr goes ↦
+            let gone = false_from_ne_true (is_kept everyone left link.id)
+            (λ h. true≢false (sym (still_kept everyone left living link.id fewer h) ∙ goes)) in
+            rw (goes, gone) (both links)
+      ]
 
   -- the links of an id's ancestors stay
   links_within : (n id : ℕ) → is_kept everyone living id ≡ true
       → filter_map (link_of (kept_of everyone living)) (ancestors_within n (parent_of everyone) id)
       ≡ filter_map (link_of everyone) (ancestors_within n (parent_of everyone) id)
-  links_within zero id is = ap (λ (found : Option Link). cons_option found []) (link_kept id is)
-  links_within (suc n) id is =
-      (λ i. cons_option (link_kept id is i)
-      (filter_map (link_of (kept_of everyone living))
-      (option_map_or (ancestors_within n (parent_of everyone)) (parent_of everyone id) [])))
-      ∙ ap (cons_option (link_of everyone id))
-      ((elim (parent_of everyone id) as
-      (λ o. parent_of everyone id ≡ o
-      → filter_map (link_of (kept_of everyone living))
-      (option_map_or (ancestors_within n (parent_of everyone)) o [])
-      ≡ filter_map (link_of everyone)
-      (option_map_or (ancestors_within n (parent_of everyone)) o [])) [
-        | None ↦ λ e. refl
-        | Some above ↦ λ e. links_within n above
-            (kept_parent (parent_of everyone) older living id above e is)
-      ]) refl)
+  links_within zero id is = rw (link_kept id is)
+  links_within (suc n) id is = rw (link_kept id is) (elim (cases_Option (parent_of everyone id)) [
+    | inl none ↦ rw none
+    | inr some ↦ rw (
+      some.1,
+      links_within n some.0 (kept_parent (parent_of everyone) older living id some.0 some.1 is),
+    )
+  ])
 
   -- the links of the living stay
   pub link_stays : (id : ℕ) → Contains living id
@@ -137,21 +112,17 @@ module _ (everyone : List Link) (living : List ℕ) (older : AreOlder everyone) 
 -- a link behind others, found by another id
 find_before : (links : List Link) (link : Link) (id : ℕ) → (link.id ≡ id → ⊥)
     → link_of (links ++ link ∷ []) id ≡ link_of links id
-find_before [] link id apart =
-    cond-false (eqb link.id id) (Some link) None (ne_eqb link.id id apart)
-find_before (first ∷ links) link id apart =
-    ap (cond (eqb first.id id) (Some first)) (find_before links link id apart)
+find_before [] link id apart = rw (ne_eqb link.id id apart)
+find_before (first ∷ links) link id apart = rw (find_before links link id apart)
 
 -- and by its own
 find_newcomer : (links : List Link) (link : Link) → All (λ (other : Link). other.id < link.id) links
     → link_of (links ++ link ∷ []) link.id ≡ Some link
-find_newcomer [] link newest =
-    cond-true (eqb link.id link.id) (Some link) None (eq-eqb link.id link.id refl)
+find_newcomer [] link newest = rw (eq-eqb link.id link.id refl)
 find_newcomer (first ∷ links) link newest =
     let low : first.id < link.id = newest 0 first (omega arith) in
-    cond-false (eqb first.id link.id) (Some first) (link_of (links ++ link ∷ []) link.id)
-    (ne_eqb first.id link.id (λ same. omega (arith, low, same)))
-    ∙ find_newcomer links link (λ k d within. newest (suc k) d (omega (arith, within)))
+    rw (ne_eqb first.id link.id (λ same. omega (arith, low, same)))
+    (find_newcomer links link (λ k d within. newest (suc k) d (omega (arith, within))))
 
 module _ (everyone : List Link) (living : List ℕ) (link : Link) (older : AreOlder everyone)
     (newest : All (λ (other : Link). other.id < link.id) everyone)
@@ -171,16 +142,13 @@ module _ (everyone : List Link) (living : List ℕ) (link : Link) (older : AreOl
       → ancestors_within n (parent_of more) id ≡ ancestors_within n (parent_of everyone) id
   ancestors_before zero id low = refl
   ancestors_before (suc n) id low =
-      ap (λ (o : Option ℕ). id ∷ option_map_or (ancestors_within n (parent_of more)) o [])
-      (parent_before id low)
-      ∙ ap (λ (ids : List ℕ). id ∷ ids)
-      ((elim (parent_of everyone id) as
-      (λ o. parent_of everyone id ≡ o
-      → option_map_or (ancestors_within n (parent_of more)) o []
-      ≡ option_map_or (ancestors_within n (parent_of everyone)) o []) [
-        | None ↦ λ e. refl
-        | Some above ↦ λ e. ancestors_before n above (omega (arith, low, older id above e))
-      ]) refl)
+      rw (parent_before id low) (elim (cases_Option (parent_of everyone id)) [
+        | inl none ↦ rw none
+        | inr some ↦ rw (
+          some.1,
+          ancestors_before n some.0 (omega (arith, low, older id some.0 some.1)),
+        )
+      ])
 
   -- the living have lower ids
   contains_below : (id : ℕ) → Contains living id → id < link.id
@@ -188,68 +156,53 @@ module _ (everyone : List Link) (living : List ℕ) (link : Link) (older : AreOl
 
   -- a newcomer is older than nobody
   pub older_more : AreOlder more
-  older_more id above is = ⊎_elim
-      (λ (same : link.id ≡ id).
-      let here : link.parent ≡ Some above =
-      sym (ap (option_and_then (λ (l : Link). l.parent))
-      (ap (link_of more) (sym same) ∙ find_newcomer everyone link newest)) ∙ is in
-      omega (arith, same, contains_below above (parent above here)))
-      (λ (apart : link.id ≡ id → ⊥).
-      older id above (sym (ap (option_and_then (λ (l : Link). l.parent))
-      (find_before everyone link id apart)) ∙ is))
-      (cases_eq link.id id)
+  older_more id above is = elim (cases_eq link.id id) [
+    | inl same ↦
+        let here : link.parent ≡ Some above =
+        rw (← same, find_newcomer everyone link newest) at is in
+        omega (arith, same, contains_below above (parent above here))
+    | inr apart ↦ older id above (rw (find_before everyone link id apart) at is)
+  ]
 
   -- who is tested before it is tested as before
   any_before : (id : ℕ) (ids : List ℕ) → All (λ one. one < link.id) ids
       → is_kept more ids id ≡ is_kept everyone ids id
   any_before id [] low = refl
-  any_before id (one ∷ ids) low =
-      (λ i. list_any (λ ancestor. eqb ancestor id)
-      (ancestors_before one one (low 0 one (omega arith)) i) || is_kept more ids id)
-      ∙ ap (λ b. is_in_line everyone id one || b)
-      (any_before id ids (λ k d within. low (suc k) d (omega (arith, within))))
+  any_before id (one ∷ ids) low = rw (
+    ancestors_before one one (low 0 one (omega arith)),
+    any_before id ids (λ k d within. low (suc k) d (omega (arith, within))),
+  )
 
   -- who is in its line but itself is kept
   in_line : (id : ℕ) → id < link.id → is_in_line more id link.id ≡ true
       → is_kept everyone living id ≡ true
   in_line id low h =
-      let line = line_is (parent_of more) older_more link.id
-      ∙ ap (λ (o : Option ℕ). link.id
-      ∷ option_map_or (λ above. ancestors_within above (parent_of more) above) o [])
-      (ap (option_and_then (λ (l : Link). l.parent)) (find_newcomer everyone link newest)) in
-      ⊎_elim
-      (λ (same : eqb link.id id ≡ true). absurd (omega (arith, low, eqb-true link.id id same)))
-      (λ (behind : list_any (λ ancestor. eqb ancestor id)
-      (option_map_or (λ above. ancestors_within above (parent_of more) above) link.parent [])
-      ≡ true). by link.parent refl behind)
-      (or_cases (eqb link.id id)
-      (list_any (λ ancestor. eqb ancestor id)
-      (option_map_or (λ above. ancestors_within above (parent_of more) above) link.parent []))
-      (sym (ap (list_any (λ ancestor. eqb ancestor id)) line) ∙ h))
-    where
-      by : (o : Option ℕ) → link.parent ≡ o
-          → list_any (λ ancestor. eqb ancestor id)
-          (option_map_or (λ above. ancestors_within above (parent_of more) above) o []) ≡ true
-          → is_kept everyone living id ≡ true
-      by None e h = absurd cc
-      by (Some above) e h =
-          let lives = parent above e in
-          any_found (is_in_line everyone id) living above lives
-          (sym (ap (list_any (λ ancestor. eqb ancestor id))
-          (ancestors_before above above (contains_below above lives))) ∙ h)
+      let behind = rw (
+        line_is (parent_of more) older_more link.id,
+        find_newcomer everyone link newest,
+        ne_eqb link.id id (λ same. omega (arith, low, same)),
+      ) at h in
+      elim (cases_Option link.parent) [
+        | inl none ↦ absurd (let nobody = rw none at behind in cc)
+        | inr some ↦
+            let lives = parent some.0 some.1 in
+            any_found (is_in_line everyone id) living some.0 lives
+            (rw (some.1, ancestors_before some.0 some.0 (contains_below some.0 lives)) at behind)
+      ]
 
   -- who was kept is kept, and nobody else of those before it
   kept_before : (id : ℕ) → id < link.id
       → is_kept more (living ++ link.id ∷ []) id ≡ is_kept everyone living id
-  kept_before id low = list_any-append (is_in_line more id) living (link.id ∷ [])
-      ∙ ap (λ b. b || (is_in_line more id link.id || false)) (any_before id living below)
-      ∙ by (is_kept everyone living id) refl (is_in_line more id link.id) refl where
-        by : (b : Bool) → is_kept everyone living id ≡ b → (t : Bool)
-            → is_in_line more id link.id ≡ t
-            → (b || (t || false)) ≡ b
-        by true e t f = refl
-        by false e true f = absurd (true≢false (sym (in_line id low f) ∙ e))
-        by false e false f = refl
+  kept_before id low =
+      rw (list_any-append (is_in_line more id) living (link.id ∷ []), any_before id living below)
+      (elim (cases_Bool (is_kept everyone living id)) [
+        | inl kept ↦ rw kept
+        | inr gone ↦ rw (
+          gone,
+          false_from_ne_true (is_in_line more id link.id)
+              (λ h. true≢false (sym (in_line id low h) ∙ gone)),
+        )
+      ])
 
   -- the newcomer is kept
   kept_itself : is_kept more (living ++ link.id ∷ []) link.id ≡ true
@@ -278,33 +231,13 @@ pub line_step : (links : List Link) (id : ℕ) (link : Link) → AreOlder links
     ++ link ∷ []
 unfolding line_of_descent
 line_step links id link older is =
-    let parent : parent_of links id ≡ link.parent =
-    ap (option_and_then (λ (l : Link). l.parent)) is in
-    let line = line_is (parent_of links) older id
-    ∙ ap (λ (o : Option ℕ). id ∷ option_map_or (ancestor_ids_of links) o []) parent in
-    ap (λ ids. reverse (filter_map (link_of links) ids)) line
-    ∙ ap (λ (found : Option Link).
-    reverse (cons_option found
-    (filter_map (link_of links) (option_map_or (ancestor_ids_of links) link.parent [])))) is
-    ∙ reverse-append (link ∷ [])
-    (filter_map (link_of links) (option_map_or (ancestor_ids_of links) link.parent []))
-    ∙ ap (λ (front : List Link). front ++ link ∷ []) (by link.parent)
-  where
-    by : (o : Option ℕ) → reverse
-        (filter_map (link_of links) (option_map_or (ancestor_ids_of links) o []))
-        ≡ option_map_or (λ id. reverse (filter_map (link_of links) (ancestor_ids_of links id))) o []
-    by None = refl
-    by (Some above) = refl
+    rw (line_is (parent_of links) older id, is) (elim (cases_Option link.parent) [
+      | inl none ↦ rw none
+      | inr some ↦ rw some.1 (reverse-append (_ ∷ [])
+          (filter_map (link_of links) (ancestor_ids_of links some.0)))
+    ])
 
 -- ---- only who lives decides
-
--- who is kept by some is kept by more
-still_kept : (everyone : List Link) (living others : List ℕ) (id : ℕ)
-    → ((id : ℕ) → Contains living id → Contains others id) → is_kept everyone living id ≡ true
-    → is_kept everyone others id ≡ true
-still_kept everyone living others id among h =
-    let one = found_any (is_in_line everyone id) living h in
-    any_found (is_in_line everyone id) others one.0 (among one.0 one.1) one.2
 
 -- the same ids keep the same
 pub kept_same : (everyone : List Link) (living others : List ℕ)
@@ -312,16 +245,13 @@ pub kept_same : (everyone : List Link) (living others : List ℕ)
     → kept_of everyone living ≡ kept_of everyone others
 unfolding kept_of
 kept_same everyone living others same =
-    filter_alike (λ (link : Link). is_kept everyone living link.id)
-    (λ (link : Link). is_kept everyone others link.id) everyone
-    (λ k d low. alike (get_or everyone k d).id)
+    λ i. filter (λ (link : Link). alike link.id i) everyone
   where
     alike : (id : ℕ) → is_kept everyone living id ≡ is_kept everyone others id
-    alike id = ⊎_elim
-        (λ (yes : is_kept everyone living id ≡ true). yes
-        ∙ sym (still_kept everyone living others id (λ one lives. (same one).0 lives) yes))
-        (λ (no : is_kept everyone living id ≡ false). no
-        ∙ sym (false_from_ne_true (is_kept everyone others id)
-        (λ h. true≢false (sym (still_kept everyone others living id
-        (λ one lives. (same one).1 lives) h) ∙ no))))
-        (cases_Bool (is_kept everyone living id))
+    alike id = elim (cases_Bool (is_kept everyone living id)) [
+      | inl is ↦ is
+          ∙ sym (still_kept everyone living others id (λ one lives. (same one).0 lives) is)
+      | inr not ↦ not ∙ sym (false_from_ne_true (is_kept everyone others id)
+          (λ h. true≢false (sym (still_kept everyone others living id
+          (λ one lives. (same one).1 lives) h) ∙ not)))
+    ]
