@@ -1,7 +1,6 @@
 -- What a reader has kept of a log is who lives at its end.
 use Rattle.std.proofs.Common.{◌≡◌, ℕ, zero, suc, mul-le-mul, ◌+◌, ◌≤◌, Bool, true, false, List, [], ◌∷◌, ◌++◌, Option, Some, None, Result, Ok, Err, length, refl, sym, ap, subst, ◌∙◌, arith, inl, inr}
 use Rattle.std.specs.Prelude.{◌==◌, ◌&&◌, ◌*◌, if◌then◌else◌, nat_lt, slice_get, slice_set, unwrap_or, option_map, option_and_then, IsSome}
-use Rattle.std.specs.Result.{result_ok}
 use Rattle.std.proofs.lemmas.Bool.{and_parts, eqb-true}
 use Rattle.std.proofs.lemmas.List.{length-append, length-replicate, length-set}
 use Rattle.std.proofs.lemmas.Option.{slice_get-map}
@@ -51,8 +50,7 @@ holds_is (Some (Some a)) (Some b) is = ap (λ (n : ℕ). Some (Some n)) (eqb-tru
 -- a place that a line's test gives agrees, if its reader agrees where the test holds
 within_gives : (test : Bool) (r : Reader) (p : LogPlace) (s : Seen) → within_if test r ≡ Ok p
     → (test ≡ true → Agrees r s) → AgreesAt p s
-within_gives true r p s is good =
-    subst (λ (q : LogPlace). AgreesAt q s) (place_is (Within r) p is) (good refl)
+within_gives true r p s is good = rw (← place_is (Within r) p is) (good refl)
 within_gives false r p s is good = absurd cc
 
 -- there are no more than 65536 cells still once one is set
@@ -84,9 +82,7 @@ newcomer_kept r s genome agrees id letters is =
       | inl old ↦ get_before s.genomes (genome ∷ []) letters id (agrees.kept id letters old)
       | inr new ↦
           let one : genome ≡ letters = cc in
-          subst (λ (n : ℕ). slice_get (s.genomes ++ genome ∷ []) n ≡ Some letters)
-          (sym (new.0 ∙ agrees.as_many))
-          (get_last s.genomes genome ∙ ap (λ (l : List Letter). Some l) one)
+          rw (new.0 ∙ agrees.as_many, ← one) (get_last s.genomes genome)
     ]
 
 -- the two agree still once a newcomer with the next id stands in a cell
@@ -117,17 +113,6 @@ count_agrees r s agrees = record {
   few = agrees.few;
 }
 
--- the two agree still after a rate
-rate_agrees : (r : Reader) (s : Seen) → Agrees r s → Agrees (record r { stage = Happening }) s
-rate_agrees r s agrees =
-    record {
-      same = agrees.same;
-      as_many = agrees.as_many;
-      kept = agrees.kept;
-      tidy = agrees.tidy;
-      few = agrees.few;
-    }
-
 -- ---- a birth
 
 -- a genome that is found under an id is kept there
@@ -147,10 +132,7 @@ parent_is false found letters is = absurd cc
 born_is : (genomes : List (List Letter)) (parent : ℕ) (birth : BirthRecord)
     (letters child : List Letter) → slice_get genomes parent ≡ Some letters
     → child_of letters birth ≡ Ok child → born_in genomes parent birth ≡ child
-born_is genomes parent birth letters child there made =
-    ap (λ (o : Option (List Letter)).
-    unwrap_or (option_and_then (λ l. result_ok (child_of l birth)) o) []) there
-    ∙ ap (λ (c : Result (List Letter) ApplyStop). unwrap_or (result_ok c) []) made
+born_is genomes parent birth letters child there made = rw (there, made)
 
 -- the two agree still once the child of a parent that is seen has come
 child_agrees : (r : Reader) (s : Seen) (id parent cell : ℕ) (over : Option ℕ) (birth : BirthRecord)
@@ -160,15 +142,8 @@ child_agrees : (r : Reader) (s : Seen) (id parent cell : ℕ) (over : Option ℕ
     → holds (slice_get r.standing cell) over ≡ true
     → AgreesAt p (seen_on s (Birth id parent 0 cell over birth))
 child_agrees r s id parent cell over birth letters (Ok child) p made there is agrees next stood =
-    let after = newcomer_agrees r s Placing id cell over child (r.births + 1) agrees next stood in
-    let seen : Agrees (reader_with_newcomer r Placing cell over child (r.births + 1))
-    (seen_on s (Birth id parent 0 cell over birth)) =
-    subst (λ (g : List Letter). Agrees
-    (reader_with_newcomer r Placing cell over child (r.births + 1))
-    (record { standing = slice_set s.standing cell (Some id); genomes = s.genomes ++ g ∷ [] }))
-    (sym (born_is s.genomes parent birth letters child there made)) after in
-    subst (λ (q : LogPlace). AgreesAt q (seen_on s (Birth id parent 0 cell over birth)))
-    (place_is (Within (reader_with_newcomer r Placing cell over child (r.births + 1))) p is) seen
+    rw (← place_is _ p is, born_is s.genomes parent birth letters child there made)
+    (newcomer_agrees r s Placing id cell over child (r.births + 1) agrees next stood)
 child_agrees r s id parent cell over birth letters (Err stop) p made there is agrees next stood =
     absurd cc
 
@@ -203,8 +178,7 @@ birth_agrees false r s id parent cell over birth p is agrees tests = absurd cc
 end_agrees : (test : Bool) (r : Reader) (s : Seen) (p : LogPlace)
     → ◌≡◌ {A = Result LogPlace Reason} (if test then Ok (After r) else Err BadOrder) (Ok p)
     → Agrees r s → AgreesAt p s
-end_agrees true r s p is agrees =
-    subst (λ (q : LogPlace). AgreesAt q s) (place_is (After r) p is) agrees
+end_agrees true r s p is agrees = rw (← place_is (After r) p is) agrees
 end_agrees false r s p is agrees = absurd cc
 
 -- where three tests hold, the last does
@@ -249,7 +223,13 @@ line_agrees r s (Cleared id update cell) p agrees is =
     (last_test (r.version == 2) (update == r.due) stands t))
 line_agrees r s (Rate update name ppm) p agrees is =
     within_gives (may_happen r update) (record r { stage = Happening }) p s is
-    (λ t. rate_agrees r s agrees)
+    (λ t. record {
+      same = agrees.same;
+      as_many = agrees.as_many;
+      kept = agrees.kept;
+      tidy = agrees.tidy;
+      few = agrees.few;
+    })
 line_agrees r s (Count c) p agrees is =
     within_gives ((c.update == r.due) && (c.living == taken r.standing) && (c.births == r.births)
     && (c.deaths == length r.leaving)) (at_next_update r) p s is (λ t. count_agrees r s agrees)
