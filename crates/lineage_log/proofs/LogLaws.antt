@@ -41,11 +41,6 @@ pub went_on : (r : Result LogPlace Reason) (next : LogPlace → Result LogPlace 
 went_on (Ok p) next q e = (p, refl, e)
 went_on (Err reason) next q e = absurd cc
 
--- bytes may end after the last line
-at_end : (number : ℕ) (place : LogPlace) (r : Reader) → place ≡ After r
-    → log_end number place ≡ Ok []
-at_end number place r is = rw is refl
-
 -- two equal answers have one place
 pub place_is : (p q : LogPlace) → ◌≡◌ {A = Result LogPlace Reason} (Ok p) (Ok q) → p ≡ q
 place_is p q e = cc
@@ -54,25 +49,18 @@ place_is p q e = cc
 pub pieces_again : (spell : OneSpelling) (number : ℕ) (place : LogPlace) (lines : List Line)
     (r : Reader) → told_all place lines ≡ Ok (After r) → AllByRecursion HasForm lines
     → pieces_log number place (cut (lines_text lines)) ≡ Ok lines
-pieces_again spell number place [] r told fits =
-    at_end number place r (place_is place (After r) told)
+pieces_again spell number place [] r told fits = rw (place_is place (After r) told)
 pieces_again spell number place (line ∷ lines) r good fits =
     let rest = lines_text lines in
     let step = went_on (told place line) (λ p. told_all p lines) (After r) good in
     let some = cut_some rest in
-    let text : lines_text (line ∷ lines) ≡ row_text line ++ 10 ∷ rest =
-    append_assoc (row_text line) (10 ∷ []) rest in
     let parts : cut (lines_text (line ∷ lines)) ≡ row_text line ∷ some.0 ∷ some.1 =
-    ap cut text ∙ split_first 10 (row_text line) rest (spell.one_line line fits.0)
+    ap cut (append_assoc (row_text line) (10 ∷ []) rest)
+    ∙ split_first 10 (row_text line) rest (spell.one_line line fits.0)
     ∙ ap (λ (l : List (List ℕ)). row_text line ∷ l) some.2 in
-    let others = λ (p : LogPlace). pieces_log (number + 1) p (some.0 ∷ some.1) in
-    let deep : others step.0 ≡ Ok lines =
-    ap (λ (l : List (List ℕ)). pieces_log (number + 1) step.0 l) (sym some.2)
-    ∙ pieces_again spell (number + 1) step.0 lines r step.2 fits.1 in
-    ap (λ (l : List (List ℕ)). pieces_log number place l) parts
-    ∙ ap (λ (o : Option Line). one_piece number place o others) (spell.again line fits.0)
-    ∙ ap (λ (t : Result LogPlace Reason). after_told number line t others) step.1
-    ∙ ap (λ (l : Result (List Line) LogStop). with_line line l) deep
+    let deep = pieces_again spell (number + 1) step.0 lines r step.2 fits.1 in
+    rw (parts, spell.again line fits.0, step.1)
+    (ap (with_line line) (rw some.2 at deep))
 
 -- the text of the lines of a whole log is read as these lines
 pub log_again : (spell : OneSpelling) (lines : List Line) (r : Reader)
@@ -95,8 +83,7 @@ end_read : (number : ℕ) (place : LogPlace) (lines : List Line) → log_end num
 end_read number Before lines is = absurd cc
 end_read number (Within r) lines is = absurd cc
 end_read number (After r) lines is = let e : [] ≡ lines = cc in
-    subst (λ (l : List Line). IsRead (After r) ([] ∷ []) l) e
-    (record { text = refl; fits = tt; whole = tt })
+    rw (← e) (record { text = refl; fits = tt; whole = tt })
 
 -- lines that are read with a line in front are that line and the others that are read
 with_is : (line : Line) (others : Result (List Line) LogStop) (lines : List Line)
