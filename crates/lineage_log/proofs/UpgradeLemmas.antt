@@ -1,5 +1,5 @@
 -- A good log with version 2 in its first line is a good log: version 2 has all that version 1 has.
-use Rattle.std.proofs.Common.{◌≡◌, ℕ, ◌+◌, Bool, true, false, List, [], ◌∷◌, Option, Some, None, Result, Ok, Err, length, sym, ap, subst, arith}
+use Rattle.std.proofs.Common.{◌≡◌, ℕ, ◌+◌, Bool, true, false, List, [], ◌∷◌, Option, Some, None, Result, Ok, Err, length, refl, sym, ap, subst, arith}
 use Rattle.std.specs.Prelude.{◌==◌, ◌&&◌, ◌*◌, if◌then◌else◌, nat_lt, slice_get}
 use Rattle.instruction_set.specs.declared.letter.Letter.{Letter}
 use Rattle.mutations.specs.BirthRecord.{BirthRecord, child_of}
@@ -11,7 +11,7 @@ use Rattle.lineage_log.specs.declared.reason.Reason.TheVariants.{BadOrder}
 use Rattle.lineage_log.specs.declared.stage.Stage.TheVariants.{Dying, Placing, Happening}
 use Rattle.lineage_log.specs.Slots.{holds, taken}
 use Rattle.lineage_log.specs.Reader.{Reader, may_die, may_be_born, is_quiet, parent_in, reader_with_newcomer, reader_with_death}
-use Rattle.lineage_log.specs.Order.{LogPlace, Before, Within, After, within_if, opened, at_next_update, with_child, with_parent, told_start, told_death, told_birth, told_injected, told_cleared, told_rate, told_count, told_end, told, and_on, told_all, IsWhole}
+use Rattle.lineage_log.specs.Order.{LogPlace, Before, Within, After, within_if, opened, at_next_update, with_child, with_parent, told_start, told_death, told_birth, told_injected, told_cleared, told_rate, told_count, told_end, told, told_all, IsWhole}
 use Rattle.lineage_log.specs.LogGrammar.{IsGoodLog}
 use Rattle.lineage_log.specs.Upgrade.{newer, upgraded}
 use Rattle.lineage_log.proofs.LogLaws.{went_on, whole_is, place_is}
@@ -37,25 +37,12 @@ if_still : (test : Bool) (r : Reader) (q : LogPlace) → within_if test r ≡ Ok
 if_still true r q is = within_is r q is
 if_still false r q is = absurd cc
 
--- so does an event's test, whose version is right there
-event_still : (same due other : Bool) (r : Reader) (q : LogPlace)
-    → within_if ((same && due) && other) r ≡ Ok q
-    → within_if ((true && due) && other) (up_reader r) ≡ Ok (up q)
-event_still true due other r q is = if_still ((true && due) && other) r q is
-event_still false due other r q is = absurd cc
-
--- so does the test of an injected organism, whose version is right there
-newcomer_still : (same due next other : Bool) (r : Reader) (q : LogPlace)
-    → within_if (((same && due) && next) && other) r ≡ Ok q
-    → within_if (((true && due) && next) && other) (up_reader r) ≡ Ok (up q)
-newcomer_still true due next other r q is = if_still (((true && due) && next) && other) r q is
-newcomer_still false due next other r q is = absurd cc
-
--- so does a rate's test, whose version is right there
-rate_still : (same due : Bool) (r : Reader) (q : LogPlace) → within_if (same && due) r ≡ Ok q
-    → within_if (true && due) (up_reader r) ≡ Ok (up q)
-rate_still true due r q is = if_still (true && due) r q is
-rate_still false due r q is = absurd cc
+-- so does a test that fails without the right version, which is right there
+version_still : (same : Bool) (test : Bool → Bool) (r : Reader) (q : LogPlace)
+    → test false ≡ false → within_if (test same) r ≡ Ok q
+    → within_if (test true) (up_reader r) ≡ Ok (up q)
+version_still true test r q fails is = if_still (test true) r q is
+version_still false test r q fails is = absurd (let e = rw fails at is in cc)
 
 -- the child of a birth leads to the same place in the last version
 child_still : (r : Reader) (cell : ℕ) (over : Option ℕ) (child : Result (List Letter) ApplyStop)
@@ -101,26 +88,20 @@ told_still r (Birth id parent update cell over birth) q is =
     birth_still ((update == r.due) && may_be_born r.stage && (id == length r.people)
     && holds (slice_get r.standing cell) over) r cell over birth (parent_in r parent) q is
 told_still r (Injected id update cell over genome) q is =
-    newcomer_still (r.version == 2) (update == r.due) (id == length r.people)
-    (holds (slice_get r.standing cell) over)
-    (reader_with_newcomer r Happening cell over genome r.births) q
-    is
+    version_still (r.version == 2) (λ same. ((same && (update == r.due)) && (id == length r.people))
+    && holds (slice_get r.standing cell) over)
+    (reader_with_newcomer r Happening cell over genome r.births) q refl is
 told_still r (Cleared id update cell) q is =
-    event_still (r.version == 2) (update == r.due) (holds (slice_get r.standing cell) (Some id))
-    (reader_with_death r Happening cell id) q is
+    version_still (r.version == 2) (λ same. (same && (update == r.due))
+    && holds (slice_get r.standing cell) (Some id)) (reader_with_death r Happening cell id) q refl
+    is
 told_still r (Rate update name ppm) q is =
-    rate_still (r.version == 2) (update == r.due) (record r { stage = Happening }) q is
+    version_still (r.version == 2) (λ same. same && (update == r.due))
+    (record r { stage = Happening }) q refl is
 told_still r (Count s) q is =
     if_still ((s.update == r.due) && (s.living == taken r.standing) && (s.births == r.births)
     && (s.deaths == length r.leaving)) (at_next_update r) q is
 told_still r (End updates) q is = end_still (is_quiet r.stage && (updates + 1 == r.due)) r q is
-
--- a line that is told before lines that lead to the end leads to the end with them
-whole_step : (t s : Result LogPlace Reason) (p : LogPlace)
-    (next : LogPlace → Result LogPlace Reason) → s ≡ Ok p
-    → IsWhole (next p) → IsWhole (and_on s next)
-whole_step t s p next is whole =
-    subst (λ (o : Result LogPlace Reason). IsWhole (and_on o next)) (sym is) whole
 
 -- lines that lead to the end do so in the last version
 whole_still : (p : LogPlace) (lines : List Line) → IsWhole (told_all p lines)
@@ -131,9 +112,7 @@ whole_still (Within r) (line ∷ lines) w =
     let end = whole_is (told_all (Within r) (line ∷ lines)) w in
     let step = went_on (told (Within r) line) (λ p. told_all p lines) (After end.0) end.1 in
     let rest : IsWhole (told_all step.0 lines) = subst IsWhole (sym step.2) tt in
-    let deep = whole_still step.0 lines rest in
-    whole_step (told (Within r) line) (told (Within (up_reader r)) line) (up step.0)
-    (λ p. told_all p lines) (told_still r line step.0 step.1) deep
+    rw (told_still r line step.0 step.1) (whole_still step.0 lines rest)
 whole_still (After r) [] w = tt
 whole_still (After r) (line ∷ lines) w = absurd w
 
@@ -159,12 +138,8 @@ first_still version width height cell genome lines w =
     let step = went_on (told_start version width height cell genome) (λ p. told_all p lines)
     (After end.0) end.1 in
     let rest : IsWhole (told_all step.0 lines) = subst IsWhole (sym step.2) tt in
-    let deep = whole_still step.0 lines rest in
-    let is : told_start 2 width height cell genome ≡ Ok (up step.0) =
-    if_still (nat_lt cell (width * height)) (opened version (width * height) cell genome) step.0
-    step.1 in
-    whole_step (told_start version width height cell genome) (told_start 2 width height cell genome)
-    (up step.0) (λ p. told_all p lines) is deep
+    rw (if_still (nat_lt cell (width * height)) (opened version (width * height) cell genome) step.0
+    step.1) (whole_still step.0 lines rest)
 
 -- a whole log is whole with version 2 in its first line
 order_still : (line : Line) (lines : List Line) → IsWhole (told_all Before (line ∷ lines))
