@@ -45,19 +45,19 @@ total_le f g (x ∷ xs) h =
 pub each_set : (P : ℕ → View → Type 0) (views : List View) (id : ℕ) (w : View)
     → ((j : ℕ) (u : View) → j ≢ id → get_elem? views j ≡ some u → P j u) → P id w
     → (j : ℕ) (u : View) → get_elem? (set views id w) j ≡ some u → P j u
-each_set P views id w others mine j u e =
-    ⊎_elim
-    (λ (x : (j ≡ id) × (w ≡ u)). subst (λ (y : ℕ × View). P y.0 y.1) (λ i. (sym x.0 i, x.1 i)) mine)
-    (λ (x : (j ≢ id) × (get_elem? views j ≡ some u)). others j u x.0 x.1)
-    (at_set views id j w u e)
+each_set P views id w others mine j u e = elim (at_set views id j w u e) [
+  | inl x ↦ rw (x.0, ← x.1) mine
+  | inr x ↦ others j u x.0 x.1
+]
 
 -- what holds of each seat and of one more holds of all with it
 pub each_snoc : (P : View → Type 0) (views : List View) (w : View)
     → ((j : ℕ) (u : View) → get_elem? views j ≡ some u → P u) → P w → (j : ℕ) (u : View)
     → get_elem? (views ++ w ∷ []) j ≡ some u → P u
-each_snoc P views w others mine j u e =
-    ⊎_elim (λ (x : get_elem? views j ≡ some u). others j u x) (λ (x : w ≡ u). subst P x mine)
-    (at_snoc views w u j e)
+each_snoc P views w others mine j u e = elim (at_snoc views w u j e) [
+  | inl x ↦ others j u x
+  | inr x ↦ subst P x mine
+]
 
 -- at the end or before
 pub at_end : {A : Type 0} (l : List A) (a b : A) (j : ℕ) → get_elem? (l ++ a ∷ []) j ≡ some b
@@ -71,18 +71,16 @@ at_end (x ∷ xs) a b (suc j) e = ⊎_elim (λ t. inl t) (λ t. inr (ap suc t.0,
 pub only_set : (P : View → Type 0) (views : List View) (id : ℕ) (w : View) → AtMostOne P views
     → (P w → (k : ℕ) (y : View) → k ≢ id → get_elem? views k ≡ some y → P y → ⊥)
     → AtMostOne P (set views id w)
-only_set P views id w only new j k x y ej ek px py =
-    ⊎_elim
-    (λ (a : (j ≡ id) × (w ≡ x)). ⊎_elim
-    (λ (b : (k ≡ id) × (w ≡ y)). a.0 ∙ sym b.0)
-    (λ (b : (k ≢ id) × (get_elem? views k ≡ some y)).
-    absurd (new (subst P (sym a.1) px) k y b.0 b.1 py))
-    (at_set views id k w y ek))
-    (λ (a : (j ≢ id) × (get_elem? views j ≡ some x)). ⊎_elim
-    (λ (b : (k ≡ id) × (w ≡ y)). absurd (new (subst P (sym b.1) py) j x a.0 a.1 px))
-    (λ (b : (k ≢ id) × (get_elem? views k ≡ some y)). only j k x y a.1 b.1 px py)
-    (at_set views id k w y ek))
-    (at_set views id j w x ej)
+only_set P views id w only new j k x y ej ek px py = elim (at_set views id j w x ej) [
+  | inl a ↦ elim (at_set views id k w y ek) [
+    | inl b ↦ a.0 ∙ sym b.0
+    | inr b ↦ absurd (new (subst P (sym a.1) px) k y b.0 b.1 py)
+  ]
+  | inr a ↦ elim (at_set views id k w y ek) [
+    | inl b ↦ absurd (new (subst P (sym b.1) py) j x a.0 a.1 px)
+    | inr b ↦ only j k x y a.1 b.1 px py
+  ]
+]
 
 -- the same where the view was so before
 pub only_keep : (P : View → Type 0) (views : List View) (id : ℕ) (v w : View)
@@ -94,17 +92,16 @@ only_keep P views id v w at only back =
 pub only_snoc : (P : View → Type 0) (views : List View) (w : View) → AtMostOne P views
     → (P w → (k : ℕ) (y : View) → get_elem? views k ≡ some y → P y → ⊥)
     → AtMostOne P (views ++ w ∷ [])
-only_snoc P views w only new j k x y ej ek px py =
-    ⊎_elim
-    (λ (a : get_elem? views j ≡ some x). ⊎_elim
-    (λ (b : get_elem? views k ≡ some y). only j k x y a b px py)
-    (λ (b : (k ≡ length views) × (w ≡ y)). absurd (new (subst P (sym b.1) py) j x a px))
-    (at_end views w y k ek))
-    (λ (a : (j ≡ length views) × (w ≡ x)). ⊎_elim
-    (λ (b : get_elem? views k ≡ some y). absurd (new (subst P (sym a.1) px) k y b py))
-    (λ (b : (k ≡ length views) × (w ≡ y)). a.0 ∙ sym b.0)
-    (at_end views w y k ek))
-    (at_end views w x j ej)
+only_snoc P views w only new j k x y ej ek px py = elim (at_end views w x j ej) [
+  | inl a ↦ elim (at_end views w y k ek) [
+    | inl b ↦ only j k x y a b px py
+    | inr b ↦ absurd (new (subst P (sym b.1) py) j x a px)
+  ]
+  | inr a ↦ elim (at_end views w y k ek) [
+    | inl b ↦ absurd (new (subst P (sym a.1) px) k y b py)
+    | inr b ↦ a.0 ∙ sym b.0
+  ]
+]
 
 -- some seat is so still once one is replaced, if the new one is so where the old one was
 pub some_set : (P : View → Type 0) (views : List View) (id : ℕ) (v w : View)
@@ -144,11 +141,10 @@ placed_set views id v w at alive new placed j x n e c =
           (alive pos)),
     ))
     (λ ne. (p.0, set_else views id n w ne ∙ p.1, λ pos. sym is ∙ p.2 pos)) in
-    ⊎_elim
-    (λ (a : (j ≡ id) × (w ≡ x)). old id (new n (subst (λ (u : View). Carries u n) (sym a.1) c))
-    (sym a.0))
-    (λ (a : (j ≢ id) × (get_elem? views j ≡ some x)). old j (placed j x n a.1 c) refl)
-    (at_set views id j w x e)
+    elim (at_set views id j w x e) [
+      | inl a ↦ old id (new n (subst (λ (u : View). Carries u n) (sym a.1) c)) (sym a.0)
+      | inr a ↦ old j (placed j x n a.1 c) refl
+    ]
 
 -- numbers are places still with a seat replaced by one without new numbers, spent if it was
 pub placed_keep : (views : List View) (id : ℕ) (v w : View) → get_elem? views id ≡ some v
@@ -160,13 +156,12 @@ placed_keep views id v w at alive back placed =
 -- numbers are places still once a seat has come that carries none
 pub placed_snoc : (views : List View) (w : View) → ((n : ℕ) → Carries w n → ⊥)
     → NumbersArePlaces views → NumbersArePlaces (views ++ w ∷ [])
-placed_snoc views w none placed j x n e c =
-    ⊎_elim
-    (λ (a : get_elem? views j ≡ some x). let p = placed j x n a c in
-    (p.0, at_longer views (w ∷ []) n p.0 p.1, p.2))
-    (λ (a : (j ≡ length views) × (w ≡ x)).
-    absurd (none n (subst (λ (u : View). Carries u n) (sym a.1) c)))
-    (at_end views w x j e)
+placed_snoc views w none placed j x n e c = elim (at_end views w x j e) [
+  | inl a ↦
+      let p = placed j x n a c in
+      (p.0, at_longer views (w ∷ []) n p.0 p.1, p.2)
+  | inr a ↦ absurd (none n (subst (λ (u : View). Carries u n) (sym a.1) c))
+]
 
 -- the seats once a view was replaced by one of the same share and numbers, of any history whose
 -- calls are carried and that some seat has seen
