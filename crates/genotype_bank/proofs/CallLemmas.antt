@@ -1,5 +1,6 @@
 -- The steps of one interning, put together.
-use Rattle.std.proofs.Common.{◌≡◌, ℕ, List, [], ◌∷◌, ◌++◌, Bool, true, false, refl, sym, ap, ◌∙◌, subst, eq-eqb, ◌||◌, Option, append_assoc}
+use Rattle.std.proofs.Common.{◌≡◌, ℕ, List, [], ◌∷◌, ◌++◌, true, inl, inr, refl, sym, ap, ◌∙◌, eq-eqb, ◌||◌, Option, append_assoc}
+use Rattle.std.proofs.lemmas.Bool.{cases_Bool}
 use mathlib.Core.List.{IsPrefix}
 use Rattle.std.specs.List.Sorted.{IsPermutation}
 use Rattle.std.proofs.lemmas.List.Sorted.{IsPermutation-refl, IsPermutation-trans, IsPermutation-cons, IsPermutation-middle}
@@ -21,13 +22,10 @@ use Rattle.genotype_bank.proofs.DifferentLemmas.{OneList, genotypes_of_push}
 pub own_end : (c : List ℕ) (h : List Entry) (e : Entry) → is_among e.seat c ≡ true
     → calls_under c (h ++ e ∷ []) ≡ calls_under c h ++ e ∷ []
 own_end c [] e is = ap (λ b. own_if b e []) is
-own_end c (x ∷ h) e is =
-    ap (own_if (is_among x.seat c) x) (own_end c h e is) ∙ out (is_among x.seat c)
-  where
-    out : (b : Bool) → own_if b x (calls_under c h ++ e ∷ []) ≡ own_if b x (calls_under c h)
-        ++ e ∷ []
-    out true = refl
-    out false = refl
+own_end c (x ∷ h) e is = elim (cases_Bool (is_among x.seat c)) [
+  | inl has ↦ rw (has, own_end c h e is)
+  | inr not ↦ rw not (own_end c h e is)
+]
 
 -- a seat has seen a longer history that ends with this call, and it is the seat's one call more
 abbrev pub Grows : View → View → Call → Type 0
@@ -62,15 +60,7 @@ pub grows : (v : View) (j t : ℕ) (history : List Entry) (call : Call)
     → calls_under (j ∷ v.carried) v.seen ≡ calls_under v.carried v.seen → IsPrefix a.0.seen history
     → calls_under a.0.carried history ≡ calls_under a.0.carried a.0.seen → Grows v d.0 call
 grows v j t history call c0 c1 a b d e1 e2 e3 first pre same =
-    subst (λ (m : Seated). Grows v m.0 call) (sym e3)
-    (subst (λ (m : Seated). Grows v
-    (idle_view m.0.share m.0.carried (m.0.seen ++ entry (last_drawn_number m.0) call ∷ [])) call)
-    (sym e2)
-    (subst (λ (m : Seated). IsPrefix m.0.seen history
-    → calls_under m.0.carried history ≡ calls_under m.0.carried m.0.seen
-    → Grows v (idle_view m.0.share m.0.carried (history ++ entry (last_drawn_number m.0) call ∷ []))
-    call) (sym e1)
-    (λ p s. grown v j t history call first p s) pre same))
+    rw (e3, e2, e1) (grown v j t history call first (rw e1 at pre) (rw e1 at same))
 
 -- the calls of two seats that share no number
 pub own_both : (c d : List ℕ) (h : List Entry)
@@ -78,24 +68,22 @@ pub own_both : (c d : List ℕ) (h : List Entry)
     → IsPermutation (calls_under c h ++ calls_under d h) (calls_under (c ++ d) h)
 own_both c d [] no' = IsPermutation-refl []
 own_both c d (e ∷ es) no' =
-    subst (λ b. IsPermutation
-    (own_if (is_among e.seat c) e (calls_under c es)
-    ++ own_if (is_among e.seat d) e (calls_under d es)) (own_if b e (calls_under (c ++ d) es)))
-    (sym (has_app e.seat c d))
-    (by (own_both c d es no') (is_among e.seat c) (is_among e.seat d) (no' e.seat))
-  where
-    by : IsPermutation (calls_under c es ++ calls_under d es) (calls_under (c ++ d) es)
-        → (a b : Bool) → (a ≡ true → b ≡ true → ⊥)
-        → IsPermutation (own_if a e (calls_under c es) ++ own_if b e (calls_under d es))
-        (own_if (a || b) e (calls_under (c ++ d) es))
-    by p true true nay = absurd (nay refl refl)
-    by p true false nay =
-        IsPermutation-cons e (calls_under c es ++ calls_under d es) (calls_under (c ++ d) es) p
-    by p false true nay = IsPermutation-trans (calls_under c es ++ e ∷ calls_under d es)
-        (e ∷ (calls_under c es ++ calls_under d es)) (e ∷ calls_under (c ++ d) es)
-        (IsPermutation-middle (calls_under c es) e (calls_under d es))
-        (IsPermutation-cons e (calls_under c es ++ calls_under d es) (calls_under (c ++ d) es) p)
-    by p false false nay = p
+    let p = own_both c d es no' in
+    rw (has_app e.seat c d) (elim (cases_Bool (is_among e.seat c)) [
+      | inl a ↦ elim (cases_Bool (is_among e.seat d)) [
+        | inl b ↦ absurd (no' e.seat a b)
+        | inr b ↦ rw (a, b) (IsPermutation-cons e (calls_under c es ++ calls_under d es)
+            (calls_under (c ++ d) es) p)
+      ]
+      | inr a ↦ elim (cases_Bool (is_among e.seat d)) [
+        | inl b ↦ rw (a, b) (IsPermutation-trans (calls_under c es ++ e ∷ calls_under d es)
+            (e ∷ (calls_under c es ++ calls_under d es)) (e ∷ calls_under (c ++ d) es)
+            (IsPermutation-middle (calls_under c es) e (calls_under d es))
+            (IsPermutation-cons e (calls_under c es ++ calls_under d es) (calls_under (c ++ d) es)
+            p))
+        | inr b ↦ rw (a, b) p
+      ]
+    ])
 
 -- the steps of one call, put together, where a whole seat owned all that it had seen and owns all
 -- that it has seen
