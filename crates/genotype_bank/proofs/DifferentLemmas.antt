@@ -1,7 +1,7 @@
 -- The different ones of some genomes, as they come one after another.
-use Rattle.std.proofs.Common.{◌≡◌, ◌≢◌, ◌⊎◌, refl, sym, ◌∙◌, ap, subst, inl, inr, ⊎_elim, true≢false, arith, ℕ, Bool, true, false, cond, not, ◌||◌, List, [], ◌∷◌, ◌++◌, map, Contains, Option, append-nil, append_assoc, zero, suc, Some, slice_get, length, length-append, get_or, ◌+◌, ◌<◌}
+use Rattle.std.proofs.Common.{◌≡◌, ◌≢◌, ◌⊎◌, refl, sym, ◌∙◌, ap, subst, inl, inr, true≢false, arith, ℕ, Bool, true, false, cond, not, List, [], ◌∷◌, ◌++◌, map, Contains, Option, append-nil, append_assoc, zero, suc, Some, slice_get, length, length-append, get_or, ◌+◌, ◌<◌}
 use Rattle.std.specs.Prelude.{◌↔◌, AllPairs, nat_lt}
-use Rattle.std.proofs.lemmas.Bool.{lt-ltb, le-ltb}
+use Rattle.std.proofs.lemmas.Bool.{cases_Bool, lt-ltb, le-ltb}
 use Rattle.std.specs.Cmp.{IsEquivalence}
 use mathlib.Core.Logic.{dite}
 use native.Mathlib.Decide.{dec_lt}
@@ -38,9 +38,7 @@ OneList = (one other : List Letter) → Decides (same_letters one other) (one �
 list_any-map : {A B : Type 0} (eq : A → Bool) (same : B → Bool) (see : A → B)
     → ((a : A) → eq a ≡ same (see a)) → (xs : List A) → list_any eq xs ≡ list_any same (map see xs)
 list_any-map eq same see alike [] = refl
-list_any-map eq same see alike (x ∷ xs) =
-    ap (λ b. b || list_any eq xs) (alike x)
-    ∙ ap (λ b. same (see x) || b) (list_any-map eq same see alike xs)
+list_any-map eq same see alike (x ∷ xs) = rw (alike x, list_any-map eq same see alike xs)
 
 -- what is seen of the keys of a set once one is inserted
 pub map-insert_key : {A B : Type 0} (eq : A → A → Bool) (same : B → B → Bool) (see : A → B)
@@ -48,14 +46,11 @@ pub map-insert_key : {A B : Type 0} (eq : A → A → Bool) (same : B → B → 
     → map see (cond (list_any (eq key) keys) keys (keys ++ key ∷ []))
     ≡ cond (list_any (same (see key)) (map see keys)) (map see keys) (map see keys ++ see key ∷ [])
 map-insert_key eq same see alike keys key =
-    ap (λ b. map see (cond b keys (keys ++ key ∷ [])))
-    (list_any-map (eq key) (same (see key)) see (alike key) keys)
-    ∙ by_cases (list_any (same (see key)) (map see keys))
-  where
-    by_cases : (b : Bool) → map see (cond b keys (keys ++ key ∷ []))
-        ≡ cond b (map see keys) (map see keys ++ see key ∷ [])
-    by_cases true = refl
-    by_cases false = map_push see keys key
+    rw (list_any-map (eq key) (same (see key)) see (alike key) keys)
+    (elim (cases_Bool (list_any (same (see key)) (map see keys))) [
+      | inl known ↦ rw known
+      | inr new ↦ rw new (map_push see keys key)
+    ])
 
 module _ (one_list : OneList) where
   -- the members that this one is not
@@ -68,49 +63,34 @@ module _ (one_list : OneList) where
       same_from_decides {P = x ≡ y} (same_letters x y) (same_letters y x) (one_list x y)
       (λ e. sym ((one_list y x).0 e), λ e. (one_list y x).1 (sym e))
 
-  -- who differs from what was taken out is found among the others just as among all
-  list_any-step : (x y z : Letters) (zs : List Letters) → same_letters x y ≡ false
-      → list_any (same_letters x) (others_of y zs) ≡ list_any (same_letters x) zs → (b : Bool)
-      → same_letters y z ≡ b → list_any (same_letters x)
-      (cond (not b) (z ∷ others_of y zs) (others_of y zs))
-      ≡ (same_letters x z || list_any (same_letters x) zs)
-  list_any-step x y z zs differ others true is =
-      let other : same_letters x z ≡ false =
-      ap (same_letters x) (sym ((one_list y z).0 is)) ∙ differ in
-      others ∙ ap (λ b. b || list_any (same_letters x) zs) (sym other)
-  list_any-step x y z zs differ others false is = ap (λ b. same_letters x z || b) others
-
   -- who differs from a member is among the others where it is among all
   list_any-others_of : (x y : Letters) → same_letters x y ≡ false → (zs : List Letters)
       → list_any (same_letters x) (others_of y zs) ≡ list_any (same_letters x) zs
   list_any-others_of x y differ [] = refl
-  list_any-others_of x y differ (z ∷ zs) =
-      ap (λ b. list_any (same_letters x) (cond (not b) (z ∷ others_of y zs) (others_of y zs))) refl
-      ∙ list_any-step x y z zs differ (list_any-others_of x y differ zs) (same_letters y z) refl
+  list_any-others_of x y differ (z ∷ zs) = elim (cases_Bool (same_letters y z)) [
+    | inl is ↦
+        let other : same_letters x z ≡ false = rw (sym ((one_list y z).0 is)) differ in
+        rw (is, other) (list_any-others_of x y differ zs)
+    | inr isnt ↦ rw (isnt, list_any-others_of x y differ zs)
+  ]
 
   -- one more behind the first and the others, by whether it is the first, and whether it is among
   -- the rest
-  with_one-cases : (y : Letters) (zs : List Letters) (x : Letters) (first among : Bool)
-      → same_letters x y ≡ first → list_any (same_letters x) zs ≡ among
-      → cond (first || list_any (same_letters x) (others_of y zs)) (y ∷ others_of y zs)
-      (y ∷ others_of y zs ++ x ∷ []) ≡ y ∷ others_of y (cond among zs (zs ++ x ∷ []))
-  with_one-cases y zs x true true is found = refl
-  with_one-cases y zs x true false is found =
-      let one : others_of y (x ∷ []) ≡ [] =
-      ap (λ b. cond (not b) (x ∷ []) []) (same-comm y x ∙ is) in
-      ap (λ ys. y ∷ ys) (sym (filter-append (λ z. not (same_letters y z)) zs (x ∷ [])
-      ∙ ap (λ ys. others_of y zs ++ ys) one ∙ append-nil (others_of y zs)))
-  with_one-cases y zs x false true is found =
-      ap (λ b. cond b (y ∷ others_of y zs) (y ∷ others_of y zs ++ x ∷ []))
-      (list_any-others_of x y is zs ∙ found)
-  with_one-cases y zs x false false is found =
-      let one : others_of y (x ∷ []) ≡ x ∷ [] =
-      ap (λ b. cond (not b) (x ∷ []) []) (same-comm y x ∙ is) in
-      ap (λ b. cond b (y ∷ others_of y zs) (y ∷ others_of y zs ++ x ∷ []))
-      (list_any-others_of x y is zs ∙ found)
-      ∙ ap (λ ys. y ∷ ys) (sym
-      (filter-append (λ z. not (same_letters y z)) zs (x ∷ [])
-      ∙ ap (λ ys. others_of y zs ++ ys) one))
+  with_one-cases : (y : Letters) (zs : List Letters) (x : Letters)
+      → with_genome (y ∷ others_of y zs) x ≡ y ∷ others_of y (with_genome zs x)
+  with_one-cases y zs x =
+      let put = filter-append (λ z. not (same_letters y z)) zs (x ∷ []) in
+      elim (cases_Bool (same_letters x y)) [
+        | inl is ↦ elim (cases_Bool (list_any (same_letters x) zs)) [
+          | inl found ↦ rw (is, found)
+          | inr new ↦ rw (is, new, put, same-comm y x ∙ is, append-nil (others_of y zs))
+        ]
+        | inr isnt ↦ rw (isnt, list_any-others_of x y isnt zs)
+            (elim (cases_Bool (list_any (same_letters x) zs)) [
+              | inl found ↦ rw found
+              | inr new ↦ rw (new, put, same-comm y x ∙ isnt)
+            ])
+      ]
 
   -- the different ones of some genomes with one more, which may be one of them
   different_of_push : (xs : List Letters) (x : Letters)
@@ -118,16 +98,14 @@ module _ (one_list : OneList) where
   different_of_push [] x = refl
   different_of_push (y ∷ ys) x =
       ap (λ zs. y ∷ others_of y zs) (different_of_push ys x)
-      ∙ sym (with_one-cases y (different_of ys) x (same_letters x y)
-      (list_any (same_letters x) (different_of ys)) refl refl)
+      ∙ sym (with_one-cases y (different_of ys) x)
 
   -- the genotypes of a history with one more call
   pub genotypes_of_push : (history : List Entry) (last : Entry)
       → genotypes_of (history ++ last ∷ []) ≡ with_call (genotypes_of history) last.call
-  genotypes_of_push history last =
-      ap different_of (filter_map-append (λ (one : Entry). interned_genome one.call) history
-      (last ∷ []))
-      ∙ by last.call
+  genotypes_of_push history last = rw
+      (filter_map-append (λ (one : Entry). interned_genome one.call) history (last ∷ []))
+      (by last.call)
     where
       by : (call : Call) → different_of
           (genomes_of history ++ cons_option (interned_genome call) [])
@@ -138,11 +116,11 @@ module _ (one_list : OneList) where
   -- genotypes with one genome more begin with these genotypes
   with_genome-begins : (genotypes : List Letters) (genome : Letters)
       → IsPrefix genotypes (with_genome genotypes genome)
-  with_genome-begins genotypes genome = by (list_any (same_letters genome) genotypes)
-    where
-      by : (b : Bool) → IsPrefix genotypes (cond b genotypes (genotypes ++ genome ∷ []))
-      by true = ([], append-nil genotypes)
-      by false = (genome ∷ [], refl)
+  with_genome-begins genotypes genome =
+      elim (cases_Bool (list_any (same_letters genome) genotypes)) [
+        | inl known ↦ rw known ([], append-nil genotypes)
+        | inr new ↦ rw new (genome ∷ [], refl)
+      ]
 
   -- a prefix of a prefix is a prefix
   IsPrefix-trans : (xs ys zs : List Letters) → IsPrefix xs ys → IsPrefix ys zs → IsPrefix xs zs
@@ -195,14 +173,12 @@ module _ (one_list : OneList) where
   -- genotypes of which no two are equal have no two equal with one genome more
   AreApart-with_genome : (known : List Letters) (new : Letters) → AreApart known
       → AreApart (with_genome known new)
-  AreApart-with_genome known new apart = by (list_any (same_letters new) known) refl
-    where
-      by : (b : Bool) → list_any (same_letters new) known ≡ b
-          → AreApart (cond b known (known ++ new ∷ []))
-      by true e = apart
-      by false e = all_pairs_push (λ one other. one ≢ other) known new apart (λ k d l is.
-          true≢false (sym (list_any-from_Contains same_letters-equivalence new known
-          (subst (Contains known) is (Contains-get_or known k d l))) ∙ e))
+  AreApart-with_genome known new apart = elim (cases_Bool (list_any (same_letters new) known)) [
+    | inl in_it ↦ rw in_it apart
+    | inr out ↦ rw out (all_pairs_push (λ one other. one ≢ other) known new apart (λ k d l is.
+        true≢false (sym (list_any-from_Contains same_letters-equivalence new known
+        (subst (Contains known) is (Contains-get_or known k d l))) ∙ out)))
+  ]
 
   -- the different ones of some genomes are apart still where more genomes come behind
   AreApart-longer : (xs ys : List Letters) → AreApart (different_of xs)
@@ -222,13 +198,11 @@ module _ (one_list : OneList) where
   list_any-different_of : (x : Letters) (ys : List Letters)
       → list_any (same_letters x) (different_of ys) ≡ list_any (same_letters x) ys
   list_any-different_of x [] = refl
-  list_any-different_of x (y ∷ ys) = by (list_any-different_of x ys) (same_letters x y) refl
-    where
-      by : list_any (same_letters x) (different_of ys) ≡ list_any (same_letters x) ys → (b : Bool)
-          → same_letters x y ≡ b → (b || list_any (same_letters x) (others_of y (different_of ys)))
-          ≡ (b || list_any (same_letters x) ys)
-      by rest true e = refl
-      by rest false e = list_any-others_of x y e (different_of ys) ∙ rest
+  list_any-different_of x (y ∷ ys) = elim (cases_Bool (same_letters x y)) [
+    | inl is ↦ rw is
+    | inr isnt ↦ rw (isnt, list_any-others_of x y isnt (different_of ys))
+        (list_any-different_of x ys)
+  ]
 
   -- a member of one list is a member of another, if the test finds it in both or in neither
   Contains-by : (xs ys : List Letters) (x : Letters)
@@ -252,24 +226,26 @@ module _ (one_list : OneList) where
   -- what is known or new is among what is known with the new one
   Contains-with_genome : (known : List Letters) (new x : Letters) → Contains known x ⊎ (new ≡ x)
       → Contains (with_genome known new) x
-  Contains-with_genome known new x h = by (list_any (same_letters new) known) refl
-    where
-      by : (b : Bool) → list_any (same_letters new) known ≡ b
-          → Contains (cond b known (known ++ new ∷ [])) x
-      by true e = ⊎_elim (λ (k : Contains known x). k)
-          (λ (is : new ≡ x). subst (Contains known) is
-          (Contains-from_any (λ a b same. (one_list a b).0 same) new known e)) h
-      by false e = ⊎_elim (λ (k : Contains known x). Contains-append_left known (new ∷ []) x k)
-          (λ (is : new ≡ x). subst (Contains (known ++ new ∷ [])) is (Contains-push known new)) h
+  Contains-with_genome known new x h = elim (cases_Bool (list_any (same_letters new) known)) [
+    | inl in_it ↦ rw in_it (elim h [
+      | inl k ↦ k
+      | inr is ↦ subst (Contains known) is
+          (Contains-from_any (λ a b same. (one_list a b).0 same) new known in_it)
+    ])
+    | inr out ↦ rw out (elim h [
+      | inl k ↦ Contains-append_left known (new ∷ []) x k
+      | inr is ↦ subst (Contains (known ++ new ∷ [])) is (Contains-push known new)
+    ])
+  ]
 
   -- what is among what is known with the new one is known or new
   Contains-with_genome_cases : (known : List Letters) (new x : Letters)
       → Contains (with_genome known new) x → Contains known x ⊎ (new ≡ x)
-  Contains-with_genome_cases known new x = by (list_any (same_letters new) known)
-    where
-      by : (b : Bool) → Contains (cond b known (known ++ new ∷ [])) x → Contains known x ⊎ (new ≡ x)
-      by true h = inl h
-      by false h = Contains-push_cases known new x h
+  Contains-with_genome_cases known new x h =
+      elim (cases_Bool (list_any (same_letters new) known)) [
+        | inl in_it ↦ inl (rw in_it at h)
+        | inr out ↦ Contains-push_cases known new x (rw out at h)
+      ]
 
   -- one genome more, which may be known
   pub HasEachOnce-with_genome : (genotypes genomes : List Letters) (new : Letters)
@@ -277,15 +253,14 @@ module _ (one_list : OneList) where
       → HasEachOnce (with_genome genotypes new) (genomes ++ new ∷ [])
   HasEachOnce-with_genome genotypes genomes new each = record {
     members = λ x. (
-      (λ (h : Contains (with_genome genotypes new) x). ⊎_elim
-          (λ (k : Contains genotypes x). Contains-append_left genomes (new ∷ []) x
-          ((each.members x).0 k))
-          (λ (is : new ≡ x). subst (Contains (genomes ++ new ∷ [])) is (Contains-push genomes new))
-          (Contains-with_genome_cases genotypes new x h)),
-      (λ (h : Contains (genomes ++ new ∷ []) x). Contains-with_genome genotypes new x (⊎_elim
-          (λ (k : Contains genomes x). inl ((each.members x).1 k))
-          (λ (is : new ≡ x). inr is)
-          (Contains-push_cases genomes new x h))),
+      (λ h. elim (Contains-with_genome_cases genotypes new x h) [
+        | inl k ↦ Contains-append_left genomes (new ∷ []) x ((each.members x).0 k)
+        | inr is ↦ subst (Contains (genomes ++ new ∷ [])) is (Contains-push genomes new)
+      ]),
+      (λ h. Contains-with_genome genotypes new x (elim (Contains-push_cases genomes new x h) [
+        | inl k ↦ inl ((each.members x).1 k)
+        | inr is ↦ inr is
+      ])),
     );
     once = AreApart-with_genome genotypes new each.once;
   }
