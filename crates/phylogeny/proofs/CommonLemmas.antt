@@ -1,10 +1,10 @@
 -- The latest common ancestor is an ancestor of all who live, and no greater id is.
-use Rattle.std.proofs.Common.{◌≡◌, ◌≢◌, ℕ, zero, suc, ◌+◌, ◌-◌, ◌<◌, ◌≤◌, Bool, true, false, cond, eqb, List, [], ◌∷◌, Option, Some, None, length, get_or, max, unwrap_or, refl, sym, ap, subst, ◌∙◌, arith, inl, inr}
-use Rattle.std.specs.Prelude.{◌⊎◌, ◌||◌, ◌&&◌, All, Contains, filter}
+use Rattle.std.proofs.Common.{◌≡◌, ℕ, zero, suc, ◌+◌, ◌-◌, ◌<◌, ◌≤◌, Bool, true, false, eqb, List, [], ◌∷◌, Option, Some, None, length, get_or, max, unwrap_or, refl, sym, ap, subst, ◌∙◌, arith, inl, inr}
+use Rattle.std.specs.Prelude.{◌⊎◌, All, Contains, filter}
 use Rattle.std.specs.List.{fold, last_or, list_all, list_any, range_with_len, reduce}
-use Rattle.std.specs.Option.{option_map_or}
-use Rattle.std.proofs.lemmas.Bool.{cases_Bool, cases_lt, or_cases}
-use Rattle.std.proofs.lemmas.Bool.Decides.{eqb_tells, nat_tests}
+use Rattle.std.proofs.lemmas.Bool.{cases_Bool, or_cases, or_left, or_right}
+use Rattle.std.proofs.lemmas.Bool.Decides.{nat_tests}
+use Rattle.std.proofs.lemmas.Grind.{common_steps}
 use Rattle.std.proofs.lemmas.List.Elements.{All-contains, Contains-get_or}
 use Rattle.std.proofs.lemmas.List.Sums.{AllPass-from_list_all, list_all-from_AllPass}
 use Rattle.lineage_log.specs.Ancestry.{ancestors_within}
@@ -19,80 +19,19 @@ use Rattle.phylogeny.proofs.WalkLemmas.{everybody, kept_from, kept_is_all, tree}
 
 -- ---- lists of numbers
 
--- a number is equal to itself, by the test
-eqb_itself : (a : ℕ) → eqb a a ≡ true
-eqb_itself a = grind (arith, nat_tests)
-
 -- two numbers that the test calls equal are equal
 eqb_same : (a b : ℕ) → eqb a b ≡ true → a ≡ b
 eqb_same a b is = grind (arith, nat_tests)
 
--- two equal numbers pass the test
-eqb_equal : (a b : ℕ) → a ≡ b → eqb a b ≡ true
-eqb_equal a b same = grind (arith, nat_tests)
-
--- one of two tests holds where the first does
-or_first : (a b : Bool) → a ≡ true → (a || b) ≡ true
-or_first true b is = refl
-or_first false b is = absurd cc
-
--- one of two tests holds where the second does
-or_second : (a b : Bool) → b ≡ true → (a || b) ≡ true
-or_second true b is = refl
-or_second false b is = is
-
--- the first number of a list is among its numbers
-among_here : (x : ℕ) (xs : List ℕ) → is_among x (x ∷ xs) ≡ true
-among_here x xs = or_first (eqb x x) (is_among x xs) (eqb_itself x)
-
 -- the greatest is among them, and none is greater
 fold_greatest : (x : ℕ) (xs : List ℕ) → (is_among (fold max x xs) (x ∷ xs) ≡ true)
     × ((y : ℕ) → is_among y (x ∷ xs) ≡ true → y ≤ fold max x xs)
-fold_greatest x [] = (
-  among_here x [],
-  λ y is. elim (or_cases (eqb x y) false is) [
-    | inl same ↦ let e = eqb_same x y same in omega arith
-    | inr none ↦ absurd cc
-  ],
-)
+fold_greatest x [] = (grind (arith, common_steps), λ y is. grind (arith, common_steps))
 fold_greatest x (z ∷ zs) =
     let so = fold_greatest (max x z) zs in (
-      elim (or_cases (eqb (max x z) (fold max (max x z) zs)) (is_among (fold max (max x z) zs) zs)
-          so.0) [
-            | inl same ↦ either_max x z zs (fold max (max x z) zs)
-                (eqb_same (max x z) (fold max (max x z) zs) same)
-            | inr later ↦ or_second (eqb x (fold max (max x z) zs))
-                (eqb z (fold max (max x z) zs) || is_among (fold max (max x z) zs) zs)
-                (or_second (eqb z (fold max (max x z) zs)) (is_among (fold max (max x z) zs) zs)
-                later)
-          ],
-      λ y is. elim (or_cases (eqb x y) (eqb z y || is_among y zs) is) [
-        | inl first ↦
-            let e = eqb_same x y first in
-            let b = so.1 (max x z) (among_here (max x z) zs) in
-            omega arith
-        | inr others ↦ elim (or_cases (eqb z y) (is_among y zs) others) [
-          | inl second ↦
-              let e = eqb_same z y second in
-              let b = so.1 (max x z) (among_here (max x z) zs) in
-              omega arith
-          | inr later ↦ so.1 y (or_second (eqb (max x z) y) (is_among y zs) later)
-        ]
-      ],
+      grind (arith, common_steps, so.0),
+      λ y is. grind (arith, common_steps, so.1 y, so.1 (max x z)),
     )
-  where
-    either_max : (x z : ℕ) (zs : List ℕ) (m : ℕ) → max x z ≡ m → is_among m (x ∷ z ∷ zs) ≡ true
-    either_max x z zs m is = elim (cases_lt x z) [
-      | inl less ↦
-          let e : z ≡ m = omega arith in
-          or_second (eqb x m) (eqb z m || is_among m zs)
-          (or_first (eqb z m) (is_among m zs)
-          (let t : eqb z m ≡ true = grind (arith, nat_tests) in t))
-      | inr not_less ↦
-          let e : x ≡ m = omega arith in
-          or_first (eqb x m) (eqb z m || is_among m zs)
-          (let t : eqb x m ≡ true = grind (arith, nat_tests) in t)
-    ]
 
 -- what is found as the greatest of a list is among its numbers, and none of them is greater
 greatest_is : (xs : List ℕ) (m : ℕ) → reduce max xs ≡ Some m → (is_among m xs ≡ true)
@@ -112,56 +51,27 @@ no_greatest (x ∷ xs) is = absurd cc
 filter_holds : (p : ℕ → Bool) (xs : List ℕ) (x : ℕ) → is_among x (filter p xs) ≡ true
     → (p x ≡ true) × (is_among x xs ≡ true)
 filter_holds p [] x is = absurd cc
-filter_holds p (y ∷ ys) x is =
-    (elim (p y) as (λ b. p y ≡ b → is_among x (cond b (y ∷ filter p ys) (filter p ys)) ≡ true
-    → (p x ≡ true) × (is_among x (y ∷ ys) ≡ true)) [
-      | true ↦ λ passes there. elim (or_cases (eqb y x) (is_among x (filter p ys)) there) [
-        | inl same ↦ (
-          ap p (sym (eqb_same y x same)) ∙ passes,
-          or_first (eqb y x) (is_among x ys) same,
-        )
-        | inr later ↦ let so =
-            filter_holds p ys x later in (so.0, or_second (eqb y x) (is_among x ys) so.1)
-      ]
-      | false ↦ λ passes there. let so =
-          filter_holds p ys x there in (so.0, or_second (eqb y x) (is_among x ys) so.1)
-    ]) refl is
+filter_holds p (y ∷ ys) x is = (
+  grind (arith, common_steps, filter_holds p ys x),
+  grind (arith, common_steps, filter_holds p ys x),
+)
 
 -- a number of a list that passes a test is left by the filter
 filter_keeps : (p : ℕ → Bool) (xs : List ℕ) (x : ℕ) → is_among x xs ≡ true → p x ≡ true
     → is_among x (filter p xs) ≡ true
 filter_keeps p [] x is passes = absurd cc
-filter_keeps p (y ∷ ys) x is passes =
-    (elim (p y) as (λ b. p y ≡ b → is_among x (cond b (y ∷ filter p ys) (filter p ys)) ≡ true) [
-      | true ↦ λ here. elim (or_cases (eqb y x) (is_among x ys) is) [
-        | inl same ↦ or_first (eqb y x) (is_among x (filter p ys)) same
-        | inr later ↦ or_second (eqb y x) (is_among x (filter p ys))
-            (filter_keeps p ys x later passes)
-      ]
-      | false ↦ λ here. elim (or_cases (eqb y x) (is_among x ys) is) [
-        | inl same ↦ let e = ap p (eqb_same y x same) in absurd cc
-        | inr later ↦ filter_keeps p ys x later passes
-      ]
-    ]) refl
+filter_keeps p (y ∷ ys) x is passes = grind (arith, common_steps, filter_keeps p ys x)
 
 -- a range has each number from its first up to before its end
 range_has : (from len x : ℕ) → from ≤ x → x < from + len
     → is_among x (range_with_len from len) ≡ true
 range_has from zero x above below = absurd (omega arith)
-range_has from (suc len) x above below = elim (eqb_tells from x) [
-  | inl same ↦ or_first (eqb from x) (is_among x (range_with_len (from + 1) len)) same.0
-  | inr other ↦
-      let apart : from ≢ x = other.1 in
-      let more : from + 1 ≤ x = omega arith in
-      or_second (eqb from x) (is_among x (range_with_len (from + 1) len))
-      (range_has (from + 1) len x more (omega arith))
-]
+range_has from (suc len) x above below = grind (arith, common_steps, range_has (from + 1) len x)
 
 -- the last number of a list that is not empty is among its numbers
 last_among : (x : ℕ) (xs : List ℕ) → is_among (unwrap_or (last_or (Some x) xs) 0) (x ∷ xs) ≡ true
-last_among x [] = among_here x []
-last_among x (y ∷ ys) = or_second (eqb x (unwrap_or (last_or (Some y) ys) 0))
-    (is_among (unwrap_or (last_or (Some y) ys) 0) (y ∷ ys)) (last_among y ys)
+last_among x [] = grind (arith, common_steps)
+last_among x (y ∷ ys) = grind (arith, common_steps, last_among y ys)
 
 -- ---- lists of those who live
 
@@ -176,9 +86,7 @@ first_fails : {X : Type 0} (p : X → Bool) (xs : List X) → list_all p xs ≡ 
 first_fails p [] is = absurd cc
 first_fails {X} p (x ∷ xs) is = elim (cases_Bool (p x)) [
   | inl passes ↦
-      let rest : list_all p xs ≡ false = sym (ap (λ (b : Bool). b && list_all p xs) passes) ∙ is in
-      let so = first_fails p xs rest in
-      (so.0, contains_later so.0 x xs so.1, so.2)
+      let so = first_fails p xs (rw passes at is) in (so.0, contains_later so.0 x xs so.1, so.2)
   | inr fails ↦ (x, (0, omega arith, refl), fails)
 ]
 
@@ -196,9 +104,9 @@ any_passes : {X : Type 0} (p : X → Bool) (xs : List X) (x : X) → Contains xs
     → list_any p xs ≡ true
 any_passes p [] x there passes = absurd (omega (arith, there.1))
 any_passes p (y ∷ ys) x (zero, within, is) passes =
-    or_first (p y) (list_any p ys) (ap p is ∙ passes)
+    or_left (p y) (list_any p ys) (ap p is ∙ passes)
 any_passes p (y ∷ ys) x (suc k, within, is) passes =
-    or_second (p y) (list_any p ys) (any_passes p ys x (k, omega arith, is) passes)
+    or_right (p y) (list_any p ys) (any_passes p ys x (k, omega arith, is) passes)
 
 -- where the test says that all pass, each member does
 each_passes : {X : Type 0} (p : X → Bool) (xs : List X) → list_all p xs ≡ true → (x : X)
@@ -228,31 +136,16 @@ living_below bound cell (Some id ∷ slots) below who (suc k, within, is) =
 module _ (parent_of : ℕ → Option ℕ) (older : Older parent_of) where
   -- no id in the line of an id is greater than this one
   line_below : (n id at : ℕ) → is_among at (ancestors_within n parent_of id) ≡ true → at ≤ id
-  line_below n id at is = elim (cases_lt id at) [
-    | inl below ↦ let none = none_above parent_of older n id at below in absurd cc
-    | inr not_below ↦ not_below
-  ]
+  line_below n id at is = grind (arith, common_steps, none_above parent_of older n id at)
 
   -- who stands in a line has its founder
   founder_same : (n id at : ℕ) → id ≤ n → is_among at (ancestors_within n parent_of id) ≡ true
       → founder_in (line parent_of id) ≡ founder_in (line parent_of at)
-  founder_same zero id at few is = elim (or_cases (eqb id at) false is) [
-    | inl same ↦ ap (λ (n : ℕ). founder_in (line parent_of n)) (eqb_same id at same)
-    | inr none ↦ absurd cc
-  ]
+  founder_same zero id at few is = grind (arith, common_steps)
   founder_same (suc n) id at few is =
-      elim (or_cases (eqb id at)
-      (is_among at (option_map_or (ancestors_within n parent_of) (parent_of id) [])) is) [
-        | inl same ↦ ap (λ (n : ℕ). founder_in (line parent_of n)) (eqb_same id at same)
-        | inr later ↦ (elim (parent_of id) as
-            (λ o. parent_of id ≡ o → is_among at (option_map_or (ancestors_within n parent_of) o [])
-            ≡ true → founder_in (line parent_of id) ≡ founder_in (line parent_of at)) [
-              | None ↦ λ none there. absurd cc
-              | Some above ↦ λ some there.
-                  (child_root parent_of older id above some).1
-                  ∙ founder_same n above at (omega (arith, older id above some)) there
-            ]) refl later
-      ]
+      let root = λ (above : ℕ) (some : parent_of id ≡ Some above).
+      (child_root parent_of older id above some).1 in
+      grind (arith, common_steps, older id, root, λ (above : ℕ). founder_same n above at)
 
   -- the founder of a line stands in it
   founder_among : (id : ℕ) → is_among (founder_in (line parent_of id)) (line parent_of id) ≡ true
@@ -340,16 +233,14 @@ module _ (parents standing : List (Option ℕ)) (sound : IsPedigree parents stan
       → (everybody parents standing ≡ []) ⊎ HaveTwoFounders here
   none_by [] is none = inl is
   none_by (who ∷ others) is none =
-      let lives : Contains (everybody parents standing) who =
-      subst (λ (ds : List Dweller). Contains ds who) (sym is) (0, omega arith, refl) in
+      let lives : Contains (everybody parents standing) who = rw is (0, omega arith, refl) in
       elim (cases_Bool (list_all (same_founder who) (everybody parents standing))) [
         | inl all ↦
             let found =
             common_is_found (founding_ancestor_of here who.id) who lives
             (founder_is_common who all) in
             let there : is_among (founding_ancestor_of here who.id) [] ≡ true =
-            subst (λ (ids : List ℕ). is_among (founding_ancestor_of here who.id) ids ≡ true)
-            none found in
+            rw none at found in
             absurd cc
         | inr not_all ↦
             let fails = first_fails (same_founder who) (everybody parents standing) not_all in
@@ -358,9 +249,8 @@ module _ (parents standing : List (Option ℕ)) (sound : IsPedigree parents stan
               other = who;
               one_lives = fails.1;
               other_lives = lives;
-              apart = λ same. let t : same_founder who fails.0 ≡ true =
-                  eqb_equal (founding_ancestor_of here fails.0.id)
-                  (founding_ancestor_of here who.id) same in absurd cc;
+              apart = λ same. let t : same_founder who fails.0 ≡ true = grind (arith, nat_tests)
+                  in absurd cc;
             })
       ]
 

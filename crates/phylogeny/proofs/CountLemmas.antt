@@ -1,8 +1,8 @@
 -- Counts over two lists beside each other.
-use Rattle.std.proofs.Common.{◌≡◌, ℕ, ◌+◌, ◌≤◌, Bool, true, false, cond, eqb, ltb, List, [], ◌∷◌, length, refl, ap, ◌∙◌, arith}
-use Rattle.std.specs.Prelude.{count_by, ◌||◌, ◌&&◌}
+use Rattle.std.proofs.Common.{◌≡◌, ℕ, ◌+◌, Bool, false, cond, eqb, ltb, List, [], ◌∷◌, length, refl, arith}
+use Rattle.std.specs.Prelude.{count_by}
 use Rattle.std.specs.List.{list_all, list_any}
-use Rattle.std.proofs.lemmas.Bool.Decides.{nat_tests}
+use Rattle.std.proofs.lemmas.Grind.{common_steps}
 use Rattle.std.proofs.lemmas.List.Sums.{sum_by-cons, count_by-le-length}
 
 -- one, or none
@@ -18,8 +18,7 @@ count_cons p x xs = sum_by-cons (λ y. cond (p y) 1 0) x xs
 pub count_no : {X : Type 0} (p : X → Bool) (x : X) (xs : List X) → p x ≡ false
     → count_by p (x ∷ xs) ≡ count_by p xs
 count_no p x xs failed =
-    let more : bit (p x) + count_by p xs ≡ count_by p xs = rw failed (omega arith) in
-    count_cons p x xs ∙ more
+    grind (arith, common_steps, count_cons p x xs)
 
 -- tests that answer alike count alike
 pub count_same : {X : Type 0} (p q : X → Bool) → ((x : X) → p x ≡ q x) → (xs : List X)
@@ -30,43 +29,19 @@ count_same p q same xs = λ i. count_by (λ x. same x i) xs
 pub count_handed : {X : Type 0} (p q r : X → Bool) (t : Bool)
     → ((x : X) → bit (p x) ≡ bit (q x) + cond t (bit (r x)) 0) → (xs : List X)
     → count_by p xs ≡ count_by q xs + cond t (count_by r xs) 0
-count_handed p q r true each [] = omega arith
-count_handed p q r false each [] = omega arith
-count_handed p q r true each (x ∷ xs) =
-    omega (
-      arith,
-      count_cons p x xs,
-      count_cons q x xs,
-      count_cons r x xs,
-      each x,
-      count_handed p q r true each xs,
-    )
-count_handed p q r false each (x ∷ xs) =
-    omega (arith, count_cons p x xs, count_cons q x xs, each x, count_handed p q r false each xs)
-
--- one test more: some pass still exactly where at least one is counted
-some_counted : (b c : Bool) (n m : ℕ) → c ≡ ltb 0 n → m ≡ bit b + n → (b || c) ≡ ltb 0 m
-some_counted true c n m is more = grind (arith, nat_tests)
-some_counted false c n m is more = grind (arith, nat_tests)
+count_handed p q r t each [] = grind (arith, common_steps)
+count_handed p q r t each (x ∷ xs) =
+    let rest = count_handed p q r t each xs in
+    grind (arith, common_steps, rest, each x, count_cons p x xs, count_cons q x xs, count_cons r x xs)
 
 -- some pass where at least one is counted
 pub any_counted : {X : Type 0} (p : X → Bool) (xs : List X) → list_any p xs ≡ ltb 0 (count_by p xs)
 any_counted p [] = refl
-any_counted p (x ∷ xs) =
-    some_counted (p x) (list_any p xs) (count_by p xs) (count_by p (x ∷ xs)) (any_counted p xs)
-    (count_cons p x xs)
-
--- one test more: all pass still exactly where as many are counted as there are
-all_counted_more : (b c : Bool) (n l m : ℕ) → c ≡ eqb n l → n ≤ l → m ≡ bit b + n
-    → (b && c) ≡ eqb m (l + 1)
-all_counted_more true c n l m is few more = grind (arith, nat_tests)
-all_counted_more false c n l m is few more = grind (arith, nat_tests)
+any_counted p (x ∷ xs) = grind (arith, common_steps, any_counted p xs, count_cons p x xs)
 
 -- all pass where as many are counted as there are
 pub all_counted : {X : Type 0} (p : X → Bool) (xs : List X)
     → list_all p xs ≡ eqb (count_by p xs) (length xs)
 all_counted p [] = refl
 all_counted p (x ∷ xs) =
-    all_counted_more (p x) (list_all p xs) (count_by p xs) (length xs) (count_by p (x ∷ xs))
-    (all_counted p xs) (count_by-le-length p xs) (count_cons p x xs)
-    ∙ ap (eqb (count_by p (x ∷ xs))) (omega arith)
+    grind (arith, common_steps, all_counted p xs, count_by-le-length p xs, count_cons p x xs)

@@ -1,6 +1,7 @@
 -- Lists of ids, and how many of them pass a test.
 use Rattle.std.proofs.Common.{◌≡◌, ℕ, zero, suc, ◌+◌, ◌≤◌, Bool, true, false, cond, List, [], ◌∷◌, Some, length, max, refl, arith}
 use Rattle.std.specs.Prelude.{filter}
+use Rattle.std.proofs.lemmas.Grind.{common_steps}
 use Rattle.std.specs.List.{AllByRecursion, range_with_len, reduce}
 use Rattle.std.specs.Option.{option_or}
 use Rattle.phylogeny.proofs.CountLemmas.{bit}
@@ -26,8 +27,7 @@ greatest_more : (id : ℕ) (ids : List ℕ) → AllByRecursion (λ other. id ≤
     → reduce max (id ∷ ids) ≡ option_or (reduce max ids) (Some id)
 greatest_more id [] all = refl
 greatest_more id (other ∷ ids) all =
-    let greater : max id other ≡ other = omega (arith, all.0) in
-    rw greater refl
+    grind (arith, common_steps, all.0)
 
 -- a first id that passes is left in front of the others
 pub filter_yes : (p : ℕ → Bool) (x : ℕ) (xs : List ℕ) → p x ≡ true
@@ -42,27 +42,13 @@ filter_no p x xs left = rw left refl
 -- a filter leaves one id more where the first passes
 pub filter_length : (p : ℕ → Bool) (x : ℕ) (xs : List ℕ)
     → length (filter p (x ∷ xs)) ≡ length (filter p xs) + bit (p x)
-filter_length p x xs = elim (p x) as
-    (λ b. length (cond b (x ∷ filter p xs) (filter p xs)) ≡ length (filter p xs) + bit b) [
-      | true ↦ omega arith
-      | false ↦ omega arith
-    ]
-
--- a bit is at most 1
-bit_few : (b : Bool) → bit b ≤ 1
-bit_few true = omega arith
-bit_few false = omega arith
+filter_length p x xs = grind (arith, common_steps)
 
 -- a filter leaves no more ids of a range than the range has
 pub filter_few : (p : ℕ → Bool) (from len : ℕ) → length (filter p (range_with_len from len)) ≤ len
 filter_few p from zero = omega arith
 filter_few p from (suc len) =
-    omega (
-      arith,
-      filter_few p (from + 1) len,
-      filter_length p from (range_with_len (from + 1) len),
-      bit_few (p from),
-    )
+    grind (arith, common_steps, filter_few p (from + 1) len)
 
 -- the greatest id that passes, with one more in front that is no greater than any
 pub greatest_filtered : (p : ℕ → Bool) (id : ℕ) (ids : List ℕ)
@@ -70,8 +56,5 @@ pub greatest_filtered : (p : ℕ → Bool) (id : ℕ) (ids : List ℕ)
     → reduce max (filter p (id ∷ ids))
     ≡ cond (p id) (option_or (reduce max (filter p ids)) (Some id)) (reduce max (filter p ids))
 greatest_filtered p id ids all =
-    elim (p id) as (λ b. reduce max (cond b (id ∷ filter p ids) (filter p ids))
-    ≡ cond b (option_or (reduce max (filter p ids)) (Some id)) (reduce max (filter p ids))) [
-      | true ↦ greatest_more id (filter p ids) (filter_all (λ other. id ≤ other) p ids all)
-      | false ↦ refl
-    ]
+    let more = greatest_more id (filter p ids) (filter_all (λ other. id ≤ other) p ids all) in
+    grind (arith, common_steps, more)

@@ -1,11 +1,12 @@
 -- A walk down the ids: what is counted when it has come to a bound.
-use Rattle.std.proofs.Common.{◌≡◌, ℕ, zero, suc, ◌+◌, ◌-◌, ◌<◌, ◌≤◌, Bool, true, false, cond, eqb, ltb, List, [], ◌∷◌, Option, Some, None, length, get_or, set, get_or-set_other, get_or-set_same, max, add-one, refl, sym, ap, subst, ◌∙◌, arith, inl, inr}
+use Rattle.std.proofs.Common.{◌≡◌, ℕ, zero, suc, ◌+◌, ◌-◌, ◌<◌, ◌≤◌, Bool, true, false, cond, eqb, ltb, List, [], ◌∷◌, Option, Some, None, length, get_or, set, max, add-one, refl, sym, ap, ◌∙◌, arith, inl, inr}
 use Rattle.std.specs.Prelude.{count_by, filter, nat_le}
 use Rattle.std.specs.List.{AllByRecursion, range_with_len, reduce}
 use Rattle.std.specs.Option.{option_map_or, option_or}
 use Rattle.std.proofs.Math.ListN.{length-set}
 use Rattle.std.proofs.lemmas.Bool.{cases_Bool}
-use Rattle.std.proofs.lemmas.Bool.Decides.{eqb_tells, nat_tests}
+use Rattle.std.proofs.lemmas.Bool.Decides.{nat_tests}
+use Rattle.std.proofs.lemmas.Grind.{common_steps}
 use Rattle.std.proofs.lemmas.List.Sums.{count_by-le-length, length-filter}
 use Rattle.phylogeny.specs.declared.shape.Shape.{Shape}
 use Rattle.phylogeny.specs.Pedigree.{Dweller, Pedigree, ancestors_of}
@@ -14,8 +15,8 @@ use Rattle.phylogeny.specs.Slots.{AreBelow, HaveLowerIds, living_from, parent_at
 use Rattle.phylogeny.proofs.AncestorLemmas.{line_head}
 use Rattle.phylogeny.proofs.CountLemmas.{all_counted, any_counted, bit, count_cons, count_handed, count_no, count_same}
 use Rattle.phylogeny.proofs.SlotLemmas.{dweller_at, here}
-use Rattle.phylogeny.proofs.TokenLemmas.{handed, nothing_more, stops, stops-among, stops_here}
-use Rattle.phylogeny.proofs.FilterLemmas.{range_above, filter_all, filter_yes, filter_no, filter_length, filter_few, greatest_filtered}
+use Rattle.phylogeny.proofs.TokenLemmas.{handed, stops, stops-among, stops_here}
+use Rattle.phylogeny.proofs.FilterLemmas.{range_above, filter_all, filter_length, filter_few, greatest_filtered}
 
 -- one id more is kept: with these many children, and common to all or not
 pub record Keeps (id children : ℕ) (shared : Bool) (old new : Shape) : Type 0 where
@@ -62,18 +63,12 @@ module _ (parents standing : List (Option ℕ)) where
   -- a bound that is kept stands before the kept ids above it
   kept_yes : (bound : ℕ) → bound < length parents → is_kept_id tree bound ≡ true
       → kept_from bound ≡ bound ∷ kept_from (bound + 1)
-  kept_yes bound within kept = ap (filter (is_kept_id tree)) (range_next bound within)
-      ∙ filter_yes (is_kept_id tree) bound
-      (range_with_len (bound + 1) (length parents - (bound + 1)))
-      kept
+  kept_yes bound within kept = rw (range_next bound within, kept) refl
 
   -- where a bound is not kept, the kept ids from it on are those above it
   kept_no : (bound : ℕ) → bound < length parents → is_kept_id tree bound ≡ false
       → kept_from bound ≡ kept_from (bound + 1)
-  kept_no bound within left = ap (filter (is_kept_id tree)) (range_next bound within)
-      ∙ filter_no (is_kept_id tree) bound
-      (range_with_len (bound + 1) (length parents - (bound + 1)))
-      left
+  kept_no bound within left = rw (range_next bound within, left) refl
 
   -- no kept id above a bound is below it
   kept_above : (bound : ℕ) → AllByRecursion (λ id. bound ≤ id) (kept_from (bound + 1))
@@ -126,11 +121,7 @@ module _ (parents standing : List (Option ℕ)) where
     -- no id up to this one is a child of it
     not_child : (id child : ℕ) → child ≤ id → is_child tree id child ≡ false
     not_child id child within =
-        (elim (parent_at parents child) as
-        (λ o. parent_at parents child ≡ o → option_map_or (λ above. eqb above id) o false ≡ false) [
-          | None ↦ λ is. refl
-          | Some above ↦ λ is. let lower = older child above is in grind (arith, nat_tests)
-        ]) refl
+        grind (arith, common_steps, older child)
 
     -- all kept children of an id are among the kept ids from any bound up to the next id
     children_from : (id bound : ℕ) → bound ≤ id + 1 → bound ≤ length parents
@@ -157,10 +148,10 @@ module _ (parents standing : List (Option ℕ)) where
         ∙ children_from id (id + 1) (omega arith) (omega arith))
 
     -- nobody who lives descends from an id
-    pub walked_over : (id : ℕ) (descendants children : List ℕ) (shape : Shape) → id < length parents
-        → get_or descendants id 0 ≡ 0 → IsWalked (id + 1) descendants children shape
-        → IsWalked id descendants children shape
-    walked_over id descendants children shape within none walked =
+    pub walked_over : {descendants children : List ℕ} {shape : Shape} → (id : ℕ)
+        → id < length parents → get_or descendants id 0 ≡ 0
+        → IsWalked (id + 1) descendants children shape → IsWalked id descendants children shape
+    walked_over id within none walked =
         let nobody : stopped (id + 1) id ≡ 0 =
         sym (walked.descendants_at id (omega arith)) ∙ none in
         let left : is_kept_id tree id ≡ false = kept_test id ∙ ap (ltb 0) nobody in
@@ -169,10 +160,8 @@ module _ (parents standing : List (Option ℕ)) where
           as_many = walked.as_many;
           as_many_children = walked.as_many_children;
           descendants_at = λ other below.
-              walked.descendants_at other (omega arith)
-              ∙ sym (stopped_next id other below
-              ∙ ap (λ (n : ℕ). stopped (id + 1) other + cond (is_child tree other id) n 0)
-              nobody ∙ nothing_more (stopped (id + 1) other) (is_child tree other id));
+              let before = walked.descendants_at other (omega arith) in
+              grind (arith, common_steps, before, stopped_next id other below, nobody);
           children_at = λ other below. walked.children_at other (omega arith)
               ∙ ap (count_by (is_child tree other)) same;
           common_is = walked.common_is
@@ -182,7 +171,7 @@ module _ (parents standing : List (Option ℕ)) where
               walked.branches_is ∙ ap (λ (ids : List ℕ). length (filter (is_branch tree) ids)) same;
         }
 
-    module _ (id : ℕ) (descendants children : List ℕ) (old new : Shape)
+    module _ {id : ℕ} {descendants children : List ℕ} {old new : Shape}
         (within : id < length parents) (some : 0 < get_or descendants id 0)
         (walked : IsWalked (id + 1) descendants children old)
         (keeps : Keeps id (get_or children id 0) (eqb (get_or descendants id 0) (length everybody))
@@ -194,21 +183,19 @@ module _ (parents standing : List (Option ℕ)) where
       -- the id is kept, in front of those above it
       kept_here : kept_from id ≡ id ∷ kept_from (id + 1)
       kept_here =
-          let more : ltb 0 (stopped (id + 1) id) ≡ true =
-          ap (ltb 0) (sym here_is) ∙ grind (arith, nat_tests) in
+          let more : ltb 0 (stopped (id + 1) id) ≡ true = grind (arith, nat_tests, here_is) in
           kept_yes id within (kept_test id ∙ more)
 
       -- the new common ancestor is the greatest common id of the kept ones from this id on
       common_here : new.common ≡ reduce max (filter (is_common tree) (kept_from id))
       common_here =
-          keeps.common
-          ∙ (λ i. cond (eqb (here_is i) (length everybody))
-          (option_or (walked.common_is i) (Some id)) (walked.common_is i))
-          ∙ ap (λ (b : Bool). cond b
-          (option_or (reduce max (filter (is_common tree) (kept_from (id + 1)))) (Some id))
-          (reduce max (filter (is_common tree) (kept_from (id + 1))))) (sym (common_test id))
-          ∙ sym (greatest_filtered (is_common tree) id (kept_from (id + 1)) (kept_above id))
-          ∙ ap (λ (ids : List ℕ). reduce max (filter (is_common tree) ids)) (sym kept_here)
+          rw (
+            kept_here,
+            greatest_filtered (is_common tree) id (kept_from (id + 1)) (kept_above id),
+            common_test id,
+            ← here_is,
+            ← walked.common_is,
+          ) keeps.common
 
       -- the new number of kept ids is that of the kept ones from this id on
       length_here : new.kept ≡ length (kept_from id)
@@ -217,31 +204,28 @@ module _ (parents standing : List (Option ℕ)) where
       -- the new number of branches is that of the kept ids from this id on
       branches_here : new.branches ≡ length (filter (is_branch tree) (kept_from id))
       branches_here =
-          keeps.branches
-          ∙ (λ i. walked.branches_is i + bit (nat_le 2 (walked.children_at id (omega arith) i)))
-          ∙ ap (λ (b : Bool). length (filter (is_branch tree) (kept_from (id + 1))) + bit b)
-          (sym (branch_test id within))
-          ∙ sym (filter_length (is_branch tree) id (kept_from (id + 1)))
-          ∙ ap (λ (ids : List ℕ). length (filter (is_branch tree) ids)) (sym kept_here)
+          rw (
+            kept_here,
+            filter_length (is_branch tree) id (kept_from (id + 1)),
+            branch_test id within,
+            ← walked.children_at id (omega arith),
+            ← walked.branches_is,
+          ) keeps.branches
 
       -- at a lower id as many are counted as before, and those of this id where it is a child
       descendants_next : (other : ℕ) → other < id
           → stopped id other ≡ get_or descendants other 0 + cond (is_child tree other id)
           (get_or descendants id 0) 0
       descendants_next other below =
-          stopped_next id other below
-          ∙ (λ i. sym (walked.descendants_at other (omega arith)) i + cond (is_child tree other id)
-          (sym here_is i) 0)
+          rw (walked.descendants_at other (omega arith), here_is) (stopped_next id other below)
 
       -- a lower id has as many kept children as before, and this id where it is a child
       children_next : (other : ℕ) → other < id
           → count_by (is_child tree other) (kept_from id)
           ≡ get_or children other 0 + bit (is_child tree other id)
       children_next other below =
-          ap (count_by (is_child tree other)) kept_here
-          ∙ count_cons (is_child tree other) id (kept_from (id + 1))
-          ∙ (λ i. bit (is_child tree other id) + sym (walked.children_at other (omega arith)) i)
-          ∙ omega arith
+          rw (kept_here, count_cons (is_child tree other) id (kept_from (id + 1)))
+          (omega (arith, walked.children_at other (omega arith)))
 
       -- a founder hands nothing on
       pub walked_founder : parent_at parents id ≡ None → IsWalked id descendants children new
@@ -249,12 +233,9 @@ module _ (parents standing : List (Option ℕ)) where
         as_many = walked.as_many;
         as_many_children = walked.as_many_children;
         descendants_at = λ other below.
-            sym (descendants_next other below
-            ∙ ap (λ (b : Bool). get_or descendants other 0 + cond b (get_or descendants id 0) 0)
-            (not_of other) ∙ omega arith);
+            grind (arith, common_steps, descendants_next other below, not_of other);
         children_at = λ other below.
-            sym (children_next other below
-            ∙ ap (λ (b : Bool). get_or children other 0 + bit b) (not_of other) ∙ omega arith);
+            grind (arith, common_steps, children_next other below, not_of other);
         common_is = common_here;
         kept_is = length_here;
         branches_is = branches_here;
@@ -274,39 +255,10 @@ module _ (parents standing : List (Option ℕ)) where
             (get_or descendants above 0 + get_or descendants id 0) ∙ walked.as_many;
         as_many_children =
             length-set children above (get_or children above 0 + 1) ∙ walked.as_many_children;
-        descendants_at = λ other below. elim (eqb_tells above other) [
-          | inl same ↦
-              ap (get_or (set descendants above
-              (get_or descendants above 0 + get_or descendants id 0)) other) refl
-              ∙ subst (λ (k : ℕ). get_or
-              (set descendants above (get_or descendants above 0 + get_or descendants id 0)) k 0
-              ≡ get_or descendants k 0 + get_or descendants id 0) same.1
-              (get_or-set_same descendants above
-              (get_or descendants above 0 + get_or descendants id 0) 0 there)
-              ∙ sym (descendants_next other below
-              ∙ ap (λ (b : Bool). get_or descendants other 0 + cond b (get_or descendants id 0)
-              0) (child_is other ∙ same.0))
-          | inr apart ↦
-              get_or-set_other descendants above other
-              (get_or descendants above 0 + get_or descendants id 0) 0 (λ e. apart.1 (sym e))
-              ∙ sym (descendants_next other below
-              ∙ ap (λ (b : Bool). get_or descendants other 0 + cond b (get_or descendants id 0)
-              0) (child_is other ∙ apart.0) ∙ omega arith)
-        ];
-        children_at = λ other below. elim (eqb_tells above other) [
-          | inl same ↦
-              subst (λ (k : ℕ). get_or (set children above (get_or children above 0 + 1)) k 0
-              ≡ get_or children k 0 + 1) same.1
-              (get_or-set_same children above (get_or children above 0 + 1) 0 there_too)
-              ∙ sym (children_next other below
-              ∙ ap (λ (b : Bool). get_or children other 0 + bit b) (child_is other ∙ same.0))
-          | inr apart ↦
-              get_or-set_other children above other (get_or children above 0 + 1) 0
-              (λ e. apart.1 (sym e))
-              ∙ sym (children_next other below
-              ∙ ap (λ (b : Bool). get_or children other 0 + bit b) (child_is other ∙ apart.0)
-              ∙ omega arith)
-        ];
+        descendants_at = λ other below.
+            grind (arith, common_steps, descendants_next other below, child_is other, there);
+        children_at = λ other below.
+            grind (arith, common_steps, children_next other below, child_is other, there_too);
         common_is = common_here;
         kept_is = length_here;
         branches_is = branches_here;
@@ -325,10 +277,10 @@ module _ (parents standing : List (Option ℕ)) where
           child_is other = ap (λ (o : Option ℕ). option_map_or (λ a. eqb a other) o false) is
 
     -- what is counted stays within the numbers of those who live and of the ids
-    pub descendants_few : (id above : ℕ) (descendants children : List ℕ) (shape : Shape)
+    pub descendants_few : {descendants children : List ℕ} {shape : Shape} → (id above : ℕ)
         → parent_at parents id ≡ Some above → IsWalked (id + 1) descendants children shape
         → get_or descendants above 0 + get_or descendants id 0 ≤ length everybody
-    descendants_few id above descendants children shape is walked =
+    descendants_few id above is walked =
         let lower = older id above is in
         let child : is_child tree above id ≡ true =
         ap (λ (o : Option ℕ). option_map_or (λ a. eqb a above) o false) is
@@ -344,10 +296,10 @@ module _ (parents standing : List (Option ℕ)) where
         )
 
     -- a parent of this id has no more children so far than there are ids above this one
-    pub children_few : (id above : ℕ) (descendants children : List ℕ) (shape : Shape)
+    pub children_few : {descendants children : List ℕ} {shape : Shape} → (id above : ℕ)
         → parent_at parents id ≡ Some above → IsWalked (id + 1) descendants children shape
         → get_or children above 0 ≤ length parents - (id + 1)
-    children_few id above descendants children shape is walked =
+    children_few id above is walked =
         let lower = older id above is in
         omega (
           arith,
@@ -357,10 +309,10 @@ module _ (parents standing : List (Option ℕ)) where
         )
 
   -- no more ids are kept than were walked over, and no more are branches than are kept
-  pub shape_few : (bound : ℕ) (descendants children : List ℕ) (shape : Shape)
+  pub shape_few : {bound : ℕ} {descendants children : List ℕ} {shape : Shape}
       → IsWalked bound descendants children shape → (shape.kept ≤ length parents - bound)
       × (shape.branches ≤ shape.kept)
-  shape_few bound descendants children shape walked = (
+  shape_few {bound = bound} walked = (
     omega (arith, walked.kept_is, kept_few bound),
     omega (
       arith,
@@ -383,11 +335,14 @@ module _ (parents standing : List (Option ℕ)) where
       let h = line_head (parent_at parents) who who in
       let at_itself : stops bound id (ancestors_of tree who) ≡ eqb who id =
       ap (stops bound id) h.1 ∙ stops_here bound id who h.0 (below zero who refl) in
-      count_cons (λ w. stops bound id (ancestors_of tree w.id)) (dweller_at cell who)
-      (living_from (suc cell) slots)
-      ∙ (λ i. bit (at_itself i) + stopped_first bound id (suc cell) slots
-      (λ k w is. below (suc k) w is) i)
-      ∙ sym (count_cons (λ w. eqb w.id id) (dweller_at cell who) (living_from (suc cell) slots))
+      let rest = stopped_first bound id (suc cell) slots (λ k w is. below (suc k) w is) in
+      rw (
+        count_cons (λ w. stops bound id (ancestors_of tree w.id)) (dweller_at cell who)
+            (living_from (suc cell) slots),
+        at_itself,
+        rest,
+      )
+      (sym (count_cons (λ w. eqb w.id id) (dweller_at cell who) (living_from (suc cell) slots)))
 
   -- no id is kept from a bound on that is past all ids
   none_kept : (bound : ℕ) → length parents ≤ bound → kept_from bound ≡ []
@@ -418,20 +373,20 @@ module _ (parents standing : List (Option ℕ)) where
       }
 
   -- after the walk the common ancestor is the most recent one of the pedigree
-  pub walked_common : (descendants children : List ℕ) (shape : Shape)
+  pub walked_common : {descendants children : List ℕ} {shape : Shape}
       → IsWalked 0 descendants children shape → shape.common ≡ most_recent_common_ancestor tree
   unfolding most_recent_common_ancestor
-  walked_common descendants children shape walked = walked.common_is
+  walked_common walked = walked.common_is
       ∙ ap (λ (ids : List ℕ). reduce max (filter (is_common tree) ids)) (sym kept_is_all)
 
   -- after the walk as many ids are kept as the pedigree keeps
-  pub walked_kept : (descendants children : List ℕ) (shape : Shape)
+  pub walked_kept : {descendants children : List ℕ} {shape : Shape}
       → IsWalked 0 descendants children shape → shape.kept ≡ length (kept_ids_of tree)
-  walked_kept descendants children shape walked = walked.kept_is ∙ ap length (sym kept_is_all)
+  walked_kept walked = walked.kept_is ∙ ap length (sym kept_is_all)
 
   -- after the walk there are as many branches as the pedigree has
-  pub walked_branches : (descendants children : List ℕ) (shape : Shape)
+  pub walked_branches : {descendants children : List ℕ} {shape : Shape}
       → IsWalked 0 descendants children shape → shape.branches ≡ length (branches_of tree)
   unfolding branches_of
-  walked_branches descendants children shape walked = walked.branches_is
+  walked_branches walked = walked.branches_is
       ∙ ap (λ (ids : List ℕ). length (filter (is_branch tree) ids)) (sym kept_is_all)

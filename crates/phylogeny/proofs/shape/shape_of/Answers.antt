@@ -1,4 +1,4 @@
-use Rattle.std.proofs.Common.{◌≡◌, ℕ, ◌+◌, ◌-◌, ◌<◌, ◌≤◌, cond, eqb, List, Option, Some, length, get_or, set, subst, sym, ap, refl, ◌∙◌, arith}
+use Rattle.std.proofs.Common.{◌≡◌, ℕ, ◌+◌, ◌-◌, ◌<◌, cond, eqb, List, Option, Some, length, get_or, sym, ap, refl, ◌∙◌, arith}
 use Rattle.std.specs.Prelude.{is_some, nat_le}
 use Rattle.std.specs.Option.{option_or}
 use Rattle.std.proofs.lemmas.List.{get_or_default}
@@ -14,19 +14,10 @@ use Rattle.phylogeny.proofs.shape.shape_of.Goals as goal
 read_is : (xs : List ℕ) (i r n : ℕ) → length xs ≡ n → i < n → r ≡ get_or xs i r → r ≡ get_or xs i 0
 read_is xs i r n len within is = is ∙ get_or_default xs i r 0 (omega (arith, len))
 
-before : (parents standing : List (Option ℕ)) (bound : ℕ) (descendants children : List ℕ)
-    (shape : Shape) → 0 < bound → IsWalked parents standing bound descendants children shape
-    → IsWalked parents standing ((bound - 1) + 1) descendants children shape
-before parents standing bound descendants children shape left walked =
-    let e : bound ≡ (bound - 1) + 1 = omega arith in
-    subst (λ (n : ℕ). IsWalked parents standing n descendants children shape) e walked
-
-at_end : (parents standing : List (Option ℕ)) (bound : ℕ) (descendants children : List ℕ)
-    (shape : Shape) → bound ≤ 0 → IsWalked parents standing bound descendants children shape
-    → IsWalked parents standing 0 descendants children shape
-at_end parents standing bound descendants children shape ended walked =
-    let e : bound ≡ 0 = omega arith in
-    subst (λ (n : ℕ). IsWalked parents standing n descendants children shape) e walked
+moved : {parents standing : List (Option ℕ)} {bound to : ℕ} {descendants children : List ℕ}
+    {shape : Shape} → bound ≡ to → IsWalked parents standing bound descendants children shape
+    → IsWalked parents standing to descendants children shape
+moved e walked = rw (← e) walked
 
 pub loop-id-init : goal.loop-id-init
 loop-id-init c =
@@ -45,9 +36,7 @@ loop-id-init c =
 walked : (c : After-index-below)
     → IsWalked c.args.parents.now c.args.standing.now ((c.loop-id.id - 1) + 1)
     c.loop-id.descendants.items c.loop-id.children.items c.loop-id.shape
-walked c =
-    before c.args.parents.now c.args.standing.now c.loop-id.id c.loop-id.descendants.items
-    c.loop-id.children.items c.loop-id.shape c.loop-id-test.true c.loop-id.invariant
+walked c = moved (omega (arith, c.loop-id-test.true)) c.loop-id.invariant
 
 -- the id is below the bound
 within : (c : After-index-below) → c.loop-id.id - 1 < length c.args.parents.now
@@ -91,14 +80,12 @@ keeps c =
 pub loop-id-preserved-then-below-eq0 : goal.loop-id-preserved-then-below-eq0
 loop-id-preserved-then-below-eq0 c =
     let at = (goal.at.loop-id-preserved-then-below-eq0 c).After-index-below in
-    walked_over c.args.parents.now c.args.standing.now c.requires.older (c.loop-id.id - 1)
-    c.loop-id.descendants.items c.loop-id.children.items c.loop-id.shape (within at)
-    (sym (below_is at) ∙ c.if-below-eq0.true) (walked at)
+    walked_over _ _ c.requires.older _ (within at) (sym (below_is at) ∙ c.if-below-eq0.true)
+    (walked at)
 
 pub keep-requires-clause-kept : goal.keep-requires-clause-kept
 keep-requires-clause-kept c =
-    let few = shape_few c.args.parents.now c.args.standing.now c.loop-id.id
-    c.loop-id.descendants.items c.loop-id.children.items c.loop-id.shape c.loop-id.invariant in
+    let few = shape_few c.args.parents.now c.args.standing.now c.loop-id.invariant in
     omega (
       arith,
       few.0,
@@ -111,8 +98,7 @@ keep-requires-clause-kept c =
 
 pub keep-requires-clause-branches : goal.keep-requires-clause-branches
 keep-requires-clause-branches c =
-    (shape_few c.args.parents.now c.args.standing.now c.loop-id.id c.loop-id.descendants.items
-    c.loop-id.children.items c.loop-id.shape c.loop-id.invariant).1
+    (shape_few c.args.parents.now c.args.standing.now c.loop-id.invariant).1
 
 pub overflow_add-index_mut : goal.overflow_add-index_mut
 overflow_add-index_mut c =
@@ -124,7 +110,7 @@ overflow_add-index_mut c =
     let above = read_is l.descendants.items c.in-Some.parent c.index_mut.result.now
     (length parents) l.invariant.as_many (lower at.In-Some) c.index_mut.ensures.value in
     let few = descendants_few parents standing c.requires.older (l.id - 1) c.in-Some.parent
-    l.descendants.items l.children.items l.shape c.in-Some.is (walked at.After-index-below) in
+    c.in-Some.is (walked at.After-index-below) in
     let living = living_count 0 standing in
     let cells = count_by-le-length is_some standing in
     omega (arith, here, above, few, living, cells, c.requires.few)
@@ -138,8 +124,7 @@ overflow_add-index_mut-in-Some c =
     (length parents) l.invariant.as_many_children (lower at.In-Some)
     c.index_mut-in-Some.ensures.value in
     let few = children_few parents c.args.standing.now c.requires.older (l.id - 1)
-    c.in-Some.parent l.descendants.items l.children.items l.shape c.in-Some.is
-    (walked at.After-index-below) in
+    c.in-Some.parent c.in-Some.is (walked at.After-index-below) in
     omega (
       arith,
       above,
@@ -163,18 +148,9 @@ loop-id-preserved-in-Some c =
     c.index_mut-in-Some.ensures.value in
     let some : 0 < get_or l.descendants.items (l.id - 1) 0 =
     omega (arith, below, c.if-below-eq0.false) in
-    let now = walked_child parents standing c.requires.older (l.id - 1) l.descendants.items
-    l.children.items l.shape c.keep.new.self (within at.After-index-below) some
-    (walked at.After-index-below) (keeps at.After-keep) c.in-Some.parent c.in-Some.is in
-    subst (λ (ds : List ℕ). IsWalked parents standing (l.id - 1) ds
-    (set l.children.items c.in-Some.parent (c.index_mut-in-Some.result.now + 1))
-    c.keep.new.self)
-    (λ i. set l.descendants.items c.in-Some.parent (sym above i + sym below i))
-    (subst (λ (cs : List ℕ). IsWalked parents standing (l.id - 1)
-    (set l.descendants.items c.in-Some.parent
-    (get_or l.descendants.items c.in-Some.parent 0 + get_or l.descendants.items (l.id - 1) 0))
-    cs c.keep.new.self)
-    (λ i. set l.children.items c.in-Some.parent (sym above_too i + 1)) now)
+    rw (above, below, above_too) (walked_child parents standing c.requires.older
+    (within at.After-index-below) some (walked at.After-index-below) (keeps at.After-keep)
+    c.in-Some.parent c.in-Some.is)
 
 pub loop-id-preserved : goal.loop-id-preserved
 loop-id-preserved c =
@@ -183,19 +159,14 @@ loop-id-preserved c =
     let below = below_is at.After-index-below in
     let some : 0 < get_or l.descendants.items (l.id - 1) 0 =
     omega (arith, below, c.if-below-eq0.false) in
-    walked_founder c.args.parents.now c.args.standing.now c.requires.older (l.id - 1)
-    l.descendants.items l.children.items l.shape c.keep.new.self (within at.After-index-below) some
+    walked_founder _ _ c.requires.older (within at.After-index-below) some
     (walked at.After-index-below) (keeps at.After-keep) c.in_default.is
 
 pub returns : goal.returns
 returns c =
-    let l = c.loop-id in
-    let p = c.args.parents.now in
-    let s = c.args.standing.now in
-    let end = at_end p s l.id l.descendants.items l.children.items l.shape c.loop-id-test.false
-    l.invariant in
+    let end = moved (omega (arith, c.loop-id-test.false)) c.loop-id.invariant in
     record {
-      common = walked_common p s l.descendants.items l.children.items l.shape end;
-      kept = walked_kept p s l.descendants.items l.children.items l.shape end;
-      branches = walked_branches p s l.descendants.items l.children.items l.shape end;
+      common = walked_common _ _ end;
+      kept = walked_kept _ _ end;
+      branches = walked_branches _ _ end;
     }
