@@ -1,6 +1,6 @@
 -- Histories, their prefixes, and the calls under some numbers.
-use Rattle.std.proofs.Common.{◌≡◌, ◌⊎◌, ℕ, suc, ◌<◌, ◌≤◌, List, [], ◌∷◌, ◌++◌, length, Bool, true, false, true≢false, refl, sym, ap, ◌||◌, ◌∙◌, subst, inl, inr, ⊎_elim, arith, eqb, eq-eqb, ne_eqb, length-append, append-nil, append_assoc, if◌then◌else◌, cond, Option, Some, None}
-use Rattle.std.proofs.lemmas.Bool.{lt-ltb, le-ltb}
+use Rattle.std.proofs.Common.{◌≡◌, ◌⊎◌, ℕ, suc, ◌<◌, ◌≤◌, List, [], ◌∷◌, ◌++◌, length, Bool, true, false, true≢false, refl, sym, ap, ◌||◌, ◌∙◌, subst, inl, inr, arith, eqb, eq-eqb, ne_eqb, length-append, append-nil, append_assoc, if◌then◌else◌, cond, Option, Some, None}
+use Rattle.std.proofs.lemmas.Bool.{lt-ltb, le-ltb, or_cases, or_right}
 use Rattle.std.specs.Prelude.{nat_lt}
 use mathlib.Core.Option.{some, some-ne-none}
 use mathlib.Core.Logic.{dite}
@@ -176,8 +176,7 @@ longer_least xs ys = dite (dec_lt (length xs) (length ys))
 -- a number is among two lists put together where it is among one of them
 pub has_app : (n : ℕ) (c d : List ℕ) → is_among n (c ++ d) ≡ (is_among n c || is_among n d)
 has_app n [] d = refl
-has_app n (x ∷ c) d =
-    ap (λ b. eqb n x || b) (has_app n c d) ∙ or_assoc (eqb n x) (is_among n c) (is_among n d)
+has_app n (x ∷ c) d = rw (has_app n c d) (or_assoc (eqb n x) (is_among n c) (is_among n d))
   where
     or_assoc : (a b c : Bool) → (a || (b || c)) ≡ ((a || b) || c)
     or_assoc true b c = refl
@@ -186,12 +185,7 @@ has_app n (x ∷ c) d =
 -- a number among two lists put together is among the first or the second
 pub either_has : (n : ℕ) (c d : List ℕ) → is_among n (c ++ d) ≡ true → (is_among n c ≡ true)
     ⊎ (is_among n d ≡ true)
-either_has n c d h = by (is_among n c) refl (sym (has_app n c d) ∙ h)
-  where
-    by : (b : Bool) → is_among n c ≡ b → (b || is_among n d) ≡ true → (is_among n c ≡ true)
-        ⊎ (is_among n d ≡ true)
-    by true is e = inl is
-    by false is e = inr e
+either_has n c d h = or_cases (is_among n c) (is_among n d) (sym (has_app n c d) ∙ h)
 
 -- a number of the first list is among both put together
 pub has_left : (n : ℕ) (c d : List ℕ) → is_among n c ≡ true → is_among n (c ++ d) ≡ true
@@ -199,8 +193,4 @@ has_left n c d h = has_app n c d ∙ ap (λ b. b || is_among n d) h
 
 -- a number of the second list is among both put together
 pub has_right : (n : ℕ) (c d : List ℕ) → is_among n d ≡ true → is_among n (c ++ d) ≡ true
-has_right n c d h = has_app n c d ∙ (ap (λ b. is_among n c || b) h ∙ or_true (is_among n c))
-  where
-    or_true : (b : Bool) → (b || true) ≡ true
-    or_true true = refl
-    or_true false = refl
+has_right n c d h = has_app n c d ∙ or_right (is_among n c) (is_among n d) h
