@@ -1,5 +1,5 @@
 -- A bank begins; seats are split and joined; a bank is closed. Each step keeps the rule.
-use Rattle.std.proofs.Common.{◌≡◌, ◌≢◌, ℕ, zero, suc, ◌+◌, ◌-◌, ◌<◌, ◌≤◌, List, [], ◌∷◌, ◌++◌, length, set, get_or, true, false, refl, sym, ap, ◌∙◌, subst, inl, inr, ⊎_elim, arith, Option, Some, None}
+use Rattle.std.proofs.Common.{◌≡◌, ℕ, zero, suc, ◌+◌, ◌-◌, ◌<◌, ◌≤◌, List, [], ◌∷◌, ◌++◌, length, set, get_or, true, false, refl, sym, ap, ◌∙◌, subst, inl, inr, ⊎_elim, arith, Option, Some, None}
 use mathlib.Core.Option.{some, none, some-injective}
 use mathlib.Core.Logic.{dite}
 use mathlib.Core.List.{IsPrefix}
@@ -13,13 +13,13 @@ use Rattle.genotype_bank.specs.declared.view.Memo.{Memo}
 use Rattle.genotype_bank.specs.declared.view.Entry.{Entry}
 use Rattle.genotype_bank.specs.BankHistory.{genotypes_of, is_among}
 use Rattle.genotype_bank.specs.Seats.{all_shares}
-use Rattle.genotype_bank.specs.Views.{idle_view, first_view, spent_view, total, seat_share, draws_of, one_if, Carries, FitsHistory, SomeSeat, NumbersArePlaces, SawOwn}
+use Rattle.genotype_bank.specs.Views.{idle_view, first_view, spent_view, seat_share, draws_of, one_if, Carries, FitsHistory, SomeSeat, NumbersArePlaces, SawOwn}
 use Rattle.genotype_bank.specs.Catalog.{genomes_in}
 use Rattle.genotype_bank.specs.BankTable.{IsBankTable, Seated}
 use Rattle.genotype_bank.specs.BankSteps.{kept_half, new_half, joined_view, longer, memo_of, HasRecalled}
 use Rattle.genotype_bank.proofs.ViewLemmas.{within, one_there, total_set, total_snoc, each_set, each_snoc, only_set, only_keep, only_snoc, seats_kept, some_set, some_snoc, placed_set, placed_keep, placed_snoc, total_ge, set_swap}
 use Rattle.genotype_bank.proofs.HistoryLemmas.{none_some, off, nothing_there, in_front, own_seen, own_all, second_case, pre_two, pre_whole, pick, longer_least, either_has, has_left, has_right}
-use Rattle.genotype_bank.proofs.TableLemmas.{fits_idle, fits_new, others_spent, carried_all, whole_seen}
+use Rattle.genotype_bank.proofs.TableLemmas.{fits_rest, fits_idle, fits_new, others_spent, carried_all, whole_seen}
 
 -- a bank begins with an empty catalog and one whole seat, by the rule
 pub begins : (d : Catalog) → genomes_in d ≡ []
@@ -46,15 +46,9 @@ begins d empty = record {
     place (suc j) v e = absurd (nothing_there j v e)
 
     one : (j : ℕ) (v : View) → get_elem? (first_view ∷ []) j ≡ some v → FitsHistory [] 0 v
-    one zero v e = subst (FitsHistory [] 0) (some-injective first_view v e) record {
-      begins = ([], refl);
-      spent = λ s. absurd (let h : 4294967296 ≡ 0 = s in omega arith);
-      waits = λ t e. absurd (none_some t e);
-      holds = λ h. absurd (off h);
-      saw = λ i e there c. absurd (nothing_there i e there);
-      recalls = (λ k m at. absurd (nothing_there k m at));
-      once = λ k l m o n at _ _ _. absurd (nothing_there k m at);
-    }
+    one zero v e = subst (FitsHistory [] 0) (some-injective first_view v e)
+        (fits_rest [] 0 all_shares [] [] ([], refl)
+        (λ s. absurd (let h : 4294967296 ≡ 0 = s in omega arith)) (λ i e there c. absurd (off c)))
     one (suc j) v e = absurd (nothing_there j v e)
 
     none_carried : NumbersArePlaces (first_view ∷ [])
@@ -75,19 +69,23 @@ splits id v two free idle' s k at =
       history = k.history;
       drawn = k.drawn;
       words = k.words;
-      out = (let x : total draws_of a + draws_of v ≡ total draws_of s.views + 0 =
-          total_set draws_of s.views id v left at in
-          let y : total draws_of (a ++ right ∷ []) ≡ total draws_of a + 0 =
-          total_snoc draws_of a right in let z : draws_of v ≡ 0 = ap one_if free in let o = k.out in
-          omega arith);
+      out = omega (
+        arith,
+        total_set draws_of s.views id v left at,
+        total_snoc draws_of a right,
+        ap one_if free,
+        k.out,
+      );
       turn = λ t. only_snoc (λ (u : View). u.ticket ≡ Some t) a right
           (only_keep (λ (u : View). u.ticket ≡ Some t) s.views id v left at (k.turn t)
           (λ e. absurd (none_some t e))) (λ e. absurd (none_some t e));
       seats = record {
-        shares = (let x : total seat_share a + v.share ≡ total seat_share s.views + (v.share - 1) =
-            total_set seat_share s.views id v left at in
-            let y : total seat_share (a ++ right ∷ []) ≡ total seat_share a + 1 =
-            total_snoc seat_share a right in let z = k.seats.shares in omega arith);
+        shares = omega (
+          arith,
+          total_set seat_share s.views id v left at,
+          total_snoc seat_share a right,
+          k.seats.shares,
+        );
         apart = λ n. only_snoc (λ (u : View). Carries u n) a right
             (only_keep (λ (u : View). Carries u n) s.views id v left at (k.seats.apart n) (λ c. c))
             (λ c. absurd (off c));
@@ -155,31 +153,34 @@ joins id v other w pos free free' idle' idle'' s k at apart there =
       history = k.history;
       drawn = k.drawn;
       words = k.words;
-      out = (let x : total draws_of one + draws_of w ≡ total draws_of s.views + 0 =
-          total_set draws_of s.views other w spent_view there' in
-          let y : total draws_of (set one id b) + draws_of v ≡ total draws_of one + 0 =
-          total_set draws_of one id v b at1 in let p : draws_of v ≡ 0 = ap one_if free in
-          let q : draws_of w ≡ 0 = ap one_if free' in let o = k.out in omega arith);
+      out = omega (
+        arith,
+        total_set draws_of s.views other w spent_view there',
+        total_set draws_of one id v b at1,
+        ap one_if free,
+        ap one_if free',
+        k.out,
+      );
       turn = λ t. only_keep (λ (u : View). u.ticket ≡ Some t) one id v b at1
           (only_keep (λ (u : View). u.ticket ≡ Some t) s.views other w spent_view there' (k.turn t)
           (λ e. absurd (none_some t e))) (λ e. absurd (none_some t e));
       seats = record {
-        shares = (let x : total seat_share one + w.share ≡ total seat_share s.views + 0 =
-            total_set seat_share s.views other w spent_view there' in
-            let y : total seat_share (set one id b) + v.share
-            ≡ total seat_share one + (v.share + w.share) = total_set seat_share one id v b at1 in
-            let z = k.seats.shares in omega arith);
+        shares = omega (
+          arith,
+          total_set seat_share s.views other w spent_view there',
+          total_set seat_share one id v b at1,
+          k.seats.shares,
+        );
         apart = λ n. only_set (λ (u : View). Carries u n) one id b
             (only_keep (λ (u : View). Carries u n) s.views other w spent_view there'
             (k.seats.apart n) (λ c. absurd (off c)))
-            (λ c j y no' e cy. ⊎_elim
-            (λ (a : (j ≡ other) × (spent_view ≡ y)).
-            off (subst (λ (u : View). Carries u n) (sym a.1) cy))
-            (λ (a : (j ≢ other) × (get_elem? s.views j ≡ some y)).
-            ⊎_elim (λ h. no' (k.seats.apart n j id y v a.1 at cy h))
-            (λ h. a.0 (k.seats.apart n j other y w a.1 there' cy h))
-            (either_has n v.carried w.carried c))
-            (at_set s.views other j spent_view y e));
+            (λ c j y no' e cy. elim (at_set s.views other j spent_view y e) [
+              | inl a ↦ off (subst (λ (u : View). Carries u n) (sym a.1) cy)
+              | inr a ↦ elim (either_has n v.carried w.carried c) [
+                | inl h ↦ no' (k.seats.apart n j id y v a.1 at cy h)
+                | inr h ↦ a.0 (k.seats.apart n j other y w a.1 there' cy h)
+              ]
+            ]);
         placed = placed_set one id v b at1 (λ _. pos)
             (λ n c. ⊎_elim (λ h. placed1 id v n at1 h)
             (λ h. let p = k.seats.placed other w n there' h in dite (ℕ_discrete n other)
@@ -227,15 +228,8 @@ joins id v other w pos free free' idle' idle'' s k at apart there =
     }
   where
     spent_fits : (history : List Entry) (drawn : ℕ) → FitsHistory history drawn spent_view
-    spent_fits history drawn = record {
-      begins = (history, refl);
-      spent = λ _. refl;
-      waits = λ t e. absurd (none_some t e);
-      holds = λ h. absurd (off h);
-      saw = λ i e x c. absurd (off c);
-      recalls = (λ n x e. absurd (nothing_there n x e));
-      once = λ j l x y n at' _ _ _. absurd (nothing_there j x at');
-    }
+    spent_fits history drawn = fits_rest history drawn 0 [] [] (history, refl) (λ _. refl)
+        (λ i e x c. absurd (off c))
 
     recall : (history : List Entry) (v w : View) → IsPrefix (longer v.seen w.seen) history
         → IsPrefix v.seen history → IsPrefix w.seen history → SawOwn v.carried v.seen history
@@ -292,9 +286,7 @@ recalls slots id m pos free idle' s k wide at small =
         history = k.history;
         drawn = k.drawn;
         words = sym same ∙ k.words;
-        out = (let x : total draws_of (set s.views id w) + draws_of v ≡ total draws_of s.views + 0 =
-            total_set draws_of s.views id v w at in let z : draws_of v ≡ 0 = ap one_if free in
-            let o = k.out in omega arith);
+        out = omega (arith, total_set draws_of s.views id v w at, ap one_if free, k.out);
         turn = λ n. only_keep (λ (u : View). u.ticket ≡ Some n) s.views id v w at (k.turn n)
             (λ is. absurd (none_some n is));
         seats = seats_kept k.history k.history s.views id v w at refl refl k.seats

@@ -1,7 +1,8 @@
 -- What the rule says of one seat.
-use Rattle.std.proofs.Common.{◌≡◌, ◌≢◌, ℕ, ◌+◌, ◌<◌, ◌≤◌, List, [], length, set, sym, ap, ◌∙◌, subst, arith, Option, Some, None}
+use Rattle.std.proofs.Common.{◌≡◌, ◌≢◌, ℕ, ◌<◌, ◌≤◌, List, [], length, set, sym, ap, ◌∙◌, subst, arith, Option, Some, None}
 use mathlib.Core.Option.{some}
 use mathlib.Core.Logic.{dite}
+use mathlib.Core.List.{IsPrefix}
 use native.Mathlib.Decide.{ℕ_discrete}
 use lib.ListN.{get_elem?}
 use Rattle.atomic_table.proofs.Lists.{set_else}
@@ -10,37 +11,38 @@ use Rattle.genotype_bank.specs.declared.catalog.Catalog.{Catalog}
 use Rattle.genotype_bank.specs.declared.view.View.{View}
 use Rattle.genotype_bank.specs.declared.view.Entry.{Entry}
 use Rattle.genotype_bank.specs.Seats.{all_shares}
-use Rattle.genotype_bank.specs.Views.{idle_view, spent_view, total, seat_share, draws_of, one_if, Carries, FitsHistory}
+use Rattle.genotype_bank.specs.Views.{idle_view, spent_view, total, seat_share, draws_of, one_if, Carries, FitsHistory, SawOwn}
 use Rattle.genotype_bank.specs.BankTable.{IsBankTable}
 use Rattle.genotype_bank.proofs.ViewLemmas.{one_there, total_set, total_le, total_ge}
 use Rattle.genotype_bank.proofs.HistoryLemmas.{none_some, off, nothing_there, pre_whole}
+
+-- a seat between its calls, which has seen its own of a prefix of the history
+pub fits_rest : (history : List Entry) (drawn share : ℕ) (carried : List ℕ) (seen : List Entry)
+    → IsPrefix seen history → (share ≡ 0 → idle_view share carried seen ≡ spent_view)
+    → SawOwn carried seen history → FitsHistory history drawn (idle_view share carried seen)
+fits_rest history drawn share carried seen begins spent saw = record {
+  begins = begins;
+  spent = spent;
+  waits = λ t e. absurd (none_some t e);
+  holds = λ h. absurd (off h);
+  saw = saw;
+  recalls = (λ k m at. absurd (nothing_there k m at));
+  once = λ k l m o n at _ _ _. absurd (nothing_there k m at);
+}
 
 -- a seat that is between its calls
 pub fits_idle : (history : List Entry) (drawn : ℕ) (v : View) (share : ℕ)
     → FitsHistory history drawn v → 0 < share
     → FitsHistory history drawn (idle_view share v.carried v.seen)
-fits_idle history drawn v share f pos = record {
-  begins = f.begins;
-  spent = λ s. absurd (let h : share ≡ 0 = s in omega arith);
-  waits = λ t e. absurd (none_some t e);
-  holds = λ h. absurd (off h);
-  saw = f.saw;
-  recalls = (λ k m at. absurd (nothing_there k m at));
-  once = λ k l m o n at _ _ _. absurd (nothing_there k m at);
-}
+fits_idle history drawn v share f pos =
+    fits_rest history drawn share v.carried v.seen f.begins (λ s. absurd (omega arith)) f.saw
 
 -- a new seat without calls, which has seen the same
 pub fits_new : (history : List Entry) (drawn : ℕ) (v : View) → FitsHistory history drawn v
     → FitsHistory history drawn (idle_view 1 [] v.seen)
-fits_new history drawn v f = record {
-  begins = f.begins;
-  spent = λ s. absurd (let h : 1 ≡ 0 = s in omega arith);
-  waits = λ t e. absurd (none_some t e);
-  holds = λ h. absurd (off h);
-  saw = λ i e there c. absurd (off c);
-  recalls = (λ k m at. absurd (nothing_there k m at));
-  once = λ k l m o n at _ _ _. absurd (nothing_there k m at);
-}
+fits_new history drawn v f =
+    fits_rest history drawn 1 [] v.seen f.begins (λ s. absurd (omega arith))
+    (λ i e there c. absurd (off c))
 
 -- an entry under the seat's number is one of those that it carries
 pub own_number : (s : State (Option Catalog) View) (k : IsBankTable s) (id : ℕ) (v : View)
@@ -85,13 +87,14 @@ pub others_spent : (s : State (Option Catalog) View) (k : IsBankTable s) (id : �
     → get_elem? s.views id ≡ some w → w.share ≡ all_shares → (j : ℕ) (u : View)
     → get_elem? s.views j ≡ some u → j ≢ id → u ≡ spent_view
 others_spent s k id w at all j u there ne =
-    let a : total seat_share (set s.views id spent_view) + w.share ≡ total seat_share s.views + 0 =
-    total_set seat_share s.views id w spent_view at in
-    let b : u.share ≤ total seat_share (set s.views id spent_view) =
-    total_ge seat_share (set s.views id spent_view) j u
-    (set_else s.views id j spent_view ne ∙ there) in
-    let c = k.seats.shares in
-    (k.each j u there).spent (omega arith)
+    (k.each j u there).spent (omega (
+      arith,
+      all,
+      total_set seat_share s.views id w spent_view at,
+      total_ge seat_share (set s.views id spent_view) j u
+          (set_else s.views id j spent_view ne ∙ there),
+      k.seats.shares,
+    ))
 
 -- a whole seat carries the number of each call
 pub carried_all : (s : State (Option Catalog) View) (k : IsBankTable s) (id : ℕ) (w : View)

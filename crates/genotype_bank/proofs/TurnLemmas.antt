@@ -12,13 +12,13 @@ use Rattle.genotype_bank.specs.declared.catalog.Catalog.{Catalog}
 use Rattle.genotype_bank.specs.declared.view.View.{View}
 use Rattle.genotype_bank.specs.declared.view.Entry.{Entry}
 use Rattle.genotype_bank.specs.BankHistory.{entry, genotypes_of, is_among}
-use Rattle.genotype_bank.specs.Views.{idle_view, total, seat_share, draws_of, one_if, Carries, FitsHistory, SawOwn}
+use Rattle.genotype_bank.specs.Views.{idle_view, seat_share, draws_of, one_if, Carries, FitsHistory, SawOwn}
 use Rattle.genotype_bank.specs.Catalog.{genomes_in, call_in}
 use Rattle.genotype_bank.specs.BankTable.{IsBankTable, Seated}
 use Rattle.genotype_bank.specs.BankSteps.{with_ticket, HasDrawn, at_turn, HasLooked, last_drawn_number, after_turn, HasReleased}
 use Rattle.genotype_bank.proofs.ViewLemmas.{within, one_there, total_set, each_set, at_end, only_set, only_keep, seats_kept, some_set, placed_set}
-use Rattle.genotype_bank.proofs.HistoryLemmas.{none_some, value, off, nothing_there, own_more, in_front, has_back, has_front, own_seen, pre_trans, own_all, second_case}
-use Rattle.genotype_bank.proofs.TableLemmas.{own_number, draws_below, drawn_lives, carried_all}
+use Rattle.genotype_bank.proofs.HistoryLemmas.{none_some, value, off, own_more, in_front, has_back, has_front, own_seen, pre_trans, own_all, second_case}
+use Rattle.genotype_bank.proofs.TableLemmas.{fits_rest, own_number, draws_below, drawn_lives, carried_all}
 
 -- an idle seat draws a ticket and a number of its own, and keeps the rule
 pub draws : (slots id : ℕ) (m : Seated) → 0 < m.0.share → m.0.ticket ≡ None → m.0.holding ≡ false
@@ -33,13 +33,14 @@ draws slots id m pos free idle' s k wide at small =
     (λ i e there is. known i e (in_front v.seen k.history i e f.begins there) is) in
     let not_free : v.share ≡ 0 → ⊥ = λ e. omega arith in
     let apart' : (n : ℕ) → Carries w n → (j : ℕ) (y : View) → j ≢ id → get_elem? s.views j ≡ some y
-    → Carries y n → ⊥ = λ n c j y ne e cy. ⊎_elim
-    (λ (a : Carries v n). ne (k.seats.apart n j id y v e at cy a))
-    (λ (a : n ≡ id). let p = k.seats.placed j y n e cy in
-    ne (p.2 (subst (λ (u : View). 0 < u.share)
-    (one_there s.views id v p.0 at (subst (λ l. get_elem? s.views l ≡ some p.0) a p.1)) pos)
-    ∙ a))
-    (has_back id n v.carried c) in (
+    → Carries y n → ⊥ = λ n c j y ne e cy. elim (has_back id n v.carried c) [
+      | inl a ↦ ne (k.seats.apart n j id y v e at cy a)
+      | inr a ↦
+          let p = k.seats.placed j y n e cy in
+          ne (p.2 (subst (λ (u : View). 0 < u.share)
+          (one_there s.views id v p.0 at (subst (λ l. get_elem? s.views l ≡ some p.0) a p.1)) pos)
+          ∙ a)
+    ] in (
       w,
       keeps,
       tt,
@@ -50,17 +51,12 @@ draws slots id m pos free idle' s k wide at small =
             ∙ ap (λ n. n ∷ (length k.history % 2 ^ 64) ∷ [])
             (mod-add-mod t (2 ^ 64) 1
             ∙ ap (λ n. n % 2 ^ 64) (let h : t + 1 ≡ suc t = omega arith in h));
-        out = (let x : total draws_of (set s.views id w) + draws_of v ≡ total draws_of s.views + 1 =
-            total_set draws_of s.views id v w at in let z : draws_of v ≡ 0 = ap one_if free in
-            let o = k.out in omega arith);
+        out = omega (arith, total_set draws_of s.views id v w at, ap one_if free, k.out);
         turn = λ n. only_set (λ (u : View). u.ticket ≡ Some n) s.views id w (k.turn n)
             (λ is j y _ e other. let same : t ≡ n = ap value is in let b : n < t =
             ((k.each j y e).waits n other).1 in omega arith);
         seats = record {
-          shares = (let x : total seat_share (set s.views id w) + v.share
-              ≡ total seat_share s.views + v.share =
-              total_set seat_share s.views id v w at in let z =
-              k.seats.shares in omega arith);
+          shares = omega (arith, total_set seat_share s.views id v w at, k.seats.shares);
           apart =
               λ n. only_set (λ (u : View). Carries u n) s.views id w (k.seats.apart n) (apart' n);
           placed = placed_set s.views id v w at (λ p. p)
@@ -90,10 +86,10 @@ draws slots id m pos free idle' s k wide at small =
               waits = λ n is. let same : t ≡ n = ap value is in let o = k.out in
                   (omega arith, omega arith);
               holds = λ h. absurd (off h);
-              saw = λ i e there c. ⊎_elim (λ (a : Carries v e.seat). f.saw i e there a)
-                  (λ (a : e.seat ≡ id). f.saw i e there
-                  (subst (λ n. Carries v n) (sym a) (known i e there a)))
-                  (has_back id e.seat v.carried c);
+              saw = λ i e there c. elim (has_back id e.seat v.carried c) [
+                | inl a ↦ f.saw i e there a
+                | inr a ↦ f.saw i e there (subst (λ n. Carries v n) (sym a) (known i e there a))
+              ];
               recalls = λ j x there. let r = f.recalls j x there in
                   (r.0, r.1, λ n c. has_front id n v.carried (r.2 n c));
               once = f.once;
@@ -133,9 +129,7 @@ serves slots id m t mine idle' nothing s k wide at small =
         history = k.history;
         drawn = k.drawn;
         words = words';
-        out = (let x : total draws_of (set s.views id w) + draws_of v
-            ≡ total draws_of s.views + draws_of v = total_set draws_of s.views id v w at in let o =
-            k.out in omega arith);
+        out = omega (arith, total_set draws_of s.views id v w at, k.out);
         turn =
             λ n. only_keep (λ (u : View). u.ticket ≡ Some n) s.views id v w at (k.turn n) (λ e. e);
         seats = seats_kept k.history k.history s.views id v w at refl refl k.seats
@@ -228,9 +222,7 @@ releases slots id m d has_d held mine known s k wide at small =
           ∙ ap (λ n. (k.drawn % 2 ^ 64) ∷ n ∷ [])
           (mod-add-mod len (2 ^ 64) 1
           ∙ ap (λ n. n % 2 ^ 64) (let h : len + 1 ≡ length history' = omega arith in h));
-      out = (let x : total draws_of (set s.views id w) + draws_of v ≡ total draws_of s.views + 0 =
-          total_set draws_of s.views id v w at in let z : draws_of v ≡ 1 = ap one_if hold.0 in
-          let o = k.out in omega arith);
+      out = omega (arith, total_set draws_of s.views id v w at, ap one_if hold.0, k.out);
       turn = λ n. only_keep (λ (u : View). u.ticket ≡ Some n) s.views id v w at (k.turn n)
           (λ is. absurd (none_some n is));
       seats = seats_kept k.history history' s.views id v w at refl refl k.seats
@@ -257,16 +249,11 @@ releases slots id m d has_d held mine known s k wide at small =
                 (q.0, others j u ne there x.carried q.2 x.seen q.1, q.2);
             once = g.once;
           })
-          record {
-            begins = ([], append-nil (after_turn m) ∙ seen_is);
-            spent = λ z. absurd (let y : v.share ≡ 0 = z in omega arith);
-            waits = λ t is. absurd (none_some t is);
-            holds = λ h. absurd (off h);
-            saw = λ i x there c. subst (λ (l : List Entry). i < length l) (sym seen_is)
-                (within history' i x there);
-            recalls = (λ n x at'. absurd (nothing_there n x at'));
-            once = λ j l x y n at' _ _ _. absurd (nothing_there j x at');
-          };
+          (fits_rest history' k.drawn v.share v.carried (after_turn m)
+          ([], append-nil (after_turn m) ∙ seen_is)
+          (λ z. absurd (let y : v.share ≡ 0 = z in omega arith))
+          (λ i x there c. subst (λ (l : List Entry). i < length l) (sym seen_is)
+          (within history' i x there)));
       state = inl (
         d,
         ap (put_back s.homes) has_d
