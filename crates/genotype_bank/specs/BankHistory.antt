@@ -1,5 +1,5 @@
 -- Calls of a bank, and the numbers of genomes (docs/ARCHITECTURE.md, "The bank of genotypes").
-use Rattle.std.specs.Prelude.{◌≢◌, ◌↔◌, ℕ, ◌==◌, Bool, true, false, not, List, [], ◌∷◌, ◌++◌, Option, None, Some, AllPairs, Contains, filter, filter_map, if◌then◌else◌}
+use Rattle.std.specs.Prelude.{◌≢◌, ◌↔◌, ℕ, ◌==◌, Bool, true, false, List, [], ◌∷◌, ◌++◌, Option, None, Some, AllPairs, Contains, filter, filter_map, if◌then◌else◌}
 use Rattle.std.specs.List.{list_any}
 use Rattle.instruction_set.specs.declared.letter.Letter.{Letter}
 use Rattle.instruction_set.specs.Letter.{same_letters}

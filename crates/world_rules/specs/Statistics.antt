@@ -1,7 +1,7 @@
 -- What is counted after an update, anew from the cells (docs/WORLD.md, "Statistics"). For example,
 -- if three organisms live, two with one genome and one with another, there are two genotypes, and
 -- the first is dominant with a count of 2.
-use Rattle.std.specs.Prelude.{ℕ, zero, suc, not, List, [], ◌∷◌, length, map, filter, Option, option_map}
+use Rattle.std.specs.Prelude.{ℕ, zero, suc, List, length, map, Option, option_map}
 use Rattle.std.specs.List.{filter_map, count_by, sum_by}
 use Rattle.instruction_set.specs.declared.letter.Letter.{Letter}
 use Rattle.instruction_set.specs.Letter.{same_letters}
