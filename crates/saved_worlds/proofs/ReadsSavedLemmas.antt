@@ -24,18 +24,14 @@ line_before line rest = append_assoc (saved_row_text line) (10 ∷ []) rest
 begins_cut : (bytes : List ℕ) (begin : BeginsWithLine bytes)
     → cut bytes ≡ saved_row_text begin.line ∷ cut begin.rest
 begins_cut bytes begin =
-    ap cut (sym begin.text ∙ line_before begin.line begin.rest)
-    ∙ split_first 10 (saved_row_text begin.line) begin.rest
-    (line_plain numbers_spell begin.line begin.form)
+    rw (← begin.text, line_before begin.line begin.rest) (split_first 10 (saved_row_text begin.line)
+    begin.rest (line_plain numbers_spell begin.line begin.form))
 
 -- only one piece is no line with its newline
 one_piece_only : (bytes piece : List ℕ) → cut bytes ≡ piece ∷ [] → BeginsWithLine bytes → ⊥
 one_piece_only bytes piece is begin =
     let some = cut_some begin.rest in
-    let both : saved_row_text begin.line ∷ some.0 ∷ some.1 ≡ piece ∷ [] =
-    ap (λ (l : List (List ℕ)). saved_row_text begin.line ∷ l) (sym some.2)
-    ∙ sym (begins_cut bytes begin) ∙ is in
-    cc
+    cc (some.2, begins_cut bytes begin, is)
 
 -- the only piece is all bytes
 only_piece : (bytes piece : List ℕ) → cut bytes ≡ piece ∷ [] → piece ≡ bytes
@@ -138,14 +134,12 @@ module _ (number : ℕ) (bytes piece rest next : List ℕ) (pieces : List (List 
       ends_here place number bytes (Err (stop.BadLine number)) (
         refl,
         λ empty.
-            let few : [] ∷ [] ≡ piece ∷ next ∷ pieces = ap cut (sym empty) ∙ is in cc,
+            let few : [] ∷ [] ≡ piece ∷ next ∷ pieces = rw empty at is in cc,
         λ begin.
             let both : saved_row_text begin.line ∷ cut begin.rest ≡ piece ∷ next ∷ pieces =
             sym (begins_cut bytes begin) ∙ is in
             let row : saved_row_text begin.line ≡ piece = cc in
-            let found : Some begin.line ≡ None =
-            sym (line_again numbers_spell begin.line begin.form) ∙ ap saved_line_of row ∙ none in
-            cc,
+            cc (line_again numbers_spell begin.line begin.form, none, row),
       )
   goes_read place (Some line) some =
       let t = line_takes numbers_spell piece line some in
@@ -155,8 +149,7 @@ module _ (number : ℕ) (bytes piece rest next : List ℕ) (pieces : List (List 
 goes : (place : SavedPlace) (number : ℕ) (pieces : List (List ℕ)) (bytes : List ℕ)
     → cut bytes ≡ pieces → GoesOn place number bytes (pieces_state number place pieces)
 goes place number [] bytes is =
-    let some = cut_some bytes in
-    let none : [] ≡ some.0 ∷ some.1 = sym is ∙ some.2 in absurd cc
+    let some = cut_some bytes in absurd (cc (is, some.2))
 goes place number (piece ∷ []) bytes is =
     let all : piece ≡ bytes = only_piece bytes piece is in
     let alone : cut piece ≡ piece ∷ [] = ap cut all ∙ is in
@@ -198,16 +191,14 @@ lines_on place next number (line ∷ lines) left forms told =
     let behind = flat_map saved_line_text lines ++ left in
     let step = some_then (λ (p : SavedPlace). told_saved_lines p lines)
     (told_saved_line place line) next told in
-    let text : flat_map saved_line_text (line ∷ lines) ++ left
-    ≡ saved_row_text line ++ 10 ∷ behind =
-    append_assoc (saved_line_text line) (flat_map saved_line_text lines) left
-    ∙ line_before line behind in
     let count : length lines + (number + 1) ≡ length (line ∷ lines) + number = omega arith in
-    ap (λ (l : List ℕ). pieces_state number place (cut l)) text
-    ∙ line_on number place step.0 (saved_row_text line) behind line
+    rw (
+      append_assoc (saved_line_text line) (flat_map saved_line_text lines) left,
+      line_before line behind,
+    ) (line_on number place step.0 (saved_row_text line) behind line
     (line_plain numbers_spell line forms.0) (line_again numbers_spell line forms.0) step.1
     ∙ lines_on step.0 next (number + 1) lines left forms.1 step.2
-    ∙ ap (λ (n : ℕ). pieces_state n next (cut left)) count
+    ∙ ap (λ (n : ℕ). pieces_state n next (cut left)) count)
 
 -- a first piece of which no line is read is a bad one
 bad_piece : (place : SavedPlace) (number : ℕ) (bytes piece rest : List ℕ)
@@ -229,8 +220,7 @@ bad_line : (place : SavedPlace) (number : ℕ) (bytes : List ℕ) (pieces : List
     → cut bytes ≡ pieces → bytes ≢ [] → (BeginsWithLine bytes → ⊥)
     → pieces_state number place pieces ≡ Err (stop.BadLine number)
 bad_line place number bytes [] is some none =
-    let found = cut_some bytes in
-    let no : [] ≡ found.0 ∷ found.1 = sym is ∙ found.2 in absurd cc
+    let found = cut_some bytes in absurd (cc (is, found.2))
 bad_line place number bytes ([] ∷ []) is some none =
     absurd (some (sym (only_piece bytes [] is)))
 bad_line place number bytes ((b ∷ bs) ∷ []) is some none = refl
@@ -253,20 +243,15 @@ end_reads : (place : SavedPlace) (number : ℕ) (left : List ℕ)
     → pieces_state number place (cut left) ≡ answer
 end_reads place number left (Ok state) end = rw (end.0, end.1) refl
 end_reads place number left (Err (stop.BadLine line)) end =
-    bad_line place number left (cut left) refl end.1 end.2
-    ∙ ap (λ (n : ℕ). let r : Result SavedState SavedStop = Err (stop.BadLine n) in r) (sym end.0)
+    rw end.0 (bad_line place number left (cut left) refl end.1 end.2)
 end_reads place number left (Err (stop.BadState line)) end =
     let begin = end.1 in
-    ap (λ (l : List ℕ). pieces_state number place (cut l))
-    (sym begin.text ∙ line_before begin.line begin.rest)
-    ∙ line_told number place None (saved_row_text begin.line) begin.rest begin.line
+    rw (end.0, ← begin.text, line_before begin.line begin.rest)
+    (line_told number place None (saved_row_text begin.line) begin.rest begin.line
     (line_plain numbers_spell begin.line begin.form)
-    (line_again numbers_spell begin.line begin.form) end.2
-    ∙ ap (λ (n : ℕ). let r : Result SavedState SavedStop = Err (stop.BadState n) in r) (sym end.0)
+    (line_again numbers_spell begin.line begin.form) end.2)
 end_reads place number left (Err (stop.Unended line)) end =
-    ap (λ (l : List ℕ). pieces_state number place (cut l)) end.1
-    ∙ not_ended place number end.2
-    ∙ ap (λ (n : ℕ). let r : Result SavedState SavedStop = Err (stop.Unended n) in r) (sym end.0)
+    rw (end.0, end.1) (not_ended place number end.2)
 end_reads place number left (Err stop.Memory) end = absurd end
 
 -- a reading of the bytes is what the function answers
@@ -275,6 +260,5 @@ pub reads_one_saved : (bytes : List ℕ) (answer : Result SavedState SavedStop)
 unfolding saved_of
 reads_one_saved bytes answer reads =
     let front = reads.0 in
-    ap (λ (l : List ℕ). pieces_state 1 Before (cut l)) (sym front.text)
-    ∙ lines_on Before front.place 1 front.lines front.left front.forms front.order
-    ∙ end_reads front.place (length front.lines + 1) front.left answer reads.1
+    rw (← front.text) (lines_on Before front.place 1 front.lines front.left front.forms front.order
+    ∙ end_reads front.place (length front.lines + 1) front.left answer reads.1)

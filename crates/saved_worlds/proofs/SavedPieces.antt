@@ -1,5 +1,5 @@
 -- The pieces of a saved world's bytes.
-use Rattle.std.proofs.Common.{◌≡◌, ℕ, ◌+◌, ◌<◌, List, [], ◌∷◌, ◌++◌, Option, Some, refl, sym, ap, subst, ◌∙◌, arith, inl, inr}
+use Rattle.std.proofs.Common.{◌≡◌, ℕ, ◌+◌, ◌<◌, List, [], ◌∷◌, ◌++◌, Option, Some, refl, ap, ◌∙◌, arith, inl, inr}
 use Rattle.std.specs.Prelude.{◌==◌}
 use Rattle.std.specs.List.{onto_first, AllByRecursion}
 use Rattle.std.proofs.lemmas.Bool.{cases_Bool}
@@ -31,7 +31,7 @@ cut_parts (b ∷ bs) piece next pieces is = elim (cases_Bool (b == 10)) [
       let empty : [] ≡ piece = cc in
       let others : cut bs ≡ next ∷ pieces = cc in (
         bs,
-        ap (λ (n : ℕ). n ∷ bs) same ∙ ap (λ (l : List ℕ). l ++ 10 ∷ bs) empty,
+        rw (same, ← empty) refl,
         others,
       )
   | inr other ↦
@@ -51,9 +51,7 @@ pub more_pieces : (number : ℕ) (place : SavedPlace) (piece rest : List ℕ)
     (λ p. pieces_state (number + 1) p (cut rest))
 more_pieces number place piece rest =
     let some = cut_some rest in
-    subst (λ (l : List (List ℕ)). pieces_state number place (piece ∷ l)
-    ≡ one_saved_piece number place (saved_line_of piece) (λ p. pieces_state (number + 1) p l))
-    (sym some.2) refl
+    rw some.2 refl
 
 -- a line that is read
 pub line_told : (number : ℕ) (place : SavedPlace) (told : Option SavedPlace) (text rest : List ℕ)
@@ -62,11 +60,7 @@ pub line_told : (number : ℕ) (place : SavedPlace) (told : Option SavedPlace) (
     → pieces_state number place (cut (text ++ 10 ∷ rest))
     ≡ after_saved_line number told (λ p. pieces_state (number + 1) p (cut rest))
 line_told number place told text rest line plain is fits =
-    let others = λ (p : SavedPlace). pieces_state (number + 1) p (cut rest) in
-    ap (λ (l : List (List ℕ)). pieces_state number place l) (split_first 10 text rest plain)
-    ∙ more_pieces number place text rest
-    ∙ ap (λ (o : Option SavedLine). one_saved_piece number place o others) is
-    ∙ ap (λ (t : Option SavedPlace). after_saved_line number t others) fits
+    rw (split_first 10 text rest plain, more_pieces number place text rest, is, fits) refl
 
 -- a line that is read and fits
 pub line_on : (number : ℕ) (place next : SavedPlace) (text rest : List ℕ) (line : SavedLine)
