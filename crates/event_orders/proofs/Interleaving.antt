@@ -131,7 +131,9 @@ module _ (config : ConfigValues) where
   goes_on_with events whole lawful seat_of calls starts is =
       let s = state_after config events in
       let are : AreLives config s.world s.results =
-      rw whole at (holds_after config events lawful (length events) (omega arith)).results in
+      subst (λ (front : List ScheduleEvent). AreLives config (state_after config front).world
+      (state_after config front).results) whole
+      (holds_after config events lawful (length events) (omega arith)).results in
       let found = calls_explained s seat_of calls are starts is in
       let more = found.1.0 in
       let before = all_lawful config Any (opening config) events (λ n e at. (lawful n e at, tt)) in

@@ -4,7 +4,7 @@ use Rattle.std.specs.Prelude.{if◌then◌else◌, ◌==◌}
 use Rattle.std.specs.List.{flat_map, range_with_len}
 use Rattle.std.proofs.lemmas.Bool.{cases_lt, eqb-true, eq-eqb}
 use Rattle.std.proofs.lemmas.List.Elements.{Contains-append_left, Contains-append_right, Contains-append_cases}
-use Rattle.event_orders.proofs.Members.{Contains-nil, Contains-cons, Contains-cons_cases, Contains-here}
+use Rattle.event_orders.proofs.Members.{Contains-nil, Contains-cons, Contains-cons_cases, Contains-here, Contains-from_fn}
 
 -- a cell and the number of a newborn
 abbrev pub Pair : Type 0
@@ -39,25 +39,15 @@ from_nth c first n = map (λ k. (c, k)) (range_with_len first n)
 in_from_nth : (c first n : ℕ) (p : Pair) → Contains (from_nth c first n) p → (p.0 ≡ c)
     × (first ≤ p.1) × (p.1 < first + n)
 in_from_nth c first zero p h = absurd (Contains-nil p h)
-in_from_nth c first (suc n) p h = ⊎_elim
-    (λ (e : (c, first) ≡ p). let nth : first ≡ p.1 =
-    ap (λ (q : Pair). q.1) e in (sym (ap (λ (q : Pair). q.0) e), (omega arith), (omega arith)))
-    (λ (r : Contains (from_nth c (first + 1) n) p). let rest =
-    in_from_nth c (first + 1) n p r in (
-      rest.0,
-      (omega (arith, rest.1)),
-      (omega (arith, rest.2)),
-    ))
-    (Contains-cons_cases (c, first) (from_nth c (first + 1) n) p h)
-
--- each number of the range is there
-from_nth_has : (c first n k : ℕ) → first ≤ k → k < first + n → Contains (from_nth c first n) (c, k)
-from_nth_has c first zero k low high = absurd (omega (arith, low, high))
-from_nth_has c first (suc n) k low high = elim (apart_or_same first k low) [
-  | inl above ↦ Contains-cons (c, first) (from_nth c (first + 1) n) (c, k)
-      (from_nth_has c (first + 1) n k above (omega (arith, high)))
-  | inr same ↦ Contains-here (c, first) (from_nth c (first + 1) n) (c, k) (ap (λ k. (c, k)) same)
-]
+in_from_nth c first (suc n) p h =
+    elim (Contains-cons_cases (c, first) (from_nth c (first + 1) n) p h) [
+      | inl e ↦
+          let nth : first ≡ p.1 = ap (λ (q : Pair). q.1) e in
+          (sym (ap (λ (q : Pair). q.0) e), (omega arith), (omega arith))
+      | inr r ↦
+          let rest = in_from_nth c (first + 1) n p r in
+          (rest.0, (omega (arith, rest.1)), (omega (arith, rest.2)))
+    ]
 
 -- each stands once
 from_nth_apart : (c first n : ℕ) → Apart (from_nth c first n)
@@ -94,9 +84,7 @@ module _ (seat_of : ℕ → ℕ) (many : ℕ → ℕ) (seat : ℕ) where
   -- each newborn of a cell of the seat is there
   pairs_at_has : (c k : ℕ) → seat_of c ≡ seat → k < many c → Contains (pairs_at c) (c, k)
   pairs_at_has c k is low =
-      subst (λ (b : Bool). Contains (if b then from_nth c 0 (many c) else []) (c, k))
-      (sym (eq-eqb (seat_of c) seat is)) (from_nth_has c 0 (many c) k (omega arith)
-      (omega (arith, low)))
+      rw (eq-eqb (seat_of c) seat is) (Contains-from_fn (λ k. (c, k)) (many c) k low)
 
   -- each stands once
   pairs_at_apart : (c : ℕ) → Apart (pairs_at c)
@@ -110,20 +98,17 @@ module _ (seat_of : ℕ → ℕ) (many : ℕ → ℕ) (seat : ℕ) where
   pub in_pairs : (first n : ℕ) (p : Pair) → Contains (pairs_from first n) p → (first ≤ p.0)
       × (p.0 < first + n) × (p.1 < many p.0) × (seat_of p.0 ≡ seat)
   in_pairs first zero p h = absurd (Contains-nil p h)
-  in_pairs first (suc n) p h = ⊎_elim
-      (λ (l : Contains (pairs_at first) p).
-      let here = in_pairs_at first p l in
-      let is : p.0 ≡ first = here.0 in
-      let low : p.1 < many p.0 = subst (λ c. p.1 < many c) (sym is) here.1 in
-      ((omega (arith, is)), (omega (arith, is)), low, ap seat_of is ∙ here.2))
-      (λ (r : Contains (pairs_from (first + 1) n) p). let rest =
-      in_pairs (first + 1) n p r in (
-        (omega (arith, rest.0)),
-        (omega (arith, rest.1)),
-        rest.2,
-        rest.3,
-      ))
-      (Contains-append_cases (pairs_at first) (pairs_from (first + 1) n) p h)
+  in_pairs first (suc n) p h =
+      elim (Contains-append_cases (pairs_at first) (pairs_from (first + 1) n) p h) [
+        | inl l ↦
+            let here = in_pairs_at first p l in
+            let is : p.0 ≡ first = here.0 in
+            let low : p.1 < many p.0 = rw is here.1 in
+            ((omega (arith, is)), (omega (arith, is)), low, ap seat_of is ∙ here.2)
+        | inr r ↦
+            let rest = in_pairs (first + 1) n p r in
+            ((omega (arith, rest.0)), (omega (arith, rest.1)), rest.2, rest.3)
+      ]
 
   -- and each of those is among them
   pub pairs_have : (first n c k : ℕ) → first ≤ c → c < first + n → seat_of c ≡ seat → k < many c
