@@ -38,9 +38,8 @@ ids_stay config steps from [] [] are = refl
 ids_stay config steps from [] (l ∷ lives) are = absurd are
 ids_stay config steps from (slot ∷ cells) [] are = absurd are
 ids_stay config steps from (slot ∷ cells) (l ∷ lives) are =
-    let first = slot_id config (steps from) slot l are.0 in
-    let rest = ids_stay config steps (from + 1) cells lives are.1 in
-    ap (λ s. s ∷ ids_of (left_by lives)) first ∙ ap (λ (r : List (Option ℕ)). id_of slot ∷ r) rest
+    rw (slot_id config (steps from) slot l are.0, ids_stay config steps (from + 1) cells lives are.1)
+    refl
 
 -- who stood in a cell before, of which this is known
 pub record WasIn (slot : Option (Option Occupant)) (o : Occupant) : Type 0 where
@@ -175,18 +174,12 @@ abbrev pub steps_in_all : (ℕ → ℕ) → ℕ → ℕ → ℕ
 steps_in_all steps from zero = 0
 steps_in_all steps from (suc count) = steps from + steps_in_all steps (from + 1) count
 
--- where newborns are no more than some steps, nor are the births of their cell
-few_by : (cell steps : ℕ) (newborns : List NewbornValue) (slot : Option Occupant)
-    → length newborns ≤ steps → length (births_by cell newborns slot) ≤ steps
-few_by cell steps newborns None few = omega arith
-few_by cell steps newborns (Some o) few =
-    omega (arith, few, length-map newborns (delivery_of cell o.id))
-
--- a life has no more newborns than steps
-slot_few : (config : ConfigValues) (steps : ℕ) (slot : Option Occupant) (l : CellLife)
-    → IsLife config steps slot l → length l.newborns ≤ steps
-slot_few config steps None l is = is.1
-slot_few config steps (Some o) l is = is.few
+-- a cell has no more births than its life has steps
+slot_few : (config : ConfigValues) (steps cell : ℕ) (slot : Option Occupant) (l : CellLife)
+    → IsLife config steps slot l → length (births_by cell l.newborns l.occupant) ≤ steps
+slot_few config steps cell None l is = rw is.0 (omega arith)
+slot_few config steps cell (Some o) l is =
+    rw is.stays (omega (arith, is.few, length-map l.newborns (delivery_of cell is.who.id)))
 
 -- the cells from one on have no more births than steps in all
 births_few_from : (config : ConfigValues) (steps : ℕ → ℕ) (from : ℕ)
@@ -198,15 +191,10 @@ births_few_from config steps from [] [] are = omega arith
 births_few_from config steps from [] (l ∷ lives) are = absurd are
 births_few_from config steps from (slot ∷ cells) [] are = absurd are
 births_few_from config steps from (slot ∷ cells) (l ∷ lives) are =
-    let first : length (births_by from l.newborns l.occupant) ≤ steps from =
-    few_by from (steps from) l.newborns l.occupant (slot_few config (steps from) slot l are.0)
-    in
-    let rest : length (flat_map births_in (enumerate_from (from + 1) lives)) ≤ steps_in_all steps
-    (from + 1) (length cells) = births_few_from config steps (from + 1) cells lives are.1 in
     omega (
       arith,
-      first,
-      rest,
+      slot_few config (steps from) from slot l are.0,
+      births_few_from config steps (from + 1) cells lives are.1,
       length-append (births_by from l.newborns l.occupant)
           (flat_map births_in (enumerate_from (from + 1) lives)),
     )

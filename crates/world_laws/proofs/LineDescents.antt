@@ -1,5 +1,5 @@
 -- Each of a line of descent but the first is made of the one before it.
-use Rattle.std.proofs.Common.{◌≡◌, ℕ, zero, suc, ◌<◌, List, [], ◌∷◌, ◌++◌, map, Option, Some, None, refl, sym, ap, subst, ◌∙◌, arith}
+use Rattle.std.proofs.Common.{◌≡◌, ℕ, zero, suc, ◌<◌, List, [], ◌∷◌, ◌++◌, map, Option, Some, None, refl, sym, ap, ◌∙◌, arith}
 use Rattle.std.specs.Prelude.{slice_get, option_map, IfSome}
 use Rattle.std.proofs.lemmas.Option.{get_or_from_slice_get, slice_get-map}
 use Rattle.lineage_log.specs.Links.{Link}
@@ -38,8 +38,7 @@ module _ (laws : LineLaws) (everyone : List Link) (are : AreNumbered everyone)
       let line = laws.line everyone p before are comes.1 in
       let first = earlier p before below comes.1 in
       let front = line_of_parent (descent_lines_of everyone) before.parent in
-      subst (λ (l : List Link). IsDescent (l ++ link ∷ [])) (sym line)
-      (descent_more front before link (subst IsDescent line first) comes.2)
+      rw line (descent_more front before link (rw line at first) comes.2)
 
   -- the line of each id below a bound descends
   descent_below : (bound id : ℕ) (link : Link) → id < bound → slice_get everyone id ≡ Some link
@@ -47,7 +46,7 @@ module _ (laws : LineLaws) (everyone : List Link) (are : AreNumbered everyone)
   descent_below zero id link h e = absurd (omega (arith, h))
   descent_below (suc bound) id link h e =
       let numbered = are id link e in
-      subst IsDescent (sym (laws.line everyone id link are e))
+      rw (laws.line everyone id link are e)
       (descent_from link link.parent id numbered.parent (descended id link e)
       (λ p before low there. descent_below bound p before (omega (arith, low, h)) there))
 

@@ -1,5 +1,5 @@
 -- The organisms of a run stay in range, and its worlds gave few ids.
-use Rattle.std.proofs.Common.{◌≡◌, inl, inr, ◌∙◌, refl, sym, ap, subst, ℕ, zero, suc, ◌+◌, ◌*◌, ◌<◌, ◌≤◌, Bool, false, List, [], ◌∷◌, length, map, sum, Option, Some, None, arith}
+use Rattle.std.proofs.Common.{◌≡◌, inl, inr, ◌∙◌, refl, sym, ap, subst, ℕ, zero, suc, ◌+◌, ◌*◌, ◌≤◌, Bool, false, List, [], ◌∷◌, length, map, sum, Option, Some, None, arith}
 use Rattle.std.specs.Prelude.{fold, slice_index_or}
 use Rattle.std.specs.List.{AllByRecursion, zip}
 use Rattle.std.proofs.Math.Nat.{mul-le-mul}
@@ -184,18 +184,15 @@ module _ (laws : LifeLaws) (keep : KeepLimits) (config : ConfigValues) (fit : Is
         let lived = laws.lives settings words x.organism steps fit.rules
         (laws.words config.seed update cell Run) sound in
         let left = life_leaves ages update cell steps x range in
-        let genome = sym (ap length lived.genome) in
         record {
-          least = subst (λ k. config.rules.least ≤ k) genome range.least;
-          greatest = subst (λ k. k ≤ config.rules.greatest) genome range.greatest;
+          least = rw lived.genome range.least;
+          greatest = rw lived.genome range.greatest;
           age = omega (arith, lived.age, range.age, few);
-          young = λ death. subst (λ k. (life settings words (beginning x.organism)
-              steps).0.organism.age < config.age_limit * k) genome
-              (left.young alive death (range.young death));
+          young = λ death. rw lived.genome (left.young alive death (range.young death));
           limit = left.nine.organism.limit ∙ range.limit;
           credited = left.nine.organism.credited;
           gestation = left.nine.organism.gestation;
-          inputs = subst HasTopBytes (sym lived.inputs) range.inputs;
+          inputs = rw lived.inputs range.inputs;
         }
 
     -- who is left by a life that was no death

@@ -1,5 +1,5 @@
 -- One line at a time: each takes the reader from the scene before it to the scene after it.
-use Rattle.std.proofs.Common.{◌≡◌, ℕ, ◌+◌, ◌<◌, ◌≤◌, true, List, [], ◌∷◌, ◌++◌, map, length, drop, Option, Some, None, Result, Ok, refl, sym, ap, subst, ◌∙◌, arith}
+use Rattle.std.proofs.Common.{◌≡◌, ℕ, ◌+◌, ◌<◌, ◌≤◌, true, List, [], ◌∷◌, ◌++◌, map, length, drop, Option, Some, None, Result, Ok, refl, sym, ap, ◌∙◌, arith}
 use Rattle.std.specs.Prelude.{slice_get, slice_set, ◌==◌, nat_lt}
 use Rattle.std.proofs.lemmas.List.{map-set, map-append}
 use Rattle.std.proofs.lemmas.Option.{slice_get-get_or, slice_get-map, slice_get_within}
@@ -45,8 +45,7 @@ holds_who : (cells : List (Option Occupant)) (cell id : ℕ) → id_at cells cel
 holds_who cells cell id h =
     let who = who_stands cells cell id h in
     let within : cell < length cells = slice_get_within cells cell (Some who.0) who.1 in
-    subst (λ (slot : Option ℕ). holds (slice_get (ids_of cells) cell) slot ≡ true) h
-    (holds_cell cells cell within)
+    rw (← h) (holds_cell cells cell within)
 
 -- the mirror of a scene with a death
 mirror_death : (start : People) (before stage : Stage) (births : ℕ) (scene : Scene) (cell id : ℕ)
@@ -102,12 +101,8 @@ pub one_death : (start : People) (stage : Stage) (births : ℕ) (scene : Scene) 
     (with_death scene cell)
 unfolding told_death
 one_death start stage births scene cell id may h =
-    let stands = holds_who scene.cells cell id h in
-    let told : told_death (mirror start stage births scene) id scene.update cell
-    ≡ on (reader.reader_with_death (mirror start stage births scene) (Dying cell) cell id) =
-    rw (eqb_same scene.update, may, stands) refl in
-    one_line _ _ _ _ _ (told ∙ ap on (mirror_death start stage (Dying cell) births scene cell id h))
-    (seen_death scene cell)
+    one_line _ _ _ _ _ (rw (eqb_same scene.update, may, holds_who scene.cells cell id h)
+    (ap on (mirror_death start stage (Dying cell) births scene cell id h))) (seen_death scene cell)
 
 -- the line of who is cleared
 pub one_cleared : (start : People) (stage : Stage) (births : ℕ) (scene : Scene) (cell id : ℕ)
@@ -116,12 +111,8 @@ pub one_cleared : (start : People) (stage : Stage) (births : ℕ) (scene : Scene
     (with_death scene cell)
 unfolding told_cleared
 one_cleared start stage births scene cell id h =
-    let stands = holds_who scene.cells cell id h in
-    let told : told_cleared (mirror start stage births scene) id scene.update cell
-    ≡ on (reader.reader_with_death (mirror start stage births scene) Happening cell id) =
-    rw (eqb_same scene.update, stands) refl in
-    one_line _ _ _ _ _ (told ∙ ap on (mirror_death start stage Happening births scene cell id h))
-    (seen_death scene cell)
+    one_line _ _ _ _ _ (rw (eqb_same scene.update, holds_who scene.cells cell id h)
+    (ap on (mirror_death start stage Happening births scene cell id h))) (seen_death scene cell)
 
 -- the line of a rate
 pub one_rate : (start : People) (stage : Stage) (births : ℕ) (scene : Scene) (name : RateName)
@@ -129,9 +120,7 @@ pub one_rate : (start : People) (stage : Stage) (births : ℕ) (scene : Scene) (
     → Passes start stage births scene (Rate scene.update name ppm ∷ []) Happening births scene
 unfolding told_rate
 one_rate start stage births scene name ppm =
-    let told : told_rate (mirror start stage births scene) scene.update
-    ≡ on (mirror start Happening births scene) = rw (eqb_same scene.update) refl in
-    one_line _ _ _ _ _ told refl
+    one_line _ _ _ _ _ (rw (eqb_same scene.update) refl) refl
 
 -- the line of an injected organism
 pub one_injected : (start : People) (stage : Stage) (births : ℕ) (scene : Scene) (link : Link)
@@ -146,13 +135,8 @@ one_injected start stage births scene link organism grown within is =
     let number : (link.id == length people) ≡ true =
     rw (is, people_number start scene.everyone grown) (eqb_same (length scene.everyone)) in
     let stands = holds_cell scene.cells link.cell within in
-    let told : told_injected (mirror start stage births scene) link.id scene.update link.cell
-    (standing_at scene link.cell) link.genome
-    ≡ on (reader.reader_with_newcomer (mirror start stage births scene) Happening link.cell
-    (standing_at scene link.cell) link.genome births) =
-    rw (eqb_same scene.update, number, stands) refl in
-    one_line _ _ _ _ _ (told
-    ∙ ap on (mirror_newcomer start stage Happening births births scene link organism grown is))
+    one_line _ _ _ _ _ (rw (eqb_same scene.update, number, stands)
+    (ap on (mirror_newcomer start stage Happening births births scene link organism grown is)))
     (seen_newcomer scene link organism _ _ refl refl)
 
 -- who lived when the update began has its genome in the mirror
@@ -185,12 +169,6 @@ one_birth start stage births scene link organism parent origin letters may grown
     rw (is, people_number start scene.everyone grown) (eqb_same (length scene.everyone)) in
     let stands = holds_cell scene.cells link.cell within in
     let found = parent_is start stage births scene parent letters lived in
-    let over = standing_at scene link.cell in
-    let told : told_birth (mirror start stage births scene) link.id parent scene.update link.cell
-    over origin ≡ on (reader.reader_with_newcomer (mirror start stage births scene)
-    Placing link.cell
-    over link.genome (births + 1)) =
-    rw (eqb_same scene.update, may, number, stands, found, child) refl in
-    one_line _ _ _ _ _ (told
-    ∙ ap on (mirror_newcomer start stage Placing births (births + 1) scene link organism grown
-    is)) (seen_newcomer scene link organism _ _ refl (rw (wrote, child) refl))
+    one_line _ _ _ _ _ (rw (eqb_same scene.update, may, number, stands, found, child)
+    (ap on (mirror_newcomer start stage Placing births (births + 1) scene link organism grown
+    is))) (seen_newcomer scene link organism _ _ refl (rw (wrote, child) refl))

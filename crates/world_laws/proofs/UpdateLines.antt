@@ -1,5 +1,5 @@
 -- All deaths of age, all births and all events of an update, line after line.
-use Rattle.std.proofs.Common.{◌≡◌, ℕ, zero, suc, ◌+◌, ◌<◌, ◌≤◌, Bool, true, false, cond, List, [], ◌∷◌, length, Option, Some, None, Ok, refl, subst, arith}
+use Rattle.std.proofs.Common.{add-zero, ◌≡◌, ℕ, zero, suc, ◌+◌, ◌<◌, ◌≤◌, Bool, true, false, cond, List, [], ◌∷◌, length, Option, Some, None, Ok, refl, subst, arith}
 use Rattle.std.specs.Prelude.{slice_get, option_map, filter, fold}
 use Rattle.std.specs.List.{filter_map, cons_option, scan, range_with_len, AllByRecursion, flat_map}
 use Rattle.std.proofs.lemmas.Bool.Decides.{nat_tests}
@@ -177,12 +177,7 @@ pub all_births : (size : ℕ) (start : People) (stage : Stage) (births : ℕ) (c
     → ToBirths start stage births scene (scan (with_newborn config) birth_line scene turns)
     (births + length turns) (fold (with_newborn config) scene turns)
 all_births size start stage births config scene [] is lawful may =
-    let e : births ≡ births + 0 = omega arith in
-    record {
-      later = stage;
-      may = may;
-      passes = subst (λ n. Passes start stage births scene [] stage n scene) e (no_lines _ _);
-    }
+    record { later = stage; may = may; passes = rw add-zero (no_lines _ _) }
 all_births size start stage births config scene (turn ∷ turns) is lawful may =
     let next = with_newborn config scene turn in
     let first = turn_passes size start stage births config scene turn is lawful.0 may in
@@ -194,10 +189,7 @@ all_births size start stage births config scene (turn ∷ turns) is lawful may =
     record {
       later = rest.later;
       may = rest.may;
-      passes =
-          subst (λ n. Passes start stage births scene
-          (birth_line scene turn ∷ scan (with_newborn config) birth_line next turns) rest.later n
-          (fold (with_newborn config) next turns)) e all;
+      passes = rw (← e) all;
     }
 
 -- an injected organism's cell is in the world

@@ -1,6 +1,6 @@
 -- The lines of an update take the reader from one world to the next.
-use Rattle.std.proofs.Common.{◌≡◌, ℕ, suc, ◌+◌, ◌-◌, ◌≤◌, true, List, [], ◌∷◌, ◌++◌, map, length, drop, Option, Some, None, Ok, refl, sym, ap, subst, ◌∙◌, arith, inl, inr}
-use Rattle.std.specs.Prelude.{slice_get, slice_set, option_map, fold}
+use Rattle.std.proofs.Common.{◌≡◌, ℕ, suc, ◌+◌, ◌-◌, ◌≤◌, true, List, [], ◌∷◌, ◌++◌, map, length, drop, Option, Some, None, Ok, refl, sym, ap, ◌∙◌, arith, inl, inr}
+use Rattle.std.specs.Prelude.{slice_get, slice_set, option_map}
 use Rattle.std.specs.List.{AllByRecursion}
 use Rattle.std.proofs.lemmas.List.{length-set, length-map, append-nil, drop_all}
 use Rattle.std.proofs.lemmas.Bool.{cases_lt}
@@ -20,7 +20,7 @@ use Rattle.world_rules.specs.World.{Occupant, World, id_of, ids_of}
 use Rattle.world_rules.specs.Lives.{CellLife}
 use Rattle.world_rules.specs.Scene.{Scene}
 use Rattle.world_rules.specs.Statistics.{scene_stats, stats_in}
-use Rattle.world_rules.specs.Update.{after_lives, deaths_of, after_burials, births_of, turns_of, with_newborn, after_births, events_at, after_events, last_scene}
+use Rattle.world_rules.specs.Update.{after_lives, deaths_of, after_burials, births_of, turns_of, after_births, events_at, after_events, last_scene}
 use Rattle.world_rules.specs.LogText.{death_lines, birth_lines, event_lines, lines_of_lives}
 use Rattle.world_laws.proofs.ListLemmas.{get_emptied, get_left, get_right, get_dropped, eqb_same}
 use Rattle.world_laws.proofs.Mirror.{People, written, people_in, genomes_of, mirror, between, seen_in, Tells, one_line, more_lines}
@@ -240,9 +240,7 @@ module _ (size : ℕ) (start : People) (config : ConfigValues) (scene : Scene) (
       let buried = after_burials scene lives in
       let list = turns_of config buried (births_of lives) in
       let e : 0 + length list ≡ length (births_of lives) = omega (arith, turns.number) in
-      subst (λ n. ToBirths start stage 0 buried (birth_lines config buried (births_of lives)) n
-      (fold (with_newborn config) buried list)) e
-      (all_births size start stage 0 config buried list scene_buried turns.lawful may)
+      rw (← e) (all_births size start stage 0 config buried list scene_buried turns.lawful may)
 
   -- the lines of its events take the reader on to the end of the update
   events_tell : (stage : Stage) (births : ℕ)
