@@ -1,5 +1,5 @@
 -- What the lives of an update leave in the cells, and their newborns, by what one life does.
-use Rattle.std.proofs.Common.{◌≡◌, ℕ, suc, ◌+◌, ◌<◌, ◌≤◌, List, [], ◌∷◌, map, length, Option, Some, None, refl, sym, subst, arith}
+use Rattle.std.proofs.Common.{add-zero, zero-add, ◌≡◌, ℕ, suc, ◌+◌, ◌<◌, ◌≤◌, List, [], ◌∷◌, map, length, Option, Some, None, refl, arith}
 use Rattle.std.specs.Prelude.{slice_index_or}
 use Rattle.std.specs.List.{AllByRecursion, range_with_len}
 use Rattle.std.proofs.lemmas.List.Elements.{recursion_from_All}
@@ -76,14 +76,12 @@ lives_beside : (config : ConfigValues) (steps : ℕ → ℕ) (run : ℕ → Cell
     → IsLife config (steps (from + i)) (slice_index_or cells i None) (run (from + i)))
     → AreLives config steps from cells (map run (range_with_len from (length cells)))
 lives_beside config steps run from [] each = tt
-lives_beside config steps run from (slot ∷ cells) each =
-    let here : from + 0 ≡ from = omega arith in (
-      subst (λ n. IsLife config (steps n) slot (run n)) here (each 0 (omega arith)),
-      lives_beside config steps run (from + 1) cells (λ i h.
-          let next : from + suc i ≡ from + 1 + i = omega arith in
-          subst (λ n. IsLife config (steps n) (slice_index_or cells i None) (run n)) next
-          (each (suc i) (omega (arith, h)))),
-    )
+lives_beside config steps run from (slot ∷ cells) each = (
+  rw add-zero at (each 0 (omega arith)),
+  lives_beside config steps run (from + 1) cells (λ i h.
+      let next : from + suc i ≡ from + 1 + i = omega arith in
+      rw (← next) (each (suc i) (omega (arith, h)))),
+)
 
 -- the lives of an update
 pub lives_are : (laws : LifeLaws) (config : ConfigValues) → AreRules config.rules
@@ -92,8 +90,5 @@ pub lives_are : (laws : LifeLaws) (config : ConfigValues) → AreRules config.ru
 unfolding lives_of
 lives_are laws config are update cells sound =
     lives_beside config (slice_at config cells) (life_at config update cells) 0 cells (λ i h.
-    let at : 0 + i ≡ i = omega arith in
-    subst (λ n. IsLife config (slice_at config cells n) (slice_index_or cells i None)
-    (life_at config update cells n)) (sym at)
-    (life_is laws config are update i (slice_at config cells i) (slice_index_or cells i None)
+    rw zero-add (life_is laws config are update i (slice_at config cells i) (slice_index_or cells i None)
     (λ o e. sound i o (got_some cells i o e))))
