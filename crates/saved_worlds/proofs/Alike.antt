@@ -1,5 +1,5 @@
 -- Scenes that differ in nothing but what is told of those that ever were.
-use Rattle.std.proofs.Common.{◌≡◌, ℕ, ◌+◌, List, [], ◌∷◌, ◌++◌, length, refl, sym, subst, ◌∙◌, length-append}
+use Rattle.std.proofs.Common.{◌≡◌, ℕ, List, [], ◌∷◌, ◌++◌, length, refl, sym, subst, ◌∙◌, length-append}
 use Rattle.std.specs.Prelude.{fold}
 use Rattle.std.specs.List.{scan}
 use Rattle.std.specs.Option.{option_to_list}
