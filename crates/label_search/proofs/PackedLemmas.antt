@@ -1,7 +1,8 @@
 -- Templates packed into a number.
-use Rattle.std.proofs.Common.{◌≡◌, ◌∙◌, sym, ap, refl, ℕ, zero, suc, ◌+◌, ◌-◌, ◌*◌, ◌/◌, ◌%◌, ◌^◌, ◌<◌, ◌≤◌, List, [], ◌∷◌, ◌++◌, Bool, true, false, cond, length, get_or, take, drop, reverse, arith, eq-eqb, pow-add}
+use Rattle.std.proofs.Common.{◌≡◌, inl, inr, ◌∙◌, sym, ap, refl, ℕ, zero, suc, ◌+◌, ◌-◌, ◌*◌, ◌/◌, ◌%◌, ◌^◌, ◌<◌, ◌≤◌, List, [], ◌∷◌, ◌++◌, Bool, true, false, cond, length, get_or, take, drop, reverse, arith, eq-eqb, pow-add}
 use Rattle.std.specs.Prelude.{◌==◌}
 use Rattle.std.specs.Bool.{Decides}
+use Rattle.std.proofs.lemmas.Bool.{cases_Bool}
 use Rattle.std.proofs.lemmas.Grind.{common_steps}
 use Rattle.std.proofs.lemmas.Nat.{mod-pow-add}
 use Rattle.std.proofs.lemmas.List.{reverse-append, reverse-reverse, length-reverse, length-drop, length-take, take-append-drop, get_or-reverse}
@@ -19,12 +20,7 @@ AreNops (letter ∷ letters) = (is_nop letter ≡ true) × AreNops letters
 
 -- a digit is that of a nop
 pub nop-nop_of : (digit : ℕ) → is_nop (nop_of digit) ≡ true
-nop-nop_of digit = go (digit == 1) (digit == 2) where
-  -- whichever letter two tests pick, it is a nop
-  go : (a b : Bool) → is_nop (cond a NopA (cond b NopB NopC)) ≡ true
-  go true b = refl
-  go false true = refl
-  go false false = refl
+nop-nop_of digit = grind (arith, common_steps)
 
 -- the digit of each letter is below 4
 pub digit-small : (letter : Letter) → digit_of_nop letter < 4
@@ -62,12 +58,7 @@ newest-nops (suc most) packed = go (packed == 0) (newest-nops most (packed / 4))
 pub newest-few : (most packed : ℕ) → length (newest_first most packed) ≤ most
 unfolding newest_first
 newest-few zero packed = omega arith
-newest-few (suc most) packed = go (packed == 0) (newest-few most (packed / 4)) where
-  -- nothing is packed, or one nop more before at most so many others
-  go : (none : Bool) → length (newest_first most (packed / 4)) ≤ most
-      → length (cond none [] (nop_of (packed % 4) ∷ newest_first most (packed / 4))) ≤ suc most
-  go true few = omega arith
-  go false few = omega arith
+newest-few (suc most) packed = grind (arith, common_steps, newest-few most (packed / 4))
 
 -- packed nops are found again
 pub newest-packed : (most : ℕ) (nops : List Letter) → AreNops nops → length nops ≤ most
@@ -139,13 +130,10 @@ last-reversed k nops =
 pub packed-read : (packed : ℕ) (letter : Letter) → packed ≡ packed_of (newest_first 10 packed)
     → packed_after packed letter ≡ packed_of (newest_first 10 (packed_after packed letter))
 unfolding newest_first
-packed-read packed letter is = go (is_nop letter) refl where
-  -- the number after a nop is packed, and so is 0, the number after another letter
-  go : (nop : Bool) → is_nop letter ≡ nop
-      → cond nop (packed % 2 ^ 18 * 4 + digit_of_nop letter) 0
-      ≡ packed_of (newest_first 10 (cond nop (packed % 2 ^ 18 * 4 + digit_of_nop letter) 0))
-  go true nop = packed-nop packed letter is ∙ sym (ap packed_of (found-nop packed letter is nop))
-  go false nop = refl
+packed-read packed letter is = elim (cases_Bool (is_nop letter)) [
+  | inl nop ↦ rw (nop, found-nop packed letter is nop) (packed-nop packed letter is)
+  | inr nop ↦ rw nop refl
+]
 
 -- the number after a letter stands for the nops that are read last then
 pub nops-read : (packed : ℕ) (letter : Letter) → packed ≡ packed_of (newest_first 10 packed)
@@ -162,13 +150,9 @@ nops-read packed letter is = go (is_nop letter) refl where
       → reverse (newest_first 10 (cond nop (packed % 2 ^ 18 * 4 + digit_of_nop letter) 0))
       ≡ cond nop (last_ten (reverse (newest_first 10 packed) ++ letter ∷ [])) []
   go true nop =
-      let onto : reverse (letter ∷ newest_first 10 packed) ≡ reverse (newest_first 10 packed)
-      ++ letter ∷ [] = reverse-append (letter ∷ []) (newest_first 10 packed) in
-      let long : length (reverse (letter ∷ newest_first 10 packed))
-      ≡ length (letter ∷ newest_first 10 packed) =
-      length-reverse (letter ∷ newest_first 10 packed) in
       ap reverse (found-nop packed letter is nop)
-      ∙ sym (rw (← onto) (rw long (last-reversed 10 (letter ∷ newest_first 10 packed))))
+      ∙ sym (rw (← reverse-append (letter ∷ []) nops, length-reverse (letter ∷ nops))
+      (last-reversed 10 (letter ∷ nops)))
   go false nop = refl
 
 -- each of some nops is one
@@ -204,8 +188,7 @@ pub packed-same : (a b : ℕ) (self other : List Letter) → a ≡ packed_of (ne
     → b ≡ packed_of (newest_first 10 b) → reverse (newest_first 10 a) ≡ self
     → reverse (newest_first 10 b) ≡ other → Decides (a == b) (self ≡ other)
 packed-same a b self other one other_one is other_is = (
-  λ e. let one_number : a ≡ b = grind (arith, common_steps) in
-      sym is ∙ ap (λ n. reverse (newest_first 10 n)) one_number ∙ other_is,
+  λ e. let one_number : a ≡ b = grind (arith, common_steps) in cc,
   λ e. eq-eqb a b (packed-once a b one other_one (is ∙ e ∙ sym other_is)),
 )
 
@@ -214,34 +197,15 @@ pub newest-at : (most packed i : ℕ) (d : Letter) → i < length (newest_first 
     → get_or (newest_first most packed) i d ≡ nop_of (packed / 2 ^ (2 * i) % 4)
 unfolding newest_first
 newest-at zero packed i d h = absurd (omega arith)
-newest-at (suc most) packed zero d h = go (packed == 0) h where
-  -- a number divided by 1 is that number
-  whole : packed / 1 ≡ packed
-  whole = omega arith
-
-  -- where a nop is packed, the newest is that of the lowest digit
-  go : (none : Bool) → 0 < length
-      (cond none [] (nop_of (packed % 4) ∷ newest_first most (packed / 4)))
-      → get_or (cond none [] (nop_of (packed % 4) ∷ newest_first most (packed / 4))) 0 d
-      ≡ nop_of (packed / 1 % 4)
-  go true h = absurd (omega arith)
-  go false h = rw whole refl
-newest-at (suc most) packed (suc i) d h = go (packed == 0) h (newest-at most (packed / 4) i d) where
-  -- one digit dropped, and then i more, are i + 1 digits dropped
-  further : packed / 4 / 2 ^ (2 * i) ≡ packed / 2 ^ (2 * suc i)
-  further = let width : 2 * suc i ≡ 2 + 2 * i = omega arith in
-      let power : 2 ^ (2 + 2 * i) ≡ 4 * 2 ^ (2 * i) = pow-add 2 2 (2 * i) in
-      rw (width, power) (div-div-eq-div-mul packed 4 (2 ^ (2 * i)))
-
-  -- a nop behind the newest is that of its own digit, as it is without the lowest one
-  go : (none : Bool) → suc i
-      < length (cond none [] (nop_of (packed % 4) ∷ newest_first most (packed / 4)))
-      → (i < length (newest_first most (packed / 4))
-      → get_or (newest_first most (packed / 4)) i d ≡ nop_of (packed / 4 / 2 ^ (2 * i) % 4))
-      → get_or (cond none [] (nop_of (packed % 4) ∷ newest_first most (packed / 4))) (suc i) d
-      ≡ nop_of (packed / 2 ^ (2 * suc i) % 4)
-  go true h rest = absurd (omega arith)
-  go false h rest = rest (omega arith) ∙ ap (λ n. nop_of (n % 4)) further
+newest-at (suc most) packed zero d h =
+    let whole : packed / 1 ≡ packed = omega arith in
+    rw whole (grind (arith, common_steps))
+newest-at (suc most) packed (suc i) d h =
+    let width : 2 * suc i ≡ 2 + 2 * i = omega arith in
+    let power : 2 ^ (2 + 2 * i) ≡ 4 * 2 ^ (2 * i) = pow-add 2 2 (2 * i) in
+    let further : packed / 4 / 2 ^ (2 * i) ≡ packed / 2 ^ (2 * suc i) =
+    rw (width, power) (div-div-eq-div-mul packed 4 (2 ^ (2 * i))) in
+    rw (← further) (grind (arith, common_steps, newest-at most (packed / 4) i d))
 
 -- digits are counted one by one
 pub count-none : (most : ℕ) → length (newest_first most 0) ≡ 0
@@ -261,5 +225,4 @@ pub count-more : (count packed : ℕ) → count < 10 → 0 < packed
 unfolding newest_first
 count-more count packed h some =
     let more : 10 - count ≡ suc (10 - (count + 1)) = omega arith in
-    let none : (packed == 0) ≡ false = grind (arith, common_steps) in
-    rw (more, none) refl
+    rw more (grind (arith, common_steps))

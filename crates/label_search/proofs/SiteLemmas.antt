@@ -1,6 +1,7 @@
 -- A clean letter and two marks in one number.
-use Rattle.std.proofs.Common.{◌≡◌, ◌∙◌, sym, ap, refl, ℕ, ◌+◌, ◌*◌, ◌/◌, ◌%◌, ◌<◌, Bool, true, false, cond, Some, arith}
+use Rattle.std.proofs.Common.{◌≡◌, ◌∙◌, sym, ap, refl, ℕ, ◌+◌, ◌*◌, ◌/◌, ◌%◌, ◌<◌, Bool, true, cond, Some, arith}
 use Rattle.std.specs.Prelude.{◌==◌, unwrap_or}
+use Rattle.std.proofs.lemmas.Grind.{common_steps}
 use Rattle.instruction_set.specs.declared.letter.Letter.{Letter}
 use Rattle.instruction_set.specs.declared.letter.Letter.TheVariants.{NopA}
 use Rattle.instruction_set.specs.Letter.{index_of, letter_at}
@@ -20,35 +21,18 @@ letter-found _ = refl
 
 -- the lowest five bits are the letter's index
 low : (clean : Letter) (executed copied : Bool) → rest_of clean executed copied % 32 ≡ index_of clean
-low clean true true = omega (arith, index-small clean)
-low clean true false = omega (arith, index-small clean)
-low clean false true = omega (arith, index-small clean)
-low clean false false = omega (arith, index-small clean)
-
--- places and numbers that are equal, part by part
-module _ (clean clean' : Letter) (executed executed' copied copied' : Bool) (is : clean ≡ clean')
-    (was : executed ≡ executed') (became : copied ≡ copied') where
-  same-place : (letter : Letter) → ◌≡◌ {A = Site}
-      (record { letter = letter; clean = clean; executed = executed; copied = copied })
-      (record { letter = letter; clean = clean'; executed = executed'; copied = copied' })
-  same-place letter = rw (is, was, became) refl
-
-  same-rest : rest_of clean executed copied ≡ rest_of clean' executed' copied'
-  same-rest = rw (is, was, became) refl
+low clean executed copied = grind (arith, index-small clean)
 
 -- a digit that is 1 or 0, tested for 1
 tested : (digit : ℕ) (mark : Bool) → digit ≡ cond mark 1 0 → (digit == 1) ≡ mark
-tested digit true is = ap (λ k. k == 1) is
-tested digit false is = ap (λ k. k == 1) is
+tested digit mark is = grind (arith, common_steps)
 
 -- the digits of the two marks
 digits : (clean : Letter) (executed copied : Bool)
     → (rest_of clean executed copied / 32 % 2 ≡ cond executed 1 0)
     × (rest_of clean executed copied / 64 % 2 ≡ cond copied 1 0)
-digits clean true true = (omega (arith, index-small clean), omega (arith, index-small clean))
-digits clean true false = (omega (arith, index-small clean), omega (arith, index-small clean))
-digits clean false true = (omega (arith, index-small clean), omega (arith, index-small clean))
-digits clean false false = (omega (arith, index-small clean), omega (arith, index-small clean))
+digits clean executed copied =
+    (grind (arith, index-small clean), grind (arith, index-small clean))
 
 -- what is packed is found again
 clean-packed : (clean : Letter) (executed copied : Bool)
@@ -87,11 +71,16 @@ module _ (clean : Letter) (executed copied : Bool) (rest : ℕ)
         copied = copied_in rest;
       })
       (record { letter = letter; clean = clean; executed = executed; copied = copied })
-  place-packed letter = same-place _ _ _ _ _ _ clean-is executed-is copied-is letter
+  place-packed letter = λ i. record {
+    letter = letter;
+    clean = clean-is i;
+    executed = executed-is i;
+    copied = copied-is i;
+  }
 
   -- and nothing else
   pub rest-packed : IsRest rest
-  rest-packed = is ∙ sym (same-rest _ _ _ _ _ _ clean-is executed-is copied-is)
+  rest-packed = is ∙ (λ i. rest_of (sym clean-is i) (sym executed-is i) (sym copied-is i))
 
 -- a number with the mark of an executed place
 pub rest-marked : (rest : ℕ) → IsRest rest
@@ -101,10 +90,7 @@ rest-marked rest is = ap (λ r. r % 32 + 32 + r / 64 * 64) is
       -- whatever it held
       go : (clean : Letter) (executed copied : Bool) → rest_of clean executed copied % 32 + 32
           + rest_of clean executed copied / 64 * 64 ≡ rest_of clean true copied
-      go clean true true = omega (arith, index-small clean)
-      go clean true false = omega (arith, index-small clean)
-      go clean false true = omega (arith, index-small clean)
-      go clean false false = omega (arith, index-small clean)
+      go clean executed copied = grind (arith, index-small clean)
 
 -- a number with another letter, and the mark of a place that was copied to
 pub rest-copied : (rest : ℕ) (letter : Letter) → IsRest rest
@@ -115,7 +101,5 @@ rest-copied rest letter is = ap (λ r. index_of letter + r / 32 % 2 * 32 + 64) i
       go : (clean : Letter) (executed copied : Bool)
           → index_of letter + rest_of clean executed copied / 32 % 2 * 32 + 64
           ≡ rest_of letter executed true
-      go clean true true = omega (arith, index-small clean)
-      go clean true false = omega (arith, index-small clean)
-      go clean false true = omega (arith, index-small clean)
-      go clean false false = omega (arith, index-small clean)
+      go clean executed copied = let digit = (digits clean executed copied).0 in
+          rw digit (grind (arith, common_steps))
