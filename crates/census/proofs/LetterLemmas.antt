@@ -31,14 +31,8 @@ by-place : (variants : List (List Field)) (c d : Choice variants)
 unfolding place
 by-place [] c d = absurd c
 by-place (fields ∷ variants) (inl x) (inl y) = refl
-by-place (fields ∷ variants) (inl x) (inr d) = first (place variants d) where
-  -- 0 is less than each number above it
-  first : (n : ℕ) → Less ≡ nat_cmp 0 (n + 1)
-  first n = grind (arith, nat_tests)
-by-place (fields ∷ variants) (inr c) (inl y) = last (place variants c) where
-  -- each number above 0 is greater than it
-  last : (n : ℕ) → Greater ≡ nat_cmp (n + 1) 0
-  last n = grind (arith, nat_tests)
+by-place (fields ∷ variants) (inl x) (inr d) = grind (arith, nat_tests)
+by-place (fields ∷ variants) (inr c) (inl y) = grind (arith, nat_tests)
 by-place (fields ∷ variants) (inr c) (inr d) =
     by-place variants c d ∙ both (place variants c) (place variants d) where
       both : (m n : ℕ) → nat_cmp m n ≡ nat_cmp (m + 1) (n + 1)

@@ -7,6 +7,7 @@ use Rattle.std.specs.List.{AllPass, Contains, list_all}
 use Rattle.std.specs.Ordering.{nat_cmp, ordering_then, ordering_reverse, is_lt}
 use Rattle.std.specs.declared.cmp.Ordering.{Ordering}
 use Rattle.std.proofs.lemmas.Bool.Decides.{nat_tests}
+use Rattle.std.proofs.lemmas.Grind.{common_steps}
 use Rattle.std.proofs.lemmas.List.Elements.{Contains-get_or}
 use Rattle.std.proofs.lemmas.List.Sums.{AllPass-from_list_all, list_all-from_AllPass}
 use Rattle.instruction_set.specs.declared.letter.Letter.{Letter}
@@ -48,22 +49,18 @@ OneIndex = (letter other : Letter) → Decides (same_letter letter other) (lette
 letters-of_indexes : OneIndex → (ls others : List Letter) → map index_of ls ≡ map index_of others
     → ls ≡ others
 letters-of_indexes one [] [] same = refl
-letters-of_indexes one [] (b ∷ bs) same = cc
-letters-of_indexes one (a ∷ rest) [] same = cc
 letters-of_indexes one (a ∷ rest) (b ∷ others) same =
     let index : index_of a ≡ index_of b = cc in
-    let tail : map index_of rest ≡ map index_of others = cc in
-    let test : same_letter a b ≡ true = grind (arith, nat_tests, index) in
-    let first : a ≡ b = (one a b).0 test in
-    let others_are = letters-of_indexes one rest others tail in
+    let first : a ≡ b = (one a b).0 (grind (arith, nat_tests, index)) in
+    let others_are = letters-of_indexes one rest others (cc) in
     cc
+letters-of_indexes one _ _ same = cc
 
 -- neither of two that tie has more or comes first
 both-tie : (first second : Ordering) → ordering_then first second ≡ Equal
     → (first ≡ Equal) × (second ≡ Equal)
-both-tie Less second is = cc
 both-tie Equal second is = (refl, is)
-both-tie Greater second is = cc
+both-tie _ second is = cc
 
 -- two genotypes that tie are one
 tied : OneIndex → (a b : GenotypeCount) → dominance_cmp a b ≡ Equal → a ≡ b
@@ -81,9 +78,7 @@ ties : (forth back : Ordering) → forth ≡ ordering_reverse back → not (is_l
     → not (is_lt back) ≡ true → forth ≡ Equal
 ties Less back turned a b = cc
 ties Equal back turned a b = refl
-ties Greater Less turned a b = cc
-ties Greater Equal turned a b = cc
-ties Greater Greater turned a b = cc
+ties Greater back turned a b = grind (arith, common_steps)
 
 -- one of some genotypes, before which no other comes
 record IsBest (genotypes : List GenotypeCount) (best : GenotypeCount) : Type 0 where

@@ -1,10 +1,9 @@
 -- The counts of the tasks, changed one after another.
-use Rattle.std.proofs.Common.{◌≡◌, ◌∙◌, sym, refl, ap, ℕ, zero, suc, ◌+◌, ◌-◌, ◌<◌, ◌≤◌, ◌≢◌, inl, inr, Bool, List, length, map, set, get_or, get_or-set_same, get_or-set_other, below_more, arith}
+use Rattle.std.proofs.Common.{◌≡◌, ◌∙◌, sym, refl, ap, ℕ, zero, suc, ◌+◌, ◌-◌, ◌<◌, ◌≤◌, ◌≢◌, Bool, List, length, map, set, get_or, get_or-set_same, get_or-set_other, below_more, arith}
 use Rattle.std.specs.Prelude.{slice_index}
 use Rattle.std.specs.Int.{from_bool}
 use Rattle.std.specs.List.{All}
-use Rattle.std.proofs.Math.ListN.{get_or-eq_default}
-use Rattle.std.proofs.lemmas.Bool.{cases_lt}
+use Rattle.std.proofs.lemmas.Grind.{common_steps}
 use Rattle.std.proofs.lemmas.List.Elements.{All-map}
 use Rattle.std.proofs.lemmas.List.{length-set, ext_get_or, get_or-map}
 use Rattle.logic_tasks.specs.declared.task.Task.{Task}
@@ -79,7 +78,4 @@ fewer-small counts credited most some small =
     (λ k task within. omega (arith, read (task_place (get_or all_tasks k task))))
   where
     read : (place : ℕ) → get_or counts place 0 < most
-    read place = elim (cases_lt place (length counts)) [
-      | inl within ↦ small place 0 within
-      | inr past ↦ omega (arith, some, get_or-eq_default counts 0 past)
-    ]
+    read place = grind (arith, common_steps, small place 0, some)
