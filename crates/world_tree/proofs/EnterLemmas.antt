@@ -1,9 +1,9 @@
 -- Those that come in an update enter the tree.
-use Rattle.std.proofs.Common.{◌≡◌, ◌↔◌, inl, inr, ⊎_elim, ◌∙◌, refl, sym, ap, subst, ℕ, zero, suc, ◌+◌, ◌<◌, ◌≤◌, List, [], ◌∷◌, ◌++◌, length, take, get_or, Some, arith}
+use Rattle.std.proofs.Common.{◌≡◌, ◌↔◌, inl, inr, ⊎_elim, ◌∙◌, sym, ap, subst, ℕ, suc, ◌+◌, ◌<◌, ◌≤◌, List, [], ◌∷◌, ◌++◌, length, take, get_or, Some, arith}
 use Rattle.std.specs.Prelude.{All, Contains, is_some, slice_get}
 use Rattle.std.proofs.lemmas.Bool.{cases_lt}
-use Rattle.std.proofs.lemmas.List.{take_all}
-use Rattle.std.proofs.lemmas.List.Elements.{All-filter}
+use Rattle.std.proofs.lemmas.List.{length-take, take_all}
+use Rattle.std.proofs.lemmas.List.Elements.{All-filter, Contains-append_left, Contains-get_or, Contains-push, Contains-push_cases}
 use Rattle.std.proofs.lemmas.Option.{slice_get-get_or}
 use Rattle.lineage_log.specs.Links.{Link}
 use Rattle.lineage_log.specs.Ancestry.{AreOlder, is_kept, kept_of, line_of_descent, link_of}
@@ -17,7 +17,7 @@ use Rattle.world_rules.specs.World.{World}
 use Rattle.world_laws.specs.Turnover.{HasBeen, IsStanding, IsTurnover}
 use Rattle.world_tree.specs.Growing.{HasBuried, HasEntered}
 use Rattle.world_tree.specs.WorldTrees.{scene_after}
-use Rattle.world_tree.proofs.NumberLemmas.{contains_from, contains_last, contains_push, get_taken, link_at, numbered_front, older_of, standing_low, take_next}
+use Rattle.world_tree.proofs.NumberLemmas.{get_taken, link_at, numbered_front, older_of, standing_low, take_next}
 
 -- what is kept goes on, as the law of that name says it
 abbrev pub KeepingLaws : Type 0
@@ -87,17 +87,7 @@ module _ (laws : KeepingLaws) {w : World} {scene : Scene} (is : IsUpdate w scene
     newest k d low =
         let here = slice_get-get_or before k d low in
         let id = (numbered k (get_or before k d) here).id in
-        let within : k < first + count = low_front k low in
-        omega (arith, id, within, number)
-      where
-        low_front : (k : ℕ) → k < length before → k < first + count
-        low_front k low = shorter (first + count) scene.everyone k low where
-          shorter : (n : ℕ) (xs : List Link) (k : ℕ) → k < length (take n xs) → k < n
-          shorter zero xs k low = absurd (omega (arith, low))
-          shorter (suc n) [] k low = absurd (omega (arith, low))
-          shorter (suc n) (x ∷ xs) zero low = omega arith
-          shorter (suc n) (x ∷ xs) (suc k) low =
-              let rest = shorter n xs k (omega (arith, low)) in omega (arith, rest)
+        omega (arith, id, low, length-take (first + count) scene.everyone, number)
 
     -- its parent stood in a cell
     stood : (above : ℕ) → link.parent ≡ Some above → IsStanding w.cells above
@@ -110,16 +100,8 @@ module _ (laws : KeepingLaws) {w : World} {scene : Scene} (is : IsUpdate w scene
     -- the living have lower ids
     low_living : All (λ id. id < link.id) tree.living
     low_living k d low =
-        let been = entered.living (get_or tree.living k d) (k, low, same k d low) in
+        let been = entered.living (get_or tree.living k d) (Contains-get_or tree.living k d low) in
         omega (arith, been_low (first + count) (get_or tree.living k d) (omega arith) been, number)
-      where
-        same : (k d : ℕ) → k < length tree.living
-            → get_or tree.living k (get_or tree.living k d) ≡ get_or tree.living k d
-        same k d low = read tree.living k d (get_or tree.living k d) low where
-          read : (xs : List ℕ) (k d e : ℕ) → k < length xs → get_or xs k e ≡ get_or xs k d
-          read [] k d e low = absurd (omega (arith, low))
-          read (x ∷ xs) zero d e low = refl
-          read (x ∷ xs) (suc k) d e low = read xs k d e (omega (arith, low))
 
     -- it can enter
     pub can_enter : CanCome tree link.id link.parent
@@ -150,18 +132,18 @@ module _ (laws : KeepingLaws) {w : World} {scene : Scene} (is : IsUpdate w scene
           ∙ take_next (first + count) scene.everyone link there));
       living = λ id lives. ⊎_elim
           (λ (old : Contains tree.living id). lift id (entered.living id old))
-          (λ (new : id ≡ link.id). inr (omega (arith, new, number), omega (arith, new, number)))
-          (contains_from tree.living link.id id lives);
+          (λ (new : link.id ≡ id). inr (omega (arith, new, number), omega (arith, new, number)))
+          (Contains-push_cases tree.living link.id id lives);
       each = λ id been. ⊎_elim
-          (λ (old : IsStanding w.cells id). contains_push tree.living link.id id
+          (λ (old : IsStanding w.cells id). Contains-append_left tree.living (link.id ∷ []) id
           (entered.each id (inl old)))
           (λ (came : (first ≤ id) × (id < first + (count + 1))). ⊎_elim
-          (λ (low : id < first + count). contains_push tree.living link.id id
+          (λ (low : id < first + count). Contains-append_left tree.living (link.id ∷ []) id
           (entered.each id (inr (came.0, low))))
           (λ (high : first + count ≤ id). let same : link.id ≡ id =
           omega (arith, high, came.1, number) in
           subst (Contains (tree.living ++ link.id ∷ [])) same
-          (contains_last tree.living link.id))
+          (Contains-push tree.living link.id))
           (cases_lt id (first + count)))
           been;
     }

@@ -1,7 +1,8 @@
 -- Organisms that stand in a list at their ids.
-use Rattle.std.proofs.Common.{◌≡◌, ◌≢◌, ◌⊎◌, inl, inr, ⊎_elim, ◌∙◌, refl, sym, ap, subst, unwrap_or, ℕ, zero, suc, ◌+◌, ◌<◌, Bool, true, false, cond, eqb, List, [], ◌∷◌, ◌++◌, length, take, drop, get_or, Option, Some, None, eq-eqb, eqb-true, not, arith}
+use Rattle.std.proofs.Common.{◌≡◌, ◌≢◌, ◌∙◌, refl, sym, ap, subst, ℕ, zero, suc, ◌+◌, ◌<◌, Bool, true, false, cond, eqb, List, [], ◌∷◌, ◌++◌, length, take, drop, get_or, Option, Some, None, eqb-true, not, arith}
 use Rattle.std.specs.Prelude.{Contains, is_some, option_and_then, slice_get}
-use Rattle.std.proofs.lemmas.Bool.{cond-true, eqb-false}
+use Rattle.std.proofs.lemmas.Bool.{eqb-false}
+use Rattle.std.proofs.lemmas.Grind.{common_steps}
 use Rattle.std.proofs.lemmas.Option.{get_or_from_slice_get, slice_get_within}
 use Rattle.lineage_log.specs.Links.{Link}
 use Rattle.lineage_log.specs.Ancestry.{AreOlder, link_of}
@@ -13,10 +14,9 @@ use Rattle.world_laws.specs.Turnover.{IsStanding}
 -- what stands in a front stands in the whole list
 pub get_front : {X : Type 0} (k : ℕ) (xs : List X) (place : ℕ) (x : X)
     → slice_get (take k xs) place ≡ Some x → slice_get xs place ≡ Some x
-get_front zero xs place x is = absurd cc
-get_front (suc k) [] place x is = absurd cc
 get_front (suc k) (y ∷ xs) zero x is = is
 get_front (suc k) (y ∷ xs) (suc place) x is = get_front k xs place x is
+get_front _ _ place x is = absurd cc
 
 -- and back
 pub get_taken : {X : Type 0} (k : ℕ) (xs : List X) (place : ℕ) (x : X) → place < k
@@ -30,14 +30,13 @@ get_taken (suc k) (y ∷ xs) (suc place) x low is = get_taken k xs place x (omeg
 pub take_next : {X : Type 0} (k : ℕ) (xs : List X) (x : X) → slice_get xs k ≡ Some x
     → take (suc k) xs ≡ take k xs ++ x ∷ []
 take_next k [] x is = absurd cc
-take_next zero (y ∷ xs) x is =
-    let same : y ≡ x = ap (λ (o : Option _). unwrap_or o y) is in ap (λ y. y ∷ []) same
+take_next zero (y ∷ xs) x is = cc
 take_next (suc k) (y ∷ xs) x is = ap (λ rest. y ∷ rest) (take_next k xs x is)
 
 -- what stands behind a front
 pub get_behind : {X : Type 0} (n : ℕ) (xs : List X) (k : ℕ) (x : X)
     → slice_get (drop n xs) k ≡ Some x → slice_get xs (n + k) ≡ Some x
-get_behind zero xs k x is = let e : 0 + k ≡ k = omega arith in ap (slice_get xs) e ∙ is
+get_behind zero xs k x is = grind (arith, common_steps)
 get_behind (suc n) [] k x is = absurd cc
 get_behind (suc n) (y ∷ xs) k x is = let e : suc n + k ≡ suc (n + k) = omega arith in
     ap (slice_get (y ∷ xs)) e ∙ get_behind n xs k x is
@@ -57,24 +56,16 @@ found_link (first ∷ links) id link is =
           → cond b (Some first) (link_of links id) ≡ Some link
           → (place : ℕ) × (slice_get (first ∷ links) place ≡ Some link) × (link.id ≡ id)
       by rest true e is =
-          let same : first ≡ link = ap (λ (o : Option Link). unwrap_or o first) is in
-          (0, is, ap (λ (l : Link). l.id) (sym same) ∙ eqb-true first.id id e)
+          let same : first ≡ link = cc in (0, is, grind (arith, common_steps))
       by rest false e is = let r = rest is in (suc r.0, r.1, r.2)
 
 -- each is found by its id
 pub some_at : (links : List Link) (place : ℕ) (link : Link) → slice_get links place ≡ Some link
     → is_some (link_of links link.id) ≡ true
 some_at [] place link is = absurd cc
-some_at (first ∷ links) zero link is =
-    let same : first ≡ link = ap (λ (o : Option Link). unwrap_or o first) is in
-    ap is_some (cond-true (eqb first.id link.id) (Some first) (link_of links link.id)
-    (eq-eqb first.id link.id (ap (λ (l : Link). l.id) same)))
+some_at (first ∷ links) zero link is = grind (arith, common_steps)
 some_at (first ∷ links) (suc place) link is =
-    by (eqb first.id link.id) (some_at links place link is) where
-      by : (b : Bool) → is_some (link_of links link.id) ≡ true
-          → is_some (cond b (Some first) (link_of links link.id)) ≡ true
-      by true rest = refl
-      by false rest = rest
+    grind (arith, common_steps, some_at links place link is)
 
 -- what is there, as an equation
 the_some : (found : Option Link) → is_some found ≡ true → (link : Link) × (found ≡ Some link)
@@ -89,10 +80,7 @@ link_at links place link are there =
     let found = the_some (link_of links link.id) (some_at links place link there) in
     let where_is = found_link links link.id found.0 found.1 in
     let same : where_is.0 ≡ place = sym (are where_is.0 found.0 where_is.1).id ∙ where_is.2 ∙ id in
-    let it : found.0 ≡ link =
-    ap (λ (o : Option Link). unwrap_or o link)
-    (sym where_is.1 ∙ ap (slice_get links) same ∙ there) in
-    ap (link_of links) (sym id) ∙ found.1 ∙ ap (λ (l : Link). Some l) it
+    ap (link_of links) (sym id) ∙ found.1 ∙ sym where_is.1 ∙ ap (slice_get links) same ∙ there
 
 -- parents are older
 pub older_of : (links : List Link) → AreNumbered links → AreOlder links
@@ -123,37 +111,6 @@ standing_low w id is stands =
 -- one more in front
 pub contains_more : (x y : ℕ) (xs : List ℕ) → Contains xs x → Contains (y ∷ xs) x
 contains_more x y xs is = (suc is.0, omega (arith, is.1), is.2)
-
--- one more at the end
-pub contains_push : (xs : List ℕ) (y x : ℕ) → Contains xs x → Contains (xs ++ y ∷ []) x
-contains_push [] y x is = absurd (omega (arith, is.1))
-contains_push (z ∷ xs) y x is = by (λ h. contains_push xs y x h) is.0 is.1 is.2 where
-  -- for a number in the first place, or in a later one
-  by : (Contains xs x → Contains (xs ++ y ∷ []) x) → (k : ℕ) → k < length (z ∷ xs)
-      → get_or (z ∷ xs) k x ≡ x → Contains (z ∷ xs ++ y ∷ []) x
-  by rest zero low e = (0, omega arith, e)
-  by rest (suc k) low e = contains_more x z (xs ++ y ∷ []) (rest (k, omega (arith, low), e))
-
--- the last
-pub contains_last : (xs : List ℕ) (y : ℕ) → Contains (xs ++ y ∷ []) y
-contains_last [] y = (0, omega arith, refl)
-contains_last (z ∷ xs) y = contains_more y z (xs ++ y ∷ []) (contains_last xs y)
-
--- who is there with one more
-pub contains_from : (xs : List ℕ) (y x : ℕ) → Contains (xs ++ y ∷ []) x → Contains xs x ⊎ (x ≡ y)
-contains_from [] y x is = by is.0 is.1 is.2 where
-  -- for a number in a list of one item
-  by : (k : ℕ) → k < length (y ∷ []) → get_or (y ∷ []) k x ≡ x → Contains [] x ⊎ (x ≡ y)
-  by zero low e = inr (sym e)
-  by (suc k) low e = absurd (omega (arith, low))
-contains_from (z ∷ xs) y x is = by (λ h. contains_from xs y x h) is.0 is.1 is.2 where
-  -- for a number in the first place, or in a later one
-  by : (Contains (xs ++ y ∷ []) x → Contains xs x ⊎ (x ≡ y)) → (k : ℕ)
-      → k < length (z ∷ xs ++ y ∷ []) → get_or (z ∷ xs ++ y ∷ []) k x ≡ x → Contains (z ∷ xs) x
-      ⊎ (x ≡ y)
-  by rest zero low e = inl (0, omega arith, e)
-  by rest (suc k) low e = ⊎_elim (λ (h : Contains xs x). inl (contains_more x z xs h))
-      (λ (h : x ≡ y). inr h) (rest (k, omega (arith, low), e))
 
 -- without an id the others are there
 pub without_to : (id x : ℕ) (ids : List ℕ) → Contains ids x → x ≢ id

@@ -1,5 +1,5 @@
 -- What the tree of a world shows of it.
-use Rattle.std.proofs.Common.{◌≡◌, ◌↔◌, ◌∙◌, refl, sym, ap, subst, unwrap_or, ℕ, zero, suc, ◌+◌, ◌*◌, ◌<◌, List, [], ◌∷◌, ◌++◌, length, replicate, get_or, Option, Some, None, Result, Ok, Err, arith}
+use Rattle.std.proofs.Common.{◌≡◌, ◌↔◌, ◌∙◌, refl, sym, ap, subst, ℕ, zero, suc, ◌+◌, ◌*◌, ◌<◌, List, [], ◌∷◌, ◌++◌, length, replicate, get_or, Option, Some, None, Result, Ok, Err, arith}
 use Rattle.std.specs.Prelude.{Contains, IfOk, filter_map, slice_get, slice_set}
 use Rattle.std.specs.Option.{option_map_or}
 use Rattle.lineage_log.specs.Links.{Link}
@@ -31,7 +31,7 @@ nobody n = replicate n None
 -- how many they are
 length-none : (n : ℕ) → length (nobody n) ≡ n
 length-none zero = refl
-length-none (suc n) = let rest = length-none n in omega (arith, rest)
+length-none (suc n) = omega (arith, length-none n)
 
 -- nobody stands there
 none_at : (n k : ℕ) (o : Occupant) → slice_get (replicate n None) k ≡ Some (Some o) → ⊥
@@ -42,11 +42,9 @@ none_at (suc n) (suc k) o is = none_at n k o is
 -- but for one who was put there
 only_one : (n i k : ℕ) (x o : Occupant)
     → slice_get (slice_set (replicate n None) i (Some x)) k ≡ Some (Some o) → x ≡ o
-only_one zero i k x o is = absurd cc
-only_one (suc n) zero zero x o is = cc
 only_one (suc n) zero (suc k) x o is = absurd (none_at n k o is)
-only_one (suc n) (suc i) zero x o is = absurd cc
 only_one (suc n) (suc i) (suc k) x o is = only_one n i k x o is
+only_one _ _ _ x o is = cc
 
 -- the tree of the founder is that of its world
 pub tree_found : (config : ConfigValues) (tree : TreeValue)
@@ -154,8 +152,7 @@ stand_ids : (cells : List (Option Occupant)) (id k : ℕ) (o : Occupant)
     → slice_get cells k ≡ Some (Some o) → o.id ≡ id → Contains (filter_map id_of cells) id
 stand_ids [] id k o is e = absurd cc
 stand_ids (slot ∷ cells) id zero o is e =
-    let same : slot ≡ Some o = ap (λ (s : Option (Option Occupant)). unwrap_or s slot) is in
-    subst (λ s. Contains (filter_map id_of (s ∷ cells)) id) (sym same) (0, omega arith, e)
+    let same : slot ≡ Some o = cc in rw same (0, omega arith, e)
 stand_ids (slot ∷ cells) id (suc k) o is e = by slot (stand_ids cells id k o is e) where
   -- behind an empty cell, or behind another organism
   by : (slot : Option Occupant) → Contains (filter_map id_of cells) id
