@@ -1,7 +1,7 @@
 -- Lists by their places.
-use Rattle.std.proofs.Common.{◌≡◌, ℕ, zero, suc, ◌+◌, ◌<◌, List, [], ◌∷◌, ◌++◌, Some, None, length, get_or, drop, refl, sym, ap, ◌∙◌, arith, inl, inr}
+use Rattle.std.proofs.Common.{◌≡◌, ℕ, zero, suc, ◌+◌, ◌<◌, List, [], ◌∷◌, ◌++◌, Some, None, length, get_or, drop, refl, ap, ◌∙◌, arith}
 use Rattle.std.specs.Prelude.{replicate, slice_get}
-use Rattle.std.proofs.lemmas.Bool.{cases_lt}
+use Rattle.std.proofs.lemmas.Grind.{common_steps}
 use Rattle.std.proofs.lemmas.List.{drop_more}
 use Rattle.std.proofs.lemmas.Option.{slice_get_within, get_or_from_slice_get}
 
@@ -27,13 +27,8 @@ get_last (x ∷ xs) y = get_last xs y
 pub each_pushed : {A : Type 0} (want : ℕ → A) (xs : List A) (y : A) (n : ℕ) → length xs ≡ n
     → ((i : ℕ) → i < n → slice_get xs i ≡ Some (want i)) → y ≡ want n → (i : ℕ) → i < n + 1
     → slice_get (xs ++ y ∷ []) i ≡ Some (want i)
-each_pushed want xs y n len each last i within = elim (cases_lt i n) [
-  | inl before ↦ get_before xs y i (omega arith) ∙ each i before
-  | inr not_before ↦
-      let here : i ≡ length xs = omega arith in
-      let there : i ≡ n = omega arith in
-      ap (slice_get (xs ++ y ∷ [])) here ∙ get_last xs y ∙ ap Some (last ∙ ap want (sym there))
-]
+each_pushed want xs y n len each last i within =
+    grind (arith, common_steps, get_before xs y i, each i, get_last xs y, last)
 
 -- what is left begins with the item at this place
 pub drop_is : {A : Type 0} (xs : List A) (i : ℕ) (x : A) → slice_get xs i ≡ Some x

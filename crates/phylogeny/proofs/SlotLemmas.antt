@@ -1,13 +1,13 @@
 -- A walk over the cells, and over the lines of a log.
-use Rattle.std.proofs.Common.{◌≡◌, ℕ, suc, ◌+◌, ◌<◌, ◌≤◌, List, [], ◌∷◌, ◌++◌, Option, Some, None, length, drop, eqb, get_or, map, set, add-one, append_assoc, get_or-set_other, get_or-set_same, refl, sym, ap, ◌∙◌, arith, inl, inr}
+use Rattle.std.proofs.Common.{◌≡◌, ℕ, suc, ◌+◌, ◌<◌, ◌≤◌, List, [], ◌∷◌, ◌++◌, Option, Some, None, length, drop, eqb, get_or, map, set, add-one, append_assoc, refl, sym, ap, ◌∙◌, arith}
 use Rattle.std.specs.Prelude.{count_by, is_some, slice_get}
-use Rattle.std.proofs.lemmas.Bool.Decides.{eqb_tells}
+use Rattle.std.proofs.lemmas.Grind.{common_steps}
 use Rattle.std.proofs.lemmas.List.{drop_more}
 use Rattle.std.proofs.lemmas.List.Sums.{count_by-le-length}
 use Rattle.log_lines.specs.Line.{Line}
 use Rattle.phylogeny.specs.Pedigree.{Dweller}
 use Rattle.phylogeny.specs.Slots.{living_from, newcomer_parent, parents_in, standing_after, standing_on}
-use Rattle.phylogeny.proofs.CountLemmas.{bit, count_cons}
+use Rattle.phylogeny.proofs.CountLemmas.{count_cons}
 use Rattle.phylogeny.proofs.ListLemmas.{drop_is}
 
 -- who stands in a cell
@@ -107,23 +107,8 @@ counted_with counts ids cell who standing len within few is counted id small =
     let rest = living_from (cell + 1) (drop (cell + 1) standing) in
     let left = ap (here id) (living_with standing cell who within is)
     ∙ count_cons (λ w. eqb w.id id) (dweller_at cell who) rest in
-    let so_far = counted id small in
-    elim (eqb_tells who id) [
-      | inl same ↦
-          let one = ap bit same.0 in
-          let there : who < length counts = omega (arith, len) in
-          let new : get_or (set counts who (get_or counts who 0 + 1)) id 0
-          ≡ get_or counts id 0 + 1 =
-          ap (λ (k : ℕ). get_or (set counts who (get_or counts who 0 + 1)) k 0) (sym same.1)
-          ∙ get_or-set_same counts who (get_or counts who 0 + 1) 0 there
-          ∙ ap (λ (k : ℕ). get_or counts k 0 + 1) same.1 in
-          omega (arith, left, so_far, one, new)
-      | inr other ↦
-          let none = ap bit other.0 in
-          let new : get_or (set counts who (get_or counts who 0 + 1)) id 0 ≡ get_or counts id 0 =
-          get_or-set_other counts who id (get_or counts who 0 + 1) 0 (λ e. other.1 (sym e)) in
-          omega (arith, left, so_far, none, new)
-    ]
+    let there : who < length counts = omega (arith, len) in
+    grind (arith, common_steps, left, counted id small, there)
 
 -- one line more is told
 pub parents_more : (lines : List Line) (at : ℕ) (line : Line) (old new : List (Option ℕ))
