@@ -1,8 +1,9 @@
 -- Reading as many numbers as end a line, one by one.
-use Rattle.std.proofs.Common.{◌≡◌, ℕ, suc, ◌+◌, ◌<◌, true, false, cond, List, [], ◌∷◌, ◌++◌, length, get_or, take, set, Option, Some, None, refl, sym, ap, ◌∙◌, arith, append_assoc, append-nil, length-append, length-set, eq-eqb}
-use Rattle.std.specs.Prelude.{option_and_then, option_map, ◌==◌}
+use Rattle.std.proofs.Common.{◌≡◌, ℕ, suc, ◌+◌, ◌<◌, true, false, cond, List, [], ◌∷◌, ◌++◌, length, take, set, Option, Some, None, refl, sym, ap, arith, append_assoc, append-nil, length-append, length-set, eq-eqb}
+use Rattle.std.specs.Prelude.{option_map, ◌==◌}
 use Rattle.std.proofs.lemmas.Bool.Decides.{nat_tests}
 use Rattle.std.proofs.lemmas.List.{take_more, take-set-le, get_or-set_same}
+use Rattle.std.proofs.lemmas.Option.{some_pair_parts}
 use Rattle.log_lines.specs.Fields.{each}
 use Rattle.log_lines.specs.Rows.{read_both, read_last}
 use Rattle.log_lines.specs.Words.{read_first}
@@ -34,48 +35,32 @@ pub each_more : {X A : Type 0} (read : X → Option A) (front : List A) (x : X) 
     (all : Option (List A)) → Some a ≡ read x
     → option_map (λ others. front ++ others) (each read (x ∷ xs)) ≡ all
     → option_map (λ others. (front ++ a ∷ []) ++ others) (each read xs) ≡ all
-each_more {A = A} read front x a xs all is so =
-    let both : option_map (λ others. a ∷ others) (each read xs) ≡ each read (x ∷ xs) =
-    ap (λ (o : Option A).
-    option_and_then (λ b. option_map (λ others. b ∷ others) (each read xs)) o) is in
-    sym (map_more front a (each read xs))
-    ∙ ap (λ (o : Option (List A)). option_map (λ others. front ++ others) o) both ∙ so
+each_more read front x a xs all is so = rw (← is, map_more front a (each read xs)) at so
 
 -- an item that is not readable
 pub each_none : {X A : Type 0} (read : X → Option A) (front : List A) (x : X) (xs : List X)
     (all : Option (List A)) → None ≡ read x
     → option_map (λ others. front ++ others) (each read (x ∷ xs)) ≡ all → None ≡ all
-each_none {A = A} read front x xs all is so =
-    ap (λ (o : Option A). option_map (λ others. front ++ others)
-    (option_and_then (λ b. option_map (λ others. b ∷ others) (each read xs)) o)) is ∙ so
+each_none read front x xs all is so = rw (← is) at so
 
 -- the front of a list, an item of which was set
 pub front_more : {A : Type 0} (items : List A) (k : ℕ) (item : A) → k < length items
     → take (k + 1) (set items k item) ≡ take k items ++ item ∷ []
-front_more {A = A} items k item low =
+front_more items k item low =
     let within : k < length (set items k item) = omega (arith, low, length-set items k item) in
-    take_more (set items k item) k item within
-    ∙ ap (λ (l : List A). l ++ get_or (set items k item) k item ∷ [])
-    (take-set-le k items k item (omega arith))
-    ∙ ap (λ (a : A). take k items ++ a ∷ []) (get_or-set_same items k item item low)
-
--- something is not nothing
-some_none : {A : Type 0} (a : A) (behind : List (List ℕ))
-    → ◌≡◌ {A = Option (A × List (List ℕ))} (Some (a, behind)) None → ⊥
-some_none a behind is = cc
+    rw (
+      take_more (set items k item) k item within,
+      take-set-le k items k item (omega arith),
+      get_or-set_same items k item item low,
+    )
 
 -- a first word that is read, and the words behind it
 same_first : {A : Type 0} (words behind : List (List ℕ)) (a : A) (o : Option A)
     → ◌≡◌ {A = Option (A × List (List ℕ))} (Some (a, behind)) (option_map (λ b. (b, words)) o)
     → (words ≡ behind) × (o ≡ Some a)
-same_first words behind a None is = absurd (some_none a behind is)
-same_first {A = A} words behind a (Some b) is =
-    let given : A × List (List ℕ) = (a, behind) in
-    let found : A × List (List ℕ) = (b, words) in
-    let pair : given ≡ found = cc in (
-      sym (ap (λ (p : A × List (List ℕ)). p.1) pair),
-      ap Some (sym (ap (λ (p : A × List (List ℕ)). p.0) pair)),
-    )
+same_first words behind a None is = absurd cc
+same_first words behind a (Some b) is =
+    let parts = some_pair_parts a b behind words is in (sym parts.1, ap Some (sym parts.0))
 
 -- the first word of what is read
 first_parts : {A : Type 0} (read : List ℕ → Option A) (left behind : List (List ℕ)) (a : A)
@@ -102,15 +87,13 @@ pub each_first : {A : Type 0} (read : List ℕ → Option A) (front : List A)
     → option_map (λ others. (front ++ a ∷ []) ++ others) (each read behind) ≡ all
 each_first read front left behind a all is so =
     let parts = first_parts read left behind a is in
-    each_more read front parts.0 a behind all (sym parts.2)
-    (ap (λ (l : List (List ℕ)). option_map (λ others. front ++ others) (each read l)) (sym parts.1)
-    ∙ so)
+    each_more read front parts.0 a behind all (sym parts.2) (rw parts.1 at so)
 
 -- what is none with its words is none
 none_first : {A : Type 0} (words : List (List ℕ)) (o : Option A)
     → ◌≡◌ {A = Option (A × List (List ℕ))} None (option_map (λ a. (a, words)) o) → None ≡ o
 none_first words None is = refl
-none_first words (Some a) is = absurd (some_none a words (sym is))
+none_first words (Some a) is = absurd cc
 
 -- the first item of those that are left is not readable
 pub each_stops : {A : Type 0} (read : List ℕ → Option A) (front : List A) (left : List (List ℕ))
@@ -127,14 +110,9 @@ pub read_more : (read : List ℕ → Option ℕ) (words left behind : List (List
 read_more read words left behind front n has is =
     let parts = first_parts read left behind n is in
     let longer : length left ≡ suc (length behind) = ap (λ (l : List (List ℕ)). length l) parts.1 in
-    let both : each read left ≡ option_map (λ others. n ∷ others) (each read behind) =
-    ap (λ (l : List (List ℕ)). each read l) parts.1
-    ∙ ap (λ (o : Option ℕ). option_and_then
-    (λ a. option_map (λ others. a ∷ others) (each read behind)) o) parts.2 in
     record {
       count = omega (arith, has.count, longer, length-append front (n ∷ []));
-      values = has.values ∙ ap (λ (o : Option (List ℕ)). option_map (λ others. front ++ others) o)
-          both ∙ map_more front n (each read behind);
+      values = rw (parts.1, parts.2, map_more front n (each read behind)) at has.values;
     }
 
 -- a first word that is read, and what is read from the words behind it
@@ -142,12 +120,9 @@ pub both_read : {A : Type 0} (read : List ℕ → Option ℕ) (others : List (Li
     (words left : List (List ℕ)) (n : ℕ) (a : A) → Some (n, left) ≡ read_first read words
     → Some a ≡ others left
     → (let pair : ℕ × A = (n, a) in Some pair) ≡ read_both read others words
-both_read {A = A} read others words left n a is so =
+both_read read others words left n a is so =
     let parts = first_parts read words left n is in
-    let with : ℕ → A → ℕ × A = λ m b. (m, b) in
-    sym (ap (λ (ws : List (List ℕ)). read_both read others ws) parts.1
-    ∙ ap (λ (o : Option ℕ). option_and_then (λ m. option_map (with m) (others left)) o) parts.2
-    ∙ ap (λ (o : Option A). option_map (with n) o) (sym so))
+    rw (parts.1, parts.2, ← so)
 
 -- as many words as are wanted
 pub read_all : (read : List ℕ → Option ℕ) (n : ℕ) (words : List (List ℕ)) (front : List ℕ)
