@@ -85,18 +85,13 @@ module _ {A B C : Type 0} (row : Left → Option C) (first : Left → Option (A 
     (begins : Begins row first behind make) where
   -- first fields that are not readable
   none_first : (words : Left) → None ≡ first words → None ≡ option_map line (row words)
-  none_first words none =
-      ap (λ (o : Option (A × Left)). option_map line (with_behind make behind o)) none
-      ∙ ap (λ (o : Option C). option_map line o) (begins words)
+  none_first words none = rw (← begins words, ← none)
 
   -- first fields that are read, and the row behind them
   some_first : (words left : Left) (a : A) (found : Option B) → Some (a, left) ≡ first words
       → found ≡ behind left
       → option_map line (option_map (make a) found) ≡ option_map line (row words)
-  some_first words left a found some is =
-      ap (λ (o : Option B). option_map line (option_map (make a) o)) is
-      ∙ ap (λ (o : Option (A × Left)). option_map line (with_behind make behind o)) some
-      ∙ ap (λ (o : Option C). option_map line o) (begins words)
+  some_first words left a found some is = rw (← begins words, ← some, is)
 
 -- ---- a row behind an arrival
 
