@@ -94,25 +94,20 @@ parts_on b bs None is so =
 -- another byte in front
 parts_end : (b : ℕ) (bs : List ℕ) → is_ascii_digit b ≡ false → Parts (b ∷ bs) (after_word (b ∷ bs))
 parts_end b bs isnt = elim (cases_Bool (b == 32)) [
-  | inl is ↦ subst (λ (v : Bool). Parts (b ∷ bs) (cond v (Some (Some bs)) None)) (sym is)
+  | inl is ↦ rw is
       (cut_here b bs is ∙ ap (λ (word : List ℕ). word ∷ cut bs) (sym (no_digits b bs isnt)))
-  | inr other ↦ subst (λ (v : Bool). Parts (b ∷ bs) (cond v (Some (Some bs)) None)) (sym other)
-      (let some = onto_some b (cut bs) in (
-        b ∷ some.0,
-        some.1,
-        cut_on b bs other ∙ some.2,
-        ap (λ (v : Bool). v && all_ascii_digits some.0) isnt,
-      ))
+  | inr other ↦
+      let some = onto_some b (cut bs) in
+      rw other (b ∷ some.0, some.1, cut_on b bs other ∙ some.2, rw isnt)
 ]
 
 -- the digits are the first word, or it has another byte
 parts : (bytes : List ℕ) → Parts bytes (after_word (drop (digits_len bytes) bytes))
 parts [] = refl
 parts (b ∷ bs) = elim (cases_Bool (is_ascii_digit b)) [
-  | inl is ↦ subst (λ (l : List ℕ). Parts (b ∷ bs) (after_word l)) (sym (behind_on b bs is))
+  | inl is ↦ rw (behind_on b bs is)
       (parts_on b bs (after_word (drop (digits_len bs) bs)) is (parts bs))
-  | inr isnt ↦ subst (λ (l : List ℕ). Parts (b ∷ bs) (after_word l)) (sym (behind_none b bs isnt))
-      (parts_end b bs isnt)
+  | inr isnt ↦ rw (behind_none b bs isnt) (parts_end b bs isnt)
 ]
 
 -- ---- the number that is the first word
@@ -136,10 +131,6 @@ pub tail_is : (len : ℕ) (bytes : List ℕ) → len ≤ length bytes
 tail_is len bytes within =
     take_all (length bytes - len) (drop len bytes) (omega (arith, length-drop len bytes))
 
--- the first number and the words behind it
-abbrev first_of : Option (List ℕ) → Option ℕ → Option (ℕ × List (List ℕ))
-first_of left found = option_map (λ n. (n, words_of left)) found
-
 -- the number in front and what is left behind it
 abbrev with_left : ℕ → Option (Option (List ℕ)) → Option (ℕ × List (List ℕ))
 with_left n left = option_map (λ o. (n, words_of o)) left
@@ -151,21 +142,19 @@ module _ (least greatest : ℕ) (bytes : List ℕ) where
 
   -- a first word with another byte is no number
   no_word : Parts bytes None → None ≡ read_first read (cut bytes)
-  no_word so = sym
-      (ap (read_first read) so.2
-      ∙ ap (option_map (λ a. (a, so.1))) (not_number least greatest so.0 so.3))
+  no_word so = rw (so.2, not_number least greatest so.0 so.3)
 
   -- a number in front
   read_parts : (n : ℕ) (left : Option (Option (List ℕ))) → Parts bytes left
       → Some n ≡ read (leading_digits bytes) → with_left n left ≡ read_first read (cut bytes)
   read_parts n None so is = no_word so
-  read_parts n (Some left) so is = ap (first_of left) is ∙ sym (ap (read_first read) so)
+  read_parts n (Some left) so is = rw (so, ← is)
 
   -- no number in front
   no_parts : (left : Option (Option (List ℕ))) → Parts bytes left
       → None ≡ read (leading_digits bytes) → None ≡ read_first read (cut bytes)
   no_parts None so is = no_word so
-  no_parts (Some left) so is = ap (first_of left) is ∙ sym (ap (read_first read) so)
+  no_parts (Some left) so is = rw (so, ← is)
 
   -- the digits in front are the number that is the first word
   pub front_number : (n len : ℕ) (left : Option (Option (List ℕ)))
@@ -193,16 +182,11 @@ ByteParts b bs (Some left) = cut (b ∷ bs) ≡ (b ∷ []) ∷ words_of left
 byte_parts : (b : ℕ) (bs : List ℕ) → (b == 32) ≡ false → ByteParts b bs (after_word bs)
 byte_parts b [] other = cut_on b [] other
 byte_parts b (c ∷ cs) other = elim (cases_Bool (c == 32)) [
-  | inl is ↦ subst (λ (v : Bool). ByteParts b (c ∷ cs) (cond v (Some (Some cs)) None)) (sym is)
-      (cut_on b (c ∷ cs) other ∙ ap (onto_first b) (cut_here c cs is))
-  | inr isnt ↦ subst (λ (v : Bool). ByteParts b (c ∷ cs) (cond v (Some (Some cs)) None)) (sym isnt)
-      (let some = onto_some c (cut cs) in (
-        c,
-        some.0,
-        some.1,
-        cut_on b (c ∷ cs) other
-            ∙ ap (onto_first b) (cut_on c cs isnt ∙ some.2),
-      ))
+  | inl is ↦ rw is (cut_on b (c ∷ cs) other ∙ ap (onto_first b) (cut_here c cs is))
+  | inr isnt ↦
+      let some = onto_some c (cut cs) in
+      let goes_on = cut_on b (c ∷ cs) other ∙ ap (onto_first b) (cut_on c cs isnt ∙ some.2) in
+      rw isnt (c, some.0, some.1, goes_on)
 ]
 
 -- nobody stood there
@@ -213,11 +197,9 @@ dashed left =
 -- a dash in front
 dash_part : (bs : List ℕ) (left : Option (Option (List ℕ))) → ByteParts 45 bs left
     → dashed left ≡ read_first over_field.read (cut (45 ∷ bs))
-dash_part bs (Some left) so = sym (ap (read_first over_field.read) so)
-dash_part bs None so = sym
-    (ap (read_first over_field.read) so.3
-    ∙ ap (option_map (λ a. (a, so.2)))
-    (ap (option_map Some) (not_number 0 18446744073709551615 (45 ∷ so.0 ∷ so.1) refl)))
+dash_part bs (Some left) so = rw so
+dash_part bs None so =
+    rw (so.3, not_number 0 18446744073709551615 (45 ∷ so.0 ∷ so.1) refl)
 
 -- a dash that is the first word
 pub dash_first : (bytes : List ℕ) (left : Option (Option (List ℕ))) → 1 ≤ length bytes
