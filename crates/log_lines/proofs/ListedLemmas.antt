@@ -1,5 +1,5 @@
 -- The first change of a list, from the digits and the letter that it is written with.
-use Rattle.std.proofs.Common.{◌≡◌, ◌<◌, ◌≤◌, ◌-◌, ◌∙◌, ℕ, List, [], ◌∷◌, ◌++◌, Option, Some, None, length, get_or, take, drop, refl, sym, ap, subst, arith, inl, inr, length-append, append-nil, append_assoc}
+use Rattle.std.proofs.Common.{◌≡◌, ◌<◌, ◌≤◌, ◌-◌, ◌∙◌, ℕ, List, [], ◌∷◌, ◌++◌, Option, Some, None, length, get_or, take, drop, refl, sym, ap, arith, inl, inr, length-append, append-nil, append_assoc}
 use Rattle.std.specs.Prelude.{option_map, ◌==◌}
 use Rattle.std.specs.Char.{is_ascii_digit}
 use Rattle.std.specs.List.{slice_split}
@@ -30,11 +30,9 @@ then_left change left =
 first_piece : (piece : List ℕ) (left : Option (List ℕ)) (change : Change) → Above 44 piece
     → read_change piece ≡ Some change → first_in (piece ++ comma_then left) ≡ then_left change left
 first_piece piece None change plain is =
-    ap first_in (append-nil piece) ∙ ap (read_first read_change) (split_one 44 piece plain)
-    ∙ ap (option_map (λ a. (a, []))) is
+    rw (append-nil piece, split_one 44 piece plain, is)
 first_piece piece (Some behind) change plain is =
-    ap (read_first read_change) (split_first 44 piece behind plain)
-    ∙ ap (option_map (λ a. (a, slice_split (λ b. b == 44) behind))) is
+    rw (split_first 44 piece behind plain, is)
 
 -- a letter in front, and what is left behind its comma
 pub letter_in_front : (rest : List ℕ) (letter : Letter) (left : Option (List ℕ)) → 1 ≤ length rest
@@ -51,8 +49,8 @@ digits_plain [] = tt
 digits_plain (b ∷ bs) = elim (cases_Bool (is_ascii_digit b)) [
   | inl is ↦
       let high : 44 < b = grind (arith, nat_tests, is) in
-      subst (λ (l : List ℕ). Above 44 l) (sym (digits_on b bs is)) (high, digits_plain bs)
-  | inr isnt ↦ subst (λ (l : List ℕ). Above 44 l) (sym (no_digits b bs isnt)) tt
+      rw (digits_on b bs is) (high, digits_plain bs)
+  | inr isnt ↦ rw (no_digits b bs isnt) tt
 ]
 
 -- a place and a letter
@@ -96,13 +94,12 @@ module _ (bytes : List ℕ) (at len most : ℕ) (left : Option (List ℕ))
         ap (λ (l : List ℕ). known ∷ l)
         (append_assoc front (byte_of letter ∷ []) (comma_then left)
         ∙ parted (byte_of letter ∷ comma_then left) is) in
-        ap (λ (m : ℕ). first_in (m ∷ bytes)) same ∙ ap first_in (sym whole)
-        ∙ first_piece piece left (make at letter) (
+        rw same (ap first_in (sym whole) ∙ first_piece piece left (make at letter) (
           plain,
           above_append 44 front (byte_of letter ∷ []) (digits_plain bytes)
               (letter_above letter, tt),
         )
-        (marked (front ++ byte_of letter ∷ []) ∙ lettered_is make front at letter place)
+        (marked (front ++ byte_of letter ∷ []) ∙ lettered_is make front at letter place))
 
     -- a deletion
     pub first_deletion :
