@@ -63,9 +63,7 @@ lowered (Some id) nodes =
 lowered_is : (nodes : List (ℕ × NodeValue)) (id : ℕ) (parent : NodeValue)
     → node_at nodes id ≡ Some parent
     → lowered (Some id) nodes ≡ set_value (is_at (nat_cmp id)) nodes (fewer_children parent)
-lowered_is nodes id parent is =
-    ap (λ (found : Option NodeValue). option_map_or
-    (λ p. set_value (is_at (nat_cmp id)) nodes (fewer_children p)) found nodes) is
+lowered_is nodes id parent is = rw is
 
 -- some nodes went, and all is as it should be once the next one has one child fewer
 pub record Go (start nodes : List (ℕ × NodeValue)) (next : Option ℕ) : Type 0 where
@@ -182,9 +180,7 @@ laid_down id nodes =
 laid_down_is : (nodes : List (ℕ × NodeValue)) (id : ℕ) (node : NodeValue)
     → node_at nodes id ≡ Some node → laid_down id nodes
     ≡ set_value (is_at (nat_cmp id)) nodes (record node { lives = false })
-laid_down_is nodes id node is =
-    ap (λ (found : Option NodeValue). option_map_or
-    (λ n. set_value (is_at (nat_cmp id)) nodes (record n { lives = false })) found nodes) is
+laid_down_is nodes id node is = rw is
 
 -- one that lived no longer does
 pub lies : (nodes : List (ℕ × NodeValue)) (id : ℕ) → AreNodes nodes

@@ -2,10 +2,9 @@
 -- ancestors.
 use Rattle.std.proofs.Common.{◌≡◌, zero, eq-eqb, ne_eqb, inl, inr, ◌∙◌, refl, sym, ap, true≢false, ℕ, suc, ◌<◌, Bool, true, false, cond, eqb, List, [], ◌∷◌, ◌++◌, append_assoc, length, get_or, Option, Some, None, nat_cmp, arith}
 use Rattle.std.specs.Prelude.{All, Contains, IfSome, IsSome, filter, filter_map, is_some, option_and_then}
-use Rattle.std.specs.List.{cons_option}
 use Rattle.std.specs.BTreeMap.{is_at}
 use Rattle.std.specs.Map.{set_value}
-use Rattle.std.specs.Option.{option_map, option_map_or}
+use Rattle.std.specs.Option.{option_map_or}
 use Rattle.std.proofs.lemmas.Bool.{cases_Bool, cases_eq, false_from_ne_true}
 use Rattle.lineage_log.specs.Links.{Link}
 use Rattle.lineage_log.specs.Ancestry.{ancestor_ids_of, is_kept, kept_of, link_of, parent_of}
@@ -238,9 +237,7 @@ nodes_older nodes are id above is =
 -- the genome of an organism of a tree is that of its node
 pub genome_there : (nodes : List (ℕ × NodeValue)) (id : ℕ) (node : NodeValue)
     → node_at nodes id ≡ Some node → genome_in_tree (tree_of nodes) id ≡ node.genome
-genome_there nodes id node is =
-    ap (λ (found : Option Link). option_map_or (λ (link : Link). link.genome) found [])
-    (link_there nodes id ∙ ap (option_map (node_link id)) is)
+genome_there nodes id node is = rw (link_there nodes id, is)
 
 -- the links of an id's ancestors, the id first
 abbrev pub links_back : List (ℕ × NodeValue) → Option ℕ → List Link
@@ -252,13 +249,12 @@ pub back_once : (nodes : List (ℕ × NodeValue)) (front links : List Link) (id 
     → AreFamilies nodes → node_at nodes id ≡ Some node → front ++ links_back nodes (Some id) ≡ links
     → (front ++ node_link id node ∷ []) ++ links_back nodes node.parent ≡ links
 back_once nodes front links id node are is all =
-    let line = line_is (parent_of (links_of nodes)) (nodes_older nodes are) id
-    ∙ ap (λ (parent : Option ℕ). id ∷ option_map_or (ancestor_ids_of (links_of nodes)) parent [])
-    (parent_there nodes id node is) in
-    let here : links_back nodes (Some id) ≡ node_link id node ∷ links_back nodes node.parent =
-    ap (filter_map (link_of (links_of nodes))) line
-    ∙ ap (λ (found : Option Link). cons_option found (links_back nodes node.parent))
-    (link_there nodes id ∙ ap (option_map (node_link id)) is) in
+    let here : links_back nodes (Some id) ≡ node_link id node ∷ links_back nodes node.parent = rw (
+      line_is (parent_of (links_of nodes)) (nodes_older nodes are) id,
+      parent_there nodes id node is,
+      link_there nodes id,
+      is,
+    ) in
     append_assoc front (node_link id node ∷ []) (links_back nodes node.parent)
     ∙ ap (λ (rest : List Link). front ++ rest) (sym here) ∙ all
 

@@ -1,5 +1,5 @@
 -- Who lives among the nodes of a tree, and what is left when a node comes, changes or goes.
-use Rattle.std.proofs.Common.{◌≡◌, inl, inr, ⊎_elim, ◌∙◌, refl, sym, ap, ℕ, zero, suc, ◌<◌, Bool, true, false, cond, not, eqb, List, [], ◌∷◌, ◌++◌, Option, Some, None, nat_cmp, Greater, eq-eqb, ne_eqb, arith}
+use Rattle.std.proofs.Common.{◌≡◌, inl, inr, ⊎_elim, ◌∙◌, refl, sym, ap, ℕ, zero, suc, ◌<◌, Bool, true, false, cond, not, eqb, List, [], ◌∷◌, ◌++◌, Some, None, nat_cmp, Greater, eq-eqb, ne_eqb, arith}
 use Rattle.std.specs.Prelude.{All, Contains, filter}
 use Rattle.std.specs.BTreeMap.{insert_entry, is_at}
 use Rattle.std.specs.Cmp.{nat_cmp_is}
@@ -12,6 +12,7 @@ use Rattle.std.proofs.lemmas.Map.Keys.{sorted_tail}
 use Rattle.lineage_log.specs.Links.{Link}
 use Rattle.lineage_log.specs.Trees.{without_id}
 use Rattle.lineage_log.specs.Nodes.{NodeValue, links_of, living_ids_of, node_at, node_link}
+use Rattle.lineage_log.proofs.AncestorLemmas.{cases_Option}
 use Rattle.lineage_log.proofs.NodeLemmas.{Rises, by_key, first_node, other_node, none_behind, behind_first}
 
 -- ---- who lives
@@ -94,11 +95,10 @@ newest_above (e ∷ es) id other node newest is = elim (by_key other e.0) [
 -- no node has it
 pub none_newest : (nodes : List (ℕ × NodeValue)) (id : ℕ)
     → All (λ (link : Link). link.id < id) (links_of nodes) → node_at nodes id ≡ None
-none_newest nodes id newest = by (node_at nodes id) refl where
-  -- whatever is found under the id, no node has it
-  by : (found : Option NodeValue) → node_at nodes id ≡ found → node_at nodes id ≡ None
-  by None e = e
-  by (Some node) e = absurd (omega (arith, newest_above nodes id id node newest e))
+none_newest nodes id newest = elim (cases_Option (node_at nodes id)) [
+  | inl none ↦ none
+  | inr some ↦ absurd (omega (arith, newest_above nodes id id some.0 newest some.1))
+]
 
 -- the links with it
 pub links_newcomer : (nodes : List (ℕ × NodeValue)) (id : ℕ) (node : NodeValue)

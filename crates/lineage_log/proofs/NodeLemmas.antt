@@ -1,7 +1,7 @@
 -- The nodes of a tree as a list of entries: what is looked up, and what the list of links shows of
 -- it.
 use Rattle.std.proofs.Common.{◌≡◌, ◌≢◌, ◌⊎◌, inl, inr, ⊎_elim, ◌∙◌, refl, sym, ap, ℕ, suc, ◌+◌, ◌<◌, ◌≤◌, Bool, true, false, cond, eqb, List, [], ◌∷◌, length, Option, Some, None, nat_cmp, eq-eqb, ne_eqb, arith}
-use Rattle.std.specs.Prelude.{◌==◌, if◌then◌else◌, is_some, slice_get, option_and_then}
+use Rattle.std.specs.Prelude.{◌==◌, if◌then◌else◌, is_some, slice_get}
 use Rattle.std.specs.BTreeMap.{is_at}
 use Rattle.std.specs.Cmp.{nat_cmp_total, unsigned_tied}
 use Rattle.std.specs.List.{sum_by}
@@ -15,8 +15,8 @@ use Rattle.std.proofs.lemmas.List.Sums.{sum_by-cons}
 use Rattle.std.proofs.lemmas.Map.{lookup-none}
 use Rattle.std.proofs.lemmas.Map.Entries.{lookup_from_place, none_past_head, sum_by-remove_entry}
 use Rattle.std.proofs.lemmas.Map.Keys.{IsDistinct-from_sorted}
-use Rattle.lineage_log.specs.Links.{Link}
 use Rattle.lineage_log.specs.Ancestry.{link_of, parent_of}
+use Rattle.lineage_log.proofs.AncestorLemmas.{cases_Option}
 use Rattle.lineage_log.specs.Nodes.{NodeValue, as_child, children_of, links_of, node_at, node_link}
 
 -- the ids rise
@@ -69,22 +69,16 @@ link_there (e ∷ es) id = elim (by_key id e.0) [
 -- the parent of an id is that of its node
 pub parent_there : (nodes : List (ℕ × NodeValue)) (id : ℕ) (node : NodeValue)
     → node_at nodes id ≡ Some node → parent_of (links_of nodes) id ≡ node.parent
-parent_there nodes id node is =
-    ap (option_and_then (λ (link : Link). link.parent))
-    (link_there nodes id ∙ ap (option_map (node_link id)) is)
+parent_there nodes id node is = rw (link_there nodes id, is)
 
 -- where a parent is told there is a node
 pub node_told : (nodes : List (ℕ × NodeValue)) (id above : ℕ)
     → parent_of (links_of nodes) id ≡ Some above → (node : NodeValue)
     × (node_at nodes id ≡ Some node) × (node.parent ≡ Some above)
-node_told nodes id above is = by (node_at nodes id) refl where
-  -- whatever is found, there is a node with the parent that is told
-  by : (found : Option NodeValue) → node_at nodes id ≡ found → (node : NodeValue)
-      × (node_at nodes id ≡ Some node) × (node.parent ≡ Some above)
-  by None e = absurd (let none : parent_of (links_of nodes) id ≡ None =
-      ap (option_and_then (λ (link : Link). link.parent))
-      (link_there nodes id ∙ ap (option_map (node_link id)) e) in cc)
-  by (Some node) e = (node, e, sym (parent_there nodes id node e) ∙ is)
+node_told nodes id above is = elim (cases_Option (node_at nodes id)) [
+  | inl none ↦ absurd (let nobody = rw (link_there nodes id, none) at is in cc)
+  | inr some ↦ (some.0, some.1, sym (parent_there nodes id some.0 some.1) ∙ is)
+]
 
 -- an id has a link where it has a node
 pub is_some_link : (nodes : List (ℕ × NodeValue)) (id : ℕ)
