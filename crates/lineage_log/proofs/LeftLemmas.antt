@@ -2,14 +2,13 @@
 use Rattle.std.proofs.Common.{◌≡◌, ℕ, true, List, [], ◌∷◌, ◌++◌, Result, Ok, sym, ap, ◌∙◌}
 use Rattle.log_lines.specs.Line.{Line}
 use Rattle.lineage_log.specs.declared.log_stop.LogStop.{LogStop}
-use Rattle.lineage_log.specs.declared.reason.Reason.{Reason}
 use Rattle.lineage_log.specs.declared.log_reader.LogReader.{LogReader}
-use Rattle.lineage_log.specs.Order.{LogPlace, Before, told, told_all, and_on}
-use Rattle.lineage_log.specs.LogGrammar.{log_of, pieces_log, with_line}
+use Rattle.lineage_log.specs.Order.{LogPlace, Before, told, told_all}
+use Rattle.lineage_log.specs.LogGrammar.{log_of, with_line}
 use Rattle.lineage_log.specs.LogReading.{IsAtStart, TellsNext, left_of}
 use Rattle.lineage_log.specs.LogValues.{with_front}
 use Rattle.lineage_log.specs.Places.{place_of}
-use Rattle.lineage_log.proofs.LogLaws.{cut, went_on, place_is}
+use Rattle.lineage_log.proofs.LogLaws.{went_on, place_is}
 use Rattle.lineage_log.proofs.ReadLemmas.{front_none, front_more}
 
 -- the lines that were given are before those that are left, and lead to this place
@@ -23,10 +22,7 @@ pub record HasGiven (read : Result (List Line) LogStop) (place : LogPlace)
 pub left_at_start : (bytes : List ℕ) (reader : LogReader) → IsAtStart bytes reader
     → left_of reader ≡ log_of bytes
 unfolding log_of
-left_at_start bytes reader start =
-    ap (λ (n : ℕ). pieces_log n (place_of reader.place) (cut reader.rest.now)) start.number
-    ∙ ap (λ (p : LogPlace). pieces_log 1 p (cut reader.rest.now)) start.place
-    ∙ ap (λ (l : List ℕ). pieces_log 1 Before (cut l)) start.rest
+left_at_start bytes reader start = rw (start.number, start.place, start.rest)
 
 -- at the start no line was given
 pub given_none : (bytes : List ℕ) (reader : LogReader) → IsAtStart bytes reader
@@ -42,12 +38,10 @@ told_more : (place before after : LogPlace) (front : List Line) (line : Line)
     → told_all place front ≡ Ok before → told before line ≡ Ok after
     → told_all place (front ++ line ∷ []) ≡ Ok after
 told_more place before after [] line so next =
-    ap (λ (p : LogPlace). and_on (told p line) (λ q. told_all q [])) (place_is place before so)
-    ∙ ap (λ (t : Result LogPlace Reason). and_on t (λ q. told_all q [])) next
+    rw (place_is place before so, next)
 told_more place before after (first ∷ front) line so next =
     let step = went_on (told place first) (λ p. told_all p front) before so in
-    ap (λ (t : Result LogPlace Reason). and_on t (λ p. told_all p (front ++ line ∷ []))) step.1
-    ∙ told_more step.0 before after front line step.2 next
+    rw step.1 (told_more step.0 before after front line step.2 next)
 
 -- where what is left begins with a line that is told, it is given, and the others are left
 pub given_more : (read : Result (List Line) LogStop) (before after : LogPlace)

@@ -15,7 +15,7 @@ use Rattle.lineage_log.specs.Order.{LogPlace, told}
 use Rattle.lineage_log.specs.declared.log_reader.LogReader.{LogReader}
 use Rattle.lineage_log.specs.LogReading.{TellsPiece, left_of}
 use Rattle.lineage_log.specs.Places.{TellsPlace, place_of}
-use Rattle.lineage_log.specs.LogGrammar.{stop_at, with_line, one_piece, after_told, pieces_log, log_of, lines_text, Reads, IsGoodLog}
+use Rattle.lineage_log.specs.LogGrammar.{stop_at, with_line, one_piece, pieces_log, log_of, lines_text, Reads, IsGoodLog}
 use Rattle.lineage_log.specs.LogValues.{stop_of, with_front}
 use Rattle.lineage_log.proofs.LogLaws.{cut}
 
@@ -37,9 +37,8 @@ pub next_piece : (reader : LogReader) (piece : List ℕ) (others : Option (Bor (
     → others ≡ Some behind
     → left_of reader ≡ pieces_log reader.number (place_of reader.place) (piece ∷ cut behind.now)
 next_piece reader piece others behind split is =
-    let pieces : cut reader.rest.now ≡ piece ∷ cut behind.now =
-    split ∙ ap (λ (o : Option (Bor (List ℕ))). piece ∷ pieces_of 10 (option_copied o)) is in
-    ap (λ (ps : List (List ℕ)). pieces_log reader.number (place_of reader.place) ps) pieces
+    ap (λ (ps : List (List ℕ)). pieces_log reader.number (place_of reader.place) ps)
+    (rw is at split)
 
 -- a piece before others, the first of which has a byte put onto it, is read as one line
 more_onto : (number : ℕ) (place : LogPlace) (piece : List ℕ) (b : ℕ) (parts : List (List ℕ))
@@ -62,32 +61,21 @@ module _ (number : ℕ) (place : LogPlace) (piece rest : List ℕ) where
   -- a piece that is no line is the fault
   pub bad_line : line_of piece ≡ None
       → pieces_log number place (piece ∷ cut rest) ≡ Err (wanting.BadLine number)
-  bad_line none = more_pieces number place piece rest
-      ∙ ap (λ (o : Option Line). one_piece number place o
-      (λ p. pieces_log (number + 1) p (cut rest))) none
+  bad_line none = rw (more_pieces number place piece rest, none)
 
   -- a line that is out of order is the fault, for the same reason
   pub bad_order : (one : Line) (reason : Reason) → line_of piece ≡ Some one
       → told place one ≡ Err reason
       → pieces_log number place (piece ∷ cut rest)
       ≡ Err (stop_at number reason)
-  bad_order one reason is bad =
-      let others = λ (p : LogPlace). pieces_log (number + 1) p (cut rest) in
-      more_pieces number place piece rest
-      ∙ ap (λ (o : Option Line). one_piece number place o others) is
-      ∙ ap (λ (t : Result LogPlace Reason). after_told number one t others) bad
+  bad_order one reason is bad = rw (more_pieces number place piece rest, is, bad)
 
   -- a line that is told is read, and the others from the place that it leads to
   pub good_line : (one : Line) (next : LogPlace) (after : ℕ) → line_of piece ≡ Some one
       → told place one ≡ Ok next → after ≡ number + 1
       → pieces_log number place (piece ∷ cut rest)
       ≡ with_line one (pieces_log after next (cut rest))
-  good_line one next after is good more =
-      let others = λ (p : LogPlace). pieces_log (number + 1) p (cut rest) in
-      more_pieces number place piece rest
-      ∙ ap (λ (o : Option Line). one_piece number place o others) is
-      ∙ ap (λ (t : Result LogPlace Reason). after_told number one t others) good
-      ∙ ap (λ (n : ℕ). with_line one (pieces_log n next (cut rest))) (sym more)
+  good_line one next after is good more = rw (more_pieces number place piece rest, is, good, more)
 
   -- a piece that was not taken is the fault, for the same reason
   pub refused_piece : (refusal : Refusal) (stop : LogStop) (after : LogPlace)

@@ -130,20 +130,15 @@ out_of_order : (spell : OneSpelling) (number : ℕ) (place : LogPlace) (left : L
     → (first : Line) × (reason : Reason) × BeginsWith left first × (told place first ≡ Err reason)
     × (why ≡ stop_at number reason) → pieces_log number place (cut left) ≡ Err why
 out_of_order spell number place left why (first, reason, begins, bad, is) =
-    ap (λ (bytes : List ℕ). pieces_log number place (cut bytes)) (sym begins.text)
-    ∙ ap (λ (ps : List (List ℕ)). pieces_log number place ps)
-    (line_first spell first begins.rest begins.form)
-    ∙ bad_order number place (row_text first) begins.rest first reason
-    (spell.again first begins.form) bad
-    ∙ ap (λ (w : LogStop). Err w) (sym is)
+    rw (← begins.text, line_first spell first begins.rest begins.form, is)
+    (bad_order number place (row_text first) begins.rest first reason
+    (spell.again first begins.form) bad)
 
 -- what makes the bytes faulty is the answer
 fault_read : (spell : OneSpelling) (number : ℕ) (place : LogPlace) (left : List ℕ) (why : LogStop)
     → IsFaulty place number left why → pieces_log number place (cut left) ≡ Err why
 fault_read spell number place left (stop.Unended line) (at, none, not) =
-    ap (λ (bytes : List ℕ). pieces_log number place (cut bytes)) none
-    ∙ unended number place not
-    ∙ ap (λ (n : ℕ). Err (stop.Unended n)) (sym at)
+    rw (none, at) (unended number place not)
 fault_read spell number place left (stop.BadLine line) (at, some, none) =
     no_line spell number place left some none ∙ ap (λ (n : ℕ). Err (stop.BadLine n)) (sym at)
 fault_read spell number place left stop.Memory faulty = absurd faulty
@@ -160,10 +155,9 @@ pub reads_one_log : (spell : OneSpelling) (bytes : List ℕ) (answer : Result (L
 unfolding log_of
 reads_one_log spell bytes (Ok lines) (text, good) = read_back spell bytes lines text good
 reads_one_log spell bytes (Err why) (front, faulty) =
-    ap (λ (l : List ℕ). pieces_log 1 Before (cut l)) (sym front.text)
-    ∙ front_read spell 1 Before front.place front.lines front.left front.forms front.order
+    rw (← front.text) (front_read spell 1 Before front.place front.lines front.left front.forms front.order
     ∙ ap (λ (r : Result (List Line) LogStop). with_front front.lines r)
-    (fault_read spell (length front.lines + 1) front.place front.left why faulty)
+    (fault_read spell (length front.lines + 1) front.place front.left why faulty))
 
 -- ---- any bytes are read as something
 
@@ -276,8 +270,7 @@ module _ (spell : OneSpelling) where
   one_piece_none bytes one first begins =
       let some = cut_some begins.rest in
       let same : bytes ∷ [] ≡ row_text first ∷ some.0 ∷ some.1 =
-      sym one ∙ begin_pieces bytes first begins
-      ∙ ap (λ (l : List (List ℕ)). row_text first ∷ l) some.2 in
+      sym one ∙ rw some.2 at (begin_pieces bytes first begins) in
       cc
 
   -- nor do bytes whose first piece is no line
@@ -347,5 +340,4 @@ pub log_is_read : (spell : OneSpelling) (bytes : List ℕ) → ReadsLog bytes (l
 log_is_read spell bytes =
     let some = answered spell (cut bytes) 1 Before bytes refl in
     let reads = from_start bytes some.0 some.1 in
-    let P = λ (answer : Result (List Line) LogStop). ReadsLog bytes answer in
-    subst P (sym (reads_one_log spell bytes some.0 reads)) reads
+    rw (reads_one_log spell bytes some.0 reads) reads
