@@ -1,5 +1,5 @@
 -- What is kept of all organisms ever, as some come and some die.
-use Rattle.std.proofs.Common.{◌≡◌, ◌↔◌, inl, inr, ◌∙◌, refl, sym, ap, subst, true≢false, ℕ, zero, suc, ◌<◌, Bool, true, false, cond, List, [], ◌∷◌, ◌++◌, reverse, get_or, Some, None, eq-eqb, ne_eqb, arith}
+use Rattle.std.proofs.Common.{◌≡◌, ◌↔◌, inl, inr, ◌∙◌, refl, sym, ap, subst, true≢false, ℕ, zero, suc, ◌<◌, Bool, true, cond, List, [], ◌∷◌, ◌++◌, reverse, get_or, Some, None, eq-eqb, ne_eqb, arith}
 use Rattle.std.specs.Prelude.{All, Contains, filter, filter_map, option_and_then}
 use Rattle.std.specs.Option.{option_map_or}
 use Rattle.std.proofs.lemmas.Bool.{cases_Bool, cases_eq, cond-true, false_from_ne_true}
