@@ -31,14 +31,12 @@ genome_by_length word =
 -- a word of a genome's length is a genome where each byte is a letter
 pub genome_each : (word : List ℕ) → is_genome_length (length word) ≡ true
     → each letter_of_byte word ≡ genome_of_word word
-genome_each word fits = sym (ap (λ (b : Bool). cond b (each letter_of_byte word) None) fits)
-    ∙ genome_by_length word
+genome_each word fits = rw fits at (genome_by_length word)
 
 -- a word of another length is no genome
 pub genome_other : (word : List ℕ) → is_genome_length (length word) ≡ false
     → None ≡ genome_of_word word
-genome_other word bad = sym (ap (λ (b : Bool). cond b (each letter_of_byte word) None) bad)
-    ∙ genome_by_length word
+genome_other word bad = rw bad at (genome_by_length word)
 
 -- letters that were read as a genome have its length
 pub genome_given : (word : List ℕ) (ls : List Letter) → Some ls ≡ genome_of_word word

@@ -1,5 +1,5 @@
 -- What is written of a field of a log is read again, and what is read was written so.
-use Rattle.std.proofs.Common.{◌≡◌, ℕ, suc, ◌-◌, ◌<◌, List, [], ◌∷◌, ◌++◌, length, get_or, take, Some, None, refl, sym, ap, subst, ◌∙◌, arith, inl, inr, decimal, length-append}
+use Rattle.std.proofs.Common.{◌≡◌, ℕ, suc, ◌-◌, ◌<◌, List, [], ◌∷◌, ◌++◌, length, get_or, take, Some, None, refl, ap, subst, ◌∙◌, arith, inl, inr, decimal, length-append}
 use Rattle.std.specs.Prelude.{option_map, ◌==◌}
 use Rattle.std.specs.Str.{bytes_eq}
 use Rattle.std.proofs.lemmas.Bool.{eqb-true}
@@ -33,8 +33,7 @@ split_last [] h = absurd (omega (arith, h))
 split_last (b ∷ []) h = refl
 split_last (b ∷ c ∷ bs) h =
     let n : length (b ∷ c ∷ bs) - 1 ≡ suc (length (c ∷ bs) - 1) = omega arith in
-    subst (λ k. take k (b ∷ c ∷ bs) ++ get_or (b ∷ c ∷ bs) k 0 ∷ [] ≡ b ∷ c ∷ bs) (sym n)
-    (ap (λ (l : List ℕ). b ∷ l) (split_last (c ∷ bs) (omega arith)))
+    rw n (ap (λ (l : List ℕ). b ∷ l) (split_last (c ∷ bs) (omega arith)))
 
 -- the law at a lower bound, as the words of a line have it
 pub low : {A : Type 0} {f : Field A} → IsField 44 f → IsField 32 f

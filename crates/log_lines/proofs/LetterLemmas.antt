@@ -1,5 +1,5 @@
 -- Letters and their bytes.
-use Rattle.std.proofs.Common.{◌≡◌, ℕ, ◌<◌, Bool, true, List, [], ◌∷◌, Some, refl, subst, arith, inl, inr, cond}
+use Rattle.std.proofs.Common.{◌≡◌, ℕ, ◌<◌, Bool, true, List, [], ◌∷◌, Some, refl, arith, inl, inr}
 use Rattle.std.specs.Prelude.{find, ◌==◌}
 use Rattle.std.proofs.lemmas.Bool.{cases_Bool, eqb-true}
 use Rattle.instruction_set.specs.declared.letter.Letter.{Letter}
@@ -10,16 +10,12 @@ use Rattle.instruction_set.specs.Letter.{letter_table, byte_of, letter_of_byte}
 pub found_passes : {A : Type 0} (p : A → Bool) (xs : List A) (x : A) → find p xs ≡ Some x
     → p x ≡ true
 found_passes p [] x is = absurd cc
-found_passes {A = A} p (y ∷ xs) x is = elim (cases_Bool (p y)) [
+found_passes p (y ∷ xs) x is = elim (cases_Bool (p y)) [
   | inl passes ↦
-      let got : Some y ≡ Some x =
-      subst (λ (b : Bool). cond b (Some y) (find p xs) ≡ Some x) passes is in
+      let got = rw passes at is in
       let same : y ≡ x = cc in
-      subst (λ (z : A). p z ≡ true) same passes
-  | inr fails ↦
-      let got : find p xs ≡ Some x =
-      subst (λ (b : Bool). cond b (Some y) (find p xs) ≡ Some x) fails is in
-      found_passes p xs x got
+      rw (← same) passes
+  | inr fails ↦ found_passes p xs x (rw fails at is)
 ]
 
 -- the letter that a byte gives has that byte

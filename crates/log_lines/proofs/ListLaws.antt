@@ -1,5 +1,5 @@
 -- Lists of values: what is written of one is read again, and what is read was written so.
-use Rattle.std.proofs.Common.{◌≡◌, ℕ, suc, ◌<◌, true, List, [], ◌∷◌, map, length, Option, Some, None, refl, sym, ap, subst, ◌∙◌, arith, inl, inr, eq-eqb}
+use Rattle.std.proofs.Common.{◌≡◌, ℕ, ◌<◌, true, List, [], ◌∷◌, map, length, Option, Some, None, refl, sym, ap, subst, ◌∙◌, arith, inl, inr, eq-eqb}
 use Rattle.std.proofs.lemmas.List.{length-map}
 use Rattle.std.specs.Prelude.{option_map, ◌==◌}
 use Rattle.std.specs.Str.{bytes_eq}
@@ -13,14 +13,12 @@ use Rattle.log_lines.proofs.FieldLaws.{Above, IsField, IsRow, above_lower, above
 -- as many items are read as there were
 pub each_length : {X A : Type 0} (read : X → Option A) (xs : List X) (items : List A)
     → each read xs ≡ Some items → length items ≡ length xs
-each_length {A = A} read [] items is =
-    let e : [] ≡ items = cc in ap (λ (l : List A). length l) (sym e)
-each_length {A = A} read (x ∷ xs) items is =
+each_length read [] items is = let e : [] ≡ items = cc in rw (← e)
+each_length read (x ∷ xs) items is =
     let first = some_then (λ a. option_map (λ others. a ∷ others) (each read xs)) (read x) items
     is in
     let second = some_map (λ others. first.0 ∷ others) (each read xs) items first.2 in
-    let others = each_length read xs second.0 second.1 in
-    ap (λ (l : List A). length l) (sym second.2) ∙ ap suc others
+    rw (← second.2, each_length read xs second.0 second.1)
 
 module _ {A : Type 0} {f : Field A} {c : ℕ} (law : IsField c f) where
   -- no item has a byte up to the bound
