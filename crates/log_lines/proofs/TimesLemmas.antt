@@ -63,7 +63,7 @@ same_first words behind a (Some b) is =
     let parts = some_pair_parts a b behind words is in (sym parts.1, ap Some (sym parts.0))
 
 -- the first word of what is read
-first_parts : {A : Type 0} (read : List ℕ → Option A) (left behind : List (List ℕ)) (a : A)
+pub first_parts : {A : Type 0} (read : List ℕ → Option A) (left behind : List (List ℕ)) (a : A)
     → Some (a, behind) ≡ read_first read left → (word : List ℕ) × (left ≡ word ∷ behind)
     × (read word ≡ Some a)
 first_parts read [] behind a is = absurd cc
