@@ -31,7 +31,7 @@ module _ (ranges : List Range) (front : List ℕ) (k : ℕ) (any : Range) (low :
 
     -- no word is left
     pub number_ends : behind front (read_within (drop k ranges) []) ≡ None
-    number_ends = ap (λ (l : List Range). behind front (read_within l [])) next_range
+    number_ends = rw next_range
 
 -- ---- so many items of one field
 
@@ -45,11 +45,8 @@ module _ {A : Type 0} (read : List ℕ → Option A) (front : List A) (k count :
     pub item_on : (word : List ℕ) (words : List (List ℕ)) (item : A) → read word ≡ Some item
         → behind front (read_several read (count - k) (word ∷ words))
         ≡ behind (front ++ item ∷ []) (read_several read (count - (k + 1)) words)
-    item_on word words item is =
-        ap (λ (n : ℕ). behind front (read_several read n (word ∷ words))) one_less
-        ∙ ap (λ (o : Option A). behind front
-        (option_and_then (with_item (read_several read (count - (k + 1)) words)) o)) is
-        ∙ behind_item front item (read_several read (count - (k + 1)) words)
+    item_on word words item is = rw (one_less, is)
+        (behind_item front item (read_several read (count - (k + 1)) words))
 
 -- ---- the end
 
@@ -61,17 +58,11 @@ pub all_within : (ranges : List Range) (ns : List ℕ) (k : ℕ) (words left : L
 all_within ranges ns k words left enough long is =
     let none : drop k ranges ≡ [] = drop_all k ranges enough in
     let whole : take k ns ++ [] ≡ ns = append-nil (take k ns) ∙ take_all k ns long in
-    let end : Some (take k ns ++ [], left) ≡ read_within ranges words =
-    ap (λ (l : List Range). behind (take k ns) (read_within l left)) (sym none) ∙ is in
-    let same : Some (ns, left) ≡ Some (take k ns ++ [], left) =
-    ap (λ (l : List ℕ). let p : List ℕ × List (List ℕ) = (l, left) in Some p) (sym whole) in
-    read_are_within ranges words left ns (sym (same ∙ end))
+    read_are_within ranges words left ns (sym (rw (none, whole) at is))
 
 -- words are left behind the numbers of a head
 pub more_left : (found : Option (List ℕ × List (List ℕ))) (ns : List ℕ) (words : List (List ℕ))
     → Some (ns, words) ≡ found → 0 < length words
     → None ≡ option_and_then saved_head_line (option_and_then if_last found)
 more_left found ns [] is some = absurd (omega (arith, some))
-more_left found ns (word ∷ words) is some =
-    ap (λ (o : Option (List ℕ × List (List ℕ))). option_and_then saved_head_line
-    (option_and_then if_last o)) is
+more_left found ns (word ∷ words) is some = rw (← is)

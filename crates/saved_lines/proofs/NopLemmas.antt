@@ -1,5 +1,5 @@
 -- Nops that are read letter by letter.
-use Rattle.std.proofs.Common.{◌≡◌, ℕ, ◌+◌, ◌-◌, ◌<◌, ◌⊎◌, Bool, true, false, List, [], ◌∷◌, ◌++◌, length, get_or, drop, Option, Some, None, refl, sym, ap, ◌∙◌, arith, length-append, drop-cons, add-one}
+use Rattle.std.proofs.Common.{◌≡◌, ℕ, ◌+◌, ◌-◌, ◌<◌, ◌⊎◌, true, false, List, [], ◌∷◌, ◌++◌, length, get_or, drop, Option, Some, None, refl, sym, ap, ◌∙◌, arith, length-append, drop-cons, add-one}
 use Rattle.std.specs.Prelude.{◌&&◌, nat_lt, nat_le, option_and_then, option_map}
 use Rattle.std.specs.List.{list_all}
 use Rattle.std.proofs.lemmas.Bool.{and_parts}
@@ -24,10 +24,7 @@ nops_behind front word =
 -- one nop more
 nop_more : (front : List Letter) (b : ℕ) (bs : List ℕ) (l : Letter) → letter_of_byte b ≡ Some l
     → nops_behind front (b ∷ bs) ≡ nops_behind (front ++ l ∷ []) bs
-nop_more front b bs l is =
-    ap (λ (o : Option Letter). if_nops (option_map (λ others. front ++ others)
-    (option_and_then (λ a. option_map (λ others. a ∷ others) (each letter_of_byte bs)) o))) is
-    ∙ ap if_nops (map_more front l (each letter_of_byte bs))
+nop_more front b bs l is = rw is (ap if_nops (map_more front l (each letter_of_byte bs)))
 
 module _ (word : List ℕ) (front : List Letter) (k : ℕ) (low : k < length word) where
   -- the byte whose turn it is
@@ -48,10 +45,7 @@ other_length : (n : ℕ) (o : Option (List Letter)) → (nat_lt 0 n && nat_le n 
     → ((ls : List Letter) → o ≡ Some ls → length ls ≡ n) → if_nops o ≡ None
 other_length n None bad long = refl
 other_length n (Some ls) bad long =
-    let other : are_nops ls ≡ false =
-    ap (λ (k : ℕ). nat_lt 0 k && nat_le k 10 && list_all is_nop ls) (long ls refl)
-    ∙ ap (λ (b : Bool). b && list_all is_nop ls) bad in
-    rw other refl
+    rw (long ls refl, bad)
 
 -- no letters, or more than ten
 pub too_few_or_many : (word : List ℕ) → (length word ≡ 0) ⊎ (10 < length word)

@@ -1,6 +1,6 @@
 -- The fields of a saved world: what is written is read again, and what is read was written so.
-use Rattle.std.proofs.Common.{◌≡◌, ℕ, ℤ, pos, suc, ◌-◌, ◌<◌, ◌≤◌, Bool, true, false, cond, List, [], ◌∷◌, map, length, Some, None, refl, sym, ap, subst, ◌∙◌, arith, inl, inr, decimal, get_or}
-use Rattle.std.specs.Prelude.{negsuc, nat_lt, option_map, ◌==◌, FitsSigned}
+use Rattle.std.proofs.Common.{◌≡◌, ℕ, ℤ, pos, suc, ◌-◌, ◌<◌, ◌≤◌, Bool, true, false, List, [], ◌∷◌, map, length, Some, None, refl, sym, ap, subst, ◌∙◌, arith, inl, inr, decimal, get_or}
+use Rattle.std.specs.Prelude.{negsuc, nat_lt, ◌==◌, FitsSigned}
 use Rattle.std.specs.Int.{w32}
 use Rattle.std.specs.Fmt.{signed_decimal}
 use Rattle.std.proofs.lemmas.Bool.{cases_Bool, eqb-true}
@@ -39,9 +39,7 @@ module _ (numbers : OneNumber) where
   plain_read [] n is = let none = numbers.no_digits 0 2147483647 in absurd cc
   plain_read (byte ∷ rest) n is = elim (cases_Bool (byte == 45)) [
     | inl same ↦
-        let e : byte ≡ 45 = eqb-true byte 45 same in
-        let got : number_of 0 2147483647 (45 ∷ rest) ≡ Some n =
-        subst (λ b. number_of 0 2147483647 (b ∷ rest) ≡ Some n) e is in
+        let got = rw (eqb-true byte 45 same) at is in
         let none = numbers.no_minus 0 2147483647 rest in absurd cc
     | inr other ↦ rw (other, is) refl
   ]
@@ -63,21 +61,14 @@ module _ (numbers : OneNumber) where
   signed_takes (byte ∷ rest) z is = elim (cases_Bool (byte == 45)) [
     | inl same ↦
         let e : byte ≡ 45 = eqb-true byte 45 same in
-        let got : option_map below_zero (number_of 1 2147483648 rest) ≡ Some z =
-        subst (λ b. cond b (option_map below_zero (number_of 1 2147483648 rest))
-        (option_map pos (number_of 0 2147483647 (byte ∷ rest))) ≡ Some z) same is in
-        let some = some_map below_zero (number_of 1 2147483648 rest) z got in
+        let some = some_map below_zero (number_of 1 2147483648 rest) z (rw same at is) in
         let t = numbers.takes 1 2147483648 some.0 rest (omega arith) some.1 in
         let back : suc (some.0 - 1) ≡ some.0 = omega (arith, t.1) in
-        let text : 45 ∷ decimal (suc (some.0 - 1)) ≡ byte ∷ rest = ap (λ k. 45 ∷ decimal k) back
-        ∙ ap (λ (l : List ℕ). 45 ∷ l) t.0 ∙ ap (λ b. b ∷ rest) (sym e) in
+        let text : 45 ∷ decimal (suc (some.0 - 1)) ≡ byte ∷ rest = rw (back, t.0, e) in
         subst (λ x. SignedIs (byte ∷ rest) x) some.2
         (text, record { sfits = omega (arith, t.1, t.2) })
     | inr other ↦
-        let got : option_map pos (number_of 0 2147483647 (byte ∷ rest)) ≡ Some z =
-        subst (λ b. cond b (option_map below_zero (number_of 1 2147483648 rest))
-        (option_map pos (number_of 0 2147483647 (byte ∷ rest))) ≡ Some z) other is in
-        let some = some_map pos (number_of 0 2147483647 (byte ∷ rest)) z got in
+        let some = some_map pos (number_of 0 2147483647 (byte ∷ rest)) z (rw other at is) in
         let t = numbers.takes 0 2147483647 some.0 (byte ∷ rest) (omega arith) some.1 in
         subst (λ x. SignedIs (byte ∷ rest) x) some.2 (t.0, record { sfits = omega (arith, t.2) })
   ]
@@ -204,17 +195,14 @@ some_taken word ls is =
 nops_takes : (word : List ℕ) (ls : List Letter) → read_nops word ≡ Some ls → NopsAre word ls
 nops_takes word ls is = elim (cases_Bool (bytes_eq word (45 ∷ []))) [
   | inl same ↦
-      let got : Some [] ≡ Some ls =
-      subst (λ b. cond b (Some []) (some_nops word) ≡ Some ls) same is in
+      let got = rw same at is in
       let none : [] ≡ ls = cc in
       subst (λ (l : List Letter). NopsAre word l) none (
         sym (same_bytes word (45 ∷ []) same),
         record { few = omega arith; nops = All-nil _ },
       )
   | inr other ↦
-      let got : some_nops word ≡ Some ls =
-      subst (λ b. cond b (Some []) (some_nops word) ≡ Some ls) other is in
-      some_taken word ls got
+      some_taken word ls (rw other at is)
 ]
 
 -- a dash is the byte 45

@@ -1,6 +1,6 @@
 -- The number of 32 bits that a word spells, by its first byte.
-use Rattle.std.proofs.Common.{◌≡◌, ℕ, zero, suc, ℤ, pos, ◌-◌, ◌<◌, ◌≤◌, cond, List, [], ◌∷◌, Some, inl, inr, subst, refl, ap, ◌∙◌, arith, zero-add}
-use Rattle.std.specs.Prelude.{negsuc, FitsSigned, ◌-ℤ◌, ◌==◌, option_map}
+use Rattle.std.proofs.Common.{◌≡◌, ℕ, zero, suc, ℤ, pos, ◌-◌, ◌<◌, ◌≤◌, List, [], ◌∷◌, Some, inl, inr, subst, refl, ap, arith, zero-add}
+use Rattle.std.specs.Prelude.{negsuc, FitsSigned, ◌-ℤ◌, ◌==◌}
 use Rattle.std.specs.Int.{w32, cast_signed, cast_unsigned}
 use Rattle.std.proofs.lemmas.Int.{to_z-of_z, to_z_pos}
 use Rattle.std.proofs.lemmas.Bool.{cases_Bool}
@@ -22,10 +22,7 @@ made_below_zero size some few =
     let m = size - 1 in
     let small : m < 2147483648 = omega (arith, some, few) in
     let one : cast_signed w32 m ≡ pos m = to_z_pos w32 m small in
-    let made : negsuc 0 -ℤ cast_signed w32 m ≡ negsuc m =
-    ap (λ (z : ℤ). negsuc 0 -ℤ z) one ∙ minus_one m in
-    ap (λ (z : ℤ). cast_signed w32 (cast_unsigned w32 z)) made
-    ∙ to_z-of_z w32 (negsuc m) (record { sfits = small })
+    rw (one, minus_one m) (to_z-of_z w32 (negsuc m) (record { sfits = small }))
 
 -- the number from 0 on that it makes
 pub made_plain : (size : ℕ) → size ≤ 2147483647 → cast_signed w32 size ≡ pos size
@@ -36,18 +33,12 @@ pub signed_fits : (word : List ℕ) (z : ℤ) → read_signed word ≡ Some z �
 signed_fits [] z is = absurd cc
 signed_fits (b ∷ bs) z is = elim (cases_Bool (b == 45)) [
   | inl minus ↦
-      let got : option_map below_zero (number_of 1 2147483648 bs) ≡ Some z =
-      subst (λ v. cond v (option_map below_zero (number_of 1 2147483648 bs))
-      (option_map pos (number_of 0 2147483647 (b ∷ bs))) ≡ Some z) minus is in
-      let some = some_map below_zero (number_of 1 2147483648 bs) z got in
+      let some = some_map below_zero (number_of 1 2147483648 bs) z (rw minus at is) in
       let bounds = number_within 1 2147483648 some.0 bs some.1 in
       subst (λ (y : ℤ). FitsSigned w32 y) some.2
       (record { sfits = omega (arith, bounds.0, bounds.1) })
   | inr other ↦
-      let got : option_map pos (number_of 0 2147483647 (b ∷ bs)) ≡ Some z =
-      subst (λ v. cond v (option_map below_zero (number_of 1 2147483648 bs))
-      (option_map pos (number_of 0 2147483647 (b ∷ bs))) ≡ Some z) other is in
-      let some = some_map pos (number_of 0 2147483647 (b ∷ bs)) z got in
+      let some = some_map pos (number_of 0 2147483647 (b ∷ bs)) z (rw other at is) in
       let bounds = number_within 0 2147483647 some.0 (b ∷ bs) some.1 in
       subst (λ (y : ℤ). FitsSigned w32 y) some.2 (record { sfits = omega (arith, bounds.1) })
 ]
