@@ -43,14 +43,12 @@ machine_line image =
     let first = signed_words image.first in
     let second = signed_words image.second in
     let texts = image_texts image in
-    let stacks : words_text (nops ∷ (first ++ (second ++ texts)))
-    ≡ words_text (nops ∷ (first ++ second)) ++ words_text texts =
-    ap (λ (l : List (List ℕ)). words_text (nops ∷ l)) (sym (append_assoc first second texts))
-    ∙ words_text-append (nops ∷ (first ++ second)) texts in
-    words_text-append registers (numbers ++ (nops ∷ (first ++ (second ++ texts))))
-    ∙ ap (λ (l : List ℕ). words_text registers ++ l)
-    (words_text-append numbers (nops ∷ (first ++ (second ++ texts)))
-    ∙ ap (λ (l : List ℕ). words_text numbers ++ l) stacks)
+    rw (
+      words_text-append registers (numbers ++ (nops ∷ (first ++ (second ++ texts)))),
+      words_text-append numbers (nops ∷ (first ++ (second ++ texts))),
+      ← append_assoc first second texts,
+    ) (ap (λ (l : List ℕ). words_text registers ++ (words_text numbers ++ l))
+    (words_text-append (nops ∷ (first ++ second)) texts))
 
 -- nops that there are
 pub nops_text-some : (nops : List Letter) → 0 < length nops → nops_text nops ≡ map byte_of nops
@@ -68,9 +66,7 @@ pub ruleset words_grow = (keeps_front, words_text_more)
 -- a mark, words, and a newline
 pub line_made : (old words : List ℕ) (mark : ℕ)
     → ((old ++ mark ∷ []) ++ words) ++ 10 ∷ [] ≡ old ++ ((mark ∷ words) ++ 10 ∷ [])
-line_made old words mark =
-    append_assoc (old ++ mark ∷ []) words (10 ∷ [])
-    ∙ append_assoc old (mark ∷ []) (words ++ 10 ∷ [])
+line_made old words mark = simp append_assoc
 
 -- numbers and a text
 pub organism_made : (old : List ℕ) (numbers : List (List ℕ)) (text : List ℕ)
@@ -94,9 +90,7 @@ stacks_made old word first second =
 -- four texts in turn
 pub four_texts : (old a b c d : List ℕ)
     → (((old ++ a) ++ b) ++ c) ++ d ≡ old ++ (a ++ (b ++ (c ++ d)))
-four_texts old a b c d =
-    append_assoc ((old ++ a) ++ b) c d ∙ append_assoc (old ++ a) b (c ++ d)
-    ∙ append_assoc old a (b ++ (c ++ d))
+four_texts old a b c d = simp append_assoc
 
 -- what follows on success
 pub OnOk_then : {A E : Type 0} (r : Result A E) {P Q : Type 0} → OnOk r P → (P → Q) → OnOk r Q
