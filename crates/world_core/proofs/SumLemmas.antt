@@ -1,10 +1,10 @@
 -- The sums over the cells, as one of them changes.
-use Rattle.std.proofs.Common.{◌≡◌, ◌∙◌, refl, sym, ap, ℕ, ◌+◌, ◌-◌, ◌*◌, ◌<◌, ◌≤◌, ◌^◌, Bool, true, false, cond, List, [], ◌∷◌, length, map, set, get_or, Option, Some, None, replicate, subst, get_or-set_same, lt-length-set, set-set, arith}
+use Rattle.std.proofs.Common.{◌≡◌, ◌∙◌, refl, sym, ap, ℕ, ◌+◌, ◌-◌, ◌*◌, ◌<◌, ◌≤◌, ◌^◌, Bool, true, false, cond, List, [], ◌∷◌, length, map, set, get_or, Option, Some, None, replicate, get_or-set_same, lt-length-set, set-set, arith}
 use Rattle.std.specs.Prelude.{slice_index}
 use Rattle.std.specs.Int.{from_bool}
 use Rattle.std.specs.List.{All, count_by}
-use Rattle.std.proofs.lemmas.List.{length-set, length-replicate, get_or-replicate}
-use Rattle.std.proofs.lemmas.List.Elements.{All-map, All-same, All-set}
+use Rattle.std.proofs.lemmas.List.{length-set, length-replicate}
+use Rattle.std.proofs.lemmas.List.Elements.{All-map, All-replicate, All-same, All-set}
 use Rattle.std.proofs.lemmas.List.Folds.{sum_by-replicate}
 use Rattle.std.proofs.lemmas.List.Sums.{sum_by-set, sum_by-le, get_or-le-sum_by, count_by-le-length}
 use Rattle.census.specs.Changes.{AreCounted, CanRenew, tasks_with, tasks_without}
@@ -21,8 +21,7 @@ use Rattle.world_core.specs.Population.{AreSummedIn, is_credited}
 pub map_alike : {A B : Type 0} (f g : A → B) → ((a : A) → f a ≡ g a) → (xs : List A)
     → map f xs ≡ map g xs
 map_alike f g alike [] = refl
-map_alike f g alike (x ∷ xs) =
-    ap (λ y. y ∷ map f xs) (alike x) ∙ ap (λ ys. g x ∷ ys) (map_alike f g alike xs)
+map_alike f g alike (x ∷ xs) = λ i. alike x i ∷ map_alike f g alike xs i
 
 -- what stands at the place of a task in a list of one number a task
 pub at_task : (f : Task → ℕ) (task : Task)
@@ -54,10 +53,7 @@ task_sum cells merit tasks are task =
 pub AreSummedIn-none : (n : ℕ) → n ≤ 65536 → AreSummedIn (replicate n None) 0 (replicate 9 0)
 AreSummedIn-none n few = record {
   few = omega (arith, few, length-replicate {A = Option Occupant} n None);
-  fits = λ k d within. (let here =
-      get_or-replicate n k None d
-      (omega (arith, within, length-replicate {A = Option Occupant} n None)) in
-      omega (arith, ap merit_in here));
+  fits = All-replicate (λ slot. merit_in slot ≤ 2 ^ 38) n None (omega arith);
   merit_sum = omega (arith, sum_by-replicate merit_in n None);
   task_counts = sym (map_alike (cells_with (replicate n None)) (λ task. 0)
       (λ task. omega (arith, sum_by-replicate (λ slot. one (is_credited task slot)) n None))
@@ -92,13 +88,11 @@ pub credited-counted : (cells : List (Option Occupant)) (cell : ℕ) (o : Occupa
     (tasks : List ℕ) → cell < length cells → get_or cells cell None ≡ Some o
     → AreSummedIn cells merit tasks → AreCounted tasks o.organism.credited
 credited-counted cells cell o merit tasks within here are task has =
-    let stands : is_credited task (get_or cells cell None) ≡ true =
-    ap (is_credited task) here ∙ has in
     omega (
       arith,
       task_sum cells merit tasks are task,
       get_or-le-sum_by (λ slot. one (is_credited task slot)) cells cell None within,
-      ap one stands,
+      ap one (ap (is_credited task) here ∙ has),
     )
 
 -- a merit is part of the sum
@@ -146,20 +140,17 @@ pub AreSummedIn-removed : (cells : List (Option Occupant)) (cell : ℕ) (o : Occ
     → AreSummedIn (set cells cell None) (merit - o.organism.merit)
     (tasks_without tasks o.organism.credited)
 AreSummedIn-removed cells cell o merit tasks within here are =
-    AreSummedIn-set cells cell None merit (merit - o.organism.merit) tasks
-    (tasks_without tasks o.organism.credited)
+    AreSummedIn-set cells cell None merit _ tasks _
     (λ task. slice_index tasks (task_place task) - from_bool (has_task o.organism.credited task))
     within (omega arith) are
     (omega (arith, merit-counted cells cell o merit tasks within here are, ap merit_in here)) refl
-    (λ task. (let stands = ap (is_credited task) here in
-    let least = get_or-le-sum_by (λ slot. one (is_credited task slot)) cells cell None within in
-    omega (
+    (λ task. omega (
       arith,
       task_sum cells merit tasks are task,
       from_bool-one (has_task o.organism.credited task),
-      ap one stands,
-      least,
-    )))
+      ap one (ap (is_credited task) here),
+      get_or-le-sum_by (λ slot. one (is_credited task slot)) cells cell None within,
+    ))
 
 -- an organism comes
 pub AreSummedIn-put : (cells : List (Option Occupant)) (cell : ℕ) (o : Occupant) (merit : ℕ)
@@ -168,11 +159,9 @@ pub AreSummedIn-put : (cells : List (Option Occupant)) (cell : ℕ) (o : Occupan
     → AreSummedIn (set cells cell (Some o)) (merit + o.organism.merit)
     (tasks_with tasks o.organism.credited)
 AreSummedIn-put cells cell o merit tasks within here fits are =
-    AreSummedIn-set cells cell (Some o) merit (merit + o.organism.merit) tasks
-    (tasks_with tasks o.organism.credited)
+    AreSummedIn-set cells cell (Some o) merit _ tasks _
     (λ task. slice_index tasks (task_place task) + from_bool (has_task o.organism.credited task))
-    within fits are
-    (omega (arith, ap merit_in here)) refl
+    within fits are (omega (arith, ap merit_in here)) refl
     (λ task. omega (
       arith,
       task_sum cells merit tasks are task,
@@ -187,9 +176,7 @@ pub AreSummedIn-renewed : (cells : List (Option Occupant)) (cell : ℕ) (o next 
     → AreSummedIn (set cells cell (Some next)) (merit - o.organism.merit + next.organism.merit)
     (tasks_with (tasks_without tasks o.organism.credited) next.organism.credited)
 AreSummedIn-renewed cells cell o next merit tasks within here fits are =
-    subst (λ all. AreSummedIn all (merit - o.organism.merit + next.organism.merit)
-    (tasks_with (tasks_without tasks o.organism.credited) next.organism.credited))
-    (set-set cells cell None (Some next))
+    rw (← set-set cells cell None (Some next))
     (AreSummedIn-put (set cells cell None) cell next (merit - o.organism.merit)
     (tasks_without tasks o.organism.credited) (lt-length-set cells cell None within)
     (get_or-set_same cells cell None None within) fits
