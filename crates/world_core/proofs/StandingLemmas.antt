@@ -1,11 +1,11 @@
 -- The genotypes that are counted, beside the genomes that stand and those that have a number.
-use Rattle.std.proofs.Common.{◌≡◌, ◌∙◌, refl, sym, ap, subst, ℕ, zero, suc, ◌+◌, ◌<◌, Bool, true, false, cond, List, [], ◌∷◌, ◌++◌, append-nil, length, get_or, Option, Some, None, is_some, replicate, arith, rules, inl, inr}
+use Rattle.std.proofs.Common.{◌≡◌, ◌∙◌, refl, sym, ap, subst, ℕ, zero, suc, ◌<◌, true, List, [], ◌∷◌, ◌++◌, append-nil, length, get_or, Option, Some, None, is_some, replicate, arith, rules, inl, inr}
 use Rattle.std.specs.Prelude.{IsSome, slice_get}
 use Rattle.std.specs.Bool.{Decides}
 use mathlib.Core.List.{IsPrefix}
 use Rattle.std.specs.List.{count_by, list_any}
 use Rattle.std.specs.Option.{option_map, unwrap_or}
-use Rattle.std.proofs.lemmas.Bool.{cases_lt}
+use Rattle.std.proofs.lemmas.Bool.{cases_Bool, cases_lt}
 use Rattle.std.proofs.lemmas.List.{length-replicate, get_or-replicate}
 use Rattle.std.proofs.lemmas.List.Folds.{sum_by-replicate}
 use Rattle.std.proofs.lemmas.List.Sums.{sum_by-cons, get_or-le-sum_by}
@@ -29,6 +29,12 @@ cells_of standing genome = count_by (is_genome genome) standing
 -- how many organisms are counted in what is found
 abbrev pub count_in : Option GenotypeCount → ℕ
 count_in found = unwrap_or (option_map (λ g. g.count) found) 0
+
+-- what is counted is found
+pub is_found : (found : Option GenotypeCount) → 0 < count_in found
+    → (genotype : GenotypeCount) × (found ≡ Some genotype)
+is_found None some = absurd (omega (arith, some))
+is_found (Some g) some = (g, refl)
 
 -- nobody is not somebody
 pub apart : {X : Type 0} (found : Option X) (x : X) → found ≡ None → found ≡ Some x → ⊥
@@ -72,11 +78,10 @@ prefix-stays early late number genome prefix is =
 -- the genomes with one more begin with them
 pub with_genome-prefix : (genomes : List (List Letter)) (new : List Letter)
     → IsPrefix genomes (with_genome genomes new)
-with_genome-prefix genomes new = by (list_any (same_letters new) genomes) where
-  -- with the new genome at the end, or with nothing new
-  by : (b : Bool) → IsPrefix genomes (cond b genomes (genomes ++ new ∷ []))
-  by true = ([], append-nil genomes)
-  by false = (new ∷ [], refl)
+with_genome-prefix genomes new = elim (cases_Bool (list_any (same_letters new) genomes)) [
+  | inl known ↦ rw known ([], append-nil genomes)
+  | inr fresh ↦ rw fresh (new ∷ [], refl)
+]
 
 module _ (one_list : OneList) where
   -- a genome is itself
@@ -91,17 +96,22 @@ module _ (one_list : OneList) where
       some_cell genome rest (omega
       (arith, some, sum_by-cons (λ slot. one (is_genome genome slot)) None rest)) in
       (suc later.0, later.1)
-  some_cell genome (Some other ∷ rest) some =
-      by (same_letters genome other) refl
-      (omega (arith, some, sum_by-cons (λ slot. one (is_genome genome slot)) (Some other) rest))
-      (some_cell genome rest) where
-        by : (b : Bool) → same_letters genome other ≡ b
-            → 0 < one (same_letters genome other) + cells_of rest genome
-            → (0 < cells_of rest genome → (cell : ℕ) × (get_or rest cell None ≡ Some genome))
-            → (cell : ℕ) × (get_or (Some other ∷ rest) cell None ≡ Some genome)
-        by true same some later = (0, ap Some (sym ((one_list genome other).0 same)))
-        by false same some later =
-            let at = later (omega (arith, some, ap one same)) in (suc at.0, at.1)
+  some_cell genome (Some other ∷ rest) some = elim (cases_Bool (same_letters genome other)) [
+    | inl same ↦ (0, ap Some (sym ((one_list genome other).0 same)))
+    | inr differ ↦
+        let sum = sum_by-cons (λ slot. one (is_genome genome slot)) (Some other) rest in
+        let later = some_cell genome rest (omega (arith, some, sum, ap one differ)) in
+        (suc later.0, later.1)
+  ]
+
+  -- the genome under a number that is counted is the genome with the number
+  pub genome-under : (standing : List (Option (List Letter))) (genomes : List (List Letter))
+      (keys : List ℕ) (genotypes : List (ℕ × GenotypeCount)) (number : ℕ)
+      → AreCountedIn standing genomes keys genotypes → 0 < count_under genotypes number
+      → slice_get genomes number ≡ Some (genome_under genotypes number)
+  genome-under standing genomes keys genotypes number are some =
+      let at = is_found (genotype_at genotypes number) some in
+      rw at.1 (are.named number at.0 at.1)
 
   -- where a genome has no cell it is not counted
   none-counted : (standing : List (Option (List Letter))) (genomes : List (List Letter))
@@ -111,24 +121,19 @@ module _ (one_list : OneList) where
       → slice_get later number ≡ Some genome
       → count_under genotypes number ≡ cells_of standing genome
   none-counted standing genomes keys genotypes later genome number prefix different are none is =
-      under (genotype_at genotypes number) refl ∙ sym (cells (cells_of standing genome) refl)
-    where
-      under : (found : Option GenotypeCount) → genotype_at genotypes number ≡ found
-          → count_under genotypes number ≡ 0
-      under None at = ap count_in at
-      under (Some g) at =
-          absurd (apart (slice_get genomes number) g.genome none (are.named number g at))
-
-      cells : (count : ℕ) → cells_of standing genome ≡ count → count ≡ 0
-      cells zero counted = refl
-      cells (suc count) counted =
-          let at = some_cell genome standing (omega (arith, counted)) in
-          let there = are.keyed at.0 genome at.1 in
-          let same : get_or keys at.0 0 ≡ number =
-          different (get_or keys at.0 0) number genome
-          (prefix-stays genomes later (get_or keys at.0 0) genome prefix there) is in
-          absurd (apart (slice_get genomes number) genome none
-          (subst (λ n. slice_get genomes n ≡ Some genome) same there))
+      elim (cases_lt 0 (count_under genotypes number)) [
+        | inl some ↦ absurd (apart _ _ none
+            (genome-under standing genomes keys genotypes number are some))
+        | inr uncounted ↦ elim (cases_lt 0 (cells_of standing genome)) [
+          | inl some ↦
+              let at = some_cell genome standing some in
+              let there = are.keyed at.0 genome at.1 in
+              let same = different (get_or keys at.0 0) number genome
+              (prefix-stays genomes later _ genome prefix there) is in
+              absurd (apart _ genome none (ap (slice_get genomes) (sym same) ∙ there))
+          | inr nowhere ↦ omega arith
+        ]
+      ]
 
   -- genomes that come behind change no count
   pub AreCountedIn-more : (standing : List (Option (List Letter))) (genomes : List (List Letter))
@@ -156,20 +161,6 @@ module _ (one_list : OneList) where
           let same : old ≡ genome = cc in
           are.counted number old some ∙ ap (cells_of standing) same
 
-  -- the genome under a number that is counted is the genome with the number
-  pub genome-under : (standing : List (Option (List Letter))) (genomes : List (List Letter))
-      (keys : List ℕ) (genotypes : List (ℕ × GenotypeCount)) (number : ℕ)
-      → AreCountedIn standing genomes keys genotypes → 0 < count_under genotypes number
-      → slice_get genomes number ≡ Some (genome_under genotypes number)
-  genome-under standing genomes keys genotypes number are some =
-      by (genotype_at genotypes number) refl where
-        by : (found : Option GenotypeCount) → genotype_at genotypes number ≡ found
-            → slice_get genomes number ≡ Some (genome_under genotypes number)
-        by None at = absurd (omega (arith, some, ap count_in at))
-        by (Some g) at = are.named number g at
-            ∙ ap (λ (o : Option GenotypeCount). Some (unwrap_or (option_map (λ g. g.genome) o) []))
-            (sym at)
-
   -- a genome that stands in a cell is counted under the key there
   pub some-counted : (standing : List (Option (List Letter))) (genomes : List (List Letter))
       (keys : List ℕ) (genotypes : List (ℕ × GenotypeCount)) (cell : ℕ) (genome : List Letter)
@@ -177,15 +168,12 @@ module _ (one_list : OneList) where
       → AreCountedIn standing genomes keys genotypes
       → IsSome (genotype_at genotypes (get_or keys cell 0))
   some-counted standing genomes keys genotypes cell genome within stands are =
-      by (genotype_at genotypes (get_or keys cell 0))
+      let at = is_found (genotype_at genotypes (get_or keys cell 0))
       (omega (
         arith,
         are.counted (get_or keys cell 0) genome (are.keyed cell genome stands),
         get_or-le-sum_by (λ slot. one (is_genome genome slot)) standing cell None within,
         ap (λ slot. one (is_genome genome slot)) stands,
         ap one (is_itself genome),
-      ))
-    where
-      by : (found : Option GenotypeCount) → 0 < count_in found → IsSome found
-      by None some = absurd (omega (arith, some))
-      by (Some g) some = search rules
+      )) in
+      rw at.1 (search rules)
