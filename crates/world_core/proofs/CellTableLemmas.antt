@@ -73,8 +73,8 @@ pub AreKeptBeside-none : (n : ℕ) (os : List (Option OrganismState)) (ids : Lis
     (standings : List (Option Standing)) → os ≡ replicate n None → length ids ≡ n
     → standings ≡ replicate n None → AreKeptBeside os ids standings
 AreKeptBeside-none n os ids standings empty many untold = record {
-  long = many ∙ sym (length-replicate {A = Option OrganismState} n None) ∙ sym (ap length empty);
-  counted = untold ∙ sym (ap (map standing_in) empty ∙ counted-none n);
+  long = rw empty (many ∙ sym (length-replicate {A = Option OrganismState} n None));
+  counted = rw empty (untold ∙ sym (counted-none n));
 }
 
 -- beside a cell that changes is kept what is counted of who stands there now
@@ -128,28 +128,24 @@ module _ (r : Inside) (cell : ℕ) {cells : List (Option Occupant)} (within : ce
   pub read-slot : (read slot : Option OrganismState) → read ≡ get_or r.organisms.items cell read
       → read ≡ slot → get_or cells cell None ≡ with_id (get_or r.ids.items cell 0) slot
   read-slot read slot found is =
-      sym (ap (λ (cells : List (Option Occupant)). get_or cells cell None) are)
-      ∙ occupants_of-at r.organisms.items r.ids.items cell beside.long
-      ∙ ap (with_id (get_or r.ids.items cell 0))
-      (sym (get_or_read r.organisms.items cell read (omega (arith, has_slot, r.organisms.ok.0))
-      found None) ∙ is)
+      let here = get_or_read r.organisms.items cell read
+      (omega (arith, has_slot, r.organisms.ok.0)) found None in
+      rw (← are, occupants_of-at r.organisms.items r.ids.items cell beside.long, sym here ∙ is)
 
   -- what is counted of who stands there
   pub read-standing : (read : Option Standing) → read ≡ get_or r.standings.items cell read
       → read ≡ standing_in (organism_in (get_or cells cell None))
   read-standing read found =
-      let slot = get_or r.organisms.items cell None in
-      let id = get_or r.ids.items cell 0 in
-      get_or_read r.standings.items cell read
-      (omega (arith, has_standing, r.standings.ok.0)) found None
-      ∙ ap (λ (all : List (Option Standing)). get_or all cell None) beside.counted
-      ∙ get_or-map standing_in r.organisms.items cell None None
-      (omega (arith, has_slot, r.organisms.ok.0, length-map r.organisms.items standing_in))
-      ∙ ap standing_in (sym (organism-with id slot))
-      ∙ ap (λ who. standing_in (organism_in who))
-      (sym (occupants_of-at r.organisms.items r.ids.items cell beside.long))
-      ∙ ap (λ (cells : List (Option Occupant)). standing_in (organism_in (get_or cells cell None)))
-      are
+      rw (
+        ← are,
+        occupants_of-at r.organisms.items r.ids.items cell beside.long,
+        organism-with,
+        get_or_read r.standings.items cell read (omega (arith, has_standing, r.standings.ok.0))
+            found None,
+        beside.counted,
+      )
+      (get_or-map standing_in r.organisms.items cell None None
+      (omega (arith, has_slot, r.organisms.ok.0)))
 
   -- the id
   pub read-id : (id : ℕ) → id ≡ get_or r.ids.items cell id → id ≡ get_or r.ids.items cell 0
