@@ -1,5 +1,5 @@
 -- A scan beside the fold of its states, one element after another.
-use Rattle.std.proofs.Common.{◌≡◌, ◌∙◌, refl, sym, ap, ℕ, ◌+◌, ◌<◌, List, [], ◌∷◌, ◌++◌, length, take, get_or, fold, Option, None, Some, append_assoc, append-nil}
+use Rattle.std.proofs.Common.{◌≡◌, refl, ap, ℕ, ◌+◌, ◌<◌, List, [], ◌∷◌, ◌++◌, length, take, get_or, fold, Option, None, Some, append_assoc, append-nil}
 use Rattle.std.specs.List.{scan, filter_map, flat_map}
 use Rattle.std.specs.Option.{option_to_list}
 use Rattle.std.proofs.lemmas.List.{take_more}
@@ -16,8 +16,8 @@ scan-append next out a (x ∷ xs) ys = ap (λ l. out a x ∷ l) (scan-append nex
 pub scan-more : {S X Y : Type 0} (next : S → X → S) (out : S → X → Y) (a : S) (xs : List X) (i : ℕ)
     (d : X) → i < length xs → scan next out a (take (i + 1) xs) ≡ scan next out a (take i xs)
     ++ out (fold next a (take i xs)) (get_or xs i d) ∷ []
-scan-more next out a xs i d within = ap (scan next out a) (take_more xs i d within)
-    ∙ scan-append next out a (take i xs) (get_or xs i d ∷ [])
+scan-more next out a xs i d within =
+    rw (take_more xs i d within) (scan-append next out a (take i xs) (get_or xs i d ∷ []))
 
 -- what there is of one option
 pub filter_map-single : {Y : Type 0} (o : Option Y)
@@ -32,12 +32,7 @@ pub told-more : {S X Y : Type 0} (next : S → X → S) (out : S → X → Optio
     ≡ flat_map text (filter_map (λ y. y) (scan next out a (take i xs)))
     ++ flat_map text (option_to_list (out (fold next a (take i xs)) (get_or xs i d)))
 told-more next out text a xs i d within =
-    let before = scan next out a (take i xs) in
-    let here = out (fold next a (take i xs)) (get_or xs i d) in
-    ap (λ l. flat_map text (filter_map (λ y. y) l)) (scan-more next out a xs i d within)
-    ∙ ap (flat_map text) (filter_map-append (λ y. y) before (here ∷ []))
-    ∙ ap (λ l. flat_map text (filter_map (λ y. y) before ++ l)) (filter_map-single here)
-    ∙ flat_map-append text (filter_map (λ y. y) before) (option_to_list here)
+    rw (scan-more next out a xs i d within, filter_map-append, filter_map-single, flat_map-append)
 
 -- the text of what a scan tells, one element more
 pub lines-more : {S X Y : Type 0} (next : S → X → S) (out : S → X → Y) (text : Y → List ℕ) (a : S)
@@ -46,11 +41,7 @@ pub lines-more : {S X Y : Type 0} (next : S → X → S) (out : S → X → Y) (
     ≡ flat_map text (scan next out a (take i xs))
     ++ text (out (fold next a (take i xs)) (get_or xs i d))
 lines-more next out text a xs i d within =
-    let before = scan next out a (take i xs) in
-    let here = out (fold next a (take i xs)) (get_or xs i d) in
-    ap (flat_map text) (scan-more next out a xs i d within)
-    ∙ flat_map-append text before (here ∷ [])
-    ∙ ap (λ l. flat_map text before ++ l) (append-nil (text here))
+    rw (scan-more next out a xs i d within, flat_map-append, append-nil)
 
 module _ {S X Y : Type 0} (next : S → X → S) (text : Y → List ℕ) (a : S) (xs : List X) (i : ℕ)
     (d : X) (within : i < length xs) where
@@ -60,21 +51,13 @@ module _ {S X Y : Type 0} (next : S → X → S) (text : Y → List ℕ) (a : S)
       → old ≡ start ++ flat_map text (filter_map (λ y. y) (scan next out a (take i xs)))
       → new ≡ old ++ flat_map text (option_to_list (out s (get_or xs i d)))
       → new ≡ start ++ flat_map text (filter_map (λ y. y) (scan next out a (take (i + 1) xs)))
-  told-step {s = s} start out state so_far one =
-      let before = flat_map text (filter_map (λ y. y) (scan next out a (take i xs))) in
-      let here = λ (at : S). flat_map text (option_to_list (out at (get_or xs i d))) in
-      one ∙ ap (λ l. l ++ here s) so_far ∙ append_assoc start before (here s)
-      ∙ ap (λ at. start ++ (before ++ here at)) state
-      ∙ ap (λ l. start ++ l) (sym (told-more next out text a xs i d within))
+  told-step start out state so_far one =
+      rw (one, so_far, append_assoc, state, told-more next out text a xs i d within)
 
   -- one element more of the lines, where the state stands behind the first i
   pub lines-step : {s : S} {old new : List ℕ} (start : List ℕ) (out : S → X → Y)
       → s ≡ fold next a (take i xs) → old ≡ start ++ flat_map text (scan next out a (take i xs))
       → new ≡ old ++ text (out s (get_or xs i d))
       → new ≡ start ++ flat_map text (scan next out a (take (i + 1) xs))
-  lines-step {s = s} start out state so_far one =
-      let before = flat_map text (scan next out a (take i xs)) in
-      let here = λ (at : S). text (out at (get_or xs i d)) in
-      one ∙ ap (λ l. l ++ here s) so_far ∙ append_assoc start before (here s)
-      ∙ ap (λ at. start ++ (before ++ here at)) state
-      ∙ ap (λ l. start ++ l) (sym (lines-more next out text a xs i d within))
+  lines-step start out state so_far one =
+      rw (one, so_far, append_assoc, state, lines-more next out text a xs i d within)
