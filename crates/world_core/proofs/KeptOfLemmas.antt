@@ -1,5 +1,5 @@
 -- What is kept of who stands in the cells, as one of them changes.
-use Rattle.std.proofs.Common.{◌≡◌, ◌∙◌, refl, sym, ap, subst, Result, Ok, Err, OnOk, ℕ, zero, suc, ◌∷◌, ◌<◌, ◌≤◌, ◌^◌, List, [], length, set, get_or, Option, Some, None, is_some, replicate, arith}
+use Rattle.std.proofs.Common.{◌≡◌, ◌∙◌, refl, sym, ap, Result, Ok, Err, OnOk, ℕ, zero, suc, ◌∷◌, ◌<◌, ◌≤◌, ◌^◌, List, [], length, set, get_or, Option, Some, None, is_some, replicate, arith}
 use Rattle.std.proofs.lemmas.List.{get_or-map, get_or_read, map-set, length-map, set-get_or}
 use Rattle.std.specs.Prelude.{OnErr, slice_get}
 use Rattle.std.proofs.lemmas.List.Sums.{count_by-le-length}
@@ -9,7 +9,7 @@ use Rattle.instruction_set.specs.declared.letter.Letter.{Letter}
 use Rattle.world_rules.specs.World.{Occupant}
 use mathlib.Core.List.{IsPrefix}
 use Rattle.genotype_bank.specs.BankHistory.{with_genome}
-use Rattle.world_core.specs.Population.{IsKeptOf, AreCountedIn, AreDifferent, AreSummedIn, occupant_genome, occupant_genomes}
+use Rattle.world_core.specs.Population.{IsKeptOf, AreDifferent, AreSummedIn, occupant_genome, occupant_genomes}
 use Rattle.world_core.proofs.ChangeLemmas.{AreCountedIn-put, AreCountedIn-removed}
 use Rattle.world_core.proofs.StandingLemmas.{OneList, AreCountedIn-more, AreCountedIn-none, some-counted, with_genome-prefix}
 use Rattle.world_core.proofs.SumLemmas.{AreSummedIn-none, AreSummedIn-put, AreSummedIn-removed, credited-counted, merit-counted, merit-room, tasks-room}
@@ -25,15 +25,11 @@ pub IsKeptOf-none : (n : ℕ) (cells : List (Option Occupant)) (genomes : List (
     → counts ≡ record { genotypes = []; merit = 0; tasks = replicate 9 0 } → n ≤ 65536
     → IsKeptOf cells genomes keys counts
 IsKeptOf-none n cells genomes keys counts empty unnumbered long nothing few =
-    let standing : occupant_genomes (replicate n None) ≡ replicate n None = nobody n in
-    let start : IsKeptOf (replicate n None) [] keys
-    (record { genotypes = []; merit = 0; tasks = replicate 9 0 }) = record {
+    rw (empty, unnumbered, nothing) (record {
       different = λ number other genome is has. cc;
-      genotypes = subst (λ (s : List (Option (List Letter))). AreCountedIn s [] keys [])
-          (sym standing) (AreCountedIn-none n keys long);
+      genotypes = rw (nobody n) (AreCountedIn-none n keys long);
       sums = AreSummedIn-none n few;
-    } in
-    rw (empty, unnumbered, nothing) start
+    })
 
 -- the number that is read at a cell
 pub key-read : (cells : List (Option Occupant)) (genomes : List (List Letter)) (keys : List ℕ)
@@ -65,9 +61,7 @@ module _ (one_list : OneList) (cells : List (Option Occupant)) (genomes : List (
   pub IsKeptOf-empty : get_or cells cell None ≡ None → IsKeptOf cells genomes keys before
       → IsKeptOf (set cells cell None) genomes keys before
   IsKeptOf-empty here kept =
-      let same : set cells cell None ≡ cells =
-      ap (set cells cell) (sym here) ∙ set-get_or cells cell None in
-      subst (λ cells. IsKeptOf cells genomes keys before) (sym same) kept
+      rw (ap (set cells cell) (sym here) ∙ set-get_or cells cell None) kept
 
   module _ (o : Occupant) (kept : IsKeptOf cells genomes keys before)
       (here : get_or cells cell None ≡ Some o) where
@@ -91,9 +85,7 @@ module _ (one_list : OneList) (cells : List (Option Occupant)) (genomes : List (
         o.organism.credited → IsKeptOf (set cells cell None) genomes keys after
     IsKeptOf-removed fewer = record {
       different = kept.different;
-      genotypes = subst (λ (s : List (Option (List Letter))).
-          AreCountedIn s genomes keys after.genotypes)
-          (sym (map-set occupant_genome cells cell None))
+      genotypes = rw (map-set occupant_genome cells cell None)
           (AreCountedIn-removed one_list (occupant_genomes cells) genomes keys before.genotypes
           after.genotypes cell o.organism.genome kept.different wide stands kept.genotypes
           fewer.under fewer.living);
@@ -130,9 +122,7 @@ module _ (one_list : OneList) (cells : List (Option Occupant)) (genomes : List (
         → IsKeptOf (set cells cell (Some o)) genomes (set keys cell number) after
     IsKeptOf-put more = record {
       different = kept.different;
-      genotypes = subst (λ (s : List (Option (List Letter))). AreCountedIn s genomes
-          (set keys cell number) after.genotypes)
-          (sym (map-set occupant_genome cells cell (Some o)))
+      genotypes = rw (map-set occupant_genome cells cell (Some o))
           (AreCountedIn-put one_list (occupant_genomes cells) genomes keys before.genotypes
           after.genotypes cell number o.organism.genome kept.different
           (omega (arith, within, length-map cells occupant_genome))
@@ -162,9 +152,9 @@ pub IsKeptOf-interned : {T E : Type 0} → OneList
     → AreDifferent after → IsKeptOf cells before keys counts → IsKeptOf cells after keys counts
 IsKeptOf-interned one_list cells before after keys counts new (Ok value) more same different kept =
     IsKeptOf-more one_list cells before after keys counts
-    (subst (IsPrefix before) (sym more) (with_genome-prefix before new)) different kept
+    (rw more (with_genome-prefix before new)) different kept
 IsKeptOf-interned one_list cells before after keys counts new (Err error) more same different kept =
-    subst (λ (gs : List (List Letter)). IsKeptOf cells gs keys counts) (sym same) kept
+    rw same kept
 
 -- all have lived
 pub IsKeptOf-lived : (cells next : List (Option Occupant)) (genomes : List (List Letter))
