@@ -1,9 +1,9 @@
 -- The genotypes that are counted, as one cell changes.
-use Rattle.std.proofs.Common.{◌≡◌, ◌∙◌, refl, sym, ap, ℕ, ◌+◌, ◌<◌, ◌≤◌, ◌≢◌, ◌⊎◌, Bool, true, false, cond, List, length, set, get_or, get_or-set_same, get_or-set_other, Option, Some, None, is_some, arith, inl, inr}
+use Rattle.std.proofs.Common.{◌≡◌, ◌∙◌, refl, sym, ap, ℕ, ◌+◌, ◌<◌, ◌≢◌, ◌⊎◌, Bool, true, false, cond, List, length, set, get_or, get_or-set_same, get_or-set_other, Option, Some, None, is_some, arith, inl, inr}
 use Rattle.std.specs.Prelude.{nat_eq, nat_lt, slice_get}
 use Rattle.std.specs.List.{count_by}
-use Rattle.std.proofs.lemmas.Bool.{cases_lt, eq-eqb, eqb-true}
-use Rattle.std.proofs.lemmas.Bool.Decides.{nat_tests}
+use Rattle.std.proofs.lemmas.Bool.{cases_eq, eqb-false, eqb-true, false_from_ne_true, ltb-false}
+use Rattle.std.proofs.lemmas.Grind.{get_or-set_at}
 use Rattle.std.proofs.lemmas.List.{length-set}
 use Rattle.std.proofs.lemmas.List.Sums.{sum_by-set, get_or-le-sum_by}
 use Rattle.census.specs.Counts.{GenotypeCount, genotype_at, living_of}
@@ -18,13 +18,9 @@ use Rattle.world_core.proofs.SumLemmas.{one}
 read-set : {X : Type 0} (xs : List X) (i k : ℕ) (x d : X) → i < length xs
     → ((k ≡ i) × (get_or (set xs i x) k d ≡ x))
     ⊎ ((k ≢ i) × (get_or (set xs i x) k d ≡ get_or xs k d))
-read-set xs i k x d within = elim (cases_lt k i) [
-  | inl below ↦ let other : k ≢ i = omega arith in inr (other, get_or-set_other xs i k x d other)
-  | inr above ↦ elim (cases_lt i k) [
-    | inl beyond ↦ let other : k ≢ i = omega arith in inr (other, get_or-set_other xs i k x d other)
-    | inr most ↦ let same : k ≡ i = omega arith in
-        inl (same, ap (λ n. get_or (set xs i x) n d) same ∙ get_or-set_same xs i x d within)
-  ]
+read-set xs i k x d within = elim (cases_eq k i) [
+  | inl same ↦ inl (same, get_or-set_at xs i k x d same within)
+  | inr other ↦ inr (other, get_or-set_other xs i k x d other)
 ]
 
 -- one number has one genome
@@ -67,18 +63,9 @@ module _ (one_list : OneList) where
       → slice_get genomes number ≡ Some other → nat_eq key number ≡ false
       → same_letters other genome ≡ false
   other-number genomes key number genome other different here there apart =
-      by (same_letters other genome) refl where
-        clash : (b : Bool) → b ≡ true → b ≡ false → ⊥
-        clash b holds fails = cc
-
-        by : (b : Bool) → same_letters other genome ≡ b → b ≡ false
-        by false is = refl
-        by true is =
-            let one_genome : other ≡ genome = (one_list other genome).0 is in
-            let one_number : number ≡ key =
-            different number key genome (there ∙ ap Some one_genome) here in
-            absurd (clash (nat_eq key number)
-            (eq-eqb key number (sym one_number)) apart)
+      false_from_ne_true (same_letters other genome) (λ is.
+      eqb-false key number apart (different key number genome here
+      (there ∙ ap Some ((one_list other genome).0 is))))
 
   -- an organism goes
   pub AreCountedIn-removed : (standing : List (Option (List Letter))) (genomes : List (List Letter))
@@ -137,10 +124,7 @@ module _ (one_list : OneList) where
       lower : (b : Bool) → nat_lt 1 (count_under genotypes key) ≡ b
           → count_in (cond b (Some (lowered genotypes key)) None) + 1 ≡ count_under genotypes key
       lower true is = omega (arith, least)
-      lower false is = omega (arith, least, false_at_most (count_under genotypes key) is)
-        where
-          false_at_most : (n : ℕ) → nat_lt 1 n ≡ false → n ≤ 1
-          false_at_most n is = grind (arith, nat_tests)
+      lower false is = omega (arith, least, ltb-false 1 (count_under genotypes key) is)
 
       counted : (number : ℕ) (g : List Letter) → slice_get genomes number ≡ Some g → (a : Bool)
           → nat_eq key number ≡ a
