@@ -1,20 +1,17 @@
 -- Each record that words draw applies, and its child has a length within the limits.
-use Rattle.std.proofs.Common.{◌≡◌, refl, sym, ◌∙◌, ap, subst, ℕ, suc, ◌+◌, ◌-◌, ◌*◌, ◌<◌, ◌≤◌, ◌^◌, true, eqb, ◌&&◌, List, [], ◌∷◌, ◌++◌, length, Result, Ok, IsOkAnd, arith, append_assoc, length-append, lit<}
+use Rattle.std.proofs.Common.{◌≡◌, refl, sym, ap, subst, ℕ, suc, ◌+◌, ◌-◌, ◌*◌, ◌<◌, ◌≤◌, ◌^◌, eqb, ◌&&◌, List, [], ◌∷◌, ◌++◌, length, IsOkAnd, arith, append_assoc, length-append, lit<}
 use Rattle.std.proofs.Math.Nat.{div-lt_iff_lt-mul, mul-le-mul_left}
 use Rattle.instruction_set.specs.declared.letter.Letter.{Letter}
 use Rattle.genome.specs.Genome.{IsGenome}
 use Rattle.random_streams.specs.RandomStream.{hits, scaled}
-use Rattle.mutations.specs.declared.change.Change.{Change}
 use Rattle.mutations.specs.declared.indels.Indel.{Indel}
 use Rattle.mutations.specs.declared.indels.Indel.TheVariants.{Insertion, Deletion}
 use Rattle.mutations.specs.declared.indels.IndelTest.{IndelTest}
-use Rattle.mutations.specs.declared.stop.ApplyStop.{ApplyStop}
-use Rattle.mutations.specs.Change.{text_after}
 use Rattle.mutations.specs.CopyError.{letter_of_word, after_error}
 use Rattle.mutations.specs.ChildTexts.{AreTextsOfChild, IsLengthWithin}
 use Rattle.mutations.specs.Rates.{RateNumbers, LengthRange}
 use Rattle.mutations.specs.DivideErrors.{Drawn, none_by, in_turn, site_text, pointed_text, after_points, points_from}
-use Rattle.mutations.specs.Indels.{Draft, Spot, has_room, place_count, indel_at, length_after, test_range, test_at, site_rate, single_rate, site_indel, indels_from, site_indels, single_indel, single_spot, indels}
+use Rattle.mutations.specs.Indels.{Draft, Spot, has_room, place_count, length_after, test_range, test_at, site_rate, single_rate, site_indel, indels_from, site_indels, single_indel, single_spot, indels}
 use Rattle.mutations.specs.BirthRecord.{drawn_by_divide, origin_of, child_of}
 use Rattle.mutations.specs.Pass.{Makes, Fits}
 use Rattle.mutations.proofs.ChangeLemmas.{Makes-append, Makes-none}
@@ -35,21 +32,12 @@ pub length-pointed_text : (words : ℕ → ℕ) (rate k : ℕ) (text : List Lett
     → length (pointed_text words rate k text) ≡ length text
 length-pointed_text words rate k text = grind (arith, length-site_text words rate k text)
 
--- a scaled word is below the number that it is scaled to
-pub scaled-below : (word n : ℕ) → word < 2 ^ 32 → scaled word (n + 1) ≤ n
-scaled-below word n fits =
-    let le : (n + 1) * word ≤ (n + 1) * 4294967295 = mul-le-mul_left (n + 1) (omega arith) in
-    let product : word * (n + 1) < (n + 1) * 2 ^ 32 = omega (arith, le) in
-    let below : scaled word (n + 1) < n + 1 = (div-lt_iff_lt-mul (lit< tt)).1 product in
-    omega arith
-
--- so is one that is scaled to a number above 0
+-- a word that is scaled to a number above 0 is below it
 scaled-place : (word n : ℕ) → word < 2 ^ 32 → 0 < n → scaled word n < n
 scaled-place word n fits some =
-    let same : n - 1 + 1 ≡ n = omega arith in
-    let le : scaled word n ≤ n - 1 =
-    subst (λ (m : ℕ). scaled word m ≤ n - 1) same (scaled-below word (n - 1) fits) in
-    omega arith
+    let le : n * word ≤ n * 4294967295 = mul-le-mul_left n (omega arith) in
+    let product : word * n < n * 2 ^ 32 = omega (arith, le) in
+    (div-lt_iff_lt-mul (lit< tt)).1 product
 
 -- a text that is not empty has a place for an indel
 some-place : (kind : Indel) (len : ℕ) → 0 < len → 0 < place_count kind len
@@ -103,26 +91,23 @@ site_indel-front test words front letter rest k len size fits =
     let drawn : Letter = letter_of_word (words (k + 1)) in
     let middle = with_indel-middle test.kind drawn front letter rest in
     let kept = append_assoc front (letter ∷ []) rest in
-    let room : (hits (words k) test.rate && has_room test.kind range len) ≡ true
-    → Room test.kind range (length front) (front ++ letter ∷ rest) =
-    λ hit. Room-middle test.kind range front letter rest fits
-    (subst (λ (n : ℕ). has_room test.kind range n ≡ true) size
-    (second-passes (hits (words k) test.rate) (has_room test.kind range len) hit)) in
     picked (Front range front letter rest)
-    (hits (words k) test.rate && has_room test.kind range len) (indel_at test.kind words spot)
-    (none_by (k + 1))
-    (λ hit. record {
+    (hits (words k) test.rate && has_room test.kind range len) _ _
+    (λ hit.
+    let room : Room test.kind range (length front) (front ++ letter ∷ rest) =
+    Room-middle test.kind range front letter rest fits
+    (rw size at (second-passes (hits (words k) test.rate) (has_room test.kind range len) hit)) in
+    record {
       done = front_after test.kind drawn front letter;
-      makes = subst (λ (to : List Letter).
-          Makes (indel_at test.kind words spot).changes (front ++ letter ∷ rest) to) middle
-          (Makes-indel test.kind range words spot (front ++ letter ∷ rest) (room hit));
-      fits = subst (λ (to : List Letter). Fits range (length to)) middle
-          (Fits-indel test.kind range (length front) drawn (front ++ letter ∷ rest) (room hit));
+      makes = rw middle at
+          (Makes-indel test.kind range words spot (front ++ letter ∷ rest) room);
+      fits = rw middle at
+          (Fits-indel test.kind range (length front) drawn (front ++ letter ∷ rest) room);
     })
     (record {
       done = front ++ letter ∷ [];
       makes = Makes-kept front letter rest;
-      fits = subst (λ (to : List Letter). Fits range (length to)) (sym kept) fits;
+      fits = rw kept fits;
     })
 
 -- the tests of the last letters
@@ -144,21 +129,16 @@ indels_from-make test words front (letter ∷ rest) k fits =
     place-after test.kind here.changes front f.done rest letter
     (changes-resize test.kind 1 here.changes (front ++ letter ∷ rest) (f.done ++ rest)
     (site_indel-kind test words len spot) (f.makes.made 1)) in
-    let more : Made range (f.done ++ rest)
-    (others (length_after test.kind here.changes (length front + 1))) =
-    subst (λ (at : ℕ). Made range (f.done ++ rest) (others at)) (sym place)
-    (indels_from-make test words f.done rest here.next f.fits) in
     Made-append range here (others (length_after test.kind here.changes (length front + 1)))
-    (front ++ letter ∷ rest)
-    (record { to = f.done ++ rest; makes = f.makes; fits = f.fits }) more
+    (front ++ letter ∷ rest) (record { to = f.done ++ rest; makes = f.makes; fits = f.fits })
+    (rw place (indels_from-make test words f.done rest here.next f.fits))
 
 -- the tests of all letters, where they are tested at all
 site_indels-make : (test : IndelTest) (words : ℕ → ℕ) (text : List Letter) (k : ℕ)
     → Fits (test_range test) (length text) → Made (test_range test) text
     (site_indels test words (record { size = length text; word = k }))
 site_indels-make test words text k fits =
-    picked (Made (test_range test) text) (eqb test.rate 0) (none_by k)
-    (indels_from test words (length text) (record { place = 0; word = k }))
+    picked (Made (test_range test) text) (eqb test.rate 0) _ _
     (λ _. Made-none (test_range test) k text fits) (indels_from-make test words [] text k fits)
 
 -- the test of a whole text
@@ -174,19 +154,17 @@ single_indel-make test words fits text k allowed =
     let place : spot.place < place_count test.kind len =
     scaled-place (words (k + 1)) (place_count test.kind len) (fits (k + 1))
     (some-place test.kind len (omega (arith, allowed.shortest, allowed.least))) in
-    let room : (hits (words k) test.rate && has_room test.kind range len) ≡ true
-    → Room test.kind range spot.place text =
-    λ hit. record {
+    picked (Made range text) (hits (words k) test.rate && has_room test.kind range len) _ _
+    (λ hit.
+    let room : Room test.kind range spot.place text = record {
       fits = allowed;
       room = second-passes (hits (words k) test.rate) (has_room test.kind range len) hit;
       place = place;
     } in
-    picked (Made range text) (hits (words k) test.rate && has_room test.kind range len)
-    (indel_at test.kind words spot) (none_by (k + 1))
-    (λ hit. record {
+    record {
       to = with_indel test.kind spot.place drawn text;
-      makes = Makes-indel test.kind range words spot text (room hit);
-      fits = Fits-indel test.kind range spot.place drawn text (room hit);
+      makes = Makes-indel test.kind range words spot text room;
+      fits = Fits-indel test.kind range spot.place drawn text room;
     })
     (Made-none range (k + 1) text allowed)
 
@@ -206,8 +184,7 @@ indels-make kind words fits rates range text k allowed =
     let size : length_after kind sites.changes (length text) ≡ length first.to =
     Made-size kind range text sites first (site_indels-kind each words draft) in
     Made-append range sites (last (length_after kind sites.changes (length text))) text first
-    (subst (λ (n : ℕ). Made range first.to (last n)) (sym size)
-    (single_indel-make single words fits first.to sites.next first.fits))
+    (rw size (single_indel-make single words fits first.to sites.next first.fits))
 
 -- a child that drawn changes make
 pub record Child (drawn : Drawn) (clean : List Letter) (limits : LengthRange) : Type 0 where
@@ -254,8 +231,7 @@ module _ (one_index : OneIndex) where
       λ n. indels Deletion rates limits words (record { size = n; word = I.next }) in
       let shorter : Made limits longer.to
       (D (length_after Insertion I.changes (length written))) =
-      subst (λ (n : ℕ). Made limits longer.to (D n)) (sym len)
-      (indels-make Deletion words fits rates limits longer.to I.next longer.fits) in
+      rw len (indels-make Deletion words fits rates limits longer.to I.next longer.fits) in
       record {
         to = shorter.to;
         makes = Makes-append (points_from 0 clean text ++ I.changes)
@@ -276,9 +252,5 @@ module _ (one_index : OneIndex) where
       let child : Child (drawn_by_divide words k rates limits clean written) clean limits =
       drawn_by_divide-child words fits k rates limits clean written least most texts.one_length
       texts.within.least texts.within.greatest in
-      let changes : List Change = (drawn_by_divide words k rates limits clean written).changes in
-      let made : child_of parent (origin_of words k rates limits clean written parent)
-      ≡ Ok child.to = ap (λ (base : List Letter). text_after 1 changes base)
-      (written_of-clean one_index clean parent) ∙ child.makes.made 1 in
-      let P : Result (List Letter) ApplyStop → Type 0 = λ r. IsOkAnd r (IsLengthWithin limits) in
-      subst P (sym made) (record { least = child.least; greatest = child.greatest })
+      rw (written_of-clean one_index clean parent, child.makes.made 1)
+      (record { least = child.least; greatest = child.greatest })

@@ -1,5 +1,5 @@
 -- Points make a text of the clean one.
-use Rattle.std.proofs.Common.{◌≡◌, refl, sym, ap, subst, ℕ, ◌+◌, ◌<◌, Bool, true, false, cond, List, [], ◌∷◌, ◌++◌, length, set, arith, append_assoc, length-append, length-set}
+use Rattle.std.proofs.Common.{◌≡◌, refl, ap, ℕ, ◌+◌, ◌<◌, Bool, true, false, cond, List, [], ◌∷◌, ◌++◌, length, set, arith, append_assoc, length-append, length-set}
 use Rattle.std.specs.Bool.{Decides}
 use Rattle.std.proofs.lemmas.Grind.{common_steps}
 use Rattle.genome.specs.Genome.{IsGenome}
@@ -7,7 +7,7 @@ use Rattle.instruction_set.specs.declared.letter.Letter.{Letter}
 use Rattle.instruction_set.specs.Letter.{same_letter}
 use Rattle.mutations.specs.declared.change.Change.{Change}
 use Rattle.mutations.specs.declared.change.Change.TheVariants.{Point}
-use Rattle.mutations.specs.Change.{with_change, has_place, is_genome_length}
+use Rattle.mutations.specs.Change.{with_change, is_genome_length}
 use Rattle.mutations.specs.DivideErrors.{points_from}
 use Rattle.mutations.specs.Pass.{Makes}
 use Rattle.mutations.proofs.ChangeLemmas.{Makes-append, Makes-one, Makes-none}
@@ -30,34 +30,19 @@ genome-fits text genome = grind (arith, common_steps)
 pub points-make_next : (alike : Bool) (at : ℕ) (front clean text : List Letter)
     (was letter : Letter) (rest : List Change) → (alike ≡ true → was ≡ letter) → at ≡ length front
     → IsGenome (front ++ was ∷ clean)
-    → Makes rest ((front ++ letter ∷ []) ++ clean) ((front ++ letter ∷ []) ++ text)
+    → Makes rest (front ++ letter ∷ clean) (front ++ letter ∷ text)
     → Makes (cond alike rest (Point at letter ∷ rest)) (front ++ was ∷ clean)
     (front ++ letter ∷ text)
 points-make_next true at front clean text was letter rest agree place genome further =
-    let same : letter ≡ was = sym (agree refl) in
-    let here : Makes rest (front ++ letter ∷ clean) (front ++ letter ∷ text) =
-    subst (λ (x : List Letter). Makes rest (front ++ letter ∷ clean) x)
-    (append_assoc front (letter ∷ []) text)
-    (subst (λ (x : List Letter). Makes rest x ((front ++ letter ∷ []) ++ text))
-    (append_assoc front (letter ∷ []) clean) further) in
-    subst (λ (x : Letter). Makes rest (front ++ x ∷ clean) (front ++ letter ∷ text)) same here
+    rw (agree refl) further
 points-make_next false at front clean text was letter rest agree place genome further =
-    let here : Makes rest (front ++ letter ∷ clean) (front ++ letter ∷ text) =
-    subst (λ (x : List Letter). Makes rest (front ++ letter ∷ clean) x)
-    (append_assoc front (letter ∷ []) text)
-    (subst (λ (x : List Letter). Makes rest x ((front ++ letter ∷ []) ++ text))
-    (append_assoc front (letter ∷ []) clean) further) in
     let middle : set (front ++ was ∷ clean) at letter ≡ front ++ letter ∷ clean =
     rw place (set-middle front clean was letter) in
-    let placed : has_place (Point at letter) (length (front ++ was ∷ clean)) ≡ true =
-    (let inside : at < length (front ++ was ∷ clean) = simp length-append (omega arith) in
-    grind arith) in
+    let inside : at < length (front ++ was ∷ clean) = simp length-append (omega arith) in
     let fits : is_genome_length (length (with_change (Point at letter) (front ++ was ∷ clean)))
     ≡ true = rw length-set (genome-fits _ genome) in
-    let one : Makes (Point at letter ∷ []) (front ++ was ∷ clean) (front ++ letter ∷ clean) =
-    subst (λ (made : List Letter). Makes (Point at letter ∷ []) (front ++ was ∷ clean) made)
-    middle (Makes-one (Point at letter) (front ++ was ∷ clean) placed fits) in
-    Makes-append (Point at letter ∷ []) rest _ _ _ one here
+    Makes-append (Point at letter ∷ []) rest _ _ _
+    (Makes-one (Point at letter) (front ++ was ∷ clean) (grind arith) fits) (rw middle further)
 
 module _ (one_index : OneIndex) where
   -- the points of the rest of a text make it
@@ -68,16 +53,10 @@ module _ (one_index : OneIndex) where
   points-make at front [] (letter ∷ text) place same genome = absurd (omega arith)
   points-make at front (was ∷ clean) [] place same genome = absurd (omega arith)
   points-make at front (was ∷ clean) (letter ∷ text) place same genome =
-      let next : at + 1 ≡ length (front ++ letter ∷ []) =
-      omega (arith, length-append front (letter ∷ [])) in
-      let left : length clean ≡ length text = omega arith in
       let longer : length ((front ++ letter ∷ []) ++ clean) ≡ length (front ++ was ∷ clean) =
       simp length-append (omega arith) in
-      let further : IsGenome ((front ++ letter ∷ []) ++ clean) =
-      record {
-        least = omega (arith, genome.least, longer);
-        greatest = omega (arith, genome.greatest, longer);
-      } in
+      let others = points-make (at + 1) (front ++ letter ∷ []) clean text
+      (simp length-append (omega arith)) (omega arith)
+      (record { least = omega arith; greatest = omega arith }) in
       points-make_next (same_letter was letter) at front clean text was letter _
-      (one_index was letter).0
-      place genome (points-make (at + 1) (front ++ letter ∷ []) clean text next left further)
+      (one_index was letter).0 place genome (simp append_assoc at others)
