@@ -1,9 +1,10 @@
 -- The effect of each letter leaves a machine.
-use Rattle.std.proofs.Common.{◌≡◌, refl, sym, ◌∙◌, ap, subst, ℕ, ℤ, ◌+◌, ◌-◌, ◌*◌, ◌<◌, ◌≤◌, Bool, true, false, cond, ltb, Option, Some, None, unwrap_or, List, [], ◌∷◌, ◌++◌, length, set, replicate, All, arith, length-set, length-append, length-drop}
+use Rattle.std.proofs.Common.{◌≡◌, refl, sym, ◌∙◌, ap, subst, ℕ, ℤ, ◌+◌, ◌-◌, ◌*◌, ◌<◌, ◌≤◌, Bool, true, false, cond, Option, Some, None, unwrap_or, List, [], ◌∷◌, ◌++◌, length, set, replicate, All, arith, length-set, length-append, length-drop}
+use Rattle.std.proofs.lemmas.Bool.Decides.{nat_tests}
 use Rattle.std.proofs.lemmas.List.{length-replicate}
 use Rattle.std.proofs.lemmas.List.Elements.{All-nil, All-push, All-drop}
 use Rattle.instruction_set.specs.declared.letter.Letter.{Letter}
-use Rattle.instruction_set.specs.declared.letter.Letter.TheVariants.{NopA, NopB, NopC, IfNEqu, IfLess, IfLabel, MovHead, JmpHead, GetHead, SetFlow, ShiftR, ShiftL, Inc, Dec, Push, Pop, SwapStk, Swap, Add, Sub, Nand, HCopy, HAlloc, HDivide, Io, HSearch}
+use Rattle.instruction_set.specs.declared.letter.Letter.TheVariants.{NopA, NopB, NopC, IfNEqu, IfLess, IfLabel, MovHead, JmpHead, GetHead, SetFlow, Push, Pop, SwapStk, Swap, HCopy, HAlloc, HDivide, HSearch}
 use Rattle.label_search.specs.Template.{is_nop, last_ten}
 use Rattle.virtual_cpu.specs.declared.heads.Head.{Head}
 use Rattle.virtual_cpu.specs.declared.heads.Head.TheVariants.{Ip, Read, Write}
@@ -127,12 +128,6 @@ longer : {A : Type 0} (xs : List A) (extra : ℕ) (x : A)
 longer xs extra x =
     length-append xs (replicate extra x) ∙ ap (λ n. length xs + n) (length-replicate extra x)
 
--- where memory can grow, no allocation is pending and there is room
-not_pending : (pending room : Bool) → cond pending false room ≡ true → (pending ≡ false)
-    × (room ≡ true)
-not_pending true room can = absurd cc
-not_pending false room can = (refl, can)
-
 -- a machine that can allocate is still one once its memory has grown
 allocated : (m : Machine) → can_allocate m ≡ true → IsMachine m → IsMachine (with_allocation m)
 unfolding with_allocation
@@ -140,9 +135,8 @@ allocated m can h =
     let extra : ℕ = extra_places m in
     let size : length (m.memory ++ replicate extra NopA) ≡ length m.memory + extra =
     longer m.memory extra NopA in
-    let free : m.pending ≡ false = (not_pending m.pending (ltb (length m.memory) m.limit) can).0 in
-    let twice : length m.memory ≤ 2 * m.birth_length =
-    subst (λ (b : Bool). length m.memory ≤ cond b 6 2 * m.birth_length) free h.growth in
+    let free : m.pending ≡ false = grind (arith, nat_tests) in
+    let twice : length m.memory ≤ 2 * m.birth_length = rw free at h.growth in
     let few : extra ≤ 2 * length m.memory = omega arith in
     let room : length m.memory + extra ≤ m.limit = omega (arith, h.greatest) in
     let rest : (place : ℕ) → place < length m.memory
@@ -197,19 +191,12 @@ effect JmpHead m input copy h = advanced (after_jmp_head m) (jmp_head m h)
 effect GetHead m input copy h =
     advanced (after_get_head m) (with_registers (on_modifier m) _ (on_modifier-machine m h))
 effect SetFlow m input copy h = advanced (after_set_flow m) (set_flow m h)
-effect ShiftR m input copy h = advanced (after_shift_r m) (picked-machine m _ h)
-effect ShiftL m input copy h = advanced (after_shift_l m) (picked-machine m _ h)
-effect Inc m input copy h = advanced (after_inc m) (picked-machine m _ h)
-effect Dec m input copy h = advanced (after_dec m) (picked-machine m _ h)
 effect Push m input copy h = advanced (after_push m) (push m h)
 effect Pop m input copy h = advanced (after_pop m) (pop m h)
 effect SwapStk m input copy h = advanced (after_swap_stk m) (swap_stk m h)
 effect Swap m input copy h = advanced (after_swap m) (swap m h)
-effect Add m input copy h = advanced (after_add m) (picked-machine m _ h)
-effect Sub m input copy h = advanced (after_sub m) (picked-machine m _ h)
-effect Nand m input copy h = advanced (after_nand m) (picked-machine m _ h)
 effect HCopy m input copy h = advanced (after_h_copy m copy) (h_copy m copy h)
 effect HAlloc m input copy h = allocating (can_allocate m) m refl h
-effect Io m input copy h = advanced (after_io m input) (picked-machine m _ h)
 effect HSearch m input copy h =
     advanced (after_h_search m) (searched_for (on_template m) (template_of m) (on_template-machine m h))
+effect _ m input copy h = advanced (with_picked m _) (picked-machine m _ h)

@@ -9,48 +9,28 @@ use Rattle.label_search.specs.Site.{Site, letters_of}
 use Rattle.virtual_cpu.specs.Divide.{count_of}
 use Rattle.virtual_cpu.specs.SiteLists.{SiteLists, clean_of, executed_of, copied_of, fresh_site, fresh_lists, with_places, with_copy, lists_in}
 
--- lists that are equal, one by one
-same : (l l' c c' : List Letter) (e e' p p' : List Bool) (room : ℕ) → l ≡ l' → c ≡ c' → e ≡ e'
-    → p ≡ p'
-    → ◌≡◌ {A = SiteLists}
-    (record { letters = l; clean = c; executed = e; copied = p; room = room })
-    (record { letters = l'; clean = c'; executed = e'; copied = p'; room = room })
-same l l' c c' e e' p p' room letters clean executed copied =
-    rw (letters, clean, executed, copied) refl
-
 -- there are as many sites as letters
 pub length-seen : (sites : List Site) (room : ℕ) (lists : SiteLists) → lists_in sites room ≡ lists
     → length sites ≡ length lists.letters
 length-seen sites room lists view = sym (length-map sites (λ (s : Site). s.letter))
     ∙ ap (λ (l : SiteLists). length l.letters) view
 
--- the letters of fresh sites
-letters-fresh : (text : List Letter) → letters_of (map fresh_site text) ≡ text
-letters-fresh [] = refl
-letters-fresh (letter ∷ text) = ap (λ l. letter ∷ l) (letters-fresh text)
-
--- what was copied to fresh sites is their letters
-clean-fresh : (text : List Letter) → clean_of (map fresh_site text) ≡ text
-clean-fresh [] = refl
-clean-fresh (letter ∷ text) = ap (λ l. letter ∷ l) (clean-fresh text)
-
--- no fresh site was executed
-executed-fresh : (text : List Letter)
-    → executed_of (map fresh_site text) ≡ replicate (length text) false
-executed-fresh [] = refl
-executed-fresh (letter ∷ text) = ap (λ l. false ∷ l) (executed-fresh text)
-
--- none was copied to
-copied-fresh : (text : List Letter) → copied_of (map fresh_site text) ≡ replicate (length text) false
-copied-fresh [] = refl
-copied-fresh (letter ∷ text) = ap (λ l. false ∷ l) (copied-fresh text)
-
 -- fresh sites
+fresh-seen : (text : List Letter) (room : ℕ)
+    → lists_in (map fresh_site text) room ≡ fresh_lists text room
+fresh-seen [] room = refl
+fresh-seen (letter ∷ text) room = ap (λ (l : SiteLists). record {
+  letters = letter ∷ l.letters;
+  clean = letter ∷ l.clean;
+  executed = false ∷ l.executed;
+  copied = false ∷ l.copied;
+  room = l.room;
+}) (fresh-seen text room)
+
+-- sites that are fresh ones
 pub lists-fresh : (sites : List Site) (text : List Letter) (room : ℕ) → sites ≡ map fresh_site text
     → lists_in sites room ≡ fresh_lists text room
-lists-fresh sites text room made = ap (λ (s : List Site). lists_in s room) made
-    ∙ same _ _ _ _ _ _ _ _ room (letters-fresh text) (clean-fresh text) (executed-fresh text)
-    (copied-fresh text)
+lists-fresh sites text room made = rw made (fresh-seen text room)
 
 -- sites that are made fresh
 refreshed : (sites : List Site)
@@ -76,11 +56,7 @@ lists-set : (sites : List Site) (place : ℕ) (site : Site) (room : ℕ)
       copied = set (copied_of sites) place site.copied;
       room = room;
     })
-lists-set sites place site room = same _ _ _ _ _ _ _ _ room
-    (map-set (λ (s : Site). s.letter) sites place site)
-    (map-set (λ (s : Site). s.clean) sites place site)
-    (map-set (λ (s : Site). s.executed) sites place site)
-    (map-set (λ (s : Site). s.copied) sites place site)
+lists-set sites place site room = simp map-set
 
 module _ (sites : List Site) (place : ℕ) (site : Site) (room : ℕ) (lists : SiteLists)
     (view : lists_in sites room ≡ lists) (within : place < length lists.letters)
@@ -100,9 +76,12 @@ module _ (sites : List Site) (place : ℕ) (site : Site) (room : ℕ) (lists : S
       (record lists { executed = set lists.executed place true })
   lists-marked =
       lists-set sites place (record site { executed = true }) room
-      ∙ same _ _ _ _ _ _ _ _ room (unchanged (λ (s : Site). s.letter))
-      (unchanged (λ (s : Site). s.clean)) refl (unchanged (λ (s : Site). s.copied))
-      ∙ ap (λ (l : SiteLists). record l { executed = set l.executed place true }) view
+      ∙ rw (
+        unchanged (λ (s : Site). s.letter),
+        unchanged (λ (s : Site). s.clean),
+        unchanged (λ (s : Site). s.copied),
+      )
+      (ap (λ (l : SiteLists). record l { executed = set l.executed place true }) view)
 
   -- a letter is copied to the place
   pub lists-copied : (letter clean : Letter)
@@ -114,8 +93,8 @@ module _ (sites : List Site) (place : ℕ) (site : Site) (room : ℕ) (lists : S
       })) room) (with_copy lists place letter clean)
   lists-copied letter clean =
       lists-set sites place _ room
-      ∙ same _ _ _ _ _ _ _ _ room refl refl (unchanged (λ (s : Site). s.executed)) refl
-      ∙ ap (λ (l : SiteLists). with_copy l place letter clean) view
+      ∙ rw (unchanged (λ (s : Site). s.executed))
+      (ap (λ (l : SiteLists). with_copy l place letter clean) view)
 
 -- one thing of sites that are appended
 appended : {A : Type 0} (f : Site → A) (sites : List Site) (site : Site) (count : ℕ)
@@ -130,19 +109,14 @@ appended f sites site count = map-append f sites (replicate count site)
 pub lists-longer : (sites longer : List Site) (count room : ℕ)
     → longer ≡ sites ++ replicate count (fresh_site NopA)
     → ◌≡◌ {A = SiteLists} (lists_in longer room) (with_places (lists_in sites room) count)
-lists-longer sites longer count room made = ap (λ (s : List Site). lists_in s room) made
-    ∙ same _ _ _ _ _ _ _ _ room (appended (λ (s : Site). s.letter) sites (fresh_site NopA) count)
-    (appended (λ (s : Site). s.clean) sites (fresh_site NopA) count)
-    (appended (λ (s : Site). s.executed) sites (fresh_site NopA) count)
-    (appended (λ (s : Site). s.copied) sites (fresh_site NopA) count)
+lists-longer sites longer count room made = rw made (simp appended)
 
 -- one site more, of which a list says one thing
 pub pushed : {A : Type 0} (f : Site → A) (sites : List Site) (site : Site) (xs : List A) (at : ℕ)
     (d : A) → at < length xs → map f sites ≡ take at xs → f site ≡ get_or xs at d
     → map f (sites ++ site ∷ []) ≡ take (at + 1) xs
-pushed f sites site xs at d within so_far here = map_push f sites site
-    ∙ ap (λ l. l ++ f site ∷ []) so_far ∙ ap (λ x. take at xs ++ x ∷ []) here
-    ∙ sym (take_more xs at d within)
+pushed f sites site xs at d within so_far here =
+    rw (map_push, so_far, here, take_more xs at d within)
 
 -- sites of which four lists say all
 pub lists-whole : (sites : List Site) (letters clean : List Letter) (executed copied : List Bool)
@@ -157,17 +131,19 @@ pub lists-whole : (sites : List Site) (letters clean : List Letter) (executed co
       room = room;
     })
 lists-whole sites letters clean executed copied at room l c e p l-all c-all e-all p-all =
-    same _ _ _ _ _ _ _ _ room (l ∙ take_all at letters l-all) (c ∙ take_all at clean c-all)
-    (e ∙ take_all at executed e-all) (p ∙ take_all at copied p-all)
+    rw (
+      l ∙ take_all at letters l-all,
+      c ∙ take_all at clean c-all,
+      e ∙ take_all at executed e-all,
+      p ∙ take_all at copied p-all,
+    )
 
 -- one thing of the sites from one place up to another
 pub part : {A : Type 0} (f : Site → A) (shown sites : List Site) (seen : List A) (from count : ℕ)
     → shown ≡ sites → map f sites ≡ seen
     → map f (take count (drop from shown)) ≡ take count (drop from seen)
 part f shown sites seen from count is view =
-    ap (λ (s : List Site). map f (take count (drop from s))) is
-    ∙ sym (take-map f count (drop from sites)) ∙ ap (take count) (sym (drop-map f from sites))
-    ∙ ap (λ l. take count (drop from l)) view
+    rw (is, ← view, drop-map, take-map)
 
 -- sites that pass a test are counted by what the test gives of each
 pub counted : (f : Site → Bool) (sites : List Site) → count_by f sites ≡ count_of (map f sites)

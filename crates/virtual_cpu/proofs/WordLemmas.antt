@@ -1,7 +1,8 @@
 -- The numbers of a machine keep their 32 bits.
-use Rattle.std.proofs.Common.{◌≡◌, refl, ℕ, ℤ, zero, suc, pos, ◌+◌, ◌-◌, ◌<◌, ◌≤◌, Bool, true, false, cond, Option, Some, None, List, [], ◌∷◌, length, take, drop, replicate, All, arith, length-take}
+use Rattle.std.proofs.Common.{◌≡◌, refl, ℕ, ℤ, zero, suc, pos, ◌+◌, ◌-◌, ◌<◌, ◌≤◌, Bool, true, false, inl, inr, Option, Some, None, List, [], ◌∷◌, length, take, drop, replicate, All, arith, length-take}
 use Rattle.std.specs.Prelude.{FitsSigned, find, ◌-ℤ◌}
 use Rattle.std.specs.List.{range_with_len, take_while, prefix_len}
+use Rattle.std.proofs.lemmas.Bool.{cases_Bool}
 use Rattle.std.proofs.lemmas.Int.{ints}
 use Rattle.std.proofs.lemmas.List.{length-map}
 use Rattle.std.proofs.lemmas.List.FromFn.{length-range_with_len}
@@ -10,7 +11,7 @@ use Rattle.std.specs.Int.Signed.{mag_shr}
 use borrow.Author.Differences.{fits_in, read_fits}
 use Rattle.std.proofs.lemmas.List.Elements.{All-nil, All-cons, All-append, All-set, All-drop, All-take, All-replicate}
 use Rattle.instruction_set.specs.declared.letter.Letter.{Letter}
-use Rattle.instruction_set.specs.declared.letter.Letter.TheVariants.{NopA, NopB, NopC, IfNEqu, IfLess, IfLabel, MovHead, JmpHead, GetHead, SetFlow, ShiftR, ShiftL, Inc, Dec, Push, Pop, SwapStk, Swap, Add, Sub, Nand, HCopy, HAlloc, HDivide, Io, HSearch}
+use Rattle.instruction_set.specs.declared.letter.Letter.TheVariants.{NopA, NopB, NopC, IfNEqu, IfLess, IfLabel, MovHead, JmpHead, GetHead, SetFlow, ShiftR, Push, Pop, SwapStk, Swap, HCopy, HAlloc, HDivide, Io, HSearch}
 use Rattle.label_search.specs.Template.{is_nop, complements_of, letter_after, letters_after, template_after}
 use Rattle.label_search.specs.Search.{first_match, occurs_at}
 use Rattle.virtual_cpu.specs.declared.registers.Register.{Register}
@@ -147,21 +148,15 @@ picked-words m number h word =
 held : (m : Machine) (register : Register) → HoldsWords m → IsWord (value m register)
 held m register h = register-words (on_modifier m) register (modifier-words m h)
 
--- the first place, or one found behind it, is before the end
-first-or : (here : Bool) (low n step : ℕ) (others : Option ℕ)
-    → (others ≡ Some step → step < low + 1 + n) → cond here (Some low) others ≡ Some step
-    → step < low + suc n
-first-or true low n step others further found = let same : low ≡ step = cc in omega arith
-first-or false low n step others further found =
-    let lt : step < low + 1 + n = further found in omega arith
-
 -- a number that is found in a range is below the end of the range
 pub found-below : (test : ℕ → Bool) (low n step : ℕ)
     → find test (range_with_len low n) ≡ Some step → step < low + n
 found-below test low zero step found = absurd cc
-found-below test low (suc n) step found =
-    first-or (test low) low n step (find test (range_with_len (low + 1) n))
-    (found-below test (low + 1) n step) found
+found-below test low (suc n) step found = elim (cases_Bool (test low)) [
+  | inl here ↦ let same : Some low ≡ Some step = rw here at found in
+      let is : low ≡ step = cc in omega arith
+  | inr not ↦ let lt = found-below test (low + 1) n step (rw not at found) in omega arith
+]
 
 -- each head is at a place below 8192
 place-small : (m : Machine) → IsMachine m → (head : Head) → head_place m.heads head < 8192
@@ -264,14 +259,6 @@ effect-words SetFlow m input copy is h word =
 effect-words ShiftR m input copy is h word =
     advanced-words (after_shift_r m)
     (picked-words m _ h (shifted (value m (picked m)) (held m (picked m) h)))
-effect-words ShiftL m input copy is h word =
-    advanced-words (after_shift_l m) (picked-words m _ h (cast _))
-effect-words Inc m input copy is h word = advanced-words (after_inc m) (picked-words m _ h (cast _))
-effect-words Dec m input copy is h word = advanced-words (after_dec m) (picked-words m _ h (cast _))
-effect-words Add m input copy is h word = advanced-words (after_add m) (picked-words m _ h (cast _))
-effect-words Sub m input copy is h word = advanced-words (after_sub m) (picked-words m _ h (cast _))
-effect-words Nand m input copy is h word =
-    advanced-words (after_nand m) (picked-words m _ h (cast _))
 effect-words Io m input copy is h word =
     advanced-words (after_io m input) (picked-words m input h word)
 effect-words Swap m input copy is h word =
@@ -309,3 +296,5 @@ effect-words HSearch m input copy is h word =
     advanced-words (after_h_search m)
     (search_for-words (on_template m) (template_of m) (on_template-machine m is)
     (template-words m h) (template-few m))
+effect-words _ m input copy is h word =
+    advanced-words (with_picked m _) (picked-words m _ h (cast _))
