@@ -1,12 +1,12 @@
 -- The child of a divide.
-use Rattle.std.proofs.Common.{◌≡◌, ℕ, ◌-◌, ◌≤◌, List, length, drop, arith, length-take, length-drop, Result, Ok, Err, IfOk, OnOk, sym, ◌∙◌, ap}
+use Rattle.std.proofs.Common.{◌≡◌, ℕ, ◌-◌, ◌≤◌, List, length, drop, arith, length-take, length-drop, Result, Ok, Err, IfOk, OnOk}
 use Rattle.instruction_set.specs.declared.letter.Letter.{Letter}
 use Rattle.divide_rules.specs.declared.ask.DivideAsk.{DivideAsk}
 use Rattle.mutations.specs.BirthRecord.{BirthRecord, child_of, origin_of, after_birth}
 use Rattle.virtual_cpu.specs.Divide.{child_part}
 use Rattle.organism.specs.SettingNumbers.{SettingNumbers}
 use Rattle.organism.specs.OrganismState.{OrganismState}
-use Rattle.organism.specs.UpdateLife.{clean_text, written_text, child_range, birth_record, after_child, letters_made, child_letters}
+use Rattle.organism.specs.UpdateLife.{clean_text, written_text, child_range, birth_record, after_child, child_letters}
 
 -- what follows for each value
 pub IfOk-map : {A : Type 0} {E : Type 0} (P Q : A → Type 0) → ((a : A) → P a → Q a)
@@ -44,11 +44,7 @@ pub birth_record-of : (settings : SettingNumbers) (words : ℕ → ℕ) (k : ℕ
     ≡ birth_record settings words k o ask
 unfolding birth_record
 birth_record-of settings words k o ask clean written parent same_clean same_written same_parent =
-    let origin : List Letter → List Letter → List Letter → BirthRecord =
-    origin_of words k settings.rates (child_range settings.rules) in
-    ap (λ x. origin x written parent) same_clean
-    ∙ ap (λ x. origin (clean_text o ask) x parent) same_written
-    ∙ ap (λ x. origin (clean_text o ask) (written_text o ask) x) same_parent
+    rw (same_clean, same_written, same_parent)
 
 -- the number of the word after those of the birth
 pub after_child-of : (settings : SettingNumbers) (words : ℕ → ℕ) (k : ℕ) (o : OrganismState)
@@ -58,9 +54,7 @@ pub after_child-of : (settings : SettingNumbers) (words : ℕ → ℕ) (k : ℕ)
     ≡ after_child settings words k o ask
 unfolding after_child
 after_child-of settings words k o ask clean written same_clean same_written =
-    let after : List Letter → List Letter → ℕ =
-    after_birth words k settings.rates (child_range settings.rules) in
-    ap (λ x. after x written) same_clean ∙ ap (λ x. after (clean_text o ask) x) same_written
+    rw (same_clean, same_written)
 
 -- the letters that the record makes of the parent's genome
 pub child_letters-of : (settings : SettingNumbers) (words : ℕ → ℕ) (k : ℕ) (o : OrganismState)
@@ -69,8 +63,7 @@ pub child_letters-of : (settings : SettingNumbers) (words : ℕ → ℕ) (k : �
     → made ≡ child_letters settings words k o ask
 unfolding child_letters
 child_letters-of settings words k o ask parent made birth same_parent same_birth makes =
-    sym (ap letters_made makes) ∙ ap (λ x. letters_made (child_of x birth)) same_parent
-    ∙ ap (λ x. letters_made (child_of o.genome x)) same_birth
+    rw (← same_birth, ← same_parent, makes)
 
 -- how long the child's part of a list is
 pub child_part-length : (places : List Letter) (read end : ℕ) → end ≤ length places

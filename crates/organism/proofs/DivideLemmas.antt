@@ -1,5 +1,6 @@
 -- A viable divide of an organism.
-use Rattle.std.proofs.Common.{◌≡◌, ℕ, ◌≤◌, Bool, true, false, cond, eqb, length, ap, arith}
+use Rattle.std.proofs.Common.{◌≡◌, ℕ, ◌≤◌, length, ap, arith}
+use Rattle.std.proofs.lemmas.Bool.Decides.{nat_tests}
 use Rattle.divide_rules.specs.declared.ask.DivideAsk.{DivideAsk}
 use Rattle.divide_rules.specs.Rules.{RuleNumbers}
 use Rattle.divide_rules.specs.Viability.{IsViable}
@@ -19,16 +20,9 @@ pub question-end : (m : Machine) (ask : DivideAsk) → ask ≡ divide_question m
 unfolding divide_question
 question-end m ask is = ap (λ (a : DivideAsk). a.end) is
 
--- of two numbers within a bound, the one that a test picks is within it
-either-le : (test : Bool) (one other most : ℕ) → one ≤ most → other ≤ most
-    → cond test one other ≤ most
-either-le true one other most first second = first
-either-le false one other most first second = second
-
 -- the child's part ends in memory
 pub end-within : (m : Machine) → IsMachine m → end_of m ≤ length m.memory
-end-within m h = either-le (eqb m.heads.write 0) (length m.memory) m.heads.write (length m.memory)
-    (omega arith) (omega (arith, h.write))
+end-within m h = grind (arith, nat_tests)
 
 -- a divide that breaks no rule is a divide of this organism
 pub viable-divide : (o : OrganismState) (ask : DivideAsk) (genome_length : ℕ) (rules : RuleNumbers)

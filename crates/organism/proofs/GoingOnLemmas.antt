@@ -1,5 +1,5 @@
 -- A life that goes on by a step.
-use Rattle.std.proofs.Common.{◌&&◌, ◌∙◌, ◌-◌, ◌<◌, ◌^◌, Bool, true, false, cond, refl, ◌≡◌, ℕ, ◌+◌, ◌*◌, ◌≤◌, length, arith, ap, sym, subst}
+use Rattle.std.proofs.Common.{◌∙◌, ◌-◌, ◌<◌, ◌^◌, ◌≡◌, ℕ, ◌+◌, ◌*◌, ◌≤◌, length, arith, ap, sym, subst}
 use Rattle.organism.specs.Newborns.{MeritsFit, LengthsFit}
 use Rattle.organism.specs.GoingOn.{LifeNow, GoesOn}
 use Rattle.std.specs.Prelude.{◌==◌}
@@ -40,13 +40,4 @@ goes_on-quiet settings old new age merit genome words births = record {
 -- an organism is old just where it has the age of death that it had at the start
 pub old-at : (settings : SettingNumbers) (start now : OrganismState) → now.genome ≡ start.genome
     → now.age < 2 ^ 64 - 1 → (now.age == age_of_death settings start) ≡ is_old settings now
-old-at settings start now genome young = go settings.death where
-  -- this age is not the one that stands for no death
-  never : (now.age == 2 ^ 64 - 1) ≡ false
-  never = grind (arith, common_steps)
-
-  -- with death on or off, it has the age of death just where it is old
-  go : (death : Bool) → (now.age == cond death (settings.age_limit * length start.genome)
-      (2 ^ 64 - 1)) ≡ (death && (now.age == settings.age_limit * length now.genome))
-  go true = rw genome refl
-  go false = never
+old-at settings start now genome young = rw genome (grind (arith, common_steps))

@@ -1,5 +1,5 @@
 -- What holds of an organism through its life.
-use Rattle.std.proofs.Common.{◌≡◌, refl, sym, ◌∙◌, subst, ℕ, zero, suc, ◌+◌, ◌-◌, ◌<◌, ◌≤◌, ◌^◌, Option, Some, None, List, [], ◌∷◌, length, Result, Ok, Err, IsOkAnd, arith, length-append}
+use Rattle.std.proofs.Common.{◌≡◌, refl, sym, ◌∙◌, add-one, ℕ, zero, suc, ◌+◌, ◌-◌, ◌<◌, ◌≤◌, ◌^◌, Option, Some, None, List, [], ◌∷◌, length, Result, Ok, Err, IsOkAnd, arith, length-append}
 use Rattle.std.specs.List.{All}
 use Rattle.std.proofs.lemmas.List.Elements.{All-nil, All-push}
 use Rattle.instruction_set.specs.declared.letter.Letter.{Letter}
@@ -109,12 +109,9 @@ concluded : LowerLaws → (settings : SettingNumbers) (words : ℕ → ℕ) → 
     → (s : LifeState) (told : Outcome) → IsSoundOrganism s.organism
     → OnViable told (IsAsked settings.rules s.organism)
     → Continues settings s (after_outcome settings words s told)
-concluded laws settings words fits s outcome.Nothing h asked = unchanged settings s h
-concluded laws settings words fits s (outcome.Task task) h asked = unchanged settings s h
-concluded laws settings words fits s (outcome.Refused rule found bound) h asked =
-    unchanged settings s h
 concluded laws settings words fits s (outcome.Viable ask) h asked =
     divided laws settings words fits s ask h asked
+concluded laws settings words fits s _ h asked = unchanged settings s h
 
 -- a life that goes on by a step
 lived-next : LowerLaws → (settings : SettingNumbers) → AreRules settings.rules → (words : ℕ → ℕ)
@@ -137,18 +134,13 @@ lived-next laws settings are words fits start steps s h =
     concluded laws settings words fits between (life_step s.organism copy settings.rules).1
     told.sound told.asked in
     let genome : between.organism.genome ≡ start.genome = told.genome ∙ h.genome in
-    let P : List Letter → Type 0 = λ parent. All (IsBornOf parent settings.rules) s.newborns in
-    let Q : List Letter → Type 0 =
-    λ parent. All (IsBornOf parent settings.rules)
-    (after_outcome settings words between (life_step s.organism copy settings.rules).1).newborns
-    in
     record {
       sound = more.sound;
       genome = more.genome ∙ genome;
       inputs = more.inputs ∙ told.inputs ∙ h.inputs;
       age = omega (arith, more.age, told.age, h.age);
       few = omega (arith, more.few, h.few);
-      newborns = subst Q genome (more.newborns (subst P (sym genome) h.newborns));
+      newborns = rw genome at (more.newborns (rw genome h.newborns));
     }
 
 -- what holds of a sound organism before its first step
@@ -168,23 +160,11 @@ lived-all : LowerLaws → (settings : SettingNumbers) → AreRules settings.rule
     → ((n : ℕ) → words n < 2 ^ 32) → (start : OrganismState) → IsSoundOrganism start → (steps : ℕ)
     → HasLived settings start steps (life_state_after settings words (beginning start) steps)
 lived-all laws settings are words fits start h zero =
-    subst (λ (s : LifeState). HasLived settings start 0 s)
-    (sym (state_after-zero settings words (beginning start))) (lived-none settings start h)
+    rw (state_after-zero settings words (beginning start)) (lived-none settings start h)
 lived-all laws settings are words fits start h (suc steps) =
-    let before : HasLived settings start steps
-    (life_state_after settings words (beginning start) steps) =
-    lived-all laws settings are words fits start h steps in
-    let next : HasLived settings start (steps + 1)
-    (after_step settings words (life_state_after settings words (beginning start) steps)) =
-    lived-next laws settings are words fits start steps _ before in
-    let here : HasLived settings start (steps + 1)
-    (life_state_after settings words (beginning start) (steps + 1)) =
-    subst (λ (s : LifeState). HasLived settings start (steps + 1) s)
-    (sym (state_after-next settings words (beginning start) steps)) next in
-    let one_more : steps + 1 ≡ suc steps = omega arith in
-    subst (λ (n : ℕ). HasLived settings start n
-    (life_state_after settings words (beginning start) n))
-    one_more here
+    let next = lived-next laws settings are words fits start steps _
+    (lived-all laws settings are words fits start h steps) in
+    rw (← state_after-next settings words (beginning start) steps, add-one) at next
 
 -- no life has more than its steps
 fewer : (settings : SettingNumbers) (start : OrganismState) (some steps : ℕ) (now : LifeState)

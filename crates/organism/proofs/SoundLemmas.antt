@@ -19,7 +19,7 @@ use Rattle.mutations.specs.ChildTexts.{IsLengthWithin}
 use Rattle.mutations.specs.DrawnRecords.{OfDrawnRecords}
 use Rattle.mutations.specs.RecordForm.{HasRecordForm}
 use Rattle.virtual_cpu.specs.declared.step_answer.StepAnswer.{StepAnswer}
-use Rattle.virtual_cpu.specs.declared.step_answer.StepAnswer.TheVariants.{Plain, Copied, Output, Asks, Allocated}
+use Rattle.virtual_cpu.specs.declared.step_answer.StepAnswer.TheVariants.{Output, Asks}
 use Rattle.virtual_cpu.specs.Machine.{Machine, IsMachine, fresh_machine}
 use Rattle.virtual_cpu.specs.Divide.{end_of, parent_part, divide_question}
 use Rattle.virtual_cpu.specs.Words.{HoldsWords}
@@ -125,9 +125,6 @@ followed : LowerLaws → (rules : RuleNumbers) → AreRules rules
     → (o : OrganismState) (did : StepAnswer)
     → o.read < o.age → AsksOf o.machine did → IsSoundOrganism o
     → Told rules o (after_did o rules did)
-followed laws rules are o Plain before asks h = plain rules o h
-followed laws rules are o Copied before asks h = plain rules o h
-followed laws rules are o Allocated before asks h = plain rules o h
 followed laws rules are o (Output value) before asks h = put_out rules o value before h
 followed laws rules are o (Asks ask) before asks h = record {
   sound = h;
@@ -141,6 +138,7 @@ followed laws rules are o (Asks ask) before asks h = record {
         viable = laws.viable ask (length o.genome) rules is_viable;
       });
 }
+followed laws rules are o _ before asks h = plain rules o h
 
 -- an input has 32 bits
 cast : (n : ℕ) → FitsSigned w32 (cast_signed w32 n)
@@ -155,12 +153,10 @@ stepped laws rules are o copy h =
     let machine : Machine = (step o.machine (next_input o) copy).0 in
     let kept : KeepsLimits o.machine machine = laws.keeps o.machine (next_input o) copy in
     let sound : IsSoundOrganism (older o machine) = record {
-      organism =
-          record {
-            birth_length = kept.birth_length ∙ h.organism.birth_length;
-            read =
-                omega (arith, h.organism.read);
-          };
+      organism = record {
+        birth_length = kept.birth_length ∙ h.organism.birth_length;
+        read = omega (arith, h.organism.read);
+      };
       machine = laws.steps o.machine (next_input o) copy h.machine;
       words = laws.holds o.machine (next_input o) copy h.machine h.words
           (cast (slice_index_or o.inputs (o.read % 3) 0));

@@ -57,8 +57,7 @@ pub state-next : (settings : SettingNumbers) (words same : ℕ → ℕ) (start n
     (step : ℕ) → now ≡ life_state_after settings words start step → same ≡ words
     → next ≡ after_step settings same now → next ≡ life_state_after settings words start (step + 1)
 state-next settings words same start now next step here alike stepped =
-    stepped ∙ ap (λ w. after_step settings w now) alike ∙ ap (after_step settings words) here
-    ∙ sym (state_after-next settings words start step)
+    rw (stepped, alike, here, state_after-next settings words start step)
 
 -- whether this state is a death
 pub dies-now : (settings : SettingNumbers) (words : ℕ → ℕ) (start next : LifeState) (step : ℕ)
