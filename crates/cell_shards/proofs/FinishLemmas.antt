@@ -1,5 +1,5 @@
 -- Jobs that have run, in order of their numbers.
-use Rattle.std.proofs.Common.{◌≡◌, ◌∙◌, ℕ, ◌<◌, ◌++◌, [], ◌∷◌, All, List, ap, arith, get_or, inl, inr, length, length-append, slice_get, subst, sym}
+use Rattle.std.proofs.Common.{◌≡◌, ◌∙◌, ℕ, ◌<◌, ◌++◌, [], ◌∷◌, All, List, ap, arith, get_or, inl, inr, length, length-append, slice_get, sym}
 use Rattle.std.proofs.lemmas.Bool.{cases_lt}
 use Rattle.std.proofs.lemmas.List.{get_or_append_left, get_or_at}
 use Rattle.std.proofs.lemmas.List.Elements.{All-head, All-tail}
@@ -27,15 +27,12 @@ pub Gathered-more : (jobs : List Job) (all left rest : List Done) (one : Done)
     → Gathered jobs all rest next
 Gathered-more jobs all left rest one first next is number more so_far round run =
     let before = so_far round run in
-    let runs : All (HasRun round jobs) (one ∷ rest) =
-    subst (All (HasRun round jobs)) is before.0 in
+    let runs : All (HasRun round jobs) (one ∷ rest) = rw is at before.0 in
     let here = All-head (HasRun round jobs) one rest runs in (
       All-tail (HasRun round jobs) one rest runs,
       λ place job end within. elim (cases_lt place (length first)) [
         | inl below ↦
-            subst (λ (f : Finished). IsFinished round (get_or jobs place job) f)
-            (sym (ap (λ (all : List Finished). get_or all place end) more
-            ∙ get_or_append_left first (one.finished ∷ []) end place below))
+            rw (more, get_or_append_left first (one.finished ∷ []) end place below)
             (before.1 place job end below)
         | inr from ↦
             let last : place ≡ length first = omega (
@@ -49,13 +46,8 @@ Gathered-more jobs all left rest one first next is number more so_far round run 
             slice_get_within jobs one.number here.0 here.1 in
             let its : here.0 ≡ get_or jobs place job =
             same_Some here.0 (get_or jobs place job)
-            (sym here.1 ∙ ap (λ (n : ℕ). slice_get jobs n) (number ∙ sym last)
-            ∙ slice_get-get_or jobs place job (omega (arith, there, number, last))) in
-            let it : one.finished ≡ get_or next place end =
-            sym (ap (λ (all : List Finished). get_or all place end) more
-            ∙ get_or_at first one.finished [] end place (sym last)) in
-            subst (λ (f : Finished). IsFinished round (get_or jobs place job) f) it
-            (subst (λ (j : Job). IsFinished round j one.finished) its here.2)
+            (sym here.1 ∙ ap (slice_get jobs) (number ∙ sym last) ∙ slice_get-get_or jobs place job (omega (arith, there, number, last))) in
+            rw (more, get_or_at first one.finished [] end place (sym last), ← its) here.2
       ],
     )
 

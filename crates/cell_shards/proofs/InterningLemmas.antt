@@ -32,11 +32,7 @@ pub births-more : (deliveries next : List Delivered) (d : Delivered) (birth : �
     (rest left : List (ℕ × NewbornValue)) → next ≡ deliveries ++ d ∷ [] → birth_of d ≡ birth
     → left ≡ birth ∷ rest → map birth_of next ++ rest ≡ map birth_of deliveries ++ left
 births-more deliveries next d birth rest left is same taken =
-    ap (λ ds. map birth_of ds ++ rest) is
-    ∙ ap (λ bs. bs ++ rest) (map-append birth_of deliveries (d ∷ []))
-    ∙ append_assoc (map birth_of deliveries) (birth_of d ∷ []) rest
-    ∙ ap (λ b. map birth_of deliveries ++ b ∷ rest) same
-    ∙ ap (λ bs. map birth_of deliveries ++ bs) (sym taken)
+    rw (is, taken, ← same, map-append birth_of deliveries (d ∷ []), append_assoc)
 
 -- before any newborn
 pub HasInterned-none : (seat : SeatValue) (births : List Delivered) → births ≡ []
@@ -63,16 +59,14 @@ module _ (seen : (before after : SeatValue) (call : Call) → MakesCall before a
   HasInterned-more old now new births next d so_far bank share made numbered is =
       let begins : IsPrefix now.seen new.seen = seen now new (call_for d) made in
       let last = entry made.number (call_for d) in
-      let whole : HasInterned old new (births ++ d ∷ []) = record {
+      rw is (record {
         bank = bank ∙ so_far.bank;
         share = share ∙ so_far.share;
         seen = IsPrefix-trans old.seen now.seen new.seen so_far.seen begins;
         calls = so_far.calls ++ last ∷ [];
-        own = made.own ∙ ap (λ calls. calls ++ last ∷ []) so_far.own
-            ∙ append_assoc (own_calls_of old) so_far.calls (last ∷ []);
+        own = made.own ∙ rw (so_far.own, append_assoc);
         interned = map-append (λ (call : Entry). call.call) so_far.calls (last ∷ [])
-            ∙ ap (λ calls. calls ++ call_for d ∷ []) so_far.interned
-            ∙ sym (map-append call_for births (d ∷ []));
+            ∙ rw (so_far.interned, map-append call_for births (d ∷ []));
         numbers = All-push (IsNumbered new.seen) births d
             (All-weaker (IsNumbered now.seen) (IsNumbered new.seen)
             (λ other at. record {
@@ -81,5 +75,4 @@ module _ (seen : (before after : SeatValue) (call : Call) → MakesCall before a
               small = at.small;
             }) births so_far.numbers)
             numbered;
-      } in
-      subst (HasInterned old new) (sym is) whole
+      })

@@ -56,9 +56,8 @@ cell-next : (start cells : List (Option OrganismState)) (lives : List OrganismLi
     → cells ≡ map left_in lives ++ drop n start → get_or cells n d ≡ get_or start n d
 cell-next start cells lives n d long within here =
     let front : length (map left_in lives) ≡ n = length-map lives left_in ∙ long in
-    ap (λ (xs : List (Option OrganismState)). get_or xs n d)
-    (here ∙ ap (λ xs. map left_in lives ++ xs) (drop_more start n d within))
-    ∙ get_or_at (map left_in lives) (get_or start n d) (drop (n + 1) start) d n front
+    rw (here, drop_more start n d within)
+    (get_or_at (map left_in lives) (get_or start n d) (drop (n + 1) start) d n front)
 
 -- the cells where one more has lived
 cells-push : (start cells : List (Option OrganismState)) (lives : List OrganismLife) (l : OrganismLife)
@@ -66,11 +65,8 @@ cells-push : (start cells : List (Option OrganismState)) (lives : List OrganismL
     → set cells n (left_in l) ≡ map left_in (lives ++ l ∷ []) ++ drop (n + 1) start
 cells-push start cells lives l n long within here =
     let front : length (map left_in lives) ≡ n = length-map lives left_in ∙ long in
-    ap (λ (xs : List (Option OrganismState)). set xs n (left_in l))
-    (here ∙ ap (λ xs. map left_in lives ++ xs) (drop_more start n None within))
-    ∙ set_at (map left_in lives) (get_or start n None) (drop (n + 1) start) (left_in l) n front
-    ∙ sym (append_assoc (map left_in lives) (left_in l ∷ []) (drop (n + 1) start))
-    ∙ ap (λ xs. xs ++ drop (n + 1) start) (sym (map-append left_in lives (l ∷ [])))
+    rw (here, drop_more start n None within, map-append, append_assoc)
+    (set_at (map left_in lives) (get_or start n None) (drop (n + 1) start) (left_in l) n front)
 
 -- who stands in the next cell is as young as at the start
 pub HaveLived-next : (round : RoundNumbers) (part : Part) (n : ℕ)
@@ -107,20 +103,13 @@ module _ {round : RoundNumbers} {part : Part} {n : ℕ} {cells : List (Option Or
       map-range_with_len_more (shard_life_at round part) 0 n n (omega arith)
       ∙ ap (λ x. lives ++ x ∷ []) is in
       record {
-        cells_are = ap (set cells n) gone
-            ∙ cells-push part.cells cells lives l n size within so_far.cells_are
-            ∙ ap (λ ls. map left_in ls ++ drop (n + 1) part.cells) (sym more);
-        standings_are = told
-            ∙ (λ i. so_far.standings_are i ++ standing_in (gone i) ∷ [])
-            ∙ sym (map-append standing_in (map left_in lives) (left_in l ∷ []))
-            ∙ ap (map standing_in) (sym (map-append left_in lives (l ∷ [])))
-            ∙ ap (λ ls. map standing_in (map left_in ls)) (sym more);
-        births_are = born ∙ ap (λ bs. bs ++ newborns_in (cell, l)) so_far.births_are
-            ∙ sym (told-push newborns_in part.first lives l cell place)
-            ∙ ap (births_from part.first) (sym more);
-        dead_are = buried ∙ ap (λ ds. ds ++ dead_in (cell, l)) so_far.dead_are
-            ∙ sym (told-push dead_in part.first lives l cell place)
-            ∙ ap (deaths_from part.first) (sym more);
+        cells_are =
+            rw (gone, more) (cells-push part.cells cells lives l n size within so_far.cells_are);
+        standings_are = rw (told, so_far.standings_are, gone, more) (simp map-append);
+        births_are =
+            rw (born, so_far.births_are, more, told-push newborns_in part.first lives l cell place);
+        dead_are =
+            rw (buried, so_far.dead_are, more, told-push dead_in part.first lives l cell place);
       }
 
 -- a job is finished where all its cells have lived and its seat has interned their newborns
@@ -137,15 +126,11 @@ IsFinished-lived round job n {cells = cells} all lived interned first same told 
     let lives : first_lives round part n ≡ shard_lives_of round part =
     ap (first_lives round part) all in
     let left : cells ≡ map left_in (shard_lives_of round part) =
-    lived.cells_are ∙ ap (λ rest. map left_in (first_lives round part n) ++ rest)
-    (drop_all n job.cells (omega (arith, all)))
-    ∙ append-nil (map left_in (first_lives round part n)) ∙ ap (map left_in) lives in
+    rw (lived.cells_are, drop_all n job.cells (omega (arith, all)), append-nil, lives) in
     record {
       first = first;
       cells = same ∙ left;
-      standings = told ∙ lived.standings_are
-          ∙ ap (λ lives. map standing_in (map left_in lives)) lives
-          ∙ sym (ap (map standing_in) (same ∙ left));
+      standings = rw (told, lived.standings_are, same, left, lives);
       births = lived.births_are ∙ ap (births_from job.first) lives;
       dead = lived.dead_are ∙ ap (deaths_from job.first) lives;
       seat = interned;

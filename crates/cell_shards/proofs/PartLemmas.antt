@@ -1,5 +1,5 @@
 -- Cells that lie side by side, in two parts.
-use Rattle.std.proofs.Common.{◌≡◌, ◌∙◌, ap, ap₂, refl, sym, ℕ, zero, suc, ◌+◌, ◌-◌, ◌<◌, Option, None, List, [], ◌∷◌, ◌++◌, length, map, get_or, arith, add-zero, append-nil, append_assoc, length-append}
+use Rattle.std.proofs.Common.{◌≡◌, ◌∙◌, ap, refl, sym, ℕ, zero, suc, ◌+◌, ◌-◌, ◌<◌, Option, None, List, [], ◌∷◌, ◌++◌, length, map, get_or, arith, add-zero, append-nil, append_assoc, length-append}
 use Rattle.std.specs.List.{range_with_len, enumerate_from, flat_map}
 use Rattle.std.proofs.lemmas.Grind.{flat_map-append}
 use Rattle.std.proofs.lemmas.List.{get_or_append_left, get_or-append_right}
@@ -14,9 +14,7 @@ enumerate_from-append : {X : Type 0} (k : ℕ) (xs ys : List X)
 enumerate_from-append k [] ys = ap (λ (n : ℕ). enumerate_from n ys) (sym (add-zero k))
 enumerate_from-append k (x ∷ xs) ys =
     let next : k + 1 + length xs ≡ k + suc (length xs) = omega arith in
-    ap (λ rest. (k, x) ∷ rest)
-    (enumerate_from-append (k + 1) xs ys
-    ∙ ap (λ (n : ℕ). enumerate_from (k + 1) xs ++ enumerate_from n ys) next)
+    rw (enumerate_from-append (k + 1) xs ys, next)
 
 module _ {X : Type 0} (told : ℕ × OrganismLife → List X) where
   -- what is told of these lives, whose cells go on from the first one
@@ -36,9 +34,7 @@ module _ {X : Type 0} (told : ℕ × OrganismLife → List X) where
       → first + length lives ≡ cell
       → all_told first (lives ++ l ∷ []) ≡ all_told first lives ++ told (cell, l)
   told-push first lives l cell place =
-      told-append first lives (l ∷ [])
-      ∙ ap (λ more. all_told first lives ++ more) (append-nil (told (first + length lives, l)))
-      ∙ ap (λ (k : ℕ). all_told first lives ++ told (k, l)) place
+      rw (told-append first lives (l ∷ []), append-nil (told (first + length lives, l)), place)
 
 -- functions that agree on two ranges
 map_range-agree : {X : Type 0} (f g : ℕ → X) (a b n : ℕ) → ((k : ℕ) → k < n → f (a + k) ≡ g (b + k))
@@ -97,8 +93,7 @@ lives_of-append round first cells others slices more same =
     let slot = get_or-append_right cells others n (0 + n + k) None refl (omega arith)
     ∙ ap (λ (j : ℕ). get_or others j None) from in
     λ i. shard_life_of round (place i) (steps i) (slot i)) in
-    ap (λ (k : ℕ). map whole (range_with_len 0 k)) (length-append cells others)
-    ∙ map_range-split whole 0 n m ∙ ap₂ (λ xs ys. xs ++ ys) left right
+    rw (length-append cells others, map_range-split whole 0 n m, left, right)
 
 -- there is a life for each cell
 pub length-lives_of : (round : RoundNumbers) (first : ℕ) (cells : List (Option OrganismState))

@@ -1,5 +1,5 @@
 -- Each step on the table of a pool keeps its rule.
-use Rattle.std.proofs.Common.{◌≡◌, ◌≢◌, ◌∙◌, ℕ, zero, suc, ◌<◌, List, [], ◌∷◌, ◌++◌, Option, Some, None, ap, arith, get_or, length, map, refl, replicate, set, slice_get, subst, sym, ⊎_elim}
+use Rattle.std.proofs.Common.{◌≡◌, ◌≢◌, ◌∙◌, ℕ, zero, suc, ◌<◌, List, [], ◌∷◌, Option, Some, None, ap, arith, get_or, length, map, refl, replicate, set, slice_get, sym, ⊎_elim}
 use mathlib.Core.Option.{none, some, some-injective, some-ne-none}
 use mathlib.Core.Logic.{dite}
 use native.Mathlib.Decide.{ℕ_discrete}
@@ -29,9 +29,7 @@ pub begins : (jobs : List Job) (words : List ℕ) (slots : List (Option Job))
 begins jobs words slots zeros all = record {
   words = ap length zeros ∙ length-replicate (length jobs) 0;
   seats = one;
-  free = λ number job free is.
-      subst (λ (ys : List (Option Job)). get_elem? (map some ys) number ≡ some (some (Some job)))
-      (sym all) (lies jobs number job is);
+  free = λ number job free is. rw all (lies jobs number job is);
 }
   where
     one : (seat : ℕ) (known : List Job) → get_elem? (jobs ∷ []) seat ≡ some known → known ≡ jobs
@@ -42,14 +40,11 @@ begins jobs words slots zeros all = record {
 pub splits : (jobs : List Job) (id : ℕ) (known : List Job)
     → Splits (IsPool jobs) id known known known
 splits jobs id known s is there =
-    let same : set s.views id known ≡ s.views = set_again s.views id known there in
     record {
       words = is.words;
-      seats = λ seat other at. ⊎_elim (λ before. is.seats seat other before)
+      seats = λ seat other seen. ⊎_elim (λ before. is.seats seat other before)
           (λ new. sym new ∙ is.seats id known there)
-          (at_snoc s.views known other seat
-          (subst (λ (views : List (List Job)). get_elem? (views ++ known ∷ []) seat ≡ some other)
-          same at));
+          (at_snoc s.views known other seat (rw (set_again s.views id known there) at seen));
       free = is.free;
     }
 
@@ -65,18 +60,12 @@ asked : (jobs : List Job) (s : State (Option Job) (List Job)) (id number : ℕ) 
     })
 asked jobs s id number known homes is there others = record {
   words = length-set s.words number 1 ∙ is.words;
-  seats = λ seat other at. is.seats seat other
-      (subst (λ (views : List (List Job)). get_elem? views seat ≡ some other)
-      (set_again s.views id known there) at);
+  seats = λ seat other seen.
+      is.seats seat other (rw (set_again s.views id known there) at seen);
   free = λ k job free at. dite (ℕ_discrete k number)
-      (λ same. let within : number < length s.words =
-      let below : k < length jobs = slice_get_within jobs k job at in
-      omega (arith, is.words, same) in
-      let one : get_or (set s.words number 1) number 0 ≡ 1 =
-      get_or-set_same s.words number 1 0 within in
-      let zero' : get_or (set s.words number 1) number 0 ≡ 0 =
-      subst (λ (n : ℕ). get_or (set s.words number 1) n 0 ≡ 0) same free in
-      absurd (omega (arith, one, zero')))
+      (λ same. let below : k < length jobs = slice_get_within jobs k job at in
+      let one = get_or-set_same s.words number 1 0 (omega (arith, is.words, same)) in
+      absurd (omega (arith, one, rw same at free)))
       (λ apart. others k apart
       ∙ is.free k job (sym (get_or-set_other s.words number k 1 0 apart) ∙ free) at);
 }
@@ -96,12 +85,9 @@ asks_in_vain : (jobs : List Job) (slots id number : ℕ) (me : Me (Option Job) (
     → ((job : Job) → slice_get jobs number ≡ Some job → get_or s.words number 0 ≡ 0 → ⊥)
     → Answer jobs slots id number me s
 asks_in_vain jobs slots id number me s is there vain =
-    let known : me.0 ≡ jobs = is.seats id me.0 there in
     let none_out : (job : Job) → slice_get me.0 number ≡ Some job → get_or s.words number 0 ≡ 0
     → me.1 ≡ (number, Some job) ∷ me.1 =
-    λ job at free.
-    absurd (vain job (subst (λ (all : List Job). slice_get all number ≡ Some job) known at) free)
-    in (
+    λ job found free. absurd (vain job (rw (is.seats id me.0 there) at found) free) in (
       me.0,
       keeps,
       tt,
@@ -123,9 +109,7 @@ asks_for jobs slots id number me s is there job at free = (
   (
     refl,
     λ other known free'. ap (λ (j : Job). (number, Some j) ∷ me.1)
-        (same_Some job other (sym at
-        ∙ subst (λ (all : List Job). slice_get all number ≡ Some other) (is.seats id me.0 there)
-        known)),
+        (same_Some job other (sym at ∙ rw (is.seats id me.0 there) at known)),
   ),
 )
 
@@ -158,6 +142,4 @@ pub taken_out : (jobs known : List Job) (number found : ℕ) (before after : Lis
     → (job : Job) × (slice_get jobs number ≡ Some job) × (after ≡ (number, Some job) ∷ before)
 taken_out jobs known number found before after same within free told =
     let job = job_at jobs number within in
-    let there : slice_get known number ≡ Some job.0 =
-    subst (λ (all : List Job). slice_get all number ≡ Some job.0) (sym same) job.1 in
-    (job.0, job.1, told job.0 there free)
+    (job.0, job.1, told job.0 (rw same job.1) free)

@@ -1,5 +1,5 @@
 -- The first cells of shards, which rise.
-use Rattle.std.proofs.Common.{◌≡◌, ℕ, zero, suc, ◌+◌, ◌*◌, ◌<◌, ◌≤◌, subst, sym, inl, inr, arith, add-one}
+use Rattle.std.proofs.Common.{◌≡◌, ℕ, zero, suc, ◌+◌, ◌*◌, ◌<◌, ◌≤◌, inl, inr, arith, add-one}
 use Rattle.std.proofs.Math.Nat.{div-mul-le_self, mul-le-mul_left, mul-div_cancel, div-le_of_le-mul}
 use Rattle.std.proofs.lemmas.Bool.{cases_lt}
 use Rattle.std.proofs.lemmas.Nat.{le-div}
@@ -39,7 +39,7 @@ shard_before cells workers cell (suc n) below =
         omega arith,
         record {
           from = from;
-          before = subst (λ k. cell < first_cell cells workers k) (sym (add-one n)) below;
+          before = rw (add-one n) below;
         },
       )
     ]
@@ -57,9 +57,7 @@ not_later : (cells workers shard later cell : ℕ) → 1 ≤ workers → IsInSha
 not_later cells workers shard later cell some here there up =
     let rises : first_cell cells workers (shard + 1) ≤ first_cell cells workers later =
     first_cell-rises cells workers (shard + 1) later some (omega arith) in
-    let before = here.before in
-    let from = there.from in
-    omega (arith, rises, before, from)
+    omega (arith, rises, here.before, there.from)
 
 -- no cell is in two shards
 pub shard-only : (cells workers shard other cell : ℕ) → 1 ≤ workers
